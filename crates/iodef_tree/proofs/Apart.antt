@@ -1,0 +1,152 @@
+-- Siblings stand apart, since their names ascend and the elements of an array are numbered.
+use Rattle.std.proofs.Common.{◌≡◌, ℕ, zero, suc, ◌+◌, ◌^◌, ◌<◌, ◌≤◌, List, ◌∷◌, ◌++◌, true, false, not, cond, ◌&&◌, ◌||◌, ◌==◌, decimal, refl, sym, ◌∙◌, ap, subst, arith, ◌⊎◌, inl, inr}
+use Rattle.std.specs.Prelude.{Option, Some, None, is_some, codes}
+use Rattle.std.specs.Str.{bytes_eq}
+use Rattle.std.proofs.lemmas.Bool.{and_parts, and_left, and_right, false≢true, eqb-true}
+use Rattle.std.proofs.lemmas.List.Sums.{sum_by-cons, sum_by-append}
+use Rattle.iodef_tree.specs.Text.{Bytes, Tokens, bytes_lt, is_prefix}
+use Rattle.iodef_tree.specs.Tree.{Leaf, Forest, end, leaf, branch, steps, lines, leaf_line, class_line}
+use Rattle.iodef_tree.specs.Paths.{is_class_kind}
+use Rattle.iodef_tree.specs.Sound.{Standing, may_stand, may_stand_behind, IsOrderedBehind, is_label_line, counted, IsSound}
+use Rattle.iodef_tree.specs.Laws.{AllSiblings, AreApart, HasApart}
+use Rattle.iodef_tree.specs.declared.line.Line.{Line}
+use Rattle.iodef_tree.proofs.Order.{bytes_eq-true, bytes_lt-trans, bytes_lt-ne, bytes_lt-ne_back, decimals_differ}
+
+-- ---- places are small
+
+abbrev IsSmall : ℕ → Option ℕ → Type 0
+IsSmall n None = Unit {0}
+IsSmall n (Some k) = k < n
+
+-- each place in the tree is below n
+abbrev AreSmall : ℕ → Forest → Type 0
+AreSmall n end = Unit {0}
+AreSmall n (leaf i rest) = IsSmall n i.place × AreSmall n rest
+AreSmall n (branch name place kids rest) = IsSmall n place × AreSmall n kids × AreSmall n rest
+
+-- the place of the next element of the same array
+abbrev next_place : Option Standing → ℕ
+next_place None = 0
+next_place (Some (name, None)) = 0
+next_place (Some (name, Some j)) = suc j
+
+place-next : (s : Option Standing) (name : Bytes) (k : ℕ) → may_stand s name (Some k) ≡ true → k ≤ next_place s
+place-next None name zero h = omega arith
+place-next None name (suc k) h = absurd (false≢true h)
+place-next (Some (m, o)) name zero h = omega arith
+place-next (Some (m, None)) name (suc k) h = absurd (false≢true h)
+place-next (Some (m, Some j)) name (suc k) h = let e = eqb-true j k (and_parts (bytes_eq m name) (j == k) h).1 in omega arith
+
+counted-le : (l : Line) (ls : List Line) → counted ls ≤ counted (l ∷ ls)
+counted-le l ls = let e = sum_by-cons (λ (x : Line). cond (not (is_label_line x)) 1 0) l ls in omega arith
+
+counted-one : (l : Line) (ls : List Line) → is_label_line l ≡ false → counted (l ∷ ls) ≡ suc (counted ls)
+counted-one l ls h = sum_by-cons (λ (x : Line). cond (not (is_label_line x)) 1 0) l ls ∙ ap (λ b. cond (not b) 1 0 + counted ls) h ∙ omega arith
+
+step_room : (s : Option Standing) (name : Bytes) (o : Option ℕ) (l : Line) (ls : List Line) (n : ℕ) → may_stand s name o ≡ true → (is_some o ≡ true → is_label_line l ≡ false) →
+    next_place s + counted (l ∷ ls) ≤ n → IsSmall n o × (next_place (Some (name, o)) + counted ls ≤ n)
+step_room s name None l ls n h counts room = let k = counted-le l ls in (tt, omega arith)
+step_room s name (Some k) l ls n h counts room =
+    let e = counted-one l ls (counts refl) in
+    let f = place-next s name k h in
+    (omega arith, omega arith)
+
+leaf-counts : (d : ℕ) (i : Leaf) → is_some i.place ≡ true → is_label_line (leaf_line d i) ≡ false
+leaf-counts d i h =
+    let l = leaf_line d i in
+    ap (λ b. (not b && not (is_class_kind l.kind)) && (bytes_eq i.name (codes "restriction") || bytes_eq i.name (codes "ext-restriction"))) h
+
+class-counts : (d : ℕ) (name : Bytes) (place : Option ℕ) → is_label_line (class_line d name place) ≡ false
+class-counts d name place = and_left (not (is_some place) && false) _ (and_right (not (is_some place)) false refl)
+
+small : (f : Forest) (d : ℕ) (s : Option Standing) (n : ℕ) → IsOrderedBehind s f → next_place s + counted (lines d f) ≤ n → AreSmall n f
+small end d s n ordered room = tt
+small (leaf i rest) d s n ordered room =
+    let r = step_room s i.name i.place (leaf_line d i) (lines d rest) n ordered.0 (leaf-counts d i) room in
+    (r.0, small rest d (Some (i.name, i.place)) n ordered.1 r.1)
+small (branch name place kids rest) d s n ordered room =
+    let r = step_room s name place (class_line d name place) (lines (suc d) kids ++ lines d rest) n ordered.0 (λ h. class-counts d name place) room in
+    let both = sum_by-append (λ (x : Line). cond (not (is_label_line x)) 1 0) (lines (suc d) kids) (lines d rest) in
+    (r.0, small kids (suc d) None n ordered.1 (omega arith), small rest d (Some (name, place)) n ordered.2 (omega arith))
+
+-- ---- what stands behind stands apart
+
+abbrev IsPlaceLater : Option ℕ → Option ℕ → Type 0
+IsPlaceLater None o = ⊥
+IsPlaceLater (Some j) None = ⊥
+IsPlaceLater (Some j) (Some k) = j < k
+
+-- a later name, or a later element of the same array
+abbrev IsLater : Bytes → Option ℕ → Bytes → Option ℕ → Type 0
+IsLater n o n' o' = (bytes_lt n n' ≡ true) ⊎ ((n ≡ n') × IsPlaceLater o o')
+
+later-next : (n : Bytes) (o : Option ℕ) (n' : Bytes) (o' : Option ℕ) → may_stand_behind (n, o) n' o' ≡ true → IsLater n o n' o'
+later-next n o n' None h = inl h
+later-next n o n' (Some zero) h = inl h
+later-next n None n' (Some (suc k)) h = absurd (false≢true h)
+later-next n (Some j) n' (Some (suc k)) h =
+    let parts = and_parts (bytes_eq n n') (j == k) h in
+    let e = eqb-true j k parts.1 in
+    let lt : j < suc k = omega arith in
+    inr (bytes_eq-true n n' parts.0, lt)
+
+place_later-trans : (a b c : Option ℕ) → IsPlaceLater a b → IsPlaceLater b c → IsPlaceLater a c
+place_later-trans None b c h k = absurd h
+place_later-trans (Some x) None c h k = absurd h
+place_later-trans (Some x) (Some y) None h k = absurd k
+place_later-trans (Some x) (Some y) (Some z) h k = omega arith
+
+later-trans : (n : Bytes) (o : Option ℕ) (n' : Bytes) (o' : Option ℕ) (n'' : Bytes) (o'' : Option ℕ) → IsLater n o n' o' → IsLater n' o' n'' o'' → IsLater n o n'' o''
+later-trans n o n' o' n'' o'' (inl a) (inl b) = inl (bytes_lt-trans n n' n'' a b)
+later-trans n o n' o' n'' o'' (inl a) (inr b) = inl (subst (λ x. bytes_lt n x ≡ true) b.0 a)
+later-trans n o n' o' n'' o'' (inr a) (inl b) = inl (subst (λ x. bytes_lt x n'' ≡ true) (sym a.0) b)
+later-trans n o n' o' n'' o'' (inr a) (inr b) = inr (a.0 ∙ b.0, place_later-trans o o' o'' a.1 b.1)
+
+later-weaker : (f : Forest) (n : Bytes) (o : Option ℕ) (n' : Bytes) (o' : Option ℕ) → IsLater n o n' o' → AllSiblings (IsLater n' o') f → AllSiblings (IsLater n o) f
+later-weaker end n o n' o' h all = tt
+later-weaker (leaf i rest) n o n' o' h all = (later-trans n o n' o' i.name i.place h all.0, later-weaker rest n o n' o' h all.1)
+later-weaker (branch m p kids rest) n o n' o' h all = (later-trans n o n' o' m p h all.0, later-weaker rest n o n' o' h all.1)
+
+later-behind : (f : Forest) (n : Bytes) (o : Option ℕ) → IsOrderedBehind (Some (n, o)) f → AllSiblings (IsLater n o) f
+later-behind end n o ordered = tt
+later-behind (leaf i rest) n o ordered =
+    let here = later-next n o i.name i.place ordered.0 in
+    (here, later-weaker rest n o i.name i.place here (later-behind rest i.name i.place ordered.1))
+later-behind (branch m p kids rest) n o ordered =
+    let here = later-next n o m p ordered.0 in
+    (here, later-weaker rest n o m p here (later-behind rest m p ordered.2))
+
+names_apart : (n : Bytes) (o : Option ℕ) (n' : Bytes) (o' : Option ℕ) (z : Tokens) → bytes_eq n n' ≡ false → is_prefix (steps n o) (steps n' o' ++ z) ≡ false
+names_apart n None n' None z h = and_left (bytes_eq n n') _ h
+names_apart n None n' (Some k) z h = and_left (bytes_eq n n') _ h
+names_apart n (Some j) n' None z h = and_left (bytes_eq n n') _ h
+names_apart n (Some j) n' (Some k) z h = and_left (bytes_eq n n') _ h
+
+later-apart : (n : Bytes) (o : Option ℕ) (n' : Bytes) (o' : Option ℕ) → IsLater n o n' o' → IsSmall (2 ^ 64) o' → AreApart n o n' o'
+later-apart n o n' o' (inl h) small = record {
+  left = λ z. names_apart n o n' o' z (bytes_lt-ne n n' h);
+  right = λ z. names_apart n' o' n o z (bytes_lt-ne_back n n' h);
+}
+later-apart n None n' o' (inr h) small = absurd h.1
+later-apart n (Some j) n' None (inr h) small = absurd h.1
+later-apart n (Some j) n' (Some k) (inr h) small =
+    let d = decimals_differ j k h.1 small in
+    record {
+      left = λ z. and_right (bytes_eq n n') _ (and_left (bytes_eq (decimal j) (decimal k)) _ d.0);
+      right = λ z. and_right (bytes_eq n' n) _ (and_left (bytes_eq (decimal k) (decimal j)) _ d.1);
+    }
+
+apart-behind : (f : Forest) (n : Bytes) (o : Option ℕ) → AllSiblings (IsLater n o) f → AreSmall (2 ^ 64) f → AllSiblings (AreApart n o) f
+apart-behind end n o later small = tt
+apart-behind (leaf i rest) n o later small = (later-apart n o i.name i.place later.0 small.0, apart-behind rest n o later.1 small.1)
+apart-behind (branch m p kids rest) n o later small = (later-apart n o m p later.0 small.0, apart-behind rest n o later.1 small.2)
+
+apart-ordered : (f : Forest) (s : Option Standing) → IsOrderedBehind s f → AreSmall (2 ^ 64) f → HasApart f
+apart-ordered end s ordered small = tt
+apart-ordered (leaf i rest) s ordered small =
+    (apart-behind rest i.name i.place (later-behind rest i.name i.place ordered.1) small.1, apart-ordered rest (Some (i.name, i.place)) ordered.1 small.1)
+apart-ordered (branch n p kids rest) s ordered small =
+    (apart-behind rest n p (later-behind rest n p ordered.2) small.2, apart-ordered kids None ordered.1 small.1, apart-ordered rest (Some (n, p)) ordered.2 small.2)
+
+pub sound-apart : (f : Forest) → IsSound f → HasApart f
+sound-apart f sound = let short = sound.short in apart-ordered f None sound.ordered (small f 1 None (2 ^ 64) sound.ordered (omega arith))

@@ -1,0 +1,246 @@
+-- The look-up by a path finds the class whose lines stand below it.
+use Rattle.std.proofs.Common.{◌≡◌, ℕ, zero, suc, ◌+◌, ◌^◌, ◌<◌, ◌≤◌, List, [], ◌∷◌, ◌++◌, Bool, true, false, cond, ◌&&◌, ◌||◌, length, decimal, refl, sym, ◌∙◌, ap, subst, arith, append-nil, append_assoc, true≢false}
+use Rattle.std.specs.Prelude.{Option, Some, None, is_some, option_map}
+use Rattle.std.specs.Option.{option_map_or}
+use Rattle.std.specs.List.{AllByRecursion, slice_get}
+use Rattle.std.specs.Str.{bytes_eq}
+use Rattle.std.proofs.lemmas.Bool.{and_left, and_right, cond-true, cond-false}
+use Rattle.std.proofs.lemmas.List.Folds.{list_any-append}
+use Rattle.iodef_tree.specs.Text.{Bytes, Tokens, same_path, is_root, is_prefix}
+use Rattle.iodef_tree.specs.Tree.{Content, text, value, Forest, end, leaf, branch, Body, holds, says, Bodies, one, many, in_front, elements, member_front, steps, kind_of, lines}
+use Rattle.iodef_tree.specs.Paths.{Entry, is_class_kind, is_class, placed, located_after, located, has_class}
+use Rattle.iodef_tree.specs.Sound.{IsSound}
+use Rattle.iodef_tree.specs.Walk.{walk, IsBlock, AreBlocks}
+use Rattle.iodef_tree.specs.Laws.{AllSiblings, AreApart, HasApart}
+use Rattle.iodef_tree.specs.Lookup.{past, class_at, object_at, object_in, element_at, part_at}
+use Rattle.iodef_tree.specs.declared.line.Line.{Line}
+use Rattle.iodef_tree.proofs.Apart.{sound-apart}
+use Rattle.iodef_tree.proofs.Blocks.{blocks-located, root-block}
+use Rattle.iodef_tree.proofs.Distinct.{apart-differ}
+use Rattle.iodef_tree.proofs.Located.{located-lines}
+use Rattle.iodef_tree.proofs.Order.{is_false, bytes_eq-refl, bytes_eq-true, decimals_differ, same_path-refl, same_path-true, same_path-common, same_path-is_prefix, same_path-longer, is_prefix-append}
+use Rattle.iodef_tree.proofs.Siblings.{siblings-all, siblings-map, walk-all}
+
+-- ---- what is left of a path
+
+past-some : (q p r : Tokens) → past q p ≡ Some r → p ≡ q ++ r
+past-some [] p r e = cc
+past-some (x ∷ q) [] r e = cc
+past-some (x ∷ q) (y ∷ p) r e = step (bytes_eq x y) refl e (past-some q p r)
+  where
+    step : (b : Bool) → bytes_eq x y ≡ b → cond b (past q p) None ≡ Some r → (past q p ≡ Some r → p ≡ q ++ r) → y ∷ p ≡ x ∷ (q ++ r)
+    step true is h later = let same : x ≡ y = bytes_eq-true x y is in let rest : p ≡ q ++ r = later h in cc
+    step false is h later = cc
+
+past-none : (q p : Tokens) → past q p ≡ None → is_prefix q p ≡ false
+past-none [] p e = cc
+past-none (x ∷ q) [] e = refl
+past-none (x ∷ q) (y ∷ p) e = step (bytes_eq x y) e (past-none q p)
+  where
+    step : (b : Bool) → cond b (past q p) None ≡ None → (past q p ≡ None → is_prefix q p ≡ false) → (b && is_prefix q p) ≡ false
+    step true h later = later h
+    step false h later = refl
+
+-- ---- the block of what is found
+
+block-at : (f : Forest) (es : List Entry) (d : ℕ) (q p : Tokens) (g : Forest) → AreBlocks es d q f → class_at f p ≡ Some g → IsBlock (q ++ p) es g
+block-at end es d q p g blocks e = cc
+block-at (leaf i rest) es d q p g blocks e = step (past (steps i.name i.place) p) e (block-at rest es d q p g blocks)
+  where
+    step : (o : Option Tokens) → option_map_or (λ r. None) o (class_at rest p) ≡ Some g → (class_at rest p ≡ Some g → IsBlock (q ++ p) es g) → IsBlock (q ++ p) es g
+    step None h later = later h
+    step (Some r) h later = cc
+block-at (branch n o kids rest) es d q p g blocks e =
+    step (past (steps n o) p) refl e (λ r h. block-at kids es (suc d) (q ++ steps n o) r g blocks.1 h) (block-at rest es d q p g blocks.2)
+  where
+    step : (o' : Option Tokens) → past (steps n o) p ≡ o' → option_map_or (λ r. cond (is_root r) (Some kids) (class_at kids r)) o' (class_at rest p) ≡ Some g →
+        ((r : Tokens) → class_at kids r ≡ Some g → IsBlock ((q ++ steps n o) ++ r) es g) → (class_at rest p ≡ Some g → IsBlock (q ++ p) es g) → IsBlock (q ++ p) es g
+    step None is h inner later = later h
+    step (Some []) is h inner later =
+        let same : kids ≡ g = cc in
+        let at : q ++ steps n o ≡ q ++ p = ap (λ z. q ++ z) (sym (past-some (steps n o) p [] is ∙ append-nil (steps n o))) in
+        subst (λ r. IsBlock r es g) at (subst (λ k. IsBlock (q ++ steps n o) es k) same (suc d, blocks.0))
+    step (Some (x ∷ r)) is h inner later =
+        let at : (q ++ steps n o) ++ (x ∷ r) ≡ q ++ p = append_assoc q (steps n o) (x ∷ r) ∙ ap (λ z. q ++ z) (sym (past-some (steps n o) p (x ∷ r) is)) in
+        subst (λ z. IsBlock z es g) at (inner (x ∷ r) h)
+
+-- ---- whether there is a class
+
+none-any : (p : Tokens) (es : List Entry) → AllByRecursion (λ (e : Entry). same_path e.path p ≡ false) es → has_class es p ≡ false
+none-any p [] h = refl
+none-any p (e ∷ es) h = ap (λ b. b || has_class es p) (and_right (is_class e) (same_path e.path p) h.0) ∙ none-any p es h.1
+
+-- no class behind a sibling has a path that goes on from it
+none-behind : (f : Forest) (d : ℕ) (q : Tokens) (n : Bytes) (o : Option ℕ) (r : Tokens) → AllSiblings (AreApart n o) f → has_class (walk d q f) (q ++ (steps n o ++ r)) ≡ false
+none-behind f d q n o r apart =
+    let p = q ++ (steps n o ++ r) in
+    none-any p (walk d q f) (walk-all (λ x. same_path x p ≡ false) f d q
+    (siblings-map (AreApart n o) (λ n' o'. (z : Tokens) → same_path (q ++ (steps n' o' ++ z)) p ≡ false) f
+    (λ n' o' h z. apart-differ q n' o' n o (record { left = h.right; right = h.left }) z r) apart))
+
+-- nothing below a class has a path that doesn't go on from the class's
+none-inside : (f : Forest) (d : ℕ) (q st p : Tokens) → is_prefix st p ≡ false → has_class (walk d (q ++ st) f) (q ++ p) ≡ false
+none-inside f d q st p apart =
+    none-any (q ++ p) (walk d (q ++ st) f) (walk-all (λ x. same_path x (q ++ p) ≡ false) f d (q ++ st)
+    (siblings-all (λ n o. (z : Tokens) → same_path ((q ++ st) ++ (steps n o ++ z)) (q ++ p) ≡ false) f (λ n o z. differs (steps n o ++ z))))
+  where
+    differs : (z : Tokens) → same_path ((q ++ st) ++ z) (q ++ p) ≡ false
+    differs z =
+        ap (λ x. same_path x (q ++ p)) (append_assoc q st z) ∙ same_path-common q (st ++ z) p
+        ∙ is_false (same_path (st ++ z) p) (λ same. true≢false (sym (is_prefix-append st z) ∙ ap (is_prefix st) (same_path-true (st ++ z) p same) ∙ apart))
+
+leaf_plain : (c : Content) → is_class_kind (kind_of c) ≡ false
+leaf_plain (text s) = refl
+leaf_plain (value s) = refl
+
+has_class-walk : (f : Forest) (d : ℕ) (q p : Tokens) → HasApart f → has_class (walk d q f) (q ++ p) ≡ is_some (class_at f p)
+has_class-walk end d q p apart = refl
+has_class-walk (leaf i rest) d q p apart =
+    let st = steps i.name i.place in
+    ap (λ b. b || has_class (walk d q rest) (q ++ p)) (and_left (is_class_kind (kind_of i.content)) (same_path (q ++ st) (q ++ p)) (leaf_plain i.content))
+    ∙ step (past st p) refl (has_class-walk rest d q p apart.1)
+  where
+    step : (o : Option Tokens) → past (steps i.name i.place) p ≡ o → has_class (walk d q rest) (q ++ p) ≡ is_some (class_at rest p) →
+        has_class (walk d q rest) (q ++ p) ≡ is_some (option_map_or {T = Tokens} {U = Option Forest} (λ r. None) o (class_at rest p))
+    step None is later = later
+    step (Some r) is later = ap (λ z. has_class (walk d q rest) (q ++ z)) (past-some (steps i.name i.place) p r is) ∙ none-behind rest d q i.name i.place r apart.0
+has_class-walk (branch n o kids rest) d q p apart =
+    let st = steps n o in
+    ap (λ b. same_path (q ++ st) (q ++ p) || b) (list_any-append (λ (e : Entry). is_class e && same_path e.path (q ++ p)) (walk (suc d) (q ++ st) kids) (walk d q rest))
+    ∙ step (past st p) refl (λ r. has_class-walk kids (suc d) (q ++ st) r apart.1) (has_class-walk rest d q p apart.2)
+  where
+    step : (o' : Option Tokens) → past (steps n o) p ≡ o' → ((r : Tokens) → has_class (walk (suc d) (q ++ steps n o) kids) ((q ++ steps n o) ++ r) ≡ is_some (class_at kids r)) →
+        has_class (walk d q rest) (q ++ p) ≡ is_some (class_at rest p) →
+        (same_path (q ++ steps n o) (q ++ p) || (has_class (walk (suc d) (q ++ steps n o) kids) (q ++ p) || has_class (walk d q rest) (q ++ p)))
+        ≡ is_some (option_map_or (λ r. cond (is_root r) (Some kids) (class_at kids r)) o' (class_at rest p))
+    step None is inner later =
+        let out = past-none (steps n o) p is in
+        ap (λ b. b || (has_class (walk (suc d) (q ++ steps n o) kids) (q ++ p) || has_class (walk d q rest) (q ++ p))) (same_path-common q (steps n o) p ∙ same_path-is_prefix (steps n o) p out)
+        ∙ ap (λ b. b || has_class (walk d q rest) (q ++ p)) (none-inside kids (suc d) q (steps n o) p out)
+        ∙ later
+    step (Some []) is inner later =
+        let at : steps n o ≡ p = sym (past-some (steps n o) p [] is ∙ append-nil (steps n o)) in
+        ap (λ b. b || (has_class (walk (suc d) (q ++ steps n o) kids) (q ++ p) || has_class (walk d q rest) (q ++ p))) (same_path-common q (steps n o) p ∙ ap (same_path (steps n o)) (sym at) ∙ same_path-refl (steps n o))
+    step (Some (x ∷ r)) is inner later =
+        let at : p ≡ steps n o ++ (x ∷ r) = past-some (steps n o) p (x ∷ r) is in
+        ap (λ b. b || (has_class (walk (suc d) (q ++ steps n o) kids) (q ++ p) || has_class (walk d q rest) (q ++ p))) (same_path-common q (steps n o) p ∙ ap (same_path (steps n o)) at ∙ longer (steps n o) x r)
+        ∙ ap (λ z. has_class (walk (suc d) (q ++ steps n o) kids) z || has_class (walk d q rest) (q ++ p)) (ap (λ z. q ++ z) at ∙ sym (append_assoc q (steps n o) (x ∷ r)))
+        ∙ ap (λ b. b || has_class (walk d q rest) (q ++ p)) (inner (x ∷ r))
+        ∙ ap (λ b. is_some (class_at kids (x ∷ r)) || b) (ap (λ z. has_class (walk d q rest) (q ++ z)) at ∙ none-behind rest d q n o (x ∷ r) apart.0)
+        ∙ or_none (is_some (class_at kids (x ∷ r)))
+      where
+        longer : (s : Tokens) (y : Bytes) (z : Tokens) → same_path s (s ++ y ∷ z) ≡ false
+        longer s y z = same_path-longer s y None z
+
+        or_none : (b : Bool) → (b || false) ≡ b
+        or_none true = refl
+        or_none false = refl
+
+-- ---- whole documents
+
+pub has_class-located : (f : Forest) (p : Tokens) → IsSound f → has_class (located (lines 1 f)) p ≡ is_some (class_at f p)
+has_class-located f p sound = ap (λ es. has_class es p) (located-lines f sound) ∙ has_class-walk f 1 [] p (sound-apart f sound)
+
+pub found : (f : Forest) (p : Tokens) → IsSound f → is_some (object_at f p) ≡ (is_root p || has_class (located (lines 1 f)) p)
+found f [] sound = refl
+found f (x ∷ p) sound = sym (has_class-located f (x ∷ p) sound)
+
+pub block : (f : Forest) (p : Tokens) (g : Forest) → IsSound f → object_at f p ≡ Some g → IsBlock p (located (lines 1 f)) g
+block f [] g sound e = let same : f ≡ g = cc in subst (λ k. IsBlock [] (located (lines 1 f)) k) same (root-block f sound)
+block f (x ∷ p) g sound e = block-at f (located (lines 1 f)) 1 [] (x ∷ p) g (blocks-located f sound) e
+
+-- the root is no class
+root-none : (before : List Entry) (ls : List Line) → has_class (located_after before ls) [] ≡ false
+root-none before [] = refl
+root-none before (l ∷ ls) =
+    let e = placed before l in
+    ap (λ b. b || has_class (located_after (e ∷ before) ls) []) (and_right (is_class e) (same_path e.path []) (not_root e.parent l.name _))
+    ∙ root-none (e ∷ before) ls
+  where
+    not_root : (p : Tokens) (n : Bytes) (o : Option ℕ) → same_path (p ++ steps n o) [] ≡ false
+    not_root [] n None = refl
+    not_root [] n (Some k) = refl
+    not_root (x ∷ p) n o = refl
+
+pub has_class-root : (ls : List Line) → has_class (located ls) [] ≡ false
+has_class-root ls = root-none [] ls
+
+-- ---- one member in front of the others
+
+-- what a member gives, or else what stands behind it
+abbrev pub part_or : Bodies → Tokens → Option Forest → Option Forest
+part_or m p rest = option_map_or (λ (r : Body × Tokens). object_in r.0 r.1) (part_at m p) rest
+
+class_at-in_front : (n : Bytes) (b : Body) (rest : Forest) (x : Bytes) (p : Tokens) →
+    class_at (in_front n None b rest) (x ∷ p) ≡ cond (bytes_eq n x) (object_in b p) (class_at rest (x ∷ p))
+class_at-in_front n (holds kids) rest x p = step (bytes_eq n x)
+  where
+    step : (t : Bool) → option_map_or (λ r. cond (is_root r) (Some kids) (class_at kids r)) (cond t (Some p) None) (class_at rest (x ∷ p)) ≡ cond t (cond (is_root p) (Some kids) (class_at kids p)) (class_at rest (x ∷ p))
+    step true = refl
+    step false = refl
+class_at-in_front n (says c) rest x p = step (bytes_eq n x)
+  where
+    step : (t : Bool) → option_map_or {T = Tokens} {U = Option Forest} (λ r. None) (cond t (Some p) None) (class_at rest (x ∷ p)) ≡ cond t None (class_at rest (x ∷ p))
+    step true = refl
+    step false = refl
+
+class_at-element : (n : Bytes) (k : ℕ) (b : Body) (rest : Forest) (x : Bytes) (p : Tokens) →
+    class_at (in_front n (Some k) b rest) (x ∷ p) ≡ option_map_or (object_in b) (past (n ∷ decimal k ∷ []) (x ∷ p)) (class_at rest (x ∷ p))
+class_at-element n k (holds kids) rest x p = refl
+class_at-element n k (says c) rest x p = refl
+
+elements-short : (bs : List Body) (n : Bytes) (k : ℕ) (rest : Forest) (x : Bytes) → class_at (elements n k bs rest) (x ∷ []) ≡ class_at rest (x ∷ [])
+elements-short [] n k rest x = refl
+elements-short (b ∷ bs) n k rest x =
+    class_at-element n k b (elements n (suc k) bs rest) x [] ∙ step (bytes_eq n x) ∙ elements-short bs n (suc k) rest x
+  where
+    step : (t : Bool) → option_map_or (object_in b) (cond t None None) (class_at (elements n (suc k) bs rest) (x ∷ [])) ≡ class_at (elements n (suc k) bs rest) (x ∷ [])
+    step true = refl
+    step false = refl
+
+elements-other : (bs : List Body) (n : Bytes) (k : ℕ) (rest : Forest) (x : Bytes) (p : Tokens) → bytes_eq n x ≡ false → class_at (elements n k bs rest) (x ∷ p) ≡ class_at rest (x ∷ p)
+elements-other [] n k rest x p h = refl
+elements-other (b ∷ bs) n k rest x p h =
+    class_at-element n k b (elements n (suc k) bs rest) x p
+    ∙ ap (λ t. option_map_or (object_in b) (cond t (past (decimal k ∷ []) p) None) (class_at (elements n (suc k) bs rest) (x ∷ p))) h
+    ∙ elements-other bs n (suc k) rest x p h
+
+elements-here : (bs : List Body) (n : Bytes) (k : ℕ) (rest : Forest) (x y : Bytes) (p : Tokens) → bytes_eq n x ≡ true →
+    class_at (elements n k bs rest) (x ∷ y ∷ p) ≡ option_map_or (λ (r : Body × Tokens). object_in r.0 r.1) (option_map (λ b. (b, p)) (element_at y k bs)) (class_at rest (x ∷ y ∷ p))
+elements-here [] n k rest x y p h = refl
+elements-here (b ∷ bs) n k rest x y p h =
+    class_at-element n k b (elements n (suc k) bs rest) x (y ∷ p)
+    ∙ ap (λ t. option_map_or (object_in b) (cond t (cond (bytes_eq (decimal k) y) (Some p) None) None) (class_at (elements n (suc k) bs rest) (x ∷ y ∷ p))) h
+    ∙ step (bytes_eq (decimal k) y) (elements-here bs n (suc k) rest x y p h)
+  where
+    step : (t : Bool) →
+        class_at (elements n (suc k) bs rest) (x ∷ y ∷ p) ≡ option_map_or (λ (r : Body × Tokens). object_in r.0 r.1) (option_map (λ c. (c, p)) (element_at y (suc k) bs)) (class_at rest (x ∷ y ∷ p)) →
+        option_map_or (object_in b) (cond t (Some p) None) (class_at (elements n (suc k) bs rest) (x ∷ y ∷ p))
+        ≡ option_map_or (λ (r : Body × Tokens). object_in r.0 r.1) (option_map (λ c. (c, p)) (cond t (Some b) (element_at y (suc k) bs))) (class_at rest (x ∷ y ∷ p))
+    step true later = refl
+    step false later = later
+
+pub class_at-here : (m : Bodies) (n : Bytes) (rest : Forest) (x : Bytes) (p : Tokens) → bytes_eq n x ≡ true → class_at (member_front n m rest) (x ∷ p) ≡ part_or m p (class_at rest (x ∷ p))
+class_at-here (one b) n rest x p h = class_at-in_front n b rest x p ∙ cond-true (bytes_eq n x) _ _ h
+class_at-here (many bs) n rest x [] h = elements-short bs n 0 rest x
+class_at-here (many bs) n rest x (y ∷ p) h = elements-here bs n 0 rest x y p h
+
+pub class_at-other : (m : Bodies) (n : Bytes) (rest : Forest) (x : Bytes) (p : Tokens) → bytes_eq n x ≡ false → class_at (member_front n m rest) (x ∷ p) ≡ class_at rest (x ∷ p)
+class_at-other (one b) n rest x p h = class_at-in_front n b rest x p ∙ cond-false (bytes_eq n x) _ _ h
+class_at-other (many bs) n rest x p h = elements-other bs n 0 rest x p h
+
+-- ---- the elements of an array
+
+pub element-spelled : (bs : List Body) (token : Bytes) (j k : ℕ) → token ≡ decimal (j + k) → j + k < 2 ^ 64 → element_at token j bs ≡ slice_get bs k
+element-spelled [] token j k is small = refl
+element-spelled (b ∷ bs) token j zero is small =
+    cond-true (bytes_eq (decimal j) token) _ _ (ap (bytes_eq (decimal j)) (is ∙ ap decimal (let e : j + 0 ≡ j = omega arith in e)) ∙ bytes_eq-refl (decimal j))
+element-spelled (b ∷ bs) token j (suc k) is small =
+    cond-false (bytes_eq (decimal j) token) _ _ (ap (bytes_eq (decimal j)) is ∙ (decimals_differ j (j + suc k) (omega arith) small).0)
+    ∙ element-spelled bs token (suc j) k (is ∙ ap decimal (let e : j + suc k ≡ suc j + k = omega arith in e)) (omega arith)
+
+pub element-none : (bs : List Body) (token : Bytes) (j : ℕ) → j + length bs ≤ 2 ^ 64 → ((k : ℕ) → k < 2 ^ 64 → token ≡ decimal k → ⊥) → element_at token j bs ≡ None
+element-none [] token j small none = refl
+element-none (b ∷ bs) token j small none =
+    cond-false (bytes_eq (decimal j) token) _ _ (is_false (bytes_eq (decimal j) token) (λ same. none j (omega arith) (sym (bytes_eq-true (decimal j) token same))))
+    ∙ element-none bs token (suc j) (omega arith) none

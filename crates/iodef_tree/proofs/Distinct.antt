@@ -1,0 +1,93 @@
+-- No two lines of a sound document have one path.
+use Rattle.std.proofs.Common.{◌≡◌, ℕ, suc, List, [], ◌∷◌, ◌++◌, Bool, true, false, cond, map, filter, sym, ◌∙◌, ap, subst, append-nil, append_assoc, true≢false}
+use Rattle.std.specs.Prelude.{Option}
+use Rattle.std.specs.List.{AllByRecursion, IsDistinct}
+use Rattle.std.proofs.lemmas.List.{map-append}
+use Rattle.iodef_tree.specs.Text.{Bytes, Tokens, same_path, is_prefix}
+use Rattle.iodef_tree.specs.Tree.{Forest, end, leaf, branch, steps, lines}
+use Rattle.iodef_tree.specs.Paths.{Entry, is_class, located, classes_of}
+use Rattle.iodef_tree.specs.Sound.{IsSound}
+use Rattle.iodef_tree.specs.Walk.{walk}
+use Rattle.iodef_tree.specs.Laws.{AllSiblings, AreApart, HasApart}
+use Rattle.iodef_tree.proofs.Apart.{sound-apart}
+use Rattle.iodef_tree.proofs.Located.{located-lines}
+use Rattle.iodef_tree.proofs.Order.{is_false, same_path-true, same_path-common, same_path-longer, is_prefix-append}
+use Rattle.iodef_tree.proofs.Siblings.{all-append, all-map, siblings-all, siblings-map, walk-all}
+
+abbrev path_of : Entry → Tokens
+path_of e = e.path
+
+-- no path of the list is this one
+abbrev IsFresh : Tokens → List Tokens → Type 0
+IsFresh p qs = AllByRecursion (λ q. same_path p q ≡ false) qs
+
+distinct-append : (xs ys : List Tokens) → IsDistinct same_path xs → IsDistinct same_path ys → AllByRecursion (λ x. IsFresh x ys) xs → IsDistinct same_path (xs ++ ys)
+unfolding IsDistinct
+distinct-append [] ys h k cross = k
+distinct-append (x ∷ xs) ys h k cross = (all-append (λ q. same_path x q ≡ false) xs ys h.0 cross.0, distinct-append xs ys h.1 k cross.1)
+
+-- two paths of which one goes on from what the other does not go on from
+pub apart-differ : (p : Tokens) (n : Bytes) (o : Option ℕ) (n' : Bytes) (o' : Option ℕ) → AreApart n o n' o' → (z z' : Tokens) → same_path (p ++ (steps n o ++ z)) (p ++ (steps n' o' ++ z')) ≡ false
+apart-differ p n o n' o' h z z' =
+    same_path-common p (steps n o ++ z) (steps n' o' ++ z')
+    ∙ is_false (same_path (steps n o ++ z) (steps n' o' ++ z'))
+    (λ same. true≢false (sym (is_prefix-append (steps n o) z) ∙ ap (is_prefix (steps n o)) (same_path-true (steps n o ++ z) (steps n' o' ++ z') same) ∙ h.left z'))
+
+-- what goes on from a sibling is none of the paths behind it
+fresh-behind : (f : Forest) (d : ℕ) (p : Tokens) (n : Bytes) (o : Option ℕ) (z : Tokens) → AllSiblings (AreApart n o) f → IsFresh (p ++ (steps n o ++ z)) (map path_of (walk d p f))
+fresh-behind f d p n o z apart =
+    all-map (λ q. same_path (p ++ (steps n o ++ z)) q ≡ false) path_of (walk d p f)
+    (walk-all (λ q. same_path (p ++ (steps n o ++ z)) q ≡ false) f d p
+    (siblings-map (AreApart n o) (λ n' o'. (z' : Tokens) → same_path (p ++ (steps n o ++ z)) (p ++ (steps n' o' ++ z')) ≡ false) f (λ n' o' h z'. apart-differ p n o n' o' h z z') apart))
+
+here-behind : (f : Forest) (d : ℕ) (p : Tokens) (n : Bytes) (o : Option ℕ) → AllSiblings (AreApart n o) f → IsFresh (p ++ steps n o) (map path_of (walk d p f))
+here-behind f d p n o apart = subst (λ z. IsFresh (p ++ z) (map path_of (walk d p f))) (append-nil (steps n o)) (fresh-behind f d p n o [] apart)
+
+-- a class is none of those below it
+fresh-below : (f : Forest) (d : ℕ) (q : Tokens) → IsFresh q (map path_of (walk d q f))
+fresh-below f d q =
+    all-map (λ x. same_path q x ≡ false) path_of (walk d q f)
+    (walk-all (λ x. same_path q x ≡ false) f d q (siblings-all (λ n o. (z : Tokens) → same_path q (q ++ (steps n o ++ z)) ≡ false) f (λ n o z. same_path-longer q n o z)))
+
+distinct-walk : (f : Forest) (d : ℕ) (p : Tokens) → HasApart f → IsDistinct same_path (map path_of (walk d p f))
+unfolding IsDistinct
+distinct-walk end d p apart = tt
+distinct-walk (leaf i rest) d p apart = (here-behind rest d p i.name i.place apart.0, distinct-walk rest d p apart.1)
+distinct-walk (branch n o kids rest) d p apart =
+    let q = p ++ steps n o in
+    let K = map path_of (walk (suc d) q kids) in
+    let R = map path_of (walk d p rest) in
+    let cross : AllByRecursion (λ x. IsFresh x R) K =
+    all-map (λ x. IsFresh x R) path_of (walk (suc d) q kids)
+    (walk-all (λ x. IsFresh x R) kids (suc d) q
+    (siblings-all (λ n' o'. (z : Tokens) → IsFresh (q ++ (steps n' o' ++ z)) R) kids
+    (λ n' o' z. subst (λ x. IsFresh x R) (sym (append_assoc p (steps n o) (steps n' o' ++ z))) (fresh-behind rest d p n o (steps n' o' ++ z) apart.0)))) in
+    subst (λ ps. IsDistinct same_path (q ∷ ps)) (sym (map-append path_of (walk (suc d) q kids) (walk d p rest))) (
+      all-append (λ x. same_path q x ≡ false) K R (fresh-below kids (suc d) q) (here-behind rest d p n o apart.0),
+      distinct-append K R (distinct-walk kids (suc d) q apart.1) (distinct-walk rest d p apart.2) cross,
+    )
+
+pub paths-distinct : (f : Forest) → IsSound f → IsDistinct same_path (map (λ (e : Entry). e.path) (located (lines 1 f)))
+paths-distinct f sound = subst (λ es. IsDistinct same_path (map path_of es)) (sym (located-lines f sound)) (distinct-walk f 1 [] (sound-apart f sound))
+
+-- ---- some of the lines
+
+fresh-filter : (P : Entry → Bool) (p : Tokens) (es : List Entry) → IsFresh p (map path_of es) → IsFresh p (map path_of (filter P es))
+fresh-filter P p [] h = tt
+fresh-filter P p (e ∷ es) h = step (P e) (fresh-filter P p es h.1)
+  where
+    step : (b : Bool) → IsFresh p (map path_of (filter P es)) → IsFresh p (map path_of (cond b (e ∷ filter P es) (filter P es)))
+    step true k = (h.0, k)
+    step false k = k
+
+pub distinct-filter : (P : Entry → Bool) (es : List Entry) → IsDistinct same_path (map (λ (e : Entry). e.path) es) → IsDistinct same_path (map (λ (e : Entry). e.path) (filter P es))
+unfolding IsDistinct
+distinct-filter P [] h = tt
+distinct-filter P (e ∷ es) h = step (P e) (distinct-filter P es h.1)
+  where
+    step : (b : Bool) → IsDistinct same_path (map path_of (filter P es)) → IsDistinct same_path (map path_of (cond b (e ∷ filter P es) (filter P es)))
+    step true k = (fresh-filter P e.path es h.0, k)
+    step false k = k
+
+pub class_paths-distinct : (f : Forest) → IsSound f → IsDistinct same_path (classes_of (lines 1 f))
+class_paths-distinct f sound = distinct-filter is_class (located (lines 1 f)) (paths-distinct f sound)

@@ -1,0 +1,131 @@
+-- The order of texts, and how paths stand to one another.
+use Rattle.std.proofs.Common.{◌≡◌, ℕ, ◌^◌, ◌<◌, [], ◌∷◌, ◌++◌, Bool, true, false, ◌&&◌, decimal, refl, sym, ◌∙◌, ap, append-nil, Ordering, Less, Equal, Greater, is_eq, true≢false, arith}
+use Rattle.std.specs.Prelude.{Option, Some, None}
+use Rattle.std.specs.Str.{bytes_eq}
+use Rattle.std.specs.Ordering.{nat_cmp, is_lt}
+use Rattle.std.specs.Cmp.Lexicographic.{slice_cmp}
+use Rattle.std.proofs.lemmas.Bool.{and_parts, false≢true}
+use Rattle.std.proofs.lemmas.Cmp.{nat_list_cmp_total}
+use Rattle.std.proofs.lemmas.Fmt.{decimal_injective}
+use Rattle.std.proofs.lemmas.Map.Text.{is_eq-slice_cmp}
+use Rattle.std.proofs.lemmas.Slice.Eq.{bytes_eq-Decides}
+use Rattle.iodef_tree.specs.Text.{Bytes, Tokens, bytes_lt, same_path, is_prefix, is_under}
+use Rattle.iodef_tree.specs.Tree.{steps}
+
+-- a test that is not true
+pub is_false : (b : Bool) → (b ≡ true → ⊥) → b ≡ false
+is_false true h = absurd (h refl)
+is_false false h = refl
+
+-- ---- texts
+
+pub bytes_eq-refl : (x : Bytes) → bytes_eq x x ≡ true
+bytes_eq-refl x = (bytes_eq-Decides x x).1 refl
+
+pub bytes_eq-true : (x y : Bytes) → bytes_eq x y ≡ true → x ≡ y
+bytes_eq-true x y = (bytes_eq-Decides x y).0
+
+less : (o : Ordering) → is_lt o ≡ true → o ≡ Less
+less Less h = refl
+less Equal h = cc
+less Greater h = cc
+
+pub bytes_lt-less : (x y : Bytes) → bytes_lt x y ≡ true → slice_cmp nat_cmp x y ≡ Less
+bytes_lt-less x y = less (slice_cmp nat_cmp x y)
+
+pub bytes_lt-trans : (x y z : Bytes) → bytes_lt x y ≡ true → bytes_lt y z ≡ true → bytes_lt x z ≡ true
+bytes_lt-trans x y z h k = ap is_lt (nat_list_cmp_total.trans x y z (bytes_lt-less x y h) (bytes_lt-less y z k))
+
+-- of two texts, one before the other, neither is the other
+pub bytes_lt-ne : (x y : Bytes) → bytes_lt x y ≡ true → bytes_eq x y ≡ false
+bytes_lt-ne x y h = sym (is_eq-slice_cmp x y) ∙ ap is_eq (bytes_lt-less x y h)
+
+pub bytes_lt-ne_back : (x y : Bytes) → bytes_lt x y ≡ true → bytes_eq y x ≡ false
+bytes_lt-ne_back x y h =
+    is_false (bytes_eq y x) (λ same. true≢false (sym (bytes_eq-refl x) ∙ ap (bytes_eq x) (sym (bytes_eq-true y x same)) ∙ bytes_lt-ne x y h))
+
+-- the digits of two places are the same only where the places are
+pub decimals_differ : (j k : ℕ) → j < k → k < 2 ^ 64 → (bytes_eq (decimal j) (decimal k) ≡ false) × (bytes_eq (decimal k) (decimal j) ≡ false)
+decimals_differ j k lt small = (
+  is_false (bytes_eq (decimal j) (decimal k)) (λ same. let e : j ≡ k = decimal_injective j k (omega arith) small (bytes_eq-true (decimal j) (decimal k) same) in absurd (omega arith)),
+  is_false (bytes_eq (decimal k) (decimal j)) (λ same. let e : k ≡ j = decimal_injective k j small (omega arith) (bytes_eq-true (decimal k) (decimal j) same) in absurd (omega arith)),
+)
+
+-- ---- paths
+
+pub same_path-refl : (p : Tokens) → same_path p p ≡ true
+same_path-refl [] = refl
+same_path-refl (x ∷ p) = ap (λ b. b && same_path p p) (bytes_eq-refl x) ∙ same_path-refl p
+
+pub same_path-true : (p q : Tokens) → same_path p q ≡ true → p ≡ q
+same_path-true [] [] h = refl
+same_path-true [] (y ∷ q) h = absurd (false≢true h)
+same_path-true (x ∷ p) [] h = absurd (false≢true h)
+same_path-true (x ∷ p) (y ∷ q) h =
+    let parts = and_parts (bytes_eq x y) (same_path p q) h in
+    let a : x ≡ y = bytes_eq-true x y parts.0 in
+    let b : p ≡ q = same_path-true p q parts.1 in cc
+
+pub same_path-common : (p a b : Tokens) → same_path (p ++ a) (p ++ b) ≡ same_path a b
+same_path-common [] a b = refl
+same_path-common (x ∷ p) a b = ap (λ t. t && same_path (p ++ a) (p ++ b)) (bytes_eq-refl x) ∙ same_path-common p a b
+
+pub is_under-common : (p a b : Tokens) → is_under (p ++ a) (p ++ b) ≡ is_under a b
+is_under-common [] a b = refl
+is_under-common (x ∷ p) a b = ap (λ t. t && is_under (p ++ a) (p ++ b)) (bytes_eq-refl x) ∙ is_under-common p a b
+
+pub is_prefix-common : (p a b : Tokens) → is_prefix (p ++ a) (p ++ b) ≡ is_prefix a b
+is_prefix-common [] a b = refl
+is_prefix-common (x ∷ p) a b = ap (λ t. t && is_prefix (p ++ a) (p ++ b)) (bytes_eq-refl x) ∙ is_prefix-common p a b
+
+-- nothing stands below itself
+pub is_under-self : (p : Tokens) → is_under p p ≡ false
+is_under-self [] = refl
+is_under-self (x ∷ p) = ap (λ t. t && is_under p p) (bytes_eq-refl x) ∙ is_under-self p
+
+-- what goes on from a path has it as a prefix
+pub is_prefix-append : (p z : Tokens) → is_prefix p (p ++ z) ≡ true
+is_prefix-append [] z = refl
+is_prefix-append (x ∷ p) z = ap (λ t. t && is_prefix p (p ++ z)) (bytes_eq-refl x) ∙ is_prefix-append p z
+
+-- what stands below a path has it as a prefix, and so has the path itself
+pub is_under-is_prefix : (q p : Tokens) → is_prefix q p ≡ false → is_under q p ≡ false
+is_under-is_prefix [] p h = absurd (true≢false h)
+is_under-is_prefix (x ∷ q) [] h = refl
+is_under-is_prefix (x ∷ q) (y ∷ p) h = step (bytes_eq x y) h (is_under-is_prefix q p)
+  where
+    step : (b : Bool) → (b && is_prefix q p) ≡ false → (is_prefix q p ≡ false → is_under q p ≡ false) → (b && is_under q p) ≡ false
+    step true k later = later k
+    step false k later = refl
+
+pub same_path-is_prefix : (q p : Tokens) → is_prefix q p ≡ false → same_path q p ≡ false
+same_path-is_prefix q p h = is_false (same_path q p) (λ same. true≢false (sym (is_prefix-append q []) ∙ ap (is_prefix q) (append-nil q ∙ same_path-true q p same) ∙ h))
+
+pub same_path-is_prefix_back : (q p : Tokens) → is_prefix q p ≡ false → same_path p q ≡ false
+same_path-is_prefix_back q p h = is_false (same_path p q) (λ same. true≢false (sym (is_prefix-append q []) ∙ ap (is_prefix q) (append-nil q ∙ sym (same_path-true p q same)) ∙ h))
+
+-- what stands below a path stands below each of its prefixes
+pub is_under-weaker : (p y x : Tokens) → is_under (p ++ y) x ≡ true → is_under p x ≡ true
+is_under-weaker [] [] x h = h
+is_under-weaker [] (b ∷ y) [] h = absurd (false≢true h)
+is_under-weaker [] (b ∷ y) (c ∷ x) h = refl
+is_under-weaker (a ∷ p) y [] h = absurd (false≢true h)
+is_under-weaker (a ∷ p) y (c ∷ x) h =
+    let parts = and_parts (bytes_eq a c) (is_under (p ++ y) x) h in
+    ap (λ b. b && is_under p x) parts.0 ∙ is_under-weaker p y x parts.1
+
+-- a member stands below its parent, and all below it
+pub is_under-steps : (p : Tokens) (name : Bytes) (place : Option ℕ) (z : Tokens) → is_under p (p ++ (steps name place ++ z)) ≡ true
+is_under-steps p name place z = ap (λ r. is_under r (p ++ (steps name place ++ z))) (sym (append-nil p)) ∙ is_under-common p [] (steps name place ++ z) ∙ by_place place
+  where
+    by_place : (o : Option ℕ) → is_under [] (steps name o ++ z) ≡ true
+    by_place None = refl
+    by_place (Some k) = refl
+
+-- it is not its parent
+pub same_path-longer : (p : Tokens) (name : Bytes) (place : Option ℕ) (z : Tokens) → same_path p (p ++ (steps name place ++ z)) ≡ false
+same_path-longer p name place z = ap (λ r. same_path r (p ++ (steps name place ++ z))) (sym (append-nil p)) ∙ same_path-common p [] (steps name place ++ z) ∙ by_place place
+  where
+    by_place : (o : Option ℕ) → same_path [] (steps name o ++ z) ≡ false
+    by_place None = refl
+    by_place (Some k) = refl

@@ -1,0 +1,26 @@
+-- The escaping of characters.
+use Rattle.std.proofs.Common.{◌≡◌, ◌≢◌, ◌⊎◌, inl, inr, ℕ, List, [], ◌∷◌, ◌++◌, refl, sym, ap, ◌∙◌, arith}
+use Rattle.std.specs.Char.{encode_utf8}
+use Rattle.std.proofs.lemmas.Bool.{ne_eqb, cond-false}
+use Rattle.std.proofs.lemmas.List.Concat.{flat_map-append}
+use Rattle.iodef_tree.specs.Pointer.{escaped_byte, escaped}
+use Rattle.iodef_tree.proofs.Characters.{AreHigh, IsHigh, encode_utf8-cases}
+
+-- a byte that is neither a tilde nor a slash stays
+plain_byte : (b : ℕ) → b ≢ 126 → b ≢ 47 → escaped_byte b ≡ b ∷ []
+plain_byte b t s = cond-false _ _ _ (ne_eqb b 126 t) ∙ cond-false _ _ _ (ne_eqb b 47 s)
+
+pub escaped-append : (a b : List ℕ) → escaped (a ++ b) ≡ escaped a ++ escaped b
+escaped-append a b = flat_map-append escaped_byte a b
+
+escaped-high : (bs : List ℕ) → AreHigh bs → escaped bs ≡ bs
+escaped-high [] h = refl
+escaped-high (b ∷ bs) h = ap (λ x. x ++ escaped bs) (plain_byte b (λ e. omega arith) (λ e. omega arith)) ∙ ap (λ x. b ∷ x) (escaped-high bs h.1)
+
+-- and so does a character that is neither
+pub escaped-encode : (c : ℕ) → c ≢ 126 → c ≢ 47 → escaped (encode_utf8 c) ≡ encode_utf8 c
+escaped-encode c t s = by_bytes (encode_utf8 c) (encode_utf8-cases c)
+  where
+    by_bytes : (bytes : List ℕ) → (bytes ≡ c ∷ []) ⊎ IsHigh c bytes → escaped bytes ≡ bytes
+    by_bytes bytes (inl e) = ap escaped e ∙ ap (λ x. x ++ []) (plain_byte c t s) ∙ sym e
+    by_bytes bytes (inr (k, b, bs, e, high)) = ap escaped e ∙ escaped-high (b ∷ bs) high ∙ sym e

@@ -1,0 +1,10 @@
+-- A path that another begins with.
+use Rattle.std.proofs.Common.{◌≡◌, [], ◌∷◌, ◌&&◌, refl, ap}
+use Rattle.std.specs.List.{starts_with}
+use Rattle.std.specs.Str.{bytes_eq}
+use Rattle.iodef_tree.specs.Text.{Tokens, is_prefix}
+
+pub starts_with-is_prefix : (p q : Tokens) → starts_with bytes_eq p q ≡ is_prefix q p
+starts_with-is_prefix p [] = refl
+starts_with-is_prefix [] (x ∷ q) = refl
+starts_with-is_prefix (y ∷ p) (x ∷ q) = ap (λ b. bytes_eq x y && b) (starts_with-is_prefix p q)

@@ -1,0 +1,21 @@
+use Rattle.std.proofs.Common.{◌≡◌, ◌==◌, false, length, map, sym, ◌∙◌, subst}
+use Rattle.iodef_tree.specs.Sound.{IsOrdered}
+use Rattle.iodef_tree.specs.View.{body, named}
+use Rattle.std.proofs.Common.{None}
+use Rattle.iodef_tree.proofs.Given.{all_given, members_done, many_done}
+use Rattle.iodef_tree.proofs.Ordered.{Ascend, ascend_given, ordered_members}
+use Rattle.iodef_tree.proofs.Views.{bodies-Many, forest-made}
+use Rattle.iodef_tree.proofs.convert.+convert.Goals as goal
+
+pub array_from-returns-in_ok-items_from-clause-made : goal.array_from-returns-in_ok-items_from-clause-made
+array_from-returns-in_ok-items_from-clause-made t c =
+    bodies-Many c.in_ok-items_from.field-0 ∙ many_done c.args.items.items (map body c.in_ok-items_from.field-0.items) c.in_ok-items_from.ensures.made (subst (λ xs. (length xs == 0) ≡ false) c.as_slice.ensures.value (sym c.is_empty.ensures ∙ c.if-is_empty.false))
+
+pub object_from-returns-clause-made : goal.object_from-returns-clause-made
+object_from-returns-clause-made t c = forest-made c.loop-name.made ∙ members_done (map named c.loop-name.made.items) c.args.members.entries c.loop-name.name-iterator c.in-None.ensures.steps.0 c.loop-name.invariant.made
+
+pub object_from-returns-clause-ordered : goal.object_from-returns-clause-ordered
+object_from-returns-clause-ordered t c =
+    let all = all_given (map named c.loop-name.made.items) c.args.members.entries c.loop-name.name-iterator c.in-None.ensures.steps.0 c.loop-name.invariant.made in
+    let up : Ascend (map named c.loop-name.made.items) = subst Ascend (sym all) (ascend_given c.args.members.entries c.len.ensures.ordered) in
+    subst IsOrdered (sym (forest-made c.loop-name.made)) (ordered_members (map named c.loop-name.made.items) None tt up c.loop-name.invariant.ordered)

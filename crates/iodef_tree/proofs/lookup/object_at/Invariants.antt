@@ -1,0 +1,10 @@
+use Rattle.std.proofs.Common.{◌≡◌, length}
+use Rattle.iodef_tree.specs.Lookup.{object_at}
+use Rattle.iodef_tree.specs.View.{forest}
+use Rattle.iodef_tree.proofs.lookup.object_at.Given as goal
+
+abbrev pub invariant-loop-name : goal.invariant-loop-name
+invariant-loop-name l = object_at (forest l.object) l.left ≡ object_at (forest l.root) l.path
+
+abbrev pub decreases-loop-name : goal.decreases-loop-name
+decreases-loop-name l = length l.left

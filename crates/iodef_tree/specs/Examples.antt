@@ -1,0 +1,103 @@
+-- Three small bodies by their JSON values, and the lines of the one document of each: to be computed by the definitions
+-- alone.
+use Rattle.std.specs.Prelude.{◌≡◌, ℕ, [], ◌∷◌, Bool, true, false, codes}
+use Rattle.serde_json.specs.Data as json
+use Rattle.serde_json.specs.Data.{Data, string, number, unsigned, array, object, no_items, no_members}
+use Rattle.iodef_tree.specs.Text.{Bytes}
+use Rattle.iodef_tree.specs.Tree.{lines}
+use Rattle.iodef_tree.specs.Values.{forest_of_data}
+use Rattle.iodef_tree.specs.declared.line.Line.{Line}
+use Rattle.iodef_tree.specs.declared.line.Kind.{Kind}
+use Rattle.iodef_tree.specs.declared.line.Kind.TheVariants as kind
+
+abbrev pub line : ℕ → Bytes → Bool → Kind → Bytes → Line
+line d name in_array k text = record { depth = d; name = name; in_array = in_array; kind = k; text = text }
+
+abbrev pub member : Bytes → Data → json.Members → json.Members
+member name d rest = json.member name d rest
+
+abbrev pub item : Data → json.Items → json.Items
+item d rest = json.item d rest
+
+-- an empty class in an array, and an array of a text, a number and an array
+abbrev pub ArraysAreSpread : Type 0
+ArraysAreSpread =
+    lines 1 (forest_of_data (
+    member (codes "Incident") (array (item (object (
+    member (codes "Contact") (array (item (object no_members) no_items)) (
+    member (codes "GenerationTime") (string (codes "g")) (
+    member (codes "IncidentID") (string (codes "1")) (
+    member (codes "Note") (array (item (string (codes "p")) (item (number (unsigned 7)) (item (array no_items) no_items)))) (
+    member (codes "purpose") (string (codes "q")) no_members)))))) no_items)) (
+    member (codes "a") (array no_items) no_members)))
+    ≡ line 1 (codes "Incident") true kind.Class []
+    ∷ line 2 (codes "Contact") true kind.Class []
+    ∷ line 2 (codes "GenerationTime") false kind.Text (codes "g")
+    ∷ line 2 (codes "IncidentID") false kind.Text (codes "1")
+    ∷ line 2 (codes "Note") true kind.Text (codes "p")
+    ∷ line 2 (codes "Note") true kind.Value (codes "7")
+    ∷ line 2 (codes "Note") true kind.Value (codes "[]")
+    ∷ line 2 (codes "purpose") false kind.Text (codes "q")
+    ∷ line 1 (codes "a") false kind.Value (codes "[]")
+    ∷ []
+
+-- an Incident with no labels
+abbrev pub ClassesStandInFrontOfTheirMembers : Type 0
+ClassesStandInFrontOfTheirMembers =
+    lines 1 (forest_of_data (
+    member (codes "Incident") (array (item (object (
+    member (codes "Contact") (array (item (object (
+    member (codes "role") (string (codes "creator")) (
+    member (codes "type") (string (codes "organization")) no_members))) no_items)) (
+    member (codes "GenerationTime") (string (codes "2024-01-01T00:00:00Z")) (
+    member (codes "IncidentID") (object (
+    member (codes "id") (string (codes "1")) (
+    member (codes "name") (string (codes "src.example")) no_members))) (
+    member (codes "purpose") (string (codes "reporting")) no_members))))) no_items)) (
+    member (codes "version") (string (codes "2.0")) no_members)))
+    ≡ line 1 (codes "Incident") true kind.Class []
+    ∷ line 2 (codes "Contact") true kind.Class []
+    ∷ line 3 (codes "role") false kind.Text (codes "creator")
+    ∷ line 3 (codes "type") false kind.Text (codes "organization")
+    ∷ line 2 (codes "GenerationTime") false kind.Text (codes "2024-01-01T00:00:00Z")
+    ∷ line 2 (codes "IncidentID") false kind.Class []
+    ∷ line 3 (codes "id") false kind.Text (codes "1")
+    ∷ line 3 (codes "name") false kind.Text (codes "src.example")
+    ∷ line 2 (codes "purpose") false kind.Text (codes "reporting")
+    ∷ line 1 (codes "version") false kind.Text (codes "2.0")
+    ∷ []
+
+-- two classes of one array, and labels
+abbrev pub ElementsFollowOneAnother : Type 0
+ElementsFollowOneAnother =
+    lines 1 (forest_of_data (
+    member (codes "Incident") (array (item (object (
+    member (codes "Contact") (array no_items) (
+    member (codes "EventData") (array (
+    item (object (
+    member (codes "Description") (array (item (string (codes "x")) no_items)) (
+    member (codes "restriction") (string (codes "amber")) no_members))) (
+    item (object (
+    member (codes "Description") (array (item (string (codes "y")) no_items)) (
+    member (codes "ext-restriction") (string (codes "TLP:AMBER")) (
+    member (codes "restriction") (string (codes "ext-value")) no_members)))) no_items))) (
+    member (codes "GenerationTime") (string (codes "g")) (
+    member (codes "IncidentID") (string (codes "4")) (
+    member (codes "purpose") (string (codes "reporting")) (
+    member (codes "restriction") (string (codes "public")) no_members))))))) no_items)) (
+    member (codes "version") (string (codes "2.0")) no_members)))
+    ≡ line 1 (codes "Incident") true kind.Class []
+    ∷ line 2 (codes "Contact") false kind.Value (codes "[]")
+    ∷ line 2 (codes "EventData") true kind.Class []
+    ∷ line 3 (codes "Description") true kind.Text (codes "x")
+    ∷ line 3 (codes "restriction") false kind.Text (codes "amber")
+    ∷ line 2 (codes "EventData") true kind.Class []
+    ∷ line 3 (codes "Description") true kind.Text (codes "y")
+    ∷ line 3 (codes "ext-restriction") false kind.Text (codes "TLP:AMBER")
+    ∷ line 3 (codes "restriction") false kind.Text (codes "ext-value")
+    ∷ line 2 (codes "GenerationTime") false kind.Text (codes "g")
+    ∷ line 2 (codes "IncidentID") false kind.Text (codes "4")
+    ∷ line 2 (codes "purpose") false kind.Text (codes "reporting")
+    ∷ line 2 (codes "restriction") false kind.Text (codes "public")
+    ∷ line 1 (codes "version") false kind.Text (codes "2.0")
+    ∷ []

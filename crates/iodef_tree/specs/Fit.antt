@@ -1,0 +1,61 @@
+-- What reading keeps on its way, for clauses that no caller outside the crate meets.
+use Rattle.std.specs.Prelude.{◌≡◌, ◌≤◌, ℕ, suc, ◌+◌, List, [], ◌∷◌, sum_by, Bool, false, ◌||◌, Option, option_map, option_and_then, codes}
+use Rattle.std.specs.List.{AllByRecursion}
+use Rattle.serde_json.specs.Data as json
+use Rattle.serde_json.specs.Data.{Data, put}
+use Rattle.serde_json.specs.Find.{as_array, as_object, get_member}
+use Rattle.serde_json.specs.Written.{members_have_float}
+use Rattle.iodef_tree.specs.Tree.{Forest, end, leaf, branch, Body, holds, says, Bodies, one, many, height}
+use Rattle.iodef_tree.specs.Sound.{IsOrdered}
+use Rattle.iodef_tree.specs.Values.{Spot, Node, is_not_whole, is_nested_class, is_too_deep}
+use Rattle.iodef_tree.specs.Reading.{with_incident, document_of}
+use Rattle.iodef_tree.specs.declared.TheConstants.{DEPTH_LIMIT}
+use Rattle.iodef_tree.specs.declared.seek.Sought.{Sought}
+use Rattle.iodef_tree.specs.declared.seek.Sought.TheVariants as sought
+
+abbrev pub is_sought : Sought → Spot → Bool
+is_sought sought.NotWhole s = is_not_whole s
+is_sought sought.NestedClass s = is_nested_class s
+is_sought sought.TooDeep s = is_too_deep s
+
+-- what any of the three looks for
+abbrev pub is_refused : Spot → Bool
+is_refused s = is_not_whole s || (is_nested_class s || is_too_deep s)
+
+abbrev pub any_at : (Spot → Bool) → List Node → Bool
+any_at test [] = false
+any_at test (n ∷ ns) = test n.spot || any_at test ns
+
+abbrev pub IsBodyOrdered : Body → Type 0
+IsBodyOrdered (holds kids) = IsOrdered kids
+IsBodyOrdered (says content) = Unit {0}
+
+abbrev pub AreBodiesOrdered : Bodies → Type 0
+AreBodiesOrdered (one b) = IsBodyOrdered b
+AreBodiesOrdered (many bs) = AllByRecursion IsBodyOrdered bs
+
+abbrev pub line_count : Forest → ℕ
+line_count end = 0
+line_count (leaf i rest) = suc (line_count rest)
+line_count (branch name place kids rest) = suc (line_count kids + line_count rest)
+
+abbrev pub body_count : Body → ℕ
+body_count (holds kids) = suc (line_count kids)
+body_count (says content) = 1
+
+abbrev pub bodies_count : Bodies → ℕ
+bodies_count (one b) = body_count b
+bodies_count (many bs) = sum_by body_count bs
+
+-- of the root and one of its Incidents
+pub record IsFit (root : json.Members) (incident : Data) : Type 0 where
+  pub whole : members_have_float (with_incident incident root) ≡ false
+  pub shallow : height (document_of incident root) ≤ DEPTH_LIMIT
+
+abbrev pub AreFit : json.Members → json.Items → Type 0
+AreFit root json.no_items = Unit {0}
+AreFit root (json.item d ds) = IsFit root d × AreFit root ds
+
+-- the root with null in place of its Incidents, and these
+abbrev pub taken : Data → Option (json.Members × json.Items)
+taken d = option_and_then (λ ms. option_map (λ ds. (put (codes "Incident") json.null ms, ds)) (option_and_then as_array (get_member (codes "Incident") ms))) (as_object d)

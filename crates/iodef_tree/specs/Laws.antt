@@ -1,0 +1,46 @@
+-- The laws of sound trees, as later definitions stand on them.
+use Rattle.std.specs.Prelude.{◌≡◌, ℕ, [], ◌++◌, map, false, Option}
+use Rattle.std.specs.List.{IsDistinct}
+use Rattle.iodef_tree.specs.Text.{Bytes, Tokens, same_path, is_prefix}
+use Rattle.iodef_tree.specs.Tree.{Forest, end, leaf, branch, steps, lines}
+use Rattle.iodef_tree.specs.Paths.{located, classes_of}
+use Rattle.iodef_tree.specs.Sound.{IsSound}
+use Rattle.iodef_tree.specs.Walk.{walk, AreBlocks}
+
+-- something holds of each sibling, by its name and its place
+abbrev pub AllSiblings : (Bytes → Option ℕ → Type 0) → Forest → Type 0
+AllSiblings P end = Unit {0}
+AllSiblings P (leaf i rest) = P i.name i.place × AllSiblings P rest
+AllSiblings P (branch name place kids rest) = P name place × AllSiblings P rest
+
+-- what stands at or below one of two siblings never stands at or below the other
+pub record AreApart (n : Bytes) (place : Option ℕ) (n' : Bytes) (place' : Option ℕ) : Type 0 where
+  pub left : (z : Tokens) → is_prefix (steps n place) (steps n' place' ++ z) ≡ false
+  pub right : (z : Tokens) → is_prefix (steps n' place') (steps n place ++ z) ≡ false
+
+-- each sibling stands apart from those behind it, in each class
+abbrev pub HasApart : Forest → Type 0
+HasApart end = Unit {0}
+HasApart (leaf i rest) = AllSiblings (AreApart i.name i.place) rest × HasApart rest
+HasApart (branch name place kids rest) = AllSiblings (AreApart name place) rest × HasApart kids × HasApart rest
+
+abbrev pub EntriesAreTheWalk : Type 0
+EntriesAreTheWalk = (f : Forest) → IsSound f → located (lines 1 f) ≡ walk 1 [] f
+
+abbrev pub SiblingsStandApart : Type 0
+SiblingsStandApart = (f : Forest) → IsSound f → HasApart f
+
+-- below the path of each class stand the lines of its members, and no others
+abbrev pub ClassesAreBlocks : Type 0
+ClassesAreBlocks = (f : Forest) → IsSound f → AreBlocks (located (lines 1 f)) 1 [] f
+
+-- no two lines of a document have one path
+abbrev pub PathsAreDistinct : Type 0
+PathsAreDistinct = (f : Forest) → IsSound f → IsDistinct same_path (map (λ e. e.path) (located (lines 1 f)))
+
+abbrev pub ClassPathsAreDistinct : Type 0
+ClassPathsAreDistinct = (f : Forest) → IsSound f → IsDistinct same_path (classes_of (lines 1 f))
+
+-- a tree is known by its lines
+abbrev pub OutlineIsOneToOne : Type 0
+OutlineIsOneToOne = (f g : Forest) → IsSound f → IsSound g → lines 1 f ≡ lines 1 g → f ≡ g

@@ -1,0 +1,13 @@
+pub mod Text
+pub mod Tree
+pub mod Paths
+pub mod Pointer
+pub mod Sound
+pub mod View
+pub mod Walk
+pub mod Lookup
+pub mod Values
+pub mod Reading
+pub mod Fit
+pub mod Laws
+pub mod Examples

@@ -1,0 +1,141 @@
+-- What reading a body gives: a document for each Incident, or the first fault.
+use Rattle.std.specs.Prelude.{ℕ, suc, ◌≡◌, List, [], ◌∷◌, length, Bool, true, ◌&&◌, nat_lt, nat_le, if◌then◌else◌, Option, Some, None, option_and_then, is_none, is_some, Result, Ok, Err, codes, decimal}
+use Rattle.std.specs.Str.{is_utf8}
+use Rattle.serde_json.specs.Data as json
+use Rattle.serde_json.specs.Data.{Data, put}
+use Rattle.serde_json.specs.Find.{get, get_member, as_array, as_object}
+use Rattle.serde_json.specs.Events.{items_len}
+use Rattle.serde_json.specs.Read.{read}
+use Rattle.iodef_tree.specs.Text.{Bytes, Tokens}
+use Rattle.iodef_tree.specs.Tree.{Forest, lines}
+use Rattle.iodef_tree.specs.Values.{forest_of_data, nodes, first_at, is_not_whole, is_nested_class, is_too_deep}
+use Rattle.iodef_tree.specs.declared.TheConstants.{INCIDENT_LIMIT, LINE_LIMIT}
+use Rattle.iodef_tree.specs.declared.line.Line.{Line}
+use Rattle.iodef_tree.specs.declared.fault.ReadFault.{ReadFault}
+use Rattle.iodef_tree.specs.declared.fault.ReadFault.TheVariants.{NotJson, NotDocument, Missing, NotWhole, NestedClass, TooDeep, TooManyLines, NoMemory}
+use Rattle.iodef_tree.specs.declared.fault.Required.{Required}
+use Rattle.iodef_tree.specs.declared.fault.Required.TheVariants as required
+
+-- ---- the names
+
+-- the members that an Incident must have (RFC 7970 section 3.2)
+abbrev pub required_name : Required → Bytes
+required_name required.Contact = codes "Contact"
+required_name required.GenerationTime = codes "GenerationTime"
+required_name required.IncidentId = codes "IncidentID"
+required_name required.Purpose = codes "purpose"
+
+abbrev pub fault_name : ReadFault → Bytes
+fault_name NotJson = codes "NotJson"
+fault_name NotDocument = codes "NotDocument"
+fault_name (Missing p r) = codes "Missing"
+fault_name (NotWhole p) = codes "NotWhole"
+fault_name (NestedClass p) = codes "NestedClass"
+fault_name TooDeep = codes "TooDeep"
+fault_name TooManyLines = codes "TooManyLines"
+fault_name NoMemory = codes "NoMemory"
+
+-- ---- the Incidents of a body
+
+abbrev pub all_objects : json.Items → Bool
+all_objects json.no_items = true
+all_objects (json.item d ds) = is_some (as_object d) && all_objects ds
+
+-- objects, at least one and at most as many as the limit (RFC 8727 section 2.1)
+abbrev pub are_incidents : json.Items → Bool
+are_incidents ds = (nat_lt 0 (items_len ds) && nat_le (items_len ds) INCIDENT_LIMIT) && all_objects ds
+
+abbrev pub if_incidents : json.Items → Option json.Items
+if_incidents ds = if are_incidents ds then Some ds else None
+
+-- the array at a root's member `Incident`
+abbrev pub incidents_of : json.Members → Option json.Items
+incidents_of root = option_and_then if_incidents (option_and_then as_array (get_member (codes "Incident") root))
+
+abbrev pub lacks : Required → Data → Bool
+lacks r d = is_none (get (required_name r) d)
+
+-- the first that an Incident lacks
+abbrev pub lacking : Data → Option Required
+lacking d =
+    if lacks required.Contact d then Some required.Contact
+    else (if lacks required.GenerationTime d then Some required.GenerationTime
+    else (if lacks required.IncidentId d then Some required.IncidentId
+    else (if lacks required.Purpose d then Some required.Purpose else None)))
+
+-- an Incident's place in the body
+abbrev pub incident_at : ℕ → Tokens
+incident_at k = codes "Incident" ∷ decimal k ∷ []
+
+-- ---- reading: a result, or the first fault
+
+infixl 10 ◌>>=◌
+abbrev pub ◌>>=◌ : {A B : Type 0} → Result A ReadFault → (A → Result B ReadFault) → Result B ReadFault
+(Ok x) >>= f = f x
+(Err e) >>= f = Err e
+
+abbrev pub or_fault : {A : Type 0} → ReadFault → Option A → Result A ReadFault
+or_fault e (Some x) = Ok x
+or_fault e None = Err e
+
+abbrev pub unless : {A : Type 0} → (A → ReadFault) → Option A → Result (Unit {0}) ReadFault
+unless f None = Ok tt
+unless f (Some x) = Err (f x)
+
+-- JSON is text in UTF-8 (RFC 8259 section 8.1).
+abbrev pub parsed : Bytes → Result Data ReadFault
+parsed bytes = or_fault NotJson (if is_utf8 bytes then read bytes else None)
+
+-- each Incident from the one at a place on has what it must
+abbrev pub all_complete : ℕ → json.Items → Result (Unit {0}) ReadFault
+all_complete k json.no_items = Ok tt
+all_complete k (json.item d ds) = unless (Missing (incident_at k)) (lacking d) >>= λ _. all_complete (suc k) ds
+
+-- no value is one that a document can't hold
+unfoldable pub plain : Data → Result (Unit {0}) ReadFault
+plain d = do
+  whole ← unless NotWhole (first_at is_not_whole (nodes 0 0 d))
+  flat ← unless NestedClass (first_at is_nested_class (nodes 0 0 d))
+  unless (λ _. TooDeep) (first_at is_too_deep (nodes 0 0 d))
+
+-- ---- the documents of a body
+
+-- the root with its Incidents exchanged for an array of this one
+abbrev pub with_incident : Data → json.Members → json.Members
+with_incident d root = put (codes "Incident") (json.array (json.item d json.no_items)) root
+
+abbrev pub document_of : Data → json.Members → Forest
+document_of d root = forest_of_data (with_incident d root)
+
+abbrev pub if_short : List Line → Result (List Line) ReadFault
+if_short ls = if nat_lt LINE_LIMIT (length ls) then Err TooManyLines else Ok ls
+
+-- one for each Incident
+abbrev pub documents : json.Members → json.Items → Result (List (List Line)) ReadFault
+documents root json.no_items = Ok []
+documents root (json.item d ds) = if_short (lines 1 (document_of d root)) >>= λ first. documents root ds >>= λ others. Ok (first ∷ others)
+
+-- the faults, each in front of the next
+unfoldable pub reading : Bytes → Result (List (List Line)) ReadFault
+reading bytes = do
+  body ← parsed bytes
+  root ← or_fault NotDocument (as_object body)
+  incidents ← or_fault NotDocument (incidents_of root)
+  complete ← all_complete 0 incidents
+  fine ← plain body
+  documents root incidents
+
+-- What a function returned, seen by view, is what reading gives, unless memory ran out.
+abbrev pub Fails : {Y : Type 0} → ReadFault → Result Y ReadFault → Type 0
+Fails NoMemory read = Unit {0}
+Fails NotJson read = read ≡ Err NotJson
+Fails NotDocument read = read ≡ Err NotDocument
+Fails (Missing p r) read = read ≡ Err (Missing p r)
+Fails (NotWhole p) read = read ≡ Err (NotWhole p)
+Fails (NestedClass p) read = read ≡ Err (NestedClass p)
+Fails TooDeep read = read ≡ Err TooDeep
+Fails TooManyLines read = read ≡ Err TooManyLines
+
+abbrev pub Gives : {X Y : Type 0} → (X → Y) → Result X ReadFault → Result Y ReadFault → Type 0
+Gives view (Ok x) read = read ≡ Ok (view x)
+Gives view (Err e) read = Fails e read

@@ -1,0 +1,54 @@
+-- What the tree of each document keeps.
+use Rattle.std.specs.Prelude.{◌≡◌, ◌≤◌, ℕ, zero, suc, ◌+◌, List, count_by, Bool, true, false, not, ◌==◌, ◌&&◌, ◌||◌, Option, Some, None, codes}
+use Rattle.std.specs.Str.{bytes_eq}
+use Rattle.iodef_tree.specs.Text.{Bytes, bytes_lt}
+use Rattle.iodef_tree.specs.Tree.{Forest, end, leaf, branch, lines, height}
+use Rattle.iodef_tree.specs.Paths.{is_class_kind}
+use Rattle.iodef_tree.specs.declared.line.Line.{Line}
+use Rattle.iodef_tree.specs.declared.TheConstants.{DEPTH_LIMIT, LINE_LIMIT}
+
+-- where a sibling stands: its name, and its place where it is an element
+abbrev pub Standing : Type 0
+Standing = Bytes × Option ℕ
+
+-- Right behind a sibling may stand a member of a later name, which begins its array where it has one, or the next element
+-- of the same array.
+abbrev pub may_stand_behind : Standing → Bytes → Option ℕ → Bool
+may_stand_behind s name None = bytes_lt s.0 name
+may_stand_behind s name (Some zero) = bytes_lt s.0 name
+may_stand_behind (n, None) name (Some (suc k)) = false
+may_stand_behind (n, Some j) name (Some (suc k)) = bytes_eq n name && (j == k)
+
+-- what may stand first
+abbrev pub may_stand_first : Option ℕ → Bool
+may_stand_first None = true
+may_stand_first (Some zero) = true
+may_stand_first (Some (suc k)) = false
+
+abbrev pub may_stand : Option Standing → Bytes → Option ℕ → Bool
+may_stand None name place = may_stand_first place
+may_stand (Some s) name place = may_stand_behind s name place
+
+-- names ascend in byte order, and the elements of an array are numbered from 0, in each class
+abbrev pub IsOrderedBehind : Option Standing → Forest → Type 0
+IsOrderedBehind before end = Unit {0}
+IsOrderedBehind before (leaf i rest) = (may_stand before i.name i.place ≡ true) × IsOrderedBehind (Some (i.name, i.place)) rest
+IsOrderedBehind before (branch name place kids rest) =
+    (may_stand before name place ≡ true) × IsOrderedBehind None kids × IsOrderedBehind (Some (name, place)) rest
+
+abbrev pub IsOrdered : Forest → Type 0
+IsOrdered f = IsOrderedBehind None f
+
+-- a line of a label outside arrays (RFC 7970 section 3.3.1 and 5.1.1)
+abbrev pub is_label_line : Line → Bool
+is_label_line l = (not l.in_array && not (is_class_kind l.kind)) && (bytes_eq l.name (codes "restriction") || bytes_eq l.name (codes "ext-restriction"))
+
+-- how many lines count for the limit: an excerpt may have label lines beyond those of the stored document
+abbrev pub counted : List Line → ℕ
+counted ls = count_by (λ l. not (is_label_line l)) ls
+
+pub record IsSound (f : Forest) : Type 0 where
+  pub ordered : IsOrdered f
+  -- a class stands at most at the limit of depth, and its members one deeper
+  pub shallow : height f ≤ DEPTH_LIMIT + 1
+  pub short : counted (lines 1 f) ≤ LINE_LIMIT

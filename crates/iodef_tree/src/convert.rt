@@ -1,0 +1,100 @@
+//! From what `serde_json` read to the tree, each text moved and not copied.
+
+ghost use Rattle.std.specs.Prelude.{◌≡◌, IfOk, false, map};
+ghost use Rattle.std.specs.List.{AllByRecursion};
+ghost use Rattle.serde_json.specs.View.{view, items_view, members_view};
+ghost use Rattle.serde_json.specs.Written.{compact_text, has_float, items_have_float, members_have_float};
+ghost use Rattle.serde_json.specs.Data.{array};
+ghost use Rattle.iodef_tree.specs.Sound.{IsOrdered};
+ghost use Rattle.iodef_tree.specs.Fit.{IsBodyOrdered, AreBodiesOrdered};
+ghost use Rattle.iodef_tree.specs.Values.{forest_of_data, bodies_of_data, body_of_data, items_of_data};
+ghost use Rattle.iodef_tree.specs.View.{forest, bodies, body};
+
+use crate::object::{Item, Member, Object};
+use crate::text::Text;
+use serde_json::{Map, Value};
+use std::alloc::{AllocError, Global};
+
+/// The tree of an object's members. A number that is neither an i64 nor a u64 would have no text.
+#[cycle(convert)]
+pub(crate) fn object_from(alloc: Global, members: Map<String, Value>) -> Result<Object, AllocError>
+    requires { members_have_float (members_view members.entries) ≡ false }
+    ensures made { IfOk result (λ o. forest o ≡ forest_of_data (members_view members.entries)) }
+    ensures ordered { IfOk result (λ o. IsOrdered (forest o)) }
+{
+    let mut made = Vec::with_capacity(alloc, members.len())?;
+    for (name, value) in members {
+        let member = member_from(alloc, value)?;
+        made.push((Text::new(name), member))?;
+    }
+    Ok(Object { members: made })
+}
+
+#[cycle(convert)]
+fn member_from(alloc: Global, value: Value) -> Result<Member, AllocError>
+    requires { has_float (view value) ≡ false }
+    ensures made { IfOk result (λ m. bodies m ≡ bodies_of_data (view value)) }
+    ensures ordered { IfOk result (λ m. AreBodiesOrdered (bodies m)) }
+{
+    match value {
+        Value::Array(items) => array_from(alloc, items),
+        Value::Object(members) => Ok(Member::One(Item::Class(object_from(alloc, members)?))),
+        Value::String(text) => Ok(Member::One(Item::Text(Text::new(text)))),
+        Value::Number(number) => Ok(Member::One(Item::Value(written(
+            alloc,
+            Value::Number(number),
+        )?))),
+        Value::Bool(truth) => Ok(Member::One(Item::Value(written(alloc, Value::Bool(truth))?))),
+        Value::Null => Ok(Member::One(Item::Value(written(alloc, Value::Null)?))),
+    }
+}
+
+#[cycle(convert)]
+fn array_from(alloc: Global, items: Vec<Value>) -> Result<Member, AllocError>
+    requires { items_have_float (items_view items.items) ≡ false }
+    ensures made { IfOk result (λ m. bodies m ≡ bodies_of_data (array (items_view items.items))) }
+    ensures ordered { IfOk result (λ m. AreBodiesOrdered (bodies m)) }
+{
+    if items.as_slice().is_empty() {
+        Ok(Member::One(Item::Value(written(alloc, Value::Array(items))?)))
+    } else {
+        Ok(Member::Many(items_from(alloc, items)?))
+    }
+}
+
+#[cycle(convert)]
+fn items_from(alloc: Global, items: Vec<Value>) -> Result<Vec<Item>, AllocError>
+    requires { items_have_float (items_view items.items) ≡ false }
+    ensures made { IfOk result (λ v. map body v.items ≡ items_of_data (items_view items.items)) }
+    ensures ordered { IfOk result (λ v. AllByRecursion IsBodyOrdered (map body v.items)) }
+{
+    let mut made = Vec::with_capacity(alloc, items.len())?;
+    for item in items {
+        made.push(item_from(alloc, item)?)?;
+    }
+    Ok(made)
+}
+
+#[cycle(convert)]
+fn item_from(alloc: Global, value: Value) -> Result<Item, AllocError>
+    requires { has_float (view value) ≡ false }
+    ensures made { IfOk result (λ i. body i ≡ body_of_data (view value)) }
+    ensures ordered { IfOk result (λ i. IsBodyOrdered (body i)) }
+{
+    match value {
+        Value::Object(members) => Ok(Item::Class(object_from(alloc, members)?)),
+        Value::String(text) => Ok(Item::Text(Text::new(text))),
+        Value::Array(items) => Ok(Item::Value(written(alloc, Value::Array(items))?)),
+        Value::Number(number) => Ok(Item::Value(written(alloc, Value::Number(number))?)),
+        Value::Bool(truth) => Ok(Item::Value(written(alloc, Value::Bool(truth))?)),
+        Value::Null => Ok(Item::Value(written(alloc, Value::Null)?)),
+    }
+}
+
+/// The compact JSON of a value.
+fn written(alloc: Global, value: Value) -> Result<Text, AllocError>
+    requires { has_float (view value) ≡ false }
+    ensures { IfOk result (λ t. t ≡ compact_text (view value)) }
+{
+    Ok(Text::new(value.to_string(alloc)?))
+}

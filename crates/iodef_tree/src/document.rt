@@ -1,0 +1,95 @@
+ghost use Rattle.std.specs.Prelude.{◌≡◌, ◌||◌, IfOk, IfSome, is_some};
+ghost use Rattle.iodef_tree.specs.Paths.{located, classes_of as class_paths_of, has_class as has_class_at};
+ghost use Rattle.iodef_tree.specs.Text.{is_root};
+ghost use Rattle.iodef_tree.specs.Tree.{lines};
+ghost use Rattle.iodef_tree.specs.View.{forest};
+ghost use Rattle.iodef_tree.specs.Walk.{IsBlock};
+
+use crate::classes::classes_of;
+use crate::fault::ReadFault;
+use crate::line::Line;
+use crate::lookup::object_at;
+use crate::object::Object;
+use crate::outline::outline_of;
+use crate::path::Path;
+use crate::read::read;
+use std::alloc::{AllocError, Global};
+use std::marker::Model;
+
+/// A document with one Incident, which contracts see as its outline: the list of its lines in stored order.
+#[derive(Drop)]
+pub struct Document {
+    root: Object,
+}
+
+impl Model for Document {
+    ghost use Rattle.std.specs.Prelude.{List};
+    ghost use Rattle.iodef_tree.specs.declared.line.Line.{Line};
+    ghost use Rattle.iodef_tree.specs.Tree.{lines};
+    ghost use Rattle.iodef_tree.specs.Sound.{IsSound};
+    ghost use Rattle.iodef_tree.specs.View.{forest};
+
+    ghost Value = { List Line };
+
+    ghost view = { λ d. lines 1 (forest d.root) };
+
+    ghost invariant = { λ d. IsSound (forest d.root) };
+}
+
+impl Document {
+    ghost use Rattle.iodef_tree.specs.Sound.{IsSound};
+    ghost use Rattle.iodef_tree.specs.Reading.{Gives, reading};
+
+    /// The documents of a body, one for each Incident (RFC 8727 section 2.1), or the first of the faults in their order.
+    /// Each has all other members of the root, and its Incident alone at place 0.
+    pub fn read(alloc: Global, bytes: &[u8]) -> Result<Vec<Document>, ReadFault>
+        ensures { Gives (λ v. v.items) result (reading bytes.now) }
+    {
+        read(alloc, bytes)
+    }
+
+    pub(crate) fn new(root: Object) -> Document
+        requires { IsSound (forest root) }
+        ensures { result ≡ lines 1 (forest root) }
+    {
+        Document { root }
+    }
+
+    /// The lines of the document, in stored order.
+    pub fn outline(&self, alloc: Global) -> Result<Vec<Line>, AllocError>
+        ensures { IfOk result (λ v. v.items ≡ self.now) }
+    {
+        outline_of(alloc, &self.root)
+    }
+
+    /// The paths of the classes, in stored order.
+    pub fn classes(&self, alloc: Global) -> Result<Vec<Path>, AllocError>
+        ensures { IfOk result (λ v. v.items ≡ class_paths_of self.now) }
+    {
+        classes_of(alloc, &self.root)
+    }
+
+    /// Whether there is a class at the path; the root is none. Takes no memory.
+    pub fn has_class(&self, path: &Path) -> bool
+        ensures { result ≡ has_class_at (located self.now) path.now }
+    {
+        !path.tokens().is_empty() && self.class(path).is_some()
+    }
+
+    /// The class at the path, or the root at the empty path: the lines below the path are those of its members. `None`
+    /// exactly where the path is neither a class nor the root. Takes no memory.
+    pub fn class(&self, path: &Path) -> Option<&Object>
+        ensures found { is_some result ≡ (is_root path.now || has_class_at (located self.now) path.now) }
+        ensures block { IfSome result (λ o. IsBlock path.now (located self.now) (forest o.now)) }
+    {
+        object_at(&self.root, path.tokens())
+    }
+
+    /// The tree whose lines are the outline.
+    pub fn root(&self) -> &Object
+        ensures lines { lines 1 (forest result.now) ≡ self.now }
+        ensures sound { IsSound (forest result.now) }
+    {
+        &self.root
+    }
+}

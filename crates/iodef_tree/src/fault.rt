@@ -1,0 +1,84 @@
+ghost use Rattle.std.specs.Prelude.{◌≡◌};
+ghost use Rattle.iodef_tree.specs.declared.fault.ReadFault.TheVariants.{NoMemory};
+ghost use Rattle.iodef_tree.specs.Reading.{fault_name, required_name};
+
+use crate::path::Path;
+use std::alloc::{AllocError, AllocFailed};
+
+/// The members that an Incident must have (RFC 7970 section 3.2), in the order in which a missing one is told.
+#[derive(Clone, Copy, Debug, PartialEq, Eq)]
+pub enum Required {
+    Contact,
+    GenerationTime,
+    IncidentId,
+    Purpose,
+}
+
+/// Why a body is no list of documents: the first of these that holds, in this order. A pointer is one in the body that
+/// was read, and within one fault it is that of the first place in stored order.
+#[derive(Drop)]
+pub enum ReadFault {
+    /// The bytes are no JSON text (RFC 8259).
+    NotJson,
+    /// The root is no object, or its `Incident` is no array of 1 to 16 objects (RFC 8727 section 4).
+    NotDocument,
+    /// The Incident at this pointer lacks this member.
+    Missing(Path, Required),
+    /// The number at this pointer is neither an i64 nor a u64.
+    NotWhole(Path),
+    /// The object at this pointer stands inside an array inside an array.
+    NestedClass(Path),
+    /// A line is deeper than the limit, or the arrays of a value are.
+    TooDeep,
+    /// One of the documents has more lines than the limit.
+    TooManyLines,
+    NoMemory,
+}
+
+impl Required {
+    /// The member's name.
+    pub fn name(self) -> &'static str
+        ensures { result.now ≡ required_name self }
+    {
+        match self {
+            Required::Contact => "Contact",
+            Required::GenerationTime => "GenerationTime",
+            Required::IncidentId => "IncidentID",
+            Required::Purpose => "purpose",
+        }
+    }
+}
+
+impl ReadFault {
+    /// The fault's name alone.
+    pub fn name(&self) -> &'static str
+        ensures { result.now ≡ fault_name self.now }
+    {
+        match self {
+            ReadFault::NotJson => "NotJson",
+            ReadFault::NotDocument => "NotDocument",
+            ReadFault::Missing(_, _) => "Missing",
+            ReadFault::NotWhole(_) => "NotWhole",
+            ReadFault::NestedClass(_) => "NestedClass",
+            ReadFault::TooDeep => "TooDeep",
+            ReadFault::TooManyLines => "TooManyLines",
+            ReadFault::NoMemory => "NoMemory",
+        }
+    }
+}
+
+impl From<AllocError> for ReadFault {
+    ghost from_gives = { λ _ fault. fault ≡ NoMemory };
+
+    fn from(_refused: AllocError) -> ReadFault {
+        ReadFault::NoMemory
+    }
+}
+
+impl<T: Drop> From<AllocFailed<T>> for ReadFault {
+    ghost from_gives = { λ _ fault. fault ≡ NoMemory };
+
+    fn from(_refused: AllocFailed<T>) -> ReadFault {
+        ReadFault::NoMemory
+    }
+}

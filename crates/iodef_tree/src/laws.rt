@@ -1,0 +1,53 @@
+//! What holds of every sound tree, and so of every document, and of every path, as the definitions of later crates stand
+//! on it. Each law is the contract of a function that does nothing.
+
+ghost use Rattle.iodef_tree.specs.Laws.{
+  EntriesAreTheWalk,
+  SiblingsStandApart,
+  ClassesAreBlocks,
+  PathsAreDistinct,
+  ClassPathsAreDistinct,
+  OutlineIsOneToOne,
+};
+ghost use Rattle.iodef_tree.specs.Pointer.{PointerIsRead, ReadIsPrinted};
+
+/// The lines of an outline, each with its path and its parent's path as the flat list gives them, are those that a walk
+/// down the tree meets.
+pub fn entries_are_the_walk()
+    ensures { EntriesAreTheWalk }
+{}
+
+/// What stands at or below one of two siblings never stands at or below the other.
+pub fn siblings_stand_apart()
+    ensures { SiblingsStandApart }
+{}
+
+/// Below the path of each class stand the lines of its members, and no others.
+pub fn classes_are_blocks()
+    ensures { ClassesAreBlocks }
+{}
+
+/// No two lines of a document have one path.
+pub fn paths_are_distinct()
+    ensures { PathsAreDistinct }
+{}
+
+/// No two classes of a document have one path.
+pub fn class_paths_are_distinct()
+    ensures { ClassPathsAreDistinct }
+{}
+
+/// Two documents with the same lines are the same tree.
+pub fn outline_is_one_to_one()
+    ensures { OutlineIsOneToOne }
+{}
+
+/// The pointer of a path is read as that path.
+pub fn pointer_is_read()
+    ensures { PointerIsRead }
+{}
+
+/// A text that is read as a path is the path's pointer.
+pub fn read_is_printed()
+    ensures { ReadIsPrinted }
+{}

@@ -1,0 +1,38 @@
+//! IODEF v2 documents in JSON (RFC 7970, RFC 8727): reading, outlines, class paths and JSON pointers (RFC 6901).
+#![tactic(auto)]
+
+mod classes;
+mod convert;
+mod document;
+pub mod examples;
+mod fault;
+pub mod laws;
+mod line;
+mod lookup;
+mod object;
+mod outline;
+mod path;
+mod pointer;
+mod read;
+mod room;
+mod seek;
+#[cfg(test)]
+mod tests_read;
+mod text;
+
+pub use document::Document;
+pub use fault::{ReadFault, Required};
+pub use line::{Kind, Line};
+pub use object::{Item, Member, Object};
+pub use path::Path;
+pub use pointer::{PathFault, push_token};
+pub use text::Text;
+
+/// How many classes may stand one below the other in a document that is read.
+pub const DEPTH_LIMIT: u32 = 32;
+
+/// How many lines the outline of a document that is read may have.
+pub const LINE_LIMIT: usize = 4096;
+
+/// How many Incidents a body may have.
+pub const INCIDENT_LIMIT: usize = 16;

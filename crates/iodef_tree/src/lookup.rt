@@ -1,0 +1,103 @@
+//! The class at a path, found token by token from the root. Takes no memory.
+
+ghost use Rattle.std.specs.Prelude.{
+  ◌≡◌,
+  ◌≤◌,
+  ◌<◌,
+  ◌^◌,
+  ◌∷◌,
+  length,
+  map,
+  ℕ,
+  decimal,
+  IfSome,
+  IfNone,
+  option_map,
+};
+ghost use Rattle.std.specs.Option.{option_map_or};
+ghost use Rattle.iodef_tree.specs.Lookup.{
+  class_at as class_in_tree,
+  object_at as object_in_tree,
+  object_in,
+  element_at as element_of,
+  part_at,
+};
+ghost use Rattle.iodef_tree.specs.View.{forest, bodies, body};
+
+use crate::object::{Item, Member, Object};
+use crate::text::Text;
+
+/// The place whose decimal digits the token is.
+fn place_of_token(token: &str) -> Option<usize>
+    ensures some { IfSome result (λ k. token.now ≡ decimal k) }
+    ensures none { IfNone result ((k : ℕ) → k < 2 ^ 64 → token.now ≡ decimal k → ⊥) }
+{
+    let place = token.parse::<usize>().ok()?;
+    let mut buffer = itoa::Buffer::new();
+    if buffer.format(place) == token {
+        Some(place)
+    } else {
+        None
+    }
+}
+
+fn element_at<'a>(items: &'a [Item], token: &str) -> Option<&'a Item>
+    ensures { option_map (λ i. body i.now) result ≡ element_of token.now 0 (map body items.now) }
+{
+    items.get(place_of_token(token)?)
+}
+
+/// What the next tokens name in a member, and the tokens that are left.
+fn part_of<'a, 'p>(member: &'a Member, path: &'p [Text]) -> Option<(&'a Item, &'p [Text])>
+    ensures parts { option_map (λ r. (body r.0.now, r.1.now)) result ≡ part_at (bodies member.now) path.now }
+    ensures shorter { IfSome result (λ r. length r.1.now ≤ length path.now) }
+{
+    match member {
+        Member::One(item) => Some((item, path)),
+        Member::Many(items) => {
+            let (token, rest) = path.split_first()?;
+            let item = element_at(items, token.as_str())?;
+            Some((item, rest))
+        }
+    }
+}
+
+/// What stands in an object under this name and then the next tokens, and the tokens that are left.
+fn item_at<'a, 'p>(
+    object: &'a Object,
+    name: &str,
+    path: &'p [Text],
+) -> Option<(&'a Item, &'p [Text])>
+    ensures parts { option_map_or (λ r. object_in (body r.0.now) r.1.now) result None
+        ≡ class_in_tree (forest object.now) (name.now ∷ path.now) }
+    ensures shorter { IfSome result (λ r. length r.1.now ≤ length path.now) }
+{
+    for (own, member) in &object.members {
+        if own.as_str() == name {
+            let part = part_of(member, path);
+            if part.is_some() {
+                return part;
+            }
+        }
+    }
+    None
+}
+
+/// The object at a path, from an object whose path is empty.
+pub(crate) fn object_at<'a>(root: &'a Object, path: &[Text]) -> Option<&'a Object>
+    ensures { option_map (λ o. forest o.now) result ≡ object_in_tree (forest root.now) path.now }
+{
+    let mut object = root;
+    let mut left = path;
+    while let Some((name, behind)) = left.split_first() {
+        let (item, rest) = item_at(object, name.as_str(), behind)?;
+        match item {
+            Item::Class(inner) => {
+                object = inner;
+                left = rest;
+            }
+            Item::Text(_) | Item::Value(_) => return None,
+        }
+    }
+    Some(object)
+}

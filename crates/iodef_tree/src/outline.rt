@@ -1,0 +1,111 @@
+//! The lines of a tree.
+
+ghost use Rattle.std.specs.Prelude.{◌≡◌, ◌+◌, ◌^◌, ◌<◌, ◌++◌, Option, Some, None, OnOk, IfOk};
+ghost use Rattle.iodef_tree.specs.Tree.{end, in_front, member_front, lines as lines_of, height};
+ghost use Rattle.iodef_tree.specs.View.{forest, bodies, body};
+ghost use Rattle.iodef_tree.specs.Tree.{place_of};
+
+use crate::line::{Kind, Line};
+use crate::object::{Item, Member, Object};
+use crate::text::Text;
+use std::alloc::{AllocError, Global};
+
+/// The outline of a tree whose members are the root's.
+pub(crate) fn outline_of(alloc: Global, object: &Object) -> Result<Vec<Line>, AllocError>
+    requires { height (forest object.now) < 2 ^ 31 }
+    ensures { IfOk result (λ v. v.items ≡ lines_of 1 (forest object.now)) }
+{
+    let mut lines = Vec::new(alloc);
+    push_object(&mut lines, alloc, 1, object)?;
+    Ok(lines)
+}
+
+#[cycle(outline)]
+fn push_object(
+    lines: &mut Vec<Line>,
+    alloc: Global,
+    depth: u32,
+    object: &Object,
+) -> Result<(), AllocError>
+    requires { depth + height (forest object.now) < 2 ^ 32 }
+    ensures { OnOk result (lines.new.items ≡ lines.old.items ++ lines_of depth (forest object.now)) }
+{
+    for (name, member) in &object.members {
+        push_member(lines, alloc, depth, name, member)?;
+    }
+    Ok(())
+}
+
+#[cycle(outline)]
+fn push_member(
+    lines: &mut Vec<Line>,
+    alloc: Global,
+    depth: u32,
+    name: &Text,
+    member: &Member,
+) -> Result<(), AllocError>
+    requires { depth + height (member_front name.now (bodies member.now) end) < 2 ^ 32 }
+    ensures { OnOk result
+        (lines.new.items ≡ lines.old.items ++ lines_of depth (member_front name.now (bodies member.now) end)) }
+{
+    match member {
+        Member::One(item) => push_item(lines, alloc, depth, name, false, item),
+        Member::Many(items) => {
+            for item in items {
+                push_item(lines, alloc, depth, name, true, item)?;
+            }
+            Ok(())
+        }
+    }
+}
+
+#[cycle(outline)]
+fn push_item(
+    lines: &mut Vec<Line>,
+    alloc: Global,
+    depth: u32,
+    name: &Text,
+    in_array: bool,
+    item: &Item,
+) -> Result<(), AllocError>
+    requires { depth + height (in_front name.now None (body item.now) end) < 2 ^ 32 }
+    ensures { OnOk result (lines.new.items ≡ lines.old.items
+        ++ lines_of depth (in_front name.now (place_of in_array 0) (body item.now) end)) }
+{
+    let name = name.clone()?;
+    match item {
+        Item::Class(object) => {
+            let text = Text::new(String::new(alloc));
+            lines.push(Line {
+                depth,
+                name,
+                in_array,
+                kind: Kind::Class,
+                text,
+            })?;
+            push_object(lines, alloc, depth + 1, object)
+        }
+        Item::Text(text) => {
+            let text = text.clone()?;
+            lines.push(Line {
+                depth,
+                name,
+                in_array,
+                kind: Kind::Text,
+                text,
+            })?;
+            Ok(())
+        }
+        Item::Value(text) => {
+            let text = text.clone()?;
+            lines.push(Line {
+                depth,
+                name,
+                in_array,
+                kind: Kind::Value,
+                text,
+            })?;
+            Ok(())
+        }
+    }
+}

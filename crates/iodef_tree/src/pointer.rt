@@ -1,0 +1,205 @@
+//! JSON pointers as texts (RFC 6901).
+
+ghost use Rattle.std.specs.Prelude.{◌≡◌, ◌++◌, ◌∷◌, map, string_bytes, OnOk, IfOk};
+ghost use Rattle.std.specs.Str.{byte};
+ghost use Rattle.iodef_tree.specs.Pointer.{escaped, escaped_by, unescaped, slash_separated, fault_name};
+ghost use Rattle.iodef_tree.specs.declared.pointer.PathFault.TheVariants.{NoMemory};
+
+use crate::text::Text;
+use std::alloc::{AllocError, AllocFailed, Global};
+
+/// Why a text gives no path.
+#[derive(Clone, Copy, Debug, PartialEq, Eq)]
+pub enum PathFault {
+    /// The text is no JSON pointer.
+    BadPath,
+    NoMemory,
+}
+
+impl PathFault {
+    /// The fault's name.
+    pub fn name(self) -> &'static str
+        ensures { result.now ≡ fault_name self }
+    {
+        match self {
+            PathFault::BadPath => "BadPath",
+            PathFault::NoMemory => "NoMemory",
+        }
+    }
+}
+
+impl From<AllocError> for PathFault {
+    ghost from_gives = { λ _ fault. fault ≡ NoMemory };
+
+    fn from(_refused: AllocError) -> PathFault {
+        PathFault::NoMemory
+    }
+}
+
+impl<T: Drop> From<AllocFailed<T>> for PathFault {
+    ghost from_gives = { λ _ fault. fault ≡ NoMemory };
+
+    fn from(_refused: AllocFailed<T>) -> PathFault {
+        PathFault::NoMemory
+    }
+}
+
+/// Writes a reference token behind a pointer: a slash, and the token with `~` as `~0` and `/` as `~1` (RFC 6901
+/// section 3). Without memory the pointer may end in a part of it.
+pub fn push_token(pointer: &mut String, token: &str) -> Result<(), AllocError>
+    ensures { OnOk result
+        (string_bytes pointer.new ≡ string_bytes pointer.old ++ byte "/" ∷ escaped token.now) }
+{
+    pointer.push('/')?;
+    for c in token.chars() {
+        if c == '~' {
+            pointer.push_str("~0")?;
+        } else if c == '/' {
+            pointer.push_str("~1")?;
+        } else {
+            pointer.push(c)?;
+        }
+    }
+    Ok(())
+}
+
+/// Reads what follows the first slash of a pointer: reference tokens with a slash between each two (RFC 6901 section 3).
+/// BadPath where a token has a `~` that neither `0` nor `1` follows.
+pub fn read_tokens(alloc: Global, written: &str) -> Result<Vec<Text>, PathFault>
+    ensures tokens { IfOk result (λ ts. slash_separated written.now ≡ Some ts.items) }
+    ensures bad { result ≡ Err PathFault.BadPath → slash_separated written.now ≡ None }
+{
+    let mut tokens = Vec::new(alloc);
+    for token in written.split('/') {
+        tokens.push(read_token(alloc, token)?)?;
+    }
+    Ok(tokens)
+}
+
+/// Reads one reference token as a pointer writes it: `~0` is `~` and `~1` is `/` (RFC 6901 section 4), and any other `~`
+/// is BadPath.
+fn read_token(alloc: Global, written: &str) -> Result<Text, PathFault>
+    ensures token { IfOk result (λ t. unescaped written.now ≡ Some t) }
+    ensures bad { result ≡ Err PathFault.BadPath → unescaped written.now ≡ None }
+{
+    let mut token = String::new(alloc);
+    let mut behind_tilde = false;
+    for c in written.chars() {
+        if behind_tilde {
+            token.push(escaped_char(c).ok_or(PathFault::BadPath)?)?;
+            behind_tilde = false;
+        } else if c == '~' {
+            behind_tilde = true;
+        } else {
+            token.push(c)?;
+        }
+    }
+    if behind_tilde {
+        return Err(PathFault::BadPath);
+    }
+    Ok(Text::new(token))
+}
+
+/// The character that a `~` and this one stand for.
+fn escaped_char(code: char) -> Option<char>
+    ensures { result ≡ escaped_by code }
+{
+    match code {
+        '0' => Some('~'),
+        '1' => Some('/'),
+        _ => None,
+    }
+}
+
+#[cfg(test)]
+mod tests {
+    use super::*;
+    use crate::path::Path;
+    use std::test::Fail;
+
+    fn path_of(alloc: Global, tokens: &[&str]) -> Result<Path, AllocError> {
+        let mut path = Path::root(alloc);
+        for token in tokens {
+            path = path.member(alloc, *token)?;
+        }
+        Ok(path)
+    }
+
+    /// The examples of RFC 6901 section 5, the one of section 4 on `~01`, and tokens that are empty or not ASCII.
+    #[test]
+    fn pointers_are_read_and_printed(rt: HostRuntime) -> Result<(), Fail> {
+        let cases: [(&str, &[&str]); 17] = [
+            ("", &[]),
+            ("/foo", &["foo"]),
+            ("/foo/0", &["foo", "0"]),
+            ("/", &[""]),
+            ("/a~1b", &["a/b"]),
+            ("/c%d", &["c%d"]),
+            ("/e^f", &["e^f"]),
+            ("/g|h", &["g|h"]),
+            ("/i\\j", &["i\\j"]),
+            ("/k\"l", &["k\"l"]),
+            ("/ ", &[" "]),
+            ("/m~0n", &["m~n"]),
+            ("/~01", &["~1"]),
+            ("/~1~0/~0~1", &["/~", "~/"]),
+            ("//", &["", ""]),
+            ("/a//b/", &["a", "", "b", ""]),
+            ("/é~0/~1漢字/😀", &["é~", "/漢字", "😀"]),
+        ];
+        for (text, tokens) in cases {
+            let path = path_of(rt.alloc(), tokens)?;
+            let read = Path::parse(rt.alloc(), text)?;
+            assert!(rt; read == path);
+            let printed = path.print(rt.alloc())?;
+            assert!(rt; printed.as_str() == text);
+        }
+        Ok(())
+    }
+
+    #[test]
+    fn other_texts_are_bad_paths(rt: HostRuntime) {
+        for text in [
+            "a", "~0", "/~", "/a~2", "/a~", "/~/b", "/b/~a", "é", "/~é", " /a", "0", "/~~0",
+        ] {
+            let fault = Path::parse(rt.alloc(), text).err();
+            assert!(rt; fault == Some(PathFault::BadPath), "{text}");
+        }
+        assert_eq!(rt; PathFault::BadPath.name(), "BadPath");
+        assert_eq!(rt; PathFault::NoMemory.name(), "NoMemory");
+    }
+
+    #[test]
+    fn a_slash_in_a_name_is_escaped(rt: HostRuntime) -> Result<(), Fail> {
+        let path = Path::root(rt.alloc())
+            .member(rt.alloc(), "Incident")?
+            .index(rt.alloc(), 0)?
+            .member(rt.alloc(), "a/b")?;
+        let printed = path.print(rt.alloc())?;
+        assert_eq!(rt; printed.as_str(), "/Incident/0/a~1b");
+        let root = Path::parse(rt.alloc(), "")?;
+        assert!(rt; root == Path::root(rt.alloc()));
+        Ok(())
+    }
+
+    #[test]
+    fn prefixes_are_whole_tokens(rt: HostRuntime) -> Result<(), Fail> {
+        let cases = [
+            ("", "", true),
+            ("", "/a", true),
+            ("/a", "/a", true),
+            ("/a", "/a/b", true),
+            ("/a", "/ab", false),
+            ("/a/b", "/a", false),
+            ("/a/b", "/a~1b", false),
+            ("/a/c", "/a/b/c", false),
+            ("/", "//", true),
+        ];
+        for (first, second, want) in cases {
+            let prefix = Path::parse(rt.alloc(), first)?;
+            let path = Path::parse(rt.alloc(), second)?;
+            assert_eq!(rt; prefix.is_prefix_of(&path), want, "{first} {second}");
+        }
+        Ok(())
+    }
+}

@@ -1,0 +1,234 @@
+//! From bytes to documents.
+
+ghost use Rattle.std.specs.Prelude.{◌≡◌, ◌≤◌, option_map, option_and_then, IfOk, codes};
+ghost use Rattle.serde_json.specs.Data.{depth as nesting, null, put};
+ghost use Rattle.serde_json.specs.Find.{as_array, as_object, get_member};
+ghost use Rattle.serde_json.specs.Read.{max_depth};
+ghost use Rattle.serde_json.specs.View.{view, items_view, members_view};
+ghost use Rattle.iodef_tree.specs.Reading.{Gives, parsed, lacking, all_objects, are_incidents, incidents_of, all_complete, plain, document_of, if_short, documents, reading};
+ghost use Rattle.iodef_tree.specs.Fit.{IsFit, AreFit, taken};
+ghost use Rattle.iodef_tree.specs.Tree.{lines};
+
+use crate::convert::object_from;
+use crate::document::Document;
+use crate::fault::{ReadFault, Required};
+use crate::path::Path;
+use crate::room::room_left;
+use crate::seek::{Sought, first_in, is_plain};
+use crate::{INCIDENT_LIMIT, LINE_LIMIT};
+use serde_json::{Map, Value};
+use std::alloc::Global;
+
+/// The documents that the bytes are, one for each Incident, or the first fault.
+#[tactic(auto, unfolding(crate::specs::Reading::reading))]
+pub(crate) fn read(alloc: Global, bytes: &[u8]) -> Result<Vec<Document>, ReadFault>
+    ensures { Gives (λ v. v.items) result (reading bytes.now) }
+{
+    let body = parse(alloc, bytes)?;
+    let Some(incidents) = incidents_in(&body) else {
+        return Err(ReadFault::NotDocument);
+    };
+    check_members(alloc, incidents)?;
+    check_values(alloc, &body)?;
+    match take_incidents(alloc, body)? {
+        Some((root, incidents)) => documents_from(alloc, root, incidents),
+        None => Err(ReadFault::NotDocument),
+    }
+}
+
+fn parse(alloc: Global, bytes: &[u8]) -> Result<Value, ReadFault>
+    ensures gives { Gives view result (parsed bytes.now) }
+    ensures nests { IfOk result (λ v. nesting (view v) ≤ max_depth) }
+{
+    match Value::from_slice(alloc, bytes) {
+        Ok(value) => Ok(value),
+        Err(e) => {
+            if e.is_memory() {
+                Err(ReadFault::NoMemory)
+            } else {
+                Err(ReadFault::NotJson)
+            }
+        }
+    }
+}
+
+fn incidents_in(body: &Value) -> Option<&Vec<Value>>
+    ensures { option_map (λ v. items_view v.now.items) result
+        ≡ option_and_then incidents_of (as_object (view body.now)) }
+{
+    let incidents = body.get("Incident")?;
+    let incidents = incidents.as_array()?;
+    if are_incidents(incidents) {
+        Some(incidents)
+    } else {
+        None
+    }
+}
+
+fn are_incidents(items: &Vec<Value>) -> bool
+    ensures { result ≡ are_incidents (items_view items.now.items) }
+{
+    let count = items.as_slice().len();
+    if count == 0 {
+        return false;
+    }
+    if count > INCIDENT_LIMIT {
+        return false;
+    }
+    all_are_objects(items)
+}
+
+fn all_are_objects(items: &Vec<Value>) -> bool
+    ensures { result ≡ all_objects (items_view items.now.items) }
+{
+    for item in items {
+        if !item.is_object() {
+            return false;
+        }
+    }
+    true
+}
+
+fn check_members(alloc: Global, incidents: &Vec<Value>) -> Result<(), ReadFault>
+    ensures { Gives (λ _. tt) result (all_complete 0 (items_view incidents.now.items)) }
+{
+    for (index, incident) in incidents.iter().enumerate() {
+        if let Some(required) = first_lacking(incident) {
+            let path = Path::root(alloc)
+                .member(alloc, "Incident")?
+                .index(alloc, index)?;
+            return Err(ReadFault::Missing(path, required));
+        }
+    }
+    Ok(())
+}
+
+fn first_lacking(incident: &Value) -> Option<Required>
+    ensures { result ≡ lacking (view incident.now) }
+{
+    if incident.get("Contact").is_none() {
+        return Some(Required::Contact);
+    }
+    if incident.get("GenerationTime").is_none() {
+        return Some(Required::GenerationTime);
+    }
+    if incident.get("IncidentID").is_none() {
+        return Some(Required::IncidentId);
+    }
+    if incident.get("purpose").is_none() {
+        return Some(Required::Purpose);
+    }
+    None
+}
+
+/// One pass tells whether there is any fault, and only then each is looked for.
+fn check_values(alloc: Global, body: &Value) -> Result<(), ReadFault>
+    requires { nesting (view body.now) ≤ max_depth }
+    ensures { Gives (λ _. tt) result (plain (view body.now)) }
+{
+    if is_plain(0, 0, body) {
+        return Ok(());
+    }
+    find_fault(alloc, body)
+}
+
+#[tactic(auto, unfolding(crate::specs::Reading::plain))]
+fn find_fault(alloc: Global, body: &Value) -> Result<(), ReadFault>
+    requires { nesting (view body.now) ≤ max_depth }
+    ensures { Gives (λ _. tt) result (plain (view body.now)) }
+{
+    if let Some(pointer) = first_in(alloc, Sought::NotWhole, 0, 0, body)? {
+        return Err(ReadFault::NotWhole(Path::new(pointer)));
+    }
+    if let Some(pointer) = first_in(alloc, Sought::NestedClass, 0, 0, body)? {
+        return Err(ReadFault::NestedClass(Path::new(pointer)));
+    }
+    if first_in(alloc, Sought::TooDeep, 0, 0, body)?.is_some() {
+        return Err(ReadFault::TooDeep);
+    }
+    Ok(())
+}
+
+/// The members of the root, null standing in place of the Incidents, and the array of these.
+fn take_incidents(
+    alloc: Global,
+    body: Value,
+) -> Result<Option<(Map<String, Value>, Vec<Value>)>, ReadFault>
+    ensures { Gives (option_map (λ p. (members_view p.0.entries, items_view p.1.items))) result (Ok (taken (view body))) }
+{
+    let Value::Object(mut root) = body else {
+        return Ok(None);
+    };
+    let name = String::from_str(alloc, "Incident")?;
+    let Some(member) = root.insert(name, Value::Null)? else {
+        return Ok(None);
+    };
+    match array_in(member) {
+        Some(incidents) => Ok(Some((root, incidents))),
+        None => Ok(None),
+    }
+}
+
+fn array_in(value: Value) -> Option<Vec<Value>>
+    ensures { option_map (λ v. items_view v.items) result ≡ as_array (view value) }
+{
+    match value {
+        Value::Array(items) => Some(items),
+        Value::Object(_members) => None,
+        Value::String(_text) => None,
+        Value::Number(_) | Value::Bool(_) | Value::Null => None,
+    }
+}
+
+fn documents_from(
+    alloc: Global,
+    root: Map<String, Value>,
+    mut incidents: Vec<Value>,
+) -> Result<Vec<Document>, ReadFault>
+    requires { AreFit (members_view root.entries) (items_view incidents.items) }
+    ensures { Gives (λ v. v.items) result (documents (members_view root.entries) (items_view incidents.items)) }
+{
+    let Some(last) = incidents.pop() else {
+        return Ok(Vec::new(alloc));
+    };
+    let mut all = documents_beside(alloc, &root, incidents)?;
+    let document = document_from(alloc, root, last)?;
+    all.push(document)?;
+    Ok(all)
+}
+
+/// Each with a copy of the root; one more fits in.
+fn documents_beside(
+    alloc: Global,
+    root: &Map<String, Value>,
+    incidents: Vec<Value>,
+) -> Result<Vec<Document>, ReadFault>
+    requires { AreFit (members_view root.now.entries) (items_view incidents.items) }
+    ensures { Gives (λ v. v.items) result (documents (members_view root.now.entries) (items_view incidents.items)) }
+{
+    let mut all = Vec::with_capacity(alloc, incidents.as_slice().len() + 1)?;
+    for incident in incidents {
+        let document = document_from(alloc, root.clone()?, incident)?;
+        all.push(document)?;
+    }
+    Ok(all)
+}
+
+fn document_from(
+    alloc: Global,
+    mut root: Map<String, Value>,
+    incident: Value,
+) -> Result<Document, ReadFault>
+    requires { IsFit (members_view root.entries) (view incident) }
+    ensures { Gives (λ d. d) result (if_short (lines 1 (document_of (view incident) (members_view root.entries)))) }
+{
+    let mut incidents = Vec::with_capacity(alloc, 1)?;
+    incidents.push(incident)?;
+    let name = String::from_str(alloc, "Incident")?;
+    drop(root.insert(name, Value::Array(incidents))?);
+    let root = object_from(alloc, root)?;
+    if room_left(&root, LINE_LIMIT).is_none() {
+        return Err(ReadFault::TooManyLines);
+    }
+    Ok(Document::new(root))
+}
