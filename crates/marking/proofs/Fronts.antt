@@ -1,0 +1,115 @@
+-- What a pass finds in the members of a class, one member after another.
+use Rattle.std.proofs.Common.{◌≡◌, ℕ, suc, List, [], ◌∷◌, ◌++◌, true, false, cond, refl, sym, ◌∙◌, ap, append-nil, append_assoc}
+use Rattle.std.specs.Prelude.{Option, Some, None, option_map}
+use Rattle.std.specs.Option.{option_or}
+use Rattle.std.specs.Str.{bytes_eq}
+use Rattle.iodef_tree.specs.Text.{Bytes, Tokens}
+use Rattle.iodef_tree.specs.Tree.{Forest, end, Body, holds, says, Bodies, one, many, text, value, in_front, elements, member_front, steps}
+use Rattle.marking.specs.Marks.{Held, absent, plain, other}
+use Rattle.marking.specs.Members.{held_by_bodies, held_in}
+use Rattle.marking.specs.Pass.{bad_below, bad_in_body, Inherited, enter, told_below}
+
+-- ---- what is held under a name
+
+-- what a member holds, unless it holds nothing
+abbrev pub or_behind : Held → Held → Held
+or_behind absent h = h
+or_behind (plain s) h = plain s
+or_behind other h = other
+
+plain_front : (n name : Bytes) (b : Body) (rest : Forest) → held_in name (in_front n None b rest) ≡ cond (bytes_eq n name) (held_by_bodies (one b)) (held_in name rest)
+plain_front n name (holds kids) rest = refl
+plain_front n name (says (text s)) rest = refl
+plain_front n name (says (value s)) rest = refl
+
+element_front : (n name : Bytes) (k : ℕ) (b : Body) (rest : Forest) → held_in name (in_front n (Some k) b rest) ≡ cond (bytes_eq n name) other (held_in name rest)
+element_front n name k (holds kids) rest = refl
+element_front n name k (says (text s)) rest = refl
+element_front n name k (says (value s)) rest = refl
+
+elements-skip : (n name : Bytes) (k : ℕ) (bs : List Body) (rest : Forest) → bytes_eq n name ≡ false → held_in name (elements n k bs rest) ≡ held_in name rest
+elements-skip n name k [] rest h = refl
+elements-skip n name k (b ∷ bs) rest h =
+    element_front n name k b (elements n (suc k) bs rest)
+    ∙ ap (λ t. cond t other (held_in name (elements n (suc k) bs rest))) h
+    ∙ elements-skip n name (suc k) bs rest h
+
+pub held-skip : (n name : Bytes) (m : Bodies) (rest : Forest) → bytes_eq n name ≡ false → held_in name (member_front n m rest) ≡ held_in name rest
+held-skip n name (one b) rest h = plain_front n name b rest ∙ ap (λ t. cond t (held_by_bodies (one b)) (held_in name rest)) h
+held-skip n name (many bs) rest h = elements-skip n name 0 bs rest h
+
+one-or_behind : (b : Body) (h : Held) → held_by_bodies (one b) ≡ or_behind (held_by_bodies (one b)) h
+one-or_behind (holds kids) h = refl
+one-or_behind (says (text s)) h = refl
+one-or_behind (says (value s)) h = refl
+
+pub held-here : (n name : Bytes) (m : Bodies) (rest : Forest) → bytes_eq n name ≡ true → held_in name (member_front n m rest) ≡ or_behind (held_by_bodies m) (held_in name rest)
+held-here n name (one b) rest h =
+    plain_front n name b rest ∙ ap (λ t. cond t (held_by_bodies (one b)) (held_in name rest)) h ∙ one-or_behind b (held_in name rest)
+held-here n name (many []) rest h = refl
+held-here n name (many (b ∷ bs)) rest h =
+    element_front n name 0 b (elements n 1 bs rest) ∙ ap (λ t. cond t other (held_in name (elements n 1 bs rest))) h
+
+-- ---- the first that breaks the marking rule
+
+or-none : {X : Type 0} (a : Option X) → option_or a None ≡ a
+or-none None = refl
+or-none (Some x) = refl
+
+or-assoc : {X : Type 0} (a b c : Option X) → option_or (option_or a b) c ≡ option_or a (option_or b c)
+or-assoc None b c = refl
+or-assoc (Some x) b c = refl
+
+pub bad-one : (n : Bytes) (o : Option ℕ) (b : Body) (rest : Forest) →
+    bad_below (in_front n o b rest) ≡ option_or (option_map (λ t. steps n o ++ t) (bad_in_body b)) (bad_below rest)
+bad-one n o (holds kids) rest = refl
+bad-one n o (says content) rest = refl
+
+bad-elements : (n : Bytes) (k : ℕ) (bs : List Body) (rest : Forest) → bad_below (elements n k bs rest) ≡ option_or (bad_below (elements n k bs end)) (bad_below rest)
+bad-elements n k [] rest = refl
+bad-elements n k (b ∷ bs) rest =
+    let here = option_map (λ t. steps n (Some k) ++ t) (bad_in_body b) in
+    bad-one n (Some k) b (elements n (suc k) bs rest)
+    ∙ ap (option_or here) (bad-elements n (suc k) bs rest)
+    ∙ sym (or-assoc here (bad_below (elements n (suc k) bs end)) (bad_below rest))
+    ∙ ap (λ o. option_or o (bad_below rest)) (sym (bad-one n (Some k) b (elements n (suc k) bs end)))
+
+pub bad-member : (n : Bytes) (m : Bodies) (rest : Forest) → bad_below (member_front n m rest) ≡ option_or (bad_below (member_front n m end)) (bad_below rest)
+bad-member n (one b) rest =
+    let here = option_map (λ t. steps n None ++ t) (bad_in_body b) in
+    bad-one n None b rest ∙ ap (λ o. option_or o (bad_below rest)) (sym (or-none here) ∙ sym (bad-one n None b end))
+bad-member n (many bs) rest = bad-elements n 0 bs rest
+
+pub bad-none : (n : Bytes) (m : Bodies) (rest : Forest) → None ≡ bad_below (member_front n m end) → bad_below (member_front n m rest) ≡ bad_below rest
+bad-none n m rest h = bad-member n m rest ∙ ap (λ o. option_or o (bad_below rest)) (sym h)
+
+pub bad-some : (n : Bytes) (m : Bodies) (rest : Forest) (t : Tokens) → Some t ≡ bad_below (member_front n m end) → bad_below (member_front n m rest) ≡ Some t
+bad-some n m rest t h = bad-member n m rest ∙ ap (λ o. option_or o (bad_below rest)) (sym h)
+
+-- ---- what is told
+
+pub told-one : (a : Inherited) (n : Bytes) (o : Option ℕ) (b : Body) (rest : Forest) → told_below a (in_front n o b rest) ≡ told_below a (in_front n o b end) ++ told_below a rest
+told-one a n o (holds kids) rest =
+    let here = enter a n o kids in
+    ap (λ ts. here.told ∷ (ts ++ told_below a rest)) (sym (append-nil (told_below here kids)))
+told-one a n o (says content) rest = refl
+
+told-elements : (a : Inherited) (n : Bytes) (k : ℕ) (bs : List Body) (rest : Forest) → told_below a (elements n k bs rest) ≡ told_below a (elements n k bs end) ++ told_below a rest
+told-elements a n k [] rest = refl
+told-elements a n k (b ∷ bs) rest =
+    let here = told_below a (in_front n (Some k) b end) in
+    let more = elements n (suc k) bs in
+    told-one a n (Some k) b (more rest)
+    ∙ ap (λ ts. here ++ ts) (told-elements a n (suc k) bs rest)
+    ∙ sym (append_assoc here (told_below a (more end)) (told_below a rest))
+    ∙ ap (λ ts. ts ++ told_below a rest) (sym (told-one a n (Some k) b (more end)))
+
+pub told-member : (a : Inherited) (n : Bytes) (m : Bodies) (rest : Forest) → told_below a (member_front n m rest) ≡ told_below a (member_front n m end) ++ told_below a rest
+told-member a n (one b) rest = told-one a n None b rest
+told-member a n (many bs) rest = told-elements a n 0 bs rest
+
+pub ruleset held_steps = (held-skip, held-here)
+
+pub ruleset bad_steps = (bad-one, bad-member)
+
+pub ruleset told_steps = (told-one, told-member)

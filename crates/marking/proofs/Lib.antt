@@ -1,0 +1,7 @@
+pub mod Fronts
+pub mod Sites
+pub mod Written
+pub mod Bad
+pub mod Placed
+pub mod Told
+pub mod Owned

@@ -1,0 +1,7 @@
+use Rattle.std.proofs.Common.{refl}
+use Rattle.std.specs.Fmt.{digits}
+use Rattle.marking.proofs.examples.plain_lines_are_no_classes.Goals as goal
+
+pub returns : goal.returns
+unfolding digits
+returns c = refl

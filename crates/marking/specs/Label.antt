@@ -1,0 +1,100 @@
+-- Labels, and how what is under each is to be handled (RFC 7970 section 3.3.1, FIRST TLP 2.0).
+use Rattle.std.specs.Prelude.{◌++◌, map, Bool, if◌then◌else◌, Option, Some, None, option_map, unwrap_or, codes}
+use Rattle.std.specs.Str.{bytes_eq}
+use Rattle.std.specs.Char.{to_ascii_lowercase}
+use Rattle.iodef_tree.specs.Text.{Bytes}
+use Rattle.marking.specs.declared.label.Label.{Label}
+use Rattle.marking.specs.declared.label.Label.TheVariants as label
+use Rattle.marking.specs.declared.label.Handling.{Handling}
+use Rattle.marking.specs.declared.label.Handling.TheVariants.{Clear, Green, Amber, Strict, Red}
+
+-- a label, apart from where its text lies in memory
+pub data Marking : Type 0 where
+  public : Marking
+  white : Marking
+  partner : Marking
+  green : Marking
+  need_to_know : Marking
+  amber : Marking
+  private : Marking
+  red : Marking
+  by_arrangement : Marking
+  extended : Bytes → Marking
+
+abbrev pub marking_of : Label → Marking
+marking_of label.Public = public
+marking_of label.White = white
+marking_of label.Partner = partner
+marking_of label.Green = green
+marking_of label.NeedToKnow = need_to_know
+marking_of label.Amber = amber
+marking_of label.Private = private
+marking_of label.Red = red
+marking_of label.Default = by_arrangement
+marking_of (label.Ext text) = extended text.now
+
+-- What a text in `restriction` spells (RFC 7970 section 3.3.1). `ext-value` takes the text beside it, in
+-- `ext-restriction` (section 5.1.1); beside another value that text says nothing.
+abbrev pub spelled : Bytes → Option Bytes → Option Marking
+spelled restriction ext =
+    if bytes_eq restriction (codes "public") then Some public
+    else if bytes_eq restriction (codes "white") then Some white
+    else if bytes_eq restriction (codes "partner") then Some partner
+    else if bytes_eq restriction (codes "green") then Some green
+    else if bytes_eq restriction (codes "need-to-know") then Some need_to_know
+    else if bytes_eq restriction (codes "amber") then Some amber
+    else if bytes_eq restriction (codes "private") then Some private
+    else if bytes_eq restriction (codes "red") then Some red
+    else if bytes_eq restriction (codes "default") then Some by_arrangement
+    else if bytes_eq restriction (codes "ext-value") then option_map extended ext
+    else None
+
+-- two texts are the same, ASCII case ignored
+abbrev pub is_alike : Bytes → Bytes → Bool
+is_alike s t = bytes_eq (map to_ascii_lowercase s) (map to_ascii_lowercase t)
+
+-- A text that is a label of TLP 2.0, or the one that TLP:CLEAR took the place of, is handled as that label; any other as
+-- the strictest.
+abbrev pub handling_of_text : Bytes → Handling
+handling_of_text text =
+    if is_alike text (codes "TLP:CLEAR") then Clear
+    else if is_alike text (codes "TLP:WHITE") then Clear
+    else if is_alike text (codes "TLP:GREEN") then Green
+    else if is_alike text (codes "TLP:AMBER") then Amber
+    else if is_alike text (codes "TLP:AMBER+STRICT") then Strict
+    else Red
+
+-- How a label is handled, by this hub's choice, with what the source arranged with the reader's organisation: `default`
+-- follows that (RFC 7970 section 3.3.1), and is handled as the strictest where nothing was arranged. The colours mean the
+-- same as the words beside them; `need-to-know` and `amber` keep clients out, as TLP:AMBER+STRICT does.
+abbrev pub handling_of : Marking → Option Handling → Handling
+handling_of public arranged = Clear
+handling_of white arranged = Clear
+handling_of partner arranged = Green
+handling_of green arranged = Green
+handling_of need_to_know arranged = Strict
+handling_of amber arranged = Strict
+handling_of private arranged = Red
+handling_of red arranged = Red
+handling_of by_arrangement arranged = unwrap_or arranged Red
+handling_of (extended text) arranged = handling_of_text text
+
+-- the value of `restriction`, and for an extended one its text behind a space
+abbrev pub text_of : Marking → Bytes
+text_of public = codes "public"
+text_of white = codes "white"
+text_of partner = codes "partner"
+text_of green = codes "green"
+text_of need_to_know = codes "need-to-know"
+text_of amber = codes "amber"
+text_of private = codes "private"
+text_of red = codes "red"
+text_of by_arrangement = codes "default"
+text_of (extended text) = codes "ext-value " ++ text
+
+abbrev pub name_of : Handling → Bytes
+name_of Clear = codes "CLEAR"
+name_of Green = codes "GREEN"
+name_of Amber = codes "AMBER"
+name_of Strict = codes "STRICT"
+name_of Red = codes "RED"

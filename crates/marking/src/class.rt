@@ -1,0 +1,80 @@
+//! What the members of one class spell.
+
+ghost use Rattle.std.specs.Prelude.{◌≡◌, option_map};
+ghost use Rattle.iodef_tree.specs.View.{forest, bodies};
+ghost use Rattle.marking.specs.Label.{marking_of};
+ghost use Rattle.marking.specs.Members.{held_of, held_by_bodies, held_in, spelled_in, is_rule_kept_in};
+
+use crate::label::Label;
+use iodef_tree::{Item, Member, Object};
+
+/// What a class holds under a name.
+#[derive(Clone, Copy)]
+pub(crate) enum Found<'a> {
+    Absent,
+    Text(&'a str),
+    /// An array, a class or any other value.
+    Other,
+}
+
+fn held_by(member: &Member) -> Found<'_>
+    ensures { held_of result ≡ held_by_bodies (bodies member.now) }
+{
+    match member {
+        Member::One(Item::Text(text)) => Found::Text(text.as_str()),
+        Member::One(Item::Class(_)) => Found::Other,
+        Member::One(Item::Value(_)) => Found::Other,
+        Member::Many(items) => {
+            if items.as_slice().is_empty() {
+                Found::Absent
+            } else {
+                Found::Other
+            }
+        }
+    }
+}
+
+#[tactic(auto, using(crate::proofs::Fronts::held_steps))]
+fn held<'a>(object: &'a Object, name: &str) -> Found<'a>
+    ensures { held_of result ≡ held_in name.now (forest object.now) }
+{
+    for (key, member) in &object.members {
+        if key.as_str() == name {
+            match held_by(member) {
+                Found::Absent => {}
+                Found::Text(text) => return Found::Text(text),
+                Found::Other => return Found::Other,
+            }
+        }
+    }
+    Found::Absent
+}
+
+/// The label that the members spell, if they do.
+pub(crate) fn written(object: &Object) -> Option<Label<'_>>
+    ensures { option_map marking_of result ≡ spelled_in (forest object.now) }
+{
+    let Found::Text(restriction) = held(object, "restriction") else {
+        return None;
+    };
+    match held(object, "ext-restriction") {
+        Found::Absent => Label::of(restriction, None),
+        Found::Text(ext) => Label::of(restriction, Some(ext)),
+        Found::Other => None,
+    }
+}
+
+/// Whether the members keep the marking rule.
+pub(crate) fn is_well_marked(object: &Object) -> bool
+    ensures { result ≡ is_rule_kept_in (forest object.now) }
+{
+    match held(object, "restriction") {
+        Found::Absent => match held(object, "ext-restriction") {
+            Found::Absent => true,
+            Found::Text(_) => false,
+            Found::Other => false,
+        },
+        Found::Text(_) => written(object).is_some(),
+        Found::Other => false,
+    }
+}

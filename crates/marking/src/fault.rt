@@ -1,0 +1,47 @@
+ghost use Rattle.std.specs.Prelude.{◌≡◌};
+ghost use Rattle.marking.specs.declared.fault.MarkingFault.TheVariants.{NoMemory};
+ghost use Rattle.marking.specs.declared.fault.SiteFault.TheVariants as site;
+
+use iodef_tree::Path;
+use std::alloc::{AllocError, AllocFailed};
+
+/// Why the markings of a document aren't accepted.
+#[derive(Drop)]
+pub enum MarkingFault {
+    /// The class at this path is the first, in stored order, that breaks the marking rule: its `restriction` is none of the
+    /// ten texts (RFC 7970 section 3.3.1), its `ext-restriction` is no text or stands alone, or `ext-value` has none.
+    BadMarking(Path),
+    NoMemory,
+}
+
+/// Why a path has no site.
+#[derive(Clone, Copy, Debug, PartialEq, Eq)]
+pub enum SiteFault {
+    /// The path is neither a class's nor the root's.
+    NoClass,
+    NoMemory,
+}
+
+impl From<AllocError> for MarkingFault {
+    ghost from_gives = { λ _ fault. fault ≡ NoMemory };
+
+    fn from(_refused: AllocError) -> MarkingFault {
+        MarkingFault::NoMemory
+    }
+}
+
+impl<T: Drop> From<AllocFailed<T>> for MarkingFault {
+    ghost from_gives = { λ _ fault. fault ≡ NoMemory };
+
+    fn from(_refused: AllocFailed<T>) -> MarkingFault {
+        MarkingFault::NoMemory
+    }
+}
+
+impl From<AllocError> for SiteFault {
+    ghost from_gives = { λ _ fault. fault ≡ site.NoMemory };
+
+    fn from(_refused: AllocError) -> SiteFault {
+        SiteFault::NoMemory
+    }
+}

@@ -1,0 +1,133 @@
+use std::alloc::{AllocError, Global};
+
+/// How what is under a label is to be handled, the widest audience first.
+#[derive(Clone, Copy, Debug, PartialEq, Eq, PartialOrd, Ord)]
+pub enum Handling {
+    /// For everybody.
+    Clear,
+    /// For the community.
+    Green,
+    /// For the recipient's organisation and its clients.
+    Amber,
+    /// For the recipient's organisation.
+    Strict,
+    /// For the recipient.
+    Red,
+}
+
+/// A label, as a class's `restriction` has it (RFC 7970 section 3.3.1); an extended one with the text of
+/// `ext-restriction` (section 5.1.1).
+#[derive(Clone, Copy, Debug, PartialEq, Eq)]
+pub enum Label<'a> {
+    Public,
+    White,
+    Partner,
+    Green,
+    NeedToKnow,
+    Amber,
+    Private,
+    Red,
+    Default,
+    Ext(&'a str),
+}
+
+impl Handling {
+    ghost use Rattle.std.specs.Prelude.{◌≡◌};
+    ghost use Rattle.marking.specs.Label.{name_of};
+
+    /// Its name in capital letters.
+    pub fn name(self) -> &'static str
+        ensures { result.now ≡ name_of self }
+    {
+        match self {
+            Handling::Clear => "CLEAR",
+            Handling::Green => "GREEN",
+            Handling::Amber => "AMBER",
+            Handling::Strict => "STRICT",
+            Handling::Red => "RED",
+        }
+    }
+}
+
+impl<'a> Label<'a> {
+    ghost use Rattle.std.specs.Prelude.{◌≡◌, option_map, IfOk, string_bytes};
+    ghost use Rattle.marking.specs.Label.{marking_of, spelled, handling_of, text_of};
+
+    /// The label that a text in `restriction` spells, with the text in `ext-restriction` beside it, if there is one.
+    /// `ext-value` spells one only with such a text; beside another value that text says nothing.
+    pub fn of(restriction: &str, ext: Option<&'a str>) -> Option<Label<'a>>
+        ensures { option_map marking_of result ≡ spelled restriction.now (option_map (λ t. t.now) ext.entry) }
+    {
+        match restriction {
+            "public" => Some(Label::Public),
+            "white" => Some(Label::White),
+            "partner" => Some(Label::Partner),
+            "green" => Some(Label::Green),
+            "need-to-know" => Some(Label::NeedToKnow),
+            "amber" => Some(Label::Amber),
+            "private" => Some(Label::Private),
+            "red" => Some(Label::Red),
+            "default" => Some(Label::Default),
+            "ext-value" => match ext {
+                Some(text) => Some(Label::Ext(text)),
+                None => None,
+            },
+            _ => None,
+        }
+    }
+
+    /// The value of `restriction`; for an extended label followed by a space and its text.
+    pub fn text(&self, alloc: Global) -> Result<String, AllocError>
+        ensures { IfOk result (λ s. string_bytes s ≡ text_of (marking_of self.now)) }
+    {
+        match self {
+            Label::Public => String::from_str(alloc, "public"),
+            Label::White => String::from_str(alloc, "white"),
+            Label::Partner => String::from_str(alloc, "partner"),
+            Label::Green => String::from_str(alloc, "green"),
+            Label::NeedToKnow => String::from_str(alloc, "need-to-know"),
+            Label::Amber => String::from_str(alloc, "amber"),
+            Label::Private => String::from_str(alloc, "private"),
+            Label::Red => String::from_str(alloc, "red"),
+            Label::Default => String::from_str(alloc, "default"),
+            Label::Ext(text) => format!(in alloc; "ext-value {text}"),
+        }
+    }
+
+    /// How it is to be handled, given what the source arranged with the reader's organisation, if anything. Where nothing
+    /// was arranged, `default` is handled as the strictest; so is an extended text that is no TLP label.
+    pub fn handling(&self, arranged: Option<Handling>) -> Handling
+        ensures { result ≡ handling_of (marking_of self.now) arranged }
+    {
+        match self {
+            Label::Public | Label::White => Handling::Clear,
+            Label::Partner | Label::Green => Handling::Green,
+            Label::NeedToKnow | Label::Amber => Handling::Strict,
+            Label::Private | Label::Red => Handling::Red,
+            Label::Default => arranged.unwrap_or(Handling::Red),
+            Label::Ext(text) => handling_of_text(text),
+        }
+    }
+}
+
+ghost use Rattle.std.specs.Prelude.{◌≡◌};
+ghost use Rattle.marking.specs.Label.{handling_of_text as tlp_handling};
+
+/// TLP 2.0's labels and TLP:WHITE, ASCII case ignored.
+fn handling_of_text(text: &str) -> Handling
+    ensures { result ≡ tlp_handling text.now }
+{
+    if text.eq_ignore_ascii_case("TLP:CLEAR") || text.eq_ignore_ascii_case("TLP:WHITE") {
+        return Handling::Clear;
+    }
+    if text.eq_ignore_ascii_case("TLP:GREEN") {
+        return Handling::Green;
+    }
+    if text.eq_ignore_ascii_case("TLP:AMBER") {
+        return Handling::Amber;
+    }
+    if text.eq_ignore_ascii_case("TLP:AMBER+STRICT") {
+        return Handling::Strict;
+    }
+    Handling::Red
+}

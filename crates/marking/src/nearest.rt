@@ -1,0 +1,101 @@
+//! The own label of a class, and the nearest class or root with one.
+
+ghost use Rattle.std.specs.Prelude.{◌≡◌, ◌-◌, false, None, Some, option_map, take, length};
+ghost use Rattle.iodef_tree.specs.Text.{same_path, is_root};
+ghost use Rattle.iodef_tree.specs.Paths.{located};
+ghost use Rattle.iodef_tree.specs.View.{forest};
+ghost use Rattle.marking.specs.Label.{marking_of};
+ghost use Rattle.marking.specs.Marks.{incident_path, first_bad_marking, own_label, written_label, site_of, label_at};
+ghost use Rattle.marking.specs.Sited.{Sites, own_in};
+
+use crate::class::written;
+use crate::fault::SiteFault;
+use crate::label::Label;
+use iodef_tree::{Document, Object, Path, Text};
+use std::alloc::Global;
+
+/// The label written in the class at the path, or the default of the Incident and of the root, which is private. None for
+/// any other class without a label, and where the path is neither a class's nor the root's. Takes no memory.
+pub fn own<'a>(document: &'a Document, path: &Path) -> Option<Label<'a>>
+    requires { first_bad_marking (located document.now) ≡ None }
+    ensures { option_map marking_of result ≡ own_label (located document.now) path.now }
+{
+    let object = document.class(path)?;
+    own_of(path.tokens(), object)
+}
+
+/// The label written in the class at the path, if one is. Takes no memory.
+pub fn written_at<'a>(document: &'a Document, path: &Path) -> Option<Label<'a>>
+    ensures { option_map marking_of result ≡ written_label (located document.now) path.now }
+{
+    if !document.has_class(path) {
+        return None;
+    }
+    let object = document.class(path)?;
+    written(object)
+}
+
+/// The class or root whose label holds at the path, by its path, and that label: the nearest at or above it that has an
+/// own label (RFC 7970 section 3.3.1). NoClass where the path is neither a class's nor the root's.
+pub fn site<'a>(
+    alloc: Global,
+    document: &'a Document,
+    path: &Path,
+) -> Result<(Path, Label<'a>), SiteFault>
+    requires { first_bad_marking (located document.now) ≡ None }
+    ensures { Sites result (located document.now) path.now }
+{
+    let _ = alloc;
+    if document.class(path).is_none() {
+        return Err(SiteFault::NoClass);
+    }
+    Ok(nearest(document, path.clone()?))
+}
+
+fn nearest<'a>(document: &'a Document, path: Path) -> (Path, Label<'a>)
+    requires { first_bad_marking (located document.now) ≡ None }
+    ensures site { result.0 ≡ site_of (located document.now) path }
+    ensures label { marking_of result.1 ≡ label_at (located document.now) path }
+{
+    match own(document, &path) {
+        Some(label) => (path, label),
+        None => nearest(document, without_last(path)),
+    }
+}
+
+fn without_last(path: Path) -> Path
+    requires { is_root path ≡ false }
+    ensures { result ≡ take (length path - 1) path }
+{
+    let mut tokens = path.into_tokens();
+    let count = tokens.as_slice().len();
+    tokens.truncate(count - 1);
+    Path::new(tokens)
+}
+
+fn own_of<'a>(tokens: &[Text], object: &'a Object) -> Option<Label<'a>>
+    ensures { option_map marking_of result ≡ own_in tokens.now (forest object.now) }
+{
+    if tokens.is_empty() {
+        return Some(Label::Private);
+    }
+    match written(object) {
+        Some(label) => Some(label),
+        None => {
+            if is_incident_path(tokens) {
+                Some(Label::Private)
+            } else {
+                None
+            }
+        }
+    }
+}
+
+fn is_incident_path(tokens: &[Text]) -> bool
+    ensures { result ≡ same_path tokens.now incident_path }
+{
+    match tokens {
+        [first, second] => first.as_str() == "Incident" && second.as_str() == "0",
+        _ => false,
+    }
+}

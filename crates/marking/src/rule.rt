@@ -1,0 +1,91 @@
+//! The marking rule over a whole document.
+
+ghost use Rattle.std.specs.Prelude.{◌≡◌, ◌∷◌, ◌++◌, Option, Some, None, option_map, IfOk, unwrap_or};
+ghost use Rattle.iodef_tree.specs.Tree.{end, in_front, member_front};
+ghost use Rattle.iodef_tree.specs.View.{forest, bodies, body};
+ghost use Rattle.iodef_tree.specs.Paths.{located};
+ghost use Rattle.marking.specs.Marks.{first_bad_marking};
+ghost use Rattle.marking.specs.Pass.{bad_below, bad_in_body, tokens_of};
+ghost use Rattle.marking.specs.Checked.{Answers};
+
+use crate::class::is_well_marked;
+use crate::fault::MarkingFault;
+use iodef_tree::{Document, Item, Member, Object, Path, Text};
+use std::alloc::{AllocError, Global};
+
+/// Accepts the document where each of its classes keeps the marking rule: it has neither `restriction` nor
+/// `ext-restriction`, or the two spell a label (RFC 7970 sections 3.3.1 and 5.1.1). Else the fault names the first class,
+/// in stored order, that doesn't. What the root holds under these names marks nothing. Takes memory for that path alone.
+pub fn check(alloc: Global, document: &Document) -> Result<(), MarkingFault>
+    ensures { Answers result (first_bad_marking (located document.now)) }
+{
+    match bad_below(alloc, document.root())? {
+        None => Ok(()),
+        Some(mut trail) => {
+            trail.as_mut_slice().reverse();
+            Err(MarkingFault::BadMarking(Path::new(trail)))
+        }
+    }
+}
+
+/// The way back from the first class below the object that breaks the marking rule: its last token stands first.
+#[cycle(check)]
+#[tactic(auto, using(crate::proofs::Fronts::bad_steps))]
+fn bad_below(alloc: Global, object: &Object) -> Result<Option<Vec<Text>>, AllocError>
+    ensures { IfOk result (λ o. option_map tokens_of o ≡ bad_below (forest object.now)) }
+{
+    for (name, member) in &object.members {
+        if let Some(trail) = bad_in_member(alloc, name, member)? {
+            return Ok(Some(trail));
+        }
+    }
+    Ok(None)
+}
+
+#[cycle(check)]
+#[tactic(auto, using(crate::proofs::Fronts::bad_steps))]
+fn bad_in_member(
+    alloc: Global,
+    name: &Text,
+    member: &Member,
+) -> Result<Option<Vec<Text>>, AllocError>
+    ensures { IfOk result (λ o. option_map tokens_of o ≡ bad_below (member_front name.now (bodies member.now) end)) }
+{
+    match member {
+        Member::One(item) => match bad_in_item(alloc, item)? {
+            None => Ok(None),
+            Some(mut trail) => {
+                trail.push(name.clone()?)?;
+                Ok(Some(trail))
+            }
+        },
+        Member::Many(items) => {
+            for (index, item) in items.iter().enumerate() {
+                if let Some(mut trail) = bad_in_item(alloc, item)? {
+                    trail.push(Text::new(format!(in alloc; "{index}")?))?;
+                    trail.push(name.clone()?)?;
+                    return Ok(Some(trail));
+                }
+            }
+            Ok(None)
+        }
+    }
+}
+
+#[cycle(check)]
+#[tactic(auto, using(crate::proofs::Fronts::bad_steps))]
+fn bad_in_item(alloc: Global, item: &Item) -> Result<Option<Vec<Text>>, AllocError>
+    ensures { IfOk result (λ o. option_map tokens_of o ≡ bad_in_body (body item.now)) }
+{
+    match item {
+        Item::Class(object) => {
+            if is_well_marked(object) {
+                bad_below(alloc, object)
+            } else {
+                Ok(Some(Vec::new(alloc)))
+            }
+        }
+        Item::Text(_) => Ok(None),
+        Item::Value(_) => Ok(None),
+    }
+}
