@@ -1,0 +1,7 @@
+pub mod Judged
+pub mod Keeping
+pub mod Kept
+pub mod InOrder
+pub mod Staying
+pub mod Others
+pub mod Owners

@@ -1,0 +1,34 @@
+-- What holds of every command.
+use Rattle.std.specs.Prelude.{◌≡◌, ◌≢◌, ℕ, Some, IsTrue}
+use Rattle.circle.specs.declared.directory.Person.{Person}
+use Rattle.circle.specs.declared.command.CircleCommand.{CircleCommand}
+use Rattle.circle.specs.declared.refusal.Refusal.{Refusal}
+use Rattle.circle.specs.Directory.{Directory, empty, has_suspended}
+use Rattle.circle.specs.Refusals.{refusal_of}
+use Rattle.circle.specs.Aftermath.{state_after}
+use Rattle.circle.specs.Sound.{IsSound, IsOrg, OwnersExtend}
+use Rattle.circle.specs.Others.{LeavesTheirs}
+
+-- what a person of a sound directory changes leaves it sound
+abbrev pub StaysSound : Type 0
+StaysSound = (d : Directory) (actor : Person) (command : CircleCommand) → IsSound d → IsOrg d.orgs actor.org → IsSound (state_after d actor command)
+
+-- the owners of groups stay members that may extend them
+abbrev pub OwnersStay : Type 0
+OwnersStay = (d : Directory) (actor : Person) (command : CircleCommand) → OwnersExtend d → OwnersExtend (state_after d actor command)
+
+-- the directory without a row is sound
+abbrev pub EmptyIsSound : Type 0
+EmptyIsSound = IsSound empty × OwnersExtend empty
+
+-- a refused command leaves every row
+abbrev pub RefusalsLeaveAll : Type 0
+RefusalsLeaveAll = (d : Directory) (actor : Person) (command : CircleCommand) (why : Refusal) → refusal_of d actor command ≡ Some why → state_after d actor command ≡ d
+
+-- nobody changes another organisation's arrangements, nominations or groups, but by an extend flag
+abbrev pub OrganisationsKeepApart : Type 0
+OrganisationsKeepApart = (d : Directory) (actor : Person) (command : CircleCommand) (other : ℕ) → IsSound d → other ≢ actor.org → LeavesTheirs other actor.org d (state_after d actor command)
+
+-- a suspended person stays suspended
+abbrev pub SuspendedStays : Type 0
+SuspendedStays = (d : Directory) (actor : Person) (command : CircleCommand) (person : ℕ) → IsTrue (has_suspended person d) → IsTrue (has_suspended person (state_after d actor command))

@@ -1,0 +1,14 @@
+pub mod Texts
+pub mod Codes
+pub mod Answers
+pub mod Ordered
+pub mod Directory
+pub mod Refusals
+pub mod Facts
+pub mod Aftermath
+pub mod Sound
+pub mod Judgement
+pub mod Unfit
+pub mod Order
+pub mod Others
+pub mod Laws

@@ -1,0 +1,37 @@
+-- What belongs to one organisation and not to another.
+use Rattle.std.specs.Prelude.{◌≡◌, ◌⊎◌, ℕ, ◌&&◌, ◌==◌, List, map, filter, IsTrue}
+use Rattle.circle.specs.declared.directory.Account.{Account}
+use Rattle.circle.specs.declared.directory.Group.{Group}
+use Rattle.circle.specs.declared.directory.GroupMember.{GroupMember}
+use Rattle.circle.specs.declared.directory.Arrangement.{Arrangement}
+use Rattle.circle.specs.Directory.{Directory, account_number, has_group_of, has_extender}
+use Rattle.circle.specs.Aftermath.{put_group_member}
+
+-- the arrangements of which the organisation is the source
+abbrev pub arrangements_of : ℕ → Directory → List Arrangement
+arrangements_of source d = filter (λ (a : Arrangement). a.source == source) d.arrangements
+
+-- the numbers of the organisation's nominated persons
+abbrev pub nominated_of : ℕ → Directory → List ℕ
+nominated_of org d = map account_number (filter (λ (a : Account). a.person.org == org && a.person.nominated) d.accounts)
+
+-- the groups that the organisation owns
+abbrev pub groups_of : ℕ → Directory → List Group
+groups_of owner d = filter (λ (g : Group). g.owner == owner) d.groups
+
+-- the members of the group
+abbrev pub members_in : ℕ → Directory → List GroupMember
+members_in group d = filter (λ (m : GroupMember). m.group == group) d.group_members
+
+-- the organisation has an extend flag in the group, which has one member more
+pub record ExtendsBy (own group : ℕ) (before after : Directory) (member : GroupMember) : Type 0 where
+  pub flag : IsTrue (has_extender group own before)
+  pub group_of : member.group ≡ group
+  pub put_in : members_in group after ≡ put_group_member member (members_in group before)
+
+-- what is another organisation's stays, but for what an extend flag allows
+pub record LeavesTheirs (other own : ℕ) (before after : Directory) : Type 0 where
+  pub arrangements : arrangements_of other after ≡ arrangements_of other before
+  pub nominations : nominated_of other after ≡ nominated_of other before
+  pub groups : groups_of other after ≡ groups_of other before
+  pub members : (group : ℕ) → IsTrue (has_group_of group other before) → (members_in group after ≡ members_in group before) ⊎ ((member : GroupMember) × ExtendsBy own group before after member)

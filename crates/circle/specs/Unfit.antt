@@ -1,0 +1,9 @@
+-- Why there is no edit.
+use Rattle.std.specs.Prelude.{◌≡◌, List, ℕ, Option, Some}
+use Rattle.circle.specs.declared.edit.Unfit.{Unfit}
+use Rattle.circle.specs.declared.edit.Unfit.TheVariants.{BadField, NoMemory}
+
+-- it tells the first bad field, or speaks of memory
+abbrev pub Explains : Option (List ℕ) → Unfit → Type 0
+Explains due (BadField field) = due ≡ Some field.now
+Explains due NoMemory = Unit {0}

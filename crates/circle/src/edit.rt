@@ -1,0 +1,231 @@
+//! What a command would change, where its arguments are good.
+ghost use Rattle.std.specs.Prelude.{◌≡◌, ◌==◌, true, false, not, codes, None, IfOk, IfErr, OnOk};
+ghost use Rattle.circle.specs.declared.command.Edit.TheVariants.{PutOrg, PutAccount, PutCommunity, PutGroup};
+ghost use Rattle.circle.specs.Texts.{is_name, is_releasability};
+ghost use Rattle.circle.specs.Aftermath.{edit_of};
+ghost use Rattle.circle.specs.Judgement.{bad_field, field_if};
+ghost use Rattle.circle.specs.Unfit.{Explains};
+
+use crate::command::{CircleCommand, Edit};
+use crate::directory::{
+    Account, Arrangement, Client, Community, Connection, Group, GroupMember, Membership, Org,
+    Person, Role,
+};
+use crate::name::Name;
+use crate::releasability::Releasability;
+use crate::text::Text;
+use std::alloc::Global;
+
+/// Why there is no edit: the first bad field, or want of memory.
+#[derive(Clone, Copy, Debug)]
+pub enum Unfit {
+    BadField(&'static str),
+    NoMemory,
+}
+
+impl CircleCommand {
+    /// The change that the command makes, where it puts a row of this number; else its first bad field.
+    pub(crate) fn edit(&self, alloc: Global, actor: &Person, number: u32) -> Result<Edit, Unfit>
+        ensures good { OnOk result (bad_field self.now actor.now ≡ None) }
+        ensures value { IfOk result (λ edit. edit ≡ edit_of number actor.now self.now) }
+        ensures bad { IfErr result (Explains (bad_field self.now actor.now)) }
+    {
+        match self {
+            CircleCommand::AddOrg { name } => new_org(alloc, number, name),
+            CircleCommand::AddPerson {
+                org,
+                name,
+                role,
+                key,
+            } => { new_account(alloc, number, *org, name, *role, *key) }
+            CircleCommand::SuspendPerson { person } => {
+                unless_same(*person, actor.number, "person", Edit::Suspend(*person))
+            }
+            CircleCommand::AddClient { org, client } => {
+                let row = Client {
+                    org: *org,
+                    client: *client,
+                };
+                unless_same(*org, *client, "client", Edit::PutClient(row))
+            }
+            CircleCommand::RemoveClient { org, client } => {
+                let row = Client {
+                    org: *org,
+                    client: *client,
+                };
+                unless_same(*org, *client, "client", Edit::TakeClient(row))
+            }
+            CircleCommand::AddCommunity { name } => new_community(alloc, number, name),
+            CircleCommand::Join { community, org } => {
+                Ok(Edit::PutMembership(Membership {
+                    community: *community,
+                    org: *org,
+                }))
+            }
+            CircleCommand::Leave { community, org } => {
+                Ok(Edit::TakeMembership(Membership {
+                    community: *community,
+                    org: *org,
+                }))
+            }
+            CircleCommand::Link { community, other } => {
+                let row = Connection::between(*community, *other);
+                unless_same(*community, *other, "other", Edit::PutConnection(row))
+            }
+            CircleCommand::Unlink { community, other } => {
+                let row = Connection::between(*community, *other);
+                unless_same(*community, *other, "other", Edit::TakeConnection(row))
+            }
+            CircleCommand::NewGroup {
+                name,
+                releasability,
+            } => { new_group(alloc, number, actor.org, name, releasability) }
+            CircleCommand::GroupAdd { group, org, extend } => {
+                Ok(Edit::PutGroupMember(GroupMember {
+                    group: *group,
+                    org: *org,
+                    extend: *extend,
+                }))
+            }
+            CircleCommand::GroupRemove { group, org } => {
+                Ok(Edit::TakeGroupMember {
+                    group: *group,
+                    org: *org,
+                })
+            }
+            CircleCommand::GroupActive { group, active } => {
+                Ok(Edit::SetGroupActive {
+                    group: *group,
+                    active: *active,
+                })
+            }
+            CircleCommand::Arrange { org, handling } => {
+                let row = Arrangement {
+                    source: actor.org,
+                    org: *org,
+                    handling: *handling,
+                };
+                unless_same(*org, actor.org, "org", Edit::PutArrangement(row))
+            }
+            CircleCommand::CancelArrange { org } => {
+                Ok(Edit::TakeArrangement {
+                    source: actor.org,
+                    org: *org,
+                })
+            }
+            CircleCommand::Nominate { person } => {
+                Ok(Edit::SetNominated {
+                    person: *person,
+                    nominated: true,
+                })
+            }
+            CircleCommand::Unnominate { person } => {
+                Ok(Edit::SetNominated {
+                    person: *person,
+                    nominated: false,
+                })
+            }
+        }
+    }
+}
+
+/// The edit, unless two numbers that have to differ are the same.
+fn unless_same(one: u32, other: u32, field: &'static str, edit: Edit) -> Result<Edit, Unfit>
+    ensures good { OnOk result (field_if (one == other) field.now None ≡ None) }
+    ensures value { IfOk result (λ e. e ≡ edit) }
+    ensures bad { IfErr result (Explains (field_if (one == other) field.now None)) }
+{
+    if one == other {
+        Err(Unfit::BadField(field))
+    } else {
+        Ok(edit)
+    }
+}
+
+fn fit_name(alloc: Global, text: &Text) -> Result<Name, Unfit>
+    ensures good { OnOk result (is_name text.now ≡ true) }
+    ensures value { IfOk result (λ name. name ≡ text.now) }
+    ensures bad { IfErr result (Explains (field_if (not (is_name text.now)) (codes "name") None)) }
+{
+    match Name::of(alloc, text.as_str()) {
+        Ok(Some(name)) => Ok(name),
+        Ok(None) => Err(Unfit::BadField("name")),
+        Err(_) => Err(Unfit::NoMemory),
+    }
+}
+
+fn fit_releasability(alloc: Global, text: &Text) -> Result<Releasability, Unfit>
+    ensures good { OnOk result (is_releasability text.now ≡ true) }
+    ensures value { IfOk result (λ found. found ≡ text.now) }
+    ensures bad { IfErr result (Explains (field_if (not (is_releasability text.now)) (codes "releasability") None)) }
+{
+    match Releasability::of(alloc, text.as_str()) {
+        Ok(Some(releasability)) => Ok(releasability),
+        Ok(None) => Err(Unfit::BadField("releasability")),
+        Err(_) => Err(Unfit::NoMemory),
+    }
+}
+
+fn new_org(alloc: Global, number: u32, name: &Text) -> Result<Edit, Unfit>
+    ensures good { OnOk result (field_if (not (is_name name.now)) (codes "name") None ≡ None) }
+    ensures value { IfOk result (λ edit. edit ≡ PutOrg (record { number = number; name = name.now })) }
+    ensures bad { IfErr result (Explains (field_if (not (is_name name.now)) (codes "name") None)) }
+{
+    let name = fit_name(alloc, name)?;
+    Ok(Edit::PutOrg(Org { number, name }))
+}
+
+fn new_account(
+    alloc: Global,
+    number: u32,
+    org: u32,
+    name: &Text,
+    role: Role,
+    key: [u8; 32],
+) -> Result<Edit, Unfit>
+    ensures good { OnOk result (field_if (not (is_name name.now)) (codes "name") None ≡ None) }
+    ensures value { IfOk result (λ edit. edit ≡ PutAccount (record { person = record { number = number; org = org; name = name.now; role = role; active = true; nominated = false }; key = key })) }
+    ensures bad { IfErr result (Explains (field_if (not (is_name name.now)) (codes "name") None)) }
+{
+    let name = fit_name(alloc, name)?;
+    let person = Person {
+        number,
+        org,
+        name,
+        role,
+        active: true,
+        nominated: false,
+    };
+    Ok(Edit::PutAccount(Account { person, key }))
+}
+
+fn new_community(alloc: Global, number: u32, name: &Text) -> Result<Edit, Unfit>
+    ensures good { OnOk result (field_if (not (is_name name.now)) (codes "name") None ≡ None) }
+    ensures value { IfOk result (λ edit. edit ≡ PutCommunity (record { number = number; name = name.now })) }
+    ensures bad { IfErr result (Explains (field_if (not (is_name name.now)) (codes "name") None)) }
+{
+    let name = fit_name(alloc, name)?;
+    Ok(Edit::PutCommunity(Community { number, name }))
+}
+
+fn new_group(
+    alloc: Global,
+    number: u32,
+    owner: u32,
+    name: &Text,
+    releasability: &Text,
+) -> Result<Edit, Unfit>
+    ensures good { OnOk result (field_if (not (is_name name.now)) (codes "name") (field_if (not (is_releasability releasability.now)) (codes "releasability") None) ≡ None) }
+    ensures value { IfOk result (λ edit. edit ≡ PutGroup (record { number = number; owner = owner; name = name.now; releasability = releasability.now; active = true })) }
+    ensures bad { IfErr result (Explains (field_if (not (is_name name.now)) (codes "name") (field_if (not (is_releasability releasability.now)) (codes "releasability") None))) }
+{
+    let name = fit_name(alloc, name)?;
+    let releasability = fit_releasability(alloc, releasability)?;
+    Ok(Edit::PutGroup(Group {
+        number,
+        owner,
+        name,
+        releasability,
+        active: true,
+    }))
+}

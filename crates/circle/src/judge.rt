@@ -1,0 +1,131 @@
+ghost use Rattle.std.specs.Prelude.{◌≡◌, List, ℕ, None, IfOk, IfErr, OnOk, option_map};
+ghost use Rattle.circle.specs.Answers.{RefusedAs, plain};
+ghost use Rattle.circle.specs.Directory.{Directory};
+ghost use Rattle.circle.specs.Facts.{facts_of};
+ghost use Rattle.circle.specs.Refusals.{refusal_of};
+ghost use Rattle.circle.specs.Aftermath.{edited, state_after};
+ghost use Rattle.circle.specs.Judgement.{objection_of, is_allowed, lacks_right, is_strange, is_removal, limit_of};
+ghost use Rattle.circle.specs.Sound.{IsSound};
+
+use crate::command::{CircleCommand, CircleFacts, Edit};
+use crate::directory::{Person, Role};
+use crate::edit::Unfit;
+use crate::refusal::{Code, Refusal};
+use std::alloc::Global;
+
+/// The refusal of the actor's command, or the whole change that it makes: for each directory of which
+/// these are the facts, and where a number is given for each sound one. Want of memory is `F2`, which
+/// may stand in place of any answer.
+pub fn judge(
+    alloc: Global,
+    actor: &Person,
+    facts: &CircleFacts,
+    command: &CircleCommand,
+) -> Result<Edit, Refusal>
+    ensures refused { (d : Directory) → facts.now ≡ facts_of d actor.now command.now → IfErr result (RefusedAs (refusal_of d actor.now command.now)) }
+    ensures allowed { (d : Directory) → facts.now ≡ facts_of d actor.now command.now → OnOk result (refusal_of d actor.now command.now ≡ None) }
+    ensures made { (d : Directory) → IsSound d → facts.now ≡ facts_of d actor.now command.now → IfOk result (λ edit. edited edit d ≡ state_after d actor.now command.now) }
+{
+    if !command.is_allowed(actor.role) {
+        return Err(Refusal::plain(alloc, Code::W1));
+    }
+    let edit = match command.edit(alloc, actor, facts.count.saturating_add(1)) {
+        Ok(edit) => edit,
+        Err(Unfit::BadField(field)) => return Err(Refusal::new(alloc, Code::B1, field)),
+        Err(Unfit::NoMemory) => return Err(Refusal::plain(alloc, Code::F2)),
+    };
+    match command.objection(facts) {
+        Some(code) => Err(Refusal::plain(alloc, code)),
+        None => Ok(edit),
+    }
+}
+
+impl CircleCommand {
+    fn is_allowed(&self, role: Role) -> bool
+        ensures { result ≡ is_allowed self.now role }
+    {
+        match self {
+            CircleCommand::AddOrg { .. }
+            | CircleCommand::AddPerson { .. }
+            | CircleCommand::SuspendPerson { .. }
+            | CircleCommand::AddClient { .. }
+            | CircleCommand::RemoveClient { .. }
+            | CircleCommand::AddCommunity { .. }
+            | CircleCommand::Join { .. }
+            | CircleCommand::Leave { .. }
+            | CircleCommand::Link { .. }
+            | CircleCommand::Unlink { .. } => matches!(role, Role::Administrator),
+            _ => matches!(role, Role::Coordinator),
+        }
+    }
+
+    /// What the facts have against a command whose arguments are good: the first ground from `N2` on.
+    fn objection(&self, facts: &CircleFacts) -> Option<Code>
+        ensures { option_map plain result ≡ objection_of facts.now self.now }
+    {
+        if !facts.exists {
+            return Some(Code::N2);
+        }
+        if self.lacks_right(facts) {
+            return Some(Code::W2);
+        }
+        if self.is_strange(facts) {
+            return Some(Code::W3);
+        }
+        if self.is_removal() {
+            if !facts.stands {
+                return Some(Code::S2);
+            }
+        } else if facts.stands {
+            return Some(Code::S1);
+        }
+        if facts.count >= self.limit() {
+            return Some(Code::L1);
+        }
+        None
+    }
+
+    fn lacks_right(&self, facts: &CircleFacts) -> bool
+        ensures { result ≡ lacks_right self.now facts.now }
+    {
+        match self {
+            CircleCommand::GroupAdd { .. } => !facts.may_extend,
+            CircleCommand::GroupRemove { .. } => !facts.owner || facts.target_is_owner,
+            CircleCommand::GroupActive { .. } => !facts.owner,
+            _ => false,
+        }
+    }
+
+    fn is_strange(&self, facts: &CircleFacts) -> bool
+        ensures { result ≡ is_strange self.now facts.now }
+    {
+        match self {
+            CircleCommand::Nominate { .. } | CircleCommand::Unnominate { .. } => !facts.own_person,
+            _ => false,
+        }
+    }
+
+    fn is_removal(&self) -> bool
+        ensures { result ≡ is_removal self.now }
+    {
+        matches!(
+            self,
+            CircleCommand::RemoveClient { .. }
+                | CircleCommand::Leave { .. }
+                | CircleCommand::Unlink { .. }
+                | CircleCommand::GroupRemove { .. }
+                | CircleCommand::CancelArrange { .. }
+                | CircleCommand::Unnominate { .. }
+        )
+    }
+
+    /// How many rows there may be of the kind that the command numbers.
+    fn limit(&self) -> u32
+        ensures { result ≡ limit_of self.now }
+    {
+        match self {
+            CircleCommand::AddPerson { .. } => 10_000,
+            _ => 1_000,
+        }
+    }
+}

@@ -1,0 +1,39 @@
+//! Laws of the definitions, each the contract of a function that does nothing.
+ghost use Rattle.circle.specs.Laws.{EmptyIsSound, OrganisationsKeepApart, OwnersStay, RefusalsLeaveAll, StaysSound, SuspendedStays};
+ghost use Rattle.circle.specs.Order.{IsInOrder};
+
+/// What a person of a sound directory changes leaves it sound.
+pub fn stays_sound()
+    ensures { StaysSound }
+{}
+
+/// The owner of a group stays a member that may extend it.
+pub fn owners_stay()
+    ensures { OwnersStay }
+{}
+
+/// The directory without a row is sound.
+pub fn empty_is_sound()
+    ensures { EmptyIsSound }
+{}
+
+/// The grounds of each command stand in the order of the codes.
+pub fn grounds_in_order()
+    ensures { IsInOrder }
+{}
+
+/// A refused command leaves every row.
+pub fn refusals_leave_all()
+    ensures { RefusalsLeaveAll }
+{}
+
+/// No command of a person of one organisation changes another organisation's arrangements, nominations or
+/// groups, except that an extend flag lets it put a member into a group.
+pub fn organisations_keep_apart()
+    ensures { OrganisationsKeepApart }
+{}
+
+/// A suspended person stays suspended.
+pub fn suspended_stays()
+    ensures { SuspendedStays }
+{}

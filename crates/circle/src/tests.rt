@@ -1,0 +1,7 @@
+mod codes;
+mod commands;
+mod compared;
+mod dice;
+mod limits;
+mod made;
+mod world;
