@@ -1,0 +1,4 @@
+pub mod Steps
+mod Clearances
+mod Refusals
+mod Sight

@@ -1,0 +1,47 @@
+-- What a reader is cleared for (FIRST TLP 2.0): the recipients that the source named, their organisations and clients, and
+-- the source's communities.
+use Rattle.std.specs.Prelude.{ℕ, Bool, true, ◌&&◌, List, [], ◌∷◌, find, nat_le}
+use Rattle.std.specs.Option.{option_map_or}
+use Rattle.marking.specs.declared.label.Handling.{Handling}
+use Rattle.marking.specs.declared.label.Handling.TheVariants.{Clear, Green, Amber, Strict, Red}
+use Rattle.policy.specs.declared.rule.Rule.{Rule}
+use Rattle.policy.specs.declared.rule.Rule.TheVariants.{P, O, C, M, A}
+use Rattle.policy.specs.declared.standing.Standing.{Standing}
+
+-- the order of handlings: CLEAR < GREEN < AMBER < STRICT < RED
+abbrev pub rank : Handling → ℕ
+rank Clear = 0
+rank Green = 1
+rank Amber = 2
+rank Strict = 3
+rank Red = 4
+
+abbrev pub is_at_most : Handling → Handling → Bool
+is_at_most a b = nat_le (rank a) (rank b)
+
+-- a row of the table of clearances: a rule, whether it holds of the reader, and the handling that it clears the reader for
+pub record Row : Type 0 where
+  pub rule : Rule
+  pub holds : Bool
+  pub handling : Handling
+
+abbrev pub row : Rule → Bool → Handling → Row
+row r holds h = record { rule = r; holds = holds; handling = h }
+
+-- The table, the strictest row first. TLP:RED is for individual recipients, TLP:AMBER+STRICT for their organisation,
+-- TLP:AMBER for its clients too, TLP:GREEN for the community, and TLP:CLEAR for everybody.
+abbrev pub clearance_rows : Standing → List Row
+clearance_rows s =
+    row P s.person Red
+    ∷ row O (s.nominated && s.addressed) Strict
+    ∷ row C (s.nominated && s.client) Amber
+    ∷ row M s.community Green
+    ∷ row A true Clear
+    ∷ []
+
+abbrev pub cleared_by : Row → Handling × Rule
+cleared_by r = (r.handling, r.rule)
+
+-- the handling of the first row that holds, and its rule
+abbrev pub clearance_of : Standing → Handling × Rule
+clearance_of s = option_map_or cleared_by (find (λ r. r.holds) (clearance_rows s)) (Clear, A)

@@ -1,0 +1,23 @@
+-- What `decide` answers.
+use Rattle.std.specs.Prelude.{◌≡◌, List, Option, Some, None, if◌then◌else◌, Result, Ok, Err}
+use Rattle.iodef_tree.specs.Text.{Tokens}
+use Rattle.iodef_tree.specs.Paths.{Entry, has_class}
+use Rattle.policy.specs.Verdict.{verdict_of}
+use Rattle.policy.specs.declared.standing.Standing.{Standing}
+use Rattle.policy.specs.declared.case.Case.{Case}
+use Rattle.policy.specs.declared.verdict.Verdict.{Verdict}
+use Rattle.policy.specs.declared.fault.DecideFault.{DecideFault}
+use Rattle.policy.specs.declared.fault.DecideFault.TheVariants.{NoClass, NoMemory}
+
+-- the verdict of a class, and of no other path
+abbrev pub decided_at : List Entry → Case → Standing → Tokens → Option Verdict
+decided_at es c s p = if has_class es p then Some (verdict_of es c s p) else None
+
+-- want of memory may stand in place of any other answer
+abbrev pub Answers : Result Verdict DecideFault → Option Verdict → Type 0
+Answers (Ok v) decided = decided ≡ Some v
+Answers (Err NoClass) decided = decided ≡ None
+Answers (Err NoMemory) decided = Unit {0}
+
+abbrev pub Decides : Result Verdict DecideFault → List Entry → Case → Standing → Tokens → Type 0
+Decides r es c s p = Answers r (decided_at es c s p)

@@ -1,0 +1,88 @@
+-- The laws of the policy, in its own words.
+use Rattle.std.specs.Prelude.{◌≡◌, ◌≤◌, Bool, true, false, ◌&&◌, List, length, find, Some, None, is_some, All, Contains}
+use Rattle.iodef_tree.specs.Text.{Tokens, is_prefix, same_path}
+use Rattle.iodef_tree.specs.Paths.{Entry}
+use Rattle.marking.specs.Marks.{label_at}
+use Rattle.marking.specs.declared.label.Handling.TheVariants.{Clear}
+use Rattle.policy.specs.Clearance.{is_at_most, clearance_rows, clearance_of}
+use Rattle.policy.specs.Gates.{passage_of}
+use Rattle.policy.specs.Verdict.{refusal_at, handling_for, is_visible, verdict_of}
+use Rattle.policy.specs.declared.rule.Rule.{Rule}
+use Rattle.policy.specs.declared.rule.Rule.TheVariants.{Src}
+use Rattle.policy.specs.declared.standing.Standing.{Standing}
+use Rattle.policy.specs.declared.gate.Gate.{Gate}
+use Rattle.policy.specs.declared.case.Case.{Case}
+use Rattle.policy.specs.declared.verdict.Verdict.TheVariants.{Shown, Hidden}
+
+-- a reader of the source sees every class
+abbrev pub SourceSeesAll : Type 0
+SourceSeesAll = (es : List Entry) (c : Case) (s : Standing) (p : Tokens) → s.source ≡ true → verdict_of es c s p ≡ Shown Src
+
+-- whoever else sees a class passes every gate on its path
+abbrev pub VisiblePassesGates : Type 0
+VisiblePassesGates = (es : List Entry) (c : Case) (s : Standing) (p : Tokens) → s.source ≡ false → is_visible es c s p ≡ true →
+    All (λ g. is_prefix g.path p ≡ true → passage_of s g ≡ None) c.gates
+
+-- a gate of the case refuses the reader on the path
+abbrev pub refuses_on : Standing → Tokens → Gate → Bool
+refuses_on s p g = is_prefix g.path p && is_some (passage_of s g)
+
+-- a refusing gate of the shortest path among those on the way to p, and of those at its path the first
+pub record IsNearestRefusal (c : Case) (s : Standing) (p : Tokens) (g : Gate) : Type 0 where
+  pub on_path : is_prefix g.path p ≡ true
+  pub shortest : All (λ h. refuses_on s p h ≡ true → length g.path ≤ length h.path) c.gates
+  pub first : find (λ h. same_path h.path g.path && is_some (passage_of s h)) c.gates ≡ Some g
+
+-- the rule told is that of the refusing gate with the shortest path, of equal paths the first in the list
+abbrev pub RefusalIsNearest : Type 0
+RefusalIsNearest = (c : Case) (s : Standing) (p : Tokens) (r : Rule) → refusal_at c s p ≡ Some r →
+    (g : Gate) × IsNearestRefusal c s p g × (passage_of s g ≡ Some r)
+
+-- the second case has the gates of the first, and its permissions and perhaps more
+pub record HasMorePermissions (c d : Case) : Type 0 where
+  pub gates : c.gates ≡ d.gates
+  pub permissions : All (λ x. Contains d.permissions x) c.permissions
+
+-- adding a permission never hides a class
+abbrev pub PermissionHidesNothing : Type 0
+PermissionHidesNothing = (es : List Entry) (c d : Case) (s : Standing) (p : Tokens) → HasMorePermissions c d →
+    is_visible es c s p ≡ true → is_visible es d s p ≡ true
+
+-- adding a permission opens no gate: whom a gate keeps out, it keeps out by the same rule
+abbrev pub PermissionOpensNoGate : Type 0
+PermissionOpensNoGate = (es : List Entry) (c d : Case) (s : Standing) (p : Tokens) (r : Rule) → HasMorePermissions c d →
+    s.source ≡ false → refusal_at c s p ≡ Some r → verdict_of es d s p ≡ Hidden r
+
+-- The second standing is the first, raised: perhaps a recipient, nominated, of an organisation that is addressed, a client
+-- or in the source's communities, where the first wasn't.
+pub record IsRaised (s t : Standing) : Type 0 where
+  pub source : s.source ≡ t.source
+  pub person : s.person ≡ true → t.person ≡ true
+  pub nominated : s.nominated ≡ true → t.nominated ≡ true
+  pub addressed : s.addressed ≡ true → t.addressed ≡ true
+  pub client : s.client ≡ true → t.client ≡ true
+  pub community : s.community ≡ true → t.community ≡ true
+  pub connected : s.connected ≡ t.connected
+  pub arrangement : s.arrangement ≡ t.arrangement
+  pub who : s.who ≡ t.who
+  pub org : s.org ≡ t.org
+  pub groups : s.groups ≡ t.groups
+  pub active_groups : s.active_groups ≡ t.active_groups
+  pub communities : s.communities ≡ t.communities
+
+abbrev pub RaisedIsClearedForMore : Type 0
+RaisedIsClearedForMore = (s t : Standing) → IsRaised s t → is_at_most (clearance_of s).0 (clearance_of t).0 ≡ true
+
+-- raising the clearance never hides a class
+abbrev pub RaisedSeesNoLess : Type 0
+RaisedSeesNoLess = (es : List Entry) (c : Case) (s t : Standing) (p : Tokens) → IsRaised s t →
+    is_visible es c s p ≡ true → is_visible es c t p ≡ true
+
+-- what is handled as CLEAR is hidden by gates alone
+abbrev pub ClearIsNeverHidden : Type 0
+ClearIsNeverHidden = (es : List Entry) (c : Case) (s : Standing) (p : Tokens) → handling_for s (label_at es p) ≡ Clear →
+    refusal_at c s p ≡ None → is_visible es c s p ≡ true
+
+-- no row of the table of clearances that holds is stricter than the clearance
+abbrev pub ClearanceIsStrictest : Type 0
+ClearanceIsStrictest = (s : Standing) → All (λ r. r.holds ≡ true → is_at_most r.handling (clearance_of s).0 ≡ true) (clearance_rows s)

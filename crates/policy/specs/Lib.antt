@@ -1,0 +1,9 @@
+pub mod Numbers
+pub mod Rule
+pub mod Clearance
+pub mod Gates
+pub mod Permissions
+pub mod Verdict
+pub mod Inherited
+pub mod Decided
+pub mod Laws

@@ -1,0 +1,35 @@
+-- What a permission covers. It widens the audience of a marking, as the source may (FIRST TLP 2.0: wider sharing needs the
+-- explicit permission of the source), and like a marking it holds down to the next label (RFC 7970 section 3.3.1).
+use Rattle.std.specs.Prelude.{Bool, not, ◌&&◌, ◌==◌, List, length, nat_lt, is_some}
+use Rattle.std.specs.List.{list_all}
+use Rattle.iodef_tree.specs.Text.{Tokens, is_prefix, prefixes}
+use Rattle.iodef_tree.specs.Paths.{Entry}
+use Rattle.marking.specs.Marks.{written_label}
+use Rattle.policy.specs.Numbers.{is_among}
+use Rattle.policy.specs.declared.standing.Standing.{Standing}
+use Rattle.policy.specs.declared.permission.Grantee.{Grantee}
+use Rattle.policy.specs.declared.permission.Grantee.TheVariants.{Person, Org, Community, Group}
+use Rattle.policy.specs.declared.permission.Permission.{Permission}
+
+-- the grantee is the reader, its organisation, a community of that, or an active group of which that is a member
+abbrev pub includes : Standing → Grantee → Bool
+includes s (Person n) = s.who == n
+includes s (Org n) = s.org == n
+includes s (Community n) = is_among n s.communities
+includes s (Group n) = is_among n s.active_groups
+
+-- the permission holds for the reader, wherever it stands
+abbrev pub holds_for : Standing → Permission → Bool
+holds_for s x = includes s x.grantee
+
+-- no label is written in the class at r, or r isn't below q
+abbrev pub is_unmarked_below : List Entry → Tokens → Tokens → Bool
+is_unmarked_below es q r = not (nat_lt (length q) (length r) && is_some (written_label es r))
+
+-- q is a prefix of p, and on the way down from q to p no label is written
+abbrev pub reaches : List Entry → Tokens → Tokens → Bool
+reaches es q p = is_prefix q p && list_all (is_unmarked_below es q) (prefixes p)
+
+-- a permission covers the class at p for the reader
+abbrev pub covers : List Entry → Standing → Tokens → Permission → Bool
+covers es s p x = holds_for s x && reaches es x.path p

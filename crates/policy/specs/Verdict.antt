@@ -1,0 +1,66 @@
+-- The verdict of a class: its path is judged alone, against all of its prefixes (RFC 7970 section 3.3.1, FIRST TLP 2.0, MISP
+-- book: distribution levels).
+use Rattle.std.specs.Prelude.{Bool, ◌&&◌, ◌||◌, List, [], ◌∷◌, filter, if◌then◌else◌, Option, Some, None, is_none, unwrap_or}
+use Rattle.std.specs.List.{filter_map, flat_map, list_any}
+use Rattle.iodef_tree.specs.Text.{Tokens, same_path, prefixes}
+use Rattle.iodef_tree.specs.Paths.{Entry}
+use Rattle.marking.specs.Label.{Marking, handling_of}
+use Rattle.marking.specs.Marks.{label_at}
+use Rattle.marking.specs.declared.label.Handling.{Handling}
+use Rattle.marking.specs.declared.label.Handling.TheVariants.{Clear, Green, Amber, Strict, Red}
+use Rattle.policy.specs.Clearance.{clearance_of, is_at_most}
+use Rattle.policy.specs.Gates.{passage_of}
+use Rattle.policy.specs.Permissions.{covers}
+use Rattle.policy.specs.declared.rule.Rule.{Rule}
+use Rattle.policy.specs.declared.rule.Rule.TheVariants.{Src, X, HGreen, HAmber, HStrict, HRed}
+use Rattle.policy.specs.declared.standing.Standing.{Standing}
+use Rattle.policy.specs.declared.case.Case.{Case}
+use Rattle.policy.specs.declared.verdict.Verdict.{Verdict}
+use Rattle.policy.specs.declared.verdict.Verdict.TheVariants.{Shown, Hidden}
+
+abbrev pub first_of : {A : Type 0} → List A → Option A
+first_of [] = None
+first_of (x ∷ xs) = Some x
+
+-- the refusals of the gates at a path, in the order of the case
+abbrev pub refusals_at : Case → Standing → Tokens → List Rule
+refusals_at c s q = filter_map (passage_of s) (filter (λ g. same_path g.path q) c.gates)
+
+-- of the gates at the prefixes of a path, the refusal of the one with the shortest path; of equal paths the first's
+abbrev pub refusal_at : Case → Standing → Tokens → Option Rule
+refusal_at c s p = first_of (flat_map (refusals_at c s) (prefixes p))
+
+-- how what stands under a label is to be handled, with what the source arranged with the reader's organisation
+abbrev pub handling_for : Standing → Marking → Handling
+handling_for s l = handling_of l s.arrangement
+
+-- the reader is cleared for what stands under a label
+abbrev pub is_cleared_for : Standing → Marking → Bool
+is_cleared_for s l = is_at_most (handling_for s l) (clearance_of s).0
+
+-- some permission covers the class at p for the reader
+abbrev pub is_covered : List Entry → Case → Standing → Tokens → Bool
+is_covered es c s p = list_any (covers es s p) c.permissions
+
+-- The class at p is visible: the reader is of the source, or no gate on the path refuses and either the reader is cleared
+-- for the nearest label or a permission covers the class.
+abbrev pub is_visible : List Entry → Case → Standing → Tokens → Bool
+is_visible es c s p = s.source || (is_none (refusal_at c s p) && (is_cleared_for s (label_at es p) || is_covered es c s p))
+
+abbrev pub showing_rule : Standing → Marking → Rule
+showing_rule s l = if s.source then Src else if is_cleared_for s l then (clearance_of s).1 else X
+
+-- CLEAR hides nothing, as everybody is cleared for it
+abbrev pub hidden_by : Handling → Rule
+hidden_by Clear = HGreen
+hidden_by Green = HGreen
+hidden_by Amber = HAmber
+hidden_by Strict = HStrict
+hidden_by Red = HRed
+
+-- the rule that hides a class which isn't visible
+abbrev pub hiding_rule : List Entry → Case → Standing → Tokens → Rule
+hiding_rule es c s p = unwrap_or (refusal_at c s p) (hidden_by (handling_for s (label_at es p)))
+
+abbrev pub verdict_of : List Entry → Case → Standing → Tokens → Verdict
+verdict_of es c s p = if is_visible es c s p then Shown (showing_rule s (label_at es p)) else Hidden (hiding_rule es c s p)

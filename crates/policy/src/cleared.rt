@@ -1,0 +1,25 @@
+ghost use Rattle.std.specs.Prelude.{◌≡◌};
+ghost use Rattle.policy.specs.Clearance.{clearance_of};
+
+use crate::rule::Rule;
+use crate::standing::Standing;
+use marking::Handling;
+
+/// The strictest handling that the reader is cleared for, and the rule by which it is. Takes no memory.
+pub fn clearance(standing: &Standing) -> (Handling, Rule)
+    ensures { result ≡ clearance_of standing.now }
+{
+    if standing.person {
+        return (Handling::Red, Rule::P);
+    }
+    if standing.nominated && standing.addressed {
+        return (Handling::Strict, Rule::O);
+    }
+    if standing.nominated && standing.client {
+        return (Handling::Amber, Rule::C);
+    }
+    if standing.community {
+        return (Handling::Green, Rule::M);
+    }
+    (Handling::Clear, Rule::A)
+}

@@ -1,0 +1,73 @@
+//! The verdict of a class.
+
+ghost use Rattle.std.specs.Prelude.{◌≡◌, ◌++◌, ◌∷◌, [], None, IfOk};
+ghost use Rattle.iodef_tree.specs.Text.{Bytes, Tokens};
+ghost use Rattle.iodef_tree.specs.Paths.{located};
+ghost use Rattle.marking.specs.Marks.{first_bad_marking};
+ghost use Rattle.policy.specs.Inherited.{carried, inherited_at};
+ghost use Rattle.policy.specs.Decided.{Decides};
+
+use crate::case::Case;
+use crate::fault::DecideFault;
+use crate::inherited::Carried;
+use crate::standing::Standing;
+use crate::verdict::Verdict;
+use iodef_tree::{Document, Path};
+use marking::written_at;
+use std::alloc::{AllocError, Global};
+
+/// Whether the reader sees the class at the path, and the rule by which. NoClass exactly where there is no class at the path;
+/// the root is none.
+pub fn decide(
+    alloc: Global,
+    document: &Document,
+    case: &Case,
+    standing: &Standing,
+    path: &Path,
+) -> Result<Verdict, DecideFault>
+    requires { first_bad_marking (located document.now) ≡ None }
+    ensures { Decides result (located document.now) case.now standing.now path.now }
+{
+    if !document.has_class(path) {
+        return Err(DecideFault::NoClass);
+    }
+    let said = said_at(alloc, document, case, standing, path)?;
+    Ok(said.verdict(standing, path))
+}
+
+/// What is said of the path, from the root down.
+fn said_at<'a>(
+    alloc: Global,
+    document: &'a Document,
+    case: &Case,
+    standing: &Standing,
+    path: &Path,
+) -> Result<Carried<'a>, AllocError>
+    ensures { IfOk result (λ h. carried path.now h ≡ inherited_at (located document.now) case.now standing.now path.now) }
+{
+    let mut here = Path::root(alloc);
+    let mut said = Carried::at_root(case, standing, &here);
+    for token in path.tokens() {
+        here = here.member(alloc, token.as_str())?;
+        said = below(document, case, standing, &here, said);
+    }
+    Ok(said)
+}
+
+/// One token further down, at the path that is handed in.
+fn below<'a>(
+    document: &'a Document,
+    case: &Case,
+    standing: &Standing,
+    here: &Path,
+    above: Carried<'a>,
+) -> Carried<'a>
+    ensures { (p : Tokens) (x : Bytes) → here.now ≡ p ++ x ∷ [] → carried p above.entry ≡ inherited_at (located document.now) case.now standing.now p →
+        carried here.now result ≡ inherited_at (located document.now) case.now standing.now here.now }
+{
+    if document.has_class(here) {
+        above.in_class(case, standing, here, written_at(document, here))
+    } else {
+        above.in_array(case, standing, here)
+    }
+}

@@ -1,0 +1,20 @@
+use std::alloc::AllocError;
+
+/// Why a path has no verdict.
+#[derive(Clone, Copy, Debug, PartialEq, Eq)]
+pub enum DecideFault {
+    /// There is no class at the path; the root is none.
+    NoClass,
+    NoMemory,
+}
+
+impl From<AllocError> for DecideFault {
+    ghost use Rattle.std.specs.Prelude.{◌≡◌};
+    ghost use Rattle.policy.specs.declared.fault.DecideFault.TheVariants.{NoMemory};
+
+    ghost from_gives = { λ _ fault. fault ≡ NoMemory };
+
+    fn from(_refused: AllocError) -> DecideFault {
+        DecideFault::NoMemory
+    }
+}

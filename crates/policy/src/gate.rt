@@ -1,0 +1,95 @@
+//! Gates: who passes to a class and to what is below it, by the MISP book's distribution levels.
+
+ghost use Rattle.std.specs.Prelude.{◌≡◌};
+ghost use Rattle.std.specs.Result.{result_err};
+ghost use Rattle.policy.specs.Gates.{passage_of, group_passage, refused_unless};
+
+use crate::rule::Rule;
+use crate::standing::Standing;
+use iodef_tree::Path;
+use std::marker::Model;
+
+/// A gate at the root or at a class.
+#[derive(Drop)]
+pub struct Gate {
+    pub path: Path,
+    /// 0 the source alone, 1 its communities, 2 those linked to them too, 3 everybody, 4 a group, 5 as above.
+    pub level: u8,
+    /// The group of level 4.
+    pub group: Option<u32>,
+}
+
+/// The gates of an incident, which contracts see as a list.
+#[derive(Drop)]
+pub struct Gates {
+    gates: Vec<Gate>,
+}
+
+impl Model for Gates {
+    ghost use Rattle.std.specs.Prelude.{List};
+    ghost use Rattle.policy.specs.declared.gate.Gate.{Gate};
+
+    ghost Value = { List Gate };
+
+    ghost view = { λ g. g.gates.items };
+}
+
+impl Gates {
+    /// Takes no memory.
+    pub fn new(gates: Vec<Gate>) -> Gates
+        ensures { result ≡ gates.items }
+    {
+        Gates { gates }
+    }
+
+    pub fn as_slice(&self) -> &[Gate]
+        ensures { result.now ≡ self.now }
+    {
+        self.gates.as_slice()
+    }
+
+    /// Gives the gates back; takes no memory.
+    pub fn into_vec(self) -> Vec<Gate>
+        ensures { result.items ≡ self }
+    {
+        self.gates
+    }
+}
+
+/// Whether the reader passes the gate, else the rule that refuses. Levels 3 and 5 let everybody pass. Level 4 without a
+/// group is refused as one of whose group the reader's organisation is no member. A level above 5 counts as 0. Takes no
+/// memory.
+pub fn passes(standing: &Standing, gate: &Gate) -> Result<(), Rule>
+    ensures { result_err result ≡ passage_of standing.now gate.now }
+{
+    match gate.level {
+        1 => unless(Rule::G1, standing.community),
+        2 => unless(Rule::G2, standing.community || standing.connected),
+        3 | 5 => Ok(()),
+        4 => passes_group(standing, gate.group),
+        _ => unless(Rule::G0, standing.source),
+    }
+}
+
+fn unless(rule: Rule, may_pass: bool) -> Result<(), Rule>
+    ensures { result_err result ≡ refused_unless rule may_pass }
+{
+    if may_pass { Ok(()) } else { Err(rule) }
+}
+
+fn passes_group(standing: &Standing, group: Option<u32>) -> Result<(), Rule>
+    ensures { result_err result ≡ group_passage standing.now group }
+{
+    match group {
+        None => Err(Rule::G4),
+        Some(number) => {
+            if standing.active_groups.contains(number) {
+                Ok(())
+            } else if standing.groups.contains(number) {
+                Err(Rule::G4X)
+            } else {
+                Err(Rule::G4)
+            }
+        }
+    }
+}

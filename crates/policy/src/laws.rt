@@ -1,0 +1,49 @@
+//! What the policy promises whatever the document, the case and the reader are. Each law is the contract of a function
+//! that does nothing.
+
+ghost use Rattle.policy.specs.Laws.{SourceSeesAll, VisiblePassesGates, RefusalIsNearest, PermissionHidesNothing, PermissionOpensNoGate, RaisedIsClearedForMore, RaisedSeesNoLess, ClearIsNeverHidden, ClearanceIsStrictest};
+
+/// A reader of the source sees every class.
+pub fn source_sees_all()
+    ensures { SourceSeesAll }
+{}
+
+/// Whoever else sees a class passes every gate on its path.
+pub fn visible_passes_gates()
+    ensures { VisiblePassesGates }
+{}
+
+/// A refusal's rule is that of the refusing gate with the shortest path, of equal paths of the first in the list.
+pub fn refusal_is_nearest()
+    ensures { RefusalIsNearest }
+{}
+
+/// Adding a permission never hides a class.
+pub fn permission_hides_nothing()
+    ensures { PermissionHidesNothing }
+{}
+
+/// Adding a permission opens no gate: whom a gate keeps out, it keeps out by the same rule.
+pub fn permission_opens_no_gate()
+    ensures { PermissionOpensNoGate }
+{}
+
+/// A reader that is addressed, nominated, a client's or in the community as well is cleared for no less.
+pub fn raised_is_cleared_for_more()
+    ensures { RaisedIsClearedForMore }
+{}
+
+/// Raising the clearance never hides a class.
+pub fn raised_sees_no_less()
+    ensures { RaisedSeesNoLess }
+{}
+
+/// What is handled as CLEAR is hidden by gates alone.
+pub fn clear_is_never_hidden()
+    ensures { ClearIsNeverHidden }
+{}
+
+/// The clearance is the strictest that any of the rules gives.
+pub fn clearance_is_strictest()
+    ensures { ClearanceIsStrictest }
+{}

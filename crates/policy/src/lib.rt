@@ -1,0 +1,32 @@
+//! The written policy: what a reader is cleared for, which gates it passes, which permissions cover a class for it, and
+//! the verdict of each class of a document, its path judged alone (FIRST TLP 2.0, the MISP book's distribution levels and
+//! sharing groups, RFC 7970 section 3.3.1).
+#![tactic(auto)]
+
+mod case;
+mod cleared;
+mod deciding;
+mod fault;
+mod gate;
+mod inherited;
+pub mod laws;
+mod numbers;
+mod permission;
+mod rule;
+mod standing;
+mod verdict;
+
+pub use case::Case;
+pub use cleared::clearance;
+pub use deciding::decide;
+pub use fault::DecideFault;
+pub use gate::{Gate, Gates, passes};
+pub use inherited::Carried;
+pub use numbers::Numbers;
+pub use permission::{Grantee, Permission, Permissions, includes};
+pub use rule::Rule;
+pub use standing::Standing;
+pub use verdict::Verdict;
+
+#[cfg(test)]
+mod tests;

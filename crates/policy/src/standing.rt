@@ -1,0 +1,33 @@
+use crate::numbers::Numbers;
+use marking::Handling;
+
+/// How a person, the reader, stands to an incident and to its source, the organisation that posted it.
+#[derive(Drop)]
+pub struct Standing {
+    /// The reader's organisation is the source.
+    pub source: bool,
+    /// The reader is a recipient.
+    pub person: bool,
+    /// A coordinator of its own organisation nominated the reader.
+    pub nominated: bool,
+    /// The reader's organisation is a recipient.
+    pub addressed: bool,
+    /// The reader's organisation is a client of the source or of an organisation that is a recipient.
+    pub client: bool,
+    /// The reader's organisation and the source are in one community.
+    pub community: bool,
+    /// The reader's organisation is in a community that is linked to one of the source's.
+    pub connected: bool,
+    /// What the source arranged with the reader's organisation for the label `default`.
+    pub arrangement: Option<Handling>,
+    /// The number of the reader.
+    pub who: u32,
+    /// The number of the reader's organisation.
+    pub org: u32,
+    /// The groups of which the reader's organisation is a member.
+    pub groups: Numbers,
+    /// Those of them that are active.
+    pub active_groups: Numbers,
+    /// The communities of which the reader's organisation is a member.
+    pub communities: Numbers,
+}

@@ -1,0 +1,8 @@
+use crate::rule::Rule;
+
+/// Whether the reader sees a class, and the rule by which.
+#[derive(Clone, Copy, Debug, PartialEq, Eq)]
+pub enum Verdict {
+    Shown(Rule),
+    Hidden(Rule),
+}
