@@ -1,13 +1,14 @@
 -- The Incidents of a body in which nothing is refused fit its documents.
-use Rattle.std.proofs.Common.{◌≡◌, ℕ, ◌+◌, ◌≤◌, List, Bool, true, false, cond, ◌||◌, Option, Some, None, Result, Ok, Err, option_and_then, refl, sym, ap, ◌∙◌, subst, arith, Ordering, Less, Equal, Greater}
+use Rattle.std.proofs.Common.{◌≡◌, ℕ, ◌+◌, ◌≤◌, List, Bool, true, false, cond, ◌&&◌, ◌||◌, Option, Some, None, Result, Ok, Err, option_and_then, refl, sym, ap, ◌∙◌, subst, arith, Ordering, Less, Equal, Greater}
 use Rattle.std.specs.Prelude.{codes}
 use Rattle.std.specs.Ordering.{nat_cmp, match_ordering}
 use Rattle.std.specs.Cmp.Lexicographic.{slice_cmp}
+use Rattle.std.proofs.lemmas.Bool.{and_parts}
 use Rattle.serde_json.specs.Data as json
 use Rattle.serde_json.specs.Data.{Data, put}
 use Rattle.serde_json.specs.Find.{get_member, as_array, as_object}
 use Rattle.serde_json.specs.Written.{has_float, items_have_float, members_have_float}
-use Rattle.iodef_tree.specs.Fit.{AreFit, taken}
+use Rattle.iodef_tree.specs.Fit.{AreFit, taken, is_element_flat, are_flat, are_members_flat}
 use Rattle.iodef_tree.specs.Reading.{◌>>=◌, or_fault, are_incidents, if_incidents, incidents_of, documents, parsed, all_complete, plain, reading}
 use Rattle.iodef_tree.specs.Tree.{height}
 use Rattle.iodef_tree.specs.Values.{node, member_nodes, is_too_deep, items_of_data, forest_of_data}
@@ -16,13 +17,14 @@ use Rattle.iodef_tree.specs.declared.fault.ReadFault.{ReadFault}
 use Rattle.iodef_tree.specs.declared.fault.ReadFault.TheVariants.{NotDocument}
 use Rattle.iodef_tree.proofs.Exchanged.{put_twice}
 use Rattle.iodef_tree.proofs.Fitness.{head, whole, IsPlain, plain_ok}
+use Rattle.iodef_tree.proofs.Flat.{plain-flat, flat-get_member, flat-put}
 use Rattle.iodef_tree.proofs.Shallow.{tallest, low_members, height-put, height-get_member}
 
-parts : (a b : Bool) → (a || b) ≡ false → (a ≡ false) × (b ≡ false)
+pub parts : (a b : Bool) → (a || b) ≡ false → (a ≡ false) × (b ≡ false)
 parts true b e = cc
 parts false b e = (refl, e)
 
-whole_member : (k : List ℕ) (ms : json.Members) (e : Data) → members_have_float ms ≡ false → get_member k ms ≡ Some e → has_float e ≡ false
+pub whole_member : (k : List ℕ) (ms : json.Members) (e : Data) → members_have_float ms ≡ false → get_member k ms ≡ Some e → has_float e ≡ false
 whole_member k json.no_members e h is = cc
 whole_member k (json.member l d ms) e h is = step (slice_cmp nat_cmp k l) is (whole_member k ms e (parts (has_float d) (members_have_float ms) h).1)
   where
@@ -43,15 +45,17 @@ whole_put k e (json.member l d ms) p q = step (slice_cmp nat_cmp k l) (whole_put
 or_nothing : (b : Bool) → b ≡ false → (b || false) ≡ false
 or_nothing b e = rw e
 
-each_fit : (ms : json.Members) (ds : json.Items) → height (forest_of_data ms) ≤ DEPTH_LIMIT → members_have_float ms ≡ false → items_have_float ds ≡ false → tallest (items_of_data ds) ≤ DEPTH_LIMIT → AreFit ms ds
-each_fit ms json.no_items low free f h = tt
-each_fit ms (json.item d ds) low free f h =
-    let w = parts (has_float d) (items_have_float ds) f in (
+each_fit : (ms : json.Members) (ds : json.Items) → height (forest_of_data ms) ≤ DEPTH_LIMIT → members_have_float ms ≡ false → items_have_float ds ≡ false → are_members_flat ms ≡ true → are_flat ds ≡ true → tallest (items_of_data ds) ≤ DEPTH_LIMIT → AreFit ms ds
+each_fit ms json.no_items low free f flat g h = tt
+each_fit ms (json.item d ds) low free f flat g h =
+    let w = parts (has_float d) (items_have_float ds) f in
+    let x = and_parts (is_element_flat d) (are_flat ds) g in (
       record {
         whole = whole_put (codes "Incident") (json.array (json.item d json.no_items)) ms (or_nothing (has_float d) w.0) free;
         shallow = height-put (codes "Incident") (json.array (json.item d json.no_items)) ms DEPTH_LIMIT (omega arith) low;
+        flat = flat-put (codes "Incident") (json.array (json.item d json.no_items)) ms (ap (λ b. b && true) x.0) flat;
       },
-      each_fit ms ds low free w.1 (omega arith),
+      each_fit ms ds low free w.1 flat x.1 (omega arith),
     )
 
 array_of : (e : Data) (ds : json.Items) → as_array e ≡ Some ds → e ≡ json.array ds
@@ -82,14 +86,15 @@ fit_object ms ds p at =
     let free = whole (json.object ms) 0 0 p.whole in
     let low : 1 + height (forest_of_data ms) ≤ 33 = low_members ms 1 (omega arith) (head is_too_deep (node 0 0 (json.object ms)) (member_nodes 1 ms) p.shallow).1 in
     let tall = height-get_member (codes "Incident") ms (json.array ds) at in
-    each_fit ms ds (omega arith) free (whole_member (codes "Incident") ms (json.array ds) free at) (omega (arith, tall, low))
+    let flat = plain-flat ms p in
+    each_fit ms ds (omega arith) free (whole_member (codes "Incident") ms (json.array ds) free at) flat (flat-get_member (codes "Incident") ms (json.array ds) flat at) (omega (arith, tall, low))
 
 -- the same documents, whatever stands in place of the Incidents
 fit_beside : (ms : json.Members) (v : Data) (ds : json.Items) → AreFit ms ds → AreFit (put (codes "Incident") v ms) ds
 fit_beside ms v json.no_items h = tt
 fit_beside ms v (json.item d ds) h =
     let same = put_twice (codes "Incident") v (json.array (json.item d json.no_items)) ms in
-    (record { whole = rw same h.0.whole; shallow = rw same h.0.shallow }, fit_beside ms v ds h.1)
+    (record { whole = rw same h.0.whole; shallow = rw same h.0.shallow; flat = rw same h.0.flat }, fit_beside ms v ds h.1)
 
 pub documents_beside : (ms : json.Members) (v : Data) (ds : json.Items) → documents (put (codes "Incident") v ms) ds ≡ documents ms ds
 documents_beside ms v json.no_items = refl

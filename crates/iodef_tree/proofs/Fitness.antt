@@ -56,16 +56,17 @@ none_if_ok f (Some x) e = cc
 -- no value stands where `plain` would refuse it
 pub record IsPlain (d : Data) : Type 0 where
   pub whole : first_at is_not_whole (nodes 0 0 d) ≡ None
+  pub nested : first_at is_nested_class (nodes 0 0 d) ≡ None
   pub shallow : first_at is_too_deep (nodes 0 0 d) ≡ None
 
 pub plain_ok : (d : Data) → plain d ≡ Ok tt → IsPlain d
 unfolding plain
-plain_ok d e = step (first_at is_not_whole (nodes 0 0 d)) (first_at is_nested_class (nodes 0 0 d)) (first_at is_too_deep (nodes 0 0 d)) refl refl e
+plain_ok d e = step (first_at is_not_whole (nodes 0 0 d)) (first_at is_nested_class (nodes 0 0 d)) (first_at is_too_deep (nodes 0 0 d)) refl refl refl e
   where
-    step : (a b c : Option Tokens) → first_at is_not_whole (nodes 0 0 d) ≡ a → first_at is_too_deep (nodes 0 0 d) ≡ c → (unless NotWhole a >>= λ _. unless NestedClass b >>= λ _. unless (λ _. TooDeep) c) ≡ Ok tt → IsPlain d
-    step None None c p q e = record { whole = p; shallow = q ∙ none_if_ok (λ _. TooDeep) c e }
-    step None (Some x) c p q e = cc
-    step (Some x) b c p q e = cc
+    step : (a b c : Option Tokens) → first_at is_not_whole (nodes 0 0 d) ≡ a → first_at is_nested_class (nodes 0 0 d) ≡ b → first_at is_too_deep (nodes 0 0 d) ≡ c → (unless NotWhole a >>= λ _. unless NestedClass b >>= λ _. unless (λ _. TooDeep) c) ≡ Ok tt → IsPlain d
+    step None None c p n q e = record { whole = p; nested = n; shallow = q ∙ none_if_ok (λ _. TooDeep) c e }
+    step None (Some x) c p n q e = cc
+    step (Some x) b c p n q e = cc
 
 parts : (a b c : Bool) → (a || (b || c)) ≡ false → (a ≡ false) × (b ≡ false) × (c ≡ false)
 parts true b c e = cc

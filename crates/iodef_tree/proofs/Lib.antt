@@ -1,6 +1,19 @@
 pub mod Views
 pub mod Characters
 pub mod Pointers
+mod Plain
+pub mod Outlines
+mod Growing
+pub mod Sounds
+mod Accepted
+mod ValueTexts
+mod Flat
+mod Spines
+mod Writing
+mod Quoted
+mod Data
+mod Whole
+pub mod Meaning
 pub mod Order
 pub mod Apart
 pub mod Located
@@ -24,3 +37,4 @@ pub mod Shallow
 pub mod Exchanged
 pub mod Loop
 pub mod Bodies
+mod Found

@@ -8,8 +8,9 @@ use Rattle.serde_json.specs.View.{view, items_view}
 use Rattle.serde_json.specs.declared.value.Value.{Value}
 use Rattle.std.proofs.lemmas.List.Sums.{count_by-le-length}
 use Rattle.iodef_tree.specs.Reading.{◌>>=◌, if_short, document_of, documents, Fails, Gives}
-use Rattle.iodef_tree.specs.Sound.{IsOrdered, IsSound, is_label_line}
-use Rattle.iodef_tree.specs.Tree.{Forest, lines, height}
+use Rattle.iodef_tree.specs.Sound.{IsOrdered, IsSound, class_height, is_label_line}
+use Rattle.iodef_tree.specs.Texts.{HasTexts}
+use Rattle.iodef_tree.specs.Tree.{Forest, end, leaf, branch, lines, height}
 use Rattle.iodef_tree.specs.declared.TheConstants.{DEPTH_LIMIT, LINE_LIMIT}
 use Rattle.iodef_tree.specs.declared.line.Line.{Line}
 use Rattle.std.specs.Result.{IsErrAnd}
@@ -46,11 +47,18 @@ short_enough f h = rw (length-lines f 1, no_more (line_count f) LINE_LIMIT h)
 pub too_long : (f : Forest) → LINE_LIMIT < line_count f → if_short (lines 1 f) ≡ Err TooManyLines
 too_long f h = rw (length-lines f 1, more (line_count f) LINE_LIMIT h)
 
-pub sound : (f : Forest) → IsOrdered f → height f ≤ DEPTH_LIMIT → line_count f ≤ LINE_LIMIT → IsSound f
-sound f o h n = record {
+classes-low : (f : Forest) → class_height f ≤ height f
+classes-low end = omega arith
+classes-low (leaf i rest) = let a = classes-low rest in omega (arith, a)
+classes-low (branch name place kids rest) = let a = classes-low kids in let b = classes-low rest in omega (arith, a, b)
+
+pub sound : (f : Forest) → IsOrdered f → height f ≤ DEPTH_LIMIT → line_count f ≤ LINE_LIMIT → HasTexts f → IsSound f
+sound f o h n t = record {
   ordered = o;
+  classes = let a = classes-low f in omega (arith, h, a);
   shallow = omega (arith, h);
   short = let all = length-lines f 1 in let some = count_by-le-length (λ l. not (is_label_line l)) (lines 1 f) in omega (arith, all, some, n);
+  texts = t;
 }
 
 -- one document more, behind the others

@@ -1,11 +1,12 @@
 -- What reading keeps on its way, for clauses that no caller outside the crate meets.
-use Rattle.std.specs.Prelude.{◌≡◌, ◌≤◌, ℕ, suc, ◌+◌, List, [], ◌∷◌, sum_by, Bool, false, ◌||◌, Option, option_map, option_and_then, codes}
+use Rattle.std.specs.Prelude.{◌≡◌, ◌≤◌, ℕ, suc, ◌+◌, List, [], ◌∷◌, sum_by, Bool, true, false, not, ◌&&◌, ◌||◌, Option, option_map, option_and_then, codes}
 use Rattle.std.specs.List.{AllByRecursion}
 use Rattle.serde_json.specs.Data as json
 use Rattle.serde_json.specs.Data.{Data, put}
-use Rattle.serde_json.specs.Find.{as_array, as_object, get_member}
+use Rattle.serde_json.specs.Find.{as_array, as_object, get_member, is_float}
 use Rattle.serde_json.specs.Written.{members_have_float}
-use Rattle.iodef_tree.specs.Tree.{Forest, end, leaf, branch, Body, holds, says, Bodies, one, many, height}
+use Rattle.iodef_tree.specs.Texts.{is_plain, may_be_text, HasTexts}
+use Rattle.iodef_tree.specs.Tree.{Forest, end, leaf, branch, Body, holds, says, Bodies, one, many, kind_of, text_of, height}
 use Rattle.iodef_tree.specs.Sound.{IsOrdered}
 use Rattle.iodef_tree.specs.Values.{Spot, Node, is_not_whole, is_nested_class, is_too_deep}
 use Rattle.iodef_tree.specs.Reading.{with_incident, document_of}
@@ -34,6 +35,45 @@ abbrev pub AreBodiesOrdered : Bodies → Type 0
 AreBodiesOrdered (one b) = IsBodyOrdered b
 AreBodiesOrdered (many bs) = AllByRecursion IsBodyOrdered bs
 
+-- ---- the texts of plain lines
+
+abbrev pub HasBodyTexts : Bool → Body → Type 0
+HasBodyTexts in_array (holds kids) = HasTexts kids
+HasBodyTexts in_array (says content) = may_be_text (kind_of content) in_array (text_of content) ≡ true
+
+abbrev pub HaveTexts : Bodies → Type 0
+HaveTexts (one b) = HasBodyTexts false b
+HaveTexts (many bs) = AllByRecursion (HasBodyTexts true) bs
+
+-- No number but an i64 or a u64, and in an array inside an array no object and no array that is too deep: as what a
+-- member holds, and as an element of its array.
+abbrev mutual
+  pub is_flat : Data → Bool
+  is_flat json.null = true
+  is_flat (json.boolean b) = true
+  is_flat (json.number n) = not (is_float n)
+  is_flat (json.string s) = true
+  is_flat (json.array ds) = are_flat ds
+  is_flat (json.object ms) = are_members_flat ms
+
+  pub is_element_flat : Data → Bool
+  is_element_flat json.null = true
+  is_element_flat (json.boolean b) = true
+  is_element_flat (json.number n) = not (is_float n)
+  is_element_flat (json.string s) = true
+  is_element_flat (json.array ds) = is_plain DEPTH_LIMIT (json.array ds)
+  is_element_flat (json.object ms) = are_members_flat ms
+
+  pub are_flat : json.Items → Bool
+  are_flat json.no_items = true
+  are_flat (json.item d ds) = is_element_flat d && are_flat ds
+
+  pub are_members_flat : json.Members → Bool
+  are_members_flat json.no_members = true
+  are_members_flat (json.member name d ms) = is_flat d && are_members_flat ms
+
+-- ---- how many lines
+
 abbrev pub line_count : Forest → ℕ
 line_count end = 0
 line_count (leaf i rest) = suc (line_count rest)
@@ -51,6 +91,7 @@ bodies_count (many bs) = sum_by body_count bs
 pub record IsFit (root : json.Members) (incident : Data) : Type 0 where
   pub whole : members_have_float (with_incident incident root) ≡ false
   pub shallow : height (document_of incident root) ≤ DEPTH_LIMIT
+  pub flat : are_members_flat (with_incident incident root) ≡ true
 
 abbrev pub AreFit : json.Members → json.Items → Type 0
 AreFit root json.no_items = Unit {0}

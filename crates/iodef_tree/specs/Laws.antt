@@ -1,9 +1,10 @@
 -- The laws of sound trees, as later definitions stand on them.
-use Rattle.std.specs.Prelude.{◌≡◌, ℕ, [], ◌++◌, map, false, Option}
+use Rattle.std.specs.Prelude.{◌≡◌, ℕ, [], ◌++◌, map, true, false, Option}
 use Rattle.std.specs.List.{IsDistinct}
 use Rattle.iodef_tree.specs.Text.{Bytes, Tokens, same_path, is_prefix}
 use Rattle.iodef_tree.specs.Tree.{Forest, end, leaf, branch, steps, lines}
 use Rattle.iodef_tree.specs.Paths.{located, classes_of}
+use Rattle.iodef_tree.specs.Outline.{is_outline}
 use Rattle.iodef_tree.specs.Sound.{IsSound}
 use Rattle.iodef_tree.specs.Walk.{walk, AreBlocks}
 
@@ -44,3 +45,7 @@ ClassPathsAreDistinct = (f : Forest) → IsSound f → IsDistinct same_path (cla
 -- a tree is known by its lines
 abbrev pub OutlineIsOneToOne : Type 0
 OutlineIsOneToOne = (f g : Forest) → IsSound f → IsSound g → lines 1 f ≡ lines 1 g → f ≡ g
+
+-- the lines of a document are an outline
+abbrev pub LinesAreAnOutline : Type 0
+LinesAreAnOutline = (f : Forest) → IsSound f → is_outline (lines 1 f) ≡ true

@@ -2,7 +2,13 @@ pub mod Text
 pub mod Tree
 pub mod Paths
 pub mod Pointer
+pub mod Texts
 pub mod Sound
+pub mod Outline
+pub mod Shown
+pub mod Built
+pub mod Json
+pub mod Written
 pub mod View
 pub mod Walk
 pub mod Lookup
@@ -11,3 +17,4 @@ pub mod Reading
 pub mod Fit
 pub mod Laws
 pub mod Examples
+pub mod Kept

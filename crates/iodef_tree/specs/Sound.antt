@@ -1,8 +1,9 @@
 -- What the tree of each document keeps.
-use Rattle.std.specs.Prelude.{◌≡◌, ◌≤◌, ℕ, zero, suc, ◌+◌, List, count_by, Bool, true, false, not, ◌==◌, ◌&&◌, ◌||◌, Option, Some, None, codes}
+use Rattle.std.specs.Prelude.{◌≡◌, ◌≤◌, ℕ, zero, suc, ◌+◌, max, List, count_by, Bool, true, false, not, ◌==◌, ◌&&◌, ◌||◌, Option, Some, None, codes}
 use Rattle.std.specs.Str.{bytes_eq}
 use Rattle.iodef_tree.specs.Text.{Bytes, bytes_lt}
 use Rattle.iodef_tree.specs.Tree.{Forest, end, leaf, branch, lines, height}
+use Rattle.iodef_tree.specs.Texts.{HasTexts}
 use Rattle.iodef_tree.specs.Paths.{is_class_kind}
 use Rattle.iodef_tree.specs.declared.line.Line.{Line}
 use Rattle.iodef_tree.specs.declared.TheConstants.{DEPTH_LIMIT, LINE_LIMIT}
@@ -47,8 +48,16 @@ is_label_line l = (not l.in_array && not (is_class_kind l.kind)) && (bytes_eq l.
 abbrev pub counted : List Line → ℕ
 counted ls = count_by (λ l. not (is_label_line l)) ls
 
+-- how many classes stand one below the other
+abbrev pub class_height : Forest → ℕ
+class_height end = 0
+class_height (leaf i rest) = class_height rest
+class_height (branch name place kids rest) = max (suc (class_height kids)) (class_height rest)
+
 pub record IsSound (f : Forest) : Type 0 where
   pub ordered : IsOrdered f
   -- a class stands at most at the limit of depth, and its members one deeper
+  pub classes : class_height f ≤ DEPTH_LIMIT
   pub shallow : height f ≤ DEPTH_LIMIT + 1
   pub short : counted (lines 1 f) ≤ LINE_LIMIT
+  pub texts : HasTexts f

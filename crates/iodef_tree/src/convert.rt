@@ -1,12 +1,14 @@
 //! From what `serde_json` read to the tree, each text moved and not copied.
 
-ghost use Rattle.std.specs.Prelude.{◌≡◌, IfOk, false, map};
+ghost use Rattle.std.specs.Prelude.{◌≡◌, ◌≤◌, IfOk, Some, true, false, map};
 ghost use Rattle.std.specs.List.{AllByRecursion};
 ghost use Rattle.serde_json.specs.View.{view, items_view, members_view};
 ghost use Rattle.serde_json.specs.Written.{compact_text, has_float, items_have_float, members_have_float};
-ghost use Rattle.serde_json.specs.Data.{array};
+ghost use Rattle.serde_json.specs.Data.{array, depth as nesting};
+ghost use Rattle.serde_json.specs.Read.{max_depth, read as read_text};
 ghost use Rattle.iodef_tree.specs.Sound.{IsOrdered};
-ghost use Rattle.iodef_tree.specs.Fit.{IsBodyOrdered, AreBodiesOrdered};
+ghost use Rattle.iodef_tree.specs.Texts.{HasTexts};
+ghost use Rattle.iodef_tree.specs.Fit.{IsBodyOrdered, AreBodiesOrdered, HasBodyTexts, HaveTexts, is_flat, is_element_flat, are_flat, are_members_flat};
 ghost use Rattle.iodef_tree.specs.Values.{forest_of_data, bodies_of_data, body_of_data, items_of_data};
 ghost use Rattle.iodef_tree.specs.View.{forest, bodies, body};
 
@@ -18,9 +20,11 @@ use std::alloc::{AllocError, Global};
 /// The tree of an object's members. A number that is neither an i64 nor a u64 would have no text.
 #[cycle(convert)]
 pub(crate) fn object_from(alloc: Global, members: Map<String, Value>) -> Result<Object, AllocError>
-    requires { members_have_float (members_view members.entries) ≡ false }
+    requires whole { members_have_float (members_view members.entries) ≡ false }
+    requires flat { are_members_flat (members_view members.entries) ≡ true }
     ensures made { IfOk result (λ o. forest o ≡ forest_of_data (members_view members.entries)) }
     ensures ordered { IfOk result (λ o. IsOrdered (forest o)) }
+    ensures texts { IfOk result (λ o. HasTexts (forest o)) }
 {
     let mut made = Vec::with_capacity(alloc, members.len())?;
     for (name, value) in members {
@@ -32,9 +36,11 @@ pub(crate) fn object_from(alloc: Global, members: Map<String, Value>) -> Result<
 
 #[cycle(convert)]
 fn member_from(alloc: Global, value: Value) -> Result<Member, AllocError>
-    requires { has_float (view value) ≡ false }
+    requires whole { has_float (view value) ≡ false }
+    requires flat { is_flat (view value) ≡ true }
     ensures made { IfOk result (λ m. bodies m ≡ bodies_of_data (view value)) }
     ensures ordered { IfOk result (λ m. AreBodiesOrdered (bodies m)) }
+    ensures texts { IfOk result (λ m. HaveTexts (bodies m)) }
 {
     match value {
         Value::Array(items) => array_from(alloc, items),
@@ -51,9 +57,11 @@ fn member_from(alloc: Global, value: Value) -> Result<Member, AllocError>
 
 #[cycle(convert)]
 fn array_from(alloc: Global, items: Vec<Value>) -> Result<Member, AllocError>
-    requires { items_have_float (items_view items.items) ≡ false }
+    requires whole { items_have_float (items_view items.items) ≡ false }
+    requires flat { are_flat (items_view items.items) ≡ true }
     ensures made { IfOk result (λ m. bodies m ≡ bodies_of_data (array (items_view items.items))) }
     ensures ordered { IfOk result (λ m. AreBodiesOrdered (bodies m)) }
+    ensures texts { IfOk result (λ m. HaveTexts (bodies m)) }
 {
     if items.as_slice().is_empty() {
         Ok(Member::One(Item::Value(written(alloc, Value::Array(items))?)))
@@ -64,9 +72,11 @@ fn array_from(alloc: Global, items: Vec<Value>) -> Result<Member, AllocError>
 
 #[cycle(convert)]
 fn items_from(alloc: Global, items: Vec<Value>) -> Result<Vec<Item>, AllocError>
-    requires { items_have_float (items_view items.items) ≡ false }
+    requires whole { items_have_float (items_view items.items) ≡ false }
+    requires flat { are_flat (items_view items.items) ≡ true }
     ensures made { IfOk result (λ v. map body v.items ≡ items_of_data (items_view items.items)) }
     ensures ordered { IfOk result (λ v. AllByRecursion IsBodyOrdered (map body v.items)) }
+    ensures texts { IfOk result (λ v. AllByRecursion (HasBodyTexts true) (map body v.items)) }
 {
     let mut made = Vec::with_capacity(alloc, items.len())?;
     for item in items {
@@ -77,9 +87,11 @@ fn items_from(alloc: Global, items: Vec<Value>) -> Result<Vec<Item>, AllocError>
 
 #[cycle(convert)]
 fn item_from(alloc: Global, value: Value) -> Result<Item, AllocError>
-    requires { has_float (view value) ≡ false }
+    requires whole { has_float (view value) ≡ false }
+    requires flat { is_element_flat (view value) ≡ true }
     ensures made { IfOk result (λ i. body i ≡ body_of_data (view value)) }
     ensures ordered { IfOk result (λ i. IsBodyOrdered (body i)) }
+    ensures texts { IfOk result (λ i. HasBodyTexts true (body i)) }
 {
     match value {
         Value::Object(members) => Ok(Item::Class(object_from(alloc, members)?)),
@@ -94,7 +106,8 @@ fn item_from(alloc: Global, value: Value) -> Result<Item, AllocError>
 /// The compact JSON of a value.
 fn written(alloc: Global, value: Value) -> Result<Text, AllocError>
     requires { has_float (view value) ≡ false }
-    ensures { IfOk result (λ t. t ≡ compact_text (view value)) }
+    ensures text { IfOk result (λ t. t ≡ compact_text (view value)) }
+    ensures reads_back { IfOk result (λ t. nesting (view value) ≤ max_depth → read_text t ≡ Some (view value)) }
 {
     Ok(Text::new(value.to_string(alloc)?))
 }

@@ -5,14 +5,19 @@ ghost use Rattle.iodef_tree.specs.Tree.{lines};
 ghost use Rattle.iodef_tree.specs.View.{forest};
 ghost use Rattle.iodef_tree.specs.Walk.{IsBlock};
 
+use crate::builder::Builder;
 use crate::classes::classes_of;
-use crate::fault::ReadFault;
+use crate::fault::{OutlineFault, ReadFault};
 use crate::line::Line;
 use crate::lookup::object_at;
 use crate::object::Object;
 use crate::outline::outline_of;
 use crate::path::Path;
 use crate::read::read;
+use crate::shape::Shape;
+use crate::value::{id_in, member_text, object_value};
+use crate::writer::object_text;
+use serde_json::Value;
 use std::alloc::{AllocError, Global};
 use std::marker::Model;
 
@@ -37,7 +42,14 @@ impl Model for Document {
 }
 
 impl Document {
+    ghost use Rattle.std.specs.Prelude.{true, false, string_bytes, IfErr, option_map};
+    ghost use Rattle.serde_json.specs.Data.{object};
+    ghost use Rattle.serde_json.specs.Written.{compact_text};
+    ghost use Rattle.serde_json.specs.View.{view};
+    ghost use Rattle.iodef_tree.specs.Json.{data_of, incident_id as incident_id_of};
     ghost use Rattle.iodef_tree.specs.Sound.{IsSound};
+    ghost use Rattle.iodef_tree.specs.Outline.{is_outline};
+    ghost use Rattle.iodef_tree.specs.declared.fault.OutlineFault.TheVariants.{BadOutline};
     ghost use Rattle.iodef_tree.specs.Reading.{Gives, reading};
 
     /// The documents of a body, one for each Incident (RFC 8727 section 2.1), or the first of the faults in their order.
@@ -48,18 +60,61 @@ impl Document {
         read(alloc, bytes)
     }
 
-    pub(crate) fn new(root: Object) -> Document
+    /// The document of a sound tree; takes no memory.
+    pub fn new(root: Object) -> Document
         requires { IsSound (forest root) }
         ensures { result ≡ lines 1 (forest root) }
     {
         Document { root }
     }
 
-    /// The lines of the document, in stored order.
+    /// The document with these lines. BadOutline exactly where they are no outline.
+    pub fn from_outline(alloc: Global, lines: &[Line]) -> Result<Document, OutlineFault>
+        ensures ok { IfOk result (λ d. (is_outline lines.now ≡ true) × (d ≡ lines.now)) }
+        ensures err { IfErr result (λ e. e ≡ BadOutline → is_outline lines.now ≡ false) }
+    {
+        let mut shape = Shape::new(alloc);
+        let mut builder = Builder::new(alloc);
+        for line in lines {
+            if !shape.accept(line)? {
+                return Err(OutlineFault::BadOutline);
+            }
+            builder.add(line.clone()?)?;
+        }
+        Ok(builder.finish()?)
+    }
+
+    /// The lines of the document, in stored order: an outline, of which `from_outline` makes the document again.
     pub fn outline(&self, alloc: Global) -> Result<Vec<Line>, AllocError>
-        ensures { IfOk result (λ v. v.items ≡ self.now) }
+        ensures lines { IfOk result (λ v. v.items ≡ self.now) }
+        ensures outline { IfOk result (λ v. is_outline v.items ≡ true) }
     {
         outline_of(alloc, &self.root)
+    }
+
+    /// The document as compact JSON (RFC 8727 section 2).
+    pub fn text(&self, alloc: Global) -> Result<String, AllocError>
+        ensures { IfOk result (λ s. string_bytes s ≡ compact_text (object (data_of self.now))) }
+    {
+        object_text(alloc, &self.root)
+    }
+
+    /// The JSON object that the document is (RFC 8727 section 2).
+    pub fn value(&self, alloc: Global) -> Result<Value, AllocError>
+        ensures { IfOk result (λ v. view v ≡ object (data_of self.now)) }
+    {
+        Ok(Value::Object(object_value(alloc, &self.root)?))
+    }
+
+    /// The member `IncidentID` of what stands at `/Incident/0`, as compact JSON (RFC 7970 section 3.4). `None` exactly
+    /// where there is none.
+    pub fn incident_id(&self, alloc: Global) -> Result<Option<String>, AllocError>
+        ensures { IfOk result (λ o. option_map (λ s. string_bytes s) o ≡ incident_id_of self.now) }
+    {
+        match id_in(&self.root) {
+            None => Ok(None),
+            Some(id) => Ok(Some(member_text(alloc, id)?)),
+        }
     }
 
     /// The paths of the classes, in stored order.

@@ -82,3 +82,21 @@ impl<T: Drop> From<AllocFailed<T>> for ReadFault {
         ReadFault::NoMemory
     }
 }
+
+/// Why lines make no document.
+#[derive(Clone, Copy, Debug, PartialEq, Eq)]
+pub enum OutlineFault {
+    /// They are no outline.
+    BadOutline,
+    NoMemory,
+}
+
+impl From<AllocError> for OutlineFault {
+    ghost use Rattle.iodef_tree.specs.declared.fault.OutlineFault.TheVariants.{NoMemory as NoMemoryForLines};
+
+    ghost from_gives = { λ _ fault. fault ≡ NoMemoryForLines };
+
+    fn from(_refused: AllocError) -> OutlineFault {
+        OutlineFault::NoMemory
+    }
+}

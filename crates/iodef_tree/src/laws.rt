@@ -8,6 +8,7 @@ ghost use Rattle.iodef_tree.specs.Laws.{
   PathsAreDistinct,
   ClassPathsAreDistinct,
   OutlineIsOneToOne,
+  LinesAreAnOutline,
 };
 ghost use Rattle.iodef_tree.specs.Pointer.{PointerIsRead, ReadIsPrinted};
 
@@ -40,6 +41,11 @@ pub fn class_paths_are_distinct()
 /// Two documents with the same lines are the same tree.
 pub fn outline_is_one_to_one()
     ensures { OutlineIsOneToOne }
+{}
+
+/// The lines of a document are an outline.
+pub fn lines_are_an_outline()
+    ensures { LinesAreAnOutline }
 {}
 
 /// The pointer of a path is read as that path.

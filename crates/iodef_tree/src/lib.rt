@@ -1,6 +1,7 @@
 //! IODEF v2 documents in JSON (RFC 7970, RFC 8727): reading, outlines, class paths and JSON pointers (RFC 6901).
 #![tactic(auto)]
 
+mod builder;
 mod classes;
 mod convert;
 mod document;
@@ -11,21 +12,33 @@ mod line;
 mod lookup;
 mod object;
 mod outline;
+#[cfg(test)]
+mod outline_tests;
 mod path;
 mod pointer;
 mod read;
 mod room;
 mod seek;
+mod shape;
 #[cfg(test)]
 mod tests_read;
 mod text;
+mod value;
+#[cfg(test)]
+mod value_tests;
+mod value_text;
+mod writer;
+#[cfg(test)]
+mod written_back_tests;
 
+pub use builder::Builder;
 pub use document::Document;
-pub use fault::{ReadFault, Required};
+pub use fault::{OutlineFault, ReadFault, Required};
 pub use line::{Kind, Line};
 pub use object::{Item, Member, Object};
 pub use path::Path;
 pub use pointer::{PathFault, push_token};
+pub use shape::{Shape, Sibling};
 pub use text::Text;
 
 /// How many classes may stand one below the other in a document that is read.

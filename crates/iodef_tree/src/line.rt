@@ -1,4 +1,7 @@
+ghost use Rattle.std.specs.Prelude.{◌≡◌};
+
 use crate::text::Text;
+use std::alloc::AllocError;
 
 /// What a line of an outline stands for.
 #[derive(Clone, Copy, Debug, PartialEq, Eq)]
@@ -23,4 +26,20 @@ pub struct Line {
     pub kind: Kind,
     /// Of a text the string itself, of a value its compact JSON, of a class nothing.
     pub text: Text,
+}
+
+impl Clone for Line {
+    ghost is_clone = { λ line copy. copy ≡ line };
+
+    fn clone(&self) -> Result<Line, AllocError> {
+        let name = self.name.clone()?;
+        let text = self.text.clone()?;
+        Ok(Line {
+            depth: self.depth,
+            name,
+            in_array: self.in_array,
+            kind: self.kind,
+            text,
+        })
+    }
 }

@@ -1,10 +1,16 @@
-use Rattle.std.proofs.Common.{◌≡◌, ◌==◌, false, length, map, sym, ◌∙◌, subst}
+use Rattle.std.proofs.Common.{◌≡◌, ◌==◌, true, false, ap, length, map, sym, ◌∙◌, subst}
+use Rattle.serde_json.specs.View.{view, items_view}
+use Rattle.serde_json.specs.declared.value.Value.{Array}
+use Rattle.serde_json.proofs.Views.{view-Array}
+use Rattle.iodef_tree.specs.Fit.{HasBodyTexts, is_element_flat}
 use Rattle.iodef_tree.specs.Sound.{IsOrdered}
+use Rattle.iodef_tree.specs.Texts.{may_be_value, HasTexts}
 use Rattle.iodef_tree.specs.View.{body, named}
 use Rattle.std.proofs.Common.{None}
 use Rattle.iodef_tree.proofs.Given.{all_given, members_done, many_done}
 use Rattle.iodef_tree.proofs.Ordered.{Ascend, ascend_given, ordered_members}
-use Rattle.iodef_tree.proofs.Views.{bodies-Many, forest-made}
+use Rattle.iodef_tree.proofs.ValueTexts.{texts-members, inner-value, written-text}
+use Rattle.iodef_tree.proofs.Views.{body-Value, bodies-Many, forest-made}
 use Rattle.iodef_tree.proofs.convert.+convert.Goals as goal
 
 pub array_from-returns-in_ok-items_from-clause-made : goal.array_from-returns-in_ok-items_from-clause-made
@@ -19,3 +25,14 @@ object_from-returns-clause-ordered t c =
     let all = all_given (map named c.loop-name.made.items) c.args.members.entries c.loop-name.name-iterator c.in-None.ensures.steps.0 c.loop-name.invariant.made in
     let up : Ascend (map named c.loop-name.made.items) = subst Ascend (sym all) (ascend_given c.args.members.entries c.len.ensures.ordered) in
     subst IsOrdered (sym (forest-made c.loop-name.made)) (ordered_members (map named c.loop-name.made.items) None tt up c.loop-name.invariant.ordered)
+
+pub object_from-returns-clause-texts : goal.object_from-returns-clause-texts
+object_from-returns-clause-texts t c = subst HasTexts (sym (forest-made c.loop-name.made)) (texts-members (map named c.loop-name.made.items) c.loop-name.invariant.texts)
+
+pub item_from-returns-in_ok-written-in-Array-clause-texts : goal.item_from-returns-in_ok-written-in-Array-clause-texts
+item_from-returns-in_ok-written-in-Array-clause-texts t c =
+    let v = c.in-Array.items in
+    let made = c.in_ok-written-in-Array.field-0 in
+    let plain = inner-value (items_view v.items) (subst (λ d. is_element_flat d ≡ true) (ap view c.in-Array.is ∙ view-Array v) c.requires.flat) in
+    subst (HasBodyTexts true) (sym (body-Value made))
+    (written-text true (Array v) made (subst (λ d. may_be_value true d ≡ true) (sym (view-Array v)) plain) c.in_ok-written-in-Array.ensures.text c.in_ok-written-in-Array.ensures.reads_back)

@@ -13,7 +13,7 @@ use Rattle.iodef_tree.proofs.read.document_from.Goals as goal
 pub object_from-requires : goal.object_from-requires
 object_from-requires c =
     let all = put_in c.args.root.entries c.insert.new.self.entries c.in_ok-name.name c.push.new.self c.args.incident c.in_ok-insert.ensures.entries c.in_ok-name.ensures.ok (rw (c.in_ok-push.ensures.items, c.in_ok-incidents.ensures.items)) in
-    rw all c.requires.whole
+    record { whole = rw all c.requires.whole; flat = rw all c.requires.flat }
 
 pub returns-then-is_none : goal.returns-then-is_none
 returns-then-is_none c =
@@ -25,7 +25,7 @@ pub new-requires : goal.new-requires
 new-requires c =
     let all = put_in c.args.root.entries c.insert.new.self.entries c.in_ok-name.name c.push.new.self c.args.incident c.in_ok-insert.ensures.entries c.in_ok-name.ensures.ok (rw (c.in_ok-push.ensures.items, c.in_ok-incidents.ensures.items)) in
     let kept = room_kept c.room_left.result c.is_none.result (line_count (forest c.in_ok-root.root)) LINE_LIMIT c.room_left.ensures.some c.is_none.ensures c.if-is_none.false in
-    sound (forest c.in_ok-root.root) c.in_ok-root.ensures.ordered (subst (λ f. height f ≤ DEPTH_LIMIT) (sym (c.in_ok-root.ensures.made ∙ ap forest_of_data all)) c.requires.shallow) kept
+    sound (forest c.in_ok-root.root) c.in_ok-root.ensures.ordered (subst (λ f. height f ≤ DEPTH_LIMIT) (sym (c.in_ok-root.ensures.made ∙ ap forest_of_data all)) c.requires.shallow) kept c.in_ok-root.ensures.texts
 
 pub returns : goal.returns
 returns c =

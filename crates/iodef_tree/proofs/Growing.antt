@@ -1,0 +1,212 @@
+-- Members put behind others.
+use Rattle.std.proofs.Common.{◌≡◌, ℕ, suc, ◌+◌, ◌-◌, Bool, true, false, not, ◌==◌, ◌&&◌, List, [], ◌∷◌, ◌++◌, map, length, refl, sym, ◌∙◌, ap, subst, append_assoc, arith, Vec, Global, true≢false}
+use Rattle.std.specs.Prelude.{Option, Some, None}
+use Rattle.std.specs.Str.{bytes_eq}
+use Rattle.std.proofs.lemmas.List.{map-append}
+use Rattle.std.proofs.lemmas.Bool.{eq-eqb}
+use Rattle.iodef_tree.specs.Text.{Bytes}
+use Rattle.iodef_tree.specs.Tree.{Forest, end, leaf, branch, Body, holds, says, Bodies, one, many, in_front, elements, member_front, place_of, class_line, leaf_line, lines}
+use Rattle.iodef_tree.specs.Sound.{Standing}
+use Rattle.iodef_tree.specs.View.{forest_of_members, body, bodies, named, members_forest}
+use Rattle.iodef_tree.specs.Built.{is_numbered, IsNumberedBehind, IsNumbered, IsBodyNumbered, last_standing, is_filled, ends_filled, IsGrown, Grows}
+use Rattle.iodef_tree.specs.declared.text.Text.{Text}
+use Rattle.iodef_tree.specs.declared.object.Item.{Item}
+use Rattle.iodef_tree.specs.declared.object.Member.{Member}
+use Rattle.iodef_tree.specs.declared.object.Member.TheVariants.{One, Many}
+use Rattle.iodef_tree.proofs.Views.{bodies-One, bodies-Many}
+
+-- ---- one forest behind another
+
+abbrev pub append : Forest → Forest → Forest
+append end g = g
+append (leaf i rest) g = leaf i (append rest g)
+append (branch n p kids rest) g = branch n p kids (append rest g)
+
+append-assoc : (f g h : Forest) → append (append f g) h ≡ append f (append g h)
+append-assoc end g h = refl
+append-assoc (leaf i rest) g h = ap (leaf i) (append-assoc rest g h)
+append-assoc (branch n p kids rest) g h = ap (branch n p kids) (append-assoc rest g h)
+
+pub lines-append : (d : ℕ) (f g : Forest) → lines d (append f g) ≡ lines d f ++ lines d g
+lines-append d end g = refl
+lines-append d (leaf i rest) g = ap (λ ls. leaf_line d i ∷ ls) (lines-append d rest g)
+lines-append d (branch n p kids rest) g =
+    ap (λ ls. class_line d n p ∷ (lines (suc d) kids ++ ls)) (lines-append d rest g)
+    ∙ ap (λ ls. class_line d n p ∷ ls) (sym (append_assoc (lines (suc d) kids) (lines d rest) (lines d g)))
+
+last-append : (o : Option Standing) (f g : Forest) → last_standing o (append f g) ≡ last_standing (last_standing o f) g
+last-append o end g = refl
+last-append o (leaf i rest) g = last-append (Some (i.name, i.place)) rest g
+last-append o (branch n p kids rest) g = last-append (Some (n, p)) rest g
+
+numbered-append : (o : Option Standing) (f g : Forest) → IsNumberedBehind o f → IsNumberedBehind (last_standing o f) g → IsNumberedBehind o (append f g)
+numbered-append o end g h k = k
+numbered-append o (leaf i rest) g h k = (h.0, numbered-append (Some (i.name, i.place)) rest g h.1 k)
+numbered-append o (branch n p kids rest) g h k = (h.0, h.1, numbered-append (Some (n, p)) rest g h.2 k)
+
+-- ---- members, one after another
+
+front-append : (n : Bytes) (p : Option ℕ) (b : Body) (f : Forest) → in_front n p b f ≡ append (in_front n p b end) f
+front-append n p (holds kids) f = refl
+front-append n p (says c) f = refl
+
+elements-append : (n : Bytes) (k : ℕ) (bs : List Body) (f : Forest) → elements n k bs f ≡ append (elements n k bs end) f
+elements-append n k [] f = refl
+elements-append n k (b ∷ bs) f =
+    ap (in_front n (Some k) b) (elements-append n (suc k) bs f)
+    ∙ front-append n (Some k) b (append (elements n (suc k) bs end) f)
+    ∙ sym (append-assoc (in_front n (Some k) b end) (elements n (suc k) bs end) f)
+    ∙ ap (λ g. append g f) (sym (front-append n (Some k) b (elements n (suc k) bs end)))
+
+member-append : (n : Bytes) (m : Bodies) (f : Forest) → member_front n m f ≡ append (member_front n m end) f
+member-append n (one b) f = front-append n None b f
+member-append n (many bs) f = elements-append n 0 bs f
+
+pub members-append : (xs ys : List (Bytes × Bodies)) → forest_of_members (xs ++ ys) ≡ append (forest_of_members xs) (forest_of_members ys)
+members-append [] ys = refl
+members-append (x ∷ xs) ys =
+    ap (member_front x.0 x.1) (members-append xs ys)
+    ∙ member-append x.0 x.1 (append (forest_of_members xs) (forest_of_members ys))
+    ∙ sym (append-assoc (member_front x.0 x.1 end) (forest_of_members xs) (forest_of_members ys))
+    ∙ ap (λ g. append g (forest_of_members ys)) (sym (member-append x.0 x.1 (forest_of_members xs)))
+
+pub members-push : (ms : List (Text × Member)) (m : Text × Member) → members_forest (ms ++ m ∷ []) ≡ append (members_forest ms) (member_front m.0 (bodies m.1) end)
+members-push ms m = ap forest_of_members (map-append named ms (m ∷ [])) ∙ members-append (map named ms) (named m ∷ [])
+
+elements-push : (n : Bytes) (k : ℕ) (bs : List Body) (b : Body) → elements n k (bs ++ b ∷ []) end ≡ append (elements n k bs end) (in_front n (Some (k + length bs)) b end)
+elements-push n k [] b = ap (λ j. in_front n (Some j) b end) (omega arith)
+elements-push n k (x ∷ bs) b =
+    ap (in_front n (Some k) x) (elements-push n (suc k) bs b ∙ ap (λ j. append (elements n (suc k) bs end) (in_front n (Some j) b end)) (omega arith))
+    ∙ front-append n (Some k) x (append (elements n (suc k) bs end) (in_front n (Some (k + length (x ∷ bs))) b end))
+    ∙ sym (append-assoc (in_front n (Some k) x end) (elements n (suc k) bs end) (in_front n (Some (k + length (x ∷ bs))) b end))
+    ∙ ap (λ g. append g (in_front n (Some (k + length (x ∷ bs))) b end)) (sym (front-append n (Some k) x (elements n (suc k) bs end)))
+
+-- ---- the last of them
+
+last-front : (o : Option Standing) (n : Bytes) (p : Option ℕ) (b : Body) (f : Forest) → last_standing o (in_front n p b f) ≡ last_standing (Some (n, p)) f
+last-front o n p (holds kids) f = refl
+last-front o n p (says c) f = refl
+
+last-elements : (o : Option Standing) (n : Bytes) (k : ℕ) (b : Body) (bs : List Body) → last_standing o (elements n k (b ∷ bs) end) ≡ Some (n, Some (k + length bs))
+last-elements o n k b [] = last-front o n (Some k) b end ∙ ap (λ j. Some (n, Some j)) (omega arith)
+last-elements o n k b (c ∷ bs) =
+    last-front o n (Some k) b (elements n (suc k) (c ∷ bs) end)
+    ∙ last-elements (Some (n, Some k)) n (suc k) c bs
+    ∙ ap (λ j. Some (n, Some j)) (omega arith)
+
+numbered-front : (o : Option Standing) (n : Bytes) (p : Option ℕ) (b : Body) → is_numbered o n p ≡ true → IsBodyNumbered b → IsNumberedBehind o (in_front n p b end)
+numbered-front o n p (holds kids) h k = (h, k, tt)
+numbered-front o n p (says c) h k = (h, tt)
+
+-- the lines don't say the number
+lines-front : (d : ℕ) (n : Bytes) (j k : ℕ) (b : Body) → lines d (in_front n (Some j) b end) ≡ lines d (in_front n (Some k) b end)
+lines-front d n j k (holds kids) = refl
+lines-front d n j k (says c) = refl
+
+ends-push : (xs : List (Bytes × Bodies)) (x : Bytes × Bodies) → ends_filled (xs ++ x ∷ []) ≡ is_filled x.1
+ends-push [] x = refl
+ends-push (y ∷ []) x = refl
+ends-push (y ∷ z ∷ xs) x = ends-push (z ∷ xs) x
+
+ends-members : (ms : List (Text × Member)) (m : Text × Member) → ends_filled (map named (ms ++ m ∷ [])) ≡ is_filled (bodies m.1)
+ends-members ms m = ap ends_filled (map-append named ms (m ∷ [])) ∙ ends-push (map named ms) (named m)
+
+bytes_eq-same : (x : Bytes) → bytes_eq x x ≡ true
+bytes_eq-same [] = refl
+bytes_eq-same (c ∷ cs) = ap (λ b. b && bytes_eq cs cs) (eq-eqb c c refl) ∙ bytes_eq-same cs
+
+-- ---- one thing more at the end
+
+-- whatever is put behind the members
+grows : (old new : List (Text × Member)) (n : Bytes) (p : Option ℕ) (in_array : Bool) (b : Body) →
+    members_forest new ≡ append (members_forest old) (in_front n p b end) → ((d : ℕ) → lines d (in_front n p b end) ≡ lines d (in_front n (place_of in_array 0) b end)) →
+    IsGrown old → IsBodyNumbered b → is_numbered (last_standing None (members_forest old)) n p ≡ true → ends_filled (map named new) ≡ true → Grows old n in_array b new
+grows old new n p in_array b made same h k fits filled = record {
+  grown = record {
+    numbered = subst IsNumbered (sym made) (numbered-append None (members_forest old) (in_front n p b end) h.numbered (numbered-front (last_standing None (members_forest old)) n p b fits k));
+    filled = filled;
+  };
+  lines = λ d. ap (lines d) made ∙ lines-append d (members_forest old) (in_front n p b end) ∙ ap (λ ls. lines d (members_forest old) ++ ls) (same d);
+}
+
+-- a member that is no array
+pub grows-one : (old : List (Text × Member)) (n : Text) (i : Item) → IsGrown old → IsBodyNumbered (body i) → Grows old n false (body i) (old ++ (n, One i) ∷ [])
+grows-one old n i h k =
+    grows old (old ++ (n, One i) ∷ []) n None false (body i)
+    (members-push old (n, One i) ∙ ap (λ m. append (members_forest old) (member_front n m end)) (bodies-One i))
+    (λ d. refl) h k refl
+    (ends-members old (n, One i) ∙ ap is_filled (bodies-One i))
+
+-- an array of one element
+pub grows-array : (old : List (Text × Member)) (n : Text) (i : Item) (v : Vec Item Global) → v.items ≡ i ∷ [] → IsGrown old → IsBodyNumbered (body i) →
+    is_numbered (last_standing None (members_forest old)) n (Some 0) ≡ true → Grows old n true (body i) (old ++ (n, Many v) ∷ [])
+grows-array old n i v is h k fits =
+    let held : bodies (Many v) ≡ many (body i ∷ []) = bodies-Many v ∙ ap (λ xs. many (map body xs)) is in
+    grows old (old ++ (n, Many v) ∷ []) n (Some 0) true (body i)
+    (members-push old (n, Many v) ∙ ap (λ m. append (members_forest old) (member_front n m end)) held)
+    (λ d. refl) h k fits
+    (ends-members old (n, Many v) ∙ ap is_filled held)
+
+-- what the last member is
+last-push : (P : List (Text × Member)) (m : Text × Member) →
+    last_standing None (members_forest (P ++ m ∷ [])) ≡ last_standing (last_standing None (members_forest P)) (member_front m.0 (bodies m.1) end)
+last-push P m = ap (last_standing None) (members-push P m) ∙ last-append None (members_forest P) (member_front m.0 (bodies m.1) end)
+
+-- an array may begin behind a member that is none
+pub first-behind_one : (P : List (Text × Member)) (n : Text) (i : Item) (name : Bytes) →
+    is_numbered (last_standing None (members_forest (P ++ (n, One i) ∷ []))) name (Some 0) ≡ true
+first-behind_one P n i name =
+    ap (λ o. is_numbered o name (Some 0)) (
+    last-push P (n, One i)
+    ∙ ap (λ m. last_standing (last_standing None (members_forest P)) (member_front n m end)) (bodies-One i)
+    ∙ last-front (last_standing None (members_forest P)) n None (body i) end
+    )
+
+-- the standing of the last element of an array that has one
+last-array : (o : Option Standing) (n : Bytes) (bs : List Body) → is_filled (many bs) ≡ true → last_standing o (elements n 0 bs end) ≡ Some (n, Some (length bs - 1))
+last-array o n [] h = absurd (true≢false (sym h))
+last-array o n (b ∷ bs) h = last-elements o n 0 b bs ∙ ap (λ j. Some (n, Some j)) (omega arith)
+
+last-many : (P : List (Text × Member)) (n : Text) (v : Vec Item Global) → IsGrown (P ++ (n, Many v) ∷ []) →
+    last_standing None (members_forest (P ++ (n, Many v) ∷ [])) ≡ Some (n, Some (length (map body v.items) - 1))
+last-many P n v h =
+    last-push P (n, Many v)
+    ∙ ap (λ m. last_standing (last_standing None (members_forest P)) (member_front n m end)) (bodies-Many v)
+    ∙ last-array (last_standing None (members_forest P)) n (map body v.items) (sym (ends-members P (n, Many v) ∙ ap is_filled (bodies-Many v)) ∙ h.filled)
+
+-- an array may begin behind one of another name
+pub first-behind_many : (P : List (Text × Member)) (n : Text) (v : Vec Item Global) (name : Bytes) → IsGrown (P ++ (n, Many v) ∷ []) → bytes_eq n name ≡ false →
+    is_numbered (last_standing None (members_forest (P ++ (n, Many v) ∷ []))) name (Some 0) ≡ true
+first-behind_many P n v name h differs = ap (λ o. is_numbered o name (Some 0)) (last-many P n v h) ∙ ap not differs
+
+filled-length : (bs : List Body) → is_filled (many bs) ≡ true → length bs ≡ suc (length bs - 1)
+filled-length [] h = absurd (true≢false (sym h))
+filled-length (b ∷ bs) h = omega arith
+
+filled-push : (bs : List Body) (b : Body) → is_filled (many (bs ++ b ∷ [])) ≡ true
+filled-push [] b = refl
+filled-push (x ∷ bs) b = refl
+
+next-fits : (n : Bytes) (j k : ℕ) → k ≡ suc j → is_numbered (Some (n, Some j)) n (Some k) ≡ true
+next-fits n j k e = ap (λ i. is_numbered (Some (n, Some j)) n (Some i)) e ∙ ap (λ b. b && (j == j)) (bytes_eq-same n) ∙ eq-eqb j j refl
+
+-- one more element of the last array
+pub grows-element : (P : List (Text × Member)) (n : Text) (i : Item) (v w : Vec Item Global) → w.items ≡ v.items ++ i ∷ [] →
+    IsGrown (P ++ (n, Many v) ∷ []) → IsBodyNumbered (body i) → Grows (P ++ (n, Many v) ∷ []) n true (body i) (P ++ (n, Many w) ∷ [])
+grows-element P n i v w is h k =
+    let bs = map body v.items in
+    let b = body i in
+    let F = members_forest P in
+    let k' = length bs in
+    let full : is_filled (many bs) ≡ true = sym (ends-members P (n, Many v) ∙ ap is_filled (bodies-Many v)) ∙ h.filled in
+    let held : bodies (Many w) ≡ many (bs ++ b ∷ []) = bodies-Many w ∙ ap (λ xs. many (map body xs)) is ∙ ap many (map-append body v.items (i ∷ [])) in
+    grows (P ++ (n, Many v) ∷ []) (P ++ (n, Many w) ∷ []) n (Some k') true b
+    (members-push P (n, Many w)
+    ∙ ap (λ m. append F (member_front n m end)) held
+    ∙ ap (append F) (elements-push n 0 bs b ∙ ap (λ j. append (elements n 0 bs end) (in_front n (Some j) b end)) (omega arith))
+    ∙ sym (append-assoc F (elements n 0 bs end) (in_front n (Some k') b end))
+    ∙ ap (λ m. append (append F (member_front n m end)) (in_front n (Some k') b end)) (sym (bodies-Many v))
+    ∙ ap (λ f. append f (in_front n (Some k') b end)) (sym (members-push P (n, Many v))))
+    (λ d. lines-front d n k' 0 b) h k
+    (ap (λ o. is_numbered o n (Some k')) (last-many P n v h) ∙ next-fits n (k' - 1) k' (filled-length bs full))
+    (ends-members P (n, Many w) ∙ ap is_filled held ∙ filled-push bs b)

@@ -1,0 +1,279 @@
+-- The text of a tree is that of the JSON object which its lines mean.
+use Rattle.std.proofs.Common.{◌≡◌, ℕ, zero, suc, ◌<◌, Bool, true, false, ◌&&◌, List, [], ◌∷◌, ◌++◌, refl, sym, ◌∙◌, ap, append_assoc, append-nil, arith, if◌then◌else◌, ◌==◌, true≢false, Ordering, Less, Equal, Greater}
+use Rattle.std.specs.Prelude.{Option, Some, None, is_some, nat_lt, unwrap_or}
+use Rattle.std.specs.Option.{option_map_or}
+use Rattle.std.specs.Ordering.{nat_cmp, is_lt, is_eq}
+use Rattle.std.specs.Cmp.Lexicographic.{slice_cmp}
+use Rattle.std.specs.Str.{bytes_eq}
+use Rattle.std.proofs.lemmas.Bool.{cond-true, cond-false, ne_eqb, eq-eqb, lt-ltb, le-ltb, and_parts}
+use Rattle.std.proofs.lemmas.Slice.Eq.{bytes_eq-Decides}
+use Rattle.std.proofs.lemmas.Map.Text.{is_eq-slice_cmp}
+use Rattle.json.specs.Print.{quoted}
+use Rattle.serde_json.specs.Data as json
+use Rattle.serde_json.specs.Data.{Data}
+use Rattle.serde_json.specs.Read.{read}
+use Rattle.serde_json.specs.Written.{comma_if, compact_text, items_text, members_text}
+use Rattle.iodef_tree.specs.Text.{Bytes, bytes_lt}
+use Rattle.iodef_tree.specs.Texts.{may_be_value, may_be_text, HasTexts}
+use Rattle.iodef_tree.specs.Tree.{Content, text, value, Forest, end, leaf, branch, kind_of, text_of, leaf_line, class_line, lines}
+use Rattle.iodef_tree.specs.Sound.{Standing, may_stand, IsOrderedBehind, IsSound}
+use Rattle.iodef_tree.specs.Outline.{sibling}
+use Rattle.iodef_tree.specs.Json.{continues, datum, members_from, items_from, data_of}
+use Rattle.iodef_tree.specs.Written.{content_text, front_text, is_later_place, goes_on, close_text, written, content_data, placed_member, placed_item, members_of, items_of}
+use Rattle.iodef_tree.specs.declared.line.Line.{Line}
+use Rattle.iodef_tree.specs.declared.shape.Sibling.{Sibling}
+
+-- ---- the text of the value that a tree is
+
+value-text : (a : Bool) (s : Bytes) (o : Option Data) → option_map_or (λ d. may_be_value a d && bytes_eq (compact_text d) s) o false ≡ true → compact_text (unwrap_or o json.null) ≡ s
+value-text a s None h = absurd (true≢false (sym h))
+value-text a s (Some d) h = (bytes_eq-Decides (compact_text d) s).0 ((and_parts (may_be_value a d) (bytes_eq (compact_text d) s) h).1)
+
+content-means : (a : Bool) (c : Content) → may_be_text (kind_of c) a (text_of c) ≡ true → content_text c ≡ compact_text (content_data c)
+content-means a (text s) h = refl
+content-means a (value s) h = sym (value-text a s (read s) h)
+
+-- no array goes on behind what is no element, and none at first
+starts : (f : Forest) → IsOrderedBehind None f → goes_on f ≡ false
+starts end h = refl
+starts (leaf i rest) h = first i.place h.0
+  where
+    first : (p : Option ℕ) → may_stand None i.name p ≡ true → is_later_place p ≡ false
+    first None k = refl
+    first (Some zero) k = refl
+    first (Some (suc j)) k = absurd (true≢false (sym k))
+starts (branch n q kids rest) h = first q h.0
+  where
+    first : (p : Option ℕ) → may_stand None n p ≡ true → is_later_place p ≡ false
+    first None k = refl
+    first (Some zero) k = refl
+    first (Some (suc j)) k = absurd (true≢false (sym k))
+
+ends : (n : Bytes) (f : Forest) → IsOrderedBehind (Some (n, None)) f → goes_on f ≡ false
+ends n end h = refl
+ends n (leaf i rest) h = next i.place h.0
+  where
+    next : (p : Option ℕ) → may_stand (Some (n, None)) i.name p ≡ true → is_later_place p ≡ false
+    next None k = refl
+    next (Some zero) k = refl
+    next (Some (suc j)) k = absurd (true≢false (sym k))
+ends n (branch m q kids rest) h = next q h.0
+  where
+    next : (p : Option ℕ) → may_stand (Some (n, None)) m p ≡ true → is_later_place p ≡ false
+    next None k = refl
+    next (Some zero) k = refl
+    next (Some (suc j)) k = absurd (true≢false (sym k))
+
+-- what is written of a tree is the text of its members, or goes on with the elements of an array
+record Means (w : Bool → Bytes) (goes : Bool) (close : Bytes) (ds : json.Items) (ms : json.Members) : Type 0 where
+  pub members : (later : Bool) → goes ≡ false → w later ++ 125 ∷ [] ≡ members_text later ms
+  pub items : close ++ (w true ++ 125 ∷ []) ≡ items_text true ds ++ members_text true ms
+
+inner : (a t c w e : Bytes) → (a ++ (t ++ (c ++ w))) ++ e ≡ a ++ (t ++ (c ++ (w ++ e)))
+inner a t c w e =
+    append_assoc a (t ++ (c ++ w)) e ∙ ap (λ x. a ++ x) (append_assoc t (c ++ w) e ∙ ap (λ x. t ++ x) (append_assoc c w e))
+
+named-front : (later : Bool) (n s t : Bytes) → (comma_if later ++ (quoted n ++ 58 ∷ s)) ++ t ≡ comma_if later ++ (quoted n ++ 58 ∷ (s ++ t))
+named-front later n s t = append_assoc (comma_if later) (quoted n ++ 58 ∷ s) t ∙ ap (λ x. comma_if later ++ x) (append_assoc (quoted n) (58 ∷ s) t)
+
+abbrev closing : Bool → Bytes
+closing goes = if goes then [] else 93 ∷ []
+
+-- one thing in front
+in_front-means : (n : Bytes) (p : Option ℕ) (t : Bytes) (d : Data) (rest : Forest) → t ≡ compact_text d → (p ≡ None → goes_on rest ≡ false) →
+    Means (λ later. written later rest) (goes_on rest) (closing (goes_on rest)) (items_of rest) (members_of rest) →
+    Means (λ later. front_text later n p ++ (t ++ (close_text p rest ++ written true rest))) (is_later_place p) (closing (is_later_place p)) (placed_item p d (items_of rest)) (placed_member n p d (items_of rest) (members_of rest))
+in_front-means n None t d rest is alone k =
+    let said = λ (later : Bool).
+    inner (comma_if later ++ (quoted n ++ 58 ∷ [])) t [] (written true rest) (125 ∷ [])
+    ∙ named-front later n [] (t ++ (written true rest ++ 125 ∷ []))
+    ∙ ap (λ x. comma_if later ++ (quoted n ++ 58 ∷ (t ++ x))) (k.members true (alone refl))
+    ∙ ap (λ x. comma_if later ++ (quoted n ++ 58 ∷ (x ++ members_text true (members_of rest)))) is in
+    record { members = λ later h. said later; items = ap (λ x. 93 ∷ x) (said true) }
+in_front-means n (Some zero) t d rest is alone k =
+    let said = λ (later : Bool).
+    inner (comma_if later ++ (quoted n ++ 58 ∷ 91 ∷ [])) t (closing (goes_on rest)) (written true rest) (125 ∷ [])
+    ∙ named-front later n (91 ∷ []) (t ++ (closing (goes_on rest) ++ (written true rest ++ 125 ∷ [])))
+    ∙ ap (λ x. comma_if later ++ (quoted n ++ 58 ∷ 91 ∷ (t ++ x))) k.items
+    ∙ ap (λ x. comma_if later ++ (quoted n ++ 58 ∷ 91 ∷ (x ++ (items_text true (items_of rest) ++ members_text true (members_of rest))))) is
+    ∙ ap (λ x. comma_if later ++ (quoted n ++ 58 ∷ 91 ∷ x)) (sym (append_assoc (compact_text d) (items_text true (items_of rest)) (members_text true (members_of rest)))) in
+    record { members = λ later h. said later; items = ap (λ x. 93 ∷ x) (said true) }
+in_front-means n (Some (suc j)) t d rest is alone k = record {
+  members = λ later h. absurd (true≢false h);
+  items =
+      inner (44 ∷ []) t (closing (goes_on rest)) (written true rest) (125 ∷ [])
+      ∙ ap (λ x. 44 ∷ (t ++ x)) k.items
+      ∙ ap (λ x. 44 ∷ (x ++ (items_text true (items_of rest) ++ members_text true (members_of rest)))) is
+      ∙ ap (λ x. 44 ∷ x) (sym (append_assoc (compact_text d) (items_text true (items_of rest)) (members_text true (members_of rest))));
+}
+
+alone-behind : (n : Bytes) (p : Option ℕ) (rest : Forest) → IsOrderedBehind (Some (n, p)) rest → p ≡ None → goes_on rest ≡ false
+alone-behind n None rest h e = ends n rest h
+alone-behind n (Some k) rest h e = cc
+
+means : (f : Forest) (o : Option Standing) → IsOrderedBehind o f → HasTexts f → Means (λ later. written later f) (goes_on f) (closing (goes_on f)) (items_of f) (members_of f)
+means end o h k = record { members = λ later e. refl; items = refl }
+means (leaf i rest) o h k =
+    in_front-means i.name i.place (content_text i.content) (content_data i.content) rest (content-means (is_some i.place) i.content k.0) (alone-behind i.name i.place rest h.1) (means rest (Some (i.name, i.place)) h.1 k.1)
+means (branch n p kids rest) o h k =
+    in_front-means n p (123 ∷ (written false kids ++ 125 ∷ [])) (json.object (members_of kids)) rest
+    (ap (λ x. 123 ∷ x) ((means kids None h.1 k.0).members false (starts kids h.1)))
+    (alone-behind n p rest h.2)
+    (means rest (Some (n, p)) h.2 k.1)
+
+-- ---- the value that the lines mean
+
+lt-ne : (o : Ordering) → is_lt o ≡ true → is_eq o ≡ false
+lt-ne Less h = refl
+lt-ne Equal h = absurd (true≢false (sym h))
+lt-ne Greater h = absurd (true≢false (sym h))
+
+other-name : (x y : Bytes) → bytes_lt x y ≡ true → bytes_eq x y ≡ false
+other-name x y h = sym (is_eq-slice_cmp x y) ∙ lt-ne (slice_cmp nat_cmp x y) h
+
+abbrev as_sibling : Option Standing → Option Sibling
+as_sibling None = None
+as_sibling (Some s) = Some (record { name = s.0; in_array = is_some s.1 })
+
+and-false : (a b : Bool) → (a && (b && false)) ≡ false
+and-false true true = refl
+and-false true false = refl
+and-false false b = refl
+
+-- a line goes on with its sibling's array where its place is a later one
+continues-is : (o : Option Standing) (l : Line) (p : Option ℕ) → l.in_array ≡ is_some p → may_stand o l.name p ≡ true → continues (as_sibling o) l ≡ is_later_place p
+continues-is None l None a h = refl
+continues-is None l (Some zero) a h = refl
+continues-is None l (Some (suc k)) a h = absurd (true≢false (sym h))
+continues-is (Some (n, q)) l None a h = ap (λ b. bytes_eq n l.name && (is_some q && b)) a ∙ and-false (bytes_eq n l.name) (is_some q)
+continues-is (Some (n, q)) l (Some zero) a h = ap (λ b. b && (is_some q && l.in_array)) (other-name n l.name (first-stands q h))
+  where
+    first-stands : (r : Option ℕ) → may_stand (Some (n, r)) l.name (Some zero) ≡ true → bytes_lt n l.name ≡ true
+    first-stands None k = k
+    first-stands (Some j) k = k
+continues-is (Some (n, None)) l (Some (suc k)) a h = absurd (true≢false (sym h))
+continues-is (Some (n, Some j)) l (Some (suc k)) a h = ap (λ b. b && (true && l.in_array)) ((and_parts (bytes_eq n l.name) (j == k) h).0) ∙ a
+
+-- ---- lines that are passed by
+
+head-in : (l : Line) (ls : List Line) (d : ℕ) (o : Option Sibling) → l.depth ≡ d →
+    members_from d o (l ∷ ls) ≡ (if continues o l then members_from d (Some (sibling l)) ls
+    else (if l.in_array then json.member l.name (json.array (json.item (datum l.kind l.text (members_from (suc d) None ls)) (items_from d (Some (sibling l)) ls))) (members_from d (Some (sibling l)) ls)
+    else json.member l.name (datum l.kind l.text (members_from (suc d) None ls)) (members_from d (Some (sibling l)) ls)))
+head-in l ls d o e = cond-false (nat_lt l.depth d) _ _ (le-ltb l.depth d (omega (arith, e))) ∙ cond-true (l.depth == d) _ _ (eq-eqb l.depth d e)
+
+head-items : (l : Line) (ls : List Line) (d : ℕ) (o : Option Sibling) → l.depth ≡ d →
+    items_from d o (l ∷ ls) ≡ (if continues o l then json.item (datum l.kind l.text (members_from (suc d) None ls)) (items_from d (Some (sibling l)) ls) else json.no_items)
+head-items l ls d o e = cond-false (nat_lt l.depth d) _ _ (le-ltb l.depth d (omega (arith, e))) ∙ cond-true (l.depth == d) _ _ (eq-eqb l.depth d e)
+
+pass-members : (l : Line) (ls : List Line) (d : ℕ) (o : Option Sibling) → d < l.depth → members_from d o (l ∷ ls) ≡ members_from d o ls
+pass-members l ls d o h = cond-false (nat_lt l.depth d) _ _ (le-ltb l.depth d (omega (arith, h))) ∙ cond-false (l.depth == d) _ _ (ne_eqb l.depth d (λ e. omega (arith, h, e)))
+
+pass-items : (l : Line) (ls : List Line) (d : ℕ) (o : Option Sibling) → d < l.depth → items_from d o (l ∷ ls) ≡ items_from d o ls
+pass-items l ls d o h = cond-false (nat_lt l.depth d) _ _ (le-ltb l.depth d (omega (arith, h))) ∙ cond-false (l.depth == d) _ _ (ne_eqb l.depth d (λ e. omega (arith, h, e)))
+
+skip-members : (f : Forest) (n d : ℕ) (o : Option Sibling) (X : List Line) → d < n → members_from d o (lines n f ++ X) ≡ members_from d o X
+skip-members end n d o X h = refl
+skip-members (leaf i rest) n d o X h = pass-members (leaf_line n i) (lines n rest ++ X) d o h ∙ skip-members rest n d o X h
+skip-members (branch m p kids rest) n d o X h =
+    pass-members (class_line n m p) ((lines (suc n) kids ++ lines n rest) ++ X) d o h
+    ∙ ap (members_from d o) (append_assoc (lines (suc n) kids) (lines n rest) X)
+    ∙ skip-members kids (suc n) d o (lines n rest ++ X) (omega (arith, h))
+    ∙ skip-members rest n d o X h
+
+skip-items : (f : Forest) (n d : ℕ) (o : Option Sibling) (X : List Line) → d < n → items_from d o (lines n f ++ X) ≡ items_from d o X
+skip-items end n d o X h = refl
+skip-items (leaf i rest) n d o X h = pass-items (leaf_line n i) (lines n rest ++ X) d o h ∙ skip-items rest n d o X h
+skip-items (branch m p kids rest) n d o X h =
+    pass-items (class_line n m p) ((lines (suc n) kids ++ lines n rest) ++ X) d o h
+    ∙ ap (items_from d o) (append_assoc (lines (suc n) kids) (lines n rest) X)
+    ∙ skip-items kids (suc n) d o (lines n rest ++ X) (omega (arith, h))
+    ∙ skip-items rest n d o X h
+
+-- the list begins less deep
+abbrev Stops : ℕ → List Line → Type 0
+Stops d [] = Unit {0}
+Stops d (l ∷ ls) = l.depth < d
+
+stops-members : (X : List Line) (d : ℕ) (o : Option Sibling) → Stops d X → members_from d o X ≡ json.no_members
+stops-members [] d o h = refl
+stops-members (l ∷ ls) d o h = cond-true (nat_lt l.depth d) _ _ (lt-ltb l.depth d h)
+
+stops-items : (X : List Line) (d : ℕ) (o : Option Sibling) → Stops d X → items_from d o X ≡ json.no_items
+stops-items [] d o h = refl
+stops-items (l ∷ ls) d o h = cond-true (nat_lt l.depth d) _ _ (lt-ltb l.depth d h)
+
+stops-more : (X : List Line) (d : ℕ) → Stops d X → Stops (suc d) X
+stops-more [] d h = tt
+stops-more (l ∷ ls) d h = omega (arith, h)
+
+stops-below : (f : Forest) (d : ℕ) (X : List Line) → Stops d X → Stops (suc d) (lines d f ++ X)
+stops-below end d X h = stops-more X d h
+stops-below (leaf i rest) d X h = omega arith
+stops-below (branch n p kids rest) d X h = omega arith
+
+-- ---- line by line
+
+choose-member : (n : Bytes) (p : Option ℕ) (c a : Bool) (D : Data) (ds : json.Items) (ms : json.Members) → c ≡ is_later_place p → a ≡ is_some p →
+    (if c then ms else (if a then json.member n (json.array (json.item D ds)) ms else json.member n D ms)) ≡ placed_member n p D ds ms
+choose-member n None c a D ds ms e g = cond-false c _ _ e ∙ cond-false a _ _ g
+choose-member n (Some zero) c a D ds ms e g = cond-false c _ _ e ∙ cond-true a _ _ g
+choose-member n (Some (suc k)) c a D ds ms e g = cond-true c _ _ e
+
+choose-item : (p : Option ℕ) (c : Bool) (D : Data) (ds : json.Items) → c ≡ is_later_place p → (if c then json.item D ds else json.no_items) ≡ placed_item p D ds
+choose-item None c D ds e = cond-false c _ _ e
+choose-item (Some zero) c D ds e = cond-false c _ _ e
+choose-item (Some (suc k)) c D ds e = cond-true c _ _ e
+
+plain-datum : (c : Content) (ms : json.Members) → datum (kind_of c) (text_of c) ms ≡ content_data c
+plain-datum (text s) ms = refl
+plain-datum (value s) ms = refl
+
+record Tells (d : ℕ) (o : Option Standing) (ls : List Line) (ds : json.Items) (ms : json.Members) : Type 0 where
+  pub members : members_from d (as_sibling o) ls ≡ ms
+  pub items : items_from d (as_sibling o) ls ≡ ds
+
+one-tells : (d : ℕ) (o : Option Standing) (l : Line) (p : Option ℕ) (ls : List Line) (D : Data) (ds : json.Items) (ms : json.Members) → l.depth ≡ d → l.in_array ≡ is_some p →
+    may_stand o l.name p ≡ true → datum l.kind l.text (members_from (suc d) None ls) ≡ D →
+    members_from d (Some (sibling l)) ls ≡ ms → items_from d (Some (sibling l)) ls ≡ ds → Tells d o (l ∷ ls) (placed_item p D ds) (placed_member l.name p D ds ms)
+one-tells d o l p ls D ds ms deep a fits is m i =
+    let c = continues-is o l p a fits in record {
+      members =
+          head-in l ls d (as_sibling o) deep
+          ∙ choose-member l.name p (continues (as_sibling o) l) l.in_array (datum l.kind l.text (members_from (suc d) None ls)) (items_from d (Some (sibling l)) ls) (members_from d (Some (sibling l)) ls) c a
+          ∙ ap (λ x. placed_member l.name p x (items_from d (Some (sibling l)) ls) (members_from d (Some (sibling l)) ls)) is
+          ∙ ap (λ x. placed_member l.name p D x (members_from d (Some (sibling l)) ls)) i
+          ∙ ap (placed_member l.name p D ds) m;
+      items =
+          head-items l ls d (as_sibling o) deep
+          ∙ choose-item p (continues (as_sibling o) l) (datum l.kind l.text (members_from (suc d) None ls)) (items_from d (Some (sibling l)) ls) c
+          ∙ ap (λ x. placed_item p x (items_from d (Some (sibling l)) ls)) is
+          ∙ ap (placed_item p D) i;
+    }
+
+tells : (f : Forest) (d : ℕ) (o : Option Standing) (X : List Line) → IsOrderedBehind o f → Stops d X → Tells d o (lines d f ++ X) (items_of f) (members_of f)
+tells end d o X h k = record { members = stops-members X d (as_sibling o) k; items = stops-items X d (as_sibling o) k }
+tells (leaf i rest) d o X h k =
+    let r = tells rest d (Some (i.name, i.place)) X h.1 k in
+    let ls = lines d rest ++ X in
+    one-tells d o (leaf_line d i) i.place ls (content_data i.content) (items_of rest) (members_of rest) refl refl h.0 (plain-datum i.content (members_from (suc d) None ls)) r.members r.items
+tells (branch n p kids rest) d o X h k =
+    let l = class_line d n p in
+    let Y = lines d rest ++ X in
+    let ls = (lines (suc d) kids ++ lines d rest) ++ X in
+    let joined : ls ≡ lines (suc d) kids ++ Y = append_assoc (lines (suc d) kids) (lines d rest) X in
+    let inside = tells kids (suc d) None Y h.1 (stops-below rest d X k) in
+    let r = tells rest d (Some (n, p)) X h.2 k in
+    one-tells d o l p ls (json.object (members_of kids)) (items_of rest) (members_of rest) refl refl h.0
+    (ap json.object (ap (members_from (suc d) None) joined ∙ inside.members))
+    (ap (members_from d (Some (sibling l))) joined ∙ skip-members kids (suc d) d (Some (sibling l)) Y (omega arith) ∙ r.members)
+    (ap (items_from d (Some (sibling l))) joined ∙ skip-items kids (suc d) d (Some (sibling l)) Y (omega arith) ∙ r.items)
+
+pub data-is : (f : Forest) → IsSound f → data_of (lines 1 f) ≡ members_of f
+data-is f h = ap (members_from 1 None) (sym (append-nil (lines 1 f))) ∙ (tells f 1 None [] h.ordered tt).members
+
+-- what is written of a document's tree is the compact JSON of the object that its lines mean
+pub text-is : (f : Forest) → IsSound f → 123 ∷ (written false f ++ 125 ∷ []) ≡ compact_text (json.object (data_of (lines 1 f)))
+text-is f h =
+    ap (λ x. 123 ∷ x) ((means f None h.ordered h.texts).members false (starts f h.ordered))
+    ∙ sym (ap (λ ms. 123 ∷ members_text false ms) (data-is f h))

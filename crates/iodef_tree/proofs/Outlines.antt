@@ -1,0 +1,234 @@
+-- Outlines, one line more at a time.
+use Rattle.std.proofs.Common.{◌⊎◌, inl, inr, ◌≡◌, ℕ, zero, suc, ◌+◌, ◌-◌, ◌<◌, ◌≤◌, Bool, true, false, not, ◌&&◌, List, [], ◌∷◌, ◌++◌, length, take, drop, drop-cons, get_or, refl, sym, ◌∙◌, ap, arith, if◌then◌else◌, ◌==◌, cond}
+use Rattle.std.specs.Prelude.{Some, None, nat_lt, nat_le}
+use Rattle.std.specs.List.{slice_get}
+use Rattle.std.proofs.lemmas.Bool.{cond-true, cond-false, ne_eqb, eq-eqb, lt-ltb, le-ltb, cases_lt, and_parts}
+use Rattle.std.proofs.lemmas.List.{take_more, take-append-drop}
+use Rattle.std.proofs.lemmas.List.Sums.{sum_by-cons}
+use Rattle.iodef_tree.specs.Paths.{is_class_kind}
+use Rattle.iodef_tree.specs.Sound.{is_label_line, counted}
+use Rattle.iodef_tree.specs.Outline.{sibling, deepest, last_sibling, may_follow, is_sound_line, is_short, may_come, is_outline_after, is_outline, is_outline_back, edge, back_onto, back}
+use Rattle.iodef_tree.specs.Shown.{counted_with, if_short, fits_edge, Shows}
+use Rattle.iodef_tree.specs.declared.TheConstants.{LINE_LIMIT}
+use Rattle.iodef_tree.specs.declared.line.Line.{Line}
+use Rattle.iodef_tree.specs.declared.shape.Shape.{Shape}
+
+-- ---- lists of lines, appended and turned round
+
+and_assoc : (a b c : Bool) → (a && (b && c)) ≡ ((a && b) && c)
+and_assoc true b c = refl
+and_assoc false b c = refl
+
+pub outline_after-append : (xs ys before : List Line) →
+    is_outline_after before (xs ++ ys) ≡ (is_outline_after before xs && is_outline_after (back_onto xs before) ys)
+outline_after-append [] ys before = refl
+outline_after-append (x ∷ xs) ys before = ap (λ b. may_come before x && b) (outline_after-append xs ys (x ∷ before)) ∙ and_assoc (may_come before x) _ _
+
+pub back_onto-append : (xs ys zs : List Line) → back_onto (xs ++ ys) zs ≡ back_onto ys (back_onto xs zs)
+back_onto-append [] ys zs = refl
+back_onto-append (x ∷ xs) ys zs = back_onto-append xs ys (x ∷ zs)
+
+-- the newest line is the last
+pub back-push : (ls : List Line) (l : Line) → back (ls ++ l ∷ []) ≡ l ∷ back ls
+back-push ls l = back_onto-append ls (l ∷ []) []
+
+back_is : (ls before : List Line) → is_outline_back (back_onto ls before) ≡ (is_outline_after before ls && is_outline_back before)
+back_is [] before = refl
+back_is (x ∷ ls) before = back_is ls (x ∷ before) ∙ shift (is_outline_after (x ∷ before) ls) (may_come before x) (is_outline_back before)
+  where
+    shift : (a b c : Bool) → (a && (b && c)) ≡ ((b && a) && c)
+    shift true true c = refl
+    shift true false c = refl
+    shift false true c = refl
+    shift false false c = refl
+
+and_true : (b : Bool) → (b && true) ≡ b
+and_true true = refl
+and_true false = refl
+
+-- from the newest line back the same lists are outlines
+pub outline-back : (ls : List Line) → is_outline_back (back ls) ≡ is_outline ls
+outline-back ls = back_is ls [] ∙ and_true (is_outline ls)
+
+-- where the lines are an outline, they are with one more exactly where it may come
+pub outline-more : (ls : List Line) (l : Line) → is_outline ls ≡ true → is_outline (ls ++ l ∷ []) ≡ may_come (back ls) l
+outline-more ls l h = outline_after-append ls (l ∷ []) [] ∙ ap (λ b. b && (may_come (back ls) l && true)) h ∙ and_true (may_come (back ls) l)
+
+-- the front of an outline is one
+pub outline-front : (xs ys : List Line) → is_outline (xs ++ ys) ≡ true → is_outline xs ≡ true
+outline-front xs ys h = (and_parts (is_outline xs) (is_outline_after (back_onto xs []) ys) (sym (outline_after-append xs ys []) ∙ h)).0
+
+-- the lines up to one
+pub upto : (ls : List Line) (i : ℕ) (x : Line) → i < length ls → x ≡ get_or ls i x → take (i + 1) ls ≡ take i ls ++ x ∷ []
+upto ls i x h e = take_more ls i x h ∙ ap (λ y. take i ls ++ y ∷ []) (sym e)
+
+pub back-upto : (ls : List Line) (i : ℕ) (x : Line) → i < length ls → x ≡ get_or ls i x → back (take (i + 1) ls) ≡ x ∷ back (take i ls)
+back-upto ls i x h e = ap back (upto ls i x h e) ∙ back-push (take i ls) x
+
+and_false : (b : Bool) → (b && false) ≡ false
+and_false true = refl
+and_false false = refl
+
+-- lines behind one that may not come mend nothing
+pub no-outline : (ls : List Line) (i : ℕ) (x : Line) → i < length ls → x ≡ get_or ls i x → may_come (back (take i ls)) x ≡ false → is_outline ls ≡ false
+no-outline ls i x h e bad =
+    let A = take i ls in
+    let D = drop (suc i) ls in
+    let whole : ls ≡ A ++ x ∷ D = sym (take-append-drop i ls) ∙ ap (λ zs. A ++ zs) (drop-cons ls i x h ∙ ap (λ y. y ∷ D) (sym e)) in
+    ap is_outline whole
+    ∙ outline_after-append A (x ∷ D) []
+    ∙ ap (λ b. is_outline A && (b && is_outline_after (x ∷ back A) D)) bad
+    ∙ and_false (is_outline A)
+
+-- ---- the newest line of each open depth
+
+get_kept : {A : Type 0} (e : ℕ) (E : List A) (n : A) (d : ℕ) → e ≤ length E → d < e → slice_get (take e E ++ n ∷ []) d ≡ slice_get E d
+get_kept zero E n d h l = absurd (omega arith)
+get_kept (suc e) [] n d h l = absurd (omega arith)
+get_kept (suc e) (x ∷ E) n zero h l = refl
+get_kept (suc e) (x ∷ E) n (suc d) h l = get_kept e E n d (omega (arith, h)) (omega (arith, l))
+
+get_new : {A : Type 0} (e : ℕ) (E : List A) (n : A) → e ≤ length E → slice_get (take e E ++ n ∷ []) e ≡ Some n
+get_new zero E n h = refl
+get_new (suc e) [] n h = absurd (omega arith)
+get_new (suc e) (x ∷ E) n h = get_new e E n (omega (arith, h))
+
+get_past : {A : Type 0} (e : ℕ) (E : List A) (n : A) → e ≤ length E → slice_get (take e E ++ n ∷ []) (suc e) ≡ None
+get_past zero E n h = refl
+get_past (suc e) [] n h = absurd (omega arith)
+get_past (suc e) (x ∷ E) n h = get_past e E n (omega (arith, h))
+
+length_new : {A : Type 0} (e : ℕ) (E : List A) (n : A) → e ≤ length E → length (take e E ++ n ∷ []) ≡ suc e
+length_new zero E n h = refl
+length_new (suc e) [] n h = absurd (omega arith)
+length_new (suc e) (x ∷ E) n h = ap suc (length_new e E n (omega (arith, h)))
+
+pub le_from : (a b : ℕ) → nat_le a b ≡ true → a ≤ b
+le_from a b h = search (arith, h)
+
+pub lt_from : (a b : ℕ) → nat_lt a b ≡ true → a < b
+lt_from a b h = search (arith, h)
+
+-- what the open lines say of all lines
+pub record Known (before : List Line) : Type 0 where
+  pub size : deepest before ≤ suc (length (edge before))
+  pub at : (d : ℕ) → suc d ≤ deepest before → slice_get (edge before) d ≡ last_sibling (suc d) before
+
+deep_le : (b : Bool) (n m : ℕ) → n ≤ m → (if b then suc n else n) ≤ suc m
+deep_le true n m h = omega (arith, h)
+deep_le false n m h = omega (arith, h)
+
+known_more : (x : Line) (before : List Line) → 0 < x.depth → x.depth ≤ deepest before → Known before → Known (x ∷ before)
+known_more x before positive reached k =
+    let E = edge before in
+    let n = sibling x in
+    let fits : x.depth - 1 ≤ length E = omega (arith, positive, reached, k.size) in
+    let long : length (take (x.depth - 1) E ++ n ∷ []) ≡ suc (x.depth - 1) = length_new (x.depth - 1) E n fits in record {
+      size = deep_le (is_class_kind x.kind) x.depth (length (edge (x ∷ before))) (omega (arith, positive, long));
+      at = λ d h. by_place d (cases_lt d (x.depth - 1)) (cases_lt (x.depth - 1) d) (deep_at d h) fits;
+    }
+  where
+    deep_at : (d : ℕ) → suc d ≤ deepest (x ∷ before) → suc d ≤ suc x.depth
+    deep_at d h = deep_from (is_class_kind x.kind) x.depth (suc d) h
+      where
+        deep_from : (b : Bool) (n m : ℕ) → m ≤ (if b then suc n else n) → m ≤ suc n
+        deep_from true n m h = h
+        deep_from false n m h = omega (arith, h)
+
+    by_place : (d : ℕ) → ((d < x.depth - 1) ⊎ (x.depth - 1 ≤ d)) → ((x.depth - 1 < d) ⊎ (d ≤ x.depth - 1)) → suc d ≤ suc x.depth → x.depth - 1 ≤ length (edge before) →
+        slice_get (take (x.depth - 1) (edge before) ++ sibling x ∷ []) d ≡ last_sibling (suc d) (x ∷ before)
+    by_place d (inl l) o h fits =
+        get_kept (x.depth - 1) (edge before) (sibling x) d fits l
+        ∙ k.at d (omega (arith, l, reached))
+        ∙ sym (cond-false (nat_lt x.depth (suc d)) _ _ (le-ltb x.depth (suc d) (omega (arith, l)))
+        ∙ cond-false (x.depth == suc d) _ _ (ne_eqb x.depth (suc d) (λ e. omega (arith, l, e))))
+    by_place d (inr g) (inr l) h fits =
+        ap (λ i. slice_get (take (x.depth - 1) (edge before) ++ sibling x ∷ []) i) (omega (arith, g, l))
+        ∙ get_new (x.depth - 1) (edge before) (sibling x) fits
+        ∙ sym (cond-false (nat_lt x.depth (suc d)) _ _ (le-ltb x.depth (suc d) (omega (arith, l, positive)))
+        ∙ cond-true (x.depth == suc d) _ _ (eq-eqb x.depth (suc d) (omega (arith, g, l, positive))))
+    by_place d (inr g) (inl l) h fits =
+        ap (λ i. slice_get (take (x.depth - 1) (edge before) ++ sibling x ∷ []) i) (omega (arith, l, h, positive))
+        ∙ get_past (x.depth - 1) (edge before) (sibling x) fits
+        ∙ sym (cond-true (nat_lt x.depth (suc d)) _ _ (lt-ltb x.depth (suc d) (omega (arith, l, positive))))
+
+-- what a line that may come says
+pub record Came (before : List Line) (l : Line) : Type 0 where
+  pub positive : 0 < l.depth
+  pub reached : l.depth ≤ deepest before
+  pub follows : may_follow (last_sibling l.depth before) (sibling l) ≡ true
+  pub sound : is_sound_line l ≡ true
+  pub short : is_short (l ∷ before) ≡ true
+
+pub came : (before : List Line) (l : Line) → may_come before l ≡ true → Came before l
+came before l h =
+    let s = and_parts (is_short (l ∷ before)) _ h in
+    let a = and_parts (nat_lt 0 l.depth) _ s.1 in
+    let b = and_parts (nat_le l.depth (deepest before)) _ a.1 in
+    let c = and_parts (may_follow (last_sibling l.depth before) (sibling l)) (is_sound_line l) b.1 in
+    record { positive = lt_from 0 l.depth a.0; reached = le_from l.depth (deepest before) b.0; follows = c.0; sound = c.1; short = s.0 }
+
+pub known : (before : List Line) → is_outline_back before ≡ true → Known before
+known [] h = record { size = omega arith; at = λ d k. refl }
+known (x ∷ before) h =
+    let parts = and_parts (may_come before x) (is_outline_back before) h in
+    let k = came before x parts.0 in
+    known_more x before k.positive k.reached (known before parts.1)
+
+-- ---- the checker
+
+guarded : (a b f g s : Bool) → (a ≡ true → b ≡ true → f ≡ g) → (a && (b && (f && s))) ≡ (a && (b && (g && s)))
+guarded false b f g s h = refl
+guarded true false f g s h = refl
+guarded true true f g s h = ap (λ x. x && s) (h refl refl)
+
+pub counted-cons : (l : Line) (ls : List Line) → counted (l ∷ ls) ≡ counted_with l (counted ls)
+counted-cons l ls = sum_by-cons (λ (x : Line). cond (not (is_label_line x)) 1 0) l ls ∙ by_test (not (is_label_line l)) (counted ls)
+  where
+    by_test : (b : Bool) (n : ℕ) → cond b 1 0 + n ≡ (if b then 1 + n else n)
+    by_test true n = refl
+    by_test false n = omega arith
+
+short_if : (n m : ℕ) → if_short n ≡ Some m → (m ≡ n) × (nat_le n LINE_LIMIT ≡ true)
+short_if n m h = by_test (nat_le n LINE_LIMIT) h
+  where
+    by_test : (b : Bool) → (if b then Some n else None) ≡ Some m → (m ≡ n) × (b ≡ true)
+    by_test true e = let k : m ≡ n = cc in (k, refl)
+    by_test false e = cc
+
+short_else : (n : ℕ) → if_short n ≡ None → nat_le n LINE_LIMIT ≡ false
+short_else n h = by_test (nat_le n LINE_LIMIT) h
+  where
+    by_test : (b : Bool) → (if b then Some n else None) ≡ None → b ≡ false
+    by_test true e = cc
+    by_test false e = refl
+
+-- no line may come where too many would count
+pub too_many : (s : Shape) (before : List Line) (l : Line) → Shows s before → if_short (counted_with l s.counted) ≡ None → may_come before l ≡ false
+too_many s before l shows h =
+    ap (λ b. b && (nat_lt 0 l.depth && (nat_le l.depth (deepest before) && (may_follow (last_sibling l.depth before) (sibling l) && is_sound_line l)))) (ap (λ n. nat_le n LINE_LIMIT) (counted-cons l before) ∙ short_else (counted_with l (counted before)) (sym (ap (λ n. if_short (counted_with l n)) shows.count) ∙ h))
+
+-- the test by the open lines is the test by all lines
+pub fits_is : (s : Shape) (before : List Line) (l : Line) (n : ℕ) → Shows s before → if_short (counted_with l s.counted) ≡ Some n →
+    fits_edge s.last.items s.deepest l ≡ may_come before l
+fits_is s before l n shows few =
+    ap (λ e. fits_edge e s.deepest l) shows.edges
+    ∙ ap (λ m. fits_edge (edge before) m l) shows.depth
+    ∙ sym (ap (λ b. b && fits_edge (edge before) (deepest before) l) (ap (λ m. nat_le m LINE_LIMIT) (counted-cons l before) ∙ (short_if (counted_with l (counted before)) n (sym (ap (λ m. if_short (counted_with l m)) shows.count) ∙ few)).1))
+    ∙ ap (λ b. is_short (l ∷ before) && b) (guarded (nat_lt 0 l.depth) (nat_le l.depth (deepest before)) _ _ (is_sound_line l) (λ a b.
+    let positive = lt_from 0 l.depth a in
+    let reached = le_from l.depth (deepest before) b in
+    let upward : suc (l.depth - 1) ≡ l.depth = omega (arith, positive) in
+    ap (λ o. may_follow o (sibling l)) ((known before shows.outline).at (l.depth - 1) (omega (arith, positive, reached)) ∙ ap (λ d. last_sibling d before) upward)))
+
+-- one line more
+pub shows_more : (s t : Shape) (before : List Line) (l : Line) → Shows s before → may_come before l ≡ true →
+    t.last.items ≡ take (l.depth - 1) s.last.items ++ sibling l ∷ [] → t.deepest ≡ deepest (l ∷ []) → if_short (counted_with l s.counted) ≡ Some t.counted →
+    Shows t (l ∷ before)
+shows_more s t before l shows fits edges depth count =
+    record {
+      edges = edges ∙ ap (λ e. take (l.depth - 1) e ++ sibling l ∷ []) shows.edges;
+      depth = depth;
+      count = (short_if (counted_with l s.counted) t.counted count).0 ∙ ap (counted_with l) shows.count ∙ sym (counted-cons l before);
+      outline = ap (λ b. b && is_outline_back before) fits ∙ shows.outline;
+    }

@@ -1,0 +1,174 @@
+-- A numbered tree whose lines are an outline is that of a document.
+use Rattle.std.proofs.Common.{◌≡◌, ℕ, zero, suc, ◌+◌, ◌≤◌, ◌<◌, Bool, true, false, not, ◌&&◌, ◌||◌, List, [], ◌∷◌, refl, sym, ◌∙◌, ap, arith, if◌then◌else◌, ◌==◌, cond}
+use Rattle.std.specs.Prelude.{Option, Some, None, is_some, nat_lt, nat_le}
+use Rattle.std.specs.Str.{bytes_eq}
+use Rattle.std.proofs.lemmas.Bool.{cond-true, cond-false, ne_eqb, eq-eqb, lt-ltb, le-ltb, and_parts}
+use Rattle.std.proofs.lemmas.List.Sums.{sum_by-cons}
+use Rattle.iodef_tree.specs.Text.{Bytes, bytes_lt}
+use Rattle.iodef_tree.specs.Texts.{HasTexts}
+use Rattle.iodef_tree.specs.Tree.{Content, text, value, Forest, end, leaf, branch, kind_of, leaf_line, class_line, lines, height}
+use Rattle.iodef_tree.specs.Paths.{is_class_kind}
+use Rattle.iodef_tree.specs.Sound.{Standing, may_stand, IsOrderedBehind, is_label_line, counted, class_height, IsSound}
+use Rattle.iodef_tree.specs.Outline.{sibling, last_sibling, may_follow, is_within_depth, is_sound_line, may_come, is_outline_after, is_outline, is_outline_back, back_onto, back}
+use Rattle.iodef_tree.specs.Built.{is_numbered, IsNumberedBehind, IsNumbered}
+use Rattle.iodef_tree.specs.declared.TheConstants.{DEPTH_LIMIT, LINE_LIMIT}
+use Rattle.iodef_tree.specs.declared.line.Line.{Line}
+use Rattle.iodef_tree.specs.declared.shape.Sibling.{Sibling}
+use Rattle.iodef_tree.proofs.Outlines.{outline_after-append, back_onto-append, outline-back, le_from, Came, came}
+
+-- ---- the siblings of a tree among its lines
+
+-- deeper lines are no siblings
+sibling_past : (x : Line) (before : List Line) (d : ℕ) → d < x.depth → last_sibling d (x ∷ before) ≡ last_sibling d before
+sibling_past x before d h = cond-false (nat_lt x.depth d) _ _ (le-ltb x.depth d (omega (arith, h))) ∙ cond-false (x.depth == d) _ _ (ne_eqb x.depth d (λ e. omega (arith, h, e)))
+
+pub sibling_skip : (f : Forest) (n d : ℕ) (before : List Line) → d < n → last_sibling d (back_onto (lines n f) before) ≡ last_sibling d before
+sibling_skip end n d before h = refl
+sibling_skip (leaf i rest) n d before h = sibling_skip rest n d (leaf_line n i ∷ before) h ∙ sibling_past (leaf_line n i) before d h
+sibling_skip (branch name place kids rest) n d before h =
+    let x = class_line n name place in
+    ap (last_sibling d) (back_onto-append (lines (suc n) kids) (lines n rest) (x ∷ before))
+    ∙ sibling_skip rest n d (back_onto (lines (suc n) kids) (x ∷ before)) h
+    ∙ sibling_skip kids (suc n) d (x ∷ before) (omega (arith, h))
+    ∙ sibling_past x before d h
+
+pub sibling_here : (x : Line) (before : List Line) (d : ℕ) → x.depth ≡ d → last_sibling d (x ∷ before) ≡ Some (sibling x)
+sibling_here x before d e = cond-false (nat_lt x.depth d) _ _ (le-ltb x.depth d (omega (arith, e))) ∙ cond-true (x.depth == d) _ _ (eq-eqb x.depth d e)
+
+pub sibling_below : (x : Line) (before : List Line) (d : ℕ) → x.depth ≡ d → last_sibling (suc d) (x ∷ before) ≡ None
+sibling_below x before d e = cond-true (nat_lt x.depth (suc d)) _ _ (lt-ltb x.depth (suc d) (omega (arith, e)))
+
+-- ---- what each line of an outline says, on the tree
+
+abbrev pub as_sibling : Option Standing → Option Sibling
+as_sibling None = None
+as_sibling (Some s) = Some (record { name = s.0; in_array = is_some s.1 })
+
+abbrev IsFine : Option Standing → ℕ → Forest → Type 0
+IsFine o d end = Unit {0}
+IsFine o d (leaf i rest) = (may_follow (as_sibling o) (sibling (leaf_line d i)) ≡ true) × (is_sound_line (leaf_line d i) ≡ true) × IsFine (Some (i.name, i.place)) d rest
+IsFine o d (branch n p kids rest) =
+    (may_follow (as_sibling o) (sibling (class_line d n p)) ≡ true) × (is_sound_line (class_line d n p) ≡ true) × IsFine None (suc d) kids × IsFine (Some (n, p)) d rest
+
+follows : (before : List Line) (l : Line) (o : Option Sibling) → last_sibling l.depth before ≡ o → Came before l → may_follow o (sibling l) ≡ true
+follows before l o is k = ap (λ z. may_follow z (sibling l)) (sym is) ∙ k.follows
+
+fine : (f : Forest) (d : ℕ) (before : List Line) (o : Option Standing) → last_sibling d before ≡ as_sibling o → is_outline_after before (lines d f) ≡ true → IsFine o d f
+fine end d before o is h = tt
+fine (leaf i rest) d before o is h =
+    let x = leaf_line d i in
+    let parts = and_parts (may_come before x) _ h in
+    let k = came before x parts.0 in
+    (follows before x (as_sibling o) is k, k.sound, fine rest d (x ∷ before) (Some (i.name, i.place)) (sibling_here x before d refl) parts.1)
+fine (branch n p kids rest) d before o is h =
+    let x = class_line d n p in
+    let parts = and_parts (may_come before x) _ h in
+    let two = and_parts (is_outline_after (x ∷ before) (lines (suc d) kids)) _ (sym (outline_after-append (lines (suc d) kids) (lines d rest) (x ∷ before)) ∙ parts.1) in
+    let k = came before x parts.0 in (
+      follows before x (as_sibling o) is k,
+      k.sound,
+      fine kids (suc d) (x ∷ before) None (sibling_below x before d refl) two.0,
+      fine rest d (back_onto (lines (suc d) kids) (x ∷ before)) (Some (n, p)) (sibling_skip kids (suc d) d (x ∷ before) (omega arith) ∙ sibling_here x before d refl) two.1,
+    )
+
+-- ---- so names ascend
+
+only-first : (a b c : Bool) → (a || (b && (c && false))) ≡ true → a ≡ true
+only-first true b c h = refl
+only-first false true true h = h
+only-first false true false h = h
+only-first false false c h = h
+
+only-first_too : (a b : Bool) → (a || (b && (false && true))) ≡ true → a ≡ true
+only-first_too true b h = refl
+only-first_too false true h = h
+only-first_too false false h = h
+
+other-name : (a b : Bool) → (a || (b && (true && true))) ≡ true → not b ≡ true → a ≡ true
+other-name true b h k = refl
+other-name false true h k = k
+other-name false false h k = h
+
+stands : (o : Option Standing) (name : Bytes) (place : Option ℕ) → may_follow (as_sibling o) (record { name = name; in_array = is_some place }) ≡ true → is_numbered o name place ≡ true →
+    may_stand o name place ≡ true
+stands None name None h k = refl
+stands None name (Some zero) h k = refl
+stands None name (Some (suc j)) h k = k
+stands (Some (n, None)) name None h k = only-first (bytes_lt n name) (bytes_eq n name) false h
+stands (Some (n, Some j)) name None h k = only-first (bytes_lt n name) (bytes_eq n name) true h
+stands (Some (n, None)) name (Some zero) h k = only-first_too (bytes_lt n name) (bytes_eq n name) h
+stands (Some (n, Some j)) name (Some zero) h k = other-name (bytes_lt n name) (bytes_eq n name) h k
+stands (Some (n, None)) name (Some (suc i)) h k = k
+stands (Some (n, Some j)) name (Some (suc i)) h k = k
+
+ordered : (f : Forest) (d : ℕ) (o : Option Standing) → IsFine o d f → IsNumberedBehind o f → IsOrderedBehind o f
+ordered end d o h k = tt
+ordered (leaf i rest) d o h k = (stands o i.name i.place h.0 k.0, ordered rest d (Some (i.name, i.place)) h.2 k.1)
+ordered (branch n p kids rest) d o h k = (stands o n p h.0 k.0, ordered kids (suc d) None h.2 k.1, ordered rest d (Some (n, p)) h.3 k.2)
+
+-- ---- the tree is shallow
+
+plain-depth : (c : Content) (d : ℕ) → nat_le d (if is_class_kind (kind_of c) then DEPTH_LIMIT else DEPTH_LIMIT + 1) ≡ true → d ≤ DEPTH_LIMIT + 1
+plain-depth (text s) d h = le_from d (DEPTH_LIMIT + 1) h
+plain-depth (value s) d h = le_from d (DEPTH_LIMIT + 1) h
+
+high : (f : Forest) (d : ℕ) (o : Option Standing) → d ≤ DEPTH_LIMIT + 2 → IsFine o d f → height f + d ≤ DEPTH_LIMIT + 2
+high end d o small h = omega (arith, small)
+high (leaf i rest) d o small h =
+    let a = plain-depth i.content d ((and_parts (is_within_depth (leaf_line d i)) _ h.1).0) in
+    let b = high rest d (Some (i.name, i.place)) small h.2 in
+    omega (arith, a, b)
+high (branch n p kids rest) d o small h =
+    let a = le_from d DEPTH_LIMIT ((and_parts (is_within_depth (class_line d n p)) _ h.1).0) in
+    let b = high kids (suc d) None (omega (arith, a)) h.2 in
+    let c = high rest d (Some (n, p)) small h.3 in
+    omega (arith, a, b, c)
+
+class_high : (f : Forest) (d : ℕ) (o : Option Standing) → d ≤ DEPTH_LIMIT + 1 → IsFine o d f → class_height f + d ≤ DEPTH_LIMIT + 1
+class_high end d o small h = omega (arith, small)
+class_high (leaf i rest) d o small h = class_high rest d (Some (i.name, i.place)) small h.2
+class_high (branch n p kids rest) d o small h =
+    let a = le_from d DEPTH_LIMIT ((and_parts (is_within_depth (class_line d n p)) _ h.1).0) in
+    let b = class_high kids (suc d) None (omega (arith, a)) h.2 in
+    let c = class_high rest d (Some (n, p)) small h.3 in
+    omega (arith, b, c)
+
+-- ---- its texts are what they may be
+
+texts : (f : Forest) (d : ℕ) (o : Option Standing) → IsFine o d f → HasTexts f
+texts end d o h = tt
+texts (leaf i rest) d o h = ((and_parts (is_within_depth (leaf_line d i)) _ h.1).1, texts rest d (Some (i.name, i.place)) h.2)
+texts (branch n p kids rest) d o h = (texts kids (suc d) None h.2, texts rest d (Some (n, p)) h.3)
+
+-- ---- it is short
+
+pub counted-back_onto : (xs ys : List Line) → counted (back_onto xs ys) ≡ counted xs + counted ys
+counted-back_onto [] ys = omega arith
+counted-back_onto (x ∷ xs) ys =
+    let a = counted-back_onto xs (x ∷ ys) in
+    let b = sum_by-cons (λ (l : Line). cond (not (is_label_line l)) 1 0) x ys in
+    let c = sum_by-cons (λ (l : Line). cond (not (is_label_line l)) 1 0) x xs in
+    a ∙ omega (arith, b, c)
+
+short_back : (ls : List Line) → is_outline_back ls ≡ true → counted ls ≤ LINE_LIMIT
+short_back [] h = omega arith
+short_back (l ∷ before) h = le_from (counted (l ∷ before)) LINE_LIMIT (came before l ((and_parts (may_come before l) _ h).0)).short
+
+pub outline-short : (ls : List Line) → is_outline ls ≡ true → counted ls ≤ LINE_LIMIT
+outline-short ls h =
+    let a = short_back (back ls) (outline-back ls ∙ h) in
+    let b = counted-back_onto ls [] in
+    omega (arith, a, b)
+
+pub outline-sound : (f : Forest) → is_outline (lines 1 f) ≡ true → IsNumbered f → IsSound f
+outline-sound f h k =
+    let all : IsFine None 1 f = fine f 1 [] None refl h in
+    let tall = high f 1 None (omega arith) all in
+    let deep = class_high f 1 None (omega arith) all in
+    record {
+      ordered = ordered f 1 None all k;
+      classes = omega (arith, deep);
+      shallow = omega (arith, tall);
+      short = outline-short (lines 1 f) h;
+      texts = texts f 1 None all;
+    }

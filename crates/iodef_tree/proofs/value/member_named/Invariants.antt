@@ -1,0 +1,13 @@
+use Rattle.std.proofs.Common.{◌≡◌, map, drop}
+use Rattle.std.specs.List.{AllByRecursion}
+use Rattle.serde_json.specs.Find.{get_member}
+use Rattle.iodef_tree.specs.Kept.{AreKept}
+use Rattle.iodef_tree.specs.View.{forest, named, members_forest}
+use Rattle.iodef_tree.specs.Written.{members_of}
+use Rattle.iodef_tree.proofs.value.member_named.Given as goal
+
+abbrev pub invariant-loop-own : goal.invariant-loop-own
+invariant-loop-own l = record {
+  left : get_member l.name (members_of (members_forest (drop l.own-index l.own-items))) ≡ get_member l.name (members_of (forest l.object));
+  kept : AllByRecursion (λ m. AreKept m.1) (map named (drop l.own-index l.own-items));
+}

@@ -1,0 +1,102 @@
+-- A document under construction, seen as its lines.
+use Rattle.std.specs.Prelude.{◌≡◌, ℕ, zero, suc, List, [], ◌∷◌, ◌++◌, length, map, Bool, true, false, not, ◌==◌, ◌&&◌, Option, Some, None}
+use Rattle.std.specs.List.{AllByRecursion}
+use Rattle.std.specs.Str.{bytes_eq}
+use Rattle.iodef_tree.specs.Text.{Bytes}
+use Rattle.iodef_tree.specs.Tree.{Forest, end, leaf, branch, Body, holds, says, Bodies, one, many, in_front, place_of, class_line, lines}
+use Rattle.iodef_tree.specs.Sound.{Standing}
+use Rattle.iodef_tree.specs.Outline.{deepest, back}
+use Rattle.iodef_tree.specs.View.{forest, named, members_forest}
+use Rattle.iodef_tree.specs.declared.line.Line.{Line}
+use Rattle.iodef_tree.specs.declared.text.Text.{Text}
+use Rattle.iodef_tree.specs.declared.object.Member.{Member}
+use Rattle.iodef_tree.specs.declared.builder.Open.{Open}
+use Rattle.iodef_tree.specs.declared.builder.Spine.{Spine}
+
+-- ---- elements are numbered, and no array stands right behind another of its name
+
+abbrev pub is_numbered : Option Standing → Bytes → Option ℕ → Bool
+is_numbered before name None = true
+is_numbered None name (Some zero) = true
+is_numbered None name (Some (suc k)) = false
+is_numbered (Some (n, None)) name (Some zero) = true
+is_numbered (Some (n, None)) name (Some (suc k)) = false
+is_numbered (Some (n, Some j)) name (Some zero) = not (bytes_eq n name)
+is_numbered (Some (n, Some j)) name (Some (suc k)) = bytes_eq n name && (j == k)
+
+abbrev pub IsNumberedBehind : Option Standing → Forest → Type 0
+IsNumberedBehind before end = Unit {0}
+IsNumberedBehind before (leaf i rest) = (is_numbered before i.name i.place ≡ true) × IsNumberedBehind (Some (i.name, i.place)) rest
+IsNumberedBehind before (branch name place kids rest) =
+    (is_numbered before name place ≡ true) × IsNumberedBehind None kids × IsNumberedBehind (Some (name, place)) rest
+
+abbrev pub IsNumbered : Forest → Type 0
+IsNumbered f = IsNumberedBehind None f
+
+abbrev pub IsBodyNumbered : Body → Type 0
+IsBodyNumbered (holds f) = IsNumbered f
+IsBodyNumbered (says c) = Unit {0}
+
+-- the last of siblings, or what stood before them
+abbrev pub last_standing : Option Standing → Forest → Option Standing
+last_standing before end = before
+last_standing before (leaf i rest) = last_standing (Some (i.name, i.place)) rest
+last_standing before (branch name place kids rest) = last_standing (Some (name, place)) rest
+
+-- ---- the members of one object
+
+abbrev pub is_filled : Bodies → Bool
+is_filled (one b) = true
+is_filled (many []) = false
+is_filled (many (b ∷ bs)) = true
+
+-- the last member has an element if it is an array
+abbrev pub ends_filled : List (Bytes × Bodies) → Bool
+ends_filled [] = true
+ends_filled (m ∷ []) = is_filled m.1
+ends_filled (m ∷ n ∷ ms) = ends_filled (n ∷ ms)
+
+pub record IsGrown (ms : List (Text × Member)) : Type 0 where
+  pub numbered : IsNumbered (members_forest ms)
+  pub filled : ends_filled (map named ms) ≡ true
+
+-- one thing more at the end
+pub record Grows (old : List (Text × Member)) (name : Bytes) (in_array : Bool) (b : Body) (new : List (Text × Member)) : Type 0 where
+  pub grown : IsGrown new
+  pub lines : (d : ℕ) → lines d (members_forest new) ≡ lines d (members_forest old) ++ lines d (in_front name (place_of in_array 0) b end)
+
+-- ---- the open classes
+
+abbrev pub open_line : ℕ → Open → Line
+open_line d x = class_line d x.name (place_of x.in_array 0)
+
+-- each open class stands at the end of the one above it
+abbrev pub lines_down : ℕ → Forest → List Open → List Line
+lines_down d f [] = lines d f
+lines_down d f (x ∷ xs) = lines d f ++ open_line d x ∷ lines_down (suc d) (forest x.object) xs
+
+abbrev pub lines_of : Spine → List Line
+lines_of s = lines_down 1 (forest s.root) s.classes.items
+
+abbrev pub IsOpenGrown : Open → Type 0
+IsOpenGrown x = IsGrown x.object.members.items
+
+pub record IsSpineGrown (s : Spine) : Type 0 where
+  pub root : IsGrown s.root.members.items
+  pub classes : AllByRecursion IsOpenGrown s.classes.items
+
+-- more lines, with so many classes open
+pub record Extends (old : Spine) (more : List Line) (count : ℕ) (new : Spine) : Type 0 where
+  pub grown : IsSpineGrown new
+  pub lines : lines_of new ≡ lines_of old ++ more
+  pub depth : length new.classes.items ≡ count
+
+-- the classes of the newest line are open
+pub record IsBuilt (s : Spine) : Type 0 where
+  pub grown : IsSpineGrown s
+  pub deep : deepest (back (lines_of s)) ≡ suc (length s.classes.items)
+
+-- with one line more
+pub record HasLine (s : Spine) (l : Line) (u : Spine) : Type 0 where
+  pub built : IsBuilt u
+  pub lines : lines_of u ≡ lines_of s ++ l ∷ []

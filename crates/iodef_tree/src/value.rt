@@ -1,0 +1,159 @@
+//! The JSON value that a tree means.
+
+ghost use Rattle.std.specs.Prelude.{◌≡◌, IfOk, IfSome, map, option_map, option_and_then, unwrap_or, string_bytes};
+ghost use Rattle.std.specs.List.{AllByRecursion};
+ghost use Rattle.serde_json.specs.Data.{null, object as json_object};
+ghost use Rattle.serde_json.specs.Find.{get_member, as_object};
+ghost use Rattle.serde_json.specs.Read.{read as read_text};
+ghost use Rattle.serde_json.specs.View.{view, members_view};
+ghost use Rattle.serde_json.specs.Written.{compact_text};
+ghost use Rattle.iodef_tree.specs.Fit.{IsBodyOrdered, AreBodiesOrdered};
+ghost use Rattle.iodef_tree.specs.Json.{zeroth as zeroth_of, id_in as id_of};
+ghost use Rattle.iodef_tree.specs.Kept.{IsKept, AreKept, kids_of};
+ghost use Rattle.iodef_tree.specs.Sound.{IsOrdered};
+ghost use Rattle.iodef_tree.specs.View.{forest, bodies, body};
+ghost use Rattle.iodef_tree.specs.Written.{members_of, body_data, bodies_data};
+
+use crate::object::{Item, Member, Object};
+use crate::text::Text;
+use crate::writer::is_empty;
+use serde_json::{Map, Value};
+use std::alloc::{AllocError, Global};
+
+/// The members of an object. An array without elements has no line, and is left out.
+#[cycle(value)]
+pub(crate) fn object_value(alloc: Global, object: &Object) -> Result<Map<String, Value>, AllocError>
+    requires { IsOrdered (forest object.now) }
+    ensures { IfOk result (λ m. members_view m.entries ≡ members_of (forest object.now)) }
+{
+    let mut made = Map::new(alloc);
+    for (name, member) in &object.members {
+        if is_empty(member) {
+            continue;
+        }
+        let value = member_value(alloc, member)?;
+        let name = String::from_str(alloc, name.as_str())?;
+        drop(made.insert(name, value)?);
+    }
+    Ok(made)
+}
+
+#[cycle(value)]
+fn member_value(alloc: Global, member: &Member) -> Result<Value, AllocError>
+    requires { AreBodiesOrdered (bodies member.now) }
+    ensures { IfOk result (λ v. view v ≡ bodies_data (bodies member.now)) }
+{
+    match member {
+        Member::One(item) => item_value(alloc, item),
+        Member::Many(items) => Ok(Value::Array(items_value(alloc, items)?)),
+    }
+}
+
+#[cycle(value)]
+fn items_value(alloc: Global, items: &Vec<Item>) -> Result<Vec<Value>, AllocError>
+    requires { AllByRecursion IsBodyOrdered (map body items.now.items) }
+    ensures { IfOk result (λ v. map view v.items ≡ map body_data (map body items.now.items)) }
+{
+    let mut made = Vec::with_capacity(alloc, items.as_slice().len())?;
+    for item in items {
+        made.push(item_value(alloc, item)?)?;
+    }
+    Ok(made)
+}
+
+#[cycle(value)]
+fn item_value(alloc: Global, item: &Item) -> Result<Value, AllocError>
+    requires { IsBodyOrdered (body item.now) }
+    ensures { IfOk result (λ v. view v ≡ body_data (body item.now)) }
+{
+    match item {
+        Item::Class(object) => Ok(Value::Object(object_value(alloc, object)?)),
+        Item::Text(text) => Ok(Value::String(String::from_str(alloc, text.as_str())?)),
+        Item::Value(text) => read_value(alloc, text),
+    }
+}
+
+/// The value that the text is.
+fn read_value(alloc: Global, text: &Text) -> Result<Value, AllocError>
+    ensures { IfOk result (λ v. view v ≡ unwrap_or (read_text text.now) null) }
+{
+    match Value::from_str(alloc, text.as_str()) {
+        Ok(value) => Ok(value),
+        Err(error) => {
+            if error.is_memory() {
+                return Err(AllocError);
+            }
+            Ok(Value::Null)
+        }
+    }
+}
+
+/// The member as compact JSON.
+pub(crate) fn member_text(alloc: Global, member: &Member) -> Result<String, AllocError>
+    requires { AreKept (bodies member.now) }
+    ensures { IfOk result (λ s. string_bytes s ≡ compact_text (bodies_data (bodies member.now))) }
+{
+    member_value(alloc, member)?.to_string(alloc)
+}
+
+/// The member of this name. An array without elements is none.
+fn member_named<'a>(object: &'a Object, name: &str) -> Option<&'a Member>
+    requires { IsKept (forest object.now) }
+    ensures found { option_map (λ m. bodies_data (bodies m.now)) result
+        ≡ get_member name.now (members_of (forest object.now)) }
+    ensures kept { IfSome result (λ m. AreKept (bodies m.now)) }
+{
+    for (own, member) in &object.members {
+        if own.as_str() == name && !is_empty(member) {
+            return Some(member);
+        }
+    }
+    None
+}
+
+/// The object that the item is.
+fn object_of(item: &Item) -> Option<&Object>
+    ensures { option_map (λ o. forest o.now) result ≡ kids_of (body item.now) }
+{
+    match item {
+        Item::Class(object) => Some(object),
+        Item::Text(_) | Item::Value(_) => None,
+    }
+}
+
+/// The object that the member is.
+fn object_in(member: &Member) -> Option<&Object>
+    requires { AreKept (bodies member.now) }
+    ensures found { option_map (λ o. members_of (forest o.now)) result ≡ as_object (bodies_data (bodies member.now)) }
+    ensures kept { IfSome result (λ o. IsKept (forest o.now)) }
+{
+    match member {
+        Member::One(item) => object_of(item),
+        Member::Many(_) => None,
+    }
+}
+
+/// The object at `0` in the member.
+fn zeroth(member: &Member) -> Option<&Object>
+    requires { AreKept (bodies member.now) }
+    ensures found { option_map (λ o. members_of (forest o.now)) result
+        ≡ option_and_then as_object (zeroth_of (bodies_data (bodies member.now))) }
+    ensures kept { IfSome result (λ o. IsKept (forest o.now)) }
+{
+    match member {
+        Member::One(_) => object_in(member_named(object_in(member)?, "0")?),
+        Member::Many(items) => object_of(items.as_slice().first()?),
+    }
+}
+
+/// The member `IncidentID` of what stands at `/Incident/0`.
+pub(crate) fn id_in(root: &Object) -> Option<&Member>
+    requires { IsKept (forest root.now) }
+    ensures found { option_map (λ m. bodies_data (bodies m.now)) result
+        ≡ id_of (json_object (members_of (forest root.now))) }
+    ensures kept { IfSome result (λ m. AreKept (bodies m.now)) }
+{
+    let incidents = member_named(root, "Incident")?;
+    let incident = zeroth(incidents)?;
+    member_named(incident, "IncidentID")
+}
