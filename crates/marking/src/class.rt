@@ -51,7 +51,7 @@ fn held<'a>(object: &'a Object, name: &str) -> Found<'a>
 }
 
 /// The label that the members spell, if they do.
-pub(crate) fn written(object: &Object) -> Option<Label<'_>>
+pub fn written(object: &Object) -> Option<Label<'_>>
     ensures { option_map marking_of result ≡ spelled_in (forest object.now) }
 {
     let Found::Text(restriction) = held(object, "restriction") else {

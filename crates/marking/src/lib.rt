@@ -2,7 +2,7 @@
 //! 5.1.1, FIRST TLP 2.0).
 #![tactic(auto)]
 
-mod class;
+pub mod class;
 pub mod examples;
 mod fault;
 mod label;

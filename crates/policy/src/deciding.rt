@@ -32,7 +32,7 @@ pub fn decide(
         return Err(DecideFault::NoClass);
     }
     let said = said_at(alloc, document, case, standing, path)?;
-    Ok(said.verdict(standing, path))
+    Ok(said.verdict(standing))
 }
 
 /// What is said of the path, from the root down.

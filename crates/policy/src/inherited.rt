@@ -4,7 +4,6 @@ ghost use Rattle.std.specs.Prelude.{◌≡◌, [], if◌then◌else◌, Option, 
 ghost use Rattle.std.specs.Option.{option_or};
 ghost use Rattle.iodef_tree.specs.Text.{same_path};
 ghost use Rattle.marking.specs.Label.{marking_of};
-ghost use Rattle.marking.specs.Marks.{incident_path};
 ghost use Rattle.policy.specs.Clearance.{rank as rank_of};
 ghost use Rattle.policy.specs.Gates.{passage_of};
 ghost use Rattle.policy.specs.Verdict.{first_of, refusals_at, handling_for, is_cleared_for, showing_rule, hidden_by as hides_by};
@@ -15,9 +14,9 @@ use crate::cleared::clearance;
 use crate::gate::{Gate, passes};
 use crate::permission::holds_for;
 use crate::rule::Rule;
+use crate::spot::Spot;
 use crate::standing::Standing;
 use crate::verdict::Verdict;
-use iodef_tree::Path;
 use marking::{Handling, Label};
 
 /// What holds at a path, as a pass down the document carries it.
@@ -32,70 +31,70 @@ pub struct Carried<'a> {
 }
 
 impl<'a> Carried<'a> {
-    /// At the root, whose path is handed in. Takes no memory, as the other calls here.
-    pub fn at_root(case: &Case, standing: &Standing, path: &Path) -> Carried<'a>
-        requires { path.now ≡ [] }
-        ensures { carried path.now result ≡ at_the_root case.now standing.now }
+    /// At the root, where the pass is. Takes no memory, as the other calls here.
+    pub fn at_root<S: Spot>(case: &Case, standing: &Standing, spot: &S) -> Carried<'a>
+        requires { S.tokens spot.now ≡ [] }
+        ensures { carried (S.tokens spot.now) result ≡ at_the_root case.now standing.now }
     {
         Carried {
-            refusal: refused_at(case, standing, path),
+            refusal: refused_at(case, standing, spot),
             label: Label::Private,
-            covered: is_granted(case, standing, path),
+            covered: is_granted(case, standing, spot),
         }
     }
 
-    /// In an array, one token further down: no label holds at its own path, which is handed in.
-    pub fn in_array(self, case: &Case, standing: &Standing, path: &Path) -> Carried<'a>
-        ensures { carried path.now result ≡ array_step case.now standing.now (carried path.now self.entry) path.now }
+    /// In an array, one token further down, where the pass is: no label holds at its own path.
+    pub fn in_array<S: Spot>(self, case: &Case, standing: &Standing, spot: &S) -> Carried<'a>
+        ensures { carried (S.tokens spot.now) result ≡ array_step case.now standing.now (carried (S.tokens spot.now) self.entry) (S.tokens spot.now) }
     {
         Carried {
-            refusal: first_refusal(self.refusal, case, standing, path),
+            refusal: first_refusal(self.refusal, case, standing, spot),
             label: self.label,
-            covered: self.covered || is_granted(case, standing, path),
+            covered: self.covered || is_granted(case, standing, spot),
         }
     }
 
-    /// In a class, one token further down, with its path and the label that is written in it.
-    pub fn in_class(
+    /// In a class, one token further down, where the pass is, with the label that is written in it.
+    pub fn in_class<S: Spot>(
         self,
         case: &Case,
         standing: &Standing,
-        path: &Path,
+        spot: &S,
         written: Option<Label<'a>>,
     ) -> Carried<'a>
-        ensures { carried path.now result ≡ class_step case.now standing.now (carried path.now self.entry) path.now (option_map marking_of written.entry) }
+        ensures { carried (S.tokens spot.now) result
+            ≡ class_step case.now standing.now (carried (S.tokens spot.now) self.entry) (S.tokens spot.now) (option_map marking_of written.entry) }
     {
         Carried {
-            refusal: first_refusal(self.refusal, case, standing, path),
-            label: label_below(self.label, path, written),
-            covered: (self.covered && written.is_none()) || is_granted(case, standing, path),
+            refusal: first_refusal(self.refusal, case, standing, spot),
+            label: label_below(self.label, spot, written),
+            covered: (self.covered && written.is_none()) || is_granted(case, standing, spot),
         }
     }
 
-    /// Whether the reader sees the class at the path.
-    pub fn is_seen(self, standing: &Standing, path: &Path) -> bool
-        ensures { result ≡ is_seen_by standing.now (carried path.now self.entry) }
+    /// Whether the reader sees the class here.
+    pub fn is_seen(self, standing: &Standing) -> bool
+        ensures { result ≡ is_seen_by standing.now (carried [] self.entry) }
     {
         standing.source
             || (self.refusal.is_none() && (is_cleared(standing, self.label) || self.covered))
     }
 
-    /// The verdict of the class at the path.
-    pub fn verdict(self, standing: &Standing, path: &Path) -> Verdict
-        ensures { result ≡ verdict_by standing.now (carried path.now self.entry) }
+    /// The verdict of the class here.
+    pub fn verdict(self, standing: &Standing) -> Verdict
+        ensures { result ≡ verdict_by standing.now (carried [] self.entry) }
     {
-        if self.is_seen(standing, path) {
+        if self.is_seen(standing) {
             Verdict::Shown(shown_by(standing, self.label))
         } else {
-            Verdict::Hidden(self.hiding_rule(standing, path))
+            Verdict::Hidden(self.hiding_rule(standing))
         }
     }
 
-    /// The rule that hides the class at the path, where it isn't seen.
-    pub fn hiding_rule(self, standing: &Standing, path: &Path) -> Rule
-        ensures { result ≡ hides_at standing.now (carried path.now self.entry) }
+    /// The rule that hides the class here, where it isn't seen.
+    pub fn hiding_rule(self, standing: &Standing) -> Rule
+        ensures { result ≡ hides_at standing.now (carried [] self.entry) }
     {
-        let _ = path;
         match self.refusal {
             Some(rule) => rule,
             None => hidden_by(handling(standing, self.label)),
@@ -150,68 +149,64 @@ fn hidden_by(handling: Handling) -> Rule
     }
 }
 
-/// The first refusal of the gates at the path.
-fn refused_at(case: &Case, standing: &Standing, path: &Path) -> Option<Rule>
-    ensures { result ≡ first_of (refusals_at case.now standing.now path.now) }
+/// The first refusal of the gates where the pass is.
+fn refused_at<S: Spot>(case: &Case, standing: &Standing, spot: &S) -> Option<Rule>
+    ensures { result ≡ first_of (refusals_at case.now standing.now (S.tokens spot.now)) }
 {
     for gate in case.gates.as_slice() {
-        if let Some(rule) = refused_by(gate, standing, path) {
+        if let Some(rule) = refused_by(gate, standing, spot) {
             return Some(rule);
         }
     }
     None
 }
 
-/// The refusal of a gate, if it stands at the path.
-fn refused_by(gate: &Gate, standing: &Standing, path: &Path) -> Option<Rule>
-    ensures { result ≡ (if same_path gate.now.path path.now then passage_of standing.now gate.now else None) }
+/// The refusal of a gate, if it stands where the pass is.
+fn refused_by<S: Spot>(gate: &Gate, standing: &Standing, spot: &S) -> Option<Rule>
+    ensures { result ≡ (if same_path gate.now.path (S.tokens spot.now) then passage_of standing.now gate.now else None) }
 {
-    if gate.path == *path {
+    if spot.is_at(&gate.path) {
         passes(standing, gate).err()
     } else {
         None
     }
 }
 
-fn first_refusal(above: Option<Rule>, case: &Case, standing: &Standing, path: &Path) -> Option<Rule>
-    ensures { result ≡ option_or above (first_of (refusals_at case.now standing.now path.now)) }
+fn first_refusal<S: Spot>(
+    above: Option<Rule>,
+    case: &Case,
+    standing: &Standing,
+    spot: &S,
+) -> Option<Rule>
+    ensures { result ≡ option_or above (first_of (refusals_at case.now standing.now (S.tokens spot.now))) }
 {
     match above {
         Some(rule) => Some(rule),
-        None => refused_at(case, standing, path),
+        None => refused_at(case, standing, spot),
     }
 }
 
-/// Whether a permission at this very path holds for the reader.
-fn is_granted(case: &Case, standing: &Standing, path: &Path) -> bool
-    ensures { result ≡ is_granted_at case.now standing.now path.now }
+/// Whether a permission that stands where the pass is holds for the reader.
+fn is_granted<S: Spot>(case: &Case, standing: &Standing, spot: &S) -> bool
+    ensures { result ≡ is_granted_at case.now standing.now (S.tokens spot.now) }
 {
     case.permissions
         .as_slice()
         .iter()
-        .any(|x| holds_for(standing, x) && x.path == *path)
+        .any(|x| holds_for(standing, x) && spot.is_at(&x.path))
 }
 
-fn label_below<'a>(above: Label<'a>, path: &Path, written: Option<Label<'a>>) -> Label<'a>
-    ensures { marking_of result ≡ label_step (marking_of above.entry) path.now (option_map marking_of written.entry) }
+fn label_below<'a, S: Spot>(above: Label<'a>, spot: &S, written: Option<Label<'a>>) -> Label<'a>
+    ensures { marking_of result ≡ label_step (marking_of above.entry) (S.tokens spot.now) (option_map marking_of written.entry) }
 {
     match written {
         Some(label) => label,
         None => {
-            if is_incident(path) {
+            if spot.is_at_incident() {
                 Label::Private
             } else {
                 above
             }
         }
-    }
-}
-
-fn is_incident(path: &Path) -> bool
-    ensures { result ≡ same_path path.now incident_path }
-{
-    match path.tokens() {
-        [first, second] => first.as_str() == "Incident" && second.as_str() == "0",
-        _ => false,
     }
 }

@@ -13,6 +13,7 @@ pub mod laws;
 mod numbers;
 mod permission;
 mod rule;
+mod spot;
 mod standing;
 mod verdict;
 
@@ -25,6 +26,7 @@ pub use inherited::Carried;
 pub use numbers::Numbers;
 pub use permission::{Grantee, Permission, Permissions, includes};
 pub use rule::Rule;
+pub use spot::Spot;
 pub use standing::Standing;
 pub use verdict::Verdict;
 
