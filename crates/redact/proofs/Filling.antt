@@ -1,0 +1,66 @@
+-- Where an attribute goes among members, by its name.
+use Rattle.std.proofs.Common.{◌≡◌, ℕ, zero, suc, ◌<◌, ◌≤◌, true, false, List, [], ◌∷◌, ◌++◌, map, length, get_or, take, drop, refl, ◌∙◌, ap, arith, All}
+use Rattle.std.specs.Prelude.{Option, Some, None}
+use Rattle.std.proofs.lemmas.Bool.{cond-true, cond-false, true≢false}
+use Rattle.iodef_tree.specs.Text.{Bytes, bytes_lt}
+use Rattle.iodef_tree.specs.Tree.{Leaf, Forest, leaf, Body, holds, says, Bodies, one, many, in_front, elements, member_front}
+use Rattle.iodef_tree.specs.View.{bodies, named, members_forest, forest_of_members}
+use Rattle.iodef_tree.specs.declared.object.Member.{Member}
+use Rattle.redact.specs.Judged.{put_leaf, attribute_leaf, is_end}
+use Rattle.redact.specs.Filled.{IsFilled, saying}
+
+past_front : (x : Leaf) (n : Bytes) (p : Option ℕ) (b : Body) (rest : Forest) → bytes_lt x.name n ≡ false → put_leaf x (in_front n p b rest) ≡ in_front n p b (put_leaf x rest)
+past_front x n p (holds kids) rest h = cond-false (bytes_lt x.name n) _ _ h
+past_front x n p (says content) rest h = cond-false (bytes_lt x.name n) _ _ h
+
+past_elements : (x : Leaf) (n : Bytes) (k : ℕ) (bs : List Body) (rest : Forest) → bytes_lt x.name n ≡ false → put_leaf x (elements n k bs rest) ≡ elements n k bs (put_leaf x rest)
+past_elements x n k [] rest h = refl
+past_elements x n k (b ∷ bs) rest h = past_front x n (Some k) b _ h ∙ ap (in_front n (Some k) b) (past_elements x n (suc k) bs rest h)
+
+past_member : (x : Leaf) (n : Bytes) (b : Bodies) (rest : Forest) → bytes_lt x.name n ≡ false → put_leaf x (member_front n b rest) ≡ member_front n b (put_leaf x rest)
+past_member x n (one b) rest h = past_front x n None b rest h
+past_member x n (many bs) rest h = past_elements x n 0 bs rest h
+
+stops_front : (x : Leaf) (n : Bytes) (p : Option ℕ) (b : Body) (rest : Forest) → bytes_lt x.name n ≡ true → put_leaf x (in_front n p b rest) ≡ leaf x (in_front n p b rest)
+stops_front x n p (holds kids) rest h = cond-true (bytes_lt x.name n) _ _ h
+stops_front x n p (says content) rest h = cond-true (bytes_lt x.name n) _ _ h
+
+stops_member : (x : Leaf) (n : Bytes) (b : Bodies) (rest : Forest) → IsFilled b → bytes_lt x.name n ≡ true → put_leaf x (member_front n b rest) ≡ leaf x (member_front n b rest)
+stops_member x n (one b) rest filled h = stops_front x n None b rest h
+stops_member x n (many []) rest filled h = absurd (true≢false filled)
+stops_member x n (many (b ∷ bs)) rest filled h = stops_front x n (Some 0) b _ h
+
+abbrev Pair : Type 0
+Pair = Bytes × Member
+
+-- the place is behind the last member of a name that isn't later
+pub put_split : (name text : Bytes) (ms : List Pair) (i : ℕ) → i ≤ length ms →
+    ((k : ℕ) (d : Pair) → k < i → bytes_lt name (get_or ms k d).0 ≡ false) →
+    ((d : Pair) → i < length ms → bytes_lt name (get_or ms i d).0 ≡ true × IsFilled (bodies (get_or ms i d).1)) →
+    put_leaf (attribute_leaf (name, text)) (members_forest ms) ≡ forest_of_members (map named (take i ms) ++ (name, saying text) ∷ map named (drop i ms))
+put_split name text [] zero le before here = refl
+put_split name text [] (suc i) le before here = absurd (omega arith)
+put_split name text (m ∷ ms) zero le before here =
+    let now = here m (omega arith) in
+    stops_member (attribute_leaf (name, text)) m.0 (bodies m.1) (members_forest ms) now.1 now.0
+put_split name text (m ∷ ms) (suc i) le before here =
+    past_member (attribute_leaf (name, text)) m.0 (bodies m.1) (members_forest ms) (before 0 m (omega arith))
+    ∙ ap (member_front m.0 (bodies m.1)) (put_split name text ms i (omega arith) (λ k d h. before (suc k) d (omega (arith, h))) (λ d h. here d (omega (arith, h))))
+
+front-end : (n : Bytes) (p : Option ℕ) (b : Body) (rest : Forest) → is_end (in_front n p b rest) ≡ false
+front-end n p (holds kids) rest = refl
+front-end n p (says content) rest = refl
+
+member-end : (n : Bytes) (b : Bodies) (rest : Forest) → IsFilled b → is_end (member_front n b rest) ≡ false
+member-end n (one b) rest h = front-end n None b rest
+member-end n (many []) rest h = absurd (true≢false h)
+member-end n (many (b ∷ bs)) rest h = front-end n (Some 0) b _
+
+-- members that have lines have an end only where there are none
+pub filled-end : (ms : List Pair) → All (λ m. IsFilled (bodies m.1)) ms → (length ms ≡ 0 → ⊥) → is_end (members_forest ms) ≡ false
+filled-end [] all h = absurd (h refl)
+filled-end (m ∷ ms) all h = member-end m.0 (bodies m.1) (members_forest ms) (all 0 m (omega arith))
+
+pub filled-none : (ms : List Pair) → length ms ≡ 0 → is_end (members_forest ms) ≡ true
+filled-none [] none = refl
+filled-none (m ∷ ms) none = absurd (omega (arith, none))

@@ -1,0 +1,101 @@
+-- Where the markings of a document were accepted, a class in which no label is written has no attribute of one.
+use Rattle.std.proofs.Common.{◌≡◌, ℕ, suc, Bool, true, false, List, [], ◌++◌, refl, sym, ◌∙◌, ap, if◌then◌else◌}
+use Rattle.std.specs.Prelude.{Option, Some, None, is_some, is_none, option_map, codes}
+use Rattle.std.specs.Option.{option_or}
+use Rattle.std.specs.Str.{bytes_eq}
+use Rattle.std.proofs.lemmas.Bool.{false≢true}
+use Rattle.iodef_tree.specs.Text.{Bytes, Tokens}
+use Rattle.iodef_tree.specs.Tree.{Content, text, value, Forest, end, leaf, branch, steps, kind_of, text_of}
+use Rattle.iodef_tree.specs.Paths.{Entry}
+use Rattle.iodef_tree.specs.Walk.{AreBlocks}
+use Rattle.marking.specs.Label.{Marking, public, white, partner, green, need_to_know, amber, private, red, by_arrangement, extended}
+use Rattle.marking.specs.Marks.{Held, absent, plain, other, held_by_kind, spelled_by, is_rule_kept}
+use Rattle.marking.specs.Members.{held_by_leaf, held_in, is_rule_kept_in}
+use Rattle.marking.specs.Pass.{bad_below}
+use Rattle.marking.proofs.Written.{AreUnderParents, written-block}
+use Rattle.marking.proofs.Placed.{ArePlaced}
+use Rattle.policy.specs.declared.standing.Standing.{Standing}
+use Rattle.policy.specs.declared.case.Case.{Case}
+use Rattle.redact.specs.Told.{attributes_of, verdicts_of}
+use Rattle.redact.proofs.Ordered.{Lacks, Fits, LabelsFit}
+use Rattle.redact.proofs.Sizes.{AreLabelNames}
+
+held-kind : (in_array : Bool) (c : Content) → (if in_array then other else held_by_kind (kind_of c) (text_of c)) ≡ absent → ⊥
+held-kind true c h = cc
+held-kind false (text s) h = cc
+held-kind false (value s) h = cc
+
+-- what is held under no name isn't there
+absent-lacks : (name : Bytes) (f : Forest) → held_in name f ≡ absent → Lacks name f
+absent-lacks name end h = tt
+absent-lacks name (leaf i rest) h = by_name (bytes_eq i.name name) refl h (absent-lacks name rest)
+  where
+    by_name : (b : Bool) → bytes_eq i.name name ≡ b → (if b then held_by_leaf i else held_in name rest) ≡ absent → (held_in name rest ≡ absent → Lacks name rest) → Lacks name (leaf i rest)
+    by_name true e k next = absurd (held-kind (is_some i.place) i.content k)
+    by_name false e k next = (e, next k)
+absent-lacks name (branch n place kids rest) h = by_name (bytes_eq n name) refl h (absent-lacks name rest)
+  where
+    by_name : (b : Bool) → bytes_eq n name ≡ b → (if b then other else held_in name rest) ≡ absent → (held_in name rest ≡ absent → Lacks name rest) → Lacks name (branch n place kids rest)
+    by_name true e k next = cc
+    by_name false e k next = (e, next k)
+
+some-none : {X : Type 0} (o : Option X) → is_some o ≡ true → is_none o ≡ true → ⊥
+some-none None h k = false≢true h
+some-none (Some x) h k = false≢true k
+
+unmarked-absent : (r e : Held) → is_rule_kept r e ≡ true → is_none (spelled_by r e) ≡ true → (r ≡ absent) × (e ≡ absent)
+unmarked-absent absent absent h k = (refl, refl)
+unmarked-absent absent (plain t) h k = absurd (false≢true h)
+unmarked-absent absent other h k = absurd (false≢true h)
+unmarked-absent (plain t) e h k = absurd (some-none (spelled_by (plain t) e) h k)
+unmarked-absent other e h k = absurd (false≢true h)
+
+fits-label : (l : Marking) (f : Forest) → Lacks (codes "restriction") f → Lacks (codes "ext-restriction") f → Fits (attributes_of l) f
+fits-label public f r e = (r, tt, tt)
+fits-label white f r e = (r, tt, tt)
+fits-label partner f r e = (r, tt, tt)
+fits-label green f r e = (r, tt, tt)
+fits-label need_to_know f r e = (r, tt, tt)
+fits-label amber f r e = (r, tt, tt)
+fits-label private f r e = (r, tt, tt)
+fits-label red f r e = (r, tt, tt)
+fits-label by_arrangement f r e = (r, tt, tt)
+fits-label (extended t) f r e = (e, (refl, tt), (r, tt, tt))
+
+pub label-names : (l : Marking) → AreLabelNames (attributes_of l)
+label-names public = (refl, tt)
+label-names white = (refl, tt)
+label-names partner = (refl, tt)
+label-names green = (refl, tt)
+label-names need_to_know = (refl, tt)
+label-names amber = (refl, tt)
+label-names private = (refl, tt)
+label-names red = (refl, tt)
+label-names by_arrangement = (refl, tt)
+label-names (extended t) = (refl, (refl, tt))
+
+-- what the marking rule says of a class, of those below it and of those behind it
+pub accepted : (name : Bytes) (place : Option ℕ) (kids rest : Forest) → bad_below (branch name place kids rest) ≡ None →
+    (is_rule_kept_in kids ≡ true) × (bad_below kids ≡ None) × (bad_below rest ≡ None)
+accepted name place kids rest h = by_rule (is_rule_kept_in kids) (bad_below kids) (bad_below rest) h
+  where
+    by_rule : (b : Bool) (k r : Option Tokens) → option_or (option_map (λ t. steps name place ++ t) (if b then k else Some [])) r ≡ None →
+        (b ≡ true) × (k ≡ None) × (r ≡ None)
+    by_rule true None r h = (refl, refl, h)
+    by_rule true (Some t) r h = cc
+    by_rule false k r h = cc
+
+module _ (es : List Entry) (c : Case) (s : Standing) (under : AreUnderParents es) where
+  pub labels-fit : (f : Forest) (d : ℕ) (p : Tokens) → AreBlocks es d p f → ArePlaced es p f → bad_below f ≡ None → LabelsFit (verdicts_of es c s) p f
+  labels-fit end d p blocks there ok = tt
+  labels-fit (leaf i rest) d p blocks there ok = labels-fit rest d p blocks there ok
+  labels-fit (branch name place kids rest) d p blocks there ok =
+      let q = p ++ steps name place in
+      let parts = accepted name place kids rest ok in
+      let written = written-block es (suc d) q kids under blocks.0 there.0 in (
+        (λ u.
+            let gone = unmarked-absent (held_in (codes "restriction") kids) (held_in (codes "ext-restriction") kids) parts.0 (ap is_none (sym written) ∙ u) in
+            fits-label _ kids (absent-lacks (codes "restriction") kids gone.0) (absent-lacks (codes "ext-restriction") kids gone.1)),
+        labels-fit kids (suc d) q blocks.1 there.2 parts.1,
+        labels-fit rest d p blocks.2 there.3 parts.2,
+      )

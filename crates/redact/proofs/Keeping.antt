@@ -1,0 +1,186 @@
+-- The kept outline is what the pass leaves.
+use Rattle.std.proofs.Common.{◌≡◌, ℕ, zero, suc, Bool, true, false, not, List, [], ◌∷◌, ◌++◌, refl, sym, ◌∙◌, ap, subst, append_assoc, arith, filter, if◌then◌else◌, ◌&&◌, ◌||◌}
+use Rattle.std.specs.Prelude.{Option, Some, None, is_some}
+use Rattle.std.specs.List.{list_any}
+use Rattle.std.proofs.lemmas.Bool.{false≢true, true≢false, and_left, cond-true, cond-false}
+use Rattle.std.proofs.lemmas.List.Folds.{list_any-append}
+use Rattle.iodef_tree.specs.Text.{Bytes, Tokens, is_root}
+use Rattle.iodef_tree.specs.Paths.{Entry, is_class, is_class_kind}
+use Rattle.iodef_tree.specs.Tree.{Leaf, Forest, end, leaf, branch, steps, Content, text, value, kind_of, text_of, leaf_line, class_line, lines}
+use Rattle.iodef_tree.specs.Walk.{walk, leaf_entry, class_entry}
+use Rattle.iodef_tree.specs.declared.line.Line.{Line}
+use Rattle.iodef_tree.specs.declared.line.Kind.TheVariants as kind
+use Rattle.redact.specs.Kept.{Attribute, Verdicts, put_all, attribute_lines, is_frame, is_visible_class, is_kept, added, labelled, kept}
+use Rattle.redact.specs.Judged.{judge, judgment_at, inside, keeps_plain, shows_label, home_at, left_before, new_place, left_with, moved, is_end, put_attributes, with_label, cut}
+use Rattle.redact.proofs.Puts.{IsShallow, attributes-append, attributes-lines}
+
+pub plain_kind : (c : Content) → is_class_kind (kind_of c) ≡ false
+plain_kind (text t) = refl
+plain_kind (value t) = refl
+
+pub deep_path : (p : Tokens) (name : Bytes) (place : Option ℕ) → is_root (p ++ steps name place) ≡ false
+deep_path [] name None = refl
+deep_path [] name (Some n) = refl
+deep_path (x ∷ p) name place = refl
+
+pub in_array-kept : (n : ℕ) (place : Option ℕ) → is_some (new_place n place) ≡ is_some place
+in_array-kept n None = refl
+in_array-kept n (Some zero) = refl
+in_array-kept n (Some (suc k)) = refl
+
+pub leaf_line-moved : (d n : ℕ) (i : Leaf) → leaf_line d (moved n i) ≡ leaf_line d i
+leaf_line-moved d n i =
+    ap (λ b. let l : Line = record { depth = d; name = i.name; in_array = b; kind = kind_of i.content; text = text_of i.content } in l) (in_array-kept n i.place)
+
+pub class_line-moved : (d n : ℕ) (name : Bytes) (place : Option ℕ) → class_line d name (new_place n place) ≡ class_line d name place
+class_line-moved d n name place =
+    ap (λ b. let l : Line = record { depth = d; name = name; in_array = b; kind = kind.Class; text = [] } in l) (in_array-kept n place)
+
+lines-shallow : (f : Forest) (d : ℕ) (ls : List Line) → IsShallow d ls → IsShallow (suc d) (lines d f ++ ls)
+lines-shallow end d [] h = tt
+lines-shallow end d (l ∷ ls) h = omega arith
+lines-shallow (leaf i rest) d ls h = omega arith
+lines-shallow (branch name place kids rest) d ls h = omega arith
+
+module _ (v : Verdicts) where
+  -- a line of a visible class
+  abbrev pub is_seen : Entry → Bool
+  is_seen e = is_class e && v.visible e.path
+
+  -- some class of the list is visible
+  abbrev pub any_seen : List Entry → Bool
+  any_seen es = list_any is_seen es
+
+  -- at each class, what is decided says whether a visible one lies below it
+  abbrev pub SaysBelow : ℕ → Tokens → Forest → Type 0
+  SaysBelow d p end = Unit {0}
+  SaysBelow d p (leaf i rest) = SaysBelow d p rest
+  SaysBelow d p (branch name place kids rest) =
+      let q = p ++ steps name place in
+      (v.holds_visible q ≡ any_seen (walk (suc d) q kids)) × SaysBelow (suc d) q kids × SaysBelow d p rest
+
+  pub home-class : (p : Tokens) (name : Bytes) (place : Option ℕ) → home_at v (p ++ steps name place) ≡ inside (v.visible (p ++ steps name place))
+  home-class p name place = cond-false (is_root (p ++ steps name place)) _ _ (deep_path p name place)
+
+  pub keeps-home : (p : Tokens) → (is_root p || v.visible p) ≡ keeps_plain (home_at v p)
+  keeps-home [] = refl
+  keeps-home (x ∷ p) = refl
+
+  pub shows-home : (p : Tokens) → is_visible_class v p ≡ shows_label (home_at v p)
+  shows-home [] = refl
+  shows-home (x ∷ p) = refl
+
+  -- below a class that isn't visible nothing is left just where no visible class lies below
+  pub ends : (f : Forest) (d : ℕ) (p : Tokens) (n : ℕ) → is_end (cut (inside false) n (judge v p f)) ≡ not (any_seen (walk d p f))
+  ends end d p n = refl
+  ends (leaf i rest) d p n =
+      ends rest d p (left_before n i.place)
+      ∙ ap (λ b. not ((b && v.visible (leaf_entry d p i).path) || any_seen (walk d p rest))) (sym (plain_kind i.content))
+  ends (branch name place kids rest) d p n =
+      let q = p ++ steps name place in
+      let K = walk (suc d) q kids in
+      let R = walk d p rest in
+      by_class (v.visible q) (ends kids (suc d) q 0) (ends rest d p (left_before n place))
+      ∙ ap (λ b. not (v.visible q || b)) (sym (list_any-append is_seen K R))
+    where
+      by_class : (b : Bool) → is_end (cut (inside false) 0 (judge v (p ++ steps name place) kids)) ≡ not (any_seen (walk (suc d) (p ++ steps name place) kids)) →
+          is_end (cut (inside false) (left_before n place) (judge v p rest)) ≡ not (any_seen (walk d p rest)) →
+          is_end (if b then branch name (new_place n place) (with_label (inside false) (judgment_at v (p ++ steps name place)) (cut (inside true) 0 (judge v (p ++ steps name place) kids))) (cut (inside false) (left_with n place) (judge v p rest))
+          else (if is_end (cut (inside false) 0 (judge v (p ++ steps name place) kids)) then cut (inside false) (left_before n place) (judge v p rest)
+          else branch name (new_place n place) (cut (inside false) 0 (judge v (p ++ steps name place) kids)) (cut (inside false) (left_with n place) (judge v p rest))))
+          ≡ not (b || (any_seen (walk (suc d) (p ++ steps name place) kids) || any_seen (walk d p rest)))
+      by_class true k r = refl
+      by_class false k r = by_below (is_end (cut (inside false) 0 (judge v (p ++ steps name place) kids))) (any_seen (walk (suc d) (p ++ steps name place) kids)) k
+        where
+          by_below : (e a : Bool) → e ≡ not a →
+              is_end (if e then cut (inside false) (left_before n place) (judge v p rest) else branch name (new_place n place) (cut (inside false) 0 (judge v (p ++ steps name place) kids)) (cut (inside false) (left_with n place) (judge v p rest)))
+              ≡ not (a || any_seen (walk d p rest))
+          by_below true false h = r
+          by_below false true h = refl
+          by_below true true h = absurd (true≢false h)
+          by_below false false h = absurd (false≢true h)
+
+end-lines : (d : ℕ) (f : Forest) → is_end f ≡ true → lines d f ≡ []
+end-lines d end h = refl
+end-lines d (leaf i rest) h = absurd (false≢true h)
+end-lines d (branch name place kids rest) h = absurd (false≢true h)
+
+-- a class line with the lines behind it, where the class is visible, is a frame, or is wholly hidden
+choose_class : (visible holds says : Bool) (d n : ℕ) (name : Bytes) (place : Option ℕ) (label : List Attribute) (X E : List Line) (inner : Bool → Forest) (dropped behind : Forest) →
+    IsShallow d E → (visible ≡ false → is_end (inner false) ≡ not holds) →
+    X ≡ lines (suc d) (inner visible) ++ (lines d behind ++ E) → X ≡ lines (suc d) (inner visible) ++ (lines d dropped ++ E) →
+    (if visible || (not visible && holds) then class_line d name place ∷ put_all (if visible && says then attribute_lines (suc d) label else []) X else X)
+    ≡ lines d (if visible then branch name (new_place n place) (if says then put_attributes label (inner true) else inner true) behind
+    else (if is_end (inner false) then dropped else branch name (new_place n place) (inner false) behind)) ++ E
+choose_class true holds true d n name place label X E inner dropped behind shallow bare here gone =
+    ap (λ l. l ∷ put_all (attribute_lines (suc d) label) X) (sym (class_line-moved d n name place))
+    ∙ ap (λ ls. class_line d name (new_place n place) ∷ ls) (
+    ap (put_all (attribute_lines (suc d) label)) here
+    ∙ attributes-append (suc d) label (lines (suc d) (inner true)) (lines d behind ++ E) (lines-shallow behind d E shallow)
+    ∙ ap (λ ls. ls ++ (lines d behind ++ E)) (attributes-lines (suc d) label (inner true))
+    ∙ sym (append_assoc (lines (suc d) (put_attributes label (inner true))) (lines d behind) E))
+choose_class true holds false d n name place label X E inner dropped behind shallow bare here gone =
+    ap (λ l. l ∷ X) (sym (class_line-moved d n name place))
+    ∙ ap (λ ls. class_line d name (new_place n place) ∷ ls) (here ∙ sym (append_assoc (lines (suc d) (inner true)) (lines d behind) E))
+choose_class false true says d n name place label X E inner dropped behind shallow bare here gone =
+    ap (λ l. l ∷ X) (sym (class_line-moved d n name place))
+    ∙ ap (λ ls. class_line d name (new_place n place) ∷ ls) (here ∙ sym (append_assoc (lines (suc d) (inner false)) (lines d behind) E))
+    ∙ ap (λ f. lines d f ++ E) (sym (cond-false (is_end (inner false)) dropped (branch name (new_place n place) (inner false) behind) (bare refl)))
+choose_class false false says d n name place label X E inner dropped behind shallow bare here gone =
+    gone ∙ ap (λ ls. ls ++ (lines d dropped ++ E)) (end-lines (suc d) (inner false) (bare refl))
+    ∙ ap (λ f. lines d f ++ E) (sym (cond-true (is_end (inner false)) dropped (branch name (new_place n place) (inner false) behind) (bare refl)))
+
+module _ (v : Verdicts) where
+  kept-plain : (e : Entry) (es : List Entry) → is_class e ≡ false →
+      kept v (e ∷ es) ≡ (if is_root e.parent || v.visible e.parent then e.line ∷ kept v es else kept v es)
+  kept-plain e es h =
+      ap (λ b. labelled v (if b then e ∷ filter (is_kept v) es else filter (is_kept v) es)) (cond-false (is_class e) _ _ h)
+      ∙ elim (is_root e.parent || v.visible e.parent) as (λ b. labelled v (if b then e ∷ filter (is_kept v) es else filter (is_kept v) es) ≡ (if b then e.line ∷ kept v es else kept v es)) [
+        | true ↦ ap (λ b. e.line ∷ put_all (if b then attribute_lines (suc e.line.depth) (v.label e.path) else []) (kept v es)) (and_left (is_class e) _ h)
+        | false ↦ refl
+      ]
+
+  kept-class : (e : Entry) (es : List Entry) → is_class e ≡ true →
+      kept v (e ∷ es) ≡ (if v.visible e.path || is_frame v e.path then e.line ∷ put_all (added v e) (kept v es) else kept v es)
+  kept-class e es h =
+      ap (λ b. labelled v (if b then e ∷ filter (is_kept v) es else filter (is_kept v) es)) (cond-true (is_class e) _ _ h)
+      ∙ elim (v.visible e.path || is_frame v e.path) as (λ b. labelled v (if b then e ∷ filter (is_kept v) es else filter (is_kept v) es) ≡ (if b then e.line ∷ put_all (added v e) (kept v es) else kept v es)) [ true ↦ refl | false ↦ refl ]
+
+  pub kept-cut : (f : Forest) (d : ℕ) (p : Tokens) (n : ℕ) (es : List Entry) → SaysBelow v d p f → IsShallow d (kept v es) →
+      kept v (walk d p f ++ es) ≡ lines d (cut (home_at v p) n (judge v p f)) ++ kept v es
+  kept-cut end d p n es says shallow = refl
+  kept-cut (leaf i rest) d p n es says shallow =
+      let e = leaf_entry d p i in
+      let h = home_at v p in
+      let E = kept v es in
+      let W = kept v (walk d p rest ++ es) in
+      let J = judge v p rest in
+      kept-plain e (walk d p rest ++ es) (plain_kind i.content)
+      ∙ ap (λ b. if b then leaf_line d i ∷ W else W) (keeps-home v p)
+      ∙ elim (keeps_plain h) as (λ b. (if b then leaf_line d i ∷ W else W)
+      ≡ lines d (if b then leaf (moved n i) (cut h (left_with n i.place) J) else cut h (left_before n i.place) J) ++ E) [
+        | true ↦ ap (λ l. l ∷ W) (sym (leaf_line-moved d n i)) ∙ ap (λ ls. leaf_line d (moved n i) ∷ ls) (kept-cut rest d p (left_with n i.place) es says shallow)
+        | false ↦ kept-cut rest d p (left_before n i.place) es says shallow
+      ]
+  kept-cut (branch name place kids rest) d p n es says shallow =
+      let e = class_entry d p name place in
+      let q = p ++ steps name place in
+      let h = home_at v p in
+      let K = walk (suc d) q kids in
+      let R = walk d p rest in
+      let E = kept v es in
+      let J = judge v p rest in
+      let inner = λ (b : Bool). cut (inside b) 0 (judge v q kids) in
+      let behind = λ (m : ℕ). cut h m J in
+      let all : (m : ℕ) → kept v ((K ++ R) ++ es) ≡ lines (suc d) (inner (v.visible q)) ++ (lines d (behind m) ++ E) = λ m.
+      let after : kept v (R ++ es) ≡ lines d (behind m) ++ E = kept-cut rest d p m es says.2 shallow in
+      ap (kept v) (append_assoc K R es)
+      ∙ kept-cut kids (suc d) q 0 (R ++ es) says.1 (subst (IsShallow (suc d)) (sym after) (lines-shallow (behind m) d E shallow))
+      ∙ ap (λ g. lines (suc d) (cut g 0 (judge v q kids)) ++ kept v (R ++ es)) (home-class v p name place)
+      ∙ ap (λ ls. lines (suc d) (inner (v.visible q)) ++ ls) after in
+      kept-class e ((K ++ R) ++ es) refl
+      ∙ ap (λ b. if v.visible q || is_frame v q then class_line d name place ∷ put_all (if v.visible q && (v.unmarked q && not b) then attribute_lines (suc d) (v.label q) else []) (kept v ((K ++ R) ++ es)) else kept v ((K ++ R) ++ es)) (shows-home v p)
+      ∙ choose_class (v.visible q) (v.holds_visible q) (v.unmarked q && not (shows_label h)) d n name place (v.label q) (kept v ((K ++ R) ++ es)) E
+      inner (behind (left_before n place)) (behind (left_with n place)) shallow
+      (λ hidden. ends v kids (suc d) q 0 ∙ ap not (sym says.0))
+      (all (left_with n place)) (all (left_before n place))

@@ -1,0 +1,71 @@
+-- The order in which what is withheld is listed.
+use Rattle.std.proofs.Common.{◌≡◌, List, true, refl, sym, ◌∙◌, ap, rules, if◌then◌else◌}
+use Rattle.std.specs.Prelude.{codes, Some}
+use Rattle.std.specs.List.{dedup}
+use Rattle.std.specs.Cmp.{IsTotalOrder, IsEquivalence}
+use Rattle.std.specs.Cmp.Rules.{comparing}
+use Rattle.std.specs.Str.{bytes_eq}
+use Rattle.std.specs.List.Sorted.{IsPermutation, IsSorted}
+use Rattle.std.proofs.lemmas.Bool.{and_parts}
+use Rattle.std.proofs.lemmas.List.Sorted.{Contains-permutation, IsPermutation-sym}
+use Rattle.std.proofs.lemmas.List.Kept.{Contains-dedup, Contains-from_dedup, IsStrictlySortedBy-dedup}
+use Rattle.iodef_tree.specs.Text.{Bytes, Tokens}
+use Rattle.iodef_tree.specs.Pointer.{pointer_text, pointer_tokens}
+use Rattle.iodef_tree.proofs.Inverse.{pointer_tokens-pointer_text}
+use Rattle.iodef_tree.proofs.Order.{bytes_eq-true}
+use Rattle.policy.specs.Rule.{name_of}
+use Rattle.policy.specs.declared.rule.Rule.{Rule}
+use Rattle.policy.specs.declared.rule.Rule.TheVariants.{Src, P, O, C, M, A, X, G0, G1, G2, G4, G4X, HGreen, HAmber, HStrict, HRed}
+use Rattle.redact.specs.Withheld.{Withheld, withheld_cmp, same_withheld, withheld-ties, Lists}
+
+pub withheld-equiv : IsEquivalence same_withheld
+withheld-equiv = search (comparing, rules)
+
+pub withheld-total : IsTotalOrder withheld_cmp
+withheld-total = search (comparing, rules)
+
+-- the rule of a name
+abbrev named : Bytes → Rule
+named t =
+    if bytes_eq t (codes "SRC") then Src else if bytes_eq t (codes "P") then P else if bytes_eq t (codes "O") then O else if bytes_eq t (codes "C") then C
+    else if bytes_eq t (codes "M") then M else if bytes_eq t (codes "A") then A else if bytes_eq t (codes "X") then X else if bytes_eq t (codes "G0") then G0
+    else if bytes_eq t (codes "G1") then G1 else if bytes_eq t (codes "G2") then G2 else if bytes_eq t (codes "G4") then G4 else if bytes_eq t (codes "G4X") then G4X
+    else if bytes_eq t (codes "H-GREEN") then HGreen else if bytes_eq t (codes "H-AMBER") then HAmber else if bytes_eq t (codes "H-STRICT") then HStrict else HRed
+
+named-name : (r : Rule) → named (name_of r) ≡ r
+named-name Src = refl
+named-name P = refl
+named-name O = refl
+named-name C = refl
+named-name M = refl
+named-name A = refl
+named-name X = refl
+named-name G0 = refl
+named-name G1 = refl
+named-name G2 = refl
+named-name G4 = refl
+named-name G4X = refl
+named-name HGreen = refl
+named-name HAmber = refl
+named-name HStrict = refl
+named-name HRed = refl
+
+from_some : (p q : Tokens) → pointer_text p ≡ pointer_text q → p ≡ q
+from_some p q e =
+    let both : Some p ≡ Some q = sym (pointer_tokens-pointer_text p) ∙ ap pointer_tokens e ∙ pointer_tokens-pointer_text q in cc
+
+-- no two pairs are listed alike
+pub withheld-same : (x y : Withheld) → same_withheld x y ≡ true → x ≡ y
+withheld-same x y h =
+    let parts = and_parts (bytes_eq (pointer_text x.0) (pointer_text y.0)) (bytes_eq (name_of x.1) (name_of y.1)) h in
+    let places : x.0 ≡ y.0 = from_some x.0 y.0 (bytes_eq-true (pointer_text x.0) (pointer_text y.0) parts.0) in
+    let ruled : x.1 ≡ y.1 = sym (named-name x.1) ∙ ap named (bytes_eq-true (name_of x.1) (name_of y.1) parts.1) ∙ named-name y.1 in
+    λ i. (places i, ruled i)
+
+-- sorted and without repeats
+pub lists-dedup : (xs ys : List Withheld) → IsPermutation xs ys → IsSorted withheld_cmp ys → Lists xs (dedup same_withheld ys)
+lists-dedup xs ys same sorted = record {
+  ascending = IsStrictlySortedBy-dedup withheld-total withheld-ties ys sorted;
+  sound = λ x h. Contains-permutation ys xs x (IsPermutation-sym xs ys same) (Contains-from_dedup same_withheld ys x h);
+  complete = λ x h. Contains-dedup withheld-equiv withheld-same ys x (Contains-permutation xs ys x same h);
+}

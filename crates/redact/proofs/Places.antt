@@ -1,0 +1,255 @@
+-- Where the kept classes of a document stand in its excerpt.
+use Rattle.std.proofs.Common.{◌≡◌, ℕ, suc, Bool, true, false, not, List, [], ◌∷◌, ◌++◌, refl, sym, ◌∙◌, ap, subst, map, filter, if◌then◌else◌, ◌&&◌, ◌||◌}
+use Rattle.std.specs.List.{zip, AllByRecursion, IsDistinct}
+use Rattle.std.proofs.lemmas.Bool.{false≢true, cond-true, cond-false}
+use Rattle.std.proofs.lemmas.List.{map-append, append-nil}
+use Rattle.std.proofs.lemmas.List.Elements.{filter-append}
+use Rattle.iodef_tree.specs.Text.{Tokens, bytes_lt, same_path, is_root}
+use Rattle.iodef_tree.specs.Paths.{Entry, is_class, class_paths, classes_of}
+use Rattle.iodef_tree.specs.Tree.{Leaf, Forest, end, leaf, branch, steps, lines}
+use Rattle.iodef_tree.specs.Sound.{IsSound}
+use Rattle.iodef_tree.specs.Walk.{walk, leaf_entry, class_entry}
+use Rattle.iodef_tree.proofs.Order.{same_path-refl}
+use Rattle.iodef_tree.proofs.Siblings.{all-append}
+use Rattle.iodef_tree.proofs.Located.{located-lines}
+use Rattle.iodef_tree.proofs.Distinct.{paths-distinct, distinct-filter}
+use Rattle.redact.specs.Kept.{Attribute, Verdicts, is_frame, is_kept, kept}
+use Rattle.redact.specs.Withheld.{beside, class_places, place_by}
+use Rattle.redact.specs.Judged.{Judged, none, plain, class, judge, Home, root, inside, keeps_plain, shows_label, home_at, left_before, new_place, left_with, moved, is_end, put_leaf, attribute_leaf, put_attributes, with_label, cut, places}
+use Rattle.redact.proofs.Keeping.{plain_kind, deep_path, home-class, SaysBelow, ends, kept-cut}
+
+abbrev here : Tokens × Tokens → Tokens
+here x = x.0
+
+abbrev there : Tokens × Tokens → Tokens
+there x = x.1
+
+class_paths-append : (xs ys : List Entry) → class_paths (xs ++ ys) ≡ class_paths xs ++ class_paths ys
+class_paths-append xs ys =
+    ap (map (λ e. e.path)) (filter-append is_class xs ys) ∙ map-append (λ e. e.path) (filter is_class xs) (filter is_class ys)
+
+-- ---- in the excerpt
+
+-- attributes bring no class
+paths-put : (x : Leaf) (f : Forest) (d : ℕ) (q : Tokens) → class_paths (walk d q (put_leaf x f)) ≡ class_paths (walk d q f)
+paths-put x end d q = ap (λ b. map (λ e. e.path) (if b then leaf_entry d q x ∷ [] else [])) (plain_kind x.content)
+paths-put x (leaf i rest) d q =
+    elim (bytes_lt x.name i.name) as (λ b. class_paths (walk d q (if b then leaf x (leaf i rest) else leaf i (put_leaf x rest))) ≡ class_paths (walk d q (leaf i rest))) [
+      | true ↦ ap (λ b. map (λ e. e.path) (if b then leaf_entry d q x ∷ filter is_class (walk d q (leaf i rest)) else filter is_class (walk d q (leaf i rest)))) (plain_kind x.content)
+      | false ↦
+          plain_first i d q (walk d q (put_leaf x rest)) ∙ paths-put x rest d q ∙ sym (plain_first i d q (walk d q rest))
+    ]
+  where
+    plain_first : (i : Leaf) (d : ℕ) (q : Tokens) (es : List Entry) → class_paths (leaf_entry d q i ∷ es) ≡ class_paths es
+    plain_first i d q es = ap (λ b. map (λ e. e.path) (if b then leaf_entry d q i ∷ filter is_class es else filter is_class es)) (plain_kind i.content)
+paths-put x (branch name place kids rest) d q =
+    let r = q ++ steps name place in
+    let K = walk (suc d) r kids in
+    elim (bytes_lt x.name name) as (λ b. class_paths (walk d q (if b then leaf x (branch name place kids rest) else branch name place kids (put_leaf x rest))) ≡ class_paths (walk d q (branch name place kids rest))) [
+      | true ↦ ap (λ b. map (λ e. e.path) (if b then leaf_entry d q x ∷ filter is_class (walk d q (branch name place kids rest)) else filter is_class (walk d q (branch name place kids rest)))) (plain_kind x.content)
+      | false ↦ ap (λ ps. r ∷ ps) (class_paths-append K (walk d q (put_leaf x rest)) ∙ ap (λ ps. class_paths K ++ ps) (paths-put x rest d q) ∙ sym (class_paths-append K (walk d q rest)))
+    ]
+
+paths-attributes : (label : List Attribute) (f : Forest) (d : ℕ) (q : Tokens) → class_paths (walk d q (put_attributes label f)) ≡ class_paths (walk d q f)
+paths-attributes [] f d q = refl
+paths-attributes (a ∷ rest) f d q = paths-put (attribute_leaf a) (put_attributes rest f) d q ∙ paths-attributes rest f d q
+
+paths-label : (says : Bool) (label : List Attribute) (f : Forest) (d : ℕ) (q : Tokens) →
+    class_paths (walk d q (if says then put_attributes label f else f)) ≡ class_paths (walk d q f)
+paths-label true label f d q = paths-attributes label f d q
+paths-label false label f d q = refl
+
+-- the classes of the excerpt stand at the places
+paths-cut : (J : Judged) (h : Home) (d : ℕ) (p q : Tokens) (n : ℕ) → class_paths (walk d q (cut h n J)) ≡ map there (places h p q n J)
+paths-cut none h d p q n = refl
+paths-cut (plain i rest) h d p q n =
+    elim (keeps_plain h) as (λ b. class_paths (walk d q (if b then leaf (moved n i) (cut h (left_with n i.place) rest) else cut h (left_before n i.place) rest))
+    ≡ map there (places h p q (if b then left_with n i.place else left_before n i.place) rest)) [
+      | true ↦ ap (λ b. map (λ e. e.path) (if b then leaf_entry d q (moved n i) ∷ filter is_class (walk d q (cut h (left_with n i.place) rest)) else filter is_class (walk d q (cut h (left_with n i.place) rest)))) (plain_kind i.content)
+          ∙ paths-cut rest h d p q (left_with n i.place)
+      | false ↦ paths-cut rest h d p q (left_before n i.place)
+    ]
+paths-cut (class name place j kids rest) h d p q n =
+    let p' = p ++ steps name place in
+    let r = q ++ steps name (new_place n place) in
+    by_class j.visible (is_end (cut (inside false) 0 kids)) (paths-cut kids (inside true) (suc d) p' r 0) (paths-cut kids (inside false) (suc d) p' r 0)
+    (paths-cut rest h d p q (left_with n place)) (paths-cut rest h d p q (left_before n place))
+  where
+    by_class : (b e : Bool) →
+        class_paths (walk (suc d) (q ++ steps name (new_place n place)) (cut (inside true) 0 kids)) ≡ map there (places (inside true) (p ++ steps name place) (q ++ steps name (new_place n place)) 0 kids) →
+        class_paths (walk (suc d) (q ++ steps name (new_place n place)) (cut (inside false) 0 kids)) ≡ map there (places (inside false) (p ++ steps name place) (q ++ steps name (new_place n place)) 0 kids) →
+        class_paths (walk d q (cut h (left_with n place) rest)) ≡ map there (places h p q (left_with n place) rest) →
+        class_paths (walk d q (cut h (left_before n place) rest)) ≡ map there (places h p q (left_before n place) rest) →
+        class_paths (walk d q (
+        if b then branch name (new_place n place) (with_label h j (cut (inside true) 0 kids)) (cut h (left_with n place) rest)
+        else (if e then cut h (left_before n place) rest else branch name (new_place n place) (cut (inside false) 0 kids) (cut h (left_with n place) rest))))
+        ≡ map there (
+        if b then (p ++ steps name place, q ++ steps name (new_place n place)) ∷ (places (inside true) (p ++ steps name place) (q ++ steps name (new_place n place)) 0 kids ++ places h p q (left_with n place) rest)
+        else (if e then places h p q (left_before n place) rest
+        else (p ++ steps name place, q ++ steps name (new_place n place)) ∷ (places (inside false) (p ++ steps name place) (q ++ steps name (new_place n place)) 0 kids ++ places h p q (left_with n place) rest)))
+    by_class true e seen framed behind gone =
+        let r = q ++ steps name (new_place n place) in
+        let p' = p ++ steps name place in
+        let R = walk d q (cut h (left_with n place) rest) in
+        ap (λ ps. r ∷ ps) (
+        class_paths-append (walk (suc d) r (with_label h j (cut (inside true) 0 kids))) R
+        ∙ ap (λ ps. ps ++ class_paths R) (paths-label (j.unmarked && not (shows_label h)) j.label (cut (inside true) 0 kids) (suc d) r ∙ seen)
+        ∙ ap (λ ps. map there (places (inside true) p' r 0 kids) ++ ps) behind
+        ∙ sym (map-append there (places (inside true) p' r 0 kids) (places h p q (left_with n place) rest)))
+    by_class false true seen framed behind gone = gone
+    by_class false false seen framed behind gone =
+        let r = q ++ steps name (new_place n place) in
+        let p' = p ++ steps name place in
+        let R = walk d q (cut h (left_with n place) rest) in
+        ap (λ ps. r ∷ ps) (
+        class_paths-append (walk (suc d) r (cut (inside false) 0 kids)) R
+        ∙ ap (λ ps. ps ++ class_paths R) framed
+        ∙ ap (λ ps. map there (places (inside false) p' r 0 kids) ++ ps) behind
+        ∙ sym (map-append there (places (inside false) p' r 0 kids) (places h p q (left_with n place) rest)))
+
+-- ---- in the document
+
+-- where nothing is left, nothing has a place
+places-end : (J : Judged) (p q : Tokens) (n : ℕ) → is_end (cut (inside false) n J) ≡ true → places (inside false) p q n J ≡ []
+places-end none p q n h = refl
+places-end (plain i rest) p q n h = places-end rest p q (left_before n i.place) h
+places-end (class name place j kids rest) p q n h =
+    by_class j.visible (is_end (cut (inside false) 0 kids)) h (places-end rest p q (left_before n place))
+  where
+    by_class : (b e : Bool) →
+        is_end (if b then branch name (new_place n place) (with_label (inside false) j (cut (inside true) 0 kids)) (cut (inside false) (left_with n place) rest)
+        else (if e then cut (inside false) (left_before n place) rest else branch name (new_place n place) (cut (inside false) 0 kids) (cut (inside false) (left_with n place) rest))) ≡ true →
+        (is_end (cut (inside false) (left_before n place) rest) ≡ true → places (inside false) p q (left_before n place) rest ≡ []) →
+        (if b then (p ++ steps name place, q ++ steps name (new_place n place)) ∷ (places (inside true) (p ++ steps name place) (q ++ steps name (new_place n place)) 0 kids ++ places (inside false) p q (left_with n place) rest)
+        else (if e then places (inside false) p q (left_before n place) rest
+        else (p ++ steps name place, q ++ steps name (new_place n place)) ∷ (places (inside false) (p ++ steps name place) (q ++ steps name (new_place n place)) 0 kids ++ places (inside false) p q (left_with n place) rest))) ≡ []
+    by_class true e h next = absurd (false≢true h)
+    by_class false true h next = next h
+    by_class false false h next = absurd (false≢true h)
+
+-- no class stands at the root's path
+places-deep : (J : Judged) (h : Home) (p q : Tokens) (n : ℕ) → AllByRecursion (λ x. is_root (here x) ≡ false) (places h p q n J)
+places-deep none h p q n = tt
+places-deep (plain i rest) h p q n = places-deep rest h p q (if keeps_plain h then left_with n i.place else left_before n i.place)
+places-deep (class name place j kids rest) h p q n =
+    let p' = p ++ steps name place in
+    let r = q ++ steps name (new_place n place) in
+    by_class j.visible (is_end (cut (inside false) 0 kids)) (places (inside true) p' r 0 kids) (places (inside false) p' r 0 kids) (places h p q (left_with n place) rest) (places h p q (left_before n place) rest)
+    (places-deep kids (inside true) p' r 0) (places-deep kids (inside false) p' r 0) (places-deep rest h p q (left_with n place)) (places-deep rest h p q (left_before n place))
+  where
+    by_class : (b e : Bool) (S F B G : List (Tokens × Tokens)) → AllByRecursion (λ x. is_root (here x) ≡ false) S → AllByRecursion (λ x. is_root (here x) ≡ false) F →
+        AllByRecursion (λ x. is_root (here x) ≡ false) B → AllByRecursion (λ x. is_root (here x) ≡ false) G →
+        AllByRecursion (λ x. is_root (here x) ≡ false) (
+        if b then (p ++ steps name place, q ++ steps name (new_place n place)) ∷ (S ++ B)
+        else (if e then G else (p ++ steps name place, q ++ steps name (new_place n place)) ∷ (F ++ B)))
+    by_class true e S F B G s f b g = (deep_path p name place, all-append (λ x. is_root (here x) ≡ false) S B s b)
+    by_class false true S F B G s f b g = g
+    by_class false false S F B G s f b g = (deep_path p name place, all-append (λ x. is_root (here x) ≡ false) F B f b)
+
+module _ (v : Verdicts) where
+  -- the paths of the kept classes
+  abbrev kept_paths : List Entry → List Tokens
+  kept_paths es = class_paths (filter (is_kept v) es)
+
+  kept_paths-append : (xs ys : List Entry) → kept_paths (xs ++ ys) ≡ kept_paths xs ++ kept_paths ys
+  kept_paths-append xs ys = ap class_paths (filter-append (is_kept v) xs ys) ∙ class_paths-append (filter (is_kept v) xs) (filter (is_kept v) ys)
+
+  kept_paths-plain : (e : Entry) (es : List Entry) → is_class e ≡ false → kept_paths (e ∷ es) ≡ kept_paths es
+  kept_paths-plain e es h =
+      elim (is_kept v e) as (λ b. class_paths (if b then e ∷ filter (is_kept v) es else filter (is_kept v) es) ≡ kept_paths es) [
+        | true ↦ ap (map (λ e. e.path)) (cond-false (is_class e) (e ∷ filter is_class (filter (is_kept v) es)) (filter is_class (filter (is_kept v) es)) h)
+        | false ↦ refl
+      ]
+
+  kept_paths-class : (e : Entry) (es : List Entry) → is_class e ≡ true →
+      kept_paths (e ∷ es) ≡ (if v.visible e.path || (not (v.visible e.path) && v.holds_visible e.path) then e.path ∷ kept_paths es else kept_paths es)
+  kept_paths-class e es h =
+      ap (λ b. class_paths (if b then e ∷ filter (is_kept v) es else filter (is_kept v) es)) (cond-true (is_class e) _ _ h)
+      ∙ elim (v.visible e.path || is_frame v e.path) as (λ b. class_paths (if b then e ∷ filter (is_kept v) es else filter (is_kept v) es) ≡ (if b then e.path ∷ kept_paths es else kept_paths es)) [
+        | true ↦ ap (map (λ e. e.path)) (cond-true (is_class e) (e ∷ filter is_class (filter (is_kept v) es)) (filter is_class (filter (is_kept v) es)) h)
+        | false ↦ refl
+      ]
+
+  choose_path : (visible holds e : Bool) (p : Tokens) (r : Tokens) (K R : List Tokens) (PK : Bool → List (Tokens × Tokens)) (behind gone : List (Tokens × Tokens)) →
+      (visible ≡ false → e ≡ not holds) → (e ≡ true → PK false ≡ []) → K ≡ map here (PK visible) → R ≡ map here behind → R ≡ map here gone →
+      (if visible || (not visible && holds) then p ∷ (K ++ R) else K ++ R) ≡
+      map here (if visible then (p, r) ∷ (PK true ++ behind) else (if e then gone else (p, r) ∷ (PK false ++ behind)))
+  choose_path true holds e p r K R PK behind gone bare bottom kids next past =
+      ap (λ ps. p ∷ ps) (ap (λ ps. ps ++ R) kids ∙ ap (λ ps. map here (PK true) ++ ps) next ∙ sym (map-append here (PK true) behind))
+  choose_path false true e p r K R PK behind gone bare bottom kids next past =
+      ap (λ ps. p ∷ ps) (ap (λ ps. ps ++ R) kids ∙ ap (λ ps. map here (PK false) ++ ps) next ∙ sym (map-append here (PK false) behind))
+      ∙ ap (map here) (sym (cond-false e gone ((p, r) ∷ (PK false ++ behind)) (bare refl)))
+  choose_path false false e p r K R PK behind gone bare bottom kids next past =
+      ap (λ ps. ps ++ R) (kids ∙ ap (map here) (bottom (bare refl))) ∙ past ∙ ap (map here) (sym (cond-true e gone ((p, r) ∷ (PK false ++ behind)) (bare refl)))
+
+  -- the kept classes of the document have places
+  paths-kept : (f : Forest) (d : ℕ) (p q : Tokens) (n : ℕ) → SaysBelow v d p f → kept_paths (walk d p f) ≡ map here (places (home_at v p) p q n (judge v p f))
+  paths-kept end d p q n says = refl
+  paths-kept (leaf i rest) d p q n says =
+      kept_paths-plain (leaf_entry d p i) (walk d p rest) (plain_kind i.content)
+      ∙ paths-kept rest d p q (if keeps_plain (home_at v p) then left_with n i.place else left_before n i.place) says
+  paths-kept (branch name place kids rest) d p q n says =
+      let p' = p ++ steps name place in
+      let r = q ++ steps name (new_place n place) in
+      let K = walk (suc d) p' kids in
+      let R = walk d p rest in
+      let J = judge v p' kids in
+      kept_paths-class (class_entry d p name place) (K ++ R) refl
+      ∙ ap (λ ps. if v.visible p' || (not (v.visible p') && v.holds_visible p') then p' ∷ ps else ps) (kept_paths-append K R)
+      ∙ choose_path (v.visible p') (v.holds_visible p') (is_end (cut (inside false) 0 J)) p' r (kept_paths K) (kept_paths R) (λ b. places (inside b) p' r 0 J)
+      (places (home_at v p) p q (left_with n place) (judge v p rest)) (places (home_at v p) p q (left_before n place) (judge v p rest))
+      (λ hidden. ends v kids (suc d) p' 0 ∙ ap not (sym says.0))
+      (places-end J p' r 0)
+      (paths-kept kids (suc d) p' r 0 says.1 ∙ ap (λ h. map here (places h p' r 0 J)) (home-class v p name place))
+      (paths-kept rest d p q (left_with n place) says.2)
+      (paths-kept rest d p q (left_before n place) says.2)
+
+-- ---- both
+
+zip-both : (xs : List (Tokens × Tokens)) → zip (map here xs) (map there xs) ≡ xs
+zip-both [] = refl
+zip-both (x ∷ xs) = ap (λ ys. (x.0, x.1) ∷ ys) (zip-both xs)
+
+-- in pairs of distinct paths each path has its own place
+beside-own : (xs : List (Tokens × Tokens)) → IsDistinct same_path (map here xs) → AllByRecursion (λ x. beside xs (here x) ≡ there x) xs
+unfolding IsDistinct
+beside-own [] h = tt
+beside-own (x ∷ xs) h = (
+  cond-true (same_path x.0 x.0) x.1 (beside xs x.0) (same_path-refl x.0),
+  past xs h.0 (beside-own xs h.1),
+)
+  where
+    past : (ys : List (Tokens × Tokens)) → AllByRecursion (λ p. same_path x.0 p ≡ false) (map here ys) → AllByRecursion (λ y. beside xs (here y) ≡ there y) ys →
+        AllByRecursion (λ y. beside (x ∷ xs) (here y) ≡ there y) ys
+    past [] fresh all = tt
+    past (y ∷ ys) fresh all = (cond-false (same_path x.0 y.0) x.1 (beside xs y.0) fresh.0 ∙ all.0, past ys fresh.1 all.1)
+
+place-own : (all xs : List (Tokens × Tokens)) → AllByRecursion (λ x. is_root (here x) ≡ false) xs → AllByRecursion (λ x. beside all (here x) ≡ there x) xs →
+    AllByRecursion (λ x. place_by all (here x) ≡ there x) xs
+place-own all [] deep own = tt
+place-own all (x ∷ xs) deep own = (cond-false (is_root x.0) [] (beside all x.0) deep.0 ∙ own.0, place-own all xs deep.1 own.1)
+
+module _ (v : Verdicts) (f : Forest) (sound : IsSound f) (says : SaysBelow v 1 [] f) (left_sound : IsSound (cut root 0 (judge v [] f))) where
+  abbrev all_places : List (Tokens × Tokens)
+  all_places = places root [] [] 0 (judge v [] f)
+
+  pub kept-lines : kept v (walk 1 [] f) ≡ lines 1 (cut root 0 (judge v [] f))
+  kept-lines =
+      ap (kept v) (sym (append-nil (walk 1 [] f))) ∙ kept-cut v f 1 [] 0 [] says tt ∙ append-nil (lines 1 (cut root 0 (judge v [] f)))
+
+  -- the places by the pass are those by the kept outline
+  pub class_places-pass : class_places v (walk 1 [] f) ≡ all_places
+  class_places-pass =
+      ap (λ ps. zip ps (classes_of (kept v (walk 1 [] f)))) (paths-kept v f 1 [] [] 0 says)
+      ∙ ap (λ ls. zip (map here all_places) (classes_of ls)) kept-lines
+      ∙ ap (λ es. zip (map here all_places) (class_paths es)) (located-lines (cut root 0 (judge v [] f)) left_sound)
+      ∙ ap (zip (map here all_places)) (paths-cut (judge v [] f) root 1 [] [] 0)
+      ∙ zip-both all_places
+
+  pub placed : AllByRecursion (λ x. place_by (class_places v (walk 1 [] f)) (here x) ≡ there x) all_places
+  placed =
+      subst (λ ps. AllByRecursion (λ x. place_by ps (here x) ≡ there x) all_places) (sym class_places-pass)
+      (place-own all_places all_places (places-deep (judge v [] f) root [] [] 0)
+      (beside-own all_places (subst (IsDistinct same_path) (paths-kept v f 1 [] [] 0 says)
+      (distinct-filter is_class (filter (is_kept v) (walk 1 [] f)) (distinct-filter (is_kept v) (walk 1 [] f)
+      (subst (λ es. IsDistinct same_path (map (λ (e : Entry). e.path) es)) (located-lines f sound) (paths-distinct f sound)))))))

@@ -1,0 +1,127 @@
+-- A search by one pass down a document finds what the definition finds among its lines.
+use Rattle.std.proofs.Common.{◌≡◌, ℕ, suc, Bool, true, false, ◌&&◌, ◌||◌, List, [], ◌∷◌, ◌++◌, cond, refl, sym, ◌∙◌, ap, append_assoc, append-nil}
+use Rattle.std.specs.Prelude.{Option}
+use Rattle.std.specs.List.{list_any}
+use Rattle.std.proofs.lemmas.Bool.{cond-true, cond-false, and_left, and_right, true≢false}
+use Rattle.std.proofs.lemmas.List.Folds.{list_any-append}
+use Rattle.iodef_tree.specs.Text.{Bytes, Tokens, same_path, is_under}
+use Rattle.iodef_tree.specs.Tree.{Content, text, value, Forest, end, leaf, branch, steps, lines, leaf_line}
+use Rattle.iodef_tree.specs.Paths.{Entry, is_class, located, below}
+use Rattle.iodef_tree.specs.Sound.{IsSound}
+use Rattle.iodef_tree.specs.Walk.{walk, leaf_entry, AreBlocks}
+use Rattle.iodef_tree.proofs.Blocks.{blocks-located, below-parents}
+use Rattle.iodef_tree.proofs.Located.{located-lines}
+use Rattle.iodef_tree.proofs.Order.{same_path-refl, same_path-true, same_path-longer, is_false}
+use Rattle.marking.specs.Marks.{written_label}
+use Rattle.marking.specs.Members.{spelled_in}
+use Rattle.marking.proofs.Written.{AreUnderParents, written-block}
+use Rattle.marking.proofs.Placed.{ArePlaced, placed}
+use Rattle.policy.specs.Inherited.{inherited_at, at_root}
+use Rattle.policy.specs.Verdict.{is_visible}
+use Rattle.policy.proofs.Steps.{at_root-is}
+use Rattle.policy.specs.declared.standing.Standing.{Standing}
+use Rattle.policy.specs.declared.case.Case.{Case}
+use Rattle.redact.specs.Told.{is_named, is_hit, holds_needle, finds}
+use Rattle.redact.specs.Search.{content_hits, members_hit, class_hits, found}
+use Rattle.redact.proofs.Keeping.{plain_kind}
+use Rattle.redact.proofs.Passed.{enter-at}
+use Rattle.redact.proofs.Whole.{root-bare}
+
+-- ---- what a class holds, by the lines directly in it
+
+-- a line directly in the class at q that is a text which contains the needle
+abbrev is_hit_in : Bytes → Tokens → Entry → Bool
+is_hit_in needle q e = same_path e.parent q && is_hit needle e.line
+
+any-below : (es : List Entry) (q : Tokens) (needle : Bytes) → AreUnderParents es → list_any (is_hit_in needle q) es ≡ list_any (is_hit_in needle q) (below q es)
+any-below [] q needle h = refl
+any-below (e ∷ es) q needle h = by_cases (is_under q e.path) refl (any-below es q needle h.1)
+  where
+    by_cases : (b : Bool) → is_under q e.path ≡ b → list_any (is_hit_in needle q) es ≡ list_any (is_hit_in needle q) (below q es) →
+        list_any (is_hit_in needle q) (e ∷ es) ≡ list_any (is_hit_in needle q) (cond (is_under q e.path) (e ∷ below q es) (below q es))
+    by_cases true u ih =
+        ap (λ o. is_hit_in needle q e || o) ih ∙ ap (list_any (is_hit_in needle q)) (sym (cond-true (is_under q e.path) (e ∷ below q es) (below q es) u))
+    by_cases false u ih =
+        let elsewhere : same_path e.parent q ≡ false =
+        is_false (same_path e.parent q) (λ same. true≢false (sym h.0 ∙ ap (λ r. is_under r e.path) (same_path-true e.parent q same) ∙ u)) in
+        ap (λ b. b || list_any (is_hit_in needle q) es) (and_left (same_path e.parent q) _ elsewhere)
+        ∙ ih ∙ ap (list_any (is_hit_in needle q)) (sym (cond-false (is_under q e.path) (e ∷ below q es) (below q es) u))
+
+-- nothing stands directly in q where no path at or below p is q
+none-held : (f : Forest) (d : ℕ) (p q : Tokens) (needle : Bytes) → ((z : Tokens) → same_path (p ++ z) q ≡ false) → list_any (is_hit_in needle q) (walk d p f) ≡ false
+none-held end d p q needle h = refl
+none-held (leaf i rest) d p q needle h =
+    ap (λ b. b || list_any (is_hit_in needle q) (walk d p rest)) (and_left (same_path p q) _ (ap (λ r. same_path r q) (sym (append-nil p)) ∙ h []))
+    ∙ none-held rest d p q needle h
+none-held (branch n o kids rest) d p q needle h =
+    let r = p ++ steps n o in
+    let K = walk (suc d) r kids in
+    let R = walk d p rest in
+    ap (λ b. b || list_any (is_hit_in needle q) (K ++ R)) (and_left (same_path p q) _ (ap (λ r. same_path r q) (sym (append-nil p)) ∙ h []))
+    ∙ list_any-append (is_hit_in needle q) K R
+    ∙ ap (λ a. a || list_any (is_hit_in needle q) R)
+    (none-held kids (suc d) r q needle (λ z. ap (λ x. same_path x q) (append_assoc p (steps n o) z) ∙ h (steps n o ++ z)))
+    ∙ none-held rest d p q needle h
+
+leaf-hit : (needle : Bytes) (d : ℕ) (name : Bytes) (place : Option ℕ) (x : Content) → is_hit needle (leaf_line d (record { name = name; place = place; content = x })) ≡ content_hits needle x
+leaf-hit needle d name place (text t) = refl
+leaf-hit needle d name place (value t) = refl
+
+apart : (p q : Tokens) → same_path p q ≡ false → same_path q p ≡ false
+apart p q h = is_false (same_path q p) (λ same. true≢false (sym (same_path-refl p) ∙ ap (same_path p) (sym (same_path-true q p same)) ∙ h))
+
+held-walk : (f : Forest) (d : ℕ) (q : Tokens) (needle : Bytes) → list_any (is_hit_in needle q) (walk d q f) ≡ members_hit needle f
+held-walk end d q needle = refl
+held-walk (leaf i rest) d q needle =
+    ap (λ b. (b && is_hit needle (leaf_line d i)) || list_any (is_hit_in needle q) (walk d q rest)) (same_path-refl q)
+    ∙ ap (λ b. b || list_any (is_hit_in needle q) (walk d q rest)) (leaf-hit needle d i.name i.place i.content)
+    ∙ ap (λ b. content_hits needle i.content || b) (held-walk rest d q needle)
+held-walk (branch n o kids rest) d q needle =
+    let r = q ++ steps n o in
+    let K = walk (suc d) r kids in
+    let R = walk d q rest in
+    let none : list_any (is_hit_in needle q) K ≡ false =
+    none-held kids (suc d) r q needle (λ z. apart q (r ++ z) (ap (same_path q) (append_assoc q (steps n o) z) ∙ same_path-longer q n o z)) in
+    ap (λ b. b || list_any (is_hit_in needle q) (K ++ R)) (and_right (same_path q q) false refl)
+    ∙ list_any-append (is_hit_in needle q) K R
+    ∙ ap (λ a. a || list_any (is_hit_in needle q) R) none
+    ∙ held-walk rest d q needle
+
+held-block : (es : List Entry) (d : ℕ) (q : Tokens) (kids : Forest) (needle : Bytes) → AreUnderParents es → below q es ≡ walk d q kids →
+    holds_needle es needle q ≡ members_hit needle kids
+held-block es d q kids needle under block = any-below es q needle under ∙ ap (list_any (is_hit_in needle q)) block ∙ held-walk kids d q needle
+
+-- ---- all classes
+
+module _ (c : Case) (s : Standing) (needle : Bytes) (class : Option Bytes) where
+  -- a visible class of the name that holds the needle
+  abbrev answers : List Entry → Entry → Bool
+  answers es e = (is_class e && is_visible es c s e.path) && (is_named class e.line.name && holds_needle es needle e.path)
+
+  found-walk : (es : List Entry) (under : AreUnderParents es) (f : Forest) (d : ℕ) (p : Tokens) → AreBlocks es d p f → ArePlaced es p f →
+      list_any (answers es) (walk d p f) ≡ found c s needle class (inherited_at es c s p) f
+  found-walk es under end d p blocks there = refl
+  found-walk es under (leaf i rest) d p blocks there =
+      ap (λ b. ((b && is_visible es c s (leaf_entry d p i).path) && (is_named class i.name && holds_needle es needle (leaf_entry d p i).path)) || list_any (answers es) (walk d p rest)) (plain_kind i.content)
+      ∙ found-walk es under rest d p blocks there
+  found-walk es under (branch name place kids rest) d p blocks there =
+      let q = p ++ steps name place in
+      let w = spelled_in kids in
+      let K = walk (suc d) q kids in
+      let R = walk d p rest in
+      let C = class_hits c s needle class (inherited_at es c s q) name kids in
+      let written : written_label es q ≡ w = written-block es (suc d) q kids under blocks.0 there.0 in
+      ap (λ b. (is_visible es c s q && (is_named class name && b)) || list_any (answers es) (K ++ R)) (held-block es (suc d) q kids needle under blocks.0)
+      ∙ ap (λ b. C || b) (list_any-append (answers es) K R)
+      ∙ ap (λ b. C || (b || list_any (answers es) R)) (found-walk es under kids (suc d) q blocks.1 there.2)
+      ∙ ap (λ b. C || (found c s needle class (inherited_at es c s q) kids || b)) (found-walk es under rest d p blocks.2 there.3)
+      ∙ ap (λ k. class_hits c s needle class k name kids || (found c s needle class k kids || found c s needle class (inherited_at es c s p) rest))
+      (sym (enter-at es c s under p name place w there.0 there.1 written))
+
+  -- in a whole document
+  pub found_all : (f : Forest) → IsSound f → finds (lines 1 f) c s needle class ≡ found c s needle class (at_root c s) f
+  found_all f sound =
+      let es = located (lines 1 f) in
+      ap (list_any (answers es)) (located-lines f sound)
+      ∙ found-walk es (below-parents (lines 1 f)) f 1 [] (blocks-located f sound) (placed f sound)
+      ∙ ap (λ h. found c s needle class h f) (sym (at_root-is es c s (root-bare f sound)))

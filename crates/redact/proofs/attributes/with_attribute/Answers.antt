@@ -1,0 +1,31 @@
+use Rattle.std.proofs.Common.{◌≡◌, ◌∷◌, ◌++◌, map, take, drop, sym, ◌∙◌, ap}
+use Rattle.std.proofs.lemmas.List.{map-append}
+use Rattle.iodef_tree.specs.Text.{Bytes}
+use Rattle.iodef_tree.specs.Tree.{Bodies, one}
+use Rattle.iodef_tree.specs.View.{bodies, named, members_forest, forest_of_members}
+use Rattle.iodef_tree.specs.declared.object.Item.{Text}
+use Rattle.iodef_tree.specs.declared.object.Member.{Member, One}
+use Rattle.iodef_tree.proofs.Views.{forest-members, forest-made, bodies-One, body-Text}
+use Rattle.redact.specs.Judged.{put_leaf, attribute_leaf}
+use Rattle.redact.specs.Filled.{saying}
+use Rattle.redact.proofs.attributes.with_attribute.Goals as goal
+
+pub returns-clause-put : goal.returns-clause-put
+returns-clause-put c =
+    let D = c.deref.result.now in
+    let r = c.place_for-at.result in
+    let name = c.args.name.now in
+    let text = c.args.text.now in
+    let x = attribute_leaf (name, text) in
+    let value = c.new.result in
+    let e : Bytes × Member = (c.new-2.result, One (Text value)) in
+    let said : bodies (One (Text value)) ≡ saying text = bodies-One (Text value) ∙ ap one (body-Text value) ∙ ap saying (c.new.ensures ∙ c.in_ok-from_str.ensures.ok) in
+    let named_is : named e ≡ (name, saying text) =
+    ap (λ (n : Bytes). let m : Bytes × Bodies = (n, bodies (One (Text value))) in m) (c.new-2.ensures ∙ c.in_ok-from_str-2.ensures.ok) ∙ ap (λ (b : Bodies). let m : Bytes × Bodies = (name, b) in m) said in
+    forest-made c.insert.new.self
+    ∙ ap members_forest (c.in_ok-insert.ensures.items ∙ ap (λ zs. take r zs ++ e ∷ drop r zs) (sym c.deref.ensures.value))
+    ∙ ap forest_of_members (map-append named (take r D) (e ∷ drop r D))
+    ∙ ap (λ n. forest_of_members (map named (take r D) ++ n ∷ map named (drop r D))) named_is
+    ∙ sym (c.place_for-at.ensures.splits text)
+    ∙ ap (λ zs. put_leaf x (members_forest zs)) c.deref.ensures.value
+    ∙ ap (put_leaf x) (sym (forest-members c.args.object))

@@ -1,0 +1,16 @@
+use Rattle.std.proofs.Common.{◌≡◌, List, sym, ◌∙◌, subst}
+use Rattle.std.specs.List.{dedup}
+use Rattle.std.specs.List.Sorted.{IsPermutation}
+use Rattle.std.proofs.lemmas.List.Filters.{dedup_is}
+use Rattle.redact.specs.Withheld.{Withheld, same_withheld, Lists}
+use Rattle.redact.proofs.Listing.{lists-dedup}
+use Rattle.redact.proofs.listed.listed.Goals as goal
+
+pub returns : goal.returns
+returns c =
+    let xs : List Withheld = c.args.notes.items in
+    let ys : List Withheld = c.sort.new.self.items in
+    let zs : List Withheld = c.dedup.new.self.items in
+    let once : zs ≡ dedup same_withheld ys = dedup_is same_withheld ys zs c.dedup.ensures.filtered in
+    let moved : IsPermutation xs ys = subst (λ ws. IsPermutation ws ys) c.in_ok-entries.ensures c.in_ok-sort.ensures.permutation in
+    subst (Lists xs) (sym (c.in_ok-list.ensures ∙ once)) (lists-dedup xs ys moved c.in_ok-sort.ensures.sorted)

@@ -1,0 +1,33 @@
+use Rattle.std.proofs.Common.{◌≡◌, ◌++◌, map, drop, take, length, All}
+use Rattle.iodef_tree.specs.View.{body, bodies, named}
+use Rattle.policy.specs.Inherited.{carried}
+use Rattle.redact.specs.Filled.{IsFilled}
+use Rattle.redact.specs.Tokens.{path_of}
+use Rattle.redact.specs.Left.{home_of, left_members, told_members, count_members, left_items, told_items, count_items, Goes}
+use Rattle.redact.proofs.reader.Reader.+cut.Given as goal
+
+abbrev pub invariant-cut-loop-name : goal.invariant-cut-loop-name
+invariant-cut-loop-name l =
+    let A = carried (path_of l.initial.state.path.items) l.above in
+    let Q = path_of l.initial.state.place.items in
+    record {
+      left : map named l.members.items ++ left_members l.self.case.now l.self.standing.now (home_of l.home) A (map named (drop l.name-index l.name-items))
+          ≡ left_members l.self.case.now l.self.standing.now (home_of l.home) A (map named l.name-items);
+      filled : All (λ m. IsFilled (bodies m.1)) l.members.items;
+      goes : Goes l.initial.state l.state (told_members l.self.case.now l.self.standing.now (home_of l.home) A Q (map named l.name-items))
+          (told_members l.self.case.now l.self.standing.now (home_of l.home) A Q (map named (drop l.name-index l.name-items)))
+          (count_members l.self.case.now l.self.standing.now A (map named l.name-items)) (count_members l.self.case.now l.self.standing.now A (map named (drop l.name-index l.name-items)));
+    }
+
+abbrev pub invariant-cut_items-loop-i : goal.invariant-cut_items-loop-i
+invariant-cut_items-loop-i l =
+    let D = carried (path_of l.initial.state.path.items) l.array in
+    let q = path_of (take l.base l.initial.state.place.items) in
+    let r = path_of l.initial.state.place.items in
+    record {
+      left : map body l.kept.items ++ left_items l.self.case.now l.self.standing.now (home_of l.home) D l.i (map body (drop l.i l.items.items))
+          ≡ left_items l.self.case.now l.self.standing.now (home_of l.home) D 0 (map body l.items.items);
+      goes : Goes l.initial.state l.state (told_items l.self.case.now l.self.standing.now (home_of l.home) D q r 0 0 (map body l.items.items))
+          (told_items l.self.case.now l.self.standing.now (home_of l.home) D q r l.i (length l.kept.items) (map body (drop l.i l.items.items)))
+          (count_items l.self.case.now l.self.standing.now D 0 (map body l.items.items)) (count_items l.self.case.now l.self.standing.now D l.i (map body (drop l.i l.items.items)));
+    }

@@ -1,0 +1,10 @@
+pub mod Kept
+pub mod Withheld
+pub mod Judged
+pub mod Told
+pub mod Pass
+pub mod Tokens
+pub mod Left
+pub mod Filled
+pub mod Excerpts
+pub mod Search

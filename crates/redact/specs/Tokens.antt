@@ -1,0 +1,12 @@
+-- The tokens of a pass as a path.
+use Rattle.std.specs.Prelude.{List, map, decimal}
+use Rattle.iodef_tree.specs.Text.{Bytes, Tokens}
+use Rattle.redact.specs.declared.trail.Token.{Token}
+use Rattle.redact.specs.declared.trail.Token.TheVariants as token
+
+abbrev pub token_of : Token → Bytes
+token_of (token.Name name) = name.now
+token_of (token.Index k) = decimal k
+
+abbrev pub path_of : List Token → Tokens
+path_of ts = map token_of ts

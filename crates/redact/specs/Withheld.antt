@@ -1,0 +1,75 @@
+-- What is withheld: at which place of the excerpt, and by which rule.
+use Rattle.std.specs.Prelude.{◌≡◌, Bool, ◌&&◌, not, List, [], ◌∷◌, filter, if◌then◌else◌, Contains}
+use Rattle.std.specs.List.{flat_map, zip}
+use Rattle.std.specs.List.Sorted.{IsStrictlySortedBy}
+use Rattle.std.specs.declared.cmp.Ordering.{Ordering}
+use Rattle.std.specs.Ordering.{nat_cmp, on, then_cmp, eq_of_both}
+use Rattle.std.specs.Str.{bytes_eq}
+use Rattle.std.specs.Cmp.{tied_then}
+use Rattle.std.proofs.Common.{is_eq, sym, ◌∙◌, ap}
+use Rattle.std.proofs.lemmas.Map.Text.{is_eq-slice_cmp}
+use Rattle.std.specs.Cmp.Lexicographic.{slice_cmp}
+use Rattle.iodef_tree.specs.Text.{Tokens, same_path, is_root}
+use Rattle.iodef_tree.specs.Paths.{Entry, is_class, class_paths, classes_of}
+use Rattle.iodef_tree.specs.Pointer.{pointer_text}
+use Rattle.policy.specs.Rule.{name_of}
+use Rattle.policy.specs.declared.rule.Rule.{Rule}
+use Rattle.redact.specs.Kept.{Verdicts, is_frame, is_wholly_hidden, is_kept, kept}
+
+-- a place in the excerpt, and the rule by which something is withheld there
+abbrev pub Withheld : Type 0
+Withheld = Tokens × Rule
+
+-- what stands beside a path in a list of pairs
+abbrev pub beside : List (Tokens × Tokens) → Tokens → Tokens
+beside [] p = []
+beside (x ∷ xs) p = if same_path x.0 p then x.1 else beside xs p
+
+module _ (v : Verdicts) where
+  -- The paths of the kept classes, each beside the path of its line in the kept outline: that has a line for each of them,
+  -- in the same order.
+  abbrev pub class_places : List Entry → List (Tokens × Tokens)
+  class_places es = zip (class_paths (filter (is_kept v) es)) (classes_of (kept v es))
+
+-- the place of a kept class in the excerpt; the root's is the root's path
+abbrev pub place_by : List (Tokens × Tokens) → Tokens → Tokens
+place_by ps p = if is_root p then [] else beside ps p
+
+module _ (v : Verdicts) (place : Tokens → Tokens) where
+  -- a frame is told at its place, and a wholly hidden class at that of its parent, unless that is wholly hidden too
+  abbrev pub withheld_at : Entry → List Withheld
+  withheld_at e =
+      if not (is_class e) then []
+      else if is_frame v e.path then (place e.path, v.rule e.path) ∷ []
+      else if is_wholly_hidden v e.path && not (is_wholly_hidden v e.parent) then (place e.parent, v.rule e.path) ∷ []
+      else []
+
+  -- of each class, in stored order, and with repeats
+  abbrev pub withheld_among : List Entry → List Withheld
+  withheld_among es = flat_map withheld_at es
+
+-- everything that is withheld, in stored order and with repeats
+abbrev pub withheld_pairs : Verdicts → List Entry → List Withheld
+withheld_pairs v es = withheld_among v (place_by (class_places v es)) es
+
+-- by the bytes of the place as it is printed, then by those of the rule
+abbrev pub withheld_cmp : Withheld → Withheld → Ordering
+withheld_cmp = then_cmp (on (λ x. pointer_text x.0) (slice_cmp nat_cmp)) (on (λ x. name_of x.1) (slice_cmp nat_cmp))
+
+abbrev pub same_withheld : Withheld → Withheld → Bool
+same_withheld = eq_of_both (on (λ x. pointer_text x.0) bytes_eq) (on (λ x. name_of x.1) bytes_eq)
+
+-- a pair is the same as another exactly where neither comes first
+pub withheld-ties : (x y : Withheld) → same_withheld x y ≡ is_eq (withheld_cmp x y)
+withheld-ties x y =
+    let places = slice_cmp nat_cmp (pointer_text x.0) (pointer_text y.0) in
+    let names = slice_cmp nat_cmp (name_of x.1) (name_of y.1) in
+    ap (λ b. b && bytes_eq (name_of x.1) (name_of y.1)) (sym (is_eq-slice_cmp (pointer_text x.0) (pointer_text y.0)))
+    ∙ ap (λ b. is_eq places && b) (sym (is_eq-slice_cmp (name_of x.1) (name_of y.1)))
+    ∙ tied_then places names
+
+-- a list in this order, without repeats, of the same pairs
+pub record Lists (pairs listed : List Withheld) : Type 0 where
+  pub ascending : IsStrictlySortedBy withheld_cmp listed
+  pub sound : (x : Withheld) → Contains listed x → Contains pairs x
+  pub complete : (x : Withheld) → Contains pairs x → Contains listed x

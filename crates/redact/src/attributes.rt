@@ -1,0 +1,86 @@
+//! Labels, put in among the members of a class.
+
+ghost use Rattle.std.specs.Prelude.{◌≡◌, ◌≤◌, ◌++◌, ◌∷◌, All, IfOk, List, ℕ, length, take, drop, map, option_map};
+ghost use Rattle.iodef_tree.specs.View.{forest, bodies, named, members_forest};
+ghost use Rattle.marking.specs.Label.{marking_of};
+ghost use Rattle.redact.specs.Judged.{put_leaf, put_attributes, attribute_leaf};
+ghost use Rattle.redact.specs.Told.{attributes_of, restriction_of, ext_restriction_of};
+ghost use Rattle.redact.specs.Filled.{IsFilled, saying};
+ghost use Rattle.iodef_tree.specs.View.{forest_of_members};
+
+use iodef_tree::{Item, Member, Object, Text};
+use marking::Label;
+use std::alloc::{AllocError, Global};
+
+/// Where a member of this name goes.
+fn place_for(members: &[(Text, Member)], name: &str) -> usize
+    requires { All (λ m. IsFilled (bodies m.1)) members.now }
+    ensures within { result ≤ length members.now }
+    ensures splits { (text : List ℕ) → put_leaf (attribute_leaf (name.now, text)) (members_forest members.now)
+        ≡ forest_of_members (map named (take result members.now) ++ (name.now, saying text) ∷ map named (drop result members.now)) }
+{
+    for (i, (own, _)) in members.iter().enumerate() {
+        if name < own.as_str() {
+            return i;
+        }
+    }
+    members.len()
+}
+
+fn with_attribute(
+    alloc: Global,
+    object: Object,
+    name: &str,
+    text: &str,
+) -> Result<Object, AllocError>
+    requires { All (λ m. IsFilled (bodies m.1)) object.members.items }
+    ensures put { IfOk result (λ o. forest o ≡ put_leaf (attribute_leaf (name.now, text.now)) (forest object)) }
+    ensures filled { IfOk result (λ o. All (λ m. IsFilled (bodies m.1)) o.members.items) }
+{
+    let mut members = object.members;
+    let at = place_for(&members, name);
+    let value = Member::One(Item::Text(Text::new(String::from_str(alloc, text)?)));
+    members.insert(at, (Text::new(String::from_str(alloc, name)?), value))?;
+    Ok(Object { members })
+}
+
+/// The value of `restriction`.
+fn restriction(label: Label<'_>) -> &'static str
+    ensures { result.now ≡ restriction_of (marking_of label.entry) }
+{
+    match label {
+        Label::Public => "public",
+        Label::White => "white",
+        Label::Partner => "partner",
+        Label::Green => "green",
+        Label::NeedToKnow => "need-to-know",
+        Label::Amber => "amber",
+        Label::Private => "private",
+        Label::Red => "red",
+        Label::Default => "default",
+        Label::Ext(_) => "ext-value",
+    }
+}
+
+/// The value of `ext-restriction`, for an extended label.
+fn ext_restriction<'a>(label: Label<'a>) -> Option<&'a str>
+    ensures { option_map (λ t. t.now) result ≡ ext_restriction_of (marking_of label.entry) }
+{
+    match label {
+        Label::Ext(text) => Some(text),
+        _ => None,
+    }
+}
+
+/// The members with a label.
+pub fn labelled(alloc: Global, object: Object, label: Label<'_>) -> Result<Object, AllocError>
+    requires { All (λ m. IsFilled (bodies m.1)) object.members.items }
+    ensures put { IfOk result (λ o. forest o ≡ put_attributes (attributes_of (marking_of label.entry)) (forest object)) }
+    ensures filled { IfOk result (λ o. All (λ m. IsFilled (bodies m.1)) o.members.items) }
+{
+    let object = with_attribute(alloc, object, "restriction", restriction(label))?;
+    match ext_restriction(label) {
+        Some(text) => Ok(with_attribute(alloc, object, "ext-restriction", text)?),
+        None => Ok(object),
+    }
+}

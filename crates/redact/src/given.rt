@@ -1,0 +1,50 @@
+//! The excerpt of a whole document.
+
+ghost use Rattle.std.specs.Prelude.{◌≡◌, None, IfOk};
+ghost use Rattle.iodef_tree.specs.Paths.{located};
+ghost use Rattle.marking.specs.Marks.{first_bad_marking};
+ghost use Rattle.redact.specs.Excerpts.{Gives};
+ghost use Rattle.redact.specs.Withheld.{Lists};
+
+use crate::kept::Excerpt;
+use crate::listed::listed;
+use crate::pass::{Home, State};
+use crate::reader::Reader;
+use iodef_tree::Document;
+use policy::{Case, Standing};
+use std::alloc::{AllocError, Global};
+
+/// What a reader may see of an incident: its visible classes with their plain members, the classes that hold such ones
+/// bare, and the header. A visible class whose label would not show any more says it itself. `None` exactly where no
+/// class is visible. The markings of the document were accepted by `check`.
+pub fn excerpt(
+    alloc: Global,
+    document: &Document,
+    case: &Case,
+    standing: &Standing,
+) -> Result<Option<Excerpt>, AllocError>
+    requires { first_bad_marking (located document.now) ≡ None }
+    ensures { IfOk result (λ r. Gives document.now case.now standing.now r) }
+{
+    let reader = Reader { case, standing };
+    let mut state = State {
+        alloc,
+        path: Vec::new(alloc),
+        place: Vec::new(alloc),
+        classes: 0,
+        withheld: Vec::new(alloc),
+    };
+    let above = reader.at_root();
+    let kept = reader.cut(&mut state, Home::Root, above, document.root())?;
+    if state.classes == 0 {
+        return Ok(None);
+    }
+    let classes = state.classes;
+    let withheld = listed(alloc, state.withheld)?;
+    let document = Document::new(kept);
+    Ok(Some(Excerpt {
+        document,
+        classes,
+        withheld,
+    }))
+}

@@ -1,0 +1,21 @@
+//! What a reader may see of a document.
+#![tactic(auto)]
+
+mod attributes;
+mod given;
+mod kept;
+mod listed;
+mod note;
+mod pass;
+mod reader;
+mod search;
+mod trail;
+
+pub use given::excerpt;
+pub use kept::Excerpt;
+pub use search::finds;
+
+#[cfg(test)]
+mod tests;
+#[cfg(test)]
+mod tests_search;

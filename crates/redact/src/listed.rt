@@ -1,0 +1,130 @@
+//! What is withheld, listed in order and without repeats.
+
+ghost use Rattle.std.specs.Prelude.{◌≡◌, IfOk, map};
+ghost use Rattle.std.proofs.Common.{rules};
+ghost use Rattle.std.specs.Cmp.Rules.{comparing};
+ghost use Rattle.redact.specs.Withheld.{Lists};
+
+use crate::note::Note;
+use iodef_tree::Path;
+use policy::Rule;
+use std::alloc::{AllocError, Global};
+use std::cmp::Ordering;
+use std::marker::Model;
+
+/// A note, with its place as it is printed. Contracts see the note.
+#[derive(Drop)]
+pub struct Entry<'a> {
+    printed: String,
+    note: Note<'a>,
+}
+
+impl<'a> Model for Entry<'a> {
+    ghost use Rattle.std.specs.Prelude.{◌≡◌, string_bytes};
+    ghost use Rattle.iodef_tree.specs.Pointer.{pointer_text};
+    ghost use Rattle.redact.specs.Withheld.{Withheld};
+
+    ghost Value = { Withheld };
+
+    ghost view = { λ e. e.note };
+
+    ghost invariant = { λ e. string_bytes e.printed ≡ pointer_text e.note.0 };
+}
+
+impl<'a> Entry<'a> {
+    ghost use Rattle.std.specs.Prelude.{◌≡◌, IfOk};
+
+    fn new(alloc: Global, note: Note<'a>) -> Result<Entry<'a>, AllocError>
+        ensures { IfOk result (λ e. e ≡ note.entry) }
+    {
+        let printed = note.printed(alloc)?;
+        Ok(Entry { printed, note })
+    }
+
+    fn into_pair(self, alloc: Global) -> Result<(Path, Rule), AllocError>
+        ensures { IfOk result (λ p. p ≡ self.entry) }
+    {
+        self.note.into_pair(alloc)
+    }
+}
+
+impl<'a> PartialEq for Entry<'a> {
+    ghost use Rattle.std.specs.Cmp.{partial_equiv_from_equiv};
+    ghost use Rattle.redact.specs.Withheld.{same_withheld};
+
+    ghost eq = { same_withheld };
+
+    ghost laws = { partial_equiv_from_equiv (Prim.search (comparing, rules)) };
+
+    fn eq(&self, other: &Entry<'a>) -> bool {
+        self.printed == other.printed && self.note.rule().name() == other.note.rule().name()
+    }
+}
+
+impl<'a> Eq for Entry<'a> {
+    ghost laws = { Prim.search (comparing, rules) };
+}
+
+impl<'a> Ord for Entry<'a> {
+    ghost use Rattle.redact.specs.Withheld.{withheld_cmp, withheld-ties};
+
+    ghost cmp = { withheld_cmp };
+
+    ghost total = { Prim.search (comparing, rules) };
+
+    ghost matches_partial_cmp = { Prim.search (comparing, rules) };
+
+    ghost matches_eq = { withheld-ties };
+
+    fn cmp(&self, other: &Entry<'a>) -> Ordering {
+        self.printed
+            .as_str()
+            .cmp(other.printed.as_str())
+            .then(self.note.rule().name().cmp(other.note.rule().name()))
+    }
+}
+
+impl<'a> PartialOrd for Entry<'a> {
+    ghost use Rattle.std.specs.Cmp.{partial_order_from_own_ties};
+    ghost use Rattle.std.specs.Ordering.{as_partial_cmp};
+    ghost use Rattle.redact.specs.Withheld.{withheld_cmp, withheld-ties};
+
+    ghost partial_cmp = { as_partial_cmp withheld_cmp };
+
+    ghost laws = { partial_order_from_own_ties (Prim.search (comparing, rules)) withheld-ties };
+
+    fn partial_cmp(&self, other: &Entry<'a>) -> Option<Ordering> {
+        Some(self.cmp(other))
+    }
+}
+
+fn entries_of<'a>(alloc: Global, notes: Vec<Note<'a>>) -> Result<Vec<Entry<'a>>, AllocError>
+    ensures { IfOk result (λ v. v.items ≡ notes.entry.items) }
+{
+    let mut entries = Vec::with_capacity(alloc, notes.len())?;
+    for note in notes {
+        entries.push(Entry::new(alloc, note)?)?;
+    }
+    Ok(entries)
+}
+
+fn pairs_of(alloc: Global, entries: Vec<Entry<'_>>) -> Result<Vec<(Path, Rule)>, AllocError>
+    ensures { IfOk result (λ v. v.items ≡ entries.entry.items) }
+{
+    let mut pairs = Vec::new(alloc);
+    for entry in entries {
+        pairs.push(entry.into_pair(alloc)?)?;
+    }
+    Ok(pairs)
+}
+
+/// The notes by the bytes of the printed place and then of the rule, without repeats.
+pub fn listed(alloc: Global, notes: Vec<Note<'_>>) -> Result<Vec<(Path, Rule)>, AllocError>
+    ensures { IfOk result (λ v. Lists notes.entry.items v.items) }
+{
+    let mut entries = entries_of(alloc, notes)?;
+    entries.sort()?;
+    entries.dedup();
+    let list = pairs_of(alloc, entries)?;
+    Ok(list)
+}

@@ -1,0 +1,313 @@
+//! One pass down a document, with what is inherited from above. A class that isn't visible is looked at when what is left
+//! below it is known.
+
+ghost use Rattle.std.specs.Prelude.{◌≡◌, ◌≤◌, ◌∷◌, ◌++◌, [], All, IfOk, IfSome, List, ℕ, length, take, map, option_map, is_none, ◌&&◌, ◌+◌, not, true, false, if◌then◌else◌, Some, None};
+ghost use Rattle.iodef_tree.specs.View.{forest, bodies, body, named};
+ghost use Rattle.marking.specs.Members.{spelled_in};
+ghost use Rattle.redact.specs.Judged.{inside, is_end, with_label, keeps_plain as keeps, shows_label, cut as what_is_left, told, visible_classes};
+ghost use Rattle.redact.specs.Pass.{pass, judgment_by};
+ghost use Rattle.policy.specs.Inherited.{carried, hides};
+ghost use Rattle.redact.specs.Filled.{IsFilled};
+ghost use Rattle.redact.specs.Tokens.{token_of, path_of};
+ghost use Rattle.redact.specs.Left.{home_of, class_left, class_told, class_count, left_at, told_at, count_at, left_items, told_items, count_items, left_member, told_member, count_member, Goes};
+
+use crate::attributes::labelled;
+use crate::note::Note;
+use crate::reader::Reader;
+use crate::trail::Token;
+use iodef_tree::{Item, Member, Object};
+use marking::class::written;
+use policy::{Carried, Rule};
+use std::alloc::{AllocError, Global};
+
+/// Where members stand: in the root, or in a class that is visible or isn't.
+#[derive(Clone, Copy)]
+pub enum Home {
+    Root,
+    Class(bool),
+}
+
+/// Where the pass is, in the document and in the excerpt, and what it met so far.
+#[derive(Drop)]
+pub struct State<'a> {
+    pub alloc: Global,
+    pub path: Vec<Token<'a>>,
+    pub place: Vec<Token<'a>>,
+    pub classes: u32,
+    pub withheld: Vec<Note<'a>>,
+}
+
+fn keeps_plain(home: Home) -> bool
+    ensures { result ≡ keeps (home_of home) }
+{
+    match home {
+        Home::Root => true,
+        Home::Class(visible) => visible,
+    }
+}
+
+fn shows(home: Home) -> bool
+    ensures { result ≡ shows_label (home_of home) }
+{
+    match home {
+        Home::Root => false,
+        Home::Class(visible) => visible,
+    }
+}
+
+/// Whether a visible class has to say its label itself.
+fn needs_label(home: Home, object: &Object) -> bool
+    ensures { result ≡ (is_none (spelled_in (forest object.now)) && not (shows_label (home_of home))) }
+{
+    written(object).is_none() && !shows(home)
+}
+
+impl<'a> Reader<'a> {
+    /// What is left of the members of the class at `above`.
+    #[cycle(cut)]
+    pub fn cut(
+        &self,
+        state: &mut State<'a>,
+        home: Home,
+        above: Carried<'a>,
+        object: &'a Object,
+    ) -> Result<Object, AllocError>
+        ensures left { IfOk result (λ o. forest o ≡ what_is_left (home_of home) 0
+            (pass self.now.case.now self.now.standing.now (carried (path_of state.old.path.items) above.entry) (forest object.now))) }
+        ensures filled { IfOk result (λ o. All (λ m. IsFilled (bodies m.1)) o.members.items) }
+        ensures goes { IfOk result (λ o.
+            let judged = pass self.now.case.now self.now.standing.now (carried (path_of state.old.path.items) above.entry) (forest object.now) in
+            Goes state.old state.new (told (home_of home) (path_of state.old.place.items) 0 judged) [] (visible_classes judged) 0) }
+    {
+        let mut members = Vec::new(state.alloc);
+        for (name, member) in &object.members {
+            if let Some(kept) = self.cut_member(state, home, above, name.as_str(), member)? {
+                members.push((name.clone()?, kept))?;
+            }
+        }
+        Ok(Object { members })
+    }
+
+    #[cycle(cut)]
+    fn cut_member(
+        &self,
+        state: &mut State<'a>,
+        home: Home,
+        above: Carried<'a>,
+        name: &'a str,
+        member: &'a Member,
+    ) -> Result<Option<Member>, AllocError>
+        ensures left { IfOk result (λ r. option_map bodies r ≡ left_member self.now.case.now self.now.standing.now (home_of home)
+            (carried (path_of state.old.path.items) above.entry) name.now (bodies member.now)) }
+        ensures goes { IfOk result (λ r. Goes state.old state.new
+            (told_member self.now.case.now self.now.standing.now (home_of home) (carried (path_of state.old.path.items) above.entry) (path_of state.old.place.items) name.now (bodies member.now)) []
+            (count_member self.now.case.now self.now.standing.now (carried (path_of state.old.path.items) above.entry) name.now (bodies member.now)) 0) }
+    {
+        let base = state.place.len();
+        match member {
+            Member::One(item) => match self.cut_item(
+                state,
+                home,
+                above,
+                base,
+                Token::Name(name),
+                Token::Name(name),
+                item,
+            )? {
+                Some(kept) => Ok(Some(Member::One(kept))),
+                None => Ok(None),
+            },
+            Member::Many(items) => {
+                state.path.push(Token::Name(name))?;
+                state.place.push(Token::Name(name))?;
+                let array = self.at_array(state.path.as_slice(), above);
+                let kept = self.cut_items(state, home, array, base, items)?;
+                state.path.pop();
+                state.place.pop();
+                if kept.is_empty() {
+                    Ok(None)
+                } else {
+                    Ok(Some(Member::Many(kept)))
+                }
+            }
+        }
+    }
+
+    #[cycle(cut)]
+    fn cut_items(
+        &self,
+        state: &mut State<'a>,
+        home: Home,
+        array: Carried<'a>,
+        base: usize,
+        items: &'a Vec<Item>,
+    ) -> Result<Vec<Item>, AllocError>
+        requires { base ≤ length state.old.place.items }
+        ensures left { IfOk result (λ v. map body v.items ≡ left_items self.now.case.now self.now.standing.now (home_of home)
+            (carried (path_of state.old.path.items) array.entry) 0 (map body items.now.items)) }
+        ensures goes { IfOk result (λ v. Goes state.old state.new
+            (told_items self.now.case.now self.now.standing.now (home_of home) (carried (path_of state.old.path.items) array.entry)
+            (path_of (take base state.old.place.items)) (path_of state.old.place.items) 0 0 (map body items.now.items)) []
+            (count_items self.now.case.now self.now.standing.now (carried (path_of state.old.path.items) array.entry) 0 (map body items.now.items)) 0) }
+    {
+        let mut kept = Vec::new(state.alloc);
+        for (i, item) in items.iter().enumerate() {
+            let n = kept.len();
+            if let Some(x) = self.cut_item(
+                state,
+                home,
+                array,
+                base,
+                Token::Index(i),
+                Token::Index(n),
+                item,
+            )? {
+                kept.push(x)?;
+            }
+        }
+        Ok(kept)
+    }
+
+    /// What is left of what stands under a token, and under another one in the excerpt, if it is left.
+    #[cycle(cut)]
+    fn cut_item(
+        &self,
+        state: &mut State<'a>,
+        home: Home,
+        door: Carried<'a>,
+        base: usize,
+        token: Token<'a>,
+        place: Token<'a>,
+        item: &'a Item,
+    ) -> Result<Option<Item>, AllocError>
+        requires { base ≤ length state.old.place.items }
+        ensures left { IfOk result (λ r. option_map body r ≡ left_at self.now.case.now self.now.standing.now (home_of home)
+            (carried (path_of state.old.path.items) door.entry) (token_of token.entry) (body item.now)) }
+        ensures goes { IfOk result (λ r. Goes state.old state.new
+            (told_at self.now.case.now self.now.standing.now (carried (path_of state.old.path.items) door.entry)
+            (path_of (take base state.old.place.items)) (path_of (state.old.place.items ++ place.entry ∷ [])) (token_of token.entry) (body item.now)) []
+            (count_at self.now.case.now self.now.standing.now (carried (path_of state.old.path.items) door.entry) (token_of token.entry) (body item.now)) 0) }
+    {
+        match item {
+            Item::Class(object) => {
+                state.path.push(token)?;
+                state.place.push(place)?;
+                let at = self.at_class(state.path.as_slice(), door, written(object));
+                let left = self.cut_class(state, home, at, base, object)?;
+                state.path.pop();
+                state.place.pop();
+                match left {
+                    Some(kept) => Ok(Some(Item::Class(kept))),
+                    None => Ok(None),
+                }
+            }
+            Item::Text(text) => {
+                if keeps_plain(home) {
+                    Ok(Some(Item::Text(text.clone()?)))
+                } else {
+                    Ok(None)
+                }
+            }
+            Item::Value(text) => {
+                if keeps_plain(home) {
+                    Ok(Some(Item::Value(text.clone()?)))
+                } else {
+                    Ok(None)
+                }
+            }
+        }
+    }
+
+    /// What is left of a class, at whose path and place the pass is.
+    #[cycle(cut)]
+    fn cut_class(
+        &self,
+        state: &mut State<'a>,
+        home: Home,
+        at: Carried<'a>,
+        base: usize,
+        object: &'a Object,
+    ) -> Result<Option<Object>, AllocError>
+        requires { base ≤ length state.old.place.items }
+        ensures left { IfOk result (λ r. option_map forest r ≡ (
+            let k = carried (path_of state.old.path.items) at.entry in
+            class_left self.now.case.now self.now.standing.now (home_of home) (judgment_by self.now.case.now self.now.standing.now k (spelled_in (forest object.now))) (pass self.now.case.now self.now.standing.now k (forest object.now)))) }
+        ensures goes { IfOk result (λ r.
+            let k = carried (path_of state.old.path.items) at.entry in
+            let judged = pass self.now.case.now self.now.standing.now k (forest object.now) in
+            let j = judgment_by self.now.case.now self.now.standing.now k (spelled_in (forest object.now)) in
+            Goes state.old state.new (class_told self.now.case.now self.now.standing.now (path_of (take base state.old.place.items)) (path_of state.old.place.items) j judged) []
+            (class_count self.now.case.now self.now.standing.now j judged) 0) }
+    {
+        if self.sees(at) {
+            let kept = self.cut_seen(state, home, at, object)?;
+            Ok(Some(kept))
+        } else {
+            let kept = self.cut_hidden(state, at, base, object)?;
+            Ok(kept)
+        }
+    }
+
+    /// What is left of a visible class, which says its label where nothing above it in the excerpt does.
+    #[cycle(cut)]
+    fn cut_seen(
+        &self,
+        state: &mut State<'a>,
+        home: Home,
+        at: Carried<'a>,
+        object: &'a Object,
+    ) -> Result<Object, AllocError>
+        ensures left { IfOk result (λ o. forest o ≡ (
+            let k = carried (path_of state.old.path.items) at.entry in
+            with_label (home_of home) (judgment_by self.now.case.now self.now.standing.now k (spelled_in (forest object.now)))
+            (what_is_left (inside true) 0 (pass self.now.case.now self.now.standing.now k (forest object.now))))) }
+        ensures goes { IfOk result (λ o.
+            let k = carried (path_of state.old.path.items) at.entry in
+            let judged = pass self.now.case.now self.now.standing.now k (forest object.now) in
+            Goes state.old state.new (told (inside true) (path_of state.old.place.items) 0 judged) [] (1 + visible_classes judged) 0) }
+    {
+        state.classes = state.classes.saturating_add(1);
+        let kept = self.cut(state, Home::Class(true), at, object)?;
+        if needs_label(home, object) {
+            let said = labelled(state.alloc, kept, at.label)?;
+            Ok(said)
+        } else {
+            Ok(kept)
+        }
+    }
+
+    /// What is left of a class that isn't visible: it is told at its place where something is, else at that of its parent.
+    #[cycle(cut)]
+    fn cut_hidden(
+        &self,
+        state: &mut State<'a>,
+        at: Carried<'a>,
+        base: usize,
+        object: &'a Object,
+    ) -> Result<Option<Object>, AllocError>
+        requires { base ≤ length state.old.place.items }
+        ensures left { IfOk result (λ r. option_map forest r ≡ (
+            let inner = what_is_left (inside false) 0 (pass self.now.case.now self.now.standing.now (carried (path_of state.old.path.items) at.entry) (forest object.now)) in
+            if is_end inner then None else Some inner)) }
+        ensures goes { IfOk result (λ r.
+            let k = carried (path_of state.old.path.items) at.entry in
+            let judged = pass self.now.case.now self.now.standing.now k (forest object.now) in
+            Goes state.old state.new (if is_end (what_is_left (inside false) 0 judged) then (path_of (take base state.old.place.items), hides self.now.standing.now k) ∷ []
+            else (path_of state.old.place.items, hides self.now.standing.now k) ∷ told (inside false) (path_of state.old.place.items) 0 judged) []
+            (visible_classes judged) 0) }
+    {
+        let rule = self.hides(at);
+        let mark = state.withheld.len();
+        let here = Note::new(state.alloc, state.place.as_slice(), rule)?;
+        state.withheld.push(here)?;
+        let kept = self.cut(state, Home::Class(false), at, object)?;
+        if kept.members.is_empty() {
+            state.withheld.truncate(mark);
+            let above = Note::new(state.alloc, &state.place.as_slice()[..base], rule)?;
+            state.withheld.push(above)?;
+            Ok(None)
+        } else {
+            Ok(Some(kept))
+        }
+    }
+}

@@ -1,0 +1,210 @@
+//! A search of the texts that a reader may see.
+
+ghost use Rattle.std.specs.Prelude.{◌≡◌, ◌||◌, IfOk, option_map, map};
+ghost use Rattle.iodef_tree.specs.View.{forest, bodies, body};
+ghost use Rattle.policy.specs.Inherited.{carried};
+ghost use Rattle.redact.specs.Told.{finds as is_found, is_named};
+ghost use Rattle.redact.specs.Tokens.{token_of, path_of};
+ghost use Rattle.redact.specs.Search.{body_hits, bodies_hit, members_hit, class_hits, found, found_at, found_items, found_member};
+
+use crate::reader::Reader;
+use crate::trail::Token;
+use iodef_tree::{Document, Item, Member, Object};
+use marking::class::written;
+use memchr::memmem::Finder;
+use policy::{Carried, Case, Standing};
+use std::alloc::{AllocError, Global};
+
+/// What a reader asks for: a needle, and in classes of which name if one is given.
+#[derive(Drop)]
+struct Search<'a> {
+    reader: Reader<'a>,
+    finder: Finder<'a>,
+    class: Option<&'a str>,
+}
+
+/// Whether a class that the reader may see directly holds a text that contains `needle`, byte for byte; of the classes of
+/// the name `class` alone, if it is given. A label that an excerpt adds to a class is no stored text and isn't searched,
+/// nor is the header.
+pub fn finds(
+    alloc: Global,
+    document: &Document,
+    case: &Case,
+    standing: &Standing,
+    needle: &str,
+    class: Option<&str>,
+) -> Result<bool, AllocError>
+    ensures { IfOk result (λ b. b ≡ is_found document.now case.now standing.now needle.now (option_map (λ name. name.now) class.entry)) }
+{
+    let search = Search {
+        reader: Reader { case, standing },
+        finder: Finder::new(needle.as_bytes()),
+        class,
+    };
+    let mut trail = Vec::new(alloc);
+    let above = search.reader.at_root();
+    let found = search.among(&mut trail, above, document.root())?;
+    Ok(found)
+}
+
+#[tactic(auto, using(crate::proofs::Needles::finds_has))]
+fn hits(item: &Item, finder: &Finder<'_>) -> bool
+    ensures { result ≡ body_hits finder.now (body item.now) }
+{
+    match item {
+        Item::Class(_) => false,
+        Item::Text(text) => finder.find(text.as_str().as_bytes()).is_some(),
+        Item::Value(_) => false,
+    }
+}
+
+#[tactic(auto, using(crate::proofs::Searching::any_map))]
+fn member_hits(member: &Member, finder: &Finder<'_>) -> bool
+    ensures { result ≡ bodies_hit finder.now (bodies member.now) }
+{
+    match member {
+        Member::One(item) => hits(item, finder),
+        Member::Many(items) => items.as_slice().iter().any(|item| hits(item, finder)),
+    }
+}
+
+/// Whether a class with these members directly holds a text that contains the needle.
+fn holds(object: &Object, finder: &Finder<'_>) -> bool
+    ensures { result ≡ members_hit finder.now (forest object.now) }
+{
+    for (_, member) in &object.members {
+        if member_hits(member, finder) {
+            return true;
+        }
+    }
+    false
+}
+
+impl<'a> Search<'a> {
+    fn names(&self, name: &str) -> bool
+        ensures { result ≡ is_named (option_map (λ n. n.now) self.now.class) name.now }
+    {
+        match self.class {
+            None => true,
+            Some(class) => class == name,
+        }
+    }
+
+    /// Whether something is found among the members of the class at `above`, or below them.
+    #[cycle(search)]
+    fn among(
+        &self,
+        trail: &mut Vec<Token<'a>>,
+        above: Carried<'a>,
+        object: &'a Object,
+    ) -> Result<bool, AllocError>
+        ensures found { IfOk result (λ b. b ≡ found self.now.reader.case.now self.now.reader.standing.now self.now.finder (option_map (λ n. n.now) self.now.class)
+            (carried (path_of trail.old.items) above.entry) (forest object.now)) }
+        ensures trail { IfOk result (λ b. trail.new.items ≡ trail.old.items) }
+    {
+        for (name, member) in &object.members {
+            if self.in_member(trail, above, name.as_str(), member)? {
+                return Ok(true);
+            }
+        }
+        Ok(false)
+    }
+
+    #[cycle(search)]
+    fn in_member(
+        &self,
+        trail: &mut Vec<Token<'a>>,
+        above: Carried<'a>,
+        name: &'a str,
+        member: &'a Member,
+    ) -> Result<bool, AllocError>
+        ensures found { IfOk result (λ b. b ≡ found_member self.now.reader.case.now self.now.reader.standing.now self.now.finder (option_map (λ n. n.now) self.now.class)
+            (carried (path_of trail.old.items) above.entry) name.now (bodies member.now)) }
+        ensures trail { IfOk result (λ b. trail.new.items ≡ trail.old.items) }
+    {
+        match member {
+            Member::One(item) => {
+                let found = self.at(trail, above, Token::Name(name), name, item)?;
+                Ok(found)
+            }
+            Member::Many(items) => {
+                trail.push(Token::Name(name))?;
+                let array = self.reader.at_array(trail.as_slice(), above);
+                let found = self.in_array(trail, array, name, items)?;
+                trail.pop();
+                Ok(found)
+            }
+        }
+    }
+
+    #[cycle(search)]
+    fn in_array(
+        &self,
+        trail: &mut Vec<Token<'a>>,
+        array: Carried<'a>,
+        name: &'a str,
+        items: &'a Vec<Item>,
+    ) -> Result<bool, AllocError>
+        ensures found { IfOk result (λ b. b ≡ found_items self.now.reader.case.now self.now.reader.standing.now self.now.finder (option_map (λ n. n.now) self.now.class)
+            (carried (path_of trail.old.items) array.entry) name.now 0 (map body items.now.items)) }
+        ensures trail { IfOk result (λ b. trail.new.items ≡ trail.old.items) }
+    {
+        for (i, item) in items.iter().enumerate() {
+            if self.at(trail, array, Token::Index(i), name, item)? {
+                return Ok(true);
+            }
+        }
+        Ok(false)
+    }
+
+    /// Whether something is found in what stands under a token, in a member of this name.
+    #[cycle(search)]
+    fn at(
+        &self,
+        trail: &mut Vec<Token<'a>>,
+        door: Carried<'a>,
+        token: Token<'a>,
+        name: &'a str,
+        item: &'a Item,
+    ) -> Result<bool, AllocError>
+        ensures found { IfOk result (λ b. b ≡ found_at self.now.reader.case.now self.now.reader.standing.now self.now.finder (option_map (λ n. n.now) self.now.class)
+            (carried (path_of trail.old.items) door.entry) (token_of token.entry) name.now (body item.now)) }
+        ensures trail { IfOk result (λ b. trail.new.items ≡ trail.old.items) }
+    {
+        match item {
+            Item::Class(object) => {
+                trail.push(token)?;
+                let at = self
+                    .reader
+                    .at_class(trail.as_slice(), door, written(object));
+                let found = self.in_class(trail, at, name, object)?;
+                trail.pop();
+                Ok(found)
+            }
+            Item::Text(_) => Ok(false),
+            Item::Value(_) => Ok(false),
+        }
+    }
+
+    /// Whether the class at whose path the search is holds what is asked for, or one below it does.
+    #[cycle(search)]
+    fn in_class(
+        &self,
+        trail: &mut Vec<Token<'a>>,
+        at: Carried<'a>,
+        name: &'a str,
+        object: &'a Object,
+    ) -> Result<bool, AllocError>
+        ensures found { IfOk result (λ b.
+            let k = carried (path_of trail.old.items) at.entry in
+            b ≡ (class_hits self.now.reader.case.now self.now.reader.standing.now self.now.finder (option_map (λ n. n.now) self.now.class) k name.now (forest object.now)
+            || found self.now.reader.case.now self.now.reader.standing.now self.now.finder (option_map (λ n. n.now) self.now.class) k (forest object.now))) }
+        ensures trail { IfOk result (λ b. trail.new.items ≡ trail.old.items) }
+    {
+        if self.reader.sees(at) && self.names(name) && holds(object, &self.finder) {
+            return Ok(true);
+        }
+        let found = self.among(trail, at, object)?;
+        Ok(found)
+    }
+}

@@ -1,0 +1,131 @@
+//! Where a pass is: the tokens of a path, without memory of their own.
+
+ghost use Rattle.std.specs.Prelude.{◌≡◌, ◌++◌, ◌∷◌, IfOk, OnOk, string_bytes};
+ghost use Rattle.std.specs.Str.{byte, bytes_eq};
+ghost use Rattle.iodef_tree.specs.Pointer.{escaped, pointer_text};
+ghost use Rattle.iodef_tree.specs.Text.{same_path};
+ghost use Rattle.marking.specs.Marks.{incident_path};
+ghost use Rattle.redact.specs.Tokens.{token_of, path_of};
+
+use iodef_tree::{Path, Text, push_token};
+use policy::Spot;
+use std::alloc::{AllocError, Global};
+
+/// A token of a path: a member's name or a place in an array.
+#[derive(Clone, Copy)]
+pub enum Token<'a> {
+    Name(&'a str),
+    Index(usize),
+}
+
+/// Where a pass is, by its tokens.
+#[derive(Clone, Copy)]
+pub struct Trail<'t, 'a> {
+    pub tokens: &'t [Token<'a>],
+}
+
+impl<'t, 'a> Spot for Trail<'t, 'a> {
+    ghost tokens = { λ t. path_of t.tokens.now };
+
+    fn is_at(&self, path: &Path) -> bool {
+        is_path(path.tokens(), self.tokens)
+    }
+
+    fn is_at_incident(&self) -> bool {
+        is_incident(self.tokens)
+    }
+}
+
+/// Whether the token is written so.
+fn is_token(token: Token<'_>, text: &str) -> bool
+    ensures { result ≡ bytes_eq text.now (token_of token.entry) }
+{
+    match token {
+        Token::Name(name) => text == name,
+        Token::Index(place) => {
+            let mut digits = itoa::Buffer::new();
+            text == digits.format(place)
+        }
+    }
+}
+
+/// Whether the token is written so, read from the other side.
+fn is_written(token: Token<'_>, text: &str) -> bool
+    ensures { result ≡ bytes_eq (token_of token.entry) text.now }
+{
+    match token {
+        Token::Name(name) => name == text,
+        Token::Index(place) => {
+            let mut digits = itoa::Buffer::new();
+            digits.format(place) == text
+        }
+    }
+}
+
+/// Whether a path has these tokens.
+fn is_path(tokens: &[Text], trail: &[Token<'_>]) -> bool
+    ensures { result ≡ same_path tokens.now (path_of trail.now) }
+{
+    if tokens.len() != trail.len() {
+        return false;
+    }
+    for (i, token) in trail.iter().enumerate() {
+        if !is_token(*token, tokens[i].as_str()) {
+            return false;
+        }
+    }
+    true
+}
+
+fn is_incident(trail: &[Token<'_>]) -> bool
+    ensures { result ≡ same_path (path_of trail.now) incident_path }
+{
+    match trail {
+        [first, second] => is_written(*first, "Incident") && is_written(*second, "0"),
+        _ => false,
+    }
+}
+
+/// Writes the token behind a pointer.
+fn push(pointer: &mut String, token: Token<'_>) -> Result<(), AllocError>
+    ensures { OnOk result (string_bytes pointer.new ≡ string_bytes pointer.old ++ byte "/" ∷ escaped (token_of token.entry)) }
+{
+    match token {
+        Token::Name(name) => push_token(pointer, name),
+        Token::Index(place) => {
+            let mut digits = itoa::Buffer::new();
+            push_token(pointer, digits.format(place))
+        }
+    }
+}
+
+/// The path with these tokens as a JSON pointer (RFC 6901 section 3).
+pub fn print(alloc: Global, trail: &[Token<'_>]) -> Result<String, AllocError>
+    ensures { IfOk result (λ s. string_bytes s ≡ pointer_text (path_of trail.now)) }
+{
+    let mut pointer = String::new(alloc);
+    for token in trail {
+        push(&mut pointer, *token)?;
+    }
+    Ok(pointer)
+}
+
+fn text_of(alloc: Global, token: Token<'_>) -> Result<Text, AllocError>
+    ensures { IfOk result (λ t. t ≡ token_of token.entry) }
+{
+    match token {
+        Token::Name(name) => Ok(Text::new(String::from_str(alloc, name)?)),
+        Token::Index(place) => Ok(Text::new(format!(in alloc; "{place}")?)),
+    }
+}
+
+/// The path with these tokens.
+pub fn path_at(alloc: Global, trail: &[Token<'_>]) -> Result<Path, AllocError>
+    ensures { IfOk result (λ p. p ≡ path_of trail.now) }
+{
+    let mut tokens = Vec::with_capacity(alloc, trail.len())?;
+    for token in trail {
+        tokens.push(text_of(alloc, *token)?)?;
+    }
+    Ok(Path::new(tokens))
+}
