@@ -1,0 +1,86 @@
+//! A report, redacted again and again.
+
+ghost use Rattle.std.specs.Prelude.{◌≡◌, None};
+ghost use Rattle.iodef_tree.specs.Paths.{located};
+ghost use Rattle.marking.specs.Marks.{first_bad_marking};
+
+use iodef_tree::{Document, Path, ReadFault};
+use marking::{MarkingFault, check};
+use policy::{Case, Gate, Gates, Numbers, Permissions, Standing};
+use redact::excerpt;
+use std::alloc::{AllocError, Global};
+
+/// The last excerpt, and the bytes of all.
+#[derive(Drop)]
+pub struct Excerpts {
+    pub text: String,
+    pub bytes: u64,
+}
+
+/// A gate at the root, which everybody passes.
+fn open_case(alloc: Global) -> Result<Case, AllocError> {
+    let mut gates = Vec::new(alloc);
+    gates.push(Gate {
+        path: Path::root(alloc),
+        level: 3,
+        group: None,
+    })?;
+    Ok(Case {
+        source: 1,
+        gates: Gates::new(gates),
+        permissions: Permissions::new(Vec::new(alloc)),
+    })
+}
+
+/// A reader of whom nothing holds, and who is cleared for CLEAR by that.
+fn anybody(alloc: Global) -> Standing {
+    Standing {
+        source: false,
+        person: false,
+        nominated: false,
+        addressed: false,
+        client: false,
+        community: false,
+        connected: false,
+        arrangement: None,
+        who: 2,
+        org: 2,
+        groups: Numbers::new(Vec::new(alloc)),
+        active_groups: Numbers::new(Vec::new(alloc)),
+        communities: Numbers::new(Vec::new(alloc)),
+    }
+}
+
+fn in_turns(alloc: Global, document: &Document, turns: u32) -> Result<Excerpts, AllocError>
+    requires { first_bad_marking (located document.now) ≡ None }
+{
+    let case = open_case(alloc)?;
+    let reader = anybody(alloc);
+    let mut text = String::new(alloc);
+    let mut bytes: u64 = 0;
+    for _ in 0..turns {
+        text = match excerpt(alloc, document, &case, &reader)? {
+            Some(excerpt) => excerpt.document.text(alloc)?,
+            None => String::new(alloc),
+        };
+        bytes = bytes.saturating_add(text.len() as u64);
+    }
+    Ok(Excerpts { text, bytes })
+}
+
+/// The excerpts of the last Incident of a report; `None` where the report isn't accepted.
+pub fn redacted(alloc: Global, body: &[u8], turns: u32) -> Result<Option<Excerpts>, AllocError> {
+    let mut documents = match Document::read(alloc, body) {
+        Ok(documents) => documents,
+        Err(ReadFault::NoMemory) => return Err(AllocError),
+        Err(_) => return Ok(None),
+    };
+    let Some(document) = documents.pop() else {
+        return Ok(None);
+    };
+    match check(alloc, &document) {
+        Ok(()) => Ok(Some(in_turns(alloc, &document, turns)?)),
+        Err(MarkingFault::BadMarking(_)) => Ok(None),
+        Err(MarkingFault::NoMemory) => Err(AllocError),
+    }
+}

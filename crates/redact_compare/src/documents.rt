@@ -1,0 +1,203 @@
+//! Generated reports, as JSON texts.
+
+use crate::dice::Dice;
+use std::alloc::{AllocError, Global};
+
+/// A text of this many bytes takes no further classes but such without members.
+const ROOM: usize = 600;
+
+fn marking(dice: &mut Dice) -> &'static str {
+    match dice.roll(26) {
+        0 => "\"restriction\":\"public\"",
+        1 => "\"restriction\":\"white\"",
+        2 => "\"restriction\":\"partner\"",
+        3 => "\"restriction\":\"green\",\"ext-restriction\":\"TLP:CLEAR\"",
+        4 => "\"restriction\":\"need-to-know\"",
+        5 => "\"restriction\":\"amber\"",
+        6 => "\"restriction\":\"private\"",
+        7 => "\"restriction\":\"red\"",
+        8 => "\"restriction\":\"default\"",
+        9 => "\"restriction\":\"ext-value\",\"ext-restriction\":\"TLP:AMBER\"",
+        10 => "\"restriction\":\"ext-value\",\"ext-restriction\":\"tlp:Green\"",
+        11 => "\"restriction\":\"ext-value\",\"ext-restriction\":\"TLP:AMBER+STRICT\"",
+        12 => "\"restriction\":\"ext-value\",\"ext-restriction\":\"TLP:CLEAR\"",
+        13 => "\"restriction\":\"ext-value\",\"ext-restriction\":\"ours\"",
+        14 => "\"restriction\":\"ext-value\",\"ext-restriction\":\"\"",
+        15 => "\"restriction\":\"public\",\"ext-restriction\":\"ours\"",
+        _ => "",
+    }
+}
+
+fn plain_name(dice: &mut Dice) -> &'static str {
+    match dice.roll(12) {
+        0 => "a",
+        1 => "ext-restrictio",
+        2 => "ext-restriction0",
+        3 => "ext-s",
+        4 => "f",
+        5 => "restrictio",
+        6 => "restriction0",
+        7 => "s",
+        8 => "zone",
+        9 => "é",
+        10 => "",
+        _ => "note",
+    }
+}
+
+fn plain_value(dice: &mut Dice) -> &'static str {
+    match dice.roll(10) {
+        0 => "\"a needle\"",
+        1 => "\"need\"",
+        2 => "\"\"",
+        3 => "7",
+        4 => "null",
+        5 => "[]",
+        6 => "[\"x\",\"needles\"]",
+        7 => "[1,\"x\",[2]]",
+        8 => "true",
+        _ => "\"text\"",
+    }
+}
+
+fn class_name(dice: &mut Dice) -> &'static str {
+    match dice.roll(8) {
+        0 => "EventData",
+        1 => "Flow",
+        2 => "System",
+        3 => "ext-t",
+        4 => "restrict",
+        5 => "restrictions",
+        6 => "a/b~c",
+        _ => "Node",
+    }
+}
+
+/// A member behind those of an object or an array that is open.
+fn push_member(text: &mut String, name: &str, value: &str) -> Result<(), AllocError> {
+    if !text.as_str().ends_with('{') {
+        text.push(',')?;
+    }
+    text.push('"')?;
+    text.push_str(name)?;
+    text.push_str("\":")?;
+    text.push_str(value)
+}
+
+fn push_marking(text: &mut String, written: &str) -> Result<(), AllocError> {
+    if written.is_empty() {
+        return Ok(());
+    }
+    if !text.as_str().ends_with('{') {
+        text.push(',')?;
+    }
+    text.push_str(written)
+}
+
+fn push_plain(text: &mut String, dice: &mut Dice) -> Result<(), AllocError> {
+    for _ in 0..dice.roll(4) {
+        push_member(text, plain_name(dice), plain_value(dice))?;
+    }
+    Ok(())
+}
+
+/// One of these texts of classes, where there is room for it, or a class without members.
+fn any_class<'a>(dice: &mut Dice, classes: &'a [String], used: usize) -> &'a str {
+    match classes.get(dice.roll(4) as usize) {
+        Some(class) if used.saturating_add(class.len()) < ROOM => class.as_str(),
+        _ => "{}",
+    }
+}
+
+/// An array of classes, with other values among them.
+fn array_text(
+    alloc: Global,
+    dice: &mut Dice,
+    classes: &[String],
+    used: usize,
+) -> Result<String, AllocError> {
+    let mut text = String::from_str(alloc, "[")?;
+    for _ in 0..dice.roll(4) {
+        if dice.once_in(5) {
+            text.push_str("\"an element\",")?;
+        } else {
+            text.push_str(any_class(dice, classes, used.saturating_add(text.len())))?;
+            text.push(',')?;
+        }
+    }
+    text.push_str(any_class(dice, classes, used.saturating_add(text.len())))?;
+    text.push(']')?;
+    Ok(text)
+}
+
+/// Members that are classes or arrays of them.
+fn push_classes(
+    text: &mut String,
+    alloc: Global,
+    dice: &mut Dice,
+    classes: &[String],
+) -> Result<(), AllocError> {
+    for _ in 0..dice.roll(3) {
+        let name = class_name(dice);
+        if dice.once_in(3) {
+            let class = any_class(dice, classes, text.len());
+            push_member(text, name, class)?;
+        } else {
+            let array = array_text(alloc, dice, classes, text.len())?;
+            push_member(text, name, array.as_str())?;
+        }
+    }
+    Ok(())
+}
+
+/// A class over these.
+fn class_text(alloc: Global, dice: &mut Dice, classes: &[String]) -> Result<String, AllocError> {
+    let mut text = String::from_str(alloc, "{")?;
+    push_marking(&mut text, marking(dice))?;
+    push_plain(&mut text, dice)?;
+    push_classes(&mut text, alloc, dice, classes)?;
+    text.push('}')?;
+    Ok(text)
+}
+
+/// Three classes, each over some of the level below.
+fn level(alloc: Global, dice: &mut Dice, classes: &[String]) -> Result<Vec<String>, AllocError> {
+    let mut made = Vec::new(alloc);
+    for _ in 0..3 {
+        made.push(class_text(alloc, dice, classes)?)?;
+    }
+    Ok(made)
+}
+
+fn incident_text(alloc: Global, dice: &mut Dice, classes: &[String]) -> Result<String, AllocError> {
+    let mut text = String::from_str(alloc, "{\"GenerationTime\":\"g\",\"purpose\":\"reporting\"")?;
+    push_member(&mut text, "IncidentID", any_class(dice, classes, 0))?;
+    let contacts = array_text(alloc, dice, classes, 0)?;
+    push_member(&mut text, "Contact", contacts.as_str())?;
+    push_marking(&mut text, marking(dice))?;
+    push_plain(&mut text, dice)?;
+    push_classes(&mut text, alloc, dice, classes)?;
+    text.push('}')?;
+    Ok(text)
+}
+
+/// A report with one Incident.
+pub fn report_text(alloc: Global, dice: &mut Dice) -> Result<String, AllocError> {
+    let mut classes = Vec::new(alloc);
+    for _ in 0..dice.roll(4) {
+        classes = level(alloc, dice, &classes)?;
+    }
+    let mut text = String::from_str(alloc, "{\"version\":\"2.0\"")?;
+    push_plain(&mut text, dice)?;
+    if dice.once_in(4) {
+        push_member(&mut text, "restriction", "\"public\"")?;
+    }
+    if dice.once_in(3) {
+        push_classes(&mut text, alloc, dice, &classes)?;
+    }
+    let incident = incident_text(alloc, dice, &classes)?;
+    text.push_str(",\"Incident\":[")?;
+    text.push_str(incident.as_str())?;
+    text.push_str("]}")?;
+    Ok(text)
+}

@@ -1,0 +1,260 @@
+//! What is kept of a document, and what is withheld, from the verdict of each path.
+
+use crate::entry::{is_below, located};
+use crate::world::World;
+use iodef_tree::{Kind, Line, Path, Text};
+use std::alloc::{AllocError, Global};
+
+/// A line, and of a class whether it is visible and the rule that hides it otherwise.
+#[derive(Drop)]
+pub struct Judged<'a> {
+    pub parent: &'a Path,
+    pub path: &'a Path,
+    pub line: &'a Line,
+    pub visible: bool,
+    pub rule: &'static str,
+}
+
+/// Something that is withheld: the printed place, and the rule.
+#[derive(Drop)]
+pub struct Told {
+    pub place: String,
+    pub rule: &'static str,
+}
+
+pub fn judge<'a>(world: &'a World<'_, '_>) -> Result<Vec<Judged<'a>>, AllocError> {
+    let mut list = Vec::new(world.alloc);
+    for entry in &world.entries {
+        let class = entry.line.kind == Kind::Class;
+        let visible = class && world.is_visible(entry.path.tokens())?;
+        let rule = if class {
+            world.hiding_rule(entry.path.tokens())?
+        } else {
+            ""
+        };
+        list.push(Judged {
+            parent: &entry.parent,
+            path: &entry.path,
+            line: entry.line,
+            visible,
+            rule,
+        })?;
+    }
+    Ok(list)
+}
+
+/// Whether a visible class stands at the path.
+pub fn is_seen(list: &[Judged<'_>], path: &[Text]) -> bool {
+    list.iter()
+        .any(|judged| judged.visible && judged.path.tokens() == path)
+}
+
+/// Whether a visible class lies below the path.
+pub fn holds_seen(list: &[Judged<'_>], path: &[Text]) -> bool {
+    list.iter().any(|judged| judged.visible && is_below(judged.path.tokens(), path))
+}
+
+pub fn is_frame(list: &[Judged<'_>], path: &[Text]) -> bool {
+    !is_seen(list, path) && holds_seen(list, path)
+}
+
+pub fn is_wholly_hidden(list: &[Judged<'_>], path: &[Text]) -> bool {
+    !path.is_empty() && !is_seen(list, path) && !holds_seen(list, path)
+}
+
+pub fn is_kept(list: &[Judged<'_>], judged: &Judged<'_>) -> bool {
+    let parent = judged.parent.tokens();
+    if judged.line.kind == Kind::Class {
+        judged.visible || is_frame(list, judged.path.tokens())
+    } else {
+        parent.is_empty() || is_seen(list, parent)
+    }
+}
+
+/// Whether a class has its label added.
+pub fn says_label(world: &World<'_, '_>, list: &[Judged<'_>], judged: &Judged<'_>) -> bool {
+    judged.visible
+        && world.written(judged.path.tokens()).is_none()
+        && !is_seen(list, judged.parent.tokens())
+}
+
+fn copy(line: &Line) -> Result<Line, AllocError> {
+    Ok(Line {
+        depth: line.depth,
+        name: line.name.clone()?,
+        in_array: line.in_array,
+        kind: line.kind,
+        text: line.text.clone()?,
+    })
+}
+
+fn text_line(alloc: Global, depth: u32, name: &str, text: &str) -> Result<Line, AllocError> {
+    Ok(Line {
+        depth,
+        name: Text::new(String::from_str(alloc, name)?),
+        in_array: false,
+        kind: Kind::Text,
+        text: Text::new(String::from_str(alloc, text)?),
+    })
+}
+
+/// Puts a line in front of the first that isn't below its class or is a member of a later name.
+fn put(alloc: Global, line: Line, lines: Vec<Line>) -> Result<Vec<Line>, AllocError> {
+    let mut before = Vec::new(alloc);
+    let mut behind = Vec::new(alloc);
+    for other in lines {
+        let later = other.depth < line.depth
+            || (other.depth == line.depth && line.name.as_str() < other.name.as_str());
+        if later || !behind.is_empty() {
+            behind.push(other)?;
+        } else {
+            before.push(other)?;
+        }
+    }
+    before.push(line)?;
+    for other in behind {
+        before.push(other)?;
+    }
+    Ok(before)
+}
+
+/// The line of a class in front of those behind it, with its label among these.
+fn with_label(
+    world: &World<'_, '_>,
+    judged: &Judged<'_>,
+    lines: Vec<Line>,
+) -> Result<Vec<Line>, AllocError> {
+    let label = world.label(judged.path.tokens())?;
+    let depth = judged.line.depth.saturating_add(1);
+    let restriction = text_line(world.alloc, depth, "restriction", label.word)?;
+    let lines = put(world.alloc, restriction, lines)?;
+    match label.ext {
+        Some(text) if label.word == "ext-value" => {
+            let ext = text_line(world.alloc, depth, "ext-restriction", text)?;
+            put(world.alloc, ext, lines)
+        }
+        _ => Ok(lines),
+    }
+}
+
+/// The kept outline.
+pub fn kept_outline(world: &World<'_, '_>, list: &[Judged<'_>]) -> Result<Vec<Line>, AllocError> {
+    let mut lines = Vec::new(world.alloc);
+    for judged in list.iter().rev() {
+        if is_kept(list, judged) {
+            if says_label(world, list, judged) {
+                lines = with_label(world, judged, lines)?;
+            }
+            lines.insert(0, copy(judged.line)?)?;
+        }
+    }
+    Ok(lines)
+}
+
+pub fn count_seen(list: &[Judged<'_>]) -> usize {
+    list.iter().filter(|judged| judged.visible).count()
+}
+
+/// The path of each kept class, with the path of its line in the kept outline.
+pub fn places(
+    alloc: Global,
+    list: &[Judged<'_>],
+    kept: &[Line],
+) -> Result<Vec<(Path, Path)>, AllocError> {
+    let mut stored = Vec::new(alloc);
+    for judged in list {
+        if judged.line.kind == Kind::Class && is_kept(list, judged) {
+            stored.push(judged.path.clone()?)?;
+        }
+    }
+    let mut pairs = Vec::new(alloc);
+    let lines = located(alloc, kept)?;
+    let classes = lines.iter().filter(|entry| entry.line.kind == Kind::Class);
+    for (path, entry) in stored.into_iter().zip(classes) {
+        pairs.push((path, entry.path.clone()?))?;
+    }
+    Ok(pairs)
+}
+
+/// The printed place of a kept class; the root's is the root's path.
+fn place_of(alloc: Global, pairs: &[(Path, Path)], path: &Path) -> Result<String, AllocError> {
+    for (stored, place) in pairs {
+        if *stored == *path {
+            return place.print(alloc);
+        }
+    }
+    Ok(String::new(alloc))
+}
+
+/// What is withheld, in stored order and with repeats.
+pub fn withheld(
+    alloc: Global,
+    list: &[Judged<'_>],
+    pairs: &[(Path, Path)],
+) -> Result<Vec<Told>, AllocError> {
+    let mut told = Vec::new(alloc);
+    for judged in list {
+        let path = judged.path.tokens();
+        let rule = judged.rule;
+        if judged.line.kind != Kind::Class {
+            continue;
+        }
+        if is_frame(list, path) {
+            let place = place_of(alloc, pairs, judged.path)?;
+            told.push(Told { place, rule })?;
+        } else if is_wholly_hidden(list, path) && !is_wholly_hidden(list, judged.parent.tokens()) {
+            let place = place_of(alloc, pairs, judged.parent)?;
+            told.push(Told { place, rule })?;
+        }
+    }
+    Ok(told)
+}
+
+fn is_before(one: &Told, other: &Told) -> bool {
+    one.place.as_str() < other.place.as_str()
+        || (one.place.as_str() == other.place.as_str() && one.rule < other.rule)
+}
+
+/// Puts a pair at its place in order, unless it is there.
+fn put_told(alloc: Global, pair: Told, list: Vec<Told>) -> Result<Vec<Told>, AllocError> {
+    let mut before = Vec::new(alloc);
+    let mut behind = Vec::new(alloc);
+    for other in list {
+        if is_before(&other, &pair) {
+            before.push(other)?;
+        } else if is_before(&pair, &other) {
+            behind.push(other)?;
+        }
+    }
+    before.push(pair)?;
+    for other in behind {
+        before.push(other)?;
+    }
+    Ok(before)
+}
+
+/// The pairs by place and rule, without repeats.
+pub fn in_order(alloc: Global, pairs: Vec<Told>) -> Result<Vec<Told>, AllocError> {
+    let mut list = Vec::new(alloc);
+    for pair in pairs {
+        list = put_told(alloc, pair, list)?;
+    }
+    Ok(list)
+}
+
+/// Whether a visible class, of this name if one is given, directly holds a text with the needle.
+pub fn search(list: &[Judged<'_>], needle: &str, class: Option<&str>) -> bool {
+    for text in list {
+        if text.line.kind == Kind::Text && text.line.text.as_str().contains(needle) {
+            for holder in list {
+                if holder.visible
+                    && *holder.path == *text.parent
+                    && (class.is_none() || class == Some(holder.line.name.as_str()))
+                {
+                    return true;
+                }
+            }
+        }
+    }
+    false
+}

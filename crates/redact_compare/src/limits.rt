@@ -1,0 +1,183 @@
+//! A report of as many lines, as deep, and with as many gates and permissions as may be. What is expected was counted by
+//! hand.
+
+ghost use Rattle.std.specs.Prelude.{◌≡◌, None};
+ghost use Rattle.iodef_tree.specs.Paths.{located};
+ghost use Rattle.marking.specs.Marks.{first_bad_marking};
+
+use crate::compared::same_line;
+use iodef_tree::{Document, LINE_LIMIT, Line, Path};
+use marking::check;
+use policy::{Case, Gate, Gates, Grantee, Numbers, Permission, Permissions, Rule, Standing};
+use redact::excerpt;
+use std::alloc::{AllocError, Global};
+
+/// Classes one below the other: the first stands at depth 2, and the text in the last at depth 32.
+const CHAIN: u32 = 30;
+
+/// Each has three lines.
+const EVENTS: u32 = 1352;
+
+/// The number of the reader's organisation.
+const ORG: u32 = 4;
+
+/// 2 lines of the root, 5 plain ones of the Incident, 33 of the chain and 4,056 of the events: 4,096.
+fn report_text(alloc: Global) -> Result<String, AllocError> {
+    let mut text = String::from_str(alloc, "{\"version\":\"2.0\",\"Incident\":[{")?;
+    text.push_str("\"Contact\":[],\"GenerationTime\":\"g\",\"IncidentID\":\"1\",")?;
+    text.push_str("\"note\":\"n\",\"purpose\":\"reporting\",\"EventData\":[")?;
+    for _ in 1..EVENTS {
+        text.push_str("{\"note\":\"x\",\"restriction\":\"red\"},")?;
+    }
+    text.push_str("{\"note\":\"x\",\"restriction\":\"red\"}],")?;
+    for _ in 0..CHAIN {
+        text.push_str("\"Chain\":{")?;
+    }
+    text.push_str("\"note\":\"deep\",\"restriction\":\"public\"")?;
+    for _ in 1..CHAIN {
+        text.push('}')?;
+    }
+    text.push_str(",\"restriction\":\"red\"}}]}")?;
+    Ok(text)
+}
+
+/// The Incident's path.
+fn incident(alloc: Global) -> Result<Path, AllocError> {
+    Path::root(alloc).member(alloc, "Incident")?.index(alloc, 0)
+}
+
+fn event(alloc: Global, place: usize) -> Result<Path, AllocError> {
+    incident(alloc)?
+        .member(alloc, "EventData")?
+        .index(alloc, place)
+}
+
+/// 16 gates for the source alone at events 48 to 63, and 64 permissions: at events 0 to 62 and at the Incident.
+fn full_case(alloc: Global) -> Result<Case, AllocError> {
+    let mut gates = Vec::new(alloc);
+    gates.push(Gate {
+        path: Path::root(alloc),
+        level: 3,
+        group: None,
+    })?;
+    for place in 48..64 {
+        gates.push(Gate {
+            path: event(alloc, place)?,
+            level: 0,
+            group: None,
+        })?;
+    }
+    let mut permissions = Vec::new(alloc);
+    for place in 0..63 {
+        permissions.push(Permission {
+            path: event(alloc, place)?,
+            grantee: Grantee::Org(ORG),
+        })?;
+    }
+    permissions.push(Permission {
+        path: incident(alloc)?,
+        grantee: Grantee::Org(ORG),
+    })?;
+    Ok(Case {
+        source: 2,
+        gates: Gates::new(gates),
+        permissions: Permissions::new(permissions),
+    })
+}
+
+fn reader(alloc: Global, org: u32, source: bool) -> Standing {
+    Standing {
+        source,
+        person: false,
+        nominated: false,
+        addressed: false,
+        client: false,
+        community: false,
+        connected: false,
+        arrangement: None,
+        who: 9,
+        org,
+        groups: Numbers::new(Vec::new(alloc)),
+        active_groups: Numbers::new(Vec::new(alloc)),
+        communities: Numbers::new(Vec::new(alloc)),
+    }
+}
+
+/// The label that the Incident says, which has none written.
+fn is_added(line: &Line) -> bool {
+    line.depth == 2 && line.name.as_str() == "restriction"
+}
+
+/// The source is shown every line and, behind the last of the Incident, its label.
+fn shows_all(alloc: Global, document: &Document, case: &Case) -> Result<bool, AllocError>
+    requires { first_bad_marking (located document.now) ≡ None }
+{
+    let Some(whole) = excerpt(alloc, document, case, &reader(alloc, 2, true))? else {
+        return Ok(false);
+    };
+    let stored = document.outline(alloc)?;
+    let lines = whole.document.outline(alloc)?;
+    let said = lines.iter().rev().nth(1);
+    let others = lines.iter().filter(|line| !is_added(line));
+    Ok(
+        stored.len() == LINE_LIMIT
+            && lines.len() == LINE_LIMIT + 1
+            && said.is_some_and(|line| is_added(line) && line.text.as_str() == "private")
+            && others
+                .zip(stored.iter())
+                .all(|(line, second)| same_line(line, second))
+            && whole.classes == 1383
+            && whole.withheld.is_empty(),
+    )
+}
+
+/// At the Incident G0 hides the gated events and H-RED the others; each class of the chain but the last is a frame.
+fn is_withheld(alloc: Global, pairs: &[(Path, Rule)]) -> Result<bool, AllocError> {
+    let mut place = String::from_str(alloc, "/Incident/0")?;
+    let mut rule = "G0";
+    for (i, (path, told)) in pairs.iter().enumerate() {
+        let printed = path.print(alloc)?;
+        if printed.as_str() != place.as_str() || told.name() != rule {
+            return Ok(false);
+        }
+        rule = "H-RED";
+        if i > 0 {
+            place.push_str("/Chain")?;
+        }
+    }
+    Ok(pairs.len() == 31)
+}
+
+/// A reader for whom the permissions are is shown the Incident, the last of the chain in 29 frames, and 48 events.
+fn shows_some(alloc: Global, document: &Document, case: &Case) -> Result<bool, AllocError>
+    requires { first_bad_marking (located document.now) ≡ None }
+{
+    let Some(part) = excerpt(alloc, document, case, &reader(alloc, ORG, false))? else {
+        return Ok(false);
+    };
+    let lines = part.document.outline(alloc)?;
+    Ok(
+        lines.len() == 184
+            && part.classes == 50
+            && lines
+                .iter()
+                .any(|line| line.depth == 32 && line.text.as_str() == "deep")
+            && is_withheld(alloc, &part.withheld)?,
+    )
+}
+
+/// Whether both readers are shown what they are to be shown.
+pub fn holds_at_limits(alloc: Global) -> Result<bool, AllocError> {
+    let text = report_text(alloc)?;
+    let Ok(mut documents) = Document::read(alloc, text.as_bytes()) else {
+        return Ok(false);
+    };
+    let Some(document) = documents.pop() else {
+        return Ok(false);
+    };
+    let Ok(()) = check(alloc, &document) else {
+        return Ok(false);
+    };
+    let case = full_case(alloc)?;
+    Ok(shows_all(alloc, &document, &case)? && shows_some(alloc, &document, &case)?)
+}

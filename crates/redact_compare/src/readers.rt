@@ -1,0 +1,145 @@
+//! Generated gates, permissions and readers.
+
+use crate::dice::Dice;
+use iodef_tree::{Path, Text};
+use marking::Handling;
+use policy::{Case, Gate, Gates, Grantee, Numbers, Permission, Permissions, Standing};
+use std::alloc::{AllocError, Global};
+
+/// The root, the path of a class, what stands above it (an array or a class), or a path of nothing.
+fn any_path(alloc: Global, dice: &mut Dice, classes: &[Path]) -> Result<Path, AllocError> {
+    let place = dice.place(classes.len().saturating_add(2));
+    let Some(class) = classes.get(place) else {
+        return Path::root(alloc).member(alloc, "Incident");
+    };
+    let path = class.clone()?;
+    match dice.roll(6) {
+        0 => {
+            let mut tokens: Vec<Text> = path.into_tokens();
+            tokens.pop();
+            Ok(Path::new(tokens))
+        }
+        1 if dice.once_in(3) => path.member(alloc, "nothing"),
+        _ => Ok(path),
+    }
+}
+
+fn any_group(dice: &mut Dice) -> Option<u32> {
+    match dice.roll(4) {
+        0 => None,
+        number => Some(number),
+    }
+}
+
+/// A level, one that lets everybody pass most often.
+fn any_level(dice: &mut Dice) -> u8 {
+    match dice.roll(16) {
+        0 => 0,
+        1 | 2 => 1,
+        3 | 4 | 5 => 2,
+        6 | 7 | 8 | 9 => 4,
+        10 => 6,
+        11 => 5,
+        _ => 3,
+    }
+}
+
+/// A gate at the root, and some at other places, of which two may have one.
+fn any_gates(alloc: Global, dice: &mut Dice, classes: &[Path]) -> Result<Gates, AllocError> {
+    let mut gates = Vec::new(alloc);
+    let level = if dice.once_in(8) { any_level(dice) } else { 3 };
+    gates.push(Gate {
+        path: Path::root(alloc),
+        level,
+        group: any_group(dice),
+    })?;
+    for _ in 0..dice.roll(4) {
+        let path = any_path(alloc, dice, classes)?;
+        if dice.once_in(3) {
+            gates.push(Gate {
+                path: path.clone()?,
+                level: any_level(dice),
+                group: any_group(dice),
+            })?;
+        }
+        gates.push(Gate {
+            path,
+            level: any_level(dice),
+            group: any_group(dice),
+        })?;
+    }
+    Ok(Gates::new(gates))
+}
+
+fn any_grantee(dice: &mut Dice) -> Grantee {
+    let number = dice.roll(3);
+    match dice.roll(4) {
+        0 => Grantee::Person(number),
+        1 => Grantee::Org(number),
+        2 => Grantee::Community(number),
+        _ => Grantee::Group(number),
+    }
+}
+
+fn any_permissions(
+    alloc: Global,
+    dice: &mut Dice,
+    classes: &[Path],
+) -> Result<Permissions, AllocError> {
+    let mut permissions = Vec::new(alloc);
+    for _ in 0..dice.roll(6) {
+        let path = any_path(alloc, dice, classes)?;
+        permissions.push(Permission {
+            path,
+            grantee: any_grantee(dice),
+        })?;
+    }
+    Ok(Permissions::new(permissions))
+}
+
+pub fn any_case(alloc: Global, dice: &mut Dice, classes: &[Path]) -> Result<Case, AllocError> {
+    let gates = any_gates(alloc, dice, classes)?;
+    let permissions = any_permissions(alloc, dice, classes)?;
+    Ok(Case {
+        source: 9,
+        gates,
+        permissions,
+    })
+}
+
+fn any_numbers(alloc: Global, dice: &mut Dice) -> Result<Numbers, AllocError> {
+    let mut numbers = Vec::new(alloc);
+    for _ in 0..dice.roll(4) {
+        numbers.push(dice.roll(4))?;
+    }
+    Ok(Numbers::new(numbers))
+}
+
+fn any_arrangement(dice: &mut Dice) -> Option<Handling> {
+    match dice.roll(6) {
+        0 => Some(Handling::Clear),
+        1 => Some(Handling::Green),
+        2 => Some(Handling::Amber),
+        3 => Some(Handling::Strict),
+        4 => Some(Handling::Red),
+        _ => None,
+    }
+}
+
+pub fn any_standing(alloc: Global, dice: &mut Dice) -> Result<Standing, AllocError> {
+    Ok(Standing {
+        source: dice.once_in(12),
+        person: dice.once_in(10),
+        nominated: dice.once_in(3),
+        addressed: dice.once_in(3),
+        client: dice.once_in(2),
+        community: dice.once_in(2),
+        connected: dice.once_in(2),
+        arrangement: any_arrangement(dice),
+        who: dice.roll(3),
+        org: dice.roll(3),
+        groups: any_numbers(alloc, dice)?,
+        active_groups: any_numbers(alloc, dice)?,
+        communities: any_numbers(alloc, dice)?,
+    })
+}

@@ -1,0 +1,146 @@
+//! What a generated case shows, as the slow program finds it.
+
+use crate::entry::{located, prefixes};
+use crate::judged::{Judged, Told, holds_seen, is_frame, is_wholly_hidden, says_label};
+use crate::policy_tables::{cleared, refused};
+use crate::tally::Tally;
+use crate::world::World;
+use iodef_tree::{Kind, Line, Path, Text};
+use policy::Standing;
+use std::alloc::AllocError;
+
+pub fn note_reader(tally: &mut Tally, standing: &Standing) {
+    tally.note("readers of the source", standing.source);
+    let name = match cleared(standing) {
+        0 => "readers cleared for CLEAR",
+        1 => "readers cleared for GREEN",
+        2 => "readers cleared for AMBER",
+        3 => "readers cleared for STRICT",
+        _ => "readers cleared for RED",
+    };
+    tally.note(name, !standing.source);
+}
+
+/// How many gates at this very path refuse.
+fn refusing(world: &World<'_, '_>, path: &[Text]) -> usize {
+    world
+        .case
+        .gates
+        .as_slice()
+        .iter()
+        .filter(|gate| gate.path.tokens() == path && refused(world.standing, gate).is_some())
+        .count()
+}
+
+fn note_gates(tally: &mut Tally, world: &World<'_, '_>, path: &[Text]) -> Result<(), AllocError> {
+    let mut places: u32 = 0;
+    for prefix in &prefixes(world.alloc, path)? {
+        let count = refusing(world, prefix);
+        tally.note("gates that refuse at one place", count > 1);
+        if count > 0 {
+            places = places.saturating_add(1);
+        }
+    }
+    tally.note("gates that refuse at two places of a path", places > 1);
+    Ok(())
+}
+
+fn note_permissions(
+    tally: &mut Tally,
+    world: &World<'_, '_>,
+    judged: &Judged<'_>,
+) -> Result<(), AllocError> {
+    let path = judged.path.tokens();
+    let needed = !world.standing.source
+        && world.refusal(path)?.is_none()
+        && !world.is_cleared(path)?;
+    tally.note("permissions that show a class", needed && judged.visible);
+    for permission in world.case.permissions.as_slice() {
+        let ended = world.reaches(permission, path) && world.is_ended(permission, path)?;
+        tally.note(
+            "permissions that end at a label",
+            needed && ended && !judged.visible,
+        );
+    }
+    Ok(())
+}
+
+/// What is decided of each class.
+pub fn note_classes(
+    tally: &mut Tally,
+    world: &World<'_, '_>,
+    list: &[Judged<'_>],
+) -> Result<(), AllocError> {
+    for judged in list {
+        if judged.line.kind != Kind::Class {
+            continue;
+        }
+        let path = judged.path.tokens();
+        let above = judged.parent.tokens();
+        let frame = is_frame(list, path);
+        tally.note("frames", frame);
+        tally.note(
+            "frames below frames",
+            frame && !above.is_empty() && is_frame(list, above),
+        );
+        tally.note(
+            "hidden classes below hidden ones",
+            is_wholly_hidden(list, path) && is_wholly_hidden(list, above),
+        );
+        tally.note(
+            "added extended labels",
+            says_label(world, list, judged) && world.label(path)?.word == "ext-value",
+        );
+        note_gates(tally, world, path)?;
+        note_permissions(tally, world, judged)?;
+    }
+    tally.note("nothing visible", !holds_seen(list, &[]));
+    Ok(())
+}
+
+/// Which classes moved in an array, and where labels were added.
+pub fn note_places(
+    tally: &mut Tally,
+    world: &World<'_, '_>,
+    list: &[Judged<'_>],
+    kept: &[Line],
+    pairs: &[(Path, Path)],
+) -> Result<(), AllocError> {
+    let lines = located(world.alloc, kept)?;
+    for (path, place) in pairs {
+        tally.note("places that differ from the paths", *path != *place);
+        for judged in list {
+            if *judged.path == *path && says_label(world, list, judged) {
+                let mut before = false;
+                let mut behind = false;
+                for entry in &lines {
+                    if entry.parent == *place {
+                        before = before || entry.line.name.as_str() < "ext-restriction";
+                        behind = behind || entry.line.name.as_str() > "restriction";
+                    }
+                }
+                tally.note("added labels", true);
+                tally.note("added labels between members", before && behind);
+            }
+        }
+    }
+    Ok(())
+}
+
+pub fn note_withheld(tally: &mut Tally, count: usize, told: &[Told]) {
+    tally.note("repeated pairs", told.len() < count);
+    for pair in told {
+        let name = match pair.rule {
+            "G0" => "rule G0",
+            "G1" => "rule G1",
+            "G2" => "rule G2",
+            "G4" => "rule G4",
+            "G4X" => "rule G4X",
+            "H-GREEN" => "rule H-GREEN",
+            "H-AMBER" => "rule H-AMBER",
+            "H-STRICT" => "rule H-STRICT",
+            _ => "rule H-RED",
+        };
+        tally.note(name, true);
+    }
+}

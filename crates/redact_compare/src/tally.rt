@@ -1,0 +1,78 @@
+//! How often the generated cases show what they are to show.
+
+use std::alloc::{AllocError, Global};
+
+/// What is to be shown, each at least `FLOOR` times.
+const WANTED: [&str; 30] = [
+    "readers of the source",
+    "readers cleared for CLEAR",
+    "readers cleared for GREEN",
+    "readers cleared for AMBER",
+    "readers cleared for STRICT",
+    "readers cleared for RED",
+    "nothing visible",
+    "frames",
+    "frames below frames",
+    "hidden classes below hidden ones",
+    "places that differ from the paths",
+    "added labels",
+    "added labels between members",
+    "added extended labels",
+    "gates that refuse at two places of a path",
+    "gates that refuse at one place",
+    "permissions that show a class",
+    "permissions that end at a label",
+    "rule G0",
+    "rule G1",
+    "rule G2",
+    "rule G4",
+    "rule G4X",
+    "rule H-GREEN",
+    "rule H-AMBER",
+    "rule H-STRICT",
+    "rule H-RED",
+    "repeated pairs",
+    "needles found",
+    "needles hidden",
+];
+
+const FLOOR: u32 = 50;
+
+#[derive(Drop)]
+pub struct Count {
+    pub name: &'static str,
+    pub count: u32,
+}
+
+#[derive(Drop)]
+pub struct Tally {
+    counts: Vec<Count>,
+}
+
+impl Tally {
+    pub fn new(alloc: Global) -> Result<Tally, AllocError> {
+        let mut counts = Vec::new(alloc);
+        for name in WANTED {
+            counts.push(Count { name, count: 0 })?;
+        }
+        Ok(Tally { counts })
+    }
+
+    /// Notes that a case shows it.
+    pub fn note(&mut self, name: &str, shows: bool) {
+        for count in self.counts.iter_mut() {
+            if shows && count.name == name {
+                count.count = count.count.saturating_add(1);
+            }
+        }
+    }
+
+    /// What is shown too rarely.
+    pub fn rare(&self) -> Option<&Count> {
+        self.counts.iter().find(|count| count.count < FLOOR)
+    }
+
+    pub fn counts(&self) -> &[Count] {
+        self.counts.as_slice()
+    }
+}

@@ -1,0 +1,154 @@
+//! The verdict of each path, judged alone against all its prefixes over the flat outline.
+
+use crate::entry::{Entry, prefixes};
+use crate::policy_tables::{Written, cleared, is_meant, refused, rule_of, strictness};
+use iodef_tree::{Kind, Text};
+use policy::{Case, Permission, Standing};
+use std::alloc::{AllocError, Global};
+
+const PRIVATE: Written<'static> = Written {
+    word: "private",
+    ext: None,
+};
+
+/// The lines of a document, and by what they are judged.
+#[derive(Drop)]
+pub struct World<'a, 'r> {
+    pub alloc: Global,
+    pub entries: Vec<Entry<'a>>,
+    pub case: &'r Case,
+    pub standing: &'r Standing,
+}
+
+fn is_incident(path: &[Text]) -> bool {
+    match path {
+        [first, second] => first.as_str() == "Incident" && second.as_str() == "0",
+        _ => false,
+    }
+}
+
+impl<'a, 'r> World<'a, 'r> {
+    fn is_class(&self, path: &[Text]) -> bool {
+        self.entries.iter().any(|entry| entry.line.kind == Kind::Class
+            && entry.path.tokens() == path)
+    }
+
+    /// The text of this name directly in the class at the path.
+    fn text_in(&self, path: &[Text], name: &str) -> Option<&'a str> {
+        for entry in &self.entries {
+            if entry.line.kind == Kind::Text
+                && !entry.line.in_array
+                && entry.line.name.as_str() == name
+                && entry.parent.tokens() == path
+            {
+                return Some(entry.line.text.as_str());
+            }
+        }
+        None
+    }
+
+    /// The label that is written in the class at the path.
+    pub fn written(&self, path: &[Text]) -> Option<Written<'a>> {
+        if !self.is_class(path) {
+            return None;
+        }
+        let word = self.text_in(path, "restriction")?;
+        let ext = self.text_in(path, "ext-restriction");
+        Some(Written { word, ext })
+    }
+
+    /// That, or the default of the root and of the Incident.
+    fn own(&self, path: &[Text]) -> Option<Written<'a>> {
+        let written = self.written(path);
+        if written.is_some() {
+            return written;
+        }
+        if path.is_empty() || (is_incident(path) && self.is_class(path)) {
+            return Some(PRIVATE);
+        }
+        None
+    }
+
+    /// The own label of the longest prefix that has one.
+    pub fn label(&self, path: &[Text]) -> Result<Written<'a>, AllocError> {
+        for prefix in prefixes(self.alloc, path)?.iter().rev() {
+            if let Some(label) = self.own(prefix) {
+                return Ok(label);
+            }
+        }
+        Ok(PRIVATE)
+    }
+
+    /// The first refusal of a gate at this very path.
+    pub fn refused_at(&self, path: &[Text]) -> Option<&'static str> {
+        for gate in self.case.gates.as_slice() {
+            if gate.path.tokens() == path {
+                if let Some(rule) = refused(self.standing, gate) {
+                    return Some(rule);
+                }
+            }
+        }
+        None
+    }
+
+    /// The refusal of the shortest prefix.
+    pub fn refusal(&self, path: &[Text]) -> Result<Option<&'static str>, AllocError> {
+        for prefix in &prefixes(self.alloc, path)? {
+            if let Some(rule) = self.refused_at(prefix) {
+                return Ok(Some(rule));
+            }
+        }
+        Ok(None)
+    }
+
+    /// Whether the permission stands at the path or above it, for this reader.
+    pub fn reaches(&self, permission: &Permission, path: &[Text]) -> bool {
+        is_meant(self.standing, permission.grantee) && path.starts_with(permission.path.tokens())
+    }
+
+    /// Whether a label is written below the permission, down to the path.
+    pub fn is_ended(&self, permission: &Permission, path: &[Text]) -> Result<bool, AllocError> {
+        for prefix in &prefixes(self.alloc, path)? {
+            if prefix.len() > permission.path.tokens().len() && self.written(prefix).is_some() {
+                return Ok(true);
+            }
+        }
+        Ok(false)
+    }
+
+    pub fn is_covered(&self, path: &[Text]) -> Result<bool, AllocError> {
+        for permission in self.case.permissions.as_slice() {
+            if self.reaches(permission, path) && !self.is_ended(permission, path)? {
+                return Ok(true);
+            }
+        }
+        Ok(false)
+    }
+
+    /// How strictly what stands at the path is handled.
+    pub fn strictness(&self, path: &[Text]) -> Result<u32, AllocError> {
+        Ok(strictness(self.label(path)?, self.standing.arrangement))
+    }
+
+    pub fn is_cleared(&self, path: &[Text]) -> Result<bool, AllocError> {
+        Ok(self.strictness(path)? <= cleared(self.standing))
+    }
+
+    pub fn is_visible(&self, path: &[Text]) -> Result<bool, AllocError> {
+        if self.standing.source {
+            return Ok(true);
+        }
+        if self.refusal(path)?.is_some() {
+            return Ok(false);
+        }
+        Ok(self.is_cleared(path)? || self.is_covered(path)?)
+    }
+
+    /// The rule that hides the class at the path, where it isn't visible.
+    pub fn hiding_rule(&self, path: &[Text]) -> Result<&'static str, AllocError> {
+        match self.refusal(path)? {
+            Some(rule) => Ok(rule),
+            None => Ok(rule_of(self.strictness(path)?)),
+        }
+    }
+}
