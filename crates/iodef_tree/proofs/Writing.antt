@@ -1,8 +1,7 @@
 -- The text of a tree, member by member.
-use Rattle.std.proofs.Common.{◌≡◌, ℕ, suc, ◌+◌, ◌<◌, Bool, true, false, not, List, [], ◌∷◌, ◌++◌, map, length, drop, drop-cons, get_or, arith, refl, sym, ◌∙◌, ap, append_assoc, append-nil, if◌then◌else◌, true≢false}
+use Rattle.std.proofs.Common.{◌≡◌, ℕ, suc, ◌+◌, ◌<◌, Bool, true, false, not, List, [], ◌∷◌, ◌++◌, map, length, drop, drop-cons, get_or, arith, refl, sym, ◌∙◌, ap, append_assoc, if◌then◌else◌, true≢false}
 use Rattle.std.specs.Prelude.{Option, Some, None}
-use Rattle.json.specs.Print.{quoted, print, print_from}
-use Rattle.json.specs.Token as json
+use Rattle.json.specs.Print.{quoted}
 use Rattle.serde_json.specs.Written.{comma_if}
 use Rattle.iodef_tree.specs.Text.{Bytes}
 use Rattle.iodef_tree.specs.Tree.{Forest, Body, holds, says, Bodies, one, many, in_front, elements, member_front}
@@ -98,8 +97,3 @@ write-member out new R later xs i m h e filled made left =
 pub not-false : (b : Bool) → not b ≡ false → b ≡ true
 not-false true h = refl
 not-false false h = absurd (true≢false h)
-
--- one text, by a writer of tokens
-pub quoted-alone : (s : Bytes) → print (json.string s ∷ []) ≡ quoted s
-unfolding print_from
-quoted-alone s = append-nil (quoted s)

@@ -10,42 +10,32 @@ ghost use Rattle.iodef_tree.specs.Written.{needs_escape, written, body_text, arr
 
 use crate::object::{Item, Member, Object};
 use crate::text::Text;
-use json::Writer;
+use serde_json::Value;
 use std::alloc::{AllocError, Global};
 
 /// The object as compact JSON.
 pub(crate) fn object_text(alloc: Global, object: &Object) -> Result<String, AllocError>
     ensures { IfOk result (λ s. string_bytes s ≡ 123 ∷ (written false (forest object.now) ++ 125 ∷ [])) }
 {
-    let mut out = Vec::new(alloc);
-    out.push(b'{')?;
-    out = write_members(out, object)?;
-    out.push(b'}')?;
-    string_of(out)
+    let mut out = String::new(alloc);
+    out.push('{')?;
+    out = write_members(alloc, out, object)?;
+    out.push('}')?;
+    Ok(out)
 }
 
-/// The bytes as a string. They are UTF-8, which is seen once more, as the writer of JSON doesn't say it of its bytes.
-fn string_of(bytes: Vec<u8>) -> Result<String, AllocError>
-    ensures { IfOk result (λ s. string_bytes s ≡ bytes.items) }
-{
-    match String::from_utf8(bytes) {
-        Ok(text) => Ok(text),
-        Err(_) => Err(AllocError),
-    }
-}
-
-/// With the text in quotes at the end. A writer of JSON fills room ahead, so one is made only where it is needed.
-fn quote(mut out: Vec<u8>, text: &str) -> Result<Vec<u8>, AllocError>
-    ensures { IfOk result (λ v. v.items ≡ out.items ++ quoted text.now) }
+/// With the text in quotes at the end.
+fn quote(alloc: Global, mut out: String, text: &str) -> Result<String, AllocError>
+    ensures { IfOk result (λ s. string_bytes s ≡ string_bytes out ++ quoted text.now) }
 {
     if is_escaped(text) {
-        let mut writer = Writer::new(out);
-        writer.string(text)?;
-        return Ok(writer.into_inner());
+        let quoted = Value::String(String::from_str(alloc, text)?).to_string(alloc)?;
+        out.push_str(quoted.as_str())?;
+        return Ok(out);
     }
-    out.push(b'"')?;
-    out.extend_from_slice(text.as_bytes())?;
-    out.push(b'"')?;
+    out.push('"')?;
+    out.push_str(text)?;
+    out.push('"')?;
     Ok(out)
 }
 
@@ -60,8 +50,12 @@ fn is_escaped(text: &str) -> bool
 
 /// With the members of the object at the end.
 #[cycle(write)]
-pub(crate) fn write_members(out: Vec<u8>, object: &Object) -> Result<Vec<u8>, AllocError>
-    ensures { IfOk result (λ v. v.items ≡ out.items ++ written false (forest object.now)) }
+pub(crate) fn write_members(
+    alloc: Global,
+    out: String,
+    object: &Object,
+) -> Result<String, AllocError>
+    ensures { IfOk result (λ s. string_bytes s ≡ string_bytes out ++ written false (forest object.now)) }
 {
     let mut out = out;
     let mut later = false;
@@ -69,7 +63,7 @@ pub(crate) fn write_members(out: Vec<u8>, object: &Object) -> Result<Vec<u8>, Al
         if is_empty(member) {
             continue;
         }
-        out = write_member(out, later, name, member)?;
+        out = write_member(alloc, out, later, name, member)?;
         later = true;
     }
     Ok(out)
@@ -90,72 +84,73 @@ pub(crate) fn is_empty(member: &Member) -> bool
 
 #[cycle(write)]
 fn write_member(
-    out: Vec<u8>,
+    alloc: Global,
+    out: String,
     later: bool,
     name: &Text,
     member: &Member,
-) -> Result<Vec<u8>, AllocError>
-    ensures { IfOk result (λ v. v.items ≡ out.items ++ member_text later name.now (bodies member.now)) }
+) -> Result<String, AllocError>
+    ensures { IfOk result (λ s. string_bytes s ≡ string_bytes out ++ member_text later name.now (bodies member.now)) }
 {
     let mut out = write_comma(out, later)?;
-    out = quote(out, name.as_str())?;
-    out.push(b':')?;
-    write_bodies(out, member)
+    out = quote(alloc, out, name.as_str())?;
+    out.push(':')?;
+    write_bodies(alloc, out, member)
 }
 
 /// With a comma at the end where something stands before.
-fn write_comma(mut out: Vec<u8>, later: bool) -> Result<Vec<u8>, AllocError>
-    ensures { IfOk result (λ v. v.items ≡ out.items ++ comma_if later) }
+fn write_comma(mut out: String, later: bool) -> Result<String, AllocError>
+    ensures { IfOk result (λ s. string_bytes s ≡ string_bytes out ++ comma_if later) }
 {
     if later {
-        out.push(b',')?;
+        out.push(',')?;
     }
     Ok(out)
 }
 
 #[cycle(write)]
-fn write_bodies(mut out: Vec<u8>, member: &Member) -> Result<Vec<u8>, AllocError>
-    ensures { IfOk result (λ v. v.items ≡ out.items ++ bodies_text (bodies member.now)) }
+fn write_bodies(alloc: Global, mut out: String, member: &Member) -> Result<String, AllocError>
+    ensures { IfOk result (λ s. string_bytes s ≡ string_bytes out ++ bodies_text (bodies member.now)) }
 {
     match member {
-        Member::One(item) => write_item(out, item),
+        Member::One(item) => write_item(alloc, out, item),
         Member::Many(items) => {
-            out.push(b'[')?;
-            write_items(out, items)
+            out.push('[')?;
+            write_items(alloc, out, items)
         }
     }
 }
 
 /// With the items and the bracket behind them at the end.
 #[cycle(write)]
-fn write_items(mut out: Vec<u8>, items: &Vec<Item>) -> Result<Vec<u8>, AllocError>
-    ensures { IfOk result (λ v. v.items ≡ out.items ++ array_text false (map body items.now.items)) }
+fn write_items(alloc: Global, mut out: String, items: &Vec<Item>) -> Result<String, AllocError>
+    ensures { IfOk result (λ s. string_bytes s ≡ string_bytes out ++ array_text false (map body items.now.items)) }
 {
     let mut later = false;
     for item in items {
         out = write_comma(out, later)?;
-        out = write_item(out, item)?;
+        out = write_item(alloc, out, item)?;
         later = true;
     }
-    out.push(b']')?;
+    out.push(']')?;
     Ok(out)
 }
 
 /// With the item at the end, a value as the text that it is.
 #[cycle(write)]
-pub(crate) fn write_item(mut out: Vec<u8>, item: &Item) -> Result<Vec<u8>, AllocError>
-    ensures { IfOk result (λ v. v.items ≡ out.items ++ body_text (body item.now)) }
+pub(crate) fn write_item(alloc: Global, mut out: String, item: &Item) -> Result<String, AllocError>
+    ensures { IfOk result (λ s. string_bytes s ≡ string_bytes out ++ body_text (body item.now)) }
 {
     match item {
         Item::Class(object) => {
-            out.push(b'{')?;
-            out = write_members(out, object)?;
-            out.push(b'}')?;
+            out.push('{')?;
+            out = write_members(alloc, out, object)?;
+            out.push('}')?;
             Ok(out)
         }
-        Item::Text(text) => quote(out, text.as_str()),
+        Item::Text(text) => quote(alloc, out, text.as_str()),
         Item::Value(text) => {
-            out.extend_from_slice(text.as_str().as_bytes())?;
+            out.push_str(text.as_str())?;
             Ok(out)
         }
     }
