@@ -5,3 +5,4 @@ pub mod InOrder
 pub mod Staying
 pub mod Others
 pub mod Owners
+pub mod Growth

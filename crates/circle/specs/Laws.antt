@@ -8,6 +8,7 @@ use Rattle.circle.specs.Refusals.{refusal_of}
 use Rattle.circle.specs.Aftermath.{state_after}
 use Rattle.circle.specs.Sound.{IsSound, IsOrg, OwnersExtend}
 use Rattle.circle.specs.Others.{LeavesTheirs}
+use Rattle.circle.specs.Growth.{Grows}
 
 -- what a person of a sound directory changes leaves it sound
 abbrev pub StaysSound : Type 0
@@ -32,3 +33,7 @@ OrganisationsKeepApart = (d : Directory) (actor : Person) (command : CircleComma
 -- a suspended person stays suspended
 abbrev pub SuspendedStays : Type 0
 SuspendedStays = (d : Directory) (actor : Person) (command : CircleCommand) (person : ℕ) → IsTrue (has_suspended person d) → IsTrue (has_suspended person (state_after d actor command))
+
+-- no organisation, person, community or group goes away
+abbrev pub NothingVanishes : Type 0
+NothingVanishes = (d : Directory) (actor : Person) (command : CircleCommand) → Grows d (state_after d actor command)

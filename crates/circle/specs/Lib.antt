@@ -11,4 +11,5 @@ pub mod Judgement
 pub mod Unfit
 pub mod Order
 pub mod Others
+pub mod Growth
 pub mod Laws

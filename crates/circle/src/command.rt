@@ -101,6 +101,14 @@ pub struct CircleFacts {
 /// The whole change that a command makes.
 #[derive(Clone, Debug, PartialEq, Eq, Drop)]
 pub enum Edit {
+    Row(RowEdit),
+    /// The group, and its owner as a member that may extend it.
+    Found(Group),
+}
+
+/// One row put or taken out, or one flag exchanged.
+#[derive(Clone, Debug, PartialEq, Eq, Drop)]
+pub enum RowEdit {
     PutOrg(Org),
     PutAccount(Account),
     /// The person of this number is active no more.
@@ -112,7 +120,6 @@ pub enum Edit {
     TakeMembership(Membership),
     PutConnection(Connection),
     TakeConnection(Connection),
-    /// The group, and its owner as a member that may extend it.
     PutGroup(Group),
     PutGroupMember(GroupMember),
     TakeGroupMember { group: u32, org: u32 },

@@ -1,12 +1,13 @@
 //! What a command would change, where its arguments are good.
 ghost use Rattle.std.specs.Prelude.{◌≡◌, ◌==◌, true, false, not, codes, None, IfOk, IfErr, OnOk};
-ghost use Rattle.circle.specs.declared.command.Edit.TheVariants.{PutOrg, PutAccount, PutCommunity, PutGroup};
+ghost use Rattle.circle.specs.declared.command.Edit.TheVariants.{Row, Found};
+ghost use Rattle.circle.specs.declared.command.RowEdit.TheVariants.{PutOrg, PutAccount, PutCommunity};
 ghost use Rattle.circle.specs.Texts.{is_name, is_releasability};
 ghost use Rattle.circle.specs.Aftermath.{edit_of};
 ghost use Rattle.circle.specs.Judgement.{bad_field, field_if};
 ghost use Rattle.circle.specs.Unfit.{Explains};
 
-use crate::command::{CircleCommand, Edit};
+use crate::command::{CircleCommand, Edit, RowEdit};
 use crate::directory::{
     Account, Arrangement, Client, Community, Connection, Group, GroupMember, Membership, Org,
     Person, Role,
@@ -39,65 +40,80 @@ impl CircleCommand {
                 key,
             } => { new_account(alloc, number, *org, name, *role, *key) }
             CircleCommand::SuspendPerson { person } => {
-                unless_same(*person, actor.number, "person", Edit::Suspend(*person))
+                unless_same(
+                    *person,
+                    actor.number,
+                    "person",
+                    Edit::Row(RowEdit::Suspend(*person)),
+                )
             }
             CircleCommand::AddClient { org, client } => {
                 let row = Client {
                     org: *org,
                     client: *client,
                 };
-                unless_same(*org, *client, "client", Edit::PutClient(row))
+                unless_same(*org, *client, "client", Edit::Row(RowEdit::PutClient(row)))
             }
             CircleCommand::RemoveClient { org, client } => {
                 let row = Client {
                     org: *org,
                     client: *client,
                 };
-                unless_same(*org, *client, "client", Edit::TakeClient(row))
+                unless_same(*org, *client, "client", Edit::Row(RowEdit::TakeClient(row)))
             }
             CircleCommand::AddCommunity { name } => new_community(alloc, number, name),
             CircleCommand::Join { community, org } => {
-                Ok(Edit::PutMembership(Membership {
+                Ok(Edit::Row(RowEdit::PutMembership(Membership {
                     community: *community,
                     org: *org,
-                }))
+                })))
             }
             CircleCommand::Leave { community, org } => {
-                Ok(Edit::TakeMembership(Membership {
+                Ok(Edit::Row(RowEdit::TakeMembership(Membership {
                     community: *community,
                     org: *org,
-                }))
+                })))
             }
             CircleCommand::Link { community, other } => {
                 let row = Connection::between(*community, *other);
-                unless_same(*community, *other, "other", Edit::PutConnection(row))
+                unless_same(
+                    *community,
+                    *other,
+                    "other",
+                    Edit::Row(RowEdit::PutConnection(row)),
+                )
             }
             CircleCommand::Unlink { community, other } => {
                 let row = Connection::between(*community, *other);
-                unless_same(*community, *other, "other", Edit::TakeConnection(row))
+                unless_same(
+                    *community,
+                    *other,
+                    "other",
+                    Edit::Row(RowEdit::TakeConnection(row)),
+                )
             }
             CircleCommand::NewGroup {
                 name,
                 releasability,
             } => { new_group(alloc, number, actor.org, name, releasability) }
             CircleCommand::GroupAdd { group, org, extend } => {
-                Ok(Edit::PutGroupMember(GroupMember {
+                Ok(Edit::Row(RowEdit::PutGroupMember(GroupMember {
                     group: *group,
                     org: *org,
                     extend: *extend,
-                }))
+                })))
             }
             CircleCommand::GroupRemove { group, org } => {
-                Ok(Edit::TakeGroupMember {
+                Ok(Edit::Row(RowEdit::TakeGroupMember {
                     group: *group,
                     org: *org,
-                })
+                }))
             }
             CircleCommand::GroupActive { group, active } => {
-                Ok(Edit::SetGroupActive {
+                Ok(Edit::Row(RowEdit::SetGroupActive {
                     group: *group,
                     active: *active,
-                })
+                }))
             }
             CircleCommand::Arrange { org, handling } => {
                 let row = Arrangement {
@@ -105,25 +121,30 @@ impl CircleCommand {
                     org: *org,
                     handling: *handling,
                 };
-                unless_same(*org, actor.org, "org", Edit::PutArrangement(row))
+                unless_same(
+                    *org,
+                    actor.org,
+                    "org",
+                    Edit::Row(RowEdit::PutArrangement(row)),
+                )
             }
             CircleCommand::CancelArrange { org } => {
-                Ok(Edit::TakeArrangement {
+                Ok(Edit::Row(RowEdit::TakeArrangement {
                     source: actor.org,
                     org: *org,
-                })
+                }))
             }
             CircleCommand::Nominate { person } => {
-                Ok(Edit::SetNominated {
+                Ok(Edit::Row(RowEdit::SetNominated {
                     person: *person,
                     nominated: true,
-                })
+                }))
             }
             CircleCommand::Unnominate { person } => {
-                Ok(Edit::SetNominated {
+                Ok(Edit::Row(RowEdit::SetNominated {
                     person: *person,
                     nominated: false,
-                })
+                }))
             }
         }
     }
@@ -168,11 +189,11 @@ fn fit_releasability(alloc: Global, text: &Text) -> Result<Releasability, Unfit>
 
 fn new_org(alloc: Global, number: u32, name: &Text) -> Result<Edit, Unfit>
     ensures good { OnOk result (field_if (not (is_name name.now)) (codes "name") None ≡ None) }
-    ensures value { IfOk result (λ edit. edit ≡ PutOrg (record { number = number; name = name.now })) }
+    ensures value { IfOk result (λ edit. edit ≡ Row (PutOrg (record { number = number; name = name.now }))) }
     ensures bad { IfErr result (Explains (field_if (not (is_name name.now)) (codes "name") None)) }
 {
     let name = fit_name(alloc, name)?;
-    Ok(Edit::PutOrg(Org { number, name }))
+    Ok(Edit::Row(RowEdit::PutOrg(Org { number, name })))
 }
 
 fn new_account(
@@ -184,7 +205,7 @@ fn new_account(
     key: [u8; 32],
 ) -> Result<Edit, Unfit>
     ensures good { OnOk result (field_if (not (is_name name.now)) (codes "name") None ≡ None) }
-    ensures value { IfOk result (λ edit. edit ≡ PutAccount (record { person = record { number = number; org = org; name = name.now; role = role; active = true; nominated = false }; key = key })) }
+    ensures value { IfOk result (λ edit. edit ≡ Row (PutAccount (record { person = record { number = number; org = org; name = name.now; role = role; active = true; nominated = false }; key = key }))) }
     ensures bad { IfErr result (Explains (field_if (not (is_name name.now)) (codes "name") None)) }
 {
     let name = fit_name(alloc, name)?;
@@ -196,16 +217,16 @@ fn new_account(
         active: true,
         nominated: false,
     };
-    Ok(Edit::PutAccount(Account { person, key }))
+    Ok(Edit::Row(RowEdit::PutAccount(Account { person, key })))
 }
 
 fn new_community(alloc: Global, number: u32, name: &Text) -> Result<Edit, Unfit>
     ensures good { OnOk result (field_if (not (is_name name.now)) (codes "name") None ≡ None) }
-    ensures value { IfOk result (λ edit. edit ≡ PutCommunity (record { number = number; name = name.now })) }
+    ensures value { IfOk result (λ edit. edit ≡ Row (PutCommunity (record { number = number; name = name.now }))) }
     ensures bad { IfErr result (Explains (field_if (not (is_name name.now)) (codes "name") None)) }
 {
     let name = fit_name(alloc, name)?;
-    Ok(Edit::PutCommunity(Community { number, name }))
+    Ok(Edit::Row(RowEdit::PutCommunity(Community { number, name })))
 }
 
 fn new_group(
@@ -216,12 +237,12 @@ fn new_group(
     releasability: &Text,
 ) -> Result<Edit, Unfit>
     ensures good { OnOk result (field_if (not (is_name name.now)) (codes "name") (field_if (not (is_releasability releasability.now)) (codes "releasability") None) ≡ None) }
-    ensures value { IfOk result (λ edit. edit ≡ PutGroup (record { number = number; owner = owner; name = name.now; releasability = releasability.now; active = true })) }
+    ensures value { IfOk result (λ edit. edit ≡ Found (record { number = number; owner = owner; name = name.now; releasability = releasability.now; active = true })) }
     ensures bad { IfErr result (Explains (field_if (not (is_name name.now)) (codes "name") (field_if (not (is_releasability releasability.now)) (codes "releasability") None))) }
 {
     let name = fit_name(alloc, name)?;
     let releasability = fit_releasability(alloc, releasability)?;
-    Ok(Edit::PutGroup(Group {
+    Ok(Edit::Found(Group {
         number,
         owner,
         name,

@@ -1,5 +1,5 @@
 //! Laws of the definitions, each the contract of a function that does nothing.
-ghost use Rattle.circle.specs.Laws.{EmptyIsSound, OrganisationsKeepApart, OwnersStay, RefusalsLeaveAll, StaysSound, SuspendedStays};
+ghost use Rattle.circle.specs.Laws.{EmptyIsSound, NothingVanishes, OrganisationsKeepApart, OwnersStay, RefusalsLeaveAll, StaysSound, SuspendedStays};
 ghost use Rattle.circle.specs.Order.{IsInOrder};
 
 /// What a person of a sound directory changes leaves it sound.
@@ -36,4 +36,9 @@ pub fn organisations_keep_apart()
 /// A suspended person stays suspended.
 pub fn suspended_stays()
     ensures { SuspendedStays }
+{}
+
+/// No organisation, person, community or group goes away.
+pub fn nothing_vanishes()
+    ensures { NothingVanishes }
 {}

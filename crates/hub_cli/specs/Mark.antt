@@ -4,7 +4,7 @@ use Rattle.std.specs.Option.{option_map_or}
 use Rattle.std.specs.List.{flat_map}
 use Rattle.std.specs.declared.alloc.Global.{Global}
 use Rattle.iodef_tree.specs.Text.{Bytes, Tokens}
-use Rattle.iodef_tree.specs.Paths.{Entry, located, class_paths, has_class}
+use Rattle.iodef_tree.specs.Paths.{LocatedLine, located, class_paths, has_class}
 use Rattle.iodef_tree.specs.Reading.{reading, fault_name as name_of_read}
 use Rattle.iodef_tree.specs.declared.line.Line.{Line}
 use Rattle.iodef_tree.specs.declared.fault.ReadFault.{ReadFault}
@@ -15,14 +15,14 @@ use Rattle.hub_cli.specs.declared.mark.MarkFault.{MarkFault}
 use Rattle.hub_cli.specs.declared.mark.MarkFault.TheVariants.{Body, BadMarking, NoClass, NoMemory}
 
 -- a line for each class, in stored order
-abbrev pub text_of_all : List Entry → Bytes
+abbrev pub text_of_all : List LocatedLine → Bytes
 text_of_all es = flat_map line_of (map (told_at es) (class_paths es))
 
 -- the line of the class at a path
-abbrev pub text_of_class : Tokens → List Entry → Result Bytes MarkFault
+abbrev pub text_of_class : Tokens → List LocatedLine → Result Bytes MarkFault
 text_of_class p es = if has_class es p then Ok (line_of (told_at es p)) else Err NoClass
 
-abbrev pub text_of_wanted : Option Tokens → List Entry → Result Bytes MarkFault
+abbrev pub text_of_wanted : Option Tokens → List LocatedLine → Result Bytes MarkFault
 text_of_wanted None es = Ok (text_of_all es)
 text_of_wanted (Some p) es = text_of_class p es
 

@@ -6,7 +6,7 @@ use Rattle.std.proofs.lemmas.Bool.{cond-true, cond-false}
 use Rattle.std.proofs.lemmas.List.Elements.{filter-append}
 use Rattle.iodef_tree.specs.Text.{Bytes, Tokens, is_under}
 use Rattle.iodef_tree.specs.Tree.{Forest, end, leaf, branch, steps, lines}
-use Rattle.iodef_tree.specs.Paths.{Entry, placed, located_after, located, below}
+use Rattle.iodef_tree.specs.Paths.{LocatedLine, placed, located_after, located, below}
 use Rattle.iodef_tree.specs.Sound.{IsSound}
 use Rattle.iodef_tree.specs.Walk.{walk, IsBlock, AreBlocks}
 use Rattle.iodef_tree.specs.Laws.{AllSiblings, AreApart, HasApart}
@@ -34,7 +34,7 @@ filter-twice {X} Q P (e ∷ es) h = by_cases (Q e) (P e) refl refl (filter-twice
     by_cases false false a b ih = cond-false (Q e) _ _ a ∙ ih ∙ ap (filter Q) (sym (cond-false (P e) (e ∷ filter P es) (filter P es) b))
 
 -- what is below a path is among what is below its prefixes
-pub below-weaker : (p z : Tokens) (es : List Entry) → below (p ++ z) es ≡ below (p ++ z) (below p es)
+pub below-weaker : (p z : Tokens) (es : List LocatedLine) → below (p ++ z) es ≡ below (p ++ z) (below p es)
 below-weaker p z es = filter-twice (λ e. is_under (p ++ z) e.path) (λ e. is_under p e.path) es (λ e k. is_under-weaker p z e.path k)
 
 -- ---- siblings
@@ -48,13 +48,13 @@ apart-flip h = record { left = h.right; right = h.left }
 
 pub none-below : (f : Forest) (d : ℕ) (p : Tokens) (n : Bytes) (o : Option ℕ) → AllSiblings (AreApart n o) f → below (p ++ steps n o) (walk d p f) ≡ []
 none-below f d p n o apart =
-    filter-none (λ (e : Entry). is_under (p ++ steps n o) e.path) (walk d p f)
+    filter-none (λ (e : LocatedLine). is_under (p ++ steps n o) e.path) (walk d p f)
     (walk-all (λ x. is_under (p ++ steps n o) x ≡ false) f d p
     (siblings-map (AreApart n o) (λ n' o'. (z : Tokens) → is_under (p ++ steps n o) (p ++ (steps n' o' ++ z)) ≡ false) f (λ n' o' h. apart-under p n o n' o' h) apart))
 
 pub all-below : (f : Forest) (d : ℕ) (p : Tokens) → below p (walk d p f) ≡ walk d p f
 all-below f d p =
-    filter-all (λ (e : Entry). is_under p e.path) (walk d p f)
+    filter-all (λ (e : LocatedLine). is_under p e.path) (walk d p f)
     (walk-all (λ x. is_under p x ≡ true) f d p (siblings-all (λ n o. (z : Tokens) → is_under p (p ++ (steps n o ++ z)) ≡ true) f (λ n o z. is_under-steps p n o z)))
 
 -- below one sibling there is nothing of another class
@@ -63,7 +63,7 @@ other-block : (d : ℕ) (p : Tokens) (n : Bytes) (o : Option ℕ) (n' : Bytes) (
 other-block d p n o n' o' kids h =
     let q = p ++ steps n' o' in (
       ap (λ z. is_under (p ++ steps n o) (p ++ z)) (sym (append-nil (steps n' o'))) ∙ apart-under p n o n' o' h [],
-      filter-none (λ (e : Entry). is_under (p ++ steps n o) e.path) (walk d q kids)
+      filter-none (λ (e : LocatedLine). is_under (p ++ steps n o) e.path) (walk d q kids)
           (walk-all (λ x. is_under (p ++ steps n o) x ≡ false) kids d q
           (siblings-all (λ m r. (z : Tokens) → is_under (p ++ steps n o) (q ++ (steps m r ++ z)) ≡ false) kids
           (λ m r z. ap (is_under (p ++ steps n o)) (append_assoc p (steps n' o') (steps m r ++ z)) ∙ apart-under p n o n' o' h (steps m r ++ z)))),
@@ -83,7 +83,7 @@ apart-in (branch x px kids rest) n o n' o' h (inr i) = apart-in rest n o n' o' h
 
 -- ---- the blocks
 
-blocks-in : (f : Forest) (d : ℕ) (p : Tokens) (es : List Entry) → HasApart f →
+blocks-in : (f : Forest) (d : ℕ) (p : Tokens) (es : List LocatedLine) → HasApart f →
     ((n : Bytes) (o : Option ℕ) → IsIn n o f → below (p ++ steps n o) es ≡ below (p ++ steps n o) (walk d p f)) → AreBlocks es d p f
 blocks-in end d p es apart h = tt
 blocks-in (leaf i rest) d p es apart h =
@@ -97,7 +97,7 @@ blocks-in (branch n o kids rest) d p es apart h =
     let own : below q es ≡ K =
     h n o (inl (refl, refl))
     ∙ cond-false (is_under q q) _ _ (is_under-self q)
-    ∙ filter-append (λ (e : Entry). is_under q e.path) K R
+    ∙ filter-append (λ (e : LocatedLine). is_under q e.path) K R
     ∙ ap (λ xs. xs ++ below q R) (all-below kids (suc d) q)
     ∙ ap (λ xs. K ++ xs) (none-below rest d p n o apart.0)
     ∙ append-nil K in (
@@ -107,7 +107,7 @@ blocks-in (branch n o kids rest) d p es apart h =
           let two = other-block (suc d) p n' o' n o kids (apart-flip (apart-in rest n o n' o' apart.0 is)) in
           h n' o' (inr is)
           ∙ cond-false (is_under (p ++ steps n' o') q) _ _ two.0
-          ∙ filter-append (λ (e : Entry). is_under (p ++ steps n' o') e.path) K R
+          ∙ filter-append (λ (e : LocatedLine). is_under (p ++ steps n' o') e.path) K R
           ∙ ap (λ xs. xs ++ below (p ++ steps n' o') R) two.1),
     )
 
@@ -123,7 +123,7 @@ root-block f sound = (1, ap (below []) (located-lines f sound) ∙ all-below f 1
 
 -- ---- each entry stands below its parent
 
-parents-after : (before : List Entry) (ls : List Line) → AllByRecursion (λ (e : Entry). is_under e.parent e.path ≡ true) (located_after before ls)
+parents-after : (before : List LocatedLine) (ls : List Line) → AllByRecursion (λ (e : LocatedLine). is_under e.parent e.path ≡ true) (located_after before ls)
 parents-after before [] = tt
 parents-after before (l ∷ ls) =
     let e = placed before l in
@@ -132,5 +132,5 @@ parents-after before (l ∷ ls) =
     below_it : (p : Tokens) (n : Bytes) (o : Option ℕ) → is_under p (p ++ steps n o) ≡ true
     below_it p n o = ap (λ z. is_under p (p ++ z)) (sym (append-nil (steps n o))) ∙ is_under-steps p n o []
 
-pub below-parents : (ls : List Line) → AllByRecursion (λ (e : Entry). is_under e.parent e.path ≡ true) (located ls)
+pub below-parents : (ls : List Line) → AllByRecursion (λ (e : LocatedLine). is_under e.parent e.path ≡ true) (located ls)
 below-parents ls = parents-after [] ls

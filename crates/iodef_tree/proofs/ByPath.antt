@@ -8,7 +8,7 @@ use Rattle.std.proofs.lemmas.Bool.{and_left, and_right, cond-true, cond-false}
 use Rattle.std.proofs.lemmas.List.Folds.{list_any-append}
 use Rattle.iodef_tree.specs.Text.{Bytes, Tokens, same_path, is_root, is_prefix}
 use Rattle.iodef_tree.specs.Tree.{Content, text, value, Forest, end, leaf, branch, Body, holds, says, Bodies, one, many, in_front, elements, member_front, steps, kind_of, lines}
-use Rattle.iodef_tree.specs.Paths.{Entry, is_class_kind, is_class, placed, located_after, located, has_class}
+use Rattle.iodef_tree.specs.Paths.{LocatedLine, is_class_kind, is_class, placed, located_after, located, has_class}
 use Rattle.iodef_tree.specs.Sound.{IsSound}
 use Rattle.iodef_tree.specs.Walk.{walk, IsBlock, AreBlocks}
 use Rattle.iodef_tree.specs.Laws.{AllSiblings, AreApart, HasApart}
@@ -43,7 +43,7 @@ past-none (x ∷ q) (y ∷ p) e = step (bytes_eq x y) e (past-none q p)
 
 -- ---- the block of what is found
 
-block-at : (f : Forest) (es : List Entry) (d : ℕ) (q p : Tokens) (g : Forest) → AreBlocks es d q f → class_at f p ≡ Some g → IsBlock (q ++ p) es g
+block-at : (f : Forest) (es : List LocatedLine) (d : ℕ) (q p : Tokens) (g : Forest) → AreBlocks es d q f → class_at f p ≡ Some g → IsBlock (q ++ p) es g
 block-at end es d q p g blocks e = cc
 block-at (leaf i rest) es d q p g blocks e = step (past (steps i.name i.place) p) e (block-at rest es d q p g blocks)
   where
@@ -66,7 +66,7 @@ block-at (branch n o kids rest) es d q p g blocks e =
 
 -- ---- whether there is a class
 
-none-any : (p : Tokens) (es : List Entry) → AllByRecursion (λ (e : Entry). same_path e.path p ≡ false) es → has_class es p ≡ false
+none-any : (p : Tokens) (es : List LocatedLine) → AllByRecursion (λ (e : LocatedLine). same_path e.path p ≡ false) es → has_class es p ≡ false
 none-any p [] h = refl
 none-any p (e ∷ es) h = ap (λ b. b || has_class es p) (and_right (is_class e) (same_path e.path p) h.0) ∙ none-any p es h.1
 
@@ -106,7 +106,7 @@ has_class-walk (leaf i rest) d q p apart =
     step (Some r) is later = ap (λ z. has_class (walk d q rest) (q ++ z)) (past-some (steps i.name i.place) p r is) ∙ none-behind rest d q i.name i.place r apart.0
 has_class-walk (branch n o kids rest) d q p apart =
     let st = steps n o in
-    ap (λ b. same_path (q ++ st) (q ++ p) || b) (list_any-append (λ (e : Entry). is_class e && same_path e.path (q ++ p)) (walk (suc d) (q ++ st) kids) (walk d q rest))
+    ap (λ b. same_path (q ++ st) (q ++ p) || b) (list_any-append (λ (e : LocatedLine). is_class e && same_path e.path (q ++ p)) (walk (suc d) (q ++ st) kids) (walk d q rest))
     ∙ step (past st p) refl (λ r. has_class-walk kids (suc d) (q ++ st) r apart.1) (has_class-walk rest d q p apart.2)
   where
     step : (o' : Option Tokens) → past (steps n o) p ≡ o' → ((r : Tokens) → has_class (walk (suc d) (q ++ steps n o) kids) ((q ++ steps n o) ++ r) ≡ is_some (class_at kids r)) →
@@ -150,7 +150,7 @@ block f [] g sound e = let same : f ≡ g = cc in subst (λ k. IsBlock [] (locat
 block f (x ∷ p) g sound e = block-at f (located (lines 1 f)) 1 [] (x ∷ p) g (blocks-located f sound) e
 
 -- the root is no class
-root-none : (before : List Entry) (ls : List Line) → has_class (located_after before ls) [] ≡ false
+root-none : (before : List LocatedLine) (ls : List Line) → has_class (located_after before ls) [] ≡ false
 root-none before [] = refl
 root-none before (l ∷ ls) =
     let e = placed before l in

@@ -5,7 +5,7 @@ use Rattle.std.proofs.lemmas.List.{map-append}
 use Rattle.std.proofs.lemmas.List.Elements.{filter-append}
 use Rattle.iodef_tree.specs.Text.{Bytes, Tokens}
 use Rattle.iodef_tree.specs.Tree.{Content, text, value, Forest, end, leaf, branch, Body, holds, says, Bodies, one, many, in_front, elements, member_front, steps, kind_of, lines}
-use Rattle.iodef_tree.specs.Paths.{Entry, is_class_kind, is_class, class_paths, classes_of}
+use Rattle.iodef_tree.specs.Paths.{LocatedLine, is_class_kind, is_class, class_paths, classes_of}
 use Rattle.iodef_tree.specs.Sound.{IsSound}
 use Rattle.iodef_tree.specs.View.{bodies, members_forest}
 use Rattle.iodef_tree.specs.Walk.{leaf_entry, walk, classes_below}
@@ -16,15 +16,15 @@ use Rattle.iodef_tree.proofs.Members.{members-next}
 
 -- ---- the lines and the walk
 
-class_paths-append : (xs ys : List Entry) → class_paths (xs ++ ys) ≡ class_paths xs ++ class_paths ys
-class_paths-append xs ys = ap (map (λ (e : Entry). e.path)) (filter-append is_class xs ys) ∙ map-append (λ (e : Entry). e.path) (filter is_class xs) (filter is_class ys)
+class_paths-append : (xs ys : List LocatedLine) → class_paths (xs ++ ys) ≡ class_paths xs ++ class_paths ys
+class_paths-append xs ys = ap (map (λ (e : LocatedLine). e.path)) (filter-append is_class xs ys) ∙ map-append (λ (e : LocatedLine). e.path) (filter is_class xs) (filter is_class ys)
 
 classes-walk : (f : Forest) (d : ℕ) (p : Tokens) → class_paths (walk d p f) ≡ classes_below p f
 classes-walk end d p = refl
 classes-walk (leaf i rest) d p = step i.content (classes-walk rest d p)
   where
     step : (c : Content) → class_paths (walk d p rest) ≡ classes_below p rest →
-        map (λ (e : Entry). e.path) (cond (is_class_kind (kind_of c)) (leaf_entry d p i ∷ filter is_class (walk d p rest)) (filter is_class (walk d p rest))) ≡ classes_below p rest
+        map (λ (e : LocatedLine). e.path) (cond (is_class_kind (kind_of c)) (leaf_entry d p i ∷ filter is_class (walk d p rest)) (filter is_class (walk d p rest))) ≡ classes_below p rest
     step (text s) later = later
     step (value s) later = later
 classes-walk (branch n o kids rest) d p =

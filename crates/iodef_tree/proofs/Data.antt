@@ -24,7 +24,7 @@ use Rattle.iodef_tree.specs.declared.text.Text.{Text}
 use Rattle.iodef_tree.specs.declared.object.Member.{Member}
 use Rattle.iodef_tree.specs.declared.object.Object.{Object}
 use Rattle.iodef_tree.proofs.Order.{bytes_eq-true, bytes_lt-less, bytes_lt-trans}
-use Rattle.iodef_tree.proofs.Given.{Entry}
+use Rattle.iodef_tree.proofs.Given.{LocatedLine}
 use Rattle.iodef_tree.proofs.Members.{members-next}
 use Rattle.iodef_tree.proofs.Views.{forest-members}
 
@@ -183,7 +183,7 @@ put-ordered f h = put-joined (members_of f) json.no_members (ascend f None h) (n
 one-more : (i : ℕ) → suc i ≡ i + 1
 one-more i = omega arith
 
-pub put-member : (old new : List Entry) (name : String Global) (v : Value) (R : json.Members) (xs : List (Text × Member)) (i : ℕ) (m : Text × Member) → i < length xs → m ≡ get_or xs i m →
+pub put-member : (old new : List LocatedLine) (name : String Global) (v : Value) (R : json.Members) (xs : List (Text × Member)) (i : ℕ) (m : Text × Member) → i < length xs → m ≡ get_or xs i m →
     is_filled (bodies m.1) ≡ true → string_bytes name ≡ m.0 → view v ≡ bodies_data (bodies m.1) → new ≡ insert_entry string_cmp old name v →
     put_all (members_of (members_forest (drop i xs))) (members_view old) ≡ R → put_all (members_of (members_forest (drop (i + 1) xs))) (members_view new) ≡ R
 put-member old new name v R xs i m h e filled is means put_in left =
@@ -201,7 +201,7 @@ all-left P xs i m h e all =
 
 -- ---- at the start
 
-pub put-started : (o : Object) (xs : List (Text × Member)) (es : List Entry) → IsOrdered (forest o) → xs ≡ o.members.items → es ≡ [] → put_all (members_of (members_forest xs)) (members_view es) ≡ members_of (forest o)
+pub put-started : (o : Object) (xs : List (Text × Member)) (es : List LocatedLine) → IsOrdered (forest o) → xs ≡ o.members.items → es ≡ [] → put_all (members_of (members_forest xs)) (members_view es) ≡ members_of (forest o)
 put-started o xs es h is none =
     ap (λ found. put_all (members_of (members_forest xs)) (members_view found)) none
     ∙ ap (λ f. put_all (members_of f) json.no_members) (ap members_forest is ∙ sym (forest-members o))

@@ -5,7 +5,7 @@ use Rattle.std.specs.List.{AllByRecursion, IsDistinct}
 use Rattle.std.proofs.lemmas.List.{map-append}
 use Rattle.iodef_tree.specs.Text.{Bytes, Tokens, same_path, is_prefix}
 use Rattle.iodef_tree.specs.Tree.{Forest, end, leaf, branch, steps, lines}
-use Rattle.iodef_tree.specs.Paths.{Entry, is_class, located, classes_of}
+use Rattle.iodef_tree.specs.Paths.{LocatedLine, is_class, located, classes_of}
 use Rattle.iodef_tree.specs.Sound.{IsSound}
 use Rattle.iodef_tree.specs.Walk.{walk}
 use Rattle.iodef_tree.specs.Laws.{AllSiblings, AreApart, HasApart}
@@ -14,7 +14,7 @@ use Rattle.iodef_tree.proofs.Located.{located-lines}
 use Rattle.iodef_tree.proofs.Order.{is_false, same_path-true, same_path-common, same_path-longer, is_prefix-append}
 use Rattle.iodef_tree.proofs.Siblings.{all-append, all-map, siblings-all, siblings-map, walk-all}
 
-abbrev path_of : Entry → Tokens
+abbrev path_of : LocatedLine → Tokens
 path_of e = e.path
 
 -- no path of the list is this one
@@ -67,12 +67,12 @@ distinct-walk (branch n o kids rest) d p apart =
       distinct-append K R (distinct-walk kids (suc d) q apart.1) (distinct-walk rest d p apart.2) cross,
     )
 
-pub paths-distinct : (f : Forest) → IsSound f → IsDistinct same_path (map (λ (e : Entry). e.path) (located (lines 1 f)))
+pub paths-distinct : (f : Forest) → IsSound f → IsDistinct same_path (map (λ (e : LocatedLine). e.path) (located (lines 1 f)))
 paths-distinct f sound = subst (λ es. IsDistinct same_path (map path_of es)) (sym (located-lines f sound)) (distinct-walk f 1 [] (sound-apart f sound))
 
 -- ---- some of the lines
 
-fresh-filter : (P : Entry → Bool) (p : Tokens) (es : List Entry) → IsFresh p (map path_of es) → IsFresh p (map path_of (filter P es))
+fresh-filter : (P : LocatedLine → Bool) (p : Tokens) (es : List LocatedLine) → IsFresh p (map path_of es) → IsFresh p (map path_of (filter P es))
 fresh-filter P p [] h = tt
 fresh-filter P p (e ∷ es) h = step (P e) (fresh-filter P p es h.1)
   where
@@ -80,7 +80,7 @@ fresh-filter P p (e ∷ es) h = step (P e) (fresh-filter P p es h.1)
     step true k = (h.0, k)
     step false k = k
 
-pub distinct-filter : (P : Entry → Bool) (es : List Entry) → IsDistinct same_path (map (λ (e : Entry). e.path) es) → IsDistinct same_path (map (λ (e : Entry). e.path) (filter P es))
+pub distinct-filter : (P : LocatedLine → Bool) (es : List LocatedLine) → IsDistinct same_path (map (λ (e : LocatedLine). e.path) es) → IsDistinct same_path (map (λ (e : LocatedLine). e.path) (filter P es))
 unfolding IsDistinct
 distinct-filter P [] h = tt
 distinct-filter P (e ∷ es) h = step (P e) (distinct-filter P es h.1)

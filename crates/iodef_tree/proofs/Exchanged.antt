@@ -15,7 +15,7 @@ use Rattle.serde_json.specs.declared.value.Value.{Value, Null, Array, Object, th
 use Rattle.serde_json.proofs.Views.{view-Array, view-Object, view-lookup, members_view-insert_entry}
 use Rattle.iodef_tree.specs.Fit.{taken}
 use Rattle.iodef_tree.specs.Reading.{with_incident}
-use Rattle.iodef_tree.proofs.Given.{Entry}
+use Rattle.iodef_tree.proofs.Given.{LocatedLine}
 
 same_text : (xs : List ℕ) → slice_cmp nat_cmp xs xs ≡ Equal
 same_text xs = tied_itself nat_list_cmp_total xs
@@ -52,12 +52,12 @@ taken_some body m n name old ds is named found some after =
     taken_at body m name old is named found ∙ rw (some, left)
 
 -- the members with an array of one Incident
-pub put_in : (es new : List Entry) (name : String Global) (v : Vec Value Global) (incident : Value) → new ≡ insert_entry string_cmp es name (Array v) → string_bytes name ≡ codes "Incident" → v.items ≡ incident ∷ []
+pub put_in : (es new : List LocatedLine) (name : String Global) (v : Vec Value Global) (incident : Value) → new ≡ insert_entry string_cmp es name (Array v) → string_bytes name ≡ codes "Incident" → v.items ≡ incident ∷ []
     → members_view new ≡ with_incident (view incident) (members_view es)
 put_in es new name v incident after named one = rw (after, members_view-insert_entry es name (Array v), named, view-Array v, one)
 
 -- a copy has the same members
-pub cloned : (es fs : List Entry) → AllZip (λ p q. (string_bytes q.0 ≡ string_bytes p.0) × (view q.1 ≡ view p.1)) es fs → members_view fs ≡ members_view es
+pub cloned : (es fs : List LocatedLine) → AllZip (λ p q. (string_bytes q.0 ≡ string_bytes p.0) × (view q.1 ≡ view p.1)) es fs → members_view fs ≡ members_view es
 cloned [] [] h = refl
 cloned [] (f ∷ fs) h = absurd h
 cloned (e ∷ es) [] h = absurd h

@@ -8,20 +8,20 @@ use Rattle.iodef_tree.specs.Tree.{Body, Bodies, many}
 use Rattle.iodef_tree.specs.Values.{forest_of_data, bodies_of_data, items_of_data}
 use Rattle.iodef_tree.specs.View.{forest_of_members}
 
-abbrev pub Entry : Type 0
-Entry = String Global × Value
+abbrev pub LocatedLine : Type 0
+LocatedLine = String Global × Value
 
-abbrev pub given_members : List Entry → List (Bytes × Bodies)
+abbrev pub given_members : List LocatedLine → List (Bytes × Bodies)
 given_members es = map (λ e. (string_bytes e.0, bodies_of_data (view e.1))) es
 
-members-given : (es : List Entry) → forest_of_data (members_view es) ≡ forest_of_members (given_members es)
+members-given : (es : List LocatedLine) → forest_of_data (members_view es) ≡ forest_of_members (given_members es)
 members-given [] = refl
 members-given (e ∷ es) = rw (members-given es)
 
-pub all_given : (made : List (Bytes × Bodies)) (es rest : List Entry) → rest ≡ [] → made ++ given_members rest ≡ given_members es → made ≡ given_members es
+pub all_given : (made : List (Bytes × Bodies)) (es rest : List LocatedLine) → rest ≡ [] → made ++ given_members rest ≡ given_members es → made ≡ given_members es
 all_given made es rest none e = sym (append-nil made) ∙ subst (λ ws. made ++ given_members ws ≡ given_members es) none e
 
-pub members_done : (made : List (Bytes × Bodies)) (es rest : List Entry) → rest ≡ [] → made ++ given_members rest ≡ given_members es → forest_of_members made ≡ forest_of_data (members_view es)
+pub members_done : (made : List (Bytes × Bodies)) (es rest : List LocatedLine) → rest ≡ [] → made ++ given_members rest ≡ given_members es → forest_of_members made ≡ forest_of_data (members_view es)
 members_done made es rest none e = ap forest_of_members (all_given made es rest none e) ∙ sym (members-given es)
 
 pub many_done : (vs : List Value) (bs : List Body) → bs ≡ items_of_data (items_view vs) → (length vs == 0) ≡ false → many bs ≡ bodies_of_data (array (items_view vs))

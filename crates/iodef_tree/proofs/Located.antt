@@ -9,7 +9,7 @@ use Rattle.std.proofs.lemmas.List.{map-append}
 use Rattle.std.proofs.lemmas.List.Sums.{sum_by-cons}
 use Rattle.iodef_tree.specs.Text.{Bytes, Tokens, bytes_lt}
 use Rattle.iodef_tree.specs.Tree.{Forest, end, leaf, branch, steps, place_of, lines, leaf_line, class_line}
-use Rattle.iodef_tree.specs.Paths.{Entry, is_one_less_deep, parent_path, is_like, place_among, entry_at, placed, located_after, located}
+use Rattle.iodef_tree.specs.Paths.{LocatedLine, is_one_less_deep, parent_path, is_like, place_among, entry_at, placed, located_after, located}
 use Rattle.iodef_tree.specs.Sound.{Standing, may_stand, may_stand_behind, may_stand_first, IsOrderedBehind, IsSound}
 use Rattle.iodef_tree.specs.Walk.{leaf_entry, class_entry, walk}
 use Rattle.iodef_tree.specs.declared.line.Line.{Line}
@@ -17,11 +17,11 @@ use Rattle.iodef_tree.proofs.Order.{bytes_eq-true, bytes_lt-trans, bytes_lt-ne}
 
 -- ---- one more line before
 
-parent-past : (x : Entry) (before : List Entry) (d : ℕ) → is_one_less_deep d x ≡ false → parent_path (x ∷ before) d ≡ parent_path before d
-parent-past x before d h = ap (λ b. option_map_or (λ (e : Entry). e.path) (cond b (Some x) (find (is_one_less_deep d) before)) []) h
+parent-past : (x : LocatedLine) (before : List LocatedLine) (d : ℕ) → is_one_less_deep d x ≡ false → parent_path (x ∷ before) d ≡ parent_path before d
+parent-past x before d h = ap (λ b. option_map_or (λ (e : LocatedLine). e.path) (cond b (Some x) (find (is_one_less_deep d) before)) []) h
 
-parent-here : (x : Entry) (before : List Entry) (d : ℕ) → is_one_less_deep d x ≡ true → parent_path (x ∷ before) d ≡ x.path
-parent-here x before d h = ap (λ b. option_map_or (λ (e : Entry). e.path) (cond b (Some x) (find (is_one_less_deep d) before)) []) h
+parent-here : (x : LocatedLine) (before : List LocatedLine) (d : ℕ) → is_one_less_deep d x ≡ true → parent_path (x ∷ before) d ≡ x.path
+parent-here x before d h = ap (λ b. option_map_or (λ (e : LocatedLine). e.path) (cond b (Some x) (find (is_one_less_deep d) before)) []) h
 
 before_first-past : {X : Type 0} (p : X → Bool) (x : X) (xs : List X) → p x ≡ false → before_first p (x ∷ xs) ≡ x ∷ before_first p xs
 before_first-past {X} p x xs h =
@@ -31,19 +31,19 @@ before_first-past {X} p x xs h =
 before_first-here : {X : Type 0} (p : X → Bool) (x : X) (xs : List X) → p x ≡ true → before_first p (x ∷ xs) ≡ []
 before_first-here {X} p x xs h = ap (λ b. take (cond (not b) (1 + prefix_len (λ y. not (p y)) xs) 0) (x ∷ xs)) h
 
-place-past : (x : Entry) (before : List Entry) (d : ℕ) (name : Bytes) → is_one_less_deep d x ≡ false →
+place-past : (x : LocatedLine) (before : List LocatedLine) (d : ℕ) (name : Bytes) → is_one_less_deep d x ≡ false →
     place_among (x ∷ before) d name ≡ cond (is_like d name x) 1 0 + place_among before d name
 place-past x before d name h =
     ap (count_by (is_like d name)) (before_first-past (is_one_less_deep d) x before h)
-    ∙ sum_by-cons (λ (e : Entry). cond (is_like d name e) 1 0) x (before_first (is_one_less_deep d) before)
+    ∙ sum_by-cons (λ (e : LocatedLine). cond (is_like d name e) 1 0) x (before_first (is_one_less_deep d) before)
 
-place-here : (x : Entry) (before : List Entry) (d : ℕ) (name : Bytes) → is_one_less_deep d x ≡ true → place_among (x ∷ before) d name ≡ 0
+place-here : (x : LocatedLine) (before : List LocatedLine) (d : ℕ) (name : Bytes) → is_one_less_deep d x ≡ true → place_among (x ∷ before) d name ≡ 0
 place-here x before d name h = ap (count_by (is_like d name)) (before_first-here (is_one_less_deep d) x before h)
 
 -- ---- where the next line stands
 
 -- Behind these lines, a line of depth d stands below p, and behind a sibling that stands so.
-record Stands (before : List Entry) (d : ℕ) (p : Tokens) (s : Option Standing) : Type 0 where
+record Stands (before : List LocatedLine) (d : ℕ) (p : Tokens) (s : Option Standing) : Type 0 where
   parent : parent_path before d ≡ p
   place : (name : Bytes) (k : ℕ) → may_stand s name (Some k) ≡ true → place_among before d name ≡ k
 
@@ -51,7 +51,7 @@ not_deeper : (d k : ℕ) → d ≡ k → (suc d == k) ≡ false
 not_deeper d k e = ne_eqb (suc d) k (omega arith)
 
 -- a deeper line changes nothing
-stands-past : (x : Entry) (before : List Entry) (d : ℕ) (p : Tokens) (s : Option Standing) → d < x.line.depth → Stands before d p s → Stands (x ∷ before) d p s
+stands-past : (x : LocatedLine) (before : List LocatedLine) (d : ℕ) (p : Tokens) (s : Option Standing) → d < x.line.depth → Stands before d p s → Stands (x ∷ before) d p s
 stands-past x before d p s deep h =
     let up : is_one_less_deep d x ≡ false = ne_eqb (suc x.line.depth) d (omega arith) in
     record {
@@ -71,7 +71,7 @@ none-before (Some (m, None)) n (Some (suc k)) name h lt = absurd (false≢true h
 none-before (Some (m, Some j)) n (Some (suc k)) name h lt =
     subst (λ x. bytes_lt x name ≡ true) (sym (bytes_eq-true m n (and_parts (bytes_eq m n) (j == k) h).0)) lt
 
-place-sibling : (x : Entry) (before : List Entry) (d : ℕ) (p : Tokens) (s : Option Standing) (o : Option ℕ) → x.line.depth ≡ d → may_stand s x.line.name o ≡ true → Stands before d p s →
+place-sibling : (x : LocatedLine) (before : List LocatedLine) (d : ℕ) (p : Tokens) (s : Option Standing) (o : Option ℕ) → x.line.depth ≡ d → may_stand s x.line.name o ≡ true → Stands before d p s →
     (name : Bytes) (k : ℕ) → may_stand_behind (x.line.name, o) name (Some k) ≡ true → cond (is_like d name x) 1 0 + place_among before d name ≡ k
 place-sibling x before d p s o is may h name zero next =
     ap (λ b. cond b 1 0 + place_among before d name) (and_right (x.line.depth == d) (bytes_eq x.line.name name) (bytes_lt-ne x.line.name name next))
@@ -85,7 +85,7 @@ place-sibling x before d p s (Some j) is may h name (suc k) next =
     ∙ ap (λ n. 1 + place_among before d n) (sym same)
     ∙ omega (arith, h.place x.line.name j may)
 
-stands-sibling : (x : Entry) (before : List Entry) (d : ℕ) (p : Tokens) (s : Option Standing) (o : Option ℕ) → x.line.depth ≡ d → may_stand s x.line.name o ≡ true → Stands before d p s →
+stands-sibling : (x : LocatedLine) (before : List LocatedLine) (d : ℕ) (p : Tokens) (s : Option Standing) (o : Option ℕ) → x.line.depth ≡ d → may_stand s x.line.name o ≡ true → Stands before d p s →
     Stands (x ∷ before) d p (Some (x.line.name, o))
 stands-sibling x before d p s o is may h =
     let up : is_one_less_deep d x ≡ false = not_deeper x.line.depth d is in
@@ -98,7 +98,7 @@ first_place : (k : ℕ) → may_stand_first (Some k) ≡ true → 0 ≡ k
 first_place zero h = refl
 first_place (suc k) h = absurd (false≢true h)
 
-stands-below : (x : Entry) (before : List Entry) (d : ℕ) → suc x.line.depth ≡ d → Stands (x ∷ before) d x.path None
+stands-below : (x : LocatedLine) (before : List LocatedLine) (d : ℕ) → suc x.line.depth ≡ d → Stands (x ∷ before) d x.path None
 stands-below x before d is =
     let up : is_one_less_deep d x ≡ true = eq-eqb (suc x.line.depth) d is in
     record {
@@ -112,15 +112,15 @@ stands-first = record { parent = refl; place = λ name k first. first_place k fi
 -- ---- the walk
 
 -- xs, the last first, and then ys
-abbrev rev_onto : List Entry → List Entry → List Entry
+abbrev rev_onto : List LocatedLine → List LocatedLine → List LocatedLine
 rev_onto [] ys = ys
 rev_onto (x ∷ xs) ys = rev_onto xs (x ∷ ys)
 
-rev_onto-append : (xs ys zs : List Entry) → rev_onto (xs ++ ys) zs ≡ rev_onto ys (rev_onto xs zs)
+rev_onto-append : (xs ys zs : List LocatedLine) → rev_onto (xs ++ ys) zs ≡ rev_onto ys (rev_onto xs zs)
 rev_onto-append [] ys zs = refl
 rev_onto-append (x ∷ xs) ys zs = rev_onto-append xs ys (x ∷ zs)
 
-stands-past_walk : (f : Forest) (k : ℕ) (q : Tokens) (before : List Entry) (d : ℕ) (p : Tokens) (s : Option Standing) → d < k → Stands before d p s → Stands (rev_onto (walk k q f) before) d p s
+stands-past_walk : (f : Forest) (k : ℕ) (q : Tokens) (before : List LocatedLine) (d : ℕ) (p : Tokens) (s : Option Standing) → d < k → Stands before d p s → Stands (rev_onto (walk k q f) before) d p s
 stands-past_walk end k q before d p s deep h = h
 stands-past_walk (leaf i rest) k q before d p s deep h =
     let x = leaf_entry k q i in
@@ -133,29 +133,29 @@ stands-past_walk (branch name place kids rest) k q before d p s deep h =
     (stands-past_walk kids (suc k) x.path (x ∷ before) d p s (omega arith) (stands-past x before d p s deep h)))
 
 -- a line's entry, where it stands
-place-is : (before : List Entry) (d : ℕ) (p : Tokens) (s : Option Standing) (name : Bytes) (o : Option ℕ) → Stands before d p s → may_stand s name o ≡ true →
+place-is : (before : List LocatedLine) (d : ℕ) (p : Tokens) (s : Option Standing) (name : Bytes) (o : Option ℕ) → Stands before d p s → may_stand s name o ≡ true →
     place_of (is_some o) (place_among before d name) ≡ o
 place-is before d p s name None h may = refl
 place-is before d p s name (Some k) h may = ap Some (h.place name k may)
 
-placed-is : (before : List Entry) (l : Line) (p : Tokens) (s : Option Standing) (o : Option ℕ) → Stands before l.depth p s → may_stand s l.name o ≡ true → l.in_array ≡ is_some o →
+placed-is : (before : List LocatedLine) (l : Line) (p : Tokens) (s : Option Standing) (o : Option ℕ) → Stands before l.depth p s → may_stand s l.name o ≡ true → l.in_array ≡ is_some o →
     placed before l ≡ entry_at p o l
 placed-is before l p s o h may is =
     ap (λ q. entry_at q (place_of l.in_array (place_among before l.depth l.name)) l) h.parent
     ∙ ap (λ b. entry_at p (place_of b (place_among before l.depth l.name)) l) is
     ∙ ap (λ q. entry_at p q l) (place-is before l.depth p s l.name o h may)
 
-located-walk : (f : Forest) (d : ℕ) (p : Tokens) (s : Option Standing) (before : List Entry) (ls : List Line) → IsOrderedBehind s f → Stands before d p s →
+located-walk : (f : Forest) (d : ℕ) (p : Tokens) (s : Option Standing) (before : List LocatedLine) (ls : List Line) → IsOrderedBehind s f → Stands before d p s →
     located_after before (lines d f ++ ls) ≡ walk d p f ++ located_after (rev_onto (walk d p f) before) ls
 located-walk end d p s before ls ordered h = refl
 located-walk (leaf i rest) d p s before ls ordered h =
     let x = leaf_entry d p i in
-    ap (λ (e : Entry). e ∷ located_after (e ∷ before) (lines d rest ++ ls)) (placed-is before (leaf_line d i) p s i.place h ordered.0 refl)
+    ap (λ (e : LocatedLine). e ∷ located_after (e ∷ before) (lines d rest ++ ls)) (placed-is before (leaf_line d i) p s i.place h ordered.0 refl)
     ∙ ap (λ es. x ∷ es) (located-walk rest d p (Some (i.name, i.place)) (x ∷ before) ls ordered.1 (stands-sibling x before d p s i.place refl ordered.0 h))
 located-walk (branch name place kids rest) d p s before ls ordered h =
     let x = class_entry d p name place in
     let inner = walk (suc d) x.path kids in
-    ap (λ (e : Entry). e ∷ located_after (e ∷ before) ((lines (suc d) kids ++ lines d rest) ++ ls)) (placed-is before (class_line d name place) p s place h ordered.0 refl)
+    ap (λ (e : LocatedLine). e ∷ located_after (e ∷ before) ((lines (suc d) kids ++ lines d rest) ++ ls)) (placed-is before (class_line d name place) p s place h ordered.0 refl)
     ∙ ap (λ es. x ∷ es) (
     ap (located_after (x ∷ before)) (append_assoc (lines (suc d) kids) (lines d rest) ls)
     ∙ located-walk kids (suc d) x.path None (x ∷ before) (lines d rest ++ ls) ordered.1 (stands-below x before (suc d) refl)
@@ -171,19 +171,19 @@ located-lines f sound =
 
 -- ---- the lines of the entries
 
-pub lines-walk : (f : Forest) (d : ℕ) (p : Tokens) → map (λ (e : Entry). e.line) (walk d p f) ≡ lines d f
+pub lines-walk : (f : Forest) (d : ℕ) (p : Tokens) → map (λ (e : LocatedLine). e.line) (walk d p f) ≡ lines d f
 lines-walk end d p = refl
 lines-walk (leaf i rest) d p = ap (λ ls. leaf_line d i ∷ ls) (lines-walk rest d p)
 lines-walk (branch name place kids rest) d p =
     let q = p ++ steps name place in
     ap (λ ls. class_line d name place ∷ ls) (
-    map-append (λ (e : Entry). e.line) (walk (suc d) q kids) (walk d p rest)
-    ∙ ap (λ ls. ls ++ map (λ (e : Entry). e.line) (walk d p rest)) (lines-walk kids (suc d) q)
+    map-append (λ (e : LocatedLine). e.line) (walk (suc d) q kids) (walk d p rest)
+    ∙ ap (λ ls. ls ++ map (λ (e : LocatedLine). e.line) (walk d p rest)) (lines-walk kids (suc d) q)
     ∙ ap (λ ls. lines (suc d) kids ++ ls) (lines-walk rest d p))
 
-lines-located_after : (before : List Entry) (ls : List Line) → map (λ (e : Entry). e.line) (located_after before ls) ≡ ls
+lines-located_after : (before : List LocatedLine) (ls : List Line) → map (λ (e : LocatedLine). e.line) (located_after before ls) ≡ ls
 lines-located_after before [] = refl
 lines-located_after before (l ∷ ls) = ap (λ ks. l ∷ ks) (lines-located_after (placed before l ∷ before) ls)
 
-pub lines-located : (ls : List Line) → map (λ (e : Entry). e.line) (located ls) ≡ ls
+pub lines-located : (ls : List Line) → map (λ (e : LocatedLine). e.line) (located ls) ≡ ls
 lines-located ls = lines-located_after [] ls

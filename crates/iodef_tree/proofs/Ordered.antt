@@ -11,7 +11,7 @@ use Rattle.iodef_tree.specs.Tree.{Forest, Body, holds, says, Bodies, one, many, 
 use Rattle.iodef_tree.specs.Sound.{Standing, may_stand, IsOrderedBehind}
 use Rattle.iodef_tree.specs.Fit.{IsBodyOrdered, AreBodiesOrdered}
 use Rattle.iodef_tree.specs.View.{forest_of_members}
-use Rattle.iodef_tree.proofs.Given.{Entry, given_members}
+use Rattle.iodef_tree.proofs.Given.{LocatedLine, given_members}
 
 abbrev pub AreAbove : Bytes → List (Bytes × Bodies) → Type 0
 AreAbove name ms = AllByRecursion (λ m. bytes_lt name m.0 ≡ true) ms
@@ -24,12 +24,12 @@ abbrev pub AreAboveAll : Option Standing → List (Bytes × Bodies) → Type 0
 AreAboveAll None ms = Unit {0}
 AreAboveAll (Some s) ms = AreAbove s.0 ms
 
-above_given : (k : String Global) (es : List Entry) → AllByRecursion (λ y. string_cmp k y ≡ Less) (keys_of es) → AreAbove (string_bytes k) (given_members es)
+above_given : (k : String Global) (es : List LocatedLine) → AllByRecursion (λ y. string_cmp k y ≡ Less) (keys_of es) → AreAbove (string_bytes k) (given_members es)
 above_given k [] h = tt
 above_given k (e ∷ es) h = (ap is_lt h.0, above_given k es h.1)
 
 -- the names of a map ascend
-pub ascend_given : (es : List Entry) → IsStrictlySortedBy string_cmp (keys_of es) → Ascend (given_members es)
+pub ascend_given : (es : List LocatedLine) → IsStrictlySortedBy string_cmp (keys_of es) → Ascend (given_members es)
 unfolding IsStrictlySortedBy
 ascend_given [] h = tt
 ascend_given (e ∷ es) h = (above_given e.0 es h.0, ascend_given es h.1)

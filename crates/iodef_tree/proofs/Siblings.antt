@@ -5,7 +5,7 @@ use Rattle.std.specs.List.{AllByRecursion}
 use Rattle.std.proofs.lemmas.Bool.{cond-true, cond-false}
 use Rattle.iodef_tree.specs.Text.{Bytes, Tokens}
 use Rattle.iodef_tree.specs.Tree.{Forest, end, leaf, branch, steps}
-use Rattle.iodef_tree.specs.Paths.{Entry}
+use Rattle.iodef_tree.specs.Paths.{LocatedLine}
 use Rattle.iodef_tree.specs.Walk.{walk}
 use Rattle.iodef_tree.specs.Laws.{AllSiblings}
 
@@ -40,14 +40,14 @@ siblings-map Q R (leaf i rest) h all = (h i.name i.place all.0, siblings-map Q R
 siblings-map Q R (branch n o kids rest) h all = (h n o all.0, siblings-map Q R rest h all.1)
 
 -- what holds of each path that goes on from a sibling holds of each entry
-pub walk-all : (Q : Tokens → Type 0) (f : Forest) (d : ℕ) (p : Tokens) → AllSiblings (λ n o. (z : Tokens) → Q (p ++ (steps n o ++ z))) f → AllByRecursion (λ (e : Entry). Q e.path) (walk d p f)
+pub walk-all : (Q : Tokens → Type 0) (f : Forest) (d : ℕ) (p : Tokens) → AllSiblings (λ n o. (z : Tokens) → Q (p ++ (steps n o ++ z))) f → AllByRecursion (λ (e : LocatedLine). Q e.path) (walk d p f)
 walk-all Q end d p h = tt
 walk-all Q (leaf i rest) d p h =
     (subst (λ z. Q (p ++ z)) (append-nil (steps i.name i.place)) (h.0 []), walk-all Q rest d p h.1)
 walk-all Q (branch n o kids rest) d p h =
     let q = p ++ steps n o in (
       subst (λ z. Q (p ++ z)) (append-nil (steps n o)) (h.0 []),
-      all-append (λ (e : Entry). Q e.path) (walk (suc d) q kids) (walk d p rest)
+      all-append (λ (e : LocatedLine). Q e.path) (walk (suc d) q kids) (walk d p rest)
           (walk-all Q kids (suc d) q (siblings-all (λ n' o'. (z : Tokens) → Q (q ++ (steps n' o' ++ z))) kids
           (λ n' o' z. subst Q (sym (append_assoc p (steps n o) (steps n' o' ++ z))) (h.0 (steps n' o' ++ z)))))
           (walk-all Q rest d p h.1),

@@ -10,38 +10,38 @@ use Rattle.iodef_tree.specs.declared.line.Kind.{Kind}
 use Rattle.iodef_tree.specs.declared.line.Kind.TheVariants as kind
 
 -- a line with its path and its parent's path
-pub record Entry : Type 0 where
+pub record LocatedLine : Type 0 where
   pub parent : Tokens
   pub path : Tokens
   pub line : Line
 
-abbrev pub is_one_less_deep : ℕ → Entry → Bool
+abbrev pub is_one_less_deep : ℕ → LocatedLine → Bool
 is_one_less_deep depth e = suc e.line.depth == depth
 
 -- Of the lines before, the newest first: the parent's path. The parent is the last that is one less deep, else the root.
-abbrev pub parent_path : List Entry → ℕ → Tokens
+abbrev pub parent_path : List LocatedLine → ℕ → Tokens
 parent_path before depth = option_map_or (λ e. e.path) (find (is_one_less_deep depth) before) []
 
-abbrev pub is_like : ℕ → Bytes → Entry → Bool
+abbrev pub is_like : ℕ → Bytes → LocatedLine → Bool
 is_like depth name e = (e.line.depth == depth) && bytes_eq e.line.name name
 
 -- the place in an array: how many lines since the parent have this depth, so the same parent, and this name
-abbrev pub place_among : List Entry → ℕ → Bytes → ℕ
+abbrev pub place_among : List LocatedLine → ℕ → Bytes → ℕ
 place_among before depth name = count_by (is_like depth name) (before_first (is_one_less_deep depth) before)
 
-abbrev pub entry_at : Tokens → Option ℕ → Line → Entry
+abbrev pub entry_at : Tokens → Option ℕ → Line → LocatedLine
 entry_at parent place l = record { parent = parent; path = parent ++ steps l.name place; line = l }
 
 -- a line behind those before it
-abbrev pub placed : List Entry → Line → Entry
+abbrev pub placed : List LocatedLine → Line → LocatedLine
 placed before l = entry_at (parent_path before l.depth) (place_of l.in_array (place_among before l.depth l.name)) l
 
-abbrev pub located_after : List Entry → List Line → List Entry
+abbrev pub located_after : List LocatedLine → List Line → List LocatedLine
 located_after before [] = []
 located_after before (l ∷ ls) = let e = placed before l in e ∷ located_after (e ∷ before) ls
 
 -- the lines of an outline, each with its path and its parent's path
-abbrev pub located : List Line → List Entry
+abbrev pub located : List Line → List LocatedLine
 located ls = located_after [] ls
 
 abbrev pub is_class_kind : Kind → Bool
@@ -49,28 +49,28 @@ is_class_kind kind.Class = true
 is_class_kind kind.Text = false
 is_class_kind kind.Value = false
 
-abbrev pub is_class : Entry → Bool
+abbrev pub is_class : LocatedLine → Bool
 is_class e = is_class_kind e.line.kind
 
 -- the paths of the classes, in stored order
-abbrev pub class_paths : List Entry → List Tokens
+abbrev pub class_paths : List LocatedLine → List Tokens
 class_paths es = map (λ e. e.path) (filter is_class es)
 
 abbrev pub classes_of : List Line → List Tokens
 classes_of ls = class_paths (located ls)
 
 -- whether there is a class at this path
-abbrev pub has_class : List Entry → Tokens → Bool
+abbrev pub has_class : List LocatedLine → Tokens → Bool
 has_class es p = list_any (λ e. is_class e && same_path e.path p) es
 
 -- all lines below a path
-abbrev pub below : Tokens → List Entry → List Entry
+abbrev pub below : Tokens → List LocatedLine → List LocatedLine
 below p es = filter (λ e. is_under p e.path) es
 
 -- the lines directly in the class at a path, or in the root
-abbrev pub members_at : Tokens → List Entry → List Entry
+abbrev pub members_at : Tokens → List LocatedLine → List LocatedLine
 members_at p es = filter (λ e. same_path e.parent p) es
 
 -- the header: the plain lines of the root
-abbrev pub header_of : List Entry → List Entry
+abbrev pub header_of : List LocatedLine → List LocatedLine
 header_of es = filter (λ e. is_root e.parent && not (is_class e)) es

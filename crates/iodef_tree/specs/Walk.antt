@@ -2,26 +2,26 @@
 use Rattle.std.specs.Prelude.{◌≡◌, ℕ, suc, List, [], ◌∷◌, ◌++◌, Option}
 use Rattle.iodef_tree.specs.Text.{Bytes, Tokens}
 use Rattle.iodef_tree.specs.Tree.{Leaf, Forest, end, leaf, branch, steps, leaf_line, class_line}
-use Rattle.iodef_tree.specs.Paths.{Entry, entry_at, below}
+use Rattle.iodef_tree.specs.Paths.{LocatedLine, entry_at, below}
 
-abbrev pub leaf_entry : ℕ → Tokens → Leaf → Entry
+abbrev pub leaf_entry : ℕ → Tokens → Leaf → LocatedLine
 leaf_entry d p i = entry_at p i.place (leaf_line d i)
 
-abbrev pub class_entry : ℕ → Tokens → Bytes → Option ℕ → Entry
+abbrev pub class_entry : ℕ → Tokens → Bytes → Option ℕ → LocatedLine
 class_entry d p name place = entry_at p place (class_line d name place)
 
 -- the members of the class at p and all below them
-abbrev pub walk : ℕ → Tokens → Forest → List Entry
+abbrev pub walk : ℕ → Tokens → Forest → List LocatedLine
 walk d p end = []
 walk d p (leaf i rest) = leaf_entry d p i ∷ walk d p rest
 walk d p (branch name place kids rest) = class_entry d p name place ∷ (walk (suc d) (p ++ steps name place) kids ++ walk d p rest)
 
 -- the lines below the path are those of these members
-abbrev pub IsBlock : Tokens → List Entry → Forest → Type 0
+abbrev pub IsBlock : Tokens → List LocatedLine → Forest → Type 0
 IsBlock p es f = (d : ℕ) × (below p es ≡ walk d p f)
 
 -- at each class of a tree that stands below p, the lines below its path are those of its members
-abbrev pub AreBlocks : List Entry → ℕ → Tokens → Forest → Type 0
+abbrev pub AreBlocks : List LocatedLine → ℕ → Tokens → Forest → Type 0
 AreBlocks es d p end = Unit {0}
 AreBlocks es d p (leaf i rest) = AreBlocks es d p rest
 AreBlocks es d p (branch name place kids rest) =

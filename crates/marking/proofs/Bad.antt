@@ -8,7 +8,7 @@ use Rattle.std.proofs.lemmas.List.Folds.{find-append}
 use Rattle.std.proofs.lemmas.Bool.{cond-false}
 use Rattle.iodef_tree.specs.Text.{Tokens}
 use Rattle.iodef_tree.specs.Tree.{Content, text, value, Forest, end, leaf, branch, steps, lines, kind_of}
-use Rattle.iodef_tree.specs.Paths.{Entry, is_class_kind, is_class, class_paths, located}
+use Rattle.iodef_tree.specs.Paths.{LocatedLine, is_class_kind, is_class, class_paths, located}
 use Rattle.iodef_tree.specs.Sound.{IsSound}
 use Rattle.iodef_tree.specs.Walk.{walk, leaf_entry, AreBlocks}
 use Rattle.iodef_tree.proofs.Located.{located-lines}
@@ -22,12 +22,12 @@ pub no_class-kind : (c : Content) → is_class_kind (kind_of c) ≡ false
 no_class-kind (text s) = refl
 no_class-kind (value s) = refl
 
-pub class_paths-leaf : (qs : List Entry) (e : Entry) → is_class e ≡ false → class_paths (e ∷ qs) ≡ class_paths qs
-class_paths-leaf qs e h = ap (map (λ (x : Entry). x.path)) (cond-false (is_class e) (e ∷ filter is_class qs) (filter is_class qs) h)
+pub class_paths-leaf : (qs : List LocatedLine) (e : LocatedLine) → is_class e ≡ false → class_paths (e ∷ qs) ≡ class_paths qs
+class_paths-leaf qs e h = ap (map (λ (x : LocatedLine). x.path)) (cond-false (is_class e) (e ∷ filter is_class qs) (filter is_class qs) h)
 
-pub class_paths-append : (xs ys : List Entry) → class_paths (xs ++ ys) ≡ class_paths xs ++ class_paths ys
+pub class_paths-append : (xs ys : List LocatedLine) → class_paths (xs ++ ys) ≡ class_paths xs ++ class_paths ys
 class_paths-append xs ys =
-    ap (map (λ (x : Entry). x.path)) (filter-append is_class xs ys) ∙ map-append (λ (x : Entry). x.path) (filter is_class xs) (filter is_class ys)
+    ap (map (λ (x : LocatedLine). x.path)) (filter-append is_class xs ys) ∙ map-append (λ (x : LocatedLine). x.path) (filter is_class xs) (filter is_class ys)
 
 join : (p s : Tokens) (b : Bool) (kids rest : Option Tokens) →
     cond (not b) (Some (p ++ s)) (option_or (option_map (λ t. (p ++ s) ++ t) kids) (option_map (λ t. p ++ t) rest))
@@ -36,7 +36,7 @@ join p s true None rest = refl
 join p s true (Some t) rest = ap Some (append_assoc p s t)
 join p s false kids rest = ap (λ z. Some (p ++ z)) (sym (append-nil s))
 
-module _ (es : List Entry) (under : AreUnderParents es) where
+module _ (es : List LocatedLine) (under : AreUnderParents es) where
   bad-walk : (f : Forest) (d : ℕ) (p : Tokens) → AreBlocks es d p f →
       find (λ q. not (is_well_marked es q)) (class_paths (walk d p f)) ≡ option_map (λ t. p ++ t) (bad_below f)
   bad-walk end d p b = refl

@@ -6,7 +6,7 @@ use Rattle.std.proofs.lemmas.Bool.{cond-false, true≢false}
 use Rattle.std.proofs.lemmas.List.{map-append, reverse-append}
 use Rattle.iodef_tree.specs.Text.{Bytes, Tokens, same_path, is_root, prefixes}
 use Rattle.iodef_tree.specs.Tree.{Forest}
-use Rattle.iodef_tree.specs.Paths.{Entry, has_class}
+use Rattle.iodef_tree.specs.Paths.{LocatedLine, has_class}
 use Rattle.iodef_tree.specs.Walk.{IsBlock}
 use Rattle.marking.specs.Label.{private}
 use Rattle.marking.specs.Marks.{incident_path, written_label, own_label, has_own_label, site_of}
@@ -19,7 +19,7 @@ and-true : (b t : Bool) → t ≡ true → b ≡ (b && t)
 and-true true t h = sym h
 and-true false t h = refl
 
-pub own-class : (es : List Entry) (p : Tokens) (kids : Forest) → AreUnderParents es → IsBlock p es kids → (is_root p || has_class es p) ≡ true → own_in p kids ≡ own_label es p
+pub own-class : (es : List LocatedLine) (p : Tokens) (kids : Forest) → AreUnderParents es → IsBlock p es kids → (is_root p || has_class es p) ≡ true → own_in p kids ≡ own_label es p
 own-class es [] kids under block there = ap (λ w. option_or w (Some private)) (sym (root-written es under))
 own-class es (x ∷ p) kids under block there =
     let q = x ∷ p in
@@ -35,7 +35,7 @@ prefixes-last (x ∷ p) =
     let r = prefixes-last p in
     ([] ∷ map (λ q. x ∷ q) r.0, ap (λ qs. [] ∷ qs) (ap (map (λ q. x ∷ q)) r.1 ∙ map-append (λ q. x ∷ q) r.0 (p ∷ [])))
 
-pub site-self : (es : List Entry) (p : Tokens) → has_own_label es p ≡ true → site_of es p ≡ p
+pub site-self : (es : List LocatedLine) (p : Tokens) → has_own_label es p ≡ true → site_of es p ≡ p
 site-self es p own =
     let r = prefixes-last p in
     ap (λ qs. unwrap_or (find (has_own_label es) (reverse qs)) []) r.1
@@ -55,11 +55,11 @@ pub root-apart : (p : Tokens) → is_root p ≡ false → (n : ℕ) × (length p
 root-apart [] h = absurd (true≢false h)
 root-apart (x ∷ p) h = (length p, refl)
 
-pub not_at_root : (es : List Entry) (p : Tokens) → has_own_label es p ≡ false → is_root p ≡ false
+pub not_at_root : (es : List LocatedLine) (p : Tokens) → has_own_label es p ≡ false → is_root p ≡ false
 not_at_root es [] h = absurd (true≢false (sym (root-own es) ∙ h))
 not_at_root es (x ∷ p) h = refl
 
-site-front : (es : List Entry) (p : Tokens) (n : ℕ) → length p ≡ suc n → has_own_label es p ≡ false → site_of es p ≡ site_of es (take n p)
+site-front : (es : List LocatedLine) (p : Tokens) (n : ℕ) → length p ≡ suc n → has_own_label es p ≡ false → site_of es p ≡ site_of es (take n p)
 site-front es p n len none =
     let r = last-apart p n len in
     let front = take n p in
@@ -67,7 +67,7 @@ site-front es p n len none =
     ∙ site-push es front r.0
     ∙ cond-false (has_own_label es (front ++ r.0 ∷ [])) (front ++ r.0 ∷ []) (site_of es front) (ap (has_own_label es) (sym r.1) ∙ none)
 
-pub site-up : (es : List Entry) (p : Tokens) → has_own_label es p ≡ false → site_of es p ≡ site_of es (take (length p - 1) p)
+pub site-up : (es : List LocatedLine) (p : Tokens) → has_own_label es p ≡ false → site_of es p ≡ site_of es (take (length p - 1) p)
 site-up es p none =
     let r = root-apart p (not_at_root es p none) in
     let n : r.0 ≡ length p - 1 = omega (arith, r.1) in

@@ -7,7 +7,7 @@ use Rattle.std.proofs.lemmas.Bool.{cond-true, cond-false, and_left, and_right, o
 use Rattle.std.proofs.lemmas.List.Folds.{list_any-append}
 use Rattle.iodef_tree.specs.Text.{Bytes, Tokens, same_path, is_under}
 use Rattle.iodef_tree.specs.Tree.{Forest, end, leaf, branch, steps, lines}
-use Rattle.iodef_tree.specs.Paths.{Entry, is_class, has_class, below, located}
+use Rattle.iodef_tree.specs.Paths.{LocatedLine, is_class, has_class, below, located}
 use Rattle.iodef_tree.specs.Sound.{IsSound}
 use Rattle.iodef_tree.specs.Walk.{walk, leaf_entry, class_entry, AreBlocks}
 use Rattle.iodef_tree.specs.Laws.{AllSiblings, AreApart, HasApart}
@@ -18,7 +18,7 @@ use Rattle.iodef_tree.proofs.Order.{same_path-refl, same_path-true, same_path-co
 use Rattle.iodef_tree.proofs.Siblings.{siblings-map, walk-all}
 
 -- of the classes of a tree that stands below p
-abbrev pub ArePlaced : List Entry → Tokens → Forest → Type 0
+abbrev pub ArePlaced : List LocatedLine → Tokens → Forest → Type 0
 ArePlaced es p end = Unit {0}
 ArePlaced es p (leaf i rest) = ArePlaced es p rest
 ArePlaced es p (branch n o kids rest) =
@@ -68,12 +68,12 @@ array-name (branch m o kids rest) n a (inr i) = ((λ e. element-name rest m n o 
 
 -- ---- no class is at the path of an array
 
-pub no_class : (es : List Entry) (r : Tokens) → AllByRecursion (λ (e : Entry). same_path e.path r ≡ false) es → has_class es r ≡ false
+pub no_class : (es : List LocatedLine) (r : Tokens) → AllByRecursion (λ (e : LocatedLine). same_path e.path r ≡ false) es → has_class es r ≡ false
 no_class [] r h = refl
 no_class (e ∷ es) r h =
     or_from (is_class e && same_path e.path r) (has_class es r) (and_right (is_class e) (same_path e.path r) h.0) (no_class es r h.1)
 
-has_class-below : (es : List Entry) (p r : Tokens) → is_under p r ≡ true → has_class es r ≡ has_class (below p es) r
+has_class-below : (es : List LocatedLine) (p r : Tokens) → is_under p r ≡ true → has_class es r ≡ has_class (below p es) r
 has_class-below [] p r h = refl
 has_class-below (e ∷ es) p r h = by_cases (is_under p e.path) refl (has_class-below es p r h)
   where
@@ -91,7 +91,7 @@ not_alone : (m n : Bytes) (o : Option ℕ) (z : Tokens) → IsArrayName n m o �
 not_alone m n None z h = and_left (bytes_eq m n) _ (h refl)
 not_alone m n (Some k) z h = and_right (bytes_eq m n) _ refl
 
-array-path : (es : List Entry) (d : ℕ) (p : Tokens) (F : Forest) (n : Bytes) → below p es ≡ walk d p F → AllSiblings (IsArrayName n) F → has_class es (p ++ n ∷ []) ≡ false
+array-path : (es : List LocatedLine) (d : ℕ) (p : Tokens) (F : Forest) (n : Bytes) → below p es ≡ walk d p F → AllSiblings (IsArrayName n) F → has_class es (p ++ n ∷ []) ≡ false
 array-path es d p F n block names =
     let r = p ++ n ∷ [] in
     has_class-below es p r (is_under-steps p n None [])
@@ -103,8 +103,8 @@ array-path es d p F n block names =
 
 -- ---- all of this, down the tree
 
-module _ (es : List Entry) where
-  placed-in : (f : Forest) (d : ℕ) (p : Tokens) (F : Forest) → ((t : Entry → Bool) → list_any t (walk d p f) ≡ true → list_any t es ≡ true) → HasApart f → AreBlocks es d p f →
+module _ (es : List LocatedLine) where
+  placed-in : (f : Forest) (d : ℕ) (p : Tokens) (F : Forest) → ((t : LocatedLine → Bool) → list_any t (walk d p f) ≡ true → list_any t es ≡ true) → HasApart f → AreBlocks es d p f →
       below p es ≡ walk d p F → ((n : Bytes) → IsElement n f → AllSiblings (IsArrayName n) F) → ArePlaced es p f
   placed-in end d p F part apart b block arrays = tt
   placed-in (leaf i rest) d p F part apart b block arrays =
@@ -114,7 +114,7 @@ module _ (es : List Entry) where
       let e = class_entry d p n o in
       let K = walk (suc d) q kids in
       let R = walk d p rest in
-      let inner = λ (t : Entry → Bool) (h : (list_any t K || list_any t R) ≡ true). part t (or_right (t e) (list_any t (K ++ R)) (list_any-append t K R ∙ h)) in (
+      let inner = λ (t : LocatedLine → Bool) (h : (list_any t K || list_any t R) ≡ true). part t (or_right (t e) (list_any t (K ++ R)) (list_any-append t K R ∙ h)) in (
         part (λ x. is_class x && same_path x.path q) (or_left (same_path q q) _ (same_path-refl q)),
         (λ s. array-path es d p F n block (arrays n (inl (refl, s)))),
         placed-in kids (suc d) q kids (λ t h. inner t (or_left (list_any t K) (list_any t R) h)) apart.1 b.1 b.0 (λ m i. array-name kids m apart.1 i),

@@ -6,7 +6,7 @@ use Rattle.std.proofs.lemmas.Bool.{cond-true, cond-false, false≢true}
 use Rattle.std.proofs.lemmas.List.{map-append, reverse-append}
 use Rattle.iodef_tree.specs.Text.{Bytes, Tokens, prefixes}
 use Rattle.iodef_tree.specs.Tree.{steps}
-use Rattle.iodef_tree.specs.Paths.{Entry}
+use Rattle.iodef_tree.specs.Paths.{LocatedLine}
 use Rattle.marking.specs.Label.{Marking, private}
 use Rattle.marking.specs.Marks.{own_label, has_own_label, written_label, site_of, label_at}
 
@@ -34,11 +34,11 @@ unwrapped : (o : Option Marking) → is_some o ≡ true → o ≡ Some (unwrap_o
 unwrapped None h = absurd (false≢true h)
 unwrapped (Some l) h = refl
 
-pub root-own : (es : List Entry) → has_own_label es [] ≡ true
+pub root-own : (es : List LocatedLine) → has_own_label es [] ≡ true
 root-own es = some-or (written_label es [])
 
 -- the label that holds is the own label of the site
-pub site-own : (es : List Entry) (p : Tokens) → own_label es (site_of es p) ≡ Some (label_at es p)
+pub site-own : (es : List LocatedLine) (p : Tokens) → own_label es (site_of es p) ≡ Some (label_at es p)
 site-own es p = unwrapped (own_label es (site_of es p)) (found-passes (has_own_label es) (reverse (prefixes p)) [] (root-own es))
 
 -- ---- one token further
@@ -47,7 +47,7 @@ choose : (b : Bool) (q d : Tokens) (o : Option Tokens) → unwrap_or (cond b (So
 choose true q d o = refl
 choose false q d o = refl
 
-pub site-push : (es : List Entry) (p : Tokens) (x : Bytes) → site_of es (p ++ x ∷ []) ≡ cond (has_own_label es (p ++ x ∷ [])) (p ++ x ∷ []) (site_of es p)
+pub site-push : (es : List LocatedLine) (p : Tokens) (x : Bytes) → site_of es (p ++ x ∷ []) ≡ cond (has_own_label es (p ++ x ∷ [])) (p ++ x ∷ []) (site_of es p)
 site-push es p x =
     let q = p ++ x ∷ [] in
     ap (λ qs. unwrap_or (find (has_own_label es) (reverse qs)) []) (prefixes-push p x)
@@ -57,7 +57,7 @@ site-push es p x =
 -- ---- one step further
 
 -- The site below: the class itself where it has an own label, else the one above. The path of an array is no site.
-pub site-steps : (es : List Entry) (p : Tokens) (n : Bytes) (o : Option ℕ) → (is_some o ≡ true → own_label es (p ++ n ∷ []) ≡ None) →
+pub site-steps : (es : List LocatedLine) (p : Tokens) (n : Bytes) (o : Option ℕ) → (is_some o ≡ true → own_label es (p ++ n ∷ []) ≡ None) →
     site_of es (p ++ steps n o) ≡ cond (has_own_label es (p ++ steps n o)) (p ++ steps n o) (site_of es p)
 site-steps es p n None array = site-push es p n
 site-steps es p n (Some k) array =
@@ -70,13 +70,13 @@ site-steps es p n (Some k) array =
     (site-push es p n ∙ cond-false (has_own_label es r) r (site_of es p) (ap is_some (array refl)))
     ∙ ap (λ z. cond (has_own_label es z) z (site_of es p)) same
 
-label-choose : (es : List Entry) (p q : Tokens) (own : Option Marking) → own_label es q ≡ own → site_of es q ≡ cond (has_own_label es q) q (site_of es p) →
+label-choose : (es : List LocatedLine) (p q : Tokens) (own : Option Marking) → own_label es q ≡ own → site_of es q ≡ cond (has_own_label es q) q (site_of es p) →
     label_at es q ≡ unwrap_or own (label_at es p)
 label-choose es p q None e s =
     ap (λ r. unwrap_or (own_label es r) private) (s ∙ cond-false (has_own_label es q) q (site_of es p) (ap is_some e))
 label-choose es p q (Some l) e s =
     ap (λ r. unwrap_or (own_label es r) private) (s ∙ cond-true (has_own_label es q) q (site_of es p) (ap is_some e)) ∙ ap (λ o. unwrap_or o private) e
 
-pub label-steps : (es : List Entry) (p : Tokens) (n : Bytes) (o : Option ℕ) → (is_some o ≡ true → own_label es (p ++ n ∷ []) ≡ None) →
+pub label-steps : (es : List LocatedLine) (p : Tokens) (n : Bytes) (o : Option ℕ) → (is_some o ≡ true → own_label es (p ++ n ∷ []) ≡ None) →
     label_at es (p ++ steps n o) ≡ unwrap_or (own_label es (p ++ steps n o)) (label_at es p)
 label-steps es p n o array = label-choose es p (p ++ steps n o) (own_label es (p ++ steps n o)) refl (site-steps es p n o array)

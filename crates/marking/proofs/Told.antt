@@ -10,7 +10,7 @@ use Rattle.std.proofs.lemmas.List.Concat.{flat_map-append}
 use Rattle.std.specs.Str.{byte}
 use Rattle.iodef_tree.specs.Text.{Bytes, Tokens, same_path, is_root, is_under}
 use Rattle.iodef_tree.specs.Tree.{Forest, end, leaf, branch, steps, lines}
-use Rattle.iodef_tree.specs.Paths.{Entry, has_class, class_paths, located}
+use Rattle.iodef_tree.specs.Paths.{LocatedLine, has_class, class_paths, located}
 use Rattle.iodef_tree.specs.Pointer.{pointer_text, escaped}
 use Rattle.iodef_tree.specs.Sound.{IsSound}
 use Rattle.iodef_tree.specs.Walk.{walk, leaf_entry, AreBlocks}
@@ -79,10 +79,10 @@ incident-steps (x ∷ y ∷ p) n o =
 -- ---- one step
 
 -- what the definitions say at a path, as a pass inherits it
-abbrev pub inherited_at : List Entry → Tokens → Inherited
+abbrev pub inherited_at : List LocatedLine → Tokens → Inherited
 inherited_at es p = record { told = told_at es p; spot = spot_at p }
 
-own-steps : (es : List Entry) (p : Tokens) (n : Bytes) (o : Option ℕ) (kids : Forest) → has_class es (p ++ steps n o) ≡ true → written_label es (p ++ steps n o) ≡ spelled_in kids →
+own-steps : (es : List LocatedLine) (p : Tokens) (n : Bytes) (o : Option ℕ) (kids : Forest) → has_class es (p ++ steps n o) ≡ true → written_label es (p ++ steps n o) ≡ spelled_in kids →
     own_below (spot_at p) n o kids ≡ own_label es (p ++ steps n o)
 own-steps es p n o kids there written =
     let q = p ++ steps n o in
@@ -102,7 +102,7 @@ choose-pointer true q s = refl
 choose-pointer false q s = refl
 
 -- one step down, a pass inherits what the definitions say there
-pub enter-at : (es : List Entry) (p : Tokens) (n : Bytes) (o : Option ℕ) (kids : Forest) → has_class es (p ++ steps n o) ≡ true → written_label es (p ++ steps n o) ≡ spelled_in kids →
+pub enter-at : (es : List LocatedLine) (p : Tokens) (n : Bytes) (o : Option ℕ) (kids : Forest) → has_class es (p ++ steps n o) ≡ true → written_label es (p ++ steps n o) ≡ spelled_in kids →
     (is_some o ≡ true → own_label es (p ++ n ∷ []) ≡ None) → enter (inherited_at es p) n o kids ≡ inherited_at es (p ++ steps n o)
 enter-at es p n o kids there written array =
     let q = p ++ steps n o in
@@ -120,7 +120,7 @@ enter-at es p n o kids there written array =
 
 -- ---- down the tree
 
-module _ (es : List Entry) (under : AreUnderParents es) where
+module _ (es : List LocatedLine) (under : AreUnderParents es) where
   told-walk : (f : Forest) (d : ℕ) (p : Tokens) → AreBlocks es d p f → ArePlaced es p f → told_below (inherited_at es p) f ≡ map (told_at es) (class_paths (walk d p f))
   told-walk end d p b placed = refl
   told-walk (leaf i rest) d p b placed =
@@ -143,22 +143,22 @@ below-is_no_root [] [] h = absurd (false≢true h)
 below-is_no_root (x ∷ q) [] h = absurd (false≢true h)
 below-is_no_root q (y ∷ p) h = refl
 
-none-at_root : (es : List Entry) → AreUnderParents es → AllByRecursion (λ (e : Entry). same_path e.path [] ≡ false) es
+none-at_root : (es : List LocatedLine) → AreUnderParents es → AllByRecursion (λ (e : LocatedLine). same_path e.path [] ≡ false) es
 none-at_root [] h = tt
 none-at_root (e ∷ es) h = (below-is_no_root e.parent e.path h.0, none-at_root es h.1)
 
 -- nothing is written in the root
-pub root-written : (es : List Entry) → AreUnderParents es → written_label es [] ≡ None
+pub root-written : (es : List LocatedLine) → AreUnderParents es → written_label es [] ≡ None
 root-written es h = written-none es [] (no_class es [] (none-at_root es h))
 
-pub root-site : (es : List Entry) → site_of es [] ≡ []
+pub root-site : (es : List LocatedLine) → site_of es [] ≡ []
 root-site es = by_test (has_own_label es [])
   where
     by_test : (b : Bool) → unwrap_or {T = Tokens} (cond b (Some []) None) [] ≡ []
     by_test true = refl
     by_test false = refl
 
-pub root-label : (es : List Entry) → AreUnderParents es → label_at es [] ≡ private
+pub root-label : (es : List LocatedLine) → AreUnderParents es → label_at es [] ≡ private
 root-label es h =
     ap (λ p. unwrap_or (own_label es p) private) (root-site es) ∙ ap (λ o. unwrap_or (option_or o (Some private)) private) (root-written es h)
 

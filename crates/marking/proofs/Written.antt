@@ -8,7 +8,7 @@ use Rattle.std.proofs.lemmas.Bool.{cond-true, cond-false, and_left, and_right, t
 use Rattle.std.proofs.lemmas.List.Folds.{find-append}
 use Rattle.iodef_tree.specs.Text.{Bytes, Tokens, same_path, is_root, is_under}
 use Rattle.iodef_tree.specs.Tree.{Forest, end, leaf, branch, steps}
-use Rattle.iodef_tree.specs.Paths.{Entry, has_class, below}
+use Rattle.iodef_tree.specs.Paths.{LocatedLine, has_class, below}
 use Rattle.iodef_tree.specs.Walk.{walk, leaf_entry, class_entry}
 use Rattle.iodef_tree.proofs.Order.{same_path-refl, same_path-true, same_path-longer, is_false}
 use Rattle.marking.specs.Label.{private}
@@ -16,12 +16,12 @@ use Rattle.marking.specs.Marks.{absent, other, held_by_line, is_member, held_at,
 use Rattle.marking.specs.Members.{held_in, spelled_in, is_rule_kept_in}
 
 -- each entry stands below its parent
-abbrev pub AreUnderParents : List Entry → Type 0
-AreUnderParents es = AllByRecursion (λ (e : Entry). is_under e.parent e.path ≡ true) es
+abbrev pub AreUnderParents : List LocatedLine → Type 0
+AreUnderParents es = AllByRecursion (λ (e : LocatedLine). is_under e.parent e.path ≡ true) es
 
 -- ---- the lines directly in a class are among those below its path
 
-find-below : (es : List Entry) (q : Tokens) (name : Bytes) → AreUnderParents es → find (is_member q name) es ≡ find (is_member q name) (below q es)
+find-below : (es : List LocatedLine) (q : Tokens) (name : Bytes) → AreUnderParents es → find (is_member q name) es ≡ find (is_member q name) (below q es)
 find-below [] q name h = refl
 find-below (e ∷ es) q name h = by_cases (is_under q e.path) refl (find-below es q name h.1)
   where
@@ -56,8 +56,8 @@ no-member (branch n o kids rest) d p q name h =
 same_path-sym : (p q : Tokens) → same_path p q ≡ false → same_path q p ≡ false
 same_path-sym p q h = is_false (same_path q p) (λ same. true≢false (sym (same_path-refl p) ∙ ap (same_path p) (sym (same_path-true q p same)) ∙ h))
 
-first-held : (t : Bool) (e : Entry) (o : Option Entry) → option_map_or (λ (x : Entry). held_by_line x.line) (cond t (Some e) o) absent
-    ≡ cond t (held_by_line e.line) (option_map_or (λ (x : Entry). held_by_line x.line) o absent)
+first-held : (t : Bool) (e : LocatedLine) (o : Option LocatedLine) → option_map_or (λ (x : LocatedLine). held_by_line x.line) (cond t (Some e) o) absent
+    ≡ cond t (held_by_line e.line) (option_map_or (λ (x : LocatedLine). held_by_line x.line) o absent)
 first-held true e o = refl
 first-held false e o = refl
 
@@ -65,12 +65,12 @@ class-held : (d : ℕ) (p : Tokens) (n : Bytes) (o : Option ℕ) → held_by_lin
 class-held d p n None = refl
 class-held d p n (Some k) = refl
 
-held-walk : (f : Forest) (d : ℕ) (q : Tokens) (name : Bytes) → option_map_or (λ (x : Entry). held_by_line x.line) (find (is_member q name) (walk d q f)) absent ≡ held_in name f
+held-walk : (f : Forest) (d : ℕ) (q : Tokens) (name : Bytes) → option_map_or (λ (x : LocatedLine). held_by_line x.line) (find (is_member q name) (walk d q f)) absent ≡ held_in name f
 held-walk end d q name = refl
 held-walk (leaf i rest) d q name =
     let e = leaf_entry d q i in
     let R = find (is_member q name) (walk d q rest) in
-    ap (λ b. option_map_or (λ (x : Entry). held_by_line x.line) (cond (b && bytes_eq i.name name) (Some e) R) absent) (same_path-refl q)
+    ap (λ b. option_map_or (λ (x : LocatedLine). held_by_line x.line) (cond (b && bytes_eq i.name name) (Some e) R) absent) (same_path-refl q)
     ∙ first-held (bytes_eq i.name name) e R
     ∙ ap (λ h. cond (bytes_eq i.name name) (held_by_line e.line) h) (held-walk rest d q name)
 held-walk (branch n o kids rest) d q name =
@@ -80,19 +80,19 @@ held-walk (branch n o kids rest) d q name =
     let R = walk d q rest in
     let none : find (is_member q name) K ≡ None =
     no-member kids (suc d) r q name (λ z. same_path-sym q (r ++ z) (ap (same_path q) (append_assoc q (steps n o) z) ∙ same_path-longer q n o z)) in
-    ap (λ b. option_map_or (λ (x : Entry). held_by_line x.line) (cond (b && bytes_eq n name) (Some e) (find (is_member q name) (K ++ R))) absent) (same_path-refl q)
+    ap (λ b. option_map_or (λ (x : LocatedLine). held_by_line x.line) (cond (b && bytes_eq n name) (Some e) (find (is_member q name) (K ++ R))) absent) (same_path-refl q)
     ∙ first-held (bytes_eq n name) e (find (is_member q name) (K ++ R))
-    ∙ ap (λ h. cond (bytes_eq n name) h (option_map_or (λ (x : Entry). held_by_line x.line) (find (is_member q name) (K ++ R)) absent)) (class-held d q n o)
-    ∙ ap (λ a. cond (bytes_eq n name) other (option_map_or (λ (x : Entry). held_by_line x.line) a absent))
+    ∙ ap (λ h. cond (bytes_eq n name) h (option_map_or (λ (x : LocatedLine). held_by_line x.line) (find (is_member q name) (K ++ R)) absent)) (class-held d q n o)
+    ∙ ap (λ a. cond (bytes_eq n name) other (option_map_or (λ (x : LocatedLine). held_by_line x.line) a absent))
     (find-append (is_member q name) K R ∙ ap (λ a. option_or a (find (is_member q name) R)) none)
     ∙ ap (λ h. cond (bytes_eq n name) other h) (held-walk rest d q name)
 
 -- ---- at a class
 
-module _ (es : List Entry) (d : ℕ) (q : Tokens) (kids : Forest) (under : AreUnderParents es) (block : below q es ≡ walk d q kids) where
+module _ (es : List LocatedLine) (d : ℕ) (q : Tokens) (kids : Forest) (under : AreUnderParents es) (block : below q es ≡ walk d q kids) where
   pub held-block : (name : Bytes) → held_at es q name ≡ held_in name kids
   held-block name =
-      ap (λ o. option_map_or (λ (x : Entry). held_by_line x.line) o absent) (find-below es q name under ∙ ap (find (is_member q name)) block)
+      ap (λ o. option_map_or (λ (x : LocatedLine). held_by_line x.line) o absent) (find-below es q name under ∙ ap (find (is_member q name)) block)
       ∙ held-walk kids d q name
 
   pub well_marked-block : is_well_marked es q ≡ is_rule_kept_in kids
@@ -108,10 +108,10 @@ module _ (es : List Entry) (d : ℕ) (q : Tokens) (kids : Forest) (under : AreUn
 
 -- ---- where there is no class
 
-pub written-none : (es : List Entry) (p : Tokens) → has_class es p ≡ false → written_label es p ≡ None
+pub written-none : (es : List LocatedLine) (p : Tokens) → has_class es p ≡ false → written_label es p ≡ None
 written-none es p h = cond-false (has_class es p) _ None h
 
-pub own-none : (es : List Entry) (p : Tokens) → is_root p ≡ false → has_class es p ≡ false → own_label es p ≡ None
+pub own-none : (es : List LocatedLine) (p : Tokens) → is_root p ≡ false → has_class es p ≡ false → own_label es p ≡ None
 own-none es p r h =
     ap (λ o. option_or o (cond (has_default es p) (Some private) None)) (written-none es p h)
     ∙ cond-false (has_default es p) (Some private) None (ap (λ b. b || (same_path p incident_path && has_class es p)) r ∙ and_right (same_path p incident_path) (has_class es p) h)

@@ -3,7 +3,7 @@ use Rattle.std.specs.Prelude.{◌≡◌, true, false, ◌||◌, List, if◌then�
 use Rattle.std.specs.Option.{option_or}
 use Rattle.iodef_tree.specs.Text.{Tokens, same_path, is_root}
 use Rattle.iodef_tree.specs.Tree.{Forest}
-use Rattle.iodef_tree.specs.Paths.{Entry, has_class}
+use Rattle.iodef_tree.specs.Paths.{LocatedLine, has_class}
 use Rattle.iodef_tree.specs.declared.path.Path.{Path}
 use Rattle.marking.specs.Label.{Marking, private, marking_of}
 use Rattle.marking.specs.Marks.{incident_path, site_of, label_at}
@@ -14,7 +14,7 @@ use Rattle.marking.specs.declared.label.Label.{Label}
 
 -- The site of the path with the label that holds there; NoClass exactly where the path is neither a class's nor the
 -- root's. Want of memory may stand in the place of both.
-abbrev pub Sites : Result (Path × Label) SiteFault → List Entry → Tokens → Type 0
+abbrev pub Sites : Result (Path × Label) SiteFault → List LocatedLine → Tokens → Type 0
 Sites (Ok s) es p = ((is_root p || has_class es p) ≡ true) × (s.0 ≡ site_of es p) × (marking_of s.1 ≡ label_at es p)
 Sites (Err NoClass) es p = (is_root p || has_class es p) ≡ false
 Sites (Err NoMemory) es p = Unit {0}

@@ -5,7 +5,7 @@ use Rattle.std.specs.List.{filter_map, flat_map, list_any}
 use Rattle.std.proofs.lemmas.Bool.{and_parts, and_from, false≢true}
 use Rattle.std.proofs.lemmas.List.Folds.{Any-from_list_any, list_any-from_Any}
 use Rattle.iodef_tree.specs.Text.{Tokens, same_path, is_prefix, prefixes}
-use Rattle.iodef_tree.specs.Paths.{Entry}
+use Rattle.iodef_tree.specs.Paths.{LocatedLine}
 use Rattle.marking.specs.Label.{handling_of}
 use Rattle.marking.specs.Marks.{label_at}
 use Rattle.policy.specs.Clearance.{is_at_most, clearance_of}
@@ -26,7 +26,7 @@ use Rattle.policy.specs.declared.gate.Gate.{Gate}
 use Rattle.policy.specs.declared.case.Case.{Case}
 use Rattle.policy.specs.declared.verdict.Verdict.TheVariants.{Shown, Hidden}
 
-pub source-sees : (es : List Entry) (c : Case) (s : Standing) (p : Tokens) → s.source ≡ true → verdict_of es c s p ≡ Shown Src
+pub source-sees : (es : List LocatedLine) (c : Case) (s : Standing) (p : Tokens) → s.source ≡ true → verdict_of es c s p ≡ Shown Src
 source-sees es c s p is =
     ap (λ b. if b || (is_none (refusal_at c s p) && (is_cleared_for s (label_at es p) || is_covered es c s p)) then Shown (if b then Src else if is_cleared_for s (label_at es p) then (clearance_of s).1 else X) else Hidden (hiding_rule es c s p)) is
 
@@ -43,7 +43,7 @@ stays : (a b r r' k k' v v' : Bool) → a ≡ b → (r ≡ true → r' ≡ true)
     (a || (r && (k || v))) ≡ true → (b || (r' && (k' || v'))) ≡ true
 stays a b r r' k k' v v' same gates cleared covered h = grind arith
 
-pub permission-hides : (es : List Entry) (c d : Case) (s : Standing) (p : Tokens) → HasMorePermissions c d →
+pub permission-hides : (es : List LocatedLine) (c d : Case) (s : Standing) (p : Tokens) → HasMorePermissions c d →
     is_visible es c s p ≡ true → is_visible es d s p ≡ true
 permission-hides es c d s p more h =
     stays s.source s.source (is_none (refusal_at c s p)) (is_none (refusal_at d s p)) (is_cleared_for s (label_at es p)) (is_cleared_for s (label_at es p)) (is_covered es c s p) (is_covered es d s p)
@@ -52,7 +52,7 @@ permission-hides es c d s p more h =
     (λ k. k)
     (any-within (covers es s p) c.permissions d.permissions more.permissions) h
 
-pub permission-opens : (es : List Entry) (c d : Case) (s : Standing) (p : Tokens) (r : Rule) → HasMorePermissions c d →
+pub permission-opens : (es : List LocatedLine) (c d : Case) (s : Standing) (p : Tokens) (r : Rule) → HasMorePermissions c d →
     s.source ≡ false → refusal_at c s p ≡ Some r → verdict_of es d s p ≡ Hidden r
 permission-opens es c d s p r more other is =
     let same : refusal_at d s p ≡ Some r =
@@ -117,7 +117,7 @@ includes-raised s t up (Org n) = ap (λ k. k == n) up.org
 includes-raised s t up (Community n) = ap (is_among n) up.communities
 includes-raised s t up (Group n) = ap (is_among n) up.active_groups
 
-pub visible-raised : (es : List Entry) (c : Case) (s t : Standing) (p : Tokens) → IsRaised s t →
+pub visible-raised : (es : List LocatedLine) (c : Case) (s t : Standing) (p : Tokens) → IsRaised s t →
     is_visible es c s p ≡ true → is_visible es c t p ≡ true
 visible-raised es c s t p up h =
     let l = label_at es p in
@@ -128,7 +128,7 @@ visible-raised es c s t p up h =
     (λ v. any_same (covers es t p) (covers es s p) (λ x. ap (λ b. b && reaches es x.path p) (sym (includes-raised s t up x.grantee))) c.permissions ∙ v)
     h
 
-pub visible-passes : (es : List Entry) (c : Case) (s : Standing) (p : Tokens) → s.source ≡ false → is_visible es c s p ≡ true →
+pub visible-passes : (es : List LocatedLine) (c : Case) (s : Standing) (p : Tokens) → s.source ≡ false → is_visible es c s p ≡ true →
     All (λ g. is_prefix g.path p ≡ true → passage_of s g ≡ None) c.gates
 visible-passes es c s p other h =
     passes-all c s p (unrefused (refusal_at c s p) (is_cleared_for s (label_at es p) || is_covered es c s p)

@@ -9,7 +9,7 @@ use Rattle.std.proofs.lemmas.List.{append-nil, map-append, reverse-append}
 use Rattle.std.proofs.lemmas.List.Concat.{flat_map-append}
 use Rattle.std.proofs.lemmas.List.Folds.{list_all-append, list_all-map}
 use Rattle.iodef_tree.specs.Text.{Bytes, Tokens, same_path, is_root, is_prefix, prefixes}
-use Rattle.iodef_tree.specs.Paths.{Entry, has_class}
+use Rattle.iodef_tree.specs.Paths.{LocatedLine, has_class}
 use Rattle.iodef_tree.proofs.Order.{same_path-true}
 use Rattle.marking.specs.Label.{Marking, private}
 use Rattle.marking.specs.Marks.{written_label, incident_path, has_default, own_label, has_own_label, label_at}
@@ -39,7 +39,7 @@ refusal_at-push c s p x =
     ∙ ap (λ ys. flat_map (refusals_at c s) (prefixes p) ++ ys) (append-nil (refusals_at c s (p ++ x ∷ []))))
     ∙ first_of-append (flat_map (refusals_at c s) (prefixes p)) (refusals_at c s (p ++ x ∷ []))
 
-by_own : (es : List Entry) (p q : Tokens) (o : Option Marking) → own_label es q ≡ o →
+by_own : (es : List LocatedLine) (p q : Tokens) (o : Option Marking) → own_label es q ≡ o →
     unwrap_or (own_label es (unwrap_or (find (has_own_label es) (q ∷ reverse (prefixes p))) [])) private ≡ unwrap_or o (label_at es p)
 by_own es p q None e =
     ap (λ o. unwrap_or (own_label es (unwrap_or (if is_some o then Some q else find (has_own_label es) (reverse (prefixes p))) [])) private) e
@@ -48,7 +48,7 @@ by_own es p q (Some l) e =
     ∙ ap (λ o. unwrap_or o private) e
 
 -- the label one step below: its own, or the one above
-label_at-push : (es : List Entry) (p : Tokens) (x : Bytes) →
+label_at-push : (es : List LocatedLine) (p : Tokens) (x : Bytes) →
     label_at es (p ++ x ∷ []) ≡ unwrap_or (own_label es (p ++ x ∷ [])) (label_at es p)
 label_at-push es p x =
     let q = p ++ x ∷ [] in
@@ -61,7 +61,7 @@ is_root-push [] x = refl
 is_root-push (y ∷ p) x = refl
 
 -- the own label of a class below the root
-own_label-class : (es : List Entry) (p : Tokens) (x : Bytes) (w : Option Marking) →
+own_label-class : (es : List LocatedLine) (p : Tokens) (x : Bytes) (w : Option Marking) →
     has_class es (p ++ x ∷ []) ≡ true → written_label es (p ++ x ∷ []) ≡ w →
     own_label es (p ++ x ∷ []) ≡ option_or w (if same_path (p ++ x ∷ []) incident_path then Some private else None)
 own_label-class es p x w here is =
@@ -75,10 +75,10 @@ own_label-class es p x w here is =
     and_true true = refl
     and_true false = refl
 
-written_label-none : (es : List Entry) (q : Tokens) → has_class es q ≡ false → written_label es q ≡ None
+written_label-none : (es : List LocatedLine) (q : Tokens) → has_class es q ≡ false → written_label es q ≡ None
 written_label-none es q none = search none
 
-own_label-none : (es : List Entry) (p : Tokens) (x : Bytes) → has_class es (p ++ x ∷ []) ≡ false → own_label es (p ++ x ∷ []) ≡ None
+own_label-none : (es : List LocatedLine) (p : Tokens) (x : Bytes) → has_class es (p ++ x ∷ []) ≡ false → own_label es (p ++ x ∷ []) ≡ None
 own_label-none es p x none =
     let q = p ++ x ∷ [] in
     ap (λ o. option_or o (if has_default es q then Some private else None)) (written_label-none es q none)
@@ -118,7 +118,7 @@ not_some None = refl
 not_some (Some l) = refl
 
 -- a permission covers a class that it covers the parent of, unless a label is written there, or where it stands there itself
-covers-push : (es : List Entry) (s : Standing) (p : Tokens) (x : Bytes) (y : Permission) →
+covers-push : (es : List LocatedLine) (s : Standing) (p : Tokens) (x : Bytes) (y : Permission) →
     covers es s (p ++ x ∷ []) y
     ≡ ((covers es s p y && is_none (written_label es (p ++ x ∷ []))) || (holds_for s y && same_path y.path (p ++ x ∷ [])))
 covers-push es s p x y =
@@ -149,7 +149,7 @@ any-split f g h n same (x ∷ xs) =
     spread : (a n b A B : Bool) → (((a && n) || b) || ((A && n) || B)) ≡ (((a || A) && n) || (b || B))
     spread a n b A B = grind arith
 
-is_covered-push : (es : List Entry) (c : Case) (s : Standing) (p : Tokens) (x : Bytes) →
+is_covered-push : (es : List LocatedLine) (c : Case) (s : Standing) (p : Tokens) (x : Bytes) →
     is_covered es c s (p ++ x ∷ []) ≡ ((is_covered es c s p && is_none (written_label es (p ++ x ∷ []))) || is_granted c s (p ++ x ∷ []))
 is_covered-push es c s p x =
     let q = p ++ x ∷ [] in
@@ -161,7 +161,7 @@ pub approach_below-at : (c : Case) (s : Standing) (p : Tokens) (x : Bytes) →
 approach_below-at c s p x = λ i. record { path = p ++ x ∷ []; refusal = sym (refusal_at-push c s p x) i }
 
 -- into a class
-pub enter_class-at : (es : List Entry) (c : Case) (s : Standing) (p : Tokens) (x : Bytes) (w : Option Marking) →
+pub enter_class-at : (es : List LocatedLine) (c : Case) (s : Standing) (p : Tokens) (x : Bytes) (w : Option Marking) →
     has_class es (p ++ x ∷ []) ≡ true → written_label es (p ++ x ∷ []) ≡ w →
     enter_class c s (inherited_at es c s p) x w ≡ inherited_at es c s (p ++ x ∷ [])
 enter_class-at es c s p x w here is =
@@ -173,7 +173,7 @@ enter_class-at es c s p x w here is =
     λ i. record { approach = approach_below-at c s p x i; label = label i; covered = lives i }
 
 -- into an array, at whose own path there is no class
-pub enter_array-at : (es : List Entry) (c : Case) (s : Standing) (p : Tokens) (x : Bytes) → has_class es (p ++ x ∷ []) ≡ false →
+pub enter_array-at : (es : List LocatedLine) (c : Case) (s : Standing) (p : Tokens) (x : Bytes) → has_class es (p ++ x ∷ []) ≡ false →
     enter_array c s (inherited_at es c s p) x ≡ inherited_at es c s (p ++ x ∷ [])
 enter_array-at es c s p x none =
     let q = p ++ x ∷ [] in
@@ -190,14 +190,14 @@ enter_array-at es c s p x none =
     and_with false = refl
 
 -- one token further down, by the longer path
-pub class-below : (es : List Entry) (c : Case) (s : Standing) (p : Tokens) (x : Bytes) (q : Tokens) (h : Inherited) (w : Option Marking) →
+pub class-below : (es : List LocatedLine) (c : Case) (s : Standing) (p : Tokens) (x : Bytes) (q : Tokens) (h : Inherited) (w : Option Marking) →
     q ≡ p ++ x ∷ [] → h ≡ inherited_at es c s p → has_class es q ≡ true → w ≡ written_label es q → class_step c s h q w ≡ inherited_at es c s q
 class-below es c s p x q h w is said here written =
     ap (λ k. class_step c s k q w) said ∙ ap (λ z. class_step c s (inherited_at es c s p) z w) is
     ∙ enter_class-at es c s p x w (ap (has_class es) (sym is) ∙ here) (ap (written_label es) (sym is) ∙ sym written)
     ∙ ap (inherited_at es c s) (sym is)
 
-pub array-below : (es : List Entry) (c : Case) (s : Standing) (p : Tokens) (x : Bytes) (q : Tokens) (h : Inherited) →
+pub array-below : (es : List LocatedLine) (c : Case) (s : Standing) (p : Tokens) (x : Bytes) (q : Tokens) (h : Inherited) →
     q ≡ p ++ x ∷ [] → h ≡ inherited_at es c s p → has_class es q ≡ false → array_step c s h q ≡ inherited_at es c s q
 array-below es c s p x q h is said none =
     ap (λ k. array_step c s k q) said ∙ ap (array_step c s (inherited_at es c s p)) is
@@ -208,7 +208,7 @@ pub any_same : {X : Type 0} (f g : X → Bool) → ((x : X) → f x ≡ g x) →
 any_same f g same [] = refl
 any_same f g same (x ∷ xs) = ap (λ b. b || list_any f xs) (same x) ∙ ap (λ b. g x || b) (any_same f g same xs)
 
-covers-root : (es : List Entry) (s : Standing) (y : Permission) → (holds_for s y && same_path y.path []) ≡ covers es s [] y
+covers-root : (es : List LocatedLine) (s : Standing) (y : Permission) → (holds_for s y && same_path y.path []) ≡ covers es s [] y
 covers-root es s y = by_path y.path
   where
     by_path : (r : Tokens) → (holds_for s y && same_path r []) ≡ (holds_for s y && (is_prefix r [] && list_all (is_unmarked_below es r) (prefixes [])))
@@ -216,7 +216,7 @@ covers-root es s y = by_path y.path
     by_path (x ∷ r) = refl
 
 -- at the root, which is no class
-pub at_root-is : (es : List Entry) (c : Case) (s : Standing) → has_class es [] ≡ false → at_root c s ≡ inherited_at es c s []
+pub at_root-is : (es : List LocatedLine) (c : Case) (s : Standing) → has_class es [] ≡ false → at_root c s ≡ inherited_at es c s []
 at_root-is es c s none =
     let own : own_label es [] ≡ Some private = ap (λ o. option_or o (Some private)) (written_label-none es [] none) in
     let label : private ≡ label_at es [] = sym (

@@ -1,7 +1,7 @@
 -- What `decide` answers.
 use Rattle.std.specs.Prelude.{◌≡◌, List, Option, Some, None, if◌then◌else◌, Result, Ok, Err}
 use Rattle.iodef_tree.specs.Text.{Tokens}
-use Rattle.iodef_tree.specs.Paths.{Entry, has_class}
+use Rattle.iodef_tree.specs.Paths.{LocatedLine, has_class}
 use Rattle.policy.specs.Verdict.{verdict_of}
 use Rattle.policy.specs.declared.standing.Standing.{Standing}
 use Rattle.policy.specs.declared.case.Case.{Case}
@@ -10,7 +10,7 @@ use Rattle.policy.specs.declared.fault.DecideFault.{DecideFault}
 use Rattle.policy.specs.declared.fault.DecideFault.TheVariants.{NoClass, NoMemory}
 
 -- the verdict of a class, and of no other path
-abbrev pub decided_at : List Entry → Case → Standing → Tokens → Option Verdict
+abbrev pub decided_at : List LocatedLine → Case → Standing → Tokens → Option Verdict
 decided_at es c s p = if has_class es p then Some (verdict_of es c s p) else None
 
 -- want of memory may stand in place of any other answer
@@ -19,5 +19,5 @@ Answers (Ok v) decided = decided ≡ Some v
 Answers (Err NoClass) decided = decided ≡ None
 Answers (Err NoMemory) decided = Unit {0}
 
-abbrev pub Decides : Result Verdict DecideFault → List Entry → Case → Standing → Tokens → Type 0
+abbrev pub Decides : Result Verdict DecideFault → List LocatedLine → Case → Standing → Tokens → Type 0
 Decides r es c s p = Answers r (decided_at es c s p)

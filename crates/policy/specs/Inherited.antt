@@ -4,7 +4,7 @@ use Rattle.std.specs.Prelude.{Bool, ◌&&◌, ◌||◌, List, [], ◌∷◌, ◌
 use Rattle.std.specs.Option.{option_or}
 use Rattle.std.specs.List.{list_any}
 use Rattle.iodef_tree.specs.Text.{Bytes, Tokens, same_path}
-use Rattle.iodef_tree.specs.Paths.{Entry}
+use Rattle.iodef_tree.specs.Paths.{LocatedLine}
 use Rattle.marking.specs.Label.{Marking, private, marking_of}
 use Rattle.marking.specs.Marks.{label_at, incident_path}
 use Rattle.policy.specs.Permissions.{holds_for}
@@ -31,7 +31,7 @@ abbrev pub approach_at : Case → Standing → Tokens → Approach
 approach_at c s p = record { path = p; refusal = refusal_at c s p }
 
 -- what the definitions say at a path
-abbrev pub inherited_at : List Entry → Case → Standing → Tokens → Inherited
+abbrev pub inherited_at : List LocatedLine → Case → Standing → Tokens → Inherited
 inherited_at es c s p = record { approach = approach_at c s p; label = label_at es p; covered = is_covered es c s p }
 
 -- a permission stands at this very path and holds for the reader

@@ -1,7 +1,7 @@
 -- The laws of the policy, in its own words.
 use Rattle.std.specs.Prelude.{◌≡◌, ◌≤◌, Bool, true, false, ◌&&◌, List, length, find, Some, None, is_some, All, Contains}
 use Rattle.iodef_tree.specs.Text.{Tokens, is_prefix, same_path}
-use Rattle.iodef_tree.specs.Paths.{Entry}
+use Rattle.iodef_tree.specs.Paths.{LocatedLine}
 use Rattle.marking.specs.Marks.{label_at}
 use Rattle.marking.specs.declared.label.Handling.TheVariants.{Clear}
 use Rattle.policy.specs.Clearance.{is_at_most, clearance_rows, clearance_of}
@@ -16,11 +16,11 @@ use Rattle.policy.specs.declared.verdict.Verdict.TheVariants.{Shown, Hidden}
 
 -- a reader of the source sees every class
 abbrev pub SourceSeesAll : Type 0
-SourceSeesAll = (es : List Entry) (c : Case) (s : Standing) (p : Tokens) → s.source ≡ true → verdict_of es c s p ≡ Shown Src
+SourceSeesAll = (es : List LocatedLine) (c : Case) (s : Standing) (p : Tokens) → s.source ≡ true → verdict_of es c s p ≡ Shown Src
 
 -- whoever else sees a class passes every gate on its path
 abbrev pub VisiblePassesGates : Type 0
-VisiblePassesGates = (es : List Entry) (c : Case) (s : Standing) (p : Tokens) → s.source ≡ false → is_visible es c s p ≡ true →
+VisiblePassesGates = (es : List LocatedLine) (c : Case) (s : Standing) (p : Tokens) → s.source ≡ false → is_visible es c s p ≡ true →
     All (λ g. is_prefix g.path p ≡ true → passage_of s g ≡ None) c.gates
 
 -- a gate of the case refuses the reader on the path
@@ -45,12 +45,12 @@ pub record HasMorePermissions (c d : Case) : Type 0 where
 
 -- adding a permission never hides a class
 abbrev pub PermissionHidesNothing : Type 0
-PermissionHidesNothing = (es : List Entry) (c d : Case) (s : Standing) (p : Tokens) → HasMorePermissions c d →
+PermissionHidesNothing = (es : List LocatedLine) (c d : Case) (s : Standing) (p : Tokens) → HasMorePermissions c d →
     is_visible es c s p ≡ true → is_visible es d s p ≡ true
 
 -- adding a permission opens no gate: whom a gate keeps out, it keeps out by the same rule
 abbrev pub PermissionOpensNoGate : Type 0
-PermissionOpensNoGate = (es : List Entry) (c d : Case) (s : Standing) (p : Tokens) (r : Rule) → HasMorePermissions c d →
+PermissionOpensNoGate = (es : List LocatedLine) (c d : Case) (s : Standing) (p : Tokens) (r : Rule) → HasMorePermissions c d →
     s.source ≡ false → refusal_at c s p ≡ Some r → verdict_of es d s p ≡ Hidden r
 
 -- The second standing is the first, raised: perhaps a recipient, nominated, of an organisation that is addressed, a client
@@ -75,12 +75,12 @@ RaisedIsClearedForMore = (s t : Standing) → IsRaised s t → is_at_most (clear
 
 -- raising the clearance never hides a class
 abbrev pub RaisedSeesNoLess : Type 0
-RaisedSeesNoLess = (es : List Entry) (c : Case) (s t : Standing) (p : Tokens) → IsRaised s t →
+RaisedSeesNoLess = (es : List LocatedLine) (c : Case) (s t : Standing) (p : Tokens) → IsRaised s t →
     is_visible es c s p ≡ true → is_visible es c t p ≡ true
 
 -- what is handled as CLEAR is hidden by gates alone
 abbrev pub ClearIsNeverHidden : Type 0
-ClearIsNeverHidden = (es : List Entry) (c : Case) (s : Standing) (p : Tokens) → handling_for s (label_at es p) ≡ Clear →
+ClearIsNeverHidden = (es : List LocatedLine) (c : Case) (s : Standing) (p : Tokens) → handling_for s (label_at es p) ≡ Clear →
     refusal_at c s p ≡ None → is_visible es c s p ≡ true
 
 -- no row of the table of clearances that holds is stricter than the clearance

@@ -3,7 +3,7 @@
 use Rattle.std.specs.Prelude.{Bool, not, ◌&&◌, ◌==◌, List, length, nat_lt, is_some}
 use Rattle.std.specs.List.{list_all}
 use Rattle.iodef_tree.specs.Text.{Tokens, is_prefix, prefixes}
-use Rattle.iodef_tree.specs.Paths.{Entry}
+use Rattle.iodef_tree.specs.Paths.{LocatedLine}
 use Rattle.marking.specs.Marks.{written_label}
 use Rattle.policy.specs.Numbers.{is_among}
 use Rattle.policy.specs.declared.standing.Standing.{Standing}
@@ -23,13 +23,13 @@ abbrev pub holds_for : Standing → Permission → Bool
 holds_for s x = includes s x.grantee
 
 -- no label is written in the class at r, or r isn't below q
-abbrev pub is_unmarked_below : List Entry → Tokens → Tokens → Bool
+abbrev pub is_unmarked_below : List LocatedLine → Tokens → Tokens → Bool
 is_unmarked_below es q r = not (nat_lt (length q) (length r) && is_some (written_label es r))
 
 -- q is a prefix of p, and on the way down from q to p no label is written
-abbrev pub reaches : List Entry → Tokens → Tokens → Bool
+abbrev pub reaches : List LocatedLine → Tokens → Tokens → Bool
 reaches es q p = is_prefix q p && list_all (is_unmarked_below es q) (prefixes p)
 
 -- a permission covers the class at p for the reader
-abbrev pub covers : List Entry → Standing → Tokens → Permission → Bool
+abbrev pub covers : List LocatedLine → Standing → Tokens → Permission → Bool
 covers es s p x = holds_for s x && reaches es x.path p

@@ -3,7 +3,7 @@
 use Rattle.std.specs.Prelude.{Bool, ◌&&◌, ◌||◌, List, [], ◌∷◌, filter, if◌then◌else◌, Option, Some, None, is_none, unwrap_or}
 use Rattle.std.specs.List.{filter_map, flat_map, list_any}
 use Rattle.iodef_tree.specs.Text.{Tokens, same_path, prefixes}
-use Rattle.iodef_tree.specs.Paths.{Entry}
+use Rattle.iodef_tree.specs.Paths.{LocatedLine}
 use Rattle.marking.specs.Label.{Marking, handling_of}
 use Rattle.marking.specs.Marks.{label_at}
 use Rattle.marking.specs.declared.label.Handling.{Handling}
@@ -39,12 +39,12 @@ abbrev pub is_cleared_for : Standing → Marking → Bool
 is_cleared_for s l = is_at_most (handling_for s l) (clearance_of s).0
 
 -- some permission covers the class at p for the reader
-abbrev pub is_covered : List Entry → Case → Standing → Tokens → Bool
+abbrev pub is_covered : List LocatedLine → Case → Standing → Tokens → Bool
 is_covered es c s p = list_any (covers es s p) c.permissions
 
 -- The class at p is visible: the reader is of the source, or no gate on the path refuses and either the reader is cleared
 -- for the nearest label or a permission covers the class.
-abbrev pub is_visible : List Entry → Case → Standing → Tokens → Bool
+abbrev pub is_visible : List LocatedLine → Case → Standing → Tokens → Bool
 is_visible es c s p = s.source || (is_none (refusal_at c s p) && (is_cleared_for s (label_at es p) || is_covered es c s p))
 
 abbrev pub showing_rule : Standing → Marking → Rule
@@ -59,8 +59,8 @@ hidden_by Strict = HStrict
 hidden_by Red = HRed
 
 -- the rule that hides a class which isn't visible
-abbrev pub hiding_rule : List Entry → Case → Standing → Tokens → Rule
+abbrev pub hiding_rule : List LocatedLine → Case → Standing → Tokens → Rule
 hiding_rule es c s p = unwrap_or (refusal_at c s p) (hidden_by (handling_for s (label_at es p)))
 
-abbrev pub verdict_of : List Entry → Case → Standing → Tokens → Verdict
+abbrev pub verdict_of : List LocatedLine → Case → Standing → Tokens → Verdict
 verdict_of es c s p = if is_visible es c s p then Shown (showing_rule s (label_at es p)) else Hidden (hiding_rule es c s p)

@@ -6,7 +6,7 @@ use Rattle.std.specs.Str.{bytes_eq}
 use Rattle.std.proofs.lemmas.Bool.{false≢true}
 use Rattle.iodef_tree.specs.Text.{Bytes, Tokens}
 use Rattle.iodef_tree.specs.Tree.{Content, text, value, Forest, end, leaf, branch, steps, kind_of, text_of}
-use Rattle.iodef_tree.specs.Paths.{Entry}
+use Rattle.iodef_tree.specs.Paths.{LocatedLine}
 use Rattle.iodef_tree.specs.Walk.{AreBlocks}
 use Rattle.marking.specs.Label.{Marking, public, white, partner, green, need_to_know, amber, private, red, by_arrangement, extended}
 use Rattle.marking.specs.Marks.{Held, absent, plain, other, held_by_kind, spelled_by, is_rule_kept}
@@ -85,7 +85,7 @@ accepted name place kids rest h = by_rule (is_rule_kept_in kids) (bad_below kids
     by_rule true (Some t) r h = cc
     by_rule false k r h = cc
 
-module _ (es : List Entry) (c : Case) (s : Standing) (under : AreUnderParents es) where
+module _ (es : List LocatedLine) (c : Case) (s : Standing) (under : AreUnderParents es) where
   pub labels-fit : (f : Forest) (d : ℕ) (p : Tokens) → AreBlocks es d p f → ArePlaced es p f → bad_below f ≡ None → LabelsFit (verdicts_of es c s) p f
   labels-fit end d p blocks there ok = tt
   labels-fit (leaf i rest) d p blocks there ok = labels-fit rest d p blocks there ok

@@ -5,7 +5,7 @@ use Rattle.std.specs.List.{list_any}
 use Rattle.std.proofs.lemmas.Bool.{false≢true, true≢false, and_left, cond-true, cond-false}
 use Rattle.std.proofs.lemmas.List.Folds.{list_any-append}
 use Rattle.iodef_tree.specs.Text.{Bytes, Tokens, is_root}
-use Rattle.iodef_tree.specs.Paths.{Entry, is_class, is_class_kind}
+use Rattle.iodef_tree.specs.Paths.{LocatedLine, is_class, is_class_kind}
 use Rattle.iodef_tree.specs.Tree.{Leaf, Forest, end, leaf, branch, steps, Content, text, value, kind_of, text_of, leaf_line, class_line, lines}
 use Rattle.iodef_tree.specs.Walk.{walk, leaf_entry, class_entry}
 use Rattle.iodef_tree.specs.declared.line.Line.{Line}
@@ -44,11 +44,11 @@ lines-shallow (branch name place kids rest) d ls h = omega arith
 
 module _ (v : Verdicts) where
   -- a line of a visible class
-  abbrev pub is_seen : Entry → Bool
+  abbrev pub is_seen : LocatedLine → Bool
   is_seen e = is_class e && v.visible e.path
 
   -- some class of the list is visible
-  abbrev pub any_seen : List Entry → Bool
+  abbrev pub any_seen : List LocatedLine → Bool
   any_seen es = list_any is_seen es
 
   -- at each class, what is decided says whether a visible one lies below it
@@ -131,7 +131,7 @@ choose_class false false says d n name place label X E inner dropped behind shal
     ∙ ap (λ f. lines d f ++ E) (sym (cond-true (is_end (inner false)) dropped (branch name (new_place n place) (inner false) behind) (bare refl)))
 
 module _ (v : Verdicts) where
-  kept-plain : (e : Entry) (es : List Entry) → is_class e ≡ false →
+  kept-plain : (e : LocatedLine) (es : List LocatedLine) → is_class e ≡ false →
       kept v (e ∷ es) ≡ (if is_root e.parent || v.visible e.parent then e.line ∷ kept v es else kept v es)
   kept-plain e es h =
       ap (λ b. labelled v (if b then e ∷ filter (is_kept v) es else filter (is_kept v) es)) (cond-false (is_class e) _ _ h)
@@ -140,13 +140,13 @@ module _ (v : Verdicts) where
         | false ↦ refl
       ]
 
-  kept-class : (e : Entry) (es : List Entry) → is_class e ≡ true →
+  kept-class : (e : LocatedLine) (es : List LocatedLine) → is_class e ≡ true →
       kept v (e ∷ es) ≡ (if v.visible e.path || is_frame v e.path then e.line ∷ put_all (added v e) (kept v es) else kept v es)
   kept-class e es h =
       ap (λ b. labelled v (if b then e ∷ filter (is_kept v) es else filter (is_kept v) es)) (cond-true (is_class e) _ _ h)
       ∙ elim (v.visible e.path || is_frame v e.path) as (λ b. labelled v (if b then e ∷ filter (is_kept v) es else filter (is_kept v) es) ≡ (if b then e.line ∷ put_all (added v e) (kept v es) else kept v es)) [ true ↦ refl | false ↦ refl ]
 
-  pub kept-cut : (f : Forest) (d : ℕ) (p : Tokens) (n : ℕ) (es : List Entry) → SaysBelow v d p f → IsShallow d (kept v es) →
+  pub kept-cut : (f : Forest) (d : ℕ) (p : Tokens) (n : ℕ) (es : List LocatedLine) → SaysBelow v d p f → IsShallow d (kept v es) →
       kept v (walk d p f ++ es) ≡ lines d (cut (home_at v p) n (judge v p f)) ++ kept v es
   kept-cut end d p n es says shallow = refl
   kept-cut (leaf i rest) d p n es says shallow =

@@ -3,7 +3,7 @@ use Rattle.std.proofs.Common.{◌≡◌, ℕ, suc, true, false, List, [], ◌∷
 use Rattle.std.specs.Prelude.{Option, Some, None, is_some}
 use Rattle.iodef_tree.specs.Text.{Bytes, Tokens}
 use Rattle.iodef_tree.specs.Tree.{Forest, end, leaf, branch, steps, lines}
-use Rattle.iodef_tree.specs.Paths.{Entry, has_class, located}
+use Rattle.iodef_tree.specs.Paths.{LocatedLine, has_class, located}
 use Rattle.iodef_tree.specs.Sound.{IsSound}
 use Rattle.iodef_tree.specs.Walk.{AreBlocks}
 use Rattle.iodef_tree.proofs.Blocks.{blocks-located, below-parents}
@@ -20,7 +20,7 @@ use Rattle.redact.specs.Judged.{plain, class, judge, judgment_at}
 use Rattle.redact.specs.Told.{verdicts_of}
 use Rattle.redact.specs.Pass.{enter, judgment_by, pass}
 
-module _ (es : List Entry) (c : Case) (s : Standing) (under : AreUnderParents es) where
+module _ (es : List LocatedLine) (c : Case) (s : Standing) (under : AreUnderParents es) where
   pub enter-at : (p : Tokens) (name : Bytes) (place : Option ℕ) (w : Option Marking) → has_class es (p ++ steps name place) ≡ true →
       (is_some place ≡ true → has_class es (p ++ name ∷ []) ≡ false) → written_label es (p ++ steps name place) ≡ w →
       enter c s (inherited_at es c s p) name place w ≡ inherited_at es c s (p ++ steps name place)

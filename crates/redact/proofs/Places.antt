@@ -5,7 +5,7 @@ use Rattle.std.proofs.lemmas.Bool.{false≢true, cond-true, cond-false}
 use Rattle.std.proofs.lemmas.List.{map-append, append-nil}
 use Rattle.std.proofs.lemmas.List.Elements.{filter-append}
 use Rattle.iodef_tree.specs.Text.{Tokens, bytes_lt, same_path, is_root}
-use Rattle.iodef_tree.specs.Paths.{Entry, is_class, class_paths, classes_of}
+use Rattle.iodef_tree.specs.Paths.{LocatedLine, is_class, class_paths, classes_of}
 use Rattle.iodef_tree.specs.Tree.{Leaf, Forest, end, leaf, branch, steps, lines}
 use Rattle.iodef_tree.specs.Sound.{IsSound}
 use Rattle.iodef_tree.specs.Walk.{walk, leaf_entry, class_entry}
@@ -24,7 +24,7 @@ here x = x.0
 abbrev there : Tokens × Tokens → Tokens
 there x = x.1
 
-class_paths-append : (xs ys : List Entry) → class_paths (xs ++ ys) ≡ class_paths xs ++ class_paths ys
+class_paths-append : (xs ys : List LocatedLine) → class_paths (xs ++ ys) ≡ class_paths xs ++ class_paths ys
 class_paths-append xs ys =
     ap (map (λ e. e.path)) (filter-append is_class xs ys) ∙ map-append (λ e. e.path) (filter is_class xs) (filter is_class ys)
 
@@ -40,7 +40,7 @@ paths-put x (leaf i rest) d q =
           plain_first i d q (walk d q (put_leaf x rest)) ∙ paths-put x rest d q ∙ sym (plain_first i d q (walk d q rest))
     ]
   where
-    plain_first : (i : Leaf) (d : ℕ) (q : Tokens) (es : List Entry) → class_paths (leaf_entry d q i ∷ es) ≡ class_paths es
+    plain_first : (i : Leaf) (d : ℕ) (q : Tokens) (es : List LocatedLine) → class_paths (leaf_entry d q i ∷ es) ≡ class_paths es
     plain_first i d q es = ap (λ b. map (λ e. e.path) (if b then leaf_entry d q i ∷ filter is_class es else filter is_class es)) (plain_kind i.content)
 paths-put x (branch name place kids rest) d q =
     let r = q ++ steps name place in
@@ -148,20 +148,20 @@ places-deep (class name place j kids rest) h p q n =
 
 module _ (v : Verdicts) where
   -- the paths of the kept classes
-  abbrev kept_paths : List Entry → List Tokens
+  abbrev kept_paths : List LocatedLine → List Tokens
   kept_paths es = class_paths (filter (is_kept v) es)
 
-  kept_paths-append : (xs ys : List Entry) → kept_paths (xs ++ ys) ≡ kept_paths xs ++ kept_paths ys
+  kept_paths-append : (xs ys : List LocatedLine) → kept_paths (xs ++ ys) ≡ kept_paths xs ++ kept_paths ys
   kept_paths-append xs ys = ap class_paths (filter-append (is_kept v) xs ys) ∙ class_paths-append (filter (is_kept v) xs) (filter (is_kept v) ys)
 
-  kept_paths-plain : (e : Entry) (es : List Entry) → is_class e ≡ false → kept_paths (e ∷ es) ≡ kept_paths es
+  kept_paths-plain : (e : LocatedLine) (es : List LocatedLine) → is_class e ≡ false → kept_paths (e ∷ es) ≡ kept_paths es
   kept_paths-plain e es h =
       elim (is_kept v e) as (λ b. class_paths (if b then e ∷ filter (is_kept v) es else filter (is_kept v) es) ≡ kept_paths es) [
         | true ↦ ap (map (λ e. e.path)) (cond-false (is_class e) (e ∷ filter is_class (filter (is_kept v) es)) (filter is_class (filter (is_kept v) es)) h)
         | false ↦ refl
       ]
 
-  kept_paths-class : (e : Entry) (es : List Entry) → is_class e ≡ true →
+  kept_paths-class : (e : LocatedLine) (es : List LocatedLine) → is_class e ≡ true →
       kept_paths (e ∷ es) ≡ (if v.visible e.path || (not (v.visible e.path) && v.holds_visible e.path) then e.path ∷ kept_paths es else kept_paths es)
   kept_paths-class e es h =
       ap (λ b. class_paths (if b then e ∷ filter (is_kept v) es else filter (is_kept v) es)) (cond-true (is_class e) _ _ h)
@@ -252,4 +252,4 @@ module _ (v : Verdicts) (f : Forest) (sound : IsSound f) (says : SaysBelow v 1 [
       (place-own all_places all_places (places-deep (judge v [] f) root [] [] 0)
       (beside-own all_places (subst (IsDistinct same_path) (paths-kept v f 1 [] [] 0 says)
       (distinct-filter is_class (filter (is_kept v) (walk 1 [] f)) (distinct-filter (is_kept v) (walk 1 [] f)
-      (subst (λ es. IsDistinct same_path (map (λ (e : Entry). e.path) es)) (located-lines f sound) (paths-distinct f sound)))))))
+      (subst (λ es. IsDistinct same_path (map (λ (e : LocatedLine). e.path) es)) (located-lines f sound) (paths-distinct f sound)))))))

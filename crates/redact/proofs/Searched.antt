@@ -6,7 +6,7 @@ use Rattle.std.proofs.lemmas.Bool.{cond-true, cond-false, and_left, and_right, t
 use Rattle.std.proofs.lemmas.List.Folds.{list_any-append}
 use Rattle.iodef_tree.specs.Text.{Bytes, Tokens, same_path, is_under}
 use Rattle.iodef_tree.specs.Tree.{Content, text, value, Forest, end, leaf, branch, steps, lines, leaf_line}
-use Rattle.iodef_tree.specs.Paths.{Entry, is_class, located, below}
+use Rattle.iodef_tree.specs.Paths.{LocatedLine, is_class, located, below}
 use Rattle.iodef_tree.specs.Sound.{IsSound}
 use Rattle.iodef_tree.specs.Walk.{walk, leaf_entry, AreBlocks}
 use Rattle.iodef_tree.proofs.Blocks.{blocks-located, below-parents}
@@ -30,10 +30,10 @@ use Rattle.redact.proofs.Whole.{root-bare}
 -- ---- what a class holds, by the lines directly in it
 
 -- a line directly in the class at q that is a text which contains the needle
-abbrev is_hit_in : Bytes → Tokens → Entry → Bool
+abbrev is_hit_in : Bytes → Tokens → LocatedLine → Bool
 is_hit_in needle q e = same_path e.parent q && is_hit needle e.line
 
-any-below : (es : List Entry) (q : Tokens) (needle : Bytes) → AreUnderParents es → list_any (is_hit_in needle q) es ≡ list_any (is_hit_in needle q) (below q es)
+any-below : (es : List LocatedLine) (q : Tokens) (needle : Bytes) → AreUnderParents es → list_any (is_hit_in needle q) es ≡ list_any (is_hit_in needle q) (below q es)
 any-below [] q needle h = refl
 any-below (e ∷ es) q needle h = by_cases (is_under q e.path) refl (any-below es q needle h.1)
   where
@@ -87,7 +87,7 @@ held-walk (branch n o kids rest) d q needle =
     ∙ ap (λ a. a || list_any (is_hit_in needle q) R) none
     ∙ held-walk rest d q needle
 
-held-block : (es : List Entry) (d : ℕ) (q : Tokens) (kids : Forest) (needle : Bytes) → AreUnderParents es → below q es ≡ walk d q kids →
+held-block : (es : List LocatedLine) (d : ℕ) (q : Tokens) (kids : Forest) (needle : Bytes) → AreUnderParents es → below q es ≡ walk d q kids →
     holds_needle es needle q ≡ members_hit needle kids
 held-block es d q kids needle under block = any-below es q needle under ∙ ap (list_any (is_hit_in needle q)) block ∙ held-walk kids d q needle
 
@@ -95,10 +95,10 @@ held-block es d q kids needle under block = any-below es q needle under ∙ ap (
 
 module _ (c : Case) (s : Standing) (needle : Bytes) (class : Option Bytes) where
   -- a visible class of the name that holds the needle
-  abbrev answers : List Entry → Entry → Bool
+  abbrev answers : List LocatedLine → LocatedLine → Bool
   answers es e = (is_class e && is_visible es c s e.path) && (is_named class e.line.name && holds_needle es needle e.path)
 
-  found-walk : (es : List Entry) (under : AreUnderParents es) (f : Forest) (d : ℕ) (p : Tokens) → AreBlocks es d p f → ArePlaced es p f →
+  found-walk : (es : List LocatedLine) (under : AreUnderParents es) (f : Forest) (d : ℕ) (p : Tokens) → AreBlocks es d p f → ArePlaced es p f →
       list_any (answers es) (walk d p f) ≡ found c s needle class (inherited_at es c s p) f
   found-walk es under end d p blocks there = refl
   found-walk es under (leaf i rest) d p blocks there =

@@ -3,7 +3,7 @@ use Rattle.std.proofs.Common.{◌≡◌, ℕ, false, List, [], ◌++◌, refl, s
 use Rattle.std.specs.Prelude.{Option, Some, None, count_by}
 use Rattle.iodef_tree.specs.Text.{Bytes, Tokens, same_path}
 use Rattle.iodef_tree.specs.Tree.{Forest, steps, lines}
-use Rattle.iodef_tree.specs.Paths.{Entry, has_class, located}
+use Rattle.iodef_tree.specs.Paths.{LocatedLine, has_class, located}
 use Rattle.iodef_tree.specs.Sound.{IsSound, counted}
 use Rattle.iodef_tree.specs.declared.TheConstants.{LINE_LIMIT}
 use Rattle.iodef_tree.specs.Walk.{walk}
@@ -42,7 +42,7 @@ root-bare f sound =
     deep n (Some k) z = refl
 
 module _ (f : Forest) (c : Case) (s : Standing) (sound : IsSound f) (ok : first_bad_marking (located (lines 1 f)) ≡ None) where
-  abbrev es : List Entry
+  abbrev es : List LocatedLine
   es = located (lines 1 f)
 
   abbrev v : Verdicts

@@ -5,7 +5,7 @@ use Rattle.std.proofs.lemmas.Bool.{and_right, or_parts, cond-true, cond-false}
 use Rattle.std.proofs.lemmas.List.Concat.{flat_map-append}
 use Rattle.std.proofs.lemmas.List.Folds.{list_any-append}
 use Rattle.iodef_tree.specs.Text.{Tokens}
-use Rattle.iodef_tree.specs.Paths.{Entry, is_class}
+use Rattle.iodef_tree.specs.Paths.{LocatedLine, is_class}
 use Rattle.iodef_tree.specs.Tree.{Leaf, Forest, end, leaf, branch, steps}
 use Rattle.iodef_tree.specs.Walk.{walk, leaf_entry}
 use Rattle.policy.specs.declared.rule.Rule.{Rule}
@@ -19,10 +19,10 @@ module _ (v : Verdicts) (place : Tokens → Tokens) where
   abbrev pub IsRight : Tokens × Tokens → Type 0
   IsRight x = place x.0 ≡ x.1
 
-  abbrev tells : List Entry → List Withheld
+  abbrev tells : List LocatedLine → List Withheld
   tells es = withheld_among v place es
 
-  tells-plain : (d : ℕ) (p : Tokens) (i : Leaf) (es : List Entry) → tells (leaf_entry d p i ∷ es) ≡ tells es
+  tells-plain : (d : ℕ) (p : Tokens) (i : Leaf) (es : List LocatedLine) → tells (leaf_entry d p i ∷ es) ≡ tells es
   tells-plain d p i es = ap (λ ts. ts ++ tells es) (cond-true (not (is_class (leaf_entry d p i))) _ _ (ap not (plain_kind i.content)))
 
   -- below a wholly hidden class nothing is told

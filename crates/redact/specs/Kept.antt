@@ -1,7 +1,7 @@
 -- The kept outline: what an excerpt holds of a document, from what is decided of each class.
 use Rattle.std.specs.Prelude.{ℕ, suc, Bool, false, ◌&&◌, ◌||◌, not, List, [], ◌∷◌, nat_lt, ◌==◌, if◌then◌else◌, filter}
 use Rattle.iodef_tree.specs.Text.{Bytes, Tokens, bytes_lt, is_root}
-use Rattle.iodef_tree.specs.Paths.{Entry, is_class}
+use Rattle.iodef_tree.specs.Paths.{LocatedLine, is_class}
 use Rattle.iodef_tree.specs.declared.line.Line.{Line}
 use Rattle.iodef_tree.specs.declared.line.Kind.TheVariants as kind
 use Rattle.policy.specs.declared.rule.Rule.{Rule}
@@ -57,23 +57,23 @@ module _ (v : Verdicts) where
   is_visible_class p = not (is_root p) && v.visible p
 
   -- of the classes the visible ones and the frames, and of the plain lines the header and those of visible classes
-  abbrev pub is_kept : Entry → Bool
+  abbrev pub is_kept : LocatedLine → Bool
   is_kept e = if is_class e then v.visible e.path || is_frame e.path else is_root e.parent || v.visible e.parent
 
   -- A visible class in which no label is written, and whose parent isn't a visible class, says its label itself (RFC 7970
   -- section 3.3.1: it holds for the class and its children).
-  abbrev pub says_label : Entry → Bool
+  abbrev pub says_label : LocatedLine → Bool
   says_label e = is_class e && (v.visible e.path && (v.unmarked e.path && not (is_visible_class e.parent)))
 
   -- the lines that are added in a class
-  abbrev pub added : Entry → List Line
+  abbrev pub added : LocatedLine → List Line
   added e = if says_label e then attribute_lines (suc e.line.depth) (v.label e.path) else []
 
   -- each line, with those that are added in its class put in behind it
-  abbrev pub labelled : List Entry → List Line
+  abbrev pub labelled : List LocatedLine → List Line
   labelled [] = []
   labelled (e ∷ es) = e.line ∷ put_all (added e) (labelled es)
 
   -- the kept outline
-  abbrev pub kept : List Entry → List Line
+  abbrev pub kept : List LocatedLine → List Line
   kept es = labelled (filter is_kept es)

@@ -3,7 +3,7 @@ use Rattle.std.specs.Prelude.{ℕ, Bool, true, false, ◌&&◌, ◌||◌, ◌==�
 use Rattle.std.specs.List.{list_any}
 use Rattle.std.specs.Str.{bytes_eq}
 use Rattle.iodef_tree.specs.Text.{Bytes, Tokens, same_path}
-use Rattle.iodef_tree.specs.Paths.{Entry, is_class, located, below}
+use Rattle.iodef_tree.specs.Paths.{LocatedLine, is_class, located, below}
 use Rattle.iodef_tree.specs.declared.line.Line.{Line}
 use Rattle.iodef_tree.specs.declared.line.Kind.{Kind}
 use Rattle.iodef_tree.specs.declared.line.Kind.TheVariants as kind
@@ -34,11 +34,11 @@ abbrev pub attributes_of : Marking → List Attribute
 attributes_of l = attributes_by (restriction_of l) (ext_restriction_of l)
 
 -- some class of these lines is visible
-abbrev pub some_seen : (Tokens → Bool) → List Entry → Bool
+abbrev pub some_seen : (Tokens → Bool) → List LocatedLine → Bool
 some_seen visible es = list_any (λ e. is_class e && visible e.path) es
 
 -- what is decided of each class for a reader, its path judged alone
-abbrev pub verdicts_of : List Entry → Case → Standing → Verdicts
+abbrev pub verdicts_of : List LocatedLine → Case → Standing → Verdicts
 verdicts_of es c s = record {
   visible = is_visible es c s;
   holds_visible = λ p. some_seen (is_visible es c s) (below p es);
@@ -74,19 +74,19 @@ abbrev pub is_hit : Bytes → Line → Bool
 is_hit needle l = is_text_kind l.kind && has_needle needle l.text
 
 -- the class at p directly holds a text that contains the needle
-abbrev pub holds_needle : List Entry → Bytes → Tokens → Bool
+abbrev pub holds_needle : List LocatedLine → Bytes → Tokens → Bool
 holds_needle es needle p = list_any (λ e. same_path e.parent p && is_hit needle e.line) es
 
 -- ---- all that is told
 
 module _ (ls : List Line) (c : Case) (s : Standing) where
-  abbrev pub entries : List Entry
+  abbrev pub entries : List LocatedLine
   entries = located ls
 
   abbrev pub verdicts : Verdicts
   verdicts = verdicts_of (located ls) c s
 
-  abbrev pub is_seen_class : Entry → Bool
+  abbrev pub is_seen_class : LocatedLine → Bool
   is_seen_class e = is_class e && is_visible (located ls) c s e.path
 
   -- the outline of the excerpt

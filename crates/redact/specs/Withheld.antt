@@ -10,7 +10,7 @@ use Rattle.std.proofs.Common.{is_eq, sym, ◌∙◌, ap}
 use Rattle.std.proofs.lemmas.Map.Text.{is_eq-slice_cmp}
 use Rattle.std.specs.Cmp.Lexicographic.{slice_cmp}
 use Rattle.iodef_tree.specs.Text.{Tokens, same_path, is_root}
-use Rattle.iodef_tree.specs.Paths.{Entry, is_class, class_paths, classes_of}
+use Rattle.iodef_tree.specs.Paths.{LocatedLine, is_class, class_paths, classes_of}
 use Rattle.iodef_tree.specs.Pointer.{pointer_text}
 use Rattle.policy.specs.Rule.{name_of}
 use Rattle.policy.specs.declared.rule.Rule.{Rule}
@@ -28,7 +28,7 @@ beside (x ∷ xs) p = if same_path x.0 p then x.1 else beside xs p
 module _ (v : Verdicts) where
   -- The paths of the kept classes, each beside the path of its line in the kept outline: that has a line for each of them,
   -- in the same order.
-  abbrev pub class_places : List Entry → List (Tokens × Tokens)
+  abbrev pub class_places : List LocatedLine → List (Tokens × Tokens)
   class_places es = zip (class_paths (filter (is_kept v) es)) (classes_of (kept v es))
 
 -- the place of a kept class in the excerpt; the root's is the root's path
@@ -37,7 +37,7 @@ place_by ps p = if is_root p then [] else beside ps p
 
 module _ (v : Verdicts) (place : Tokens → Tokens) where
   -- a frame is told at its place, and a wholly hidden class at that of its parent, unless that is wholly hidden too
-  abbrev pub withheld_at : Entry → List Withheld
+  abbrev pub withheld_at : LocatedLine → List Withheld
   withheld_at e =
       if not (is_class e) then []
       else if is_frame v e.path then (place e.path, v.rule e.path) ∷ []
@@ -45,11 +45,11 @@ module _ (v : Verdicts) (place : Tokens → Tokens) where
       else []
 
   -- of each class, in stored order, and with repeats
-  abbrev pub withheld_among : List Entry → List Withheld
+  abbrev pub withheld_among : List LocatedLine → List Withheld
   withheld_among es = flat_map withheld_at es
 
 -- everything that is withheld, in stored order and with repeats
-abbrev pub withheld_pairs : Verdicts → List Entry → List Withheld
+abbrev pub withheld_pairs : Verdicts → List LocatedLine → List Withheld
 withheld_pairs v es = withheld_among v (place_by (class_places v es)) es
 
 -- by the bytes of the place as it is printed, then by those of the rule
