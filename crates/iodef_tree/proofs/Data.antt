@@ -1,5 +1,5 @@
 -- A tree as data, member by member.
-use Rattle.std.proofs.Common.{◌≡◌, ℕ, zero, suc, ◌+◌, ◌<◌, true, false, List, [], ◌∷◌, map, length, drop, drop-cons, get_or, refl, sym, ◌∙◌, ap, subst, arith, true≢false, Greater, String, Global, string_bytes, string_cmp}
+use Rattle.std.proofs.Common.{◌≡◌, ℕ, zero, suc, ◌+◌, ◌<◌, true, List, [], ◌∷◌, map, length, drop, drop-cons, get_or, refl, sym, ◌∙◌, ap, subst, arith, true≢false, Greater, String, Global, string_bytes, string_cmp}
 use Rattle.std.specs.Prelude.{Option, Some, None, ◌==◌}
 use Rattle.std.specs.List.{AllByRecursion}
 use Rattle.std.specs.Ordering.{nat_cmp, match_ordering, ordering_reverse}
@@ -13,7 +13,6 @@ use Rattle.serde_json.specs.Data.{Data, put}
 use Rattle.serde_json.specs.View.{view, members_view, items_of as listed}
 use Rattle.serde_json.specs.declared.value.Value.{Value}
 use Rattle.serde_json.proofs.Views.{members_view-insert_entry}
-use Rattle.iodef_tree.specs.Built.{is_filled}
 use Rattle.iodef_tree.specs.Fit.{IsBodyOrdered, AreBodiesOrdered}
 use Rattle.iodef_tree.specs.Sound.{Standing, may_stand, IsOrderedBehind, IsOrdered}
 use Rattle.iodef_tree.specs.Text.{Bytes, bytes_lt}
@@ -23,6 +22,7 @@ use Rattle.iodef_tree.specs.Written.{content_data, placed_member, placed_item, m
 use Rattle.iodef_tree.specs.declared.text.Text.{Text}
 use Rattle.iodef_tree.specs.declared.object.Member.{Member}
 use Rattle.iodef_tree.specs.declared.object.Object.{Object}
+use Rattle.iodef_tree.proofs.Filled.{has_elements}
 use Rattle.iodef_tree.proofs.Order.{bytes_eq-true, bytes_lt-less, bytes_lt-trans}
 use Rattle.iodef_tree.proofs.Given.{LocatedLine}
 use Rattle.iodef_tree.proofs.Members.{members-next}
@@ -54,18 +54,13 @@ no-items ((n, one b) ∷ ms) = front-items n None b (forest_of_members ms)
 no-items ((n, many []) ∷ ms) = no-items ms
 no-items ((n, many (b ∷ bs)) ∷ ms) = front-items n (Some 0) b (elements n 1 bs (forest_of_members ms))
 
-pub member-data : (n : Bytes) (m : Bodies) (rest : Forest) → items_of rest ≡ json.no_items → is_filled m ≡ true → members_of (member_front n m rest) ≡ json.member n (bodies_data m) (members_of rest)
+pub member-data : (n : Bytes) (m : Bodies) (rest : Forest) → items_of rest ≡ json.no_items → has_elements m ≡ true → members_of (member_front n m rest) ≡ json.member n (bodies_data m) (members_of rest)
 member-data n (one b) rest fresh filled = front-members n None b rest
 member-data n (many []) rest fresh filled = absurd (true≢false (sym filled))
 member-data n (many (b ∷ bs)) rest fresh filled =
     front-members n (Some 0) b (elements n 1 bs rest)
     ∙ ap (λ ds. json.member n (json.array (json.item (body_data b) ds)) (members_of (elements n 1 bs rest))) (later-items n 0 bs rest fresh)
     ∙ ap (json.member n (json.array (json.item (body_data b) (listed (map body_data bs))))) (later-members n 0 bs rest)
-
-pub member-empty : (n : Bytes) (m : Bodies) (rest : Forest) → is_filled m ≡ false → members_of (member_front n m rest) ≡ members_of rest
-member-empty n (one b) rest h = absurd (true≢false h)
-member-empty n (many []) rest h = refl
-member-empty n (many (b ∷ bs)) rest h = absurd (true≢false h)
 
 -- ---- what is ordered is so inside
 
@@ -184,7 +179,7 @@ one-more : (i : ℕ) → suc i ≡ i + 1
 one-more i = omega arith
 
 pub put-member : (old new : List LocatedLine) (name : String Global) (v : Value) (R : json.Members) (xs : List (Text × Member)) (i : ℕ) (m : Text × Member) → i < length xs → m ≡ get_or xs i m →
-    is_filled (bodies m.1) ≡ true → string_bytes name ≡ m.0 → view v ≡ bodies_data (bodies m.1) → new ≡ insert_entry string_cmp old name v →
+    has_elements (bodies m.1) ≡ true → string_bytes name ≡ m.0 → view v ≡ bodies_data (bodies m.1) → new ≡ insert_entry string_cmp old name v →
     put_all (members_of (members_forest (drop i xs))) (members_view old) ≡ R → put_all (members_of (members_forest (drop (i + 1) xs))) (members_view new) ≡ R
 put-member old new name v R xs i m h e filled is means put_in left =
     let rest = members_forest (drop (i + 1) xs) in

@@ -10,7 +10,6 @@ use Rattle.serde_json.specs.Data as json
 use Rattle.serde_json.specs.Data.{Data}
 use Rattle.serde_json.specs.Find.{get, get_member, as_object}
 use Rattle.serde_json.specs.Written.{compact_text}
-use Rattle.iodef_tree.specs.Built.{is_filled}
 use Rattle.iodef_tree.specs.Fit.{IsBodyOrdered, AreBodiesOrdered}
 use Rattle.iodef_tree.specs.Json.{data_of, zeroth, id_in, incident_id}
 use Rattle.iodef_tree.specs.Kept.{IsKept, IsBodyKept, AreKept}
@@ -24,7 +23,8 @@ use Rattle.iodef_tree.specs.declared.line.Line.{Line}
 use Rattle.iodef_tree.specs.declared.text.Text.{Text}
 use Rattle.iodef_tree.specs.declared.object.Member.{Member}
 use Rattle.iodef_tree.specs.declared.object.Object.{Object}
-use Rattle.iodef_tree.proofs.Data.{no-items, member-data, member-empty}
+use Rattle.iodef_tree.proofs.Data.{no-items, member-data}
+use Rattle.iodef_tree.proofs.Filled.{has_elements}
 use Rattle.iodef_tree.proofs.Meaning.{data-is}
 use Rattle.iodef_tree.proofs.Members.{members-next}
 use Rattle.iodef_tree.proofs.Order.{is_false, bytes_eq-true, bytes_eq-refl}
@@ -44,28 +44,19 @@ same x k false h = is_false (bytes_eq k x) (λ e. true≢false (sym (bytes_eq-re
 get-first : (k n : Bytes) (b : Bool) (d : Data) (ms : json.Members) → bytes_eq n k ≡ b → get_member k (json.member n d ms) ≡ (if b then Some d else get_member k ms)
 get-first k n b d ms h = chosen (slice_cmp nat_cmp k n) b (get_member k ms) d (is_eq-slice_cmp k n ∙ same n k b h)
 
-pub member-found : (k : Bytes) (xs : List (Text × Member)) (i : ℕ) (m : Text × Member) → i < length xs → m ≡ get_or xs i m → bytes_eq m.0 k ≡ true → is_filled (bodies m.1) ≡ true →
+pub member-found : (k : Bytes) (xs : List (Text × Member)) (i : ℕ) (m : Text × Member) → i < length xs → m ≡ get_or xs i m → bytes_eq m.0 k ≡ true → has_elements (bodies m.1) ≡ true →
     Some (bodies_data (bodies m.1)) ≡ get_member k (members_of (members_forest (drop i xs)))
 member-found k xs i m h e is filled =
     let rest = members_forest (drop (i + 1) xs) in
     sym (ap (get_member k) (ap members_of (members-next xs i m h e) ∙ member-data m.0 (bodies m.1) rest (no-items (map named (drop (i + 1) xs))) filled)
     ∙ get-first k m.0 true (bodies_data (bodies m.1)) (members_of rest) is)
 
-pub member-empty-here : (k : Bytes) (xs : List (Text × Member)) (i : ℕ) (m : Text × Member) → i < length xs → m ≡ get_or xs i m → is_filled (bodies m.1) ≡ false →
+pub member-other : (k : Bytes) (xs : List (Text × Member)) (i : ℕ) (m : Text × Member) → i < length xs → m ≡ get_or xs i m → bytes_eq m.0 k ≡ false → has_elements (bodies m.1) ≡ true →
     get_member k (members_of (members_forest (drop (i + 1) xs))) ≡ get_member k (members_of (members_forest (drop i xs)))
-member-empty-here k xs i m h e empty =
-    sym (ap (get_member k) (ap members_of (members-next xs i m h e) ∙ member-empty m.0 (bodies m.1) (members_forest (drop (i + 1) xs)) empty))
-
-pub member-other : (k : Bytes) (xs : List (Text × Member)) (i : ℕ) (m : Text × Member) → i < length xs → m ≡ get_or xs i m → bytes_eq m.0 k ≡ false →
-    get_member k (members_of (members_forest (drop (i + 1) xs))) ≡ get_member k (members_of (members_forest (drop i xs)))
-member-other k xs i m h e other = by_filled (is_filled (bodies m.1)) refl
-  where
-    by_filled : (b : Bool) → is_filled (bodies m.1) ≡ b → get_member k (members_of (members_forest (drop (i + 1) xs))) ≡ get_member k (members_of (members_forest (drop i xs)))
-    by_filled true filled =
-        let rest = members_forest (drop (i + 1) xs) in
-        sym (ap (get_member k) (ap members_of (members-next xs i m h e) ∙ member-data m.0 (bodies m.1) rest (no-items (map named (drop (i + 1) xs))) filled)
-        ∙ get-first k m.0 false (bodies_data (bodies m.1)) (members_of rest) other)
-    by_filled false empty = member-empty-here k xs i m h e empty
+member-other k xs i m h e other filled =
+    let rest = members_forest (drop (i + 1) xs) in
+    sym (ap (get_member k) (ap members_of (members-next xs i m h e) ∙ member-data m.0 (bodies m.1) rest (no-items (map named (drop (i + 1) xs))) filled)
+    ∙ get-first k m.0 false (bodies_data (bodies m.1)) (members_of rest) other)
 
 -- ---- what is kept in each member
 

@@ -1,12 +1,13 @@
 -- A document under construction, seen as its lines.
-use Rattle.std.specs.Prelude.{◌≡◌, ℕ, zero, suc, List, [], ◌∷◌, ◌++◌, length, map, Bool, true, false, not, ◌==◌, ◌&&◌, Option, Some, None}
+use Rattle.std.specs.Prelude.{◌≡◌, ℕ, zero, suc, List, [], ◌∷◌, ◌++◌, length, Bool, true, false, not, ◌==◌, ◌&&◌, Option, Some, None}
 use Rattle.std.specs.List.{AllByRecursion}
 use Rattle.std.specs.Str.{bytes_eq}
 use Rattle.iodef_tree.specs.Text.{Bytes}
-use Rattle.iodef_tree.specs.Tree.{Forest, end, leaf, branch, Body, holds, says, Bodies, one, many, in_front, place_of, class_line, lines}
+use Rattle.iodef_tree.specs.Tree.{Forest, end, leaf, branch, Body, holds, says, in_front, place_of, class_line, lines}
 use Rattle.iodef_tree.specs.Sound.{Standing}
+use Rattle.iodef_tree.specs.Filled.{IsMemberFilled}
 use Rattle.iodef_tree.specs.Outline.{deepest, back}
-use Rattle.iodef_tree.specs.View.{forest, named, members_forest}
+use Rattle.iodef_tree.specs.View.{forest, members_forest}
 use Rattle.iodef_tree.specs.declared.line.Line.{Line}
 use Rattle.iodef_tree.specs.declared.text.Text.{Text}
 use Rattle.iodef_tree.specs.declared.object.Member.{Member}
@@ -45,20 +46,9 @@ last_standing before (branch name place kids rest) = last_standing (Some (name, 
 
 -- ---- the members of one object
 
-abbrev pub is_filled : Bodies → Bool
-is_filled (one b) = true
-is_filled (many []) = false
-is_filled (many (b ∷ bs)) = true
-
--- the last member has an element if it is an array
-abbrev pub ends_filled : List (Bytes × Bodies) → Bool
-ends_filled [] = true
-ends_filled (m ∷ []) = is_filled m.1
-ends_filled (m ∷ n ∷ ms) = ends_filled (n ∷ ms)
-
 pub record IsGrown (ms : List (Text × Member)) : Type 0 where
   pub numbered : IsNumbered (members_forest ms)
-  pub filled : ends_filled (map named ms) ≡ true
+  pub filled : AllByRecursion (λ m. IsMemberFilled m.1) ms
 
 -- one thing more at the end
 pub record Grows (old : List (Text × Member)) (name : Bytes) (in_array : Bool) (b : Body) (new : List (Text × Member)) : Type 0 where

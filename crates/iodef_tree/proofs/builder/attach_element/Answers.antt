@@ -29,7 +29,7 @@ returns-then-eq c =
     subst (λ (n : Bytes). Grows c.args.members.items n true b new) same
     (subst (λ (ms : List (Text × Member)). Grows ms last true b new) (sym was)
     (subst (λ (ms : List (Text × Member)). Grows (P ++ (last, Many items) ∷ []) last true b ms) (sym c.in_ok-push-in-Many-2.ensures.items)
-    (grows-element P last c.args.item items c.push-then-eq.new.self c.in_ok-push-in-Many.ensures.items grown c.requires.numbered)))
+    (grows-element P last c.args.item items c.push-then-eq.new.self c.in_ok-push-in-Many.ensures.items grown c.requires.numbered c.requires.filled)))
 
 pub attach_array-requires-in-Many-clause-first : goal.attach_array-requires-in-Many-clause-first
 attach_array-requires-in-Many-clause-first c =
