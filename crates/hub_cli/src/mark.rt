@@ -2,7 +2,7 @@
 
 ghost use Rattle.std.specs.Prelude.{◌≡◌, map, string_bytes, IfOk, None};
 ghost use Rattle.std.specs.List.{flat_map};
-ghost use Rattle.marking.specs.Marks.{first_bad_marking, told_by};
+ghost use Rattle.marking.specs.Marks.{first_bad_marking, marked_by};
 ghost use Rattle.hub_cli.specs.Lines.{line_of, row_of};
 ghost use Rattle.serde_json.specs.View.{view};
 ghost use Rattle.hub_cli.specs.Mark.{IsMarked, fault_name, mark_text as printed, text_of_class, text_of_document};
@@ -110,7 +110,7 @@ fn class_text(alloc: Global, document: &Document, path: &Path) -> Result<String,
 }
 
 fn lines_text(alloc: Global, marks: Vec<Mark<'_>>) -> Result<String, AllocError>
-    ensures { IfOk result (λ s. string_bytes s ≡ flat_map line_of (map told_by marks.entry.items)) }
+    ensures { IfOk result (λ s. string_bytes s ≡ flat_map line_of (map marked_by marks.entry.items)) }
 {
     let mut text = String::new(alloc);
     for mark in marks {
@@ -121,7 +121,7 @@ fn lines_text(alloc: Global, marks: Vec<Mark<'_>>) -> Result<String, AllocError>
 }
 
 fn line_text(alloc: Global, mark: Mark<'_>) -> Result<String, AllocError>
-    ensures { IfOk result (λ s. string_bytes s ≡ line_of (told_by mark.entry)) }
+    ensures { IfOk result (λ s. string_bytes s ≡ line_of (marked_by mark.entry)) }
 {
     let row = row(alloc, mark)?;
     let mut line = row.to_string(alloc)?;
@@ -130,7 +130,7 @@ fn line_text(alloc: Global, mark: Mark<'_>) -> Result<String, AllocError>
 }
 
 fn row(alloc: Global, mark: Mark<'_>) -> Result<Value, AllocError>
-    ensures { IfOk result (λ v. view v ≡ row_of (told_by mark.entry)) }
+    ensures { IfOk result (λ v. view v ≡ row_of (marked_by mark.entry)) }
 {
     let Mark { path, label, site } = mark;
     let path = path.into_string();
