@@ -14,7 +14,7 @@ use Rattle.serde_json.specs.View.{view, members_view, items_of as listed}
 use Rattle.serde_json.specs.declared.value.Value.{Value}
 use Rattle.serde_json.proofs.Views.{members_view-insert_entry}
 use Rattle.iodef_tree.specs.Fit.{IsBodyOrdered, AreBodiesOrdered}
-use Rattle.iodef_tree.specs.Sound.{Standing, may_stand, IsOrderedBehind, IsOrdered}
+use Rattle.iodef_tree.specs.Sound.{SiblingPlace, may_stand, IsOrderedBehind, IsOrdered}
 use Rattle.iodef_tree.specs.Text.{Bytes, bytes_lt}
 use Rattle.iodef_tree.specs.Tree.{Forest, end, leaf, branch, Body, holds, says, Bodies, one, many, in_front, elements, member_front}
 use Rattle.iodef_tree.specs.View.{forest, forest_of_members, bodies, named, members_forest}
@@ -64,23 +64,23 @@ member-data n (many (b ∷ bs)) rest fresh filled =
 
 -- ---- what is ordered is so inside
 
-front-ordered : (o : Option Standing) (n : Bytes) (p : Option ℕ) (b : Body) (rest : Forest) → IsOrderedBehind o (in_front n p b rest) → IsBodyOrdered b × IsOrderedBehind (Some (n, p)) rest
+front-ordered : (o : Option SiblingPlace) (n : Bytes) (p : Option ℕ) (b : Body) (rest : Forest) → IsOrderedBehind o (in_front n p b rest) → IsBodyOrdered b × IsOrderedBehind (Some (n, p)) rest
 front-ordered o n p (holds f) rest h = (h.1, h.2)
 front-ordered o n p (says c) rest h = (tt, h.1)
 
 record Inside (bs : List Body) (rest : Forest) : Type 0 where
   pub each : AllByRecursion IsBodyOrdered bs
-  pub before : Option Standing
+  pub before : Option SiblingPlace
   pub behind : IsOrderedBehind before rest
 
-elements-ordered : (o : Option Standing) (n : Bytes) (k : ℕ) (bs : List Body) (rest : Forest) → IsOrderedBehind o (elements n k bs rest) → Inside bs rest
+elements-ordered : (o : Option SiblingPlace) (n : Bytes) (k : ℕ) (bs : List Body) (rest : Forest) → IsOrderedBehind o (elements n k bs rest) → Inside bs rest
 elements-ordered o n k [] rest h = record { each = tt; before = o; behind = h }
 elements-ordered o n k (b ∷ bs) rest h =
     let parts = front-ordered o n (Some k) b (elements n (suc k) bs rest) h in
     let more = elements-ordered (Some (n, Some k)) n (suc k) bs rest parts.1 in
     record { each = (parts.0, more.each); before = more.before; behind = more.behind }
 
-members-ordered : (ms : List (Bytes × Bodies)) (o : Option Standing) → IsOrderedBehind o (forest_of_members ms) → AllByRecursion (λ m. AreBodiesOrdered m.1) ms
+members-ordered : (ms : List (Bytes × Bodies)) (o : Option SiblingPlace) → IsOrderedBehind o (forest_of_members ms) → AllByRecursion (λ m. AreBodiesOrdered m.1) ms
 members-ordered [] o h = tt
 members-ordered ((n, one b) ∷ ms) o h = let parts = front-ordered o n None b (forest_of_members ms) h in (parts.0, members-ordered ms (Some (n, None)) parts.1)
 members-ordered ((n, many bs) ∷ ms) o h = let parts = elements-ordered o n 0 bs (forest_of_members ms) h in (parts.each, members-ordered ms parts.before parts.behind)
@@ -128,7 +128,7 @@ placed-ascend name None d ds ms h k = (h, k)
 placed-ascend name (Some zero) d ds ms h k = (h, k)
 placed-ascend name (Some (suc i)) d ds ms h k = k
 
-ascend : (f : Forest) (o : Option Standing) → IsOrderedBehind o f → Ascend (members_of f)
+ascend : (f : Forest) (o : Option SiblingPlace) → IsOrderedBehind o f → Ascend (members_of f)
 ascend end o h = tt
 ascend (leaf i rest) o h = placed-ascend i.name i.place (content_data i.content) (items_of rest) (members_of rest) (after rest i.name i.place h.1) (ascend rest (Some (i.name, i.place)) h.1)
 ascend (branch name p kids rest) o h = placed-ascend name p (json.object (members_of kids)) (items_of rest) (members_of rest) (after rest name p h.2) (ascend rest (Some (name, p)) h.2)

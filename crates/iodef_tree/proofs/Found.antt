@@ -13,7 +13,7 @@ use Rattle.serde_json.specs.Written.{compact_text}
 use Rattle.iodef_tree.specs.Fit.{IsBodyOrdered, AreBodiesOrdered}
 use Rattle.iodef_tree.specs.Json.{data_of, zeroth, id_in, incident_id}
 use Rattle.iodef_tree.specs.Kept.{IsKept, IsBodyKept, AreKept}
-use Rattle.iodef_tree.specs.Sound.{Standing, IsOrderedBehind, IsSound}
+use Rattle.iodef_tree.specs.Sound.{SiblingPlace, IsOrderedBehind, IsSound}
 use Rattle.iodef_tree.specs.Text.{Bytes}
 use Rattle.iodef_tree.specs.Texts.{HasTexts}
 use Rattle.iodef_tree.specs.Tree.{Forest, Body, holds, says, Bodies, one, many, in_front, elements, lines}
@@ -60,25 +60,25 @@ member-other k xs i m h e other filled =
 
 -- ---- what is kept in each member
 
-front-kept : (o : Option Standing) (n : Bytes) (p : Option ℕ) (b : Body) (rest : Forest) → IsOrderedBehind o (in_front n p b rest) → HasTexts (in_front n p b rest) →
+front-kept : (o : Option SiblingPlace) (n : Bytes) (p : Option ℕ) (b : Body) (rest : Forest) → IsOrderedBehind o (in_front n p b rest) → HasTexts (in_front n p b rest) →
     IsBodyKept (is_some p) b × IsOrderedBehind (Some (n, p)) rest × HasTexts rest
 front-kept o n p (holds f) rest h k = (record { ordered = h.1; texts = k.0 }, h.2, k.1)
 front-kept o n p (says c) rest h k = (k.0, h.1, k.1)
 
 record Kept (bs : List Body) (rest : Forest) : Type 0 where
   pub each : AllByRecursion (IsBodyKept true) bs
-  pub before : Option Standing
+  pub before : Option SiblingPlace
   pub behind : IsOrderedBehind before rest
   pub texts : HasTexts rest
 
-elements-kept : (o : Option Standing) (n : Bytes) (k : ℕ) (bs : List Body) (rest : Forest) → IsOrderedBehind o (elements n k bs rest) → HasTexts (elements n k bs rest) → Kept bs rest
+elements-kept : (o : Option SiblingPlace) (n : Bytes) (k : ℕ) (bs : List Body) (rest : Forest) → IsOrderedBehind o (elements n k bs rest) → HasTexts (elements n k bs rest) → Kept bs rest
 elements-kept o n k [] rest h t = record { each = tt; before = o; behind = h; texts = t }
 elements-kept o n k (b ∷ bs) rest h t =
     let parts = front-kept o n (Some k) b (elements n (suc k) bs rest) h t in
     let more = elements-kept (Some (n, Some k)) n (suc k) bs rest parts.1 parts.2 in
     record { each = (parts.0, more.each); before = more.before; behind = more.behind; texts = more.texts }
 
-members-kept : (ms : List (Bytes × Bodies)) (o : Option Standing) → IsOrderedBehind o (forest_of_members ms) → HasTexts (forest_of_members ms) → AllByRecursion (λ m. AreKept m.1) ms
+members-kept : (ms : List (Bytes × Bodies)) (o : Option SiblingPlace) → IsOrderedBehind o (forest_of_members ms) → HasTexts (forest_of_members ms) → AllByRecursion (λ m. AreKept m.1) ms
 members-kept [] o h t = tt
 members-kept ((n, one b) ∷ ms) o h t = let parts = front-kept o n None b (forest_of_members ms) h t in (parts.0, members-kept ms (Some (n, None)) parts.1 parts.2)
 members-kept ((n, many bs) ∷ ms) o h t = let parts = elements-kept o n 0 bs (forest_of_members ms) h t in (parts.each, members-kept ms parts.before parts.behind parts.texts)

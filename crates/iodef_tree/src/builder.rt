@@ -3,7 +3,7 @@
 ghost use Rattle.std.specs.Prelude.{◌≡◌, ℕ, suc, ◌-◌, ◌≤◌, List, [], ◌∷◌, ◌++◌, length, true, Some, None, IfOk, OnOk, OnErr};
 ghost use Rattle.iodef_tree.specs.Tree.{lines, in_front, end, holds, place_of};
 ghost use Rattle.iodef_tree.specs.View.{forest, body, members_forest};
-ghost use Rattle.iodef_tree.specs.Built.{is_numbered, IsBodyNumbered, last_standing, IsGrown, Grows, open_line, lines_of, IsSpineGrown, Extends, IsBuilt, HasLine};
+ghost use Rattle.iodef_tree.specs.Built.{is_numbered, IsBodyNumbered, last_place, IsGrown, Grows, open_line, lines_of, IsSpineGrown, Extends, IsBuilt, HasLine};
 ghost use Rattle.iodef_tree.specs.Filled.{IsItemFilled};
 ghost use Rattle.iodef_tree.specs.Outline.{back, may_come};
 
@@ -91,7 +91,7 @@ fn attach_array(
     requires grown { IsGrown members.items }
     requires numbered { IsBodyNumbered (body item) }
     requires filled { IsItemFilled item }
-    requires first { is_numbered (last_standing None (members_forest members.items)) name (Some 0) ≡ true }
+    requires first { is_numbered (last_place None (members_forest members.items)) name (Some 0) ≡ true }
     ensures { IfOk result (λ new. Grows members.items name true (body item) new.items) }
 {
     let mut items = Vec::new(alloc);

@@ -52,12 +52,12 @@ impl Document {
     ghost use Rattle.iodef_tree.specs.Sound.{IsSound};
     ghost use Rattle.iodef_tree.specs.Outline.{is_outline};
     ghost use Rattle.iodef_tree.specs.declared.fault.OutlineFault.TheVariants.{BadOutline};
-    ghost use Rattle.iodef_tree.specs.Reading.{Gives, reading};
+    ghost use Rattle.iodef_tree.specs.Reading.{Returns, reading};
 
     /// The documents of a body, one for each Incident (RFC 8727 section 2.1), or the first of the faults in their order.
     /// Each has all other members of the root, and its Incident alone at place 0.
     pub fn read(alloc: Global, bytes: &[u8]) -> Result<Vec<Document>, ReadFault>
-        ensures { Gives (λ v. v.items) result (reading bytes.now) }
+        ensures { Returns (λ v. v.items) result (reading bytes.now) }
     {
         read(alloc, bytes)
     }

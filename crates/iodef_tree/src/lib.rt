@@ -12,24 +12,16 @@ mod line;
 mod lookup;
 mod object;
 mod outline;
-#[cfg(test)]
-mod outline_tests;
 mod path;
 mod pointer;
 mod read;
 mod room;
 mod seek;
 mod shape;
-#[cfg(test)]
-mod tests_read;
 mod text;
 mod value;
-#[cfg(test)]
-mod value_tests;
 mod value_text;
 mod writer;
-#[cfg(test)]
-mod written_back_tests;
 
 pub use builder::Builder;
 pub use document::Document;
