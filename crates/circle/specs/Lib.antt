@@ -1,6 +1,6 @@
 pub mod Texts
 pub mod Codes
-pub mod Answers
+pub mod Outcomes
 pub mod Ordered
 pub mod Directory
 pub mod Refusals
