@@ -7,9 +7,12 @@ pub mod Refusals
 pub mod Facts
 pub mod Aftermath
 pub mod Sound
+pub mod Stretches
 pub mod Judgement
 pub mod Unfit
 pub mod Order
 pub mod Others
 pub mod Growth
 pub mod Laws
+pub mod Rows
+pub mod Reads
