@@ -5,10 +5,13 @@ pub mod command;
 pub mod directory;
 mod edit;
 pub mod judge;
+mod keyed;
+mod keys;
 pub mod laws;
+mod lookups;
 pub mod name;
 pub mod refusal;
 pub mod releasability;
-#[cfg(test)]
-mod tests;
+pub mod rows;
+mod sets;
 pub mod text;
