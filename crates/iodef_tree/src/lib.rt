@@ -22,6 +22,7 @@ mod seek;
 mod shape;
 #[cfg(test)]
 mod tests_read;
+mod string;
 mod text;
 mod value;
 #[cfg(test)]
@@ -38,6 +39,7 @@ pub use line::{Kind, Line};
 pub use object::{Item, Member, Object};
 pub use path::Path;
 pub use pointer::{PathFault, push_token};
+pub use string::push_quoted;
 pub use shape::{Shape, Sibling};
 pub use text::Text;
 
