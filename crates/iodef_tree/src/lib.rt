@@ -18,6 +18,7 @@ mod read;
 mod room;
 mod seek;
 mod shape;
+mod string;
 mod text;
 mod value;
 mod value_text;
@@ -30,6 +31,7 @@ pub use line::{Kind, Line};
 pub use object::{Item, Member, Object};
 pub use path::Path;
 pub use pointer::{PathFault, push_token};
+pub use string::push_quoted;
 pub use shape::{Shape, Sibling};
 pub use text::Text;
 

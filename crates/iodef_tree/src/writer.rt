@@ -1,16 +1,16 @@
 //! A tree as compact JSON.
 
 ghost use Rattle.std.specs.Prelude.{◌≡◌, ◌++◌, ◌∷◌, [], map, true, false, string_bytes, IfOk};
-ghost use Rattle.std.specs.List.{AllByRecursion, list_any};
+ghost use Rattle.std.specs.List.{AllByRecursion};
 ghost use Rattle.json.specs.Print.{quoted};
 ghost use Rattle.serde_json.specs.Written.{comma_if};
 ghost use Rattle.iodef_tree.specs.View.{forest, bodies, body};
 ghost use Rattle.iodef_tree.specs.Filled.{IsFilled, IsMemberFilled, IsItemFilled};
-ghost use Rattle.iodef_tree.specs.Written.{needs_escape, written, body_text, array_text, bodies_text, member_text};
+ghost use Rattle.iodef_tree.specs.Written.{written, body_text, array_text, bodies_text, member_text};
 
 use crate::object::{Item, Member, Object};
+use crate::string::push_quoted;
 use crate::text::Text;
-use serde_json::Value;
 use std::alloc::{AllocError, Global};
 
 /// The object as compact JSON.
@@ -29,24 +29,8 @@ pub(crate) fn object_text(alloc: Global, object: &Object) -> Result<String, Allo
 fn quote(alloc: Global, mut out: String, text: &str) -> Result<String, AllocError>
     ensures { IfOk result (λ s. string_bytes s ≡ string_bytes out ++ quoted text.now) }
 {
-    if is_escaped(text) {
-        let quoted = Value::String(String::from_str(alloc, text)?).to_string(alloc)?;
-        out.push_str(quoted.as_str())?;
-        return Ok(out);
-    }
-    out.push('"')?;
-    out.push_str(text)?;
-    out.push('"')?;
+    push_quoted(alloc, &mut out, text)?;
     Ok(out)
-}
-
-/// Whether a byte of the text is escaped in JSON (RFC 8259 section 7).
-fn is_escaped(text: &str) -> bool
-    ensures { result ≡ list_any needs_escape text.now }
-{
-    text.as_bytes()
-        .iter()
-        .any(|byte| *byte == b'"' || *byte == b'\\' || *byte < 32)
 }
 
 /// With the members of the object at the end.

@@ -2,7 +2,9 @@
 use Rattle.std.proofs.Common.{◌≡◌, ℕ, suc, List, [], ◌∷◌, ◌++◌, true, false, cond, refl, sym, ◌∙◌, ap, append-nil, append_assoc}
 use Rattle.std.specs.Prelude.{Option, Some, None, option_map}
 use Rattle.std.specs.Option.{option_or}
+use Rattle.std.specs.List.{flat_map}
 use Rattle.std.specs.Str.{bytes_eq}
+use Rattle.std.proofs.lemmas.List.Concat.{flat_map-append}
 use Rattle.iodef_tree.specs.Text.{Bytes, Tokens}
 use Rattle.iodef_tree.specs.Tree.{Forest, end, Body, holds, says, Bodies, one, many, text, value, in_front, elements, member_front, steps}
 use Rattle.marking.specs.Marks.{Held, absent, plain, other, Marked}
@@ -107,6 +109,12 @@ marked-elements a n k (b ∷ bs) rest =
 pub marked-member : (a : Marked) (n : Bytes) (m : Bodies) (rest : Forest) → marked_below a (member_front n m rest) ≡ marked_below a (member_front n m end) ++ marked_below a rest
 marked-member a n (one b) rest = marked-one a n None b rest
 marked-member a n (many bs) rest = marked-elements a n 0 bs rest
+
+-- and written, each by a text
+pub written-member : (line : Marked → Bytes) (a : Marked) (n : Bytes) (m : Bodies) (rest : Forest) →
+    flat_map line (marked_below a (member_front n m rest)) ≡ flat_map line (marked_below a (member_front n m end)) ++ flat_map line (marked_below a rest)
+written-member line a n m rest =
+    ap (flat_map line) (marked-member a n m rest) ∙ flat_map-append line (marked_below a (member_front n m end)) (marked_below a rest)
 
 pub ruleset held_steps = (held-skip, held-here)
 

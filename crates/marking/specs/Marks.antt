@@ -104,4 +104,4 @@ abbrev pub marked_at : List LocatedLine → Tokens → Marked
 marked_at es p = record { path = pointer_text p; label = label_at es p; site = pointer_text (site_of es p) }
 
 abbrev pub marked_by : Mark → Marked
-marked_by m = record { path = m.path; label = marking_of m.label; site = m.site }
+marked_by m = record { path = m.path.now; label = marking_of m.label; site = m.site.now }

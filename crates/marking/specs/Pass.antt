@@ -8,10 +8,9 @@ use Rattle.iodef_tree.specs.Text.{Bytes, Tokens}
 use Rattle.iodef_tree.specs.Tree.{Forest, end, leaf, branch, Body, holds, says, steps}
 use Rattle.iodef_tree.specs.Pointer.{pointer_text}
 use Rattle.iodef_tree.specs.declared.text.Text.{Text}
-use Rattle.marking.specs.Label.{Marking, private, marking_of}
+use Rattle.marking.specs.Label.{Marking, private}
 use Rattle.marking.specs.Marks.{Marked}
 use Rattle.marking.specs.Members.{spelled_in, is_rule_kept_in}
-use Rattle.marking.specs.declared.pass.Above.{Above}
 
 -- the tokens below a class of the first class that breaks the marking rule
 abbrev pub bad_below : Forest → Option Tokens
@@ -28,10 +27,6 @@ bad_in_body (says content) = None
 -- tokens that were taken on the way back, the last first
 abbrev pub tokens_of : Vec Text Global → Tokens
 tokens_of trail = reverse trail.items
-
--- how a class is marked, which its members inherit
-abbrev pub marked_as : Above → Marked
-marked_as a = record { path = a.pointer.now; label = marking_of a.label; site = a.site.now }
 
 -- the own label of a class by its JSON pointer and its members: what they spell, or the default of the Incident
 abbrev pub own_below : Bytes → Forest → Option Marking

@@ -14,5 +14,5 @@ mod rule;
 pub use fault::{MarkingFault, SiteFault};
 pub use label::{Handling, Label};
 pub use nearest::{is_incident, own, site, written_at};
-pub use pass::{Mark, marks};
+pub use pass::{Mark, MarkWriter, write_marks};
 pub use rule::check;

@@ -1,86 +1,97 @@
 //! Each class with the label that holds at it, in one pass down the tree.
 
-ghost use Rattle.std.specs.Prelude.{◌≡◌, ◌++◌, ◌∷◌, [], map, Option, Some, None, option_map, IfOk, OnOk, string_bytes};
+ghost use Rattle.std.specs.Prelude.{◌≡◌, ◌++◌, map, Some, None, option_map, IfOk, OnOk, string_bytes};
+ghost use Rattle.std.specs.List.{flat_map};
+ghost use Rattle.iodef_tree.specs.Text.{Bytes};
 ghost use Rattle.iodef_tree.specs.Tree.{end, in_front, member_front, steps};
 ghost use Rattle.iodef_tree.specs.View.{forest, bodies, body};
 ghost use Rattle.iodef_tree.specs.Paths.{located, class_paths};
 ghost use Rattle.iodef_tree.specs.Pointer.{pointer_text};
 ghost use Rattle.marking.specs.Label.{marking_of};
-ghost use Rattle.marking.specs.Marks.{first_bad_marking, marked_at, marked_by};
-ghost use Rattle.marking.specs.Pass.{marked_as, own_below as own_label_below, marked_step, marked_below};
+ghost use Rattle.marking.specs.Marks.{Marked, first_bad_marking, marked_at, marked_by};
+ghost use Rattle.marking.specs.Pass.{own_below as own_label_below, marked_step, marked_below};
 
 use crate::class::written;
 use crate::label::Label;
-use iodef_tree::{Document, Item, Member, Object, Text, push_token};
+use iodef_tree::{Document, Item, Member, Object, push_token};
 use std::alloc::{AllocError, Global};
 
-/// A class with the label that holds at it.
-#[derive(Drop)]
+/// A class with the label that holds at it. Its members inherit the label and the site.
+#[derive(Clone, Copy)]
 pub struct Mark<'a> {
     /// The class's path as a JSON pointer.
-    pub path: Text,
+    pub path: &'a str,
     pub label: Label<'a>,
     /// The path of the nearest class or root with an own label, as a JSON pointer.
-    pub site: Text,
+    pub site: &'a str,
 }
 
-/// What the members of a class inherit from it.
-#[derive(Clone, Copy)]
-pub(crate) struct Above<'a, 'p> {
-    pointer: &'p str,
-    label: Label<'a>,
-    site: &'p str,
+/// What writes down the classes of a document, one after another.
+pub trait MarkWriter {
+    /// What it has written.
+    ghost text: { Self → Bytes };
+
+    /// What it writes of a class.
+    ghost line: { Marked → Bytes };
+
+    /// Writes the class down.
+    fn write(&mut self, alloc: Global, mark: Mark<'_>) -> Result<(), AllocError>
+        ensures { OnOk result (text self.new ≡ text self.old ++ line (marked_by mark.entry)) };
 }
 
-/// Each class in stored order, with the label that holds at it and that label's site. One pass, linear in the lines.
-pub fn marks<'a>(alloc: Global, document: &'a Document) -> Result<Vec<Mark<'a>>, AllocError>
+/// Hands each class to the writer, in stored order, with the label that holds at it and that label's site. One pass,
+/// linear in the lines; the marks are lent, so none is kept.
+pub fn write_marks<W: MarkWriter>(
+    alloc: Global,
+    document: &Document,
+    writer: &mut W,
+) -> Result<(), AllocError>
     requires { first_bad_marking (located document.now) ≡ None }
-    ensures { IfOk result (λ v. let es = located document.now in map marked_by v.items ≡ map (marked_at es) (class_paths es)) }
+    ensures { OnOk result (let es = located document.now in
+        W.text writer.new ≡ W.text writer.old ++ flat_map W.line (map (marked_at es) (class_paths es))) }
 {
-    let mut marks = Vec::new(alloc);
-    let root = Above {
-        pointer: "",
+    let root = Mark {
+        path: "",
         label: Label::Private,
         site: "",
     };
-    push_members(&mut marks, alloc, root, document.root())?;
-    Ok(marks)
+    write_members(alloc, writer, root, document.root())
 }
 
 #[cycle(marks)]
 #[tactic(auto, using(crate::proofs::Fronts::marked_steps))]
-fn push_members<'a>(
-    marks: &mut Vec<Mark<'a>>,
+fn write_members<W: MarkWriter>(
     alloc: Global,
-    above: Above<'a, '_>,
-    object: &'a Object,
+    writer: &mut W,
+    above: Mark<'_>,
+    object: &Object,
 ) -> Result<(), AllocError>
-    ensures { OnOk result
-        (map marked_by marks.new.items ≡ map marked_by marks.old.items ++ marked_below (marked_as above.entry) (forest object.now)) }
+    ensures { OnOk result (W.text writer.new
+        ≡ W.text writer.old ++ flat_map W.line (marked_below (marked_by above.entry) (forest object.now))) }
 {
     for (name, member) in &object.members {
-        push_member(marks, alloc, above, name.as_str(), member)?;
+        write_member(alloc, writer, above, name.as_str(), member)?;
     }
     Ok(())
 }
 
 #[cycle(marks)]
 #[tactic(auto, using(crate::proofs::Fronts::marked_steps))]
-fn push_member<'a>(
-    marks: &mut Vec<Mark<'a>>,
+fn write_member<W: MarkWriter>(
     alloc: Global,
-    above: Above<'a, '_>,
+    writer: &mut W,
+    above: Mark<'_>,
     name: &str,
-    member: &'a Member,
+    member: &Member,
 ) -> Result<(), AllocError>
-    ensures { OnOk result (map marked_by marks.new.items
-        ≡ map marked_by marks.old.items ++ marked_below (marked_as above.entry) (member_front name.now (bodies member.now) end)) }
+    ensures { OnOk result (W.text writer.new
+        ≡ W.text writer.old ++ flat_map W.line (marked_below (marked_by above.entry) (member_front name.now (bodies member.now) end))) }
 {
     match member {
-        Member::One(item) => push_item(marks, alloc, above, name, None, item),
+        Member::One(item) => write_item(alloc, writer, above, name, None, item),
         Member::Many(items) => {
             for (index, item) in items.iter().enumerate() {
-                push_item(marks, alloc, above, name, Some(index), item)?;
+                write_item(alloc, writer, above, name, Some(index), item)?;
             }
             Ok(())
         }
@@ -89,49 +100,31 @@ fn push_member<'a>(
 
 #[cycle(marks)]
 #[tactic(auto, using(crate::proofs::Fronts::marked_steps))]
-fn push_item<'a>(
-    marks: &mut Vec<Mark<'a>>,
+fn write_item<W: MarkWriter>(
     alloc: Global,
-    above: Above<'a, '_>,
+    writer: &mut W,
+    above: Mark<'_>,
     name: &str,
     index: Option<usize>,
-    item: &'a Item,
+    item: &Item,
 ) -> Result<(), AllocError>
-    ensures { OnOk result (map marked_by marks.new.items
-        ≡ map marked_by marks.old.items ++ marked_below (marked_as above.entry) (in_front name.now index (body item.now) end)) }
+    ensures { OnOk result (W.text writer.new
+        ≡ W.text writer.old ++ flat_map W.line (marked_below (marked_by above.entry) (in_front name.now index (body item.now) end))) }
 {
     match item {
         Item::Class(object) => {
-            let pointer = pointer_below(alloc, above.pointer, name, index)?;
-            let own = own_below(pointer.as_str(), object);
-            let here = below(above, pointer.as_str(), own);
-            push_mark(marks, alloc, here)?;
-            push_members(marks, alloc, here, object)
+            let path = path_below(alloc, above.path, name, index)?;
+            let own = own_below(path.as_str(), object);
+            let here = below(above, path.as_str(), own);
+            writer.write(alloc, here)?;
+            write_members(alloc, writer, here, object)
         }
         Item::Text(_) => Ok(()),
         Item::Value(_) => Ok(()),
     }
 }
 
-fn push_mark<'a>(
-    marks: &mut Vec<Mark<'a>>,
-    alloc: Global,
-    here: Above<'a, '_>,
-) -> Result<(), AllocError>
-    ensures { OnOk result
-        (map marked_by marks.new.items ≡ map marked_by marks.old.items ++ marked_as here.entry ∷ []) }
-{
-    let path = Text::new(String::from_str(alloc, here.pointer)?);
-    let site = Text::new(String::from_str(alloc, here.site)?);
-    marks.push(Mark {
-        path,
-        label: here.label,
-        site,
-    })?;
-    Ok(())
-}
-
-fn pointer_below(
+fn path_below(
     alloc: Global,
     above: &str,
     name: &str,
@@ -139,23 +132,23 @@ fn pointer_below(
 ) -> Result<String, AllocError>
     ensures { IfOk result (λ s. string_bytes s ≡ above.now ++ pointer_text (steps name.now index)) }
 {
-    let mut pointer = String::from_str(alloc, above)?;
-    push_token(&mut pointer, name)?;
+    let mut path = String::from_str(alloc, above)?;
+    push_token(&mut path, name)?;
     if let Some(index) = index {
-        let digits = format!(in alloc; "{index}")?;
-        push_token(&mut pointer, digits.as_str())?;
+        let mut digits = itoa::Buffer::new();
+        push_token(&mut path, digits.format(index))?;
     }
-    Ok(pointer)
+    Ok(path)
 }
 
 /// The own label of a class: what is written in it, or the Incident's default.
-fn own_below<'a>(pointer: &str, object: &'a Object) -> Option<Label<'a>>
-    ensures { option_map marking_of result ≡ own_label_below pointer.now (forest object.now) }
+fn own_below<'a>(path: &str, object: &'a Object) -> Option<Label<'a>>
+    ensures { option_map marking_of result ≡ own_label_below path.now (forest object.now) }
 {
     match written(object) {
         Some(label) => Some(label),
         None => {
-            if pointer == "/Incident/0" {
+            if path == "/Incident/0" {
                 Some(Label::Private)
             } else {
                 None
@@ -164,17 +157,17 @@ fn own_below<'a>(pointer: &str, object: &'a Object) -> Option<Label<'a>>
     }
 }
 
-fn below<'a, 'p>(above: Above<'a, 'p>, pointer: &'p str, own: Option<Label<'a>>) -> Above<'a, 'p>
-    ensures { marked_as result ≡ marked_step (marked_as above.entry) pointer.now (option_map marking_of own.entry) }
+fn below<'a>(above: Mark<'a>, path: &'a str, own: Option<Label<'a>>) -> Mark<'a>
+    ensures { marked_by result ≡ marked_step (marked_by above.entry) path.now (option_map marking_of own.entry) }
 {
     match own {
-        Some(label) => Above {
-            pointer,
+        Some(label) => Mark {
+            path,
             label,
-            site: pointer,
+            site: path,
         },
-        None => Above {
-            pointer,
+        None => Mark {
+            path,
             label: above.label,
             site: above.site,
         },

@@ -1,11 +1,11 @@
 //! Labels, handlings and markings.
 
-ghost use Rattle.std.specs.Prelude.{◌≡◌, None};
+ghost use Rattle.std.specs.Prelude.{◌≡◌, [], None};
 ghost use Rattle.iodef_tree.specs.Paths.{located};
 ghost use Rattle.marking.specs.Marks.{first_bad_marking};
 
 use iodef_tree::{Document, Path};
-use marking::{Handling, Label, SiteFault, marks, own, site, written_at};
+use marking::{Handling, Label, Mark, MarkWriter, SiteFault, own, site, write_marks, written_at};
 use std::alloc::{AllocError, Global};
 use std::cmp::Ordering;
 
@@ -39,16 +39,32 @@ pub fn compared(alloc: Global, first: Handling, second: Handling) -> Result<Stri
 pub fn marked(alloc: Global, document: &Document) -> Result<String, AllocError>
     requires { first_bad_marking (located document.now) ≡ None }
 {
-    let mut told = String::new(alloc);
-    for mark in &marks(alloc, document)? {
-        let path = mark.path.as_str();
-        let label = mark.label.text(alloc)?;
-        let handling = mark.label.handling(None).name();
-        let site = mark.site.as_str();
-        let line = format!(in alloc; "[{path}] {label}: {handling} by [{site}]; ")?;
-        told.push_str(line.as_str())?;
+    let mut told = Told {
+        text: String::new(alloc),
+    };
+    write_marks(alloc, document, &mut told)?;
+    Ok(told.text)
+}
+
+/// The classes of a report, as the table shows them.
+#[derive(Drop)]
+struct Told {
+    text: String,
+}
+
+/// Nothing is promised of the text, which the table compares.
+impl MarkWriter for Told {
+    ghost text = { λ _. [] };
+
+    ghost line = { λ _. [] };
+
+    fn write(&mut self, alloc: Global, mark: Mark<'_>) -> Result<(), AllocError> {
+        let Mark { path, label, site } = mark;
+        let text = label.text(alloc)?;
+        let handling = label.handling(None).name();
+        let line = format!(in alloc; "[{path}] {text}: {handling} by [{site}]; ")?;
+        self.text.push_str(line.as_str())
     }
-    Ok(told)
 }
 
 fn text_of(alloc: Global, label: Option<Label<'_>>) -> Result<String, AllocError> {
