@@ -4,6 +4,7 @@
 pub mod command;
 pub mod directory;
 mod edit;
+mod facts;
 pub mod judge;
 mod keyed;
 mod keys;
