@@ -11,6 +11,7 @@ mod keys;
 pub mod laws;
 mod lookups;
 pub mod name;
+mod reads;
 pub mod refusal;
 pub mod releasability;
 pub mod rows;

@@ -106,10 +106,7 @@ impl DirectoryRows {
     pub fn has_group_named(&self, owner: u32, name: &str) -> bool
         ensures { result ≡ has_group_named owner name.now self.now }
     {
-        self.sets
-            .groups
-            .iter()
-            .any(|group| group.owner == owner && group.name.as_str() == name)
+        self.sets.groups.iter().any(|group| group.owner == owner && group.name.as_str() == name)
     }
 
     /// Whether the organisation owns the group.
@@ -123,7 +120,10 @@ impl DirectoryRows {
     pub fn has_group_being(&self, number: u32, active: bool) -> bool
         ensures { result ≡ has_group_being number active self.now }
     {
-        is_any_being(rows_of_key(self.sets.groups.as_slice(), (0, number)), active)
+        is_any_being(
+            rows_of_key(self.sets.groups.as_slice(), (0, number)),
+            active,
+        )
     }
 
     /// Whether the organisation is a member of the group.
