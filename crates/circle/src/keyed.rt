@@ -1,5 +1,6 @@
 //! Rows in the order of a key of two numbers: those of one key are found by halving.
-ghost use Rattle.std.specs.Prelude.{◌≡◌, ◌≤◌, ◌<◌, ◌+◌, ℕ, length, true, false, not, filter};
+ghost use Rattle.std.specs.Prelude.{◌≡◌, ◌≤◌, ◌<◌, ◌+◌, ℕ, length, true, false, not, filter, find};
+ghost use Rattle.std.specs.Option.{option_copied};
 ghost use Rattle.std.specs.List.{list_any};
 ghost use Rattle.std.specs.List.Sorted.{IsPartitionPoint};
 ghost use Rattle.std.specs.Ordering.{is_lt};
@@ -52,6 +53,13 @@ pub(crate) fn has_row<T: Keyed>(rows: &[T], key: (u32, u32)) -> bool
     ensures { Ascend T.key rows.now → result ≡ list_any (λ x. same_pair (T.key x) key) rows.now }
 {
     !rows_of_key(rows, key).is_empty()
+}
+
+/// The first row of this key.
+pub(crate) fn row_of<T: Keyed>(rows: &[T], key: (u32, u32)) -> Option<&T>
+    ensures { Ascend T.key rows.now → option_copied result ≡ find (λ x. same_pair (T.key x) key) rows.now }
+{
+    rows_of_key(rows, key).first()
 }
 
 /// Puts the row in before the first one above it. There is room, so it takes no memory.

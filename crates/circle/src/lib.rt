@@ -4,12 +4,14 @@
 pub mod command;
 pub mod directory;
 mod edit;
+mod facts;
 pub mod judge;
 mod keyed;
 mod keys;
 pub mod laws;
 mod lookups;
 pub mod name;
+mod reads;
 pub mod refusal;
 pub mod releasability;
 pub mod rows;
