@@ -7,3 +7,4 @@ pub mod Verdict
 pub mod Inherited
 pub mod Decided
 pub mod Laws
+pub mod Ahead
