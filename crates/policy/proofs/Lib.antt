@@ -1,5 +1,5 @@
 pub mod Steps
 mod Clearances
 mod Refusals
-mod Refused
 mod Sight
+mod Onwards

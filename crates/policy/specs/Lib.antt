@@ -8,3 +8,4 @@ pub mod Verdict
 pub mod Inherited
 pub mod Decided
 pub mod Laws
+pub mod Ahead

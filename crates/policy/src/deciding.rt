@@ -4,15 +4,19 @@ ghost use Rattle.std.specs.Prelude.{◌≡◌, ◌++◌, ◌∷◌, [], None, If
 ghost use Rattle.iodef_tree.specs.Text.{Bytes, Tokens};
 ghost use Rattle.iodef_tree.specs.Paths.{located};
 ghost use Rattle.marking.specs.Marks.{first_bad_marking};
+ghost use Rattle.policy.specs.Ahead.{ahead_of, met_by};
 ghost use Rattle.policy.specs.Inherited.{carried, inherited_at};
 ghost use Rattle.policy.specs.Decided.{Decides};
+ghost use Rattle.policy.specs.declared.standing.Standing.{Standing as Reader};
+ghost use Rattle.policy.specs.declared.case.Case.{Case as Judged};
 
+use crate::ahead::Ahead;
 use crate::case::Case;
 use crate::fault::DecideFault;
 use crate::inherited::Carried;
 use crate::standing::Standing;
 use crate::verdict::Verdict;
-use iodef_tree::{Document, Path};
+use iodef_tree::{Document, Path, Text};
 use marking::written_at;
 use std::alloc::{AllocError, Global};
 
@@ -46,28 +50,38 @@ fn said_at<'a>(
     ensures { IfOk result (λ h. carried path.now h ≡ inherited_at (located document.now) case.now standing.now path.now) }
 {
     let mut here = Path::root(alloc);
-    let mut said = Carried::at_root(case, standing, &here);
+    let mut ahead = Ahead::at_root(alloc, case, standing)?;
+    let mut said = Carried::at_root(&ahead);
     for token in path.tokens() {
-        here = here.member(alloc, token.as_str())?;
-        said = below(document, case, standing, &here, said);
+        here = longer(here, token)?;
+        ahead = ahead.below(alloc, token.as_str())?;
+        said = below(document, &ahead, &here, said);
     }
     Ok(said)
 }
 
-/// One token further down, at the path that is handed in.
+/// The path with one token more.
+fn longer(path: Path, token: &Text) -> Result<Path, AllocError>
+    ensures { IfOk result (λ p. p ≡ path ++ token.now ∷ []) }
+{
+    let mut tokens = path.into_tokens();
+    tokens.push(token.clone()?)?;
+    Ok(Path::new(tokens))
+}
+
+/// One token further down, at the path that is handed in, where this lies ahead.
 fn below<'a>(
     document: &'a Document,
-    case: &Case,
-    standing: &Standing,
+    ahead: &Ahead<'_>,
     here: &Path,
     above: Carried<'a>,
 ) -> Carried<'a>
-    ensures { (p : Tokens) (x : Bytes) → here.now ≡ p ++ x ∷ [] → carried p above.entry ≡ inherited_at (located document.now) case.now standing.now p →
-        carried here.now result ≡ inherited_at (located document.now) case.now standing.now here.now }
+    ensures { (c : Judged) (s : Reader) (p : Tokens) (x : Bytes) → here.now ≡ p ++ x ∷ [] → met_by ahead.now ≡ ahead_of c s here.now →
+        carried p above.entry ≡ inherited_at (located document.now) c s p → carried here.now result ≡ inherited_at (located document.now) c s here.now }
 {
     if document.has_class(here) {
-        above.in_class(case, standing, here, written_at(document, here))
+        above.in_class(ahead, here, written_at(document, here))
     } else {
-        above.in_array(case, standing, here)
+        above.in_array(ahead)
     }
 }

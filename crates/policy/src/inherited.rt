@@ -1,17 +1,17 @@
 //! What is said of a path, for a pass down a document that inherits it from the path above.
 
-ghost use Rattle.std.specs.Prelude.{◌≡◌, [], if◌then◌else◌, Option, Some, None, option_map};
+ghost use Rattle.std.specs.Prelude.{◌≡◌, ◌&&◌, ◌||◌, [], is_none, option_map};
 ghost use Rattle.std.specs.Option.{option_or};
-ghost use Rattle.iodef_tree.specs.Text.{same_path};
+ghost use Rattle.iodef_tree.specs.Text.{Tokens};
 ghost use Rattle.marking.specs.Label.{marking_of};
-ghost use Rattle.policy.specs.Gates.{passage_of};
-ghost use Rattle.policy.specs.Verdict.{first_of, refusals_at, handling_for, is_cleared_for, showing_rule, hidden_by as hides_by};
-ghost use Rattle.policy.specs.Inherited.{carried, at_root as at_the_root, array_step, class_step, label_step, is_granted as is_granted_at, is_seen as is_seen_by, hides as hides_at, verdict_by};
+ghost use Rattle.policy.specs.Ahead.{ahead_of, met_by};
+ghost use Rattle.policy.specs.Verdict.{handling_for, is_cleared_for, showing_rule, hidden_by as hides_by};
+ghost use Rattle.policy.specs.Inherited.{carried, at_root as at_the_root, array_step, class_step, label_step, is_seen as is_seen_by, hides as hides_at, verdict_by};
+ghost use Rattle.policy.specs.declared.standing.Standing.{Standing as Reader};
+ghost use Rattle.policy.specs.declared.case.Case.{Case as Judged};
 
-use crate::case::Case;
+use crate::ahead::Ahead;
 use crate::cleared::clearance;
-use crate::gate::{Gate, passes};
-use crate::permission::holds_for;
 use crate::rule::Rule;
 use crate::spot::Spot;
 use crate::standing::Standing;
@@ -30,44 +30,43 @@ pub struct Carried<'a> {
 }
 
 impl<'a> Carried<'a> {
-    /// At the root, where the pass is. Takes no memory, as the other calls here.
-    pub fn at_root<S: Spot>(case: &Case, standing: &Standing, spot: &S) -> Carried<'a>
-        requires { S.tokens spot.now ≡ [] }
-        ensures { carried (S.tokens spot.now) result ≡ at_the_root case.now standing.now }
+    /// At the root, where this lies ahead. Takes no memory, as the other calls here.
+    pub fn at_root(ahead: &Ahead<'_>) -> Carried<'a>
+        ensures { (c : Judged) (s : Reader) → met_by ahead.now ≡ ahead_of c s [] → carried [] result ≡ at_the_root c s }
     {
         Carried {
-            refusal: refused_at(case, standing, spot),
+            refusal: ahead.refusal(),
             label: Label::Private,
-            covered: is_granted(case, standing, spot),
+            covered: ahead.is_granted(),
         }
     }
 
-    /// In an array, one token further down, where the pass is: no label holds at its own path.
-    pub fn in_array<S: Spot>(self, case: &Case, standing: &Standing, spot: &S) -> Carried<'a>
-        ensures { carried (S.tokens spot.now) result ≡ array_step case.now standing.now (carried (S.tokens spot.now) self.entry) (S.tokens spot.now) }
+    /// In an array, one token further down, where this lies ahead: no label holds at its own path.
+    pub fn in_array(self, ahead: &Ahead<'_>) -> Carried<'a>
+        ensures { (c : Judged) (s : Reader) (p : Tokens) → met_by ahead.now ≡ ahead_of c s p →
+            carried p result ≡ array_step c s (carried p self.entry) p }
     {
         Carried {
-            refusal: first_refusal(self.refusal, case, standing, spot),
+            refusal: first_refusal(self.refusal, ahead),
             label: self.label,
-            covered: self.covered || is_granted(case, standing, spot),
+            covered: is_covered(self.covered, ahead),
         }
     }
 
-    /// In a class, one token further down, where the pass is, with the label that is written in it.
+    /// In a class, one token further down, where the pass is and this lies ahead, with the label that is written in it.
     pub fn in_class<S: Spot>(
         self,
-        case: &Case,
-        standing: &Standing,
+        ahead: &Ahead<'_>,
         spot: &S,
         written: Option<Label<'a>>,
     ) -> Carried<'a>
-        ensures { carried (S.tokens spot.now) result
-            ≡ class_step case.now standing.now (carried (S.tokens spot.now) self.entry) (S.tokens spot.now) (option_map marking_of written.entry) }
+        ensures { (c : Judged) (s : Reader) → met_by ahead.now ≡ ahead_of c s (S.tokens spot.now) →
+            carried (S.tokens spot.now) result ≡ class_step c s (carried (S.tokens spot.now) self.entry) (S.tokens spot.now) (option_map marking_of written.entry) }
     {
         Carried {
-            refusal: first_refusal(self.refusal, case, standing, spot),
+            refusal: first_refusal(self.refusal, ahead),
             label: label_below(self.label, spot, written),
-            covered: (self.covered && written.is_none()) || is_granted(case, standing, spot),
+            covered: is_covered(outlives(self.covered, written), ahead),
         }
     }
 
@@ -136,51 +135,27 @@ fn hidden_by(handling: Handling) -> Rule
     }
 }
 
-/// The first refusal of the gates where the pass is.
-fn refused_at<S: Spot>(case: &Case, standing: &Standing, spot: &S) -> Option<Rule>
-    ensures { result ≡ first_of (refusals_at case.now standing.now (S.tokens spot.now)) }
-{
-    for gate in case.gates.as_slice() {
-        if let Some(rule) = refused_by(gate, standing, spot) {
-            return Some(rule);
-        }
-    }
-    None
-}
-
-/// The refusal of a gate, if it stands where the pass is.
-fn refused_by<S: Spot>(gate: &Gate, standing: &Standing, spot: &S) -> Option<Rule>
-    ensures { result ≡ (if same_path gate.now.path (S.tokens spot.now) then passage_of standing.now gate.now else None) }
-{
-    if spot.is_at(&gate.path) {
-        passes(standing, gate).err()
-    } else {
-        None
-    }
-}
-
-fn first_refusal<S: Spot>(
-    above: Option<Rule>,
-    case: &Case,
-    standing: &Standing,
-    spot: &S,
-) -> Option<Rule>
-    ensures { result ≡ option_or above (first_of (refusals_at case.now standing.now (S.tokens spot.now))) }
+fn first_refusal(above: Option<Rule>, ahead: &Ahead<'_>) -> Option<Rule>
+    ensures { result ≡ option_or above (met_by ahead.now []).refusal }
 {
     match above {
         Some(rule) => Some(rule),
-        None => refused_at(case, standing, spot),
+        None => ahead.refusal(),
     }
 }
 
-/// Whether a permission that stands where the pass is holds for the reader.
-fn is_granted<S: Spot>(case: &Case, standing: &Standing, spot: &S) -> bool
-    ensures { result ≡ is_granted_at case.now standing.now (S.tokens spot.now) }
+/// Whether what a permission above covers goes on in a class in which this label is written.
+fn outlives(above: bool, written: Option<Label<'_>>) -> bool
+    ensures { result ≡ (above && is_none (option_map marking_of written.entry)) }
 {
-    case.permissions
-        .as_slice()
-        .iter()
-        .any(|x| holds_for(standing, x) && spot.is_at(&x.path))
+    above && written.is_none()
+}
+
+/// Whether a permission above covers this place, or one here does.
+fn is_covered(above: bool, ahead: &Ahead<'_>) -> bool
+    ensures { result ≡ (above || (met_by ahead.now []).granted) }
+{
+    above || ahead.is_granted()
 }
 
 fn label_below<'a, S: Spot>(above: Label<'a>, spot: &S, written: Option<Label<'a>>) -> Label<'a>

@@ -3,6 +3,7 @@
 //! sharing groups, RFC 7970 section 3.3.1).
 #![tactic(auto)]
 
+mod ahead;
 mod case;
 mod cleared;
 mod deciding;
@@ -11,12 +12,14 @@ mod gate;
 mod inherited;
 pub mod laws;
 mod numbers;
+mod onward;
 mod permission;
 mod rule;
 mod spot;
 mod standing;
 mod verdict;
 
+pub use ahead::Ahead;
 pub use case::Case;
 pub use cleared::clearance;
 pub use deciding::decide;

@@ -11,10 +11,6 @@ pub trait Spot {
     /// Its path.
     ghost tokens: { Self → Tokens };
 
-    /// Whether it is at this path. Takes no memory.
-    fn is_at(&self, path: &Path) -> bool
-        ensures { result ≡ same_path path.now (tokens self.now) };
-
     /// Whether it is at the Incident. Takes no memory.
     fn is_at_incident(&self) -> bool
         ensures { result ≡ same_path (tokens self.now) incident_path };
@@ -22,10 +18,6 @@ pub trait Spot {
 
 impl Spot for Path {
     ghost tokens = { λ p. p };
-
-    fn is_at(&self, path: &Path) -> bool {
-        path == self
-    }
 
     fn is_at_incident(&self) -> bool {
         match self.tokens() {

@@ -1,5 +1,5 @@
 -- What the state of the pass says when a whole document is done.
-use Rattle.std.proofs.Common.{◌≡◌, ◌<◌, ◌^◌, ℕ, ◌+◌, List, [], ◌++◌, sym, ◌∙◌, ap, append-nil, arith}
+use Rattle.std.proofs.Common.{◌≡◌, ◌<◌, ◌^◌, ℕ, ◌+◌, Bool, List, [], ◌++◌, sym, ◌∙◌, ap, append-nil, arith}
 use Rattle.std.specs.Prelude.{None}
 use Rattle.iodef_tree.specs.Text.{Tokens}
 use Rattle.iodef_tree.specs.Tree.{Forest, lines}
@@ -9,7 +9,7 @@ use Rattle.marking.specs.Marks.{first_bad_marking}
 use Rattle.policy.specs.Inherited.{at_root}
 use Rattle.policy.specs.declared.standing.Standing.{Standing}
 use Rattle.policy.specs.declared.case.Case.{Case}
-use Rattle.redact.specs.Withheld.{Withheld}
+use Rattle.redact.specs.Withheld.{Withheld, is_among}
 use Rattle.redact.specs.Judged.{Judged, root, visible_classes, told}
 use Rattle.redact.specs.Told.{withheld_of, visible_count}
 use Rattle.redact.specs.Pass.{pass}
@@ -24,6 +24,9 @@ module _ (f : Forest) (c : Case) (s : Standing) (sound : IsSound f) (ok : first_
       let e : n ≡ visible_classes j = omega (arith, counted) in
       e ∙ same ∙ sym (excerpt-count f c s sound ok)
 
-  pub ended-told : (ws : List Withheld) (q : Tokens) → q ≡ [] → ws ++ [] ≡ [] ++ told root q 0 j → ws ≡ withheld_of (lines 1 f) c s
-  ended-told ws q at h =
-      sym (append-nil ws) ∙ h ∙ ap (λ p. told root p 0 j) at ∙ ap (told root [] 0) is ∙ sym (excerpt-told f c s sound ok)
+  pub ended-told : (ws : List Withheld) (q : Tokens) → q ≡ [] → is_among (ws ++ []) ≡ is_among (told root q 0 j) →
+      (x : Withheld) → is_among ws x ≡ is_among (withheld_of (lines 1 f) c s) x
+  ended-told ws q at h x =
+      ap (λ vs. is_among vs x) (sym (append-nil ws)) ∙ ap (λ (g : Withheld → Bool). g x) h
+      ∙ ap (λ p. is_among (told root p 0 j) x) at ∙ ap (λ k. is_among (told root [] 0 k) x) is
+      ∙ ap (λ ps. is_among ps x) (sym (excerpt-told f c s sound ok))

@@ -19,3 +19,4 @@ pub mod Needles
 pub mod Searched
 pub mod Searching
 pub mod Texts
+pub mod Stepping

@@ -1,12 +1,13 @@
 -- The order in which what is withheld is listed.
-use Rattle.std.proofs.Common.{◌≡◌, List, true, refl, sym, ◌∙◌, ap, rules, if◌then◌else◌}
-use Rattle.std.specs.Prelude.{codes, Some}
-use Rattle.std.specs.List.{dedup}
+use Rattle.std.proofs.Common.{◌≡◌, Bool, List, [], ◌∷◌, true, false, ◌||◌, refl, arith, sym, ◌∙◌, ap, rules, if◌then◌else◌}
+use Rattle.std.specs.Prelude.{codes, Some, Contains}
+use Rattle.std.specs.List.{dedup, list_any}
 use Rattle.std.specs.Cmp.{IsTotalOrder, IsEquivalence}
 use Rattle.std.specs.Cmp.Rules.{comparing}
 use Rattle.std.specs.Str.{bytes_eq}
 use Rattle.std.specs.List.Sorted.{IsPermutation, IsSorted}
-use Rattle.std.proofs.lemmas.Bool.{and_parts}
+use Rattle.std.proofs.lemmas.Bool.{and_parts, false≢true}
+use Rattle.std.proofs.lemmas.Map.Views.{Contains-from_any, list_any-from_Contains}
 use Rattle.std.proofs.lemmas.List.Sorted.{Contains-permutation, IsPermutation-sym}
 use Rattle.std.proofs.lemmas.List.Kept.{Contains-dedup, Contains-from_dedup, IsStrictlySortedBy-dedup}
 use Rattle.iodef_tree.specs.Text.{Bytes, Tokens}
@@ -16,7 +17,8 @@ use Rattle.iodef_tree.proofs.Order.{bytes_eq-true}
 use Rattle.policy.specs.Rule.{name_of}
 use Rattle.policy.specs.declared.rule.Rule.{Rule}
 use Rattle.policy.specs.declared.rule.Rule.TheVariants.{Src, P, O, C, M, A, X, G0, G1, G2, G4, G4X, HGreen, HAmber, HStrict, HRed}
-use Rattle.redact.specs.Withheld.{Withheld, withheld_cmp, same_withheld, withheld-ties, Lists}
+use Rattle.redact.specs.Withheld.{Withheld, withheld_cmp, same_withheld, is_among, Lists}
+use Rattle.redact.specs.Ties.{withheld-ties}
 
 pub withheld-equiv : IsEquivalence same_withheld
 withheld-equiv = search (comparing, rules)
@@ -69,3 +71,35 @@ lists-dedup xs ys same sorted = record {
   sound = λ x h. Contains-permutation ys xs x (IsPermutation-sym xs ys same) (Contains-from_dedup same_withheld ys x h);
   complete = λ x h. Contains-dedup withheld-equiv withheld-same ys x (Contains-permutation xs ys x same h);
 }
+
+-- a list of some pairs is one of the same pairs in another order or number
+pub lists-same : (ps qs xs : List Withheld) → ((x : Withheld) → is_among ps x ≡ is_among qs x) → Lists ps xs → Lists qs xs
+lists-same ps qs xs same l = record {
+  ascending = l.ascending;
+  sound = λ x h. over ps qs same x (l.sound x h);
+  complete = λ x h. l.complete x (over qs ps (λ y. sym (same y)) x h);
+}
+  where
+    over : (ps qs : List Withheld) → ((x : Withheld) → is_among ps x ≡ is_among qs x) → (x : Withheld) → Contains ps x → Contains qs x
+    over ps qs same x h = Contains-from_any withheld-same x qs (sym (same x) ∙ list_any-from_Contains withheld-equiv x ps h)
+
+-- a rule of a name that is among these is tested among them
+pub any-known : (test : Rule → Bool) (r : Rule) (rs : List Rule) → list_any (λ x. bytes_eq (name_of x) (name_of r)) rs ≡ true →
+    list_any test rs ≡ (list_any test rs || test r)
+any-known test r [] e = absurd (false≢true e)
+any-known test r (x ∷ rs) e = step (bytes_eq (name_of x) (name_of r)) refl e (any-known test r rs)
+  where
+    same : bytes_eq (name_of x) (name_of r) ≡ true → x ≡ r
+    same h = sym (named-name x) ∙ ap named (bytes_eq-true (name_of x) (name_of r) h) ∙ named-name r
+
+    twice : (a b : Bool) → (a || b) ≡ ((a || b) || a)
+    twice a b = grind arith
+
+    later : (a b d : Bool) → b ≡ (b || d) → (a || b) ≡ ((a || b) || d)
+    later a b d h = grind arith
+
+    step : (k : Bool) → bytes_eq (name_of x) (name_of r) ≡ k → (k || list_any (λ y. bytes_eq (name_of y) (name_of r)) rs) ≡ true →
+        (list_any (λ y. bytes_eq (name_of y) (name_of r)) rs ≡ true → list_any test rs ≡ (list_any test rs || test r)) →
+        (test x || list_any test rs) ≡ ((test x || list_any test rs) || test r)
+    step true is h behind = twice (test x) (list_any test rs) ∙ ap (λ y. (test x || list_any test rs) || test y) (same is)
+    step false is h behind = later (test x) (list_any test rs) (test r) (behind h)

@@ -5,10 +5,12 @@ use Rattle.iodef_tree.specs.Text.{Bytes, Tokens}
 use Rattle.iodef_tree.specs.Tree.{Forest, Body, holds, says, Bodies, one, many}
 use Rattle.marking.specs.Members.{spelled_in}
 use Rattle.policy.specs.Inherited.{Inherited, enter_array, enter_class}
+use Rattle.policy.specs.declared.rule.Rule.{Rule}
 use Rattle.policy.specs.declared.standing.Standing.{Standing}
 use Rattle.policy.specs.declared.case.Case.{Case}
-use Rattle.redact.specs.Withheld.{Withheld}
+use Rattle.redact.specs.Withheld.{Withheld, is_among, at_place}
 use Rattle.redact.specs.Judged.{Judgment, Judged, Home, root, inside, keeps_plain, is_end, with_label, cut, visible_classes, told}
+use Rattle.redact.specs.Tokens.{path_of}
 use Rattle.redact.specs.Pass.{judgment_by, pass}
 use Rattle.redact.specs.declared.trail.Token.{Token}
 use Rattle.redact.specs.declared.trail.Token.TheVariants as token
@@ -97,10 +99,25 @@ module _ (c : Case) (s : Standing) where
   count_members a [] = 0
   count_members a (m ∷ ms) = count_member a m.0 m.1 + count_members a ms
 
--- From one state of the pass to another: where so much was to be told and counted at first, this is left to tell and
--- to count. The pass comes back to where it was.
-pub record Goes (old new : State) (before after : List Withheld) (m n : ℕ) : Type 0 where
+-- ---- what the state of the pass tells
+
+-- what was told, with what the class at place q has to tell, if it is left
+abbrev pub tells : Tokens → State → List Withheld
+tells q st = st.withheld.items ++ at_place q st.gone.items
+
+-- From one state of the pass to another, among the members of the class at place q: where this was to be told and so
+-- much counted at first, that is left to tell and to count, each pair once or more often. The pass comes back to where
+-- it was.
+pub record Goes (q : Tokens) (old new : State) (before after : List Withheld) (m n : ℕ) : Type 0 where
   pub path : new.path.items ≡ old.path.items
   pub place : new.place.items ≡ old.place.items
-  pub withheld : new.withheld.items ++ after ≡ old.withheld.items ++ before
+  pub withheld : is_among (tells q new ++ after) ≡ is_among (tells q old ++ before)
   pub classes : old.classes + m < 2 ^ 32 → new.classes + n ≡ old.classes + m
+
+-- these rules are noted at the place where the pass is, and nothing else changes
+pub record Tells (old new : State) (rules : List Rule) : Type 0 where
+  pub withheld : new.withheld.items ≡ old.withheld.items ++ at_place (path_of old.place.items) rules
+  pub path : new.path.items ≡ old.path.items
+  pub place : new.place.items ≡ old.place.items
+  pub gone : new.gone.items ≡ old.gone.items
+  pub classes : new.classes ≡ old.classes

@@ -8,3 +8,4 @@ pub mod Left
 pub mod Filled
 pub mod Excerpts
 pub mod Search
+pub mod Ties

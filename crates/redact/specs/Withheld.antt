@@ -1,13 +1,10 @@
 -- What is withheld: at which place of the excerpt, and by which rule.
-use Rattle.std.specs.Prelude.{◌≡◌, Bool, ◌&&◌, not, List, [], ◌∷◌, filter, if◌then◌else◌, Contains}
-use Rattle.std.specs.List.{flat_map, zip}
+use Rattle.std.specs.Prelude.{◌≡◌, Bool, ◌&&◌, not, List, [], ◌∷◌, filter, map, if◌then◌else◌, Contains}
+use Rattle.std.specs.List.{flat_map, list_any, zip}
 use Rattle.std.specs.List.Sorted.{IsStrictlySortedBy}
 use Rattle.std.specs.declared.cmp.Ordering.{Ordering}
 use Rattle.std.specs.Ordering.{nat_cmp, on, then_cmp, eq_of_both}
 use Rattle.std.specs.Str.{bytes_eq}
-use Rattle.std.specs.Cmp.{tied_then}
-use Rattle.std.proofs.Common.{is_eq, sym, ◌∙◌, ap}
-use Rattle.std.proofs.lemmas.Map.Text.{is_eq-slice_cmp}
 use Rattle.std.specs.Cmp.Lexicographic.{slice_cmp}
 use Rattle.iodef_tree.specs.Text.{Tokens, same_path, is_root}
 use Rattle.iodef_tree.specs.Paths.{LocatedLine, is_class, class_paths, classes_of}
@@ -59,14 +56,16 @@ withheld_cmp = then_cmp (on (λ x. pointer_text x.0) (slice_cmp nat_cmp)) (on (�
 abbrev pub same_withheld : Withheld → Withheld → Bool
 same_withheld = eq_of_both (on (λ x. pointer_text x.0) bytes_eq) (on (λ x. name_of x.1) bytes_eq)
 
--- a pair is the same as another exactly where neither comes first
-pub withheld-ties : (x y : Withheld) → same_withheld x y ≡ is_eq (withheld_cmp x y)
-withheld-ties x y =
-    let places = slice_cmp nat_cmp (pointer_text x.0) (pointer_text y.0) in
-    let names = slice_cmp nat_cmp (name_of x.1) (name_of y.1) in
-    ap (λ b. b && bytes_eq (name_of x.1) (name_of y.1)) (sym (is_eq-slice_cmp (pointer_text x.0) (pointer_text y.0)))
-    ∙ ap (λ b. is_eq places && b) (sym (is_eq-slice_cmp (name_of x.1) (name_of y.1)))
-    ∙ tied_then places names
+-- a pair is among these
+abbrev pub is_among : List Withheld → Withheld → Bool
+is_among ps x = list_any (same_withheld x) ps
+
+-- each of these rules at one place
+abbrev pub at_rule : Tokens → Rule → Withheld
+at_rule q r = (q, r)
+
+abbrev pub at_place : Tokens → List Rule → List Withheld
+at_place q rules = map (at_rule q) rules
 
 -- a list in this order, without repeats, of the same pairs
 pub record Lists (pairs listed : List Withheld) : Type 0 where

@@ -8,11 +8,12 @@ ghost use Rattle.redact.specs.Withheld.{Lists};
 
 use crate::kept::Excerpt;
 use crate::listed::listed;
-use crate::pass::{Home, State};
+use crate::pass::{Home, State, tell};
 use crate::reader::Reader;
 use iodef_tree::Document;
 use policy::{Case, Standing};
 use std::alloc::{AllocError, Global};
+use std::mem::replace;
 
 /// What a reader may see of an incident: its visible classes with their plain members, the classes that hold such ones
 /// bare, and the header. A visible class whose label would not show any more says it itself. `None` exactly where no
@@ -26,6 +27,19 @@ pub fn excerpt(
     requires { first_bad_marking (located document.now) ≡ None }
     ensures { IfOk result (λ r. Gives document.now case.now standing.now r) }
 {
+    let given = given(alloc, document, case, standing)?;
+    Ok(given)
+}
+
+fn given<'a>(
+    alloc: Global,
+    document: &'a Document,
+    case: &'a Case,
+    standing: &'a Standing,
+) -> Result<Option<Excerpt>, AllocError>
+    requires { first_bad_marking (located document.now) ≡ None }
+    ensures { IfOk result (λ r. Gives document.now case.now standing.now r) }
+{
     let reader = Reader { case, standing };
     let mut state = State {
         alloc,
@@ -33,13 +47,17 @@ pub fn excerpt(
         place: Vec::new(alloc),
         classes: 0,
         withheld: Vec::new(alloc),
+        gone: Vec::new(alloc),
     };
-    let above = reader.at_root();
-    let kept = reader.cut(&mut state, Home::Root, above, document.root())?;
+    let ahead = reader.ahead(alloc)?;
+    let above = reader.at_root(&ahead);
+    let kept = reader.cut(&mut state, Home::Root, &ahead, above, document.root())?;
     if state.classes == 0 {
         return Ok(None);
     }
     let classes = state.classes;
+    let gone = replace(&mut state.gone, Vec::new(alloc));
+    tell(&mut state, gone.as_slice())?;
     let withheld = listed(alloc, state.withheld)?;
     let document = Document::new(kept);
     Ok(Some(Excerpt {

@@ -66,7 +66,8 @@ impl<'a> Eq for Entry<'a> {
 }
 
 impl<'a> Ord for Entry<'a> {
-    ghost use Rattle.redact.specs.Withheld.{withheld_cmp, withheld-ties};
+    ghost use Rattle.redact.specs.Withheld.{withheld_cmp};
+    ghost use Rattle.redact.specs.Ties.{withheld-ties};
 
     ghost cmp = { withheld_cmp };
 
@@ -87,7 +88,8 @@ impl<'a> Ord for Entry<'a> {
 impl<'a> PartialOrd for Entry<'a> {
     ghost use Rattle.std.specs.Cmp.{partial_order_from_own_ties};
     ghost use Rattle.std.specs.Ordering.{as_partial_cmp};
-    ghost use Rattle.redact.specs.Withheld.{withheld_cmp, withheld-ties};
+    ghost use Rattle.redact.specs.Withheld.{withheld_cmp};
+    ghost use Rattle.redact.specs.Ties.{withheld-ties};
 
     ghost partial_cmp = { as_partial_cmp withheld_cmp };
 

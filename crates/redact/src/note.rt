@@ -1,7 +1,11 @@
 //! What is withheld, as a pass notes it on its way.
 
-ghost use Rattle.std.specs.Prelude.{◌≡◌, IfOk, string_bytes};
+ghost use Rattle.std.specs.Prelude.{◌≡◌, ◌||◌, Bool, IfOk, OnOk, string_bytes};
+ghost use Rattle.std.specs.List.{list_any};
+ghost use Rattle.std.specs.Str.{bytes_eq};
+ghost use Rattle.policy.specs.Rule.{name_of};
 ghost use Rattle.iodef_tree.specs.Pointer.{pointer_text};
+ghost use Rattle.policy.specs.declared.rule.Rule.{Rule as Named};
 ghost use Rattle.redact.specs.Tokens.{path_of};
 
 use crate::trail::{Token, path_at, print};
@@ -10,8 +14,8 @@ use policy::Rule;
 use std::alloc::{AllocError, Global};
 use std::marker::Model;
 
-/// A place of the excerpt and the rule by which something is withheld there, as contracts see it. Most notes are taken
-/// back or told once more, so a path is made only of those that are listed.
+/// A place of the excerpt and the rule by which something is withheld there, as contracts see it. A path is made only of
+/// what is listed.
 #[derive(Drop)]
 pub struct Note<'a> {
     place: Vec<Token<'a>>,
@@ -54,4 +58,20 @@ impl<'a> Note<'a> {
         let place = path_at(alloc, self.place.as_slice())?;
         Ok((place, self.rule))
     }
+}
+
+fn has(rules: &[Rule], rule: Rule) -> bool
+    ensures { result ≡ list_any (λ r. bytes_eq (name_of r) (name_of rule)) rules.now }
+{
+    rules.iter().any(|x| x.name() == rule.name())
+}
+
+/// Adds a rule to those of one place, unless it is among them.
+pub fn add(rules: &mut Vec<Rule>, rule: Rule) -> Result<(), AllocError>
+    ensures { OnOk result ((test : Named → Bool) → list_any test rules.new.items ≡ (list_any test rules.old.items || test rule)) }
+{
+    if !has(rules.as_slice(), rule) {
+        rules.push(rule)?;
+    }
+    Ok(())
 }

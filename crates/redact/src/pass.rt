@@ -1,25 +1,28 @@
 //! One pass down a document, with what is inherited from above. A class that isn't visible is looked at when what is left
 //! below it is known.
 
-ghost use Rattle.std.specs.Prelude.{◌≡◌, ◌≤◌, ◌∷◌, ◌++◌, [], IfOk, IfSome, List, ℕ, length, take, map, option_map, is_none, ◌&&◌, ◌+◌, not, true, false, if◌then◌else◌, Some, None};
+ghost use Rattle.std.specs.Prelude.{◌≡◌, ◌≤◌, ◌∷◌, ◌++◌, [], IfOk, OnOk, IfSome, List, ℕ, length, take, map, option_map, is_none, ◌&&◌, ◌+◌, not, true, false, if◌then◌else◌, Some, None};
 ghost use Rattle.iodef_tree.specs.View.{forest, bodies, body, named};
 ghost use Rattle.marking.specs.Members.{spelled_in};
 ghost use Rattle.redact.specs.Judged.{inside, is_end, with_label, keeps_plain as keeps, shows_label, cut as what_is_left, told, visible_classes};
 ghost use Rattle.redact.specs.Pass.{pass, judgment_by};
+ghost use Rattle.iodef_tree.specs.Text.{Tokens};
+ghost use Rattle.policy.specs.Ahead.{ahead_of, met_by};
 ghost use Rattle.policy.specs.Inherited.{carried, hides};
 ghost use Rattle.std.specs.List.{AllByRecursion};
 ghost use Rattle.iodef_tree.specs.Filled.{IsFilled, IsMemberFilled, IsItemFilled};
 ghost use Rattle.redact.specs.Tokens.{token_of, path_of};
-ghost use Rattle.redact.specs.Left.{home_of, class_left, class_told, class_count, left_at, told_at, count_at, left_items, told_items, count_items, left_member, told_member, count_member, Goes};
+ghost use Rattle.redact.specs.Left.{home_of, class_left, class_told, class_count, left_at, told_at, count_at, left_items, told_items, count_items, left_member, told_member, count_member, Goes, Tells};
 
 use crate::attributes::labelled;
-use crate::note::Note;
+use crate::note::{Note, add};
 use crate::reader::Reader;
 use crate::trail::Token;
 use iodef_tree::{Item, Member, Object};
 use marking::class::written;
-use policy::{Carried, Rule};
+use policy::{Ahead, Carried, Rule};
 use std::alloc::{AllocError, Global};
+use std::mem::replace;
 
 /// Where members stand: in the root, or in a class that is visible or isn't.
 #[derive(Clone, Copy)]
@@ -36,6 +39,8 @@ pub struct State<'a> {
     pub place: Vec<Token<'a>>,
     pub classes: u32,
     pub withheld: Vec<Note<'a>>,
+    /// By which rules something of the class whose members come is wholly hidden, each once.
+    pub gone: Vec<Rule>,
 }
 
 fn keeps_plain(home: Home) -> bool
@@ -63,6 +68,17 @@ fn needs_label(home: Home, object: &Object) -> bool
     written(object).is_none() && !shows(home)
 }
 
+/// Notes each of the rules at the place where the pass is.
+pub fn tell(state: &mut State<'_>, rules: &[Rule]) -> Result<(), AllocError>
+    ensures { OnOk result (Tells state.old state.new rules.now) }
+{
+    for rule in rules {
+        let here = Note::new(state.alloc, state.place.as_slice(), *rule)?;
+        state.withheld.push(here)?;
+    }
+    Ok(())
+}
+
 impl<'a> Reader<'a> {
     /// What is left of the members of the class at `above`.
     #[cycle(cut)]
@@ -70,19 +86,22 @@ impl<'a> Reader<'a> {
         &self,
         state: &mut State<'a>,
         home: Home,
+        ahead: &Ahead<'a>,
         above: Carried<'a>,
         object: &'a Object,
     ) -> Result<Object, AllocError>
+        requires ahead { met_by ahead.now ≡ ahead_of self.now.case.now self.now.standing.now (path_of state.old.path.items) }
         ensures left { IfOk result (λ o. forest o ≡ what_is_left (home_of home) 0
             (pass self.now.case.now self.now.standing.now (carried (path_of state.old.path.items) above.entry) (forest object.now))) }
         ensures filled { IfOk result (λ o. IsFilled o) }
         ensures goes { IfOk result (λ o.
             let judged = pass self.now.case.now self.now.standing.now (carried (path_of state.old.path.items) above.entry) (forest object.now) in
-            Goes state.old state.new (told (home_of home) (path_of state.old.place.items) 0 judged) [] (visible_classes judged) 0) }
+            Goes (path_of state.old.place.items) state.old state.new (told (home_of home) (path_of state.old.place.items) 0 judged) [] (visible_classes judged) 0) }
+        ensures quiet { IfOk result (λ o. length o.members.items ≡ 0 → state.new.withheld.items ≡ state.old.withheld.items) }
     {
         let mut members = Vec::new(state.alloc);
         for (name, member) in &object.members {
-            if let Some(kept) = self.cut_member(state, home, above, name.as_str(), member)? {
+            if let Some(kept) = self.cut_member(state, home, ahead, above, name.as_str(), member)? {
                 members.push((name.clone()?, kept))?;
             }
         }
@@ -94,22 +113,26 @@ impl<'a> Reader<'a> {
         &self,
         state: &mut State<'a>,
         home: Home,
+        ahead: &Ahead<'a>,
         above: Carried<'a>,
         name: &'a str,
         member: &'a Member,
     ) -> Result<Option<Member>, AllocError>
+        requires ahead { met_by ahead.now ≡ ahead_of self.now.case.now self.now.standing.now (path_of state.old.path.items) }
         ensures left { IfOk result (λ r. option_map bodies r ≡ left_member self.now.case.now self.now.standing.now (home_of home)
             (carried (path_of state.old.path.items) above.entry) name.now (bodies member.now)) }
         ensures filled { IfOk result (λ r. IfSome r (λ m. IsMemberFilled m)) }
-        ensures goes { IfOk result (λ r. Goes state.old state.new
+        ensures goes { IfOk result (λ r. Goes (path_of state.old.place.items) state.old state.new
             (told_member self.now.case.now self.now.standing.now (home_of home) (carried (path_of state.old.path.items) above.entry) (path_of state.old.place.items) name.now (bodies member.now)) []
             (count_member self.now.case.now self.now.standing.now (carried (path_of state.old.path.items) above.entry) name.now (bodies member.now)) 0) }
+        ensures quiet { IfOk result (λ r. r ≡ None → state.new.withheld.items ≡ state.old.withheld.items) }
     {
         let base = state.place.len();
         match member {
             Member::One(item) => match self.cut_item(
                 state,
                 home,
+                ahead,
                 above,
                 base,
                 Token::Name(name),
@@ -120,10 +143,10 @@ impl<'a> Reader<'a> {
                 None => Ok(None),
             },
             Member::Many(items) => {
-                state.path.push(Token::Name(name))?;
+                let inside = self.step(state.alloc, &mut state.path, ahead, Token::Name(name))?;
                 state.place.push(Token::Name(name))?;
-                let array = self.at_array(state.path.as_slice(), above);
-                let kept = self.cut_items(state, home, array, base, items)?;
+                let array = self.at_array(state.path.as_slice(), &inside, above);
+                let kept = self.cut_items(state, home, &inside, array, base, items)?;
                 state.path.pop();
                 state.place.pop();
                 if kept.is_empty() {
@@ -140,18 +163,21 @@ impl<'a> Reader<'a> {
         &self,
         state: &mut State<'a>,
         home: Home,
+        ahead: &Ahead<'a>,
         array: Carried<'a>,
         base: usize,
         items: &'a Vec<Item>,
     ) -> Result<Vec<Item>, AllocError>
-        requires { base ≤ length state.old.place.items }
+        requires base { base ≤ length state.old.place.items }
+        requires ahead { met_by ahead.now ≡ ahead_of self.now.case.now self.now.standing.now (path_of state.old.path.items) }
         ensures left { IfOk result (λ v. map body v.items ≡ left_items self.now.case.now self.now.standing.now (home_of home)
             (carried (path_of state.old.path.items) array.entry) 0 (map body items.now.items)) }
         ensures filled { IfOk result (λ v. AllByRecursion IsItemFilled v.items) }
-        ensures goes { IfOk result (λ v. Goes state.old state.new
+        ensures goes { IfOk result (λ v. Goes (path_of (take base state.old.place.items)) state.old state.new
             (told_items self.now.case.now self.now.standing.now (home_of home) (carried (path_of state.old.path.items) array.entry)
             (path_of (take base state.old.place.items)) (path_of state.old.place.items) 0 0 (map body items.now.items)) []
             (count_items self.now.case.now self.now.standing.now (carried (path_of state.old.path.items) array.entry) 0 (map body items.now.items)) 0) }
+        ensures quiet { IfOk result (λ v. length v.items ≡ 0 → state.new.withheld.items ≡ state.old.withheld.items) }
     {
         let mut kept = Vec::new(state.alloc);
         for (i, item) in items.iter().enumerate() {
@@ -159,6 +185,7 @@ impl<'a> Reader<'a> {
             if let Some(x) = self.cut_item(
                 state,
                 home,
+                ahead,
                 array,
                 base,
                 Token::Index(i),
@@ -177,27 +204,30 @@ impl<'a> Reader<'a> {
         &self,
         state: &mut State<'a>,
         home: Home,
+        ahead: &Ahead<'a>,
         door: Carried<'a>,
         base: usize,
         token: Token<'a>,
         place: Token<'a>,
         item: &'a Item,
     ) -> Result<Option<Item>, AllocError>
-        requires { base ≤ length state.old.place.items }
+        requires base { base ≤ length state.old.place.items }
+        requires ahead { met_by ahead.now ≡ ahead_of self.now.case.now self.now.standing.now (path_of state.old.path.items) }
         ensures left { IfOk result (λ r. option_map body r ≡ left_at self.now.case.now self.now.standing.now (home_of home)
             (carried (path_of state.old.path.items) door.entry) (token_of token.entry) (body item.now)) }
         ensures filled { IfOk result (λ r. IfSome r (λ i. IsItemFilled i)) }
-        ensures goes { IfOk result (λ r. Goes state.old state.new
+        ensures goes { IfOk result (λ r. Goes (path_of (take base state.old.place.items)) state.old state.new
             (told_at self.now.case.now self.now.standing.now (carried (path_of state.old.path.items) door.entry)
             (path_of (take base state.old.place.items)) (path_of (state.old.place.items ++ place.entry ∷ [])) (token_of token.entry) (body item.now)) []
             (count_at self.now.case.now self.now.standing.now (carried (path_of state.old.path.items) door.entry) (token_of token.entry) (body item.now)) 0) }
+        ensures quiet { IfOk result (λ r. r ≡ None → state.new.withheld.items ≡ state.old.withheld.items) }
     {
         match item {
             Item::Class(object) => {
-                state.path.push(token)?;
+                let inside = self.step(state.alloc, &mut state.path, ahead, token)?;
                 state.place.push(place)?;
-                let at = self.at_class(state.path.as_slice(), door, written(object));
-                let left = self.cut_class(state, home, at, base, object)?;
+                let at = self.at_class(state.path.as_slice(), &inside, door, written(object));
+                let left = self.cut_class(state, home, &inside, at, base, object)?;
                 state.path.pop();
                 state.place.pop();
                 match left {
@@ -228,11 +258,13 @@ impl<'a> Reader<'a> {
         &self,
         state: &mut State<'a>,
         home: Home,
+        ahead: &Ahead<'a>,
         at: Carried<'a>,
         base: usize,
         object: &'a Object,
     ) -> Result<Option<Object>, AllocError>
-        requires { base ≤ length state.old.place.items }
+        requires base { base ≤ length state.old.place.items }
+        requires ahead { met_by ahead.now ≡ ahead_of self.now.case.now self.now.standing.now (path_of state.old.path.items) }
         ensures left { IfOk result (λ r. option_map forest r ≡ (
             let k = carried (path_of state.old.path.items) at.entry in
             class_left self.now.case.now self.now.standing.now (home_of home) (judgment_by self.now.case.now self.now.standing.now k (spelled_in (forest object.now))) (pass self.now.case.now self.now.standing.now k (forest object.now)))) }
@@ -241,14 +273,15 @@ impl<'a> Reader<'a> {
             let k = carried (path_of state.old.path.items) at.entry in
             let judged = pass self.now.case.now self.now.standing.now k (forest object.now) in
             let j = judgment_by self.now.case.now self.now.standing.now k (spelled_in (forest object.now)) in
-            Goes state.old state.new (class_told self.now.case.now self.now.standing.now (path_of (take base state.old.place.items)) (path_of state.old.place.items) j judged) []
+            Goes (path_of (take base state.old.place.items)) state.old state.new (class_told self.now.case.now self.now.standing.now (path_of (take base state.old.place.items)) (path_of state.old.place.items) j judged) []
             (class_count self.now.case.now self.now.standing.now j judged) 0) }
+        ensures quiet { IfOk result (λ r. r ≡ None → state.new.withheld.items ≡ state.old.withheld.items) }
     {
         if self.sees(at) {
-            let kept = self.cut_seen(state, home, at, object)?;
+            let kept = self.cut_seen(state, home, ahead, at, object)?;
             Ok(Some(kept))
         } else {
-            let kept = self.cut_hidden(state, at, base, object)?;
+            let kept = self.cut_hidden(state, ahead, at, base, object)?;
             Ok(kept)
         }
     }
@@ -259,9 +292,11 @@ impl<'a> Reader<'a> {
         &self,
         state: &mut State<'a>,
         home: Home,
+        ahead: &Ahead<'a>,
         at: Carried<'a>,
         object: &'a Object,
     ) -> Result<Object, AllocError>
+        requires ahead { met_by ahead.now ≡ ahead_of self.now.case.now self.now.standing.now (path_of state.old.path.items) }
         ensures left { IfOk result (λ o. forest o ≡ (
             let k = carried (path_of state.old.path.items) at.entry in
             with_label (home_of home) (judgment_by self.now.case.now self.now.standing.now k (spelled_in (forest object.now)))
@@ -270,10 +305,13 @@ impl<'a> Reader<'a> {
         ensures goes { IfOk result (λ o.
             let k = carried (path_of state.old.path.items) at.entry in
             let judged = pass self.now.case.now self.now.standing.now k (forest object.now) in
-            Goes state.old state.new (told (inside true) (path_of state.old.place.items) 0 judged) [] (1 + visible_classes judged) 0) }
+            (q : Tokens) → Goes q state.old state.new (told (inside true) (path_of state.old.place.items) 0 judged) [] (1 + visible_classes judged) 0) }
     {
         state.classes = state.classes.saturating_add(1);
-        let kept = self.cut(state, Home::Class(true), at, object)?;
+        let outside = replace(&mut state.gone, Vec::new(state.alloc));
+        let kept = self.cut(state, Home::Class(true), ahead, at, object)?;
+        let gone = replace(&mut state.gone, outside);
+        tell(state, gone.as_slice())?;
         if needs_label(home, object) {
             let said = labelled(state.alloc, kept, at.label)?;
             Ok(said)
@@ -287,11 +325,13 @@ impl<'a> Reader<'a> {
     fn cut_hidden(
         &self,
         state: &mut State<'a>,
+        ahead: &Ahead<'a>,
         at: Carried<'a>,
         base: usize,
         object: &'a Object,
     ) -> Result<Option<Object>, AllocError>
-        requires { base ≤ length state.old.place.items }
+        requires base { base ≤ length state.old.place.items }
+        requires ahead { met_by ahead.now ≡ ahead_of self.now.case.now self.now.standing.now (path_of state.old.path.items) }
         ensures left { IfOk result (λ r. option_map forest r ≡ (
             let inner = what_is_left (inside false) 0 (pass self.now.case.now self.now.standing.now (carried (path_of state.old.path.items) at.entry) (forest object.now)) in
             if is_end inner then None else Some inner)) }
@@ -299,21 +339,21 @@ impl<'a> Reader<'a> {
         ensures goes { IfOk result (λ r.
             let k = carried (path_of state.old.path.items) at.entry in
             let judged = pass self.now.case.now self.now.standing.now k (forest object.now) in
-            Goes state.old state.new (if is_end (what_is_left (inside false) 0 judged) then (path_of (take base state.old.place.items), hides self.now.standing.now k) ∷ []
+            Goes (path_of (take base state.old.place.items)) state.old state.new (if is_end (what_is_left (inside false) 0 judged) then (path_of (take base state.old.place.items), hides self.now.standing.now k) ∷ []
             else (path_of state.old.place.items, hides self.now.standing.now k) ∷ told (inside false) (path_of state.old.place.items) 0 judged) []
             (visible_classes judged) 0) }
+        ensures quiet { IfOk result (λ r. r ≡ None → state.new.withheld.items ≡ state.old.withheld.items) }
     {
         let rule = self.hides(at);
-        let mark = state.withheld.len();
-        let here = Note::new(state.alloc, state.place.as_slice(), rule)?;
-        state.withheld.push(here)?;
-        let kept = self.cut(state, Home::Class(false), at, object)?;
+        let outside = replace(&mut state.gone, Vec::new(state.alloc));
+        let kept = self.cut(state, Home::Class(false), ahead, at, object)?;
+        let mut gone = replace(&mut state.gone, outside);
         if kept.members.is_empty() {
-            state.withheld.truncate(mark);
-            let above = Note::new(state.alloc, &state.place.as_slice()[..base], rule)?;
-            state.withheld.push(above)?;
+            add(&mut state.gone, rule)?;
             Ok(None)
         } else {
+            add(&mut gone, rule)?;
+            tell(state, gone.as_slice())?;
             Ok(Some(kept))
         }
     }

@@ -1,13 +1,18 @@
 //! For whom classes are judged, and what each inherits from what stands above it.
 
-ghost use Rattle.std.specs.Prelude.{◌≡◌, [], option_map};
+ghost use Rattle.std.specs.Prelude.{◌≡◌, ◌++◌, ◌∷◌, [], IfOk, OnOk, option_map};
 ghost use Rattle.marking.specs.Label.{marking_of};
+ghost use Rattle.policy.specs.Ahead.{ahead_of, met_by};
 ghost use Rattle.policy.specs.Inherited.{carried, at_root as at_the_root, array_step, class_step, is_seen, hides as hides_by};
-ghost use Rattle.redact.specs.Tokens.{path_of};
+ghost use Rattle.iodef_tree.specs.Text.{Tokens};
+ghost use Rattle.policy.specs.declared.standing.Standing.{Standing as Asking};
+ghost use Rattle.policy.specs.declared.case.Case.{Case as Judged};
+ghost use Rattle.redact.specs.Tokens.{token_of, path_of};
 
 use crate::trail::{Token, Trail};
 use marking::Label;
-use policy::{Carried, Case, Rule, Standing};
+use policy::{Ahead, Carried, Case, Rule, Standing};
+use std::alloc::{AllocError, Global};
 
 /// For whom, and by which gates and permissions, classes are judged.
 #[derive(Clone, Copy)]
@@ -17,32 +22,66 @@ pub struct Reader<'a> {
 }
 
 impl<'a> Reader<'a> {
-    /// What holds at the root.
-    pub fn at_root(&self) -> Carried<'a>
-        ensures { carried [] result ≡ at_the_root self.now.case.now self.now.standing.now }
+    /// What lies ahead at the root.
+    pub fn ahead(&self, alloc: Global) -> Result<Ahead<'a>, AllocError>
+        ensures { IfOk result (λ a. met_by a ≡ ahead_of self.now.case.now self.now.standing.now []) }
     {
-        Carried::at_root(self.case, self.standing, &Trail { tokens: &[] })
+        Ahead::at_root(alloc, self.case, self.standing)
     }
 
-    /// What holds at the array at this path.
-    pub fn at_array(&self, trail: &[Token<'a>], above: Carried<'a>) -> Carried<'a>
+    /// One token further down the trail, and what lies ahead there.
+    pub fn step(
+        &self,
+        alloc: Global,
+        trail: &mut Vec<Token<'a>>,
+        ahead: &Ahead<'a>,
+        token: Token<'a>,
+    ) -> Result<Ahead<'a>, AllocError>
+        requires { met_by ahead.now ≡ ahead_of self.now.case.now self.now.standing.now (path_of trail.old.items) }
+        ensures trail { OnOk result (trail.new.items ≡ trail.old.items ++ token.entry ∷ []) }
+        ensures ahead { IfOk result (λ a. met_by a ≡ ahead_of self.now.case.now self.now.standing.now (path_of trail.new.items)) }
+    {
+        trail.push(token)?;
+        let inside = further(alloc, ahead, token)?;
+        Ok(inside)
+    }
+
+    /// What holds at the root.
+    pub fn at_root(&self, ahead: &Ahead<'a>) -> Carried<'a>
+        requires { met_by ahead.now ≡ ahead_of self.now.case.now self.now.standing.now [] }
+        ensures { carried [] result ≡ at_the_root self.now.case.now self.now.standing.now }
+    {
+        Carried::at_root(ahead)
+    }
+
+    /// What holds at the array at this path, where this lies ahead.
+    pub fn at_array(
+        &self,
+        trail: &[Token<'a>],
+        ahead: &Ahead<'a>,
+        above: Carried<'a>,
+    ) -> Carried<'a>
+        requires { met_by ahead.now ≡ ahead_of self.now.case.now self.now.standing.now (path_of trail.now) }
         ensures { carried (path_of trail.now) result
             ≡ array_step self.now.case.now self.now.standing.now (carried (path_of trail.now) above.entry) (path_of trail.now) }
     {
-        above.in_array(self.case, self.standing, &Trail { tokens: trail })
+        let _ = trail;
+        above.in_array(ahead)
     }
 
-    /// What holds at the class at this path, in which this label is written.
+    /// What holds at the class at this path, where this lies ahead, and in which this label is written.
     pub fn at_class(
         &self,
         trail: &[Token<'a>],
+        ahead: &Ahead<'a>,
         above: Carried<'a>,
         written: Option<Label<'a>>,
     ) -> Carried<'a>
+        requires { met_by ahead.now ≡ ahead_of self.now.case.now self.now.standing.now (path_of trail.now) }
         ensures { carried (path_of trail.now) result
             ≡ class_step self.now.case.now self.now.standing.now (carried (path_of trail.now) above.entry) (path_of trail.now) (option_map marking_of written.entry) }
     {
-        above.in_class(self.case, self.standing, &Trail { tokens: trail }, written)
+        above.in_class(ahead, &Trail { tokens: trail }, written)
     }
 
     /// Whether a class is visible.
@@ -57,5 +96,21 @@ impl<'a> Reader<'a> {
         ensures { result ≡ hides_by self.now.standing.now (carried [] at.entry) }
     {
         at.hiding_rule(self.standing)
+    }
+}
+
+/// What lies ahead one token further down.
+fn further<'a>(alloc: Global, ahead: &Ahead<'a>, token: Token<'a>) -> Result<Ahead<'a>, AllocError>
+    ensures { IfOk result (λ a. (c : Judged) (s : Asking) (p : Tokens) → met_by ahead.now ≡ ahead_of c s p → met_by a ≡ ahead_of c s (p ++ token_of token.entry ∷ [])) }
+{
+    if ahead.is_empty() {
+        return Ok(Ahead::none(alloc));
+    }
+    match token {
+        Token::Name(name) => Ok(ahead.below(alloc, name)?),
+        Token::Index(place) => {
+            let mut digits = itoa::Buffer::new();
+            Ok(ahead.below(alloc, digits.format(place))?)
+        }
     }
 }

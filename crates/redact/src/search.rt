@@ -2,6 +2,7 @@
 
 ghost use Rattle.std.specs.Prelude.{◌≡◌, ◌||◌, IfOk, option_map, map};
 ghost use Rattle.iodef_tree.specs.View.{forest, bodies, body};
+ghost use Rattle.policy.specs.Ahead.{ahead_of, met_by};
 ghost use Rattle.policy.specs.Inherited.{carried};
 ghost use Rattle.redact.specs.Told.{finds as is_found, is_named};
 ghost use Rattle.redact.specs.Tokens.{token_of, path_of};
@@ -12,12 +13,13 @@ use crate::trail::Token;
 use iodef_tree::{Document, Item, Member, Object};
 use marking::class::written;
 use memchr::memmem::Finder;
-use policy::{Carried, Case, Standing};
+use policy::{Ahead, Carried, Case, Standing};
 use std::alloc::{AllocError, Global};
 
 /// What a reader asks for: a needle, and in classes of which name if one is given.
 #[derive(Drop)]
 struct Search<'a> {
+    alloc: Global,
     reader: Reader<'a>,
     finder: Finder<'a>,
     class: Option<&'a str>,
@@ -36,14 +38,30 @@ pub fn finds(
 ) -> Result<bool, AllocError>
     ensures { IfOk result (λ b. b ≡ is_found document.now case.now standing.now needle.now (option_map (λ name. name.now) class.entry)) }
 {
+    let found = found(alloc, document, case, standing, needle, class)?;
+    Ok(found)
+}
+
+fn found<'a>(
+    alloc: Global,
+    document: &'a Document,
+    case: &'a Case,
+    standing: &'a Standing,
+    needle: &'a str,
+    class: Option<&'a str>,
+) -> Result<bool, AllocError>
+    ensures { IfOk result (λ b. b ≡ is_found document.now case.now standing.now needle.now (option_map (λ name. name.now) class.entry)) }
+{
     let search = Search {
+        alloc,
         reader: Reader { case, standing },
         finder: Finder::new(needle.as_bytes()),
         class,
     };
     let mut trail = Vec::new(alloc);
-    let above = search.reader.at_root();
-    let found = search.among(&mut trail, above, document.root())?;
+    let ahead = search.reader.ahead(alloc)?;
+    let above = search.reader.at_root(&ahead);
+    let found = search.among(&mut trail, &ahead, above, document.root())?;
     Ok(found)
 }
 
@@ -95,15 +113,17 @@ impl<'a> Search<'a> {
     fn among(
         &self,
         trail: &mut Vec<Token<'a>>,
+        ahead: &Ahead<'a>,
         above: Carried<'a>,
         object: &'a Object,
     ) -> Result<bool, AllocError>
+        requires { met_by ahead.now ≡ ahead_of self.now.reader.case.now self.now.reader.standing.now (path_of trail.old.items) }
         ensures found { IfOk result (λ b. b ≡ found self.now.reader.case.now self.now.reader.standing.now self.now.finder (option_map (λ n. n.now) self.now.class)
             (carried (path_of trail.old.items) above.entry) (forest object.now)) }
         ensures trail { IfOk result (λ b. trail.new.items ≡ trail.old.items) }
     {
         for (name, member) in &object.members {
-            if self.in_member(trail, above, name.as_str(), member)? {
+            if self.in_member(trail, ahead, above, name.as_str(), member)? {
                 return Ok(true);
             }
         }
@@ -114,23 +134,27 @@ impl<'a> Search<'a> {
     fn in_member(
         &self,
         trail: &mut Vec<Token<'a>>,
+        ahead: &Ahead<'a>,
         above: Carried<'a>,
         name: &'a str,
         member: &'a Member,
     ) -> Result<bool, AllocError>
+        requires { met_by ahead.now ≡ ahead_of self.now.reader.case.now self.now.reader.standing.now (path_of trail.old.items) }
         ensures found { IfOk result (λ b. b ≡ found_member self.now.reader.case.now self.now.reader.standing.now self.now.finder (option_map (λ n. n.now) self.now.class)
             (carried (path_of trail.old.items) above.entry) name.now (bodies member.now)) }
         ensures trail { IfOk result (λ b. trail.new.items ≡ trail.old.items) }
     {
         match member {
             Member::One(item) => {
-                let found = self.at(trail, above, Token::Name(name), name, item)?;
+                let found = self.at(trail, ahead, above, Token::Name(name), name, item)?;
                 Ok(found)
             }
             Member::Many(items) => {
-                trail.push(Token::Name(name))?;
-                let array = self.reader.at_array(trail.as_slice(), above);
-                let found = self.in_array(trail, array, name, items)?;
+                let inside = self
+                    .reader
+                    .step(self.alloc, trail, ahead, Token::Name(name))?;
+                let array = self.reader.at_array(trail.as_slice(), &inside, above);
+                let found = self.in_array(trail, &inside, array, name, items)?;
                 trail.pop();
                 Ok(found)
             }
@@ -141,16 +165,18 @@ impl<'a> Search<'a> {
     fn in_array(
         &self,
         trail: &mut Vec<Token<'a>>,
+        ahead: &Ahead<'a>,
         array: Carried<'a>,
         name: &'a str,
         items: &'a Vec<Item>,
     ) -> Result<bool, AllocError>
+        requires { met_by ahead.now ≡ ahead_of self.now.reader.case.now self.now.reader.standing.now (path_of trail.old.items) }
         ensures found { IfOk result (λ b. b ≡ found_items self.now.reader.case.now self.now.reader.standing.now self.now.finder (option_map (λ n. n.now) self.now.class)
             (carried (path_of trail.old.items) array.entry) name.now 0 (map body items.now.items)) }
         ensures trail { IfOk result (λ b. trail.new.items ≡ trail.old.items) }
     {
         for (i, item) in items.iter().enumerate() {
-            if self.at(trail, array, Token::Index(i), name, item)? {
+            if self.at(trail, ahead, array, Token::Index(i), name, item)? {
                 return Ok(true);
             }
         }
@@ -162,22 +188,24 @@ impl<'a> Search<'a> {
     fn at(
         &self,
         trail: &mut Vec<Token<'a>>,
+        ahead: &Ahead<'a>,
         door: Carried<'a>,
         token: Token<'a>,
         name: &'a str,
         item: &'a Item,
     ) -> Result<bool, AllocError>
+        requires { met_by ahead.now ≡ ahead_of self.now.reader.case.now self.now.reader.standing.now (path_of trail.old.items) }
         ensures found { IfOk result (λ b. b ≡ found_at self.now.reader.case.now self.now.reader.standing.now self.now.finder (option_map (λ n. n.now) self.now.class)
             (carried (path_of trail.old.items) door.entry) (token_of token.entry) name.now (body item.now)) }
         ensures trail { IfOk result (λ b. trail.new.items ≡ trail.old.items) }
     {
         match item {
             Item::Class(object) => {
-                trail.push(token)?;
+                let inside = self.reader.step(self.alloc, trail, ahead, token)?;
                 let at = self
                     .reader
-                    .at_class(trail.as_slice(), door, written(object));
-                let found = self.in_class(trail, at, name, object)?;
+                    .at_class(trail.as_slice(), &inside, door, written(object));
+                let found = self.in_class(trail, &inside, at, name, object)?;
                 trail.pop();
                 Ok(found)
             }
@@ -191,10 +219,12 @@ impl<'a> Search<'a> {
     fn in_class(
         &self,
         trail: &mut Vec<Token<'a>>,
+        ahead: &Ahead<'a>,
         at: Carried<'a>,
         name: &'a str,
         object: &'a Object,
     ) -> Result<bool, AllocError>
+        requires { met_by ahead.now ≡ ahead_of self.now.reader.case.now self.now.reader.standing.now (path_of trail.old.items) }
         ensures found { IfOk result (λ b.
             let k = carried (path_of trail.old.items) at.entry in
             b ≡ (class_hits self.now.reader.case.now self.now.reader.standing.now self.now.finder (option_map (λ n. n.now) self.now.class) k name.now (forest object.now)
@@ -204,7 +234,7 @@ impl<'a> Search<'a> {
         if self.reader.sees(at) && self.names(name) && holds(object, &self.finder) {
             return Ok(true);
         }
-        let found = self.among(trail, at, object)?;
+        let found = self.among(trail, ahead, at, object)?;
         Ok(found)
     }
 }

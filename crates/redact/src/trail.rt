@@ -27,29 +27,12 @@ pub struct Trail<'t, 'a> {
 impl<'t, 'a> Spot for Trail<'t, 'a> {
     ghost tokens = { λ t. path_of t.tokens.now };
 
-    fn is_at(&self, path: &Path) -> bool {
-        is_path(path.tokens(), self.tokens)
-    }
-
     fn is_at_incident(&self) -> bool {
         is_incident(self.tokens)
     }
 }
 
 /// Whether the token is written so.
-fn is_token(token: Token<'_>, text: &str) -> bool
-    ensures { result ≡ bytes_eq text.now (token_of token.entry) }
-{
-    match token {
-        Token::Name(name) => text == name,
-        Token::Index(place) => {
-            let mut digits = itoa::Buffer::new();
-            text == digits.format(place)
-        }
-    }
-}
-
-/// Whether the token is written so, read from the other side.
 fn is_written(token: Token<'_>, text: &str) -> bool
     ensures { result ≡ bytes_eq (token_of token.entry) text.now }
 {
@@ -60,21 +43,6 @@ fn is_written(token: Token<'_>, text: &str) -> bool
             digits.format(place) == text
         }
     }
-}
-
-/// Whether a path has these tokens.
-fn is_path(tokens: &[Text], trail: &[Token<'_>]) -> bool
-    ensures { result ≡ same_path tokens.now (path_of trail.now) }
-{
-    if tokens.len() != trail.len() {
-        return false;
-    }
-    for (i, token) in trail.iter().enumerate() {
-        if !is_token(*token, tokens[i].as_str()) {
-            return false;
-        }
-    }
-    true
 }
 
 fn is_incident(trail: &[Token<'_>]) -> bool

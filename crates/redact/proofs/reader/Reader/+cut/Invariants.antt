@@ -15,9 +15,10 @@ invariant-cut-loop-name l =
       left : map named l.members.items ++ left_members l.self.case.now l.self.standing.now (home_of l.home) A (map named (drop l.name-index l.name-items))
           ≡ left_members l.self.case.now l.self.standing.now (home_of l.home) A (map named l.name-items);
       filled : AllByRecursion (λ m. IsMemberFilled m.1) l.members.items;
-      goes : Goes l.initial.state l.state (told_members l.self.case.now l.self.standing.now (home_of l.home) A Q (map named l.name-items))
+      goes : Goes Q l.initial.state l.state (told_members l.self.case.now l.self.standing.now (home_of l.home) A Q (map named l.name-items))
           (told_members l.self.case.now l.self.standing.now (home_of l.home) A Q (map named (drop l.name-index l.name-items)))
           (count_members l.self.case.now l.self.standing.now A (map named l.name-items)) (count_members l.self.case.now l.self.standing.now A (map named (drop l.name-index l.name-items)));
+      quiet : length l.members.items ≡ 0 → l.state.withheld.items ≡ l.initial.state.withheld.items;
     }
 
 abbrev pub invariant-cut_items-loop-i : goal.invariant-cut_items-loop-i
@@ -29,7 +30,8 @@ invariant-cut_items-loop-i l =
       left : map body l.kept.items ++ left_items l.self.case.now l.self.standing.now (home_of l.home) D l.i (map body (drop l.i l.items.items))
           ≡ left_items l.self.case.now l.self.standing.now (home_of l.home) D 0 (map body l.items.items);
       filled : AllByRecursion IsItemFilled l.kept.items;
-      goes : Goes l.initial.state l.state (told_items l.self.case.now l.self.standing.now (home_of l.home) D q r 0 0 (map body l.items.items))
+      goes : Goes q l.initial.state l.state (told_items l.self.case.now l.self.standing.now (home_of l.home) D q r 0 0 (map body l.items.items))
           (told_items l.self.case.now l.self.standing.now (home_of l.home) D q r l.i (length l.kept.items) (map body (drop l.i l.items.items)))
           (count_items l.self.case.now l.self.standing.now D 0 (map body l.items.items)) (count_items l.self.case.now l.self.standing.now D l.i (map body (drop l.i l.items.items)));
+      quiet : length l.kept.items ≡ 0 → l.state.withheld.items ≡ l.initial.state.withheld.items;
     }

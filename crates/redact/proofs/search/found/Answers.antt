@@ -7,7 +7,7 @@ use Rattle.redact.specs.Tokens.{path_of}
 use Rattle.redact.specs.Search.{found}
 use Rattle.redact.specs.Told.{finds}
 use Rattle.redact.proofs.Searched.{found_all}
-use Rattle.redact.proofs.search.finds.Goals as goal
+use Rattle.redact.proofs.search.found.Goals as goal
 
 pub returns : goal.returns
 returns c =

@@ -1,0 +1,10 @@
+use Rattle.std.proofs.Common.{◌≡◌, ◌||◌, drop}
+use Rattle.iodef_tree.specs.Text.{Tokens}
+use Rattle.policy.specs.Inherited.{is_granted}
+use Rattle.policy.specs.Ahead.{granted_with}
+use Rattle.policy.proofs.Onwards.{granted_among}
+use Rattle.policy.proofs.ahead.granting.Given as goal
+
+abbrev pub invariant-loop-permission : goal.invariant-loop-permission
+invariant-loop-permission l =
+    (z : Tokens) → (granted_with l.granting.items z || granted_among l.standing (drop l.permission-index l.permission-items) z) ≡ is_granted l.case l.standing z

@@ -1,0 +1,180 @@
+//! What of a case's gates and permissions a pass can still meet.
+
+ghost use Rattle.std.specs.Prelude.{◌≡◌, ◌++◌, ◌∷◌, [], IfOk, true, false};
+ghost use Rattle.std.specs.Option.{option_map_or};
+ghost use Rattle.iodef_tree.specs.Text.{Tokens, same_path};
+ghost use Rattle.policy.specs.Verdict.{first_of, refusals_at};
+ghost use Rattle.policy.specs.Inherited.{is_granted};
+ghost use Rattle.policy.specs.Ahead.{ahead_of, met_by, nothing_met, refused_with, granted_with};
+ghost use Rattle.policy.specs.declared.standing.Standing.{Standing as Reader};
+ghost use Rattle.policy.specs.declared.case.Case.{Case as Judged};
+
+use crate::case::Case;
+use crate::gate::passes;
+use crate::onward::{Granting, Refusing};
+use crate::permission::holds_for;
+use crate::rule::Rule;
+use crate::standing::Standing;
+use iodef_tree::Text;
+use std::alloc::{AllocError, Global};
+
+/// The gates that refuse a reader and the permissions that hold for it, as far as they stand where a pass is or below:
+/// each with what is left of its path. A step by one token looks at one token of each, and drops those that go another
+/// way. Contracts see what is met at each path behind.
+#[derive(Drop)]
+pub struct Ahead<'a> {
+    refusing: Vec<Refusing<'a>>,
+    granting: Vec<Granting<'a>>,
+}
+
+impl<'a> Ahead<'a> {
+    /// At the root.
+    pub fn at_root(
+        alloc: Global,
+        case: &'a Case,
+        standing: &Standing,
+    ) -> Result<Ahead<'a>, AllocError>
+        ensures { IfOk result (λ a. met_by a ≡ ahead_of case.now standing.now []) }
+    {
+        let refusing = refusing(alloc, case, standing)?;
+        let granting = granting(alloc, case, standing)?;
+        Ok(Ahead { refusing, granting })
+    }
+
+    /// Where nothing can be met. Takes no memory.
+    pub fn none(alloc: Global) -> Ahead<'a>
+        ensures { met_by result ≡ nothing_met }
+    {
+        Ahead {
+            refusing: Vec::new(alloc),
+            granting: Vec::new(alloc),
+        }
+    }
+
+    /// One token further down. Takes no memory where nothing is left.
+    pub fn below(&self, alloc: Global, token: &str) -> Result<Ahead<'a>, AllocError>
+        ensures { IfOk result (λ a. (c : Judged) (s : Reader) (p : Tokens) → met_by self.now ≡ ahead_of c s p → met_by a ≡ ahead_of c s (p ++ token.now ∷ [])) }
+    {
+        let refusing = refusing_below(alloc, self.refusing.as_slice(), token)?;
+        let granting = granting_below(alloc, self.granting.as_slice(), token)?;
+        Ok(Ahead { refusing, granting })
+    }
+
+    /// Whether nothing can be met any more, here or below.
+    pub fn is_empty(&self) -> bool
+        ensures { result ≡ true → met_by self.now ≡ nothing_met }
+    {
+        self.refusing.is_empty() && self.granting.is_empty()
+    }
+
+    /// The rule of the first gate here that refuses.
+    pub fn refusal(&self) -> Option<Rule>
+        ensures { result ≡ (met_by self.now []).refusal }
+    {
+        first_here(self.refusing.as_slice())
+    }
+
+    /// Whether a permission stands here.
+    pub fn is_granted(&self) -> bool
+        ensures { result ≡ (met_by self.now []).granted }
+    {
+        self.granting.as_slice().iter().any(|x| is_here(x.rest))
+    }
+}
+
+/// Whether nothing is left.
+fn is_here(rest: &[Text]) -> bool
+    ensures { result ≡ same_path rest.now [] }
+{
+    rest.is_empty()
+}
+
+/// The rule of the first of which nothing is left.
+fn first_here(gates: &[Refusing<'_>]) -> Option<Rule>
+    ensures { result ≡ first_of (refused_with gates.now []) }
+{
+    for gate in gates {
+        if is_here(gate.rest) {
+            return Some(gate.rule);
+        }
+    }
+    None
+}
+
+fn refusing<'a>(
+    alloc: Global,
+    case: &'a Case,
+    standing: &Standing,
+) -> Result<Vec<Refusing<'a>>, AllocError>
+    ensures { IfOk result (λ v. (z : Tokens) → refused_with v.items z ≡ refusals_at case.now standing.now z) }
+{
+    let mut refusing = Vec::new(alloc);
+    for gate in case.gates.as_slice() {
+        if let Err(rule) = passes(standing, gate) {
+            let rest = gate.path.tokens();
+            refusing.push(Refusing { rest, rule })?;
+        }
+    }
+    Ok(refusing)
+}
+
+fn granting<'a>(
+    alloc: Global,
+    case: &'a Case,
+    standing: &Standing,
+) -> Result<Vec<Granting<'a>>, AllocError>
+    ensures { IfOk result (λ v. (z : Tokens) → granted_with v.items z ≡ is_granted case.now standing.now z) }
+{
+    let mut granting = Vec::new(alloc);
+    for permission in case.permissions.as_slice() {
+        if holds_for(standing, permission) {
+            let rest = permission.path.tokens();
+            granting.push(Granting { rest })?;
+        }
+    }
+    Ok(granting)
+}
+
+/// What is left behind the token, if it comes first.
+fn behind<'a>(rest: &'a [Text], token: &str) -> Option<&'a [Text]>
+    ensures { (z : Tokens) → option_map_or (λ r. same_path r.now z) result false ≡ same_path rest.now (token.now ∷ z) }
+{
+    if !rest.is_empty() && rest[0].as_str() == token {
+        Some(&rest[1..])
+    } else {
+        None
+    }
+}
+
+fn refusing_below<'a>(
+    alloc: Global,
+    gates: &[Refusing<'a>],
+    token: &str,
+) -> Result<Vec<Refusing<'a>>, AllocError>
+    ensures { IfOk result (λ v. (z : Tokens) → refused_with v.items z ≡ refused_with gates.now (token.now ∷ z)) }
+{
+    let mut below = Vec::new(alloc);
+    for gate in gates {
+        if let Some(rest) = behind(gate.rest, token) {
+            let rule = gate.rule;
+            below.push(Refusing { rest, rule })?;
+        }
+    }
+    Ok(below)
+}
+
+fn granting_below<'a>(
+    alloc: Global,
+    permissions: &[Granting<'a>],
+    token: &str,
+) -> Result<Vec<Granting<'a>>, AllocError>
+    ensures { IfOk result (λ v. (z : Tokens) → granted_with v.items z ≡ granted_with permissions.now (token.now ∷ z)) }
+{
+    let mut below = Vec::new(alloc);
+    for permission in permissions {
+        if let Some(rest) = behind(permission.rest, token) {
+            below.push(Granting { rest })?;
+        }
+    }
+    Ok(below)
+}
