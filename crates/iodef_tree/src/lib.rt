@@ -20,9 +20,9 @@ mod read;
 mod room;
 mod seek;
 mod shape;
+mod string;
 #[cfg(test)]
 mod tests_read;
-mod string;
 mod text;
 mod value;
 #[cfg(test)]
@@ -39,8 +39,8 @@ pub use line::{Kind, Line};
 pub use object::{Item, Member, Object};
 pub use path::Path;
 pub use pointer::{PathFault, push_token};
-pub use string::push_quoted;
 pub use shape::{Shape, Sibling};
+pub use string::push_quoted;
 pub use text::Text;
 
 /// How many classes may stand one below the other in a document that is read.
