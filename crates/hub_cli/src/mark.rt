@@ -149,11 +149,22 @@ fn push_line(alloc: Global, out: &mut String, mark: Mark<'_>) -> Result<(), Allo
     Ok(())
 }
 
+/// A comma and the label as a JSON string, behind `out`. Memory of its own is taken for an extended one alone.
 fn push_label(alloc: Global, out: &mut String, label: Label<'_>) -> Result<(), AllocError>
     ensures { OnOk result (string_bytes out.new ≡ string_bytes out.old ++ (codes "," ++ quoted (text_of (marking_of label.entry)))) }
 {
-    let text = label.text(alloc)?;
-    push_cell(alloc, out, ",", text.as_str())
+    match label {
+        Label::Ext(_) => {
+            let text = label.text(alloc)?;
+            push_cell(alloc, out, ",", text.as_str())
+        }
+        Label::Public | Label::White | Label::Partner | Label::Green | Label::NeedToKnow => {
+            push_cell(alloc, out, ",", label.restriction())
+        }
+        Label::Amber | Label::Private | Label::Red | Label::Default => {
+            push_cell(alloc, out, ",", label.restriction())
+        }
+    }
 }
 
 /// What stands before a text, and the text as a JSON string, behind `out`.

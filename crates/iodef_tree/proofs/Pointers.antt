@@ -1,9 +1,10 @@
 -- The escaping of characters.
-use Rattle.std.proofs.Common.{◌≡◌, ◌≢◌, ◌⊎◌, inl, inr, ℕ, List, [], ◌∷◌, ◌++◌, refl, sym, ap, ◌∙◌, arith}
+use Rattle.std.proofs.Common.{◌≡◌, ◌≢◌, ◌⊎◌, inl, inr, ℕ, false, ◌==◌, List, [], ◌∷◌, ◌++◌, refl, sym, ap, ◌∙◌, arith}
 use Rattle.std.specs.Char.{encode_utf8}
-use Rattle.std.proofs.lemmas.Bool.{ne_eqb, cond-false}
+use Rattle.std.specs.List.{list_any}
+use Rattle.std.proofs.lemmas.Bool.{ne_eqb, cond-false, or_parts}
 use Rattle.std.proofs.lemmas.List.Concat.{flat_map-append}
-use Rattle.iodef_tree.specs.Pointer.{escaped_byte, escaped}
+use Rattle.iodef_tree.specs.Pointer.{escaped_byte, is_escaped_byte, escaped}
 use Rattle.iodef_tree.proofs.Characters.{AreHigh, IsHigh, encode_utf8-cases}
 
 -- a byte that is neither a tilde nor a slash stays
@@ -24,3 +25,11 @@ escaped-encode c t s = by_bytes (encode_utf8 c) (encode_utf8-cases c)
     by_bytes : (bytes : List ℕ) → (bytes ≡ c ∷ []) ⊎ IsHigh c bytes → escaped bytes ≡ bytes
     by_bytes bytes (inl e) = ap escaped e ∙ ap (λ x. x ++ []) (plain_byte c t s) ∙ sym e
     by_bytes bytes (inr (k, b, bs, e, high)) = ap escaped e ∙ escaped-high (b ∷ bs) high ∙ sym e
+
+-- where no byte is written otherwise, a token stays as it is
+pub escaped-same : (s : List ℕ) → list_any is_escaped_byte s ≡ false → escaped s ≡ s
+escaped-same [] h = refl
+escaped-same (b ∷ bs) h =
+    let parts = or_parts (is_escaped_byte b) (list_any is_escaped_byte bs) h in
+    let tests = or_parts (b == 126) (b == 47) parts.0 in
+    ap (λ x. x ++ escaped bs) (cond-false (b == 126) _ _ tests.0 ∙ cond-false (b == 47) _ _ tests.1) ∙ ap (λ x. b ∷ x) (escaped-same bs parts.1)

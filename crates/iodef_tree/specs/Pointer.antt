@@ -1,5 +1,5 @@
 -- JSON pointers (RFC 6901).
-use Rattle.std.specs.Prelude.{◌≡◌, ℕ, List, [], ◌∷◌, ◌==◌, Bool, true, false, if◌then◌else◌, Option, Some, None, option_map, codes}
+use Rattle.std.specs.Prelude.{◌≡◌, ℕ, List, [], ◌∷◌, ◌==◌, ◌||◌, Bool, true, false, if◌then◌else◌, Option, Some, None, option_map, codes}
 use Rattle.std.specs.List.{flat_map, slice_split}
 use Rattle.std.specs.Str.{byte}
 use Rattle.iodef_tree.specs.Text.{Bytes, Tokens}
@@ -9,6 +9,10 @@ use Rattle.iodef_tree.specs.declared.pointer.PathFault.TheVariants.{BadPath, NoM
 -- `~` is written `~0`, and `/` is written `~1` (section 3)
 abbrev pub escaped_byte : ℕ → Bytes
 escaped_byte c = if c == byte "~" then codes "~0" else (if c == byte "/" then codes "~1" else c ∷ [])
+
+-- the byte is one of the two that are written otherwise
+abbrev pub is_escaped_byte : ℕ → Bool
+is_escaped_byte c = (c == byte "~") || (c == byte "/")
 
 abbrev pub escaped : Bytes → Bytes
 escaped token = flat_map escaped_byte token

@@ -31,8 +31,8 @@ pub use line::{Kind, Line};
 pub use object::{Item, Member, Object};
 pub use path::Path;
 pub use pointer::{PathFault, push_token};
-pub use string::push_quoted;
 pub use shape::{Shape, Sibling};
+pub use string::push_quoted;
 pub use text::Text;
 
 /// How many classes may stand one below the other in a document that is read.

@@ -1,8 +1,9 @@
 //! JSON pointers as texts (RFC 6901).
 
 ghost use Rattle.std.specs.Prelude.{◌≡◌, ◌++◌, ◌∷◌, map, string_bytes, OnOk, IfOk};
+ghost use Rattle.std.specs.List.{list_any};
 ghost use Rattle.std.specs.Str.{byte};
-ghost use Rattle.iodef_tree.specs.Pointer.{escaped, escaped_by, unescaped, slash_separated, fault_name};
+ghost use Rattle.iodef_tree.specs.Pointer.{is_escaped_byte, escaped, escaped_by, unescaped, slash_separated, fault_name};
 ghost use Rattle.iodef_tree.specs.declared.pointer.PathFault.TheVariants.{NoMemory};
 
 use crate::text::Text;
@@ -51,6 +52,27 @@ pub fn push_token(pointer: &mut String, token: &str) -> Result<(), AllocError>
         (string_bytes pointer.new ≡ string_bytes pointer.old ++ byte "/" ∷ escaped token.now) }
 {
     pointer.push('/')?;
+    if is_written_otherwise(token) {
+        return push_escaped(pointer, token);
+    }
+    pointer.push_str(token)?;
+    Ok(())
+}
+
+/// Whether a byte of the token is written as two.
+fn is_written_otherwise(token: &str) -> bool
+    ensures { result ≡ list_any is_escaped_byte token.now }
+{
+    let mut found = false;
+    for byte in token.as_bytes() {
+        found = found | (*byte == b'~') | (*byte == b'/');
+    }
+    found
+}
+
+fn push_escaped(pointer: &mut String, token: &str) -> Result<(), AllocError>
+    ensures { OnOk result (string_bytes pointer.new ≡ string_bytes pointer.old ++ escaped token.now) }
+{
     for c in token.chars() {
         if c == '~' {
             pointer.push_str("~0")?;

@@ -28,7 +28,9 @@ pub fn push_quoted(alloc: Global, out: &mut String, text: &str) -> Result<(), Al
 fn is_escaped(text: &str) -> bool
     ensures { result ≡ list_any needs_escape text.now }
 {
-    text.as_bytes()
-        .iter()
-        .any(|byte| *byte == b'"' || *byte == b'\\' || *byte < 32)
+    let mut escaped = false;
+    for byte in text.as_bytes() {
+        escaped = escaped | (*byte == b'"') | (*byte == b'\\') | (*byte < 32);
+    }
+    escaped
 }

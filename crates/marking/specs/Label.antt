@@ -79,18 +79,23 @@ handling_of red arranged = Red
 handling_of by_arrangement arranged = unwrap_or arranged Red
 handling_of (extended text) arranged = handling_of_text text
 
--- the value of `restriction`, and for an extended one its text behind a space
+-- the value of `restriction`
+abbrev pub restriction_of : Marking → Bytes
+restriction_of public = codes "public"
+restriction_of white = codes "white"
+restriction_of partner = codes "partner"
+restriction_of green = codes "green"
+restriction_of need_to_know = codes "need-to-know"
+restriction_of amber = codes "amber"
+restriction_of private = codes "private"
+restriction_of red = codes "red"
+restriction_of by_arrangement = codes "default"
+restriction_of (extended text) = codes "ext-value"
+
+-- the same, and for an extended one its text behind a space
 abbrev pub text_of : Marking → Bytes
-text_of public = codes "public"
-text_of white = codes "white"
-text_of partner = codes "partner"
-text_of green = codes "green"
-text_of need_to_know = codes "need-to-know"
-text_of amber = codes "amber"
-text_of private = codes "private"
-text_of red = codes "red"
-text_of by_arrangement = codes "default"
 text_of (extended text) = codes "ext-value " ++ text
+text_of m = restriction_of m
 
 -- the order of handlings, the widest audience first: CLEAR < GREEN < AMBER < STRICT < RED
 abbrev pub rank : Handling → ℕ

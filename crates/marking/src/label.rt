@@ -58,7 +58,7 @@ impl Handling {
 
 impl<'a> Label<'a> {
     ghost use Rattle.std.specs.Prelude.{◌≡◌, option_map, IfOk, string_bytes};
-    ghost use Rattle.marking.specs.Label.{marking_of, spelled, handling_of, text_of};
+    ghost use Rattle.marking.specs.Label.{marking_of, spelled, handling_of, restriction_of, text_of};
 
     /// The label that a text in `restriction` spells, with the text in `ext-restriction` beside it, if there is one.
     /// `ext-value` spells one only with such a text; beside another value that text says nothing.
@@ -83,21 +83,36 @@ impl<'a> Label<'a> {
         }
     }
 
+    /// The value of `restriction`. Takes no memory.
+    pub fn restriction(&self) -> &'static str
+        ensures { result.now ≡ restriction_of (marking_of self.now) }
+    {
+        match self {
+            Label::Public => "public",
+            Label::White => "white",
+            Label::Partner => "partner",
+            Label::Green => "green",
+            Label::NeedToKnow => "need-to-know",
+            Label::Amber => "amber",
+            Label::Private => "private",
+            Label::Red => "red",
+            Label::Default => "default",
+            Label::Ext(_) => "ext-value",
+        }
+    }
+
     /// The value of `restriction`; for an extended label followed by a space and its text.
     pub fn text(&self, alloc: Global) -> Result<String, AllocError>
         ensures { IfOk result (λ s. string_bytes s ≡ text_of (marking_of self.now)) }
     {
         match self {
-            Label::Public => String::from_str(alloc, "public"),
-            Label::White => String::from_str(alloc, "white"),
-            Label::Partner => String::from_str(alloc, "partner"),
-            Label::Green => String::from_str(alloc, "green"),
-            Label::NeedToKnow => String::from_str(alloc, "need-to-know"),
-            Label::Amber => String::from_str(alloc, "amber"),
-            Label::Private => String::from_str(alloc, "private"),
-            Label::Red => String::from_str(alloc, "red"),
-            Label::Default => String::from_str(alloc, "default"),
             Label::Ext(text) => format!(in alloc; "ext-value {text}"),
+            Label::Public | Label::White | Label::Partner | Label::Green | Label::NeedToKnow => {
+                String::from_str(alloc, self.restriction())
+            }
+            Label::Amber | Label::Private | Label::Red | Label::Default => {
+                String::from_str(alloc, self.restriction())
+            }
         }
     }
 

@@ -26,6 +26,9 @@ pub struct Mark<'a> {
     pub site: &'a str,
 }
 
+/// Room for two slashes and a place in an array.
+const ROOM: usize = 22;
+
 /// What writes down the classes of a document, one after another.
 pub trait MarkWriter {
     /// What it has written.
@@ -132,7 +135,9 @@ fn path_below(
 ) -> Result<String, AllocError>
     ensures { IfOk result (λ s. string_bytes s ≡ above.now ++ pointer_text (steps name.now index)) }
 {
-    let mut path = String::from_str(alloc, above)?;
+    let room = above.len().saturating_add(name.len()).saturating_add(ROOM);
+    let mut path = String::with_capacity(alloc, room)?;
+    path.push_str(above)?;
     push_token(&mut path, name)?;
     if let Some(index) = index {
         let mut digits = itoa::Buffer::new();

@@ -1,0 +1,7 @@
+use Rattle.std.proofs.Common.{◌≡◌, ◌||◌, drop}
+use Rattle.std.specs.List.{list_any}
+use Rattle.iodef_tree.specs.Written.{needs_escape}
+use Rattle.iodef_tree.proofs.string.is_escaped.Given as goal
+
+abbrev pub invariant-loop-byte : goal.invariant-loop-byte
+invariant-loop-byte l = (l.escaped || list_any needs_escape (drop l.byte-index l.byte-items)) ≡ list_any needs_escape l.byte-items
