@@ -1,4 +1,4 @@
-use Rattle.std.proofs.Common.{List, Bool, ◌||◌, All, ◌≡◌, ℕ, suc, ◌+◌, ◌<◌, [], ◌∷◌, ◌++◌, map, length, get_or, drop, take, length-append, refl, sym, ◌∙◌, ap, subst, arith, add-one, decimal, true, false, if◌then◌else◌}
+use Rattle.std.proofs.Common.{Bool, ◌||◌, All, ◌≡◌, ℕ, suc, ◌+◌, ◌<◌, [], ◌∷◌, ◌++◌, map, length, get_or, drop, take, length-append, refl, sym, ◌∙◌, ap, subst, arith, add-one, decimal, true, false, if◌then◌else◌}
 use Rattle.std.specs.Prelude.{Some, None, option_map, is_some}
 use Rattle.std.proofs.lemmas.List.{drop_all, append-nil, map-append, at_drop_more}
 use Rattle.std.proofs.lemmas.List.Elements.{All-push}
@@ -7,14 +7,13 @@ use Rattle.iodef_tree.specs.declared.text.Text.{Text}
 use Rattle.iodef_tree.specs.declared.object.Member.{Member}
 use Rattle.redact.specs.Filled.{IsFilled}
 use Rattle.std.proofs.lemmas.Bool.{eqb-false, eqb-true, cond-false, cond-true}
-use Rattle.iodef_tree.specs.Text.{Bytes, Tokens}
+use Rattle.iodef_tree.specs.Text.{Bytes}
 use Rattle.iodef_tree.specs.View.{forest, body, bodies, named, members_forest, forest_of_members}
 use Rattle.iodef_tree.proofs.Views.{forest-members, forest-made}
 use Rattle.policy.specs.Inherited.{carried, hides}
 use Rattle.policy.specs.declared.rule.Rule.{Rule}
-use Rattle.redact.specs.Withheld.{Withheld, at_rule, at_place}
+use Rattle.redact.specs.Withheld.{at_rule, at_place}
 use Rattle.redact.specs.declared.pass.State.{State}
-use Rattle.redact.specs.declared.trail.Token.{Token}
 use Rattle.redact.specs.declared.trail.Token.TheVariants.{Index}
 use Rattle.redact.specs.Judged.{inside, is_end, cut, told, visible_classes}
 use Rattle.redact.specs.Pass.{pass, judgment_by}
