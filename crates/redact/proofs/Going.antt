@@ -1,10 +1,9 @@
 -- The steps of the pass, one behind another.
-use Rattle.std.proofs.Common.{◌≡◌, ℕ, suc, ◌+◌, Bool, false, ◌||◌, List, [], ◌∷◌, ◌++◌, refl, sym, ◌∙◌, ap, subst, take, length, append_assoc, append-nil, arith, if◌then◌else◌, decimal}
+use Rattle.std.proofs.Common.{◌≡◌, ℕ, suc, ◌+◌, Bool, false, ◌||◌, List, [], ◌∷◌, ◌++◌, refl, sym, ◌∙◌, ap, subst, take, append_assoc, append-nil, arith, if◌then◌else◌, decimal}
 use Rattle.std.specs.Prelude.{Option, Some, None, is_some, option_map}
 use Rattle.std.specs.List.{cons_option, list_any}
 use Rattle.std.proofs.lemmas.List.Folds.{list_any-append}
 use Rattle.std.proofs.lemmas.List.{map-append}
-use Rattle.std.proofs.Math.Seq.{take-append_seam}
 use Rattle.policy.specs.Inherited.{carried, Inherited, enter_array}
 use Rattle.iodef_tree.specs.Text.{Bytes, Tokens}
 use Rattle.iodef_tree.specs.Tree.{Body, Bodies, one, many}

@@ -1,12 +1,10 @@
 -- What lies ahead, one token further down.
-use Rattle.std.proofs.Common.{◌≡◌, List, [], ◌∷◌, ◌++◌, refl, sym, ◌∙◌, ap, append_assoc}
-use Rattle.std.specs.Prelude.{Option}
+use Rattle.std.proofs.Common.{◌≡◌, List, [], ◌∷◌, ◌++◌, sym, ◌∙◌, ap, append_assoc}
 use Rattle.std.proofs.lemmas.List.{map-append}
 use Rattle.iodef_tree.specs.Text.{Bytes, Tokens}
-use Rattle.policy.specs.Ahead.{Met, met_at, ahead_of, met_by, nothing_met}
+use Rattle.policy.specs.Ahead.{Met, met_at, ahead_of, nothing_met}
 use Rattle.policy.specs.declared.standing.Standing.{Standing}
 use Rattle.policy.specs.declared.case.Case.{Case}
-use Rattle.policy.specs.declared.ahead.Ahead.{Ahead}
 use Rattle.redact.specs.Tokens.{token_of, path_of}
 use Rattle.redact.specs.declared.trail.Token.{Token}
 

@@ -1,5 +1,5 @@
 -- What the program's pass leaves, tells and counts of the members of one class.
-use Rattle.std.specs.Prelude.{◌≡◌, ℕ, suc, ◌+◌, ◌<◌, ◌^◌, true, false, List, [], ◌∷◌, ◌++◌, map, if◌then◌else◌, Option, Some, None, is_some, option_map, decimal}
+use Rattle.std.specs.Prelude.{◌≡◌, ℕ, suc, ◌+◌, ◌<◌, ◌^◌, true, false, List, [], ◌∷◌, ◌++◌, if◌then◌else◌, Option, Some, None, is_some, option_map, decimal}
 use Rattle.std.specs.List.{cons_option}
 use Rattle.iodef_tree.specs.Text.{Bytes, Tokens}
 use Rattle.iodef_tree.specs.Tree.{Forest, Body, holds, says, Bodies, one, many}
@@ -12,8 +12,6 @@ use Rattle.redact.specs.Withheld.{Withheld, is_among, at_place}
 use Rattle.redact.specs.Judged.{Judgment, Judged, Home, root, inside, keeps_plain, is_end, with_label, cut, visible_classes, told}
 use Rattle.redact.specs.Tokens.{path_of}
 use Rattle.redact.specs.Pass.{judgment_by, pass}
-use Rattle.redact.specs.declared.trail.Token.{Token}
-use Rattle.redact.specs.declared.trail.Token.TheVariants as token
 use Rattle.redact.specs.declared.pass.Home.{Home as Place}
 use Rattle.redact.specs.declared.pass.Home.TheVariants as place
 use Rattle.redact.specs.declared.pass.State.{State}

@@ -1,5 +1,5 @@
 -- What is withheld: at which place of the excerpt, and by which rule.
-use Rattle.std.specs.Prelude.{◌≡◌, Bool, ◌&&◌, not, List, [], ◌∷◌, filter, map, if◌then◌else◌, Contains}
+use Rattle.std.specs.Prelude.{Bool, ◌&&◌, not, List, [], ◌∷◌, filter, map, if◌then◌else◌, Contains}
 use Rattle.std.specs.List.{flat_map, list_any, zip}
 use Rattle.std.specs.List.Sorted.{IsStrictlySortedBy}
 use Rattle.std.specs.declared.cmp.Ordering.{Ordering}

@@ -6,7 +6,7 @@ use Rattle.iodef_tree.specs.Sound.{IsSound}
 use Rattle.iodef_tree.specs.View.{forest}
 use Rattle.marking.specs.Marks.{first_bad_marking}
 use Rattle.policy.specs.Inherited.{carried, at_root}
-use Rattle.redact.specs.Withheld.{Withheld, is_among, at_place, Lists}
+use Rattle.redact.specs.Withheld.{Withheld, is_among, at_place}
 use Rattle.redact.specs.Left.{tells}
 use Rattle.redact.proofs.Listing.{lists-same}
 use Rattle.policy.specs.declared.rule.Rule.{Rule}

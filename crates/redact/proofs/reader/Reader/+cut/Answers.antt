@@ -5,7 +5,7 @@ use Rattle.iodef_tree.specs.Tree.{Bodies}
 use Rattle.iodef_tree.specs.declared.text.Text.{Text}
 use Rattle.iodef_tree.specs.declared.object.Member.{Member}
 use Rattle.std.proofs.lemmas.Bool.{eqb-false, eqb-true, cond-false, cond-true}
-use Rattle.iodef_tree.specs.Text.{Bytes, Tokens}
+use Rattle.iodef_tree.specs.Text.{Bytes}
 use Rattle.iodef_tree.specs.View.{forest, body, bodies, named, members_forest, forest_of_members}
 use Rattle.std.specs.List.{AllByRecursion}
 use Rattle.iodef_tree.specs.Filled.{has_some, IsItemFilled, IsMemberFilled}
@@ -15,9 +15,8 @@ use Rattle.iodef_tree.proofs.Siblings.{all-append}
 use Rattle.iodef_tree.proofs.Views.{forest-members, forest-made}
 use Rattle.policy.specs.Inherited.{carried, hides}
 use Rattle.policy.specs.declared.rule.Rule.{Rule}
-use Rattle.redact.specs.Withheld.{Withheld, at_rule, at_place}
+use Rattle.redact.specs.Withheld.{at_rule, at_place}
 use Rattle.redact.specs.declared.pass.State.{State}
-use Rattle.redact.specs.declared.trail.Token.{Token}
 use Rattle.redact.specs.declared.trail.Token.TheVariants.{Index}
 use Rattle.redact.specs.Judged.{inside, is_end, cut, told, visible_classes}
 use Rattle.redact.specs.Pass.{pass, judgment_by}
