@@ -1,5 +1,6 @@
 //! Why a request is refused, or what it changes: by the facts alone.
 
+mod body;
 mod change;
 mod gate;
 mod search;
