@@ -3,5 +3,7 @@
 mod body;
 mod change;
 mod gate;
+mod post;
+mod posted;
 mod search;
 mod stop;

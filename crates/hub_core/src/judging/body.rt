@@ -1,12 +1,14 @@
 //! The documents of a body, and what is told of one that isn't accepted.
 ghost use Rattle.std.specs.Prelude.{◌≡◌, [], ◌∷◌, map, IfOk, codes, string_bytes};
+ghost use Rattle.std.specs.List.{list_any};
+ghost use Rattle.std.specs.Str.{bytes_eq};
 ghost use Rattle.circle.specs.Refusals.{bad};
 ghost use Rattle.circle.specs.declared.refusal.Code.TheVariants.{B1};
-ghost use Rattle.hub_core.specs.Documents.{documents_in, fault_in, fault_told, ident_of, marking_told, bad_marking};
-ghost use Rattle.hub_core.specs.Refusals.{because};
+ghost use Rattle.hub_core.specs.Documents.{Lines, documents_in, fault_in, fault_told, ident_of, marking_told, bad_marking};
+ghost use Rattle.hub_core.specs.Refusals.{because, stands_twice};
 ghost use Rattle.hub_core.specs.Asked.{Asks};
-ghost use Rattle.hub_core.specs.Posted.{all_posted};
 
+use crate::judging::posted::Posted;
 use crate::judging::stop::Stop;
 use circle::refusal::{Code, Refusal};
 use circle::text::Text;
@@ -14,23 +16,44 @@ use iodef_tree::{Document, Path, ReadFault};
 use marking::{MarkingFault, check};
 use std::alloc::{AllocError, Global};
 
-/// A document of a body, with the compact JSON of its `IncidentID` (RFC 7970 section 3.4).
-#[derive(Drop)]
-pub struct Posted {
-    pub ident: Text,
-    pub document: Document,
-}
-
 /// The documents of a body, one for each Incident.
-pub fn documents(alloc: Global, body: &[u8]) -> Result<Vec<Document>, Stop>
+pub fn documents(alloc: Global, body: &[u8]) -> Result<Vec<Posted>, Stop>
     ensures asked { Asks (because B1 (fault_in body.now) ∷ []) result }
     ensures read { IfOk result (λ docs. docs.items ≡ documents_in body.now) }
 {
     match Document::read(alloc, body) {
-        Ok(documents) => Ok(documents),
+        Ok(documents) => Ok(with_idents(alloc, documents)?),
         Err(ReadFault::NoMemory) => Err(Stop::NoMemory),
         Err(fault) => Err(bad_because(fault_text(alloc, &fault)?)),
     }
+}
+
+fn with_idents(alloc: Global, documents: Vec<Document>) -> Result<Vec<Posted>, AllocError>
+    ensures { IfOk result (λ all. all.items ≡ documents.items) }
+{
+    let mut all = Vec::with_capacity(alloc, documents.len())?;
+    for document in documents {
+        all.push(Posted::new(alloc, document)?)?;
+    }
+    Ok(all)
+}
+
+/// Whether two have the same ident.
+pub fn have_twins(documents: &[Posted]) -> bool
+    ensures { result ≡ stands_twice (map ident_of documents.now) }
+{
+    for (place, document) in documents.iter().enumerate() {
+        if is_among(document.ident(), &documents[place + 1..]) {
+            return true;
+        }
+    }
+    false
+}
+
+fn is_among(ident: &Text, documents: &[Posted]) -> bool
+    ensures { result ≡ list_any (λ (doc : Lines). bytes_eq ident.now (ident_of doc)) documents.now }
+{
+    documents.iter().any(|document| ident == document.ident())
 }
 
 fn bad_because(told: String) -> Stop
@@ -61,11 +84,11 @@ fn fault_text(alloc: Global, fault: &ReadFault) -> Result<String, AllocError>
 }
 
 /// Refuses the first document with a bad marking, by its place in the body and the path of the class.
-pub fn well_marked(alloc: Global, documents: &[Document]) -> Result<(), Stop>
+pub fn well_marked(alloc: Global, documents: &[Posted]) -> Result<(), Stop>
     ensures { Asks (because B1 (bad_marking documents.now) ∷ []) result }
 {
     for (place, document) in documents.iter().enumerate() {
-        match check(alloc, document) {
+        match check(alloc, document.document()) {
             Ok(()) => {}
             Err(MarkingFault::BadMarking(path)) => {
                 return Err(bad_because(marking_text(alloc, place, &path)?));
@@ -81,25 +104,4 @@ fn marking_text(alloc: Global, place: usize, path: &Path) -> Result<String, Allo
 {
     let pointer = path.print(alloc)?;
     format!(in alloc; "BadMarking {place} {pointer}")
-}
-
-/// Each document with its ident.
-pub fn with_idents(alloc: Global, documents: Vec<Document>) -> Result<Vec<Posted>, AllocError>
-    ensures { IfOk result (λ all. all.items ≡ all_posted documents.items) }
-{
-    let mut all = Vec::with_capacity(alloc, documents.len())?;
-    for document in documents {
-        let ident = ident(alloc, &document)?;
-        all.push(Posted { ident, document })?;
-    }
-    Ok(all)
-}
-
-fn ident(alloc: Global, document: &Document) -> Result<Text, AllocError>
-    ensures { IfOk result (λ t. t ≡ ident_of document.now) }
-{
-    match document.incident_id(alloc)? {
-        Some(ident) => Ok(Text::new(ident)),
-        None => Ok(Text::new(String::new(alloc))),
-    }
 }

@@ -77,7 +77,7 @@ pub fn grant(
     ensures made { IfOk result (λ edits. edits.items ≡ edits_by facts.now actor.now (ask.Grant incident revision path.now grantee)) }
 {
     poster(alloc, actor)?;
-    let path = path_of(alloc, path)?;
+    let path = path_of(alloc, path, "path")?;
     let known = own(alloc, actor, facts)?;
     refuse_if(alloc, !facts.circle.exists, Code::N2)?;
     refuse_if(alloc, !is_class(facts, &path), Code::N3)?;
@@ -106,7 +106,7 @@ pub fn withdraw(
     ensures made { IfOk result (λ edits. edits.items ≡ edits_by facts.now actor.now (ask.Withdraw incident path.now grantee)) }
 {
     poster(alloc, actor)?;
-    let path = path_of(alloc, path)?;
+    let path = path_of(alloc, path, "path")?;
     own(alloc, actor, facts)?;
     refuse_if(alloc, !facts.circle.stands, Code::S2)?;
     Ok(one(
@@ -134,7 +134,7 @@ pub fn redistribute(
     ensures made { IfOk result (λ edits. edits.items ≡ edits_by facts.now actor.now (ask.Redistribute incident revision path.now level group)) }
 {
     poster(alloc, actor)?;
-    let path = path_of(alloc, path)?;
+    let path = path_of(alloc, path, "path")?;
     bad_if(alloc, is_bad_level(is_root(&path), level), "level")?;
     bad_if(alloc, is_bad_group(level, group), "group")?;
     let known = own(alloc, actor, facts)?;

@@ -1,5 +1,5 @@
 //! How the grounds of a request are asked: each is a test and the refusal that it gives.
-ghost use Rattle.std.specs.Prelude.{◌≡◌, [], ◌∷◌, IfOk, option_map, decimal, codes};
+ghost use Rattle.std.specs.Prelude.{◌≡◌, [], ◌∷◌, IfOk, option_map, decimal};
 ghost use Rattle.circle.specs.Refusals.{refuse, bad};
 ghost use Rattle.iodef_tree.specs.Pointer.{pointer_tokens};
 ghost use Rattle.hub_core.specs.Refusals.{because, unless_poster, is_bad_pointer, other_than as told_unless_same};
@@ -93,15 +93,15 @@ pub fn own<'a>(alloc: Global, actor: &Person, facts: &'a Facts) -> Result<&'a Kn
 }
 
 /// The path that a text is the JSON pointer of (RFC 6901).
-pub fn path_of(alloc: Global, text: &str) -> Result<Path, Stop>
-    ensures asked { Asks (bad (codes "path") (is_bad_pointer text.now) ∷ []) result }
+pub fn path_of(alloc: Global, text: &str, field: &'static str) -> Result<Path, Stop>
+    ensures asked { Asks (bad field.now (is_bad_pointer text.now) ∷ []) result }
     ensures path { IfOk result (λ p. pointer_tokens text.now ≡ Some p) }
 {
     match Path::parse(alloc, text) {
         Ok(path) => Ok(path),
         Err(PathFault::BadPath) => Err(Stop::Refused(Refusal {
             code: Code::B1,
-            detail: Text::of(alloc, "path")?,
+            detail: Text::of(alloc, field)?,
         })),
         Err(PathFault::NoMemory) => Err(Stop::NoMemory),
     }
