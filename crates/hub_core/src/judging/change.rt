@@ -7,11 +7,14 @@ ghost use Rattle.hub_core.specs.declared.request.Request.TheVariants as ask;
 use crate::edit::Edit;
 use crate::facts::Facts;
 use crate::judging::gate::{is_bad_group, is_bad_level, is_root};
-use crate::judging::stop::{Stop, bad_if, other_than, own, path_of, poster, refuse_if, refuse_with};
+use crate::judging::stop::{
+    Stop, bad_if, other_than, own, path_of, poster, refuse_if, refuse_with,
+};
 use crate::request::Target;
 use crate::state::{Gate, Permission, Recipient};
 use circle::directory::Person;
 use circle::refusal::Code;
+use circle::text::Text;
 use iodef_tree::Path;
 use policy::Grantee;
 use std::alloc::{AllocFailed, Global};
@@ -39,10 +42,7 @@ pub fn address(
     refuse_if(alloc, !facts.circle.exists, Code::N2)?;
     refuse_if(alloc, facts.circle.stands, Code::S1)?;
     refuse_if(alloc, facts.recipients > 64, Code::L1)?;
-    Ok(one(
-        alloc,
-        Edit::PutRecipient(Recipient { incident, target }),
-    )?)
+    Ok(one(alloc, Edit::PutRecipient(Recipient { incident, target }))?)
 }
 
 pub fn unaddress(
@@ -58,10 +58,7 @@ pub fn unaddress(
     poster(alloc, actor)?;
     own(alloc, actor, facts)?;
     refuse_if(alloc, !facts.circle.stands, Code::S2)?;
-    Ok(one(
-        alloc,
-        Edit::TakeRecipient(Recipient { incident, target }),
-    )?)
+    Ok(one(alloc, Edit::TakeRecipient(Recipient { incident, target }))?)
 }
 
 pub fn grant(
@@ -70,14 +67,14 @@ pub fn grant(
     facts: &Facts,
     incident: u32,
     revision: u32,
-    path: &str,
+    path: &Text,
     grantee: Grantee,
 ) -> Result<Vec<Edit>, Stop>
     ensures asked { Asks (grounds_by facts.now actor.now (ask.Grant incident revision path.now grantee)) result }
     ensures made { IfOk result (λ edits. edits.items ≡ edits_by facts.now actor.now (ask.Grant incident revision path.now grantee)) }
 {
     poster(alloc, actor)?;
-    let path = path_of(alloc, path, "path")?;
+    let path = path_of(alloc, path.as_str(), "path")?;
     let known = own(alloc, actor, facts)?;
     refuse_if(alloc, !facts.circle.exists, Code::N2)?;
     refuse_if(alloc, !is_class(facts, &path), Code::N3)?;
@@ -99,14 +96,14 @@ pub fn withdraw(
     actor: &Person,
     facts: &Facts,
     incident: u32,
-    path: &str,
+    path: &Text,
     grantee: Grantee,
 ) -> Result<Vec<Edit>, Stop>
     ensures asked { Asks (grounds_by facts.now actor.now (ask.Withdraw incident path.now grantee)) result }
     ensures made { IfOk result (λ edits. edits.items ≡ edits_by facts.now actor.now (ask.Withdraw incident path.now grantee)) }
 {
     poster(alloc, actor)?;
-    let path = path_of(alloc, path, "path")?;
+    let path = path_of(alloc, path.as_str(), "path")?;
     own(alloc, actor, facts)?;
     refuse_if(alloc, !facts.circle.stands, Code::S2)?;
     Ok(one(
@@ -126,7 +123,7 @@ pub fn redistribute(
     facts: &Facts,
     incident: u32,
     revision: u32,
-    path: &str,
+    path: &Text,
     level: u32,
     group: Option<u32>,
 ) -> Result<Vec<Edit>, Stop>
@@ -134,7 +131,7 @@ pub fn redistribute(
     ensures made { IfOk result (λ edits. edits.items ≡ edits_by facts.now actor.now (ask.Redistribute incident revision path.now level group)) }
 {
     poster(alloc, actor)?;
-    let path = path_of(alloc, path, "path")?;
+    let path = path_of(alloc, path.as_str(), "path")?;
     bad_if(alloc, is_bad_level(is_root(&path), level), "level")?;
     bad_if(alloc, is_bad_group(level, group), "group")?;
     let known = own(alloc, actor, facts)?;
