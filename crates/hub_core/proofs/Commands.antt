@@ -1,5 +1,5 @@
 -- The rows of a directory's change make the aftermath of its command.
-use Rattle.std.proofs.Common.{◌≡◌, map, Option, Some, None, refl, sym, ap, ◌∙◌}
+use Rattle.std.proofs.Common.{◌≡◌, map, Option, Some, None, refl, sym}
 use Rattle.circle.specs.Aftermath as circle
 use Rattle.circle.specs.Aftermath.{rows_of, next_in, edit_of, edited}
 use Rattle.circle.specs.Directory.{Directory}

@@ -1,5 +1,4 @@
 use Rattle.std.proofs.Common.{refl}
-use Rattle.hub_core.specs.declared.request.Request.{Request}
 use Rattle.hub_core.specs.declared.request.Request.TheVariants as ask
 use Rattle.hub_core.proofs.Judged.{refused_in, allowed_in, made_in}
 use Rattle.hub_core.proofs.judging.judge.Goals as goal

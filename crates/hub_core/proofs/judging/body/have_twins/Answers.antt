@@ -1,7 +1,7 @@
-use Rattle.std.proofs.Common.{◌≡◌, ◌<◌, arith, length}
+use Rattle.std.proofs.Common.{arith}
 use Rattle.std.proofs.lemmas.Grind.{common_steps}
 use Rattle.hub_core.specs.Documents.{ident_of}
-use Rattle.hub_core.proofs.Lists.{twins_here}
+use Rattle.hub_core.proofs.Twins.{twins_here}
 use Rattle.hub_core.proofs.judging.body.have_twins.Goals as goal
 
 pub returns-then-is_among : goal.returns-then-is_among

@@ -1,7 +1,7 @@
 use Rattle.std.proofs.Common.{arith}
 use Rattle.std.proofs.lemmas.Grind.{common_steps}
 use Rattle.hub_core.specs.declared.request.WantedGate.{WantedGate}
-use Rattle.hub_core.proofs.Lists.{twins_here}
+use Rattle.hub_core.proofs.Twins.{twins_here}
 use Rattle.hub_core.proofs.judging.class_gates.have_twins.Goals as goal
 
 pub returns-then-is_among : goal.returns-then-is_among

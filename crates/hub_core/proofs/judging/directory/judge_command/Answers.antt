@@ -1,4 +1,4 @@
-use Rattle.std.proofs.Common.{◌≡◌, List, ap, ◌∙◌}
+use Rattle.std.proofs.Common.{List, ap, ◌∙◌}
 use Rattle.circle.specs.Directory.{Directory}
 use Rattle.hub_core.specs.State.{State}
 use Rattle.hub_core.specs.Edits.{after}

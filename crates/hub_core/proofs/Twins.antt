@@ -1,4 +1,4 @@
--- Tests of a list's elements, and loops over them.
+-- Two of a list that are the same, found in a loop over it.
 use Rattle.std.proofs.Common.{◌≡◌, ℕ, suc, ◌+◌, ◌<◌, List, [], ◌∷◌, Bool, ◌||◌, map, length, drop, drop-cons, get_or, add-one, refl, sym, ap, ◌∙◌}
 use Rattle.std.specs.List.{list_any}
 use Rattle.std.specs.Str.{bytes_eq}
