@@ -6,3 +6,6 @@ pub mod Staying
 pub mod Others
 pub mod Owners
 pub mod Growth
+pub mod Lookup
+pub mod Exchanged
+pub mod InKeys

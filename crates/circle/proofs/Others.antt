@@ -19,7 +19,7 @@ use Rattle.circle.specs.Ordered.{put_by, by_number, by_pair}
 use Rattle.circle.specs.Refusals.{grounds, refusal_of}
 use Rattle.circle.specs.Aftermath.{changed, unless_refused, exchange_account, exchange_group, next_in}
 use Rattle.circle.specs.Sound.{IsSound, CountsFrom, Each, Pairwise}
-use Rattle.circle.specs.Others.{nominated_of, groups_of, members_in, ExtendsBy, LeavesTheirs}
+use Rattle.circle.specs.Others.{nominated_of, groups_owned, members_in, ExtendsBy, LeavesTheirs}
 use Rattle.circle.specs.Laws.{OrganisationsKeepApart}
 use Rattle.circle.proofs.Judged.{passed, next_number}
 use Rattle.std.proofs.lemmas.Cmp.{on_total}
@@ -200,7 +200,7 @@ suspended_shows d n other =
       same_when account_number (a.person.number == n) (record a { person = record a.person { active = false } }) a refl,
     )))
 
-groups_exchanged : (d : Directory) (n own other : ℕ) (active : Bool) → IsSound d → other ≢ own → has_group_of n own d ≡ true → filter (λ (g : Group). g.owner == other) (exchange_group n (λ (g : Group). record g { active = active }) d.groups) ≡ groups_of other d
+groups_exchanged : (d : Directory) (n own other : ℕ) (active : Bool) → IsSound d → other ≢ own → has_group_of n own d ≡ true → filter (λ (g : Group). g.owner == other) (exchange_group n (λ (g : Group). record g { active = active }) d.groups) ≡ groups_owned other d
 groups_exchanged d n own other active sound apart of_own =
     kept_exchanged (λ (g : Group). g.owner == other) set d.groups
     (each_weaker (λ g. group_number g ≡ n → g.owner ≡ own) (λ g. (set g ≡ g) ⊎ (((g.owner == other) ≡ false) × (((set g).owner == other) ≡ false))) d.groups (λ g owned. either g (g.number == n) refl owned)

@@ -50,6 +50,11 @@ edited_row (TakeGroupMember group org) d = record d { group_members = filter (λ
 edited_row (PutArrangement arrangement) d = record d { arrangements = put_by (by_pair arrangement_key) arrangement d.arrangements }
 edited_row (TakeArrangement source org) d = record d { arrangements = filter (λ (a : Arrangement). not (a.source == source && a.org == org)) d.arrangements }
 
+-- the edits one after another
+abbrev pub edited_rows : List RowEdit → Directory → Directory
+edited_rows [] d = d
+edited_rows (edit ∷ edits) d = edited_rows edits (edited_row edit d)
+
 -- the owner of a group as a member that may extend it
 abbrev pub founder : Group → GroupMember
 founder group = record { group = group.number; org = group.owner; extend = true }

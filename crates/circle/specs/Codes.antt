@@ -3,22 +3,22 @@ use Rattle.std.specs.Prelude.{ℕ, List, codes}
 use Rattle.circle.specs.declared.refusal.Code.{Code}
 use Rattle.circle.specs.declared.refusal.Code.TheVariants.{K1, W1, B1, N1, N2, W2, W3, N3, S1, S2, S3, L1, F1, F2}
 
--- in which place a code stands among the grounds
-abbrev pub rank : Code → ℕ
-rank K1 = 1
-rank W1 = 2
-rank B1 = 3
-rank N1 = 4
-rank N2 = 5
-rank W2 = 6
-rank W3 = 7
-rank N3 = 8
-rank S1 = 9
-rank S2 = 10
-rank S3 = 11
-rank L1 = 12
-rank F1 = 13
-rank F2 = 14
+-- in which turn the ground of a code is asked
+abbrev pub turn : Code → ℕ
+turn K1 = 1
+turn W1 = 2
+turn B1 = 3
+turn N1 = 4
+turn N2 = 5
+turn W2 = 6
+turn W3 = 7
+turn N3 = 8
+turn S1 = 9
+turn S2 = 10
+turn S3 = 11
+turn L1 = 12
+turn F1 = 13
+turn F2 = 14
 
 abbrev pub name_of : Code → List ℕ
 name_of K1 = codes "K1"

@@ -7,7 +7,7 @@ use Rattle.circle.specs.declared.command.CircleCommand.TheVariants.{AddOrg, AddP
 use Rattle.circle.specs.declared.command.CircleFacts.{CircleFacts}
 use Rattle.circle.specs.declared.refusal.Code.TheVariants.{W1, B1, N2, W2, W3, S1, S2, L1}
 use Rattle.circle.specs.declared.refusal.Refusal.{Refusal}
-use Rattle.circle.specs.Answers.{plain}
+use Rattle.circle.specs.Outcomes.{bare}
 use Rattle.circle.specs.Texts.{is_name, is_releasability}
 use Rattle.circle.specs.Refusals.{is_administrator, is_coordinator}
 
@@ -71,14 +71,14 @@ with_field None rest = rest
 -- the first ground from N2 on, by the facts
 abbrev pub objection_of : CircleFacts → CircleCommand → Option Refusal
 objection_of f c =
-    if not f.exists then Some (plain N2) else
-    if lacks_right c f then Some (plain W2) else
-    if is_strange c f then Some (plain W3) else
-    if is_removal c && not f.stands then Some (plain S2) else
-    if not (is_removal c) && f.stands then Some (plain S1) else
-    if nat_le (limit_of c) f.count then Some (plain L1) else
+    if not f.exists then Some (bare N2) else
+    if lacks_right c f then Some (bare W2) else
+    if is_strange c f then Some (bare W3) else
+    if is_removal c && not f.stands then Some (bare S2) else
+    if not (is_removal c) && f.stands then Some (bare S1) else
+    if nat_le (limit_of c) f.count then Some (bare L1) else
     None
 
 -- the refusal by the facts
 abbrev pub refusal_by : CircleFacts → Person → CircleCommand → Option Refusal
-refusal_by f a c = if not (is_allowed c a.role) then Some (plain W1) else with_field (bad_field c a) (objection_of f c)
+refusal_by f a c = if not (is_allowed c a.role) then Some (bare W1) else with_field (bad_field c a) (objection_of f c)

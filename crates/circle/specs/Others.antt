@@ -16,8 +16,8 @@ abbrev pub nominated_of : ℕ → Directory → List ℕ
 nominated_of org d = map account_number (filter (λ (a : Account). a.person.org == org && a.person.nominated) d.accounts)
 
 -- the groups that the organisation owns
-abbrev pub groups_of : ℕ → Directory → List Group
-groups_of owner d = filter (λ (g : Group). g.owner == owner) d.groups
+abbrev pub groups_owned : ℕ → Directory → List Group
+groups_owned owner d = filter (λ (g : Group). g.owner == owner) d.groups
 
 -- the members of the group
 abbrev pub members_in : ℕ → Directory → List GroupMember
@@ -33,5 +33,5 @@ pub record ExtendsBy (own group : ℕ) (before after : Directory) (member : Grou
 pub record LeavesTheirs (other own : ℕ) (before after : Directory) : Type 0 where
   pub arrangements : arrangements_of other after ≡ arrangements_of other before
   pub nominations : nominated_of other after ≡ nominated_of other before
-  pub groups : groups_of other after ≡ groups_of other before
+  pub groups : groups_owned other after ≡ groups_owned other before
   pub members : (group : ℕ) → IsTrue (has_group_of group other before) → (members_in group after ≡ members_in group before) ⊎ ((member : GroupMember) × ExtendsBy own group before after member)

@@ -8,7 +8,7 @@ use Rattle.circle.specs.declared.command.CircleCommand.TheVariants.{AddOrg, AddP
 use Rattle.circle.specs.declared.refusal.Code.{Code}
 use Rattle.circle.specs.declared.refusal.Code.TheVariants.{W1, B1, N2, W2, W3, S1, S2, L1}
 use Rattle.circle.specs.declared.refusal.Refusal.{Refusal}
-use Rattle.circle.specs.Answers.{plain}
+use Rattle.circle.specs.Outcomes.{bare}
 use Rattle.circle.specs.Texts.{is_name, is_releasability}
 use Rattle.circle.specs.Directory.{Directory, has_org, has_org_named, has_person, has_key, has_suspended, has_nominated, has_person_of, has_client, has_community, has_community_named, has_membership, has_connection, has_group_named, has_group_of, has_group_being, has_group_member, has_extender, has_arrangement}
 
@@ -23,7 +23,7 @@ first_of [] = None
 first_of (g ∷ gs) = if g.holds then Some g.answer else first_of gs
 
 abbrev pub refuse : Code → Bool → Ground
-refuse code holds = record { holds = holds; answer = plain code }
+refuse code holds = record { holds = holds; answer = bare code }
 
 -- ---- the grounds, each under its name
 

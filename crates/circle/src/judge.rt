@@ -1,5 +1,5 @@
 ghost use Rattle.std.specs.Prelude.{◌≡◌, List, ℕ, None, IfOk, IfErr, OnOk, option_map};
-ghost use Rattle.circle.specs.Answers.{RefusedAs, plain};
+ghost use Rattle.circle.specs.Outcomes.{RefusedAs, bare};
 ghost use Rattle.circle.specs.Directory.{Directory};
 ghost use Rattle.circle.specs.Facts.{facts_of};
 ghost use Rattle.circle.specs.Refusals.{refusal_of};
@@ -27,15 +27,15 @@ pub fn judge(
     ensures made { (d : Directory) → IsSound d → facts.now ≡ facts_of d actor.now command.now → IfOk result (λ edit. edited edit d ≡ state_after d actor.now command.now) }
 {
     if !command.is_allowed(actor.role) {
-        return Err(Refusal::plain(alloc, Code::W1));
+        return Err(Refusal::bare(alloc, Code::W1));
     }
     let edit = match command.edit(alloc, actor, facts.count.saturating_add(1)) {
         Ok(edit) => edit,
         Err(Unfit::BadField(field)) => return Err(Refusal::new(alloc, Code::B1, field)),
-        Err(Unfit::NoMemory) => return Err(Refusal::plain(alloc, Code::F2)),
+        Err(Unfit::NoMemory) => return Err(Refusal::bare(alloc, Code::F2)),
     };
     match command.objection(facts) {
-        Some(code) => Err(Refusal::plain(alloc, code)),
+        Some(code) => Err(Refusal::bare(alloc, code)),
         None => Ok(edit),
     }
 }
@@ -61,7 +61,7 @@ impl CircleCommand {
 
     /// What the facts have against a command whose arguments are good: the first ground from `N2` on.
     fn objection(&self, facts: &CircleFacts) -> Option<Code>
-        ensures { option_map plain result ≡ objection_of facts.now self.now }
+        ensures { option_map bare result ≡ objection_of facts.now self.now }
     {
         if !facts.exists {
             return Some(Code::N2);

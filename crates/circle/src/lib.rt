@@ -4,11 +4,16 @@
 pub mod command;
 pub mod directory;
 mod edit;
+mod facts;
 pub mod judge;
+mod keyed;
+mod keys;
 pub mod laws;
+mod lookups;
 pub mod name;
+mod reads;
 pub mod refusal;
 pub mod releasability;
-#[cfg(test)]
-mod tests;
+pub mod rows;
+mod sets;
 pub mod text;

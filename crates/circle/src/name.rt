@@ -1,6 +1,6 @@
-ghost use Rattle.std.specs.Prelude.{◌≡◌, IfOk, IsTrue, Some, None, if◌then◌else◌};
+ghost use Rattle.std.specs.Prelude.{◌≡◌, IfOk, IsTrue, Some, None, if◌then◌else◌, string_bytes};
 ghost use Rattle.std.specs.List.{list_all};
-ghost use Rattle.circle.specs.Texts.{is_name, is_plain};
+ghost use Rattle.circle.specs.Texts.{is_name, is_no_control};
 
 use std::alloc::{AllocError, Global};
 use std::marker::Model;
@@ -41,17 +41,25 @@ impl Name {
     {
         self.text.as_str()
     }
+
+    /// Gives the string back; takes no memory.
+    pub fn into_string(self) -> String
+        ensures value { string_bytes result ≡ self }
+        ensures limits { IsTrue (is_name self) }
+    {
+        self.text
+    }
 }
 
 fn names_something(text: &str) -> bool
     ensures { result ≡ is_name text.now }
 {
     let bytes = text.as_bytes();
-    1 <= bytes.len() && bytes.len() <= 128 && is_plain_text(bytes)
+    1 <= bytes.len() && bytes.len() <= 128 && has_no_control(bytes)
 }
 
-fn is_plain_text(bytes: &[u8]) -> bool
-    ensures { result ≡ list_all is_plain bytes.now }
+fn has_no_control(bytes: &[u8]) -> bool
+    ensures { result ≡ list_all is_no_control bytes.now }
 {
     bytes.iter().all(|b| 0x20 <= *b && *b != 0x7f)
 }

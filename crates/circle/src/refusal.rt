@@ -1,6 +1,6 @@
 ghost use Rattle.std.specs.Prelude.{◌≡◌, ◌⊎◌, []};
 ghost use Rattle.circle.specs.Codes.{name_of, reason_of, status_of};
-ghost use Rattle.circle.specs.Answers.{no_memory, plain};
+ghost use Rattle.circle.specs.Outcomes.{no_memory, bare};
 
 use crate::text::Text;
 use std::alloc::Global;
@@ -108,8 +108,8 @@ pub struct Refusal {
 
 impl Refusal {
     /// The refusal without a detail; it takes no memory.
-    pub fn plain(alloc: Global, code: Code) -> Refusal
-        ensures { result ≡ plain code }
+    pub fn bare(alloc: Global, code: Code) -> Refusal
+        ensures { result ≡ bare code }
     {
         Refusal {
             code,
@@ -123,7 +123,7 @@ impl Refusal {
     {
         match Text::of(alloc, detail) {
             Ok(detail) => Refusal { code, detail },
-            Err(_) => Refusal::plain(alloc, Code::F2),
+            Err(_) => Refusal::bare(alloc, Code::F2),
         }
     }
 }

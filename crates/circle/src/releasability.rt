@@ -1,4 +1,4 @@
-ghost use Rattle.std.specs.Prelude.{◌≡◌, IfOk, IsTrue, Some, None, if◌then◌else◌};
+ghost use Rattle.std.specs.Prelude.{◌≡◌, IfOk, IsTrue, Some, None, if◌then◌else◌, string_bytes};
 ghost use Rattle.circle.specs.Texts.{is_releasability};
 
 use std::alloc::{AllocError, Global};
@@ -38,6 +38,14 @@ impl Releasability {
         ensures limits { IsTrue (is_releasability self.now) }
     {
         self.text.as_str()
+    }
+
+    /// Gives the string back; takes no memory.
+    pub fn into_string(self) -> String
+        ensures value { string_bytes result ≡ self }
+        ensures limits { IsTrue (is_releasability self) }
+    {
+        self.text
     }
 }
 

@@ -18,6 +18,7 @@ impl Model for Text {
 }
 
 impl Text {
+    /// The text of a string; takes no memory.
     pub fn new(text: String) -> Text
         ensures { result ≡ string_bytes text }
     {
@@ -34,6 +35,13 @@ impl Text {
         ensures { result.now ≡ self.now }
     {
         self.text.as_str()
+    }
+
+    /// Gives the string back; takes no memory.
+    pub fn into_string(self) -> String
+        ensures { string_bytes result ≡ self }
+    {
+        self.text
     }
 }
 

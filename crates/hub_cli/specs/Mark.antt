@@ -8,7 +8,7 @@ use Rattle.iodef_tree.specs.Paths.{LocatedLine, located, class_paths, has_class}
 use Rattle.iodef_tree.specs.Reading.{reading, fault_name as name_of_read}
 use Rattle.iodef_tree.specs.declared.line.Line.{Line}
 use Rattle.iodef_tree.specs.declared.fault.ReadFault.{ReadFault}
-use Rattle.marking.specs.Marks.{told_at, first_bad_marking}
+use Rattle.marking.specs.Marks.{marked_at, first_bad_marking}
 use Rattle.hub_cli.specs.Lines.{line_of}
 use Rattle.hub_cli.specs.declared.mark.Wanted.{Wanted}
 use Rattle.hub_cli.specs.declared.mark.MarkFault.{MarkFault}
@@ -16,11 +16,11 @@ use Rattle.hub_cli.specs.declared.mark.MarkFault.TheVariants.{Body, BadMarking, 
 
 -- a line for each class, in stored order
 abbrev pub text_of_all : List LocatedLine → Bytes
-text_of_all es = flat_map line_of (map (told_at es) (class_paths es))
+text_of_all es = flat_map line_of (map (marked_at es) (class_paths es))
 
 -- the line of the class at a path
 abbrev pub text_of_class : Tokens → List LocatedLine → Result Bytes MarkFault
-text_of_class p es = if has_class es p then Ok (line_of (told_at es p)) else Err NoClass
+text_of_class p es = if has_class es p then Ok (line_of (marked_at es p)) else Err NoClass
 
 abbrev pub text_of_wanted : Option Tokens → List LocatedLine → Result Bytes MarkFault
 text_of_wanted None es = Ok (text_of_all es)

@@ -1,17 +1,16 @@
 //! `mark`: the label of each class of a report.
 
-ghost use Rattle.std.specs.Prelude.{◌≡◌, map, string_bytes, IfOk, None};
-ghost use Rattle.std.specs.List.{flat_map};
-ghost use Rattle.marking.specs.Marks.{first_bad_marking, told_by};
-ghost use Rattle.hub_cli.specs.Lines.{line_of, row_of};
-ghost use Rattle.serde_json.specs.View.{view};
+ghost use Rattle.std.specs.Prelude.{◌≡◌, ◌++◌, string_bytes, OnOk, None, codes};
+ghost use Rattle.json.specs.Print.{quoted};
+ghost use Rattle.marking.specs.Label.{marking_of, text_of};
+ghost use Rattle.marking.specs.Marks.{first_bad_marking, marked_by};
+ghost use Rattle.hub_cli.specs.Lines.{line_of};
 ghost use Rattle.hub_cli.specs.Mark.{IsMarked, fault_name, mark_text as printed, text_of_class, text_of_document};
 ghost use Rattle.iodef_tree.specs.Paths.{located};
 ghost use Rattle.hub_cli.specs.declared.mark.MarkFault.TheVariants.{NoMemory};
 
-use iodef_tree::{Document, Path, ReadFault, Text};
-use marking::{Mark, MarkingFault, SiteFault, check, marks, site};
-use serde_json::{Value, json};
+use iodef_tree::{Document, Path, ReadFault, push_quoted};
+use marking::{Label, Mark, MarkWriter, MarkingFault, SiteFault, check, site, write_marks};
 use std::alloc::{AllocError, Global};
 
 /// Why a body has no labels to print.
@@ -86,7 +85,13 @@ fn document_text(
     }
     match class {
         Some(path) => class_text(alloc, document, path),
-        None => Ok(lines_text(alloc, marks(alloc, document)?)?),
+        None => {
+            let mut lines = Lines {
+                text: String::new(alloc),
+            };
+            write_marks(alloc, document, &mut lines)?;
+            Ok(lines.text)
+        }
     }
 }
 
@@ -100,42 +105,61 @@ fn class_text(alloc: Global, document: &Document, path: &Path) -> Result<String,
     }
     match site(alloc, document, path) {
         Ok((site, label)) => {
-            let path = Text::new(path.print(alloc)?);
-            let site = Text::new(site.print(alloc)?);
-            Ok(line_text(alloc, Mark { path, label, site })?)
+            let path = path.print(alloc)?;
+            let site = site.print(alloc)?;
+            let mark = Mark {
+                path: path.as_str(),
+                label,
+                site: site.as_str(),
+            };
+            let mut line = String::new(alloc);
+            push_line(alloc, &mut line, mark)?;
+            Ok(line)
         }
         Err(SiteFault::NoClass) => Err(MarkFault::NoClass),
         Err(SiteFault::NoMemory) => Err(MarkFault::NoMemory),
     }
 }
 
-fn lines_text(alloc: Global, marks: Vec<Mark<'_>>) -> Result<String, AllocError>
-    ensures { IfOk result (λ s. string_bytes s ≡ flat_map line_of (map told_by marks.entry.items)) }
-{
-    let mut text = String::new(alloc);
-    for mark in marks {
-        let line = line_text(alloc, mark)?;
-        text.push_str(line.as_str())?;
+/// The lines of the classes, as far as they are written.
+#[derive(Drop)]
+struct Lines {
+    text: String,
+}
+
+impl MarkWriter for Lines {
+    ghost text = { λ l. string_bytes l.text };
+
+    ghost line = { line_of };
+
+    fn write(&mut self, alloc: Global, mark: Mark<'_>) -> Result<(), AllocError> {
+        push_line(alloc, &mut self.text, mark)
     }
-    Ok(text)
 }
 
-fn line_text(alloc: Global, mark: Mark<'_>) -> Result<String, AllocError>
-    ensures { IfOk result (λ s. string_bytes s ≡ line_of (told_by mark.entry)) }
+/// The compact JSON array of the path, the label, its handling and the site, and a newline, behind `out`.
+fn push_line(alloc: Global, out: &mut String, mark: Mark<'_>) -> Result<(), AllocError>
+    ensures { OnOk result (string_bytes out.new ≡ string_bytes out.old ++ line_of (marked_by mark.entry)) }
 {
-    let row = row(alloc, mark)?;
-    let mut line = row.to_string(alloc)?;
-    line.push('\n')?;
-    Ok(line)
+    push_cell(alloc, out, "[", mark.path)?;
+    push_label(alloc, out, mark.label)?;
+    push_cell(alloc, out, ",", mark.label.handling(None).name())?;
+    push_cell(alloc, out, ",", mark.site)?;
+    out.push_str("]\n")?;
+    Ok(())
 }
 
-fn row(alloc: Global, mark: Mark<'_>) -> Result<Value, AllocError>
-    ensures { IfOk result (λ v. view v ≡ row_of (told_by mark.entry)) }
+fn push_label(alloc: Global, out: &mut String, label: Label<'_>) -> Result<(), AllocError>
+    ensures { OnOk result (string_bytes out.new ≡ string_bytes out.old ++ (codes "," ++ quoted (text_of (marking_of label.entry)))) }
 {
-    let Mark { path, label, site } = mark;
-    let path = path.into_string();
     let text = label.text(alloc)?;
-    let handling = label.handling(None).name();
-    let site = site.into_string();
-    json!(in alloc; [path, text, handling, site])
+    push_cell(alloc, out, ",", text.as_str())
+}
+
+/// What stands before a text, and the text as a JSON string, behind `out`.
+fn push_cell(alloc: Global, out: &mut String, before: &str, text: &str) -> Result<(), AllocError>
+    ensures { OnOk result (string_bytes out.new ≡ string_bytes out.old ++ (before.now ++ quoted text.now)) }
+{
+    out.push_str(before)?;
+    push_quoted(alloc, out, text)
 }

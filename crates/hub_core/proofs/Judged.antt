@@ -1,7 +1,7 @@
 -- What is judged by the facts of a state holds of the state.
 use Rattle.std.proofs.Common.{◌≡◌, List, None, Result, Ok, Err, IfOk, sym, ap, ◌∙◌, subst}
 use Rattle.std.specs.Prelude.{IfErr, OnOk}
-use Rattle.circle.specs.Answers.{RefusedAs}
+use Rattle.circle.specs.Outcomes.{RefusedAs}
 use Rattle.circle.specs.Refusals.{Ground, first_of}
 use Rattle.circle.specs.declared.directory.Person.{Person}
 use Rattle.circle.specs.declared.refusal.Refusal.{Refusal}

@@ -1,6 +1,6 @@
 //! Why a request is refused, or what it changes: by the facts alone.
 ghost use Rattle.std.specs.Prelude.{◌≡◌, List, IfErr, IfOk, None, OnOk};
-ghost use Rattle.circle.specs.Answers.{RefusedAs};
+ghost use Rattle.circle.specs.Outcomes.{RefusedAs};
 ghost use Rattle.circle.specs.Refusals.{Ground, first_of};
 ghost use Rattle.hub_core.specs.State.{State};
 ghost use Rattle.hub_core.specs.Edits.{after as after_edits};
@@ -122,6 +122,6 @@ fn answer(alloc: Global, judged: Result<Vec<Edit>, Stop>) -> Result<Vec<Edit>, R
     match judged {
         Ok(edits) => Ok(edits),
         Err(Stop::Refused(refusal)) => Err(refusal),
-        Err(Stop::NoMemory) => Err(Refusal::plain(alloc, Code::F2)),
+        Err(Stop::NoMemory) => Err(Refusal::bare(alloc, Code::F2)),
     }
 }

@@ -8,7 +8,7 @@ use Rattle.iodef_tree.specs.Text.{Bytes, bytes_lt}
 use Rattle.iodef_tree.specs.Texts.{HasTexts}
 use Rattle.iodef_tree.specs.Tree.{Content, text, value, Forest, end, leaf, branch, kind_of, leaf_line, class_line, lines, height}
 use Rattle.iodef_tree.specs.Paths.{is_class_kind}
-use Rattle.iodef_tree.specs.Sound.{Standing, may_stand, IsOrderedBehind, counted, class_height, IsSound}
+use Rattle.iodef_tree.specs.Sound.{SiblingPlace, may_stand, IsOrderedBehind, counted, class_height, IsSound}
 use Rattle.iodef_tree.specs.Outline.{sibling, deepest, last_sibling, may_follow, is_within_depth, is_sound_line, is_short, may_come, is_outline_after, is_outline, back_onto}
 use Rattle.iodef_tree.specs.declared.TheConstants.{DEPTH_LIMIT, LINE_LIMIT}
 use Rattle.iodef_tree.specs.declared.line.Line.{Line}
@@ -29,7 +29,7 @@ le_true : (a b : ℕ) → a ≤ b → nat_le a b ≡ true
 le_true a b h = grind (arith, nat_tests)
 
 -- what may stand behind a sibling follows its line
-follows : (o : Option Standing) (name : Bytes) (place : Option ℕ) → may_stand o name place ≡ true → may_follow (as_sibling o) (record { name = name; in_array = is_some place }) ≡ true
+follows : (o : Option SiblingPlace) (name : Bytes) (place : Option ℕ) → may_stand o name place ≡ true → may_follow (as_sibling o) (record { name = name; in_array = is_some place }) ≡ true
 follows None name place h = refl
 follows (Some (n, p)) name None h = or-left (bytes_lt n name) _ h
 follows (Some (n, p)) name (Some zero) h = or-left (bytes_lt n name) _ h
@@ -55,7 +55,7 @@ deep_past (branch name place kids rest) n d before h k =
 
 -- ---- one line more
 
-comes : (before : List Line) (l : Line) (o : Option Standing) (place : Option ℕ) → counted (l ∷ before) ≤ LINE_LIMIT → 0 < l.depth → l.depth ≤ deepest before → last_sibling l.depth before ≡ as_sibling o →
+comes : (before : List Line) (l : Line) (o : Option SiblingPlace) (place : Option ℕ) → counted (l ∷ before) ≤ LINE_LIMIT → 0 < l.depth → l.depth ≤ deepest before → last_sibling l.depth before ≡ as_sibling o →
     l.in_array ≡ is_some place → may_stand o l.name place ≡ true → is_sound_line l ≡ true → may_come before l ≡ true
 comes before l o place few positive reached is a stands sound =
     let next : may_follow (last_sibling l.depth before) (sibling l) ≡ true =
@@ -74,7 +74,7 @@ fewer f d before h = let a = counted-back_onto (lines d f) before in omega (arit
 
 -- ---- all lines
 
-come : (f : Forest) (d : ℕ) (before : List Line) (o : Option Standing) → 0 < d → d ≤ deepest before → last_sibling d before ≡ as_sibling o → IsOrderedBehind o f → HasTexts f →
+come : (f : Forest) (d : ℕ) (before : List Line) (o : Option SiblingPlace) → 0 < d → d ≤ deepest before → last_sibling d before ≡ as_sibling o → IsOrderedBehind o f → HasTexts f →
     class_height f + d ≤ DEPTH_LIMIT + 1 → height f + d ≤ DEPTH_LIMIT + 2 → counted (back_onto (lines d f) before) ≤ LINE_LIMIT → is_outline_after before (lines d f) ≡ true
 come end d before o positive reached is ordered texts classes high few = refl
 come (leaf i rest) d before o positive reached is ordered texts classes high few =

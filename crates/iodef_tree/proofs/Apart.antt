@@ -7,7 +7,7 @@ use Rattle.std.proofs.lemmas.List.Sums.{sum_by-cons, sum_by-append}
 use Rattle.iodef_tree.specs.Text.{Bytes, Tokens, bytes_lt, is_prefix}
 use Rattle.iodef_tree.specs.Tree.{Leaf, Forest, end, leaf, branch, steps, lines, leaf_line, class_line}
 use Rattle.iodef_tree.specs.Paths.{is_class_kind}
-use Rattle.iodef_tree.specs.Sound.{Standing, may_stand, may_stand_behind, IsOrderedBehind, is_label_line, counted, IsSound}
+use Rattle.iodef_tree.specs.Sound.{SiblingPlace, may_stand, may_stand_behind, IsOrderedBehind, is_label_line, counted, IsSound}
 use Rattle.iodef_tree.specs.Laws.{AllSiblings, AreApart, HasApart}
 use Rattle.iodef_tree.specs.declared.line.Line.{Line}
 use Rattle.iodef_tree.proofs.Order.{bytes_eq-true, bytes_lt-trans, bytes_lt-ne, bytes_lt-ne_back, decimals_differ}
@@ -25,12 +25,12 @@ AreSmall n (leaf i rest) = IsSmall n i.place × AreSmall n rest
 AreSmall n (branch name place kids rest) = IsSmall n place × AreSmall n kids × AreSmall n rest
 
 -- the place of the next element of the same array
-abbrev next_place : Option Standing → ℕ
+abbrev next_place : Option SiblingPlace → ℕ
 next_place None = 0
 next_place (Some (name, None)) = 0
 next_place (Some (name, Some j)) = suc j
 
-place-next : (s : Option Standing) (name : Bytes) (k : ℕ) → may_stand s name (Some k) ≡ true → k ≤ next_place s
+place-next : (s : Option SiblingPlace) (name : Bytes) (k : ℕ) → may_stand s name (Some k) ≡ true → k ≤ next_place s
 place-next None name zero h = omega arith
 place-next None name (suc k) h = absurd (false≢true h)
 place-next (Some (m, o)) name zero h = omega arith
@@ -43,7 +43,7 @@ counted-le l ls = let e = sum_by-cons (λ (x : Line). cond (not (is_label_line x
 counted-one : (l : Line) (ls : List Line) → is_label_line l ≡ false → counted (l ∷ ls) ≡ suc (counted ls)
 counted-one l ls h = sum_by-cons (λ (x : Line). cond (not (is_label_line x)) 1 0) l ls ∙ ap (λ b. cond (not b) 1 0 + counted ls) h ∙ omega arith
 
-step_room : (s : Option Standing) (name : Bytes) (o : Option ℕ) (l : Line) (ls : List Line) (n : ℕ) → may_stand s name o ≡ true → (is_some o ≡ true → is_label_line l ≡ false) →
+step_room : (s : Option SiblingPlace) (name : Bytes) (o : Option ℕ) (l : Line) (ls : List Line) (n : ℕ) → may_stand s name o ≡ true → (is_some o ≡ true → is_label_line l ≡ false) →
     next_place s + counted (l ∷ ls) ≤ n → IsSmall n o × (next_place (Some (name, o)) + counted ls ≤ n)
 step_room s name None l ls n h counts room = let k = counted-le l ls in (tt, omega arith)
 step_room s name (Some k) l ls n h counts room =
@@ -59,7 +59,7 @@ leaf-counts d i h =
 class-counts : (d : ℕ) (name : Bytes) (place : Option ℕ) → is_label_line (class_line d name place) ≡ false
 class-counts d name place = and_left (not (is_some place) && false) _ (and_right (not (is_some place)) false refl)
 
-small : (f : Forest) (d : ℕ) (s : Option Standing) (n : ℕ) → IsOrderedBehind s f → next_place s + counted (lines d f) ≤ n → AreSmall n f
+small : (f : Forest) (d : ℕ) (s : Option SiblingPlace) (n : ℕ) → IsOrderedBehind s f → next_place s + counted (lines d f) ≤ n → AreSmall n f
 small end d s n ordered room = tt
 small (leaf i rest) d s n ordered room =
     let r = step_room s i.name i.place (leaf_line d i) (lines d rest) n ordered.0 (leaf-counts d i) room in
@@ -141,7 +141,7 @@ apart-behind end n o later small = tt
 apart-behind (leaf i rest) n o later small = (later-apart n o i.name i.place later.0 small.0, apart-behind rest n o later.1 small.1)
 apart-behind (branch m p kids rest) n o later small = (later-apart n o m p later.0 small.0, apart-behind rest n o later.1 small.2)
 
-apart-ordered : (f : Forest) (s : Option Standing) → IsOrderedBehind s f → AreSmall (2 ^ 64) f → HasApart f
+apart-ordered : (f : Forest) (s : Option SiblingPlace) → IsOrderedBehind s f → AreSmall (2 ^ 64) f → HasApart f
 apart-ordered end s ordered small = tt
 apart-ordered (leaf i rest) s ordered small =
     (apart-behind rest i.name i.place (later-behind rest i.name i.place ordered.1) small.1, apart-ordered rest (Some (i.name, i.place)) ordered.1 small.1)

@@ -9,7 +9,7 @@ use Rattle.serde_json.specs.Data.{Data, put}
 use Rattle.serde_json.specs.Find.{get_member, as_array, as_object}
 use Rattle.serde_json.specs.Written.{has_float, items_have_float, members_have_float}
 use Rattle.iodef_tree.specs.Fit.{AreFit, taken, is_element_flat, are_flat, are_members_flat}
-use Rattle.iodef_tree.specs.Reading.{◌>>=◌, or_fault, are_incidents, if_incidents, incidents_of, documents, parsed, all_complete, plain, reading}
+use Rattle.iodef_tree.specs.Reading.{◌>>=◌, or_fault, are_incidents, if_incidents, incidents_of, documents, parsed, all_complete, all_fit, reading}
 use Rattle.iodef_tree.specs.Tree.{height}
 use Rattle.iodef_tree.specs.Values.{node, member_nodes, is_too_deep, items_of_data, forest_of_data}
 use Rattle.iodef_tree.specs.declared.TheConstants.{DEPTH_LIMIT}
@@ -140,7 +140,7 @@ unfolding second_of
 same_items d ds f ms es t e h = ap second_of (ap Ok (sym (taken_found d ds f)) ∙ sym e ∙ h)
 
 -- what was taken out of a plain body is fit
-pub fit_taken : (d : Data) (ds : json.Items) (f : Found d ds) (ms : json.Members) (es : json.Items) (t : Taken) → t ≡ Ok (taken d) → t ≡ Ok (Some (ms, es)) → plain d ≡ Ok tt → AreFit ms es
+pub fit_taken : (d : Data) (ds : json.Items) (f : Found d ds) (ms : json.Members) (es : json.Items) (t : Taken) → t ≡ Ok (taken d) → t ≡ Ok (Some (ms, es)) → all_fit d ≡ Ok tt → AreFit ms es
 fit_taken d ds f ms es t e h p =
     let here = fit_beside f.root json.null ds (fit_object f.root ds (subst IsPlain f.is (plain_ok d p)) f.at) in
     subst (AreFit ms) (same_items d ds f ms es t e h) (subst (λ m. AreFit m ds) (same_root d ds f ms es t e h) here)
@@ -150,8 +150,8 @@ some_found : {A : Type 0} (d : Data) (ds : json.Items) (k : json.Members → jso
 some_found d ds k f = rw (f.is, f.chosen)
 
 pub reading_taken : (bytes : List ℕ) (d : Data) (ds : json.Items) (f : Found d ds) (ms : json.Members) (es : json.Items) (t : Taken) → t ≡ Ok (taken d) → t ≡ Ok (Some (ms, es))
-    → parsed bytes ≡ Ok d → all_complete 0 ds ≡ Ok tt → plain d ≡ Ok tt → reading bytes ≡ documents ms es
+    → parsed bytes ≡ Ok d → all_complete 0 ds ≡ Ok tt → all_fit d ≡ Ok tt → reading bytes ≡ documents ms es
 unfolding reading
 reading_taken bytes d ds f ms es t e h read whole fine =
-    rw read (some_found d ds (λ root incidents. all_complete 0 incidents >>= λ _. plain d >>= λ _. documents root incidents) f
+    rw read (some_found d ds (λ root incidents. all_complete 0 incidents >>= λ _. all_fit d >>= λ _. documents root incidents) f
     ∙ rw (whole, fine) (sym (documents_beside f.root json.null ds) ∙ ap (λ m. documents m ds) (same_root d ds f ms es t e h) ∙ ap (documents ms) (same_items d ds f ms es t e h)))

@@ -1,5 +1,5 @@
 -- A tree as data, member by member.
-use Rattle.std.proofs.Common.{◌≡◌, ℕ, zero, suc, ◌+◌, ◌<◌, true, false, List, [], ◌∷◌, map, length, drop, drop-cons, get_or, refl, sym, ◌∙◌, ap, subst, arith, true≢false, Greater, String, Global, string_bytes, string_cmp}
+use Rattle.std.proofs.Common.{◌≡◌, ℕ, zero, suc, ◌+◌, ◌<◌, true, List, [], ◌∷◌, map, length, drop, drop-cons, get_or, refl, sym, ◌∙◌, ap, subst, arith, true≢false, Greater, String, Global, string_bytes, string_cmp}
 use Rattle.std.specs.Prelude.{Option, Some, None, ◌==◌}
 use Rattle.std.specs.List.{AllByRecursion}
 use Rattle.std.specs.Ordering.{nat_cmp, match_ordering, ordering_reverse}
@@ -13,9 +13,8 @@ use Rattle.serde_json.specs.Data.{Data, put}
 use Rattle.serde_json.specs.View.{view, members_view, items_of as listed}
 use Rattle.serde_json.specs.declared.value.Value.{Value}
 use Rattle.serde_json.proofs.Views.{members_view-insert_entry}
-use Rattle.iodef_tree.specs.Built.{is_filled}
 use Rattle.iodef_tree.specs.Fit.{IsBodyOrdered, AreBodiesOrdered}
-use Rattle.iodef_tree.specs.Sound.{Standing, may_stand, IsOrderedBehind, IsOrdered}
+use Rattle.iodef_tree.specs.Sound.{SiblingPlace, may_stand, IsOrderedBehind, IsOrdered}
 use Rattle.iodef_tree.specs.Text.{Bytes, bytes_lt}
 use Rattle.iodef_tree.specs.Tree.{Forest, end, leaf, branch, Body, holds, says, Bodies, one, many, in_front, elements, member_front}
 use Rattle.iodef_tree.specs.View.{forest, forest_of_members, bodies, named, members_forest}
@@ -23,6 +22,7 @@ use Rattle.iodef_tree.specs.Written.{content_data, placed_member, placed_item, m
 use Rattle.iodef_tree.specs.declared.text.Text.{Text}
 use Rattle.iodef_tree.specs.declared.object.Member.{Member}
 use Rattle.iodef_tree.specs.declared.object.Object.{Object}
+use Rattle.iodef_tree.proofs.Filled.{has_elements}
 use Rattle.iodef_tree.proofs.Order.{bytes_eq-true, bytes_lt-less, bytes_lt-trans}
 use Rattle.iodef_tree.proofs.Given.{LocatedLine}
 use Rattle.iodef_tree.proofs.Members.{members-next}
@@ -54,7 +54,7 @@ no-items ((n, one b) ∷ ms) = front-items n None b (forest_of_members ms)
 no-items ((n, many []) ∷ ms) = no-items ms
 no-items ((n, many (b ∷ bs)) ∷ ms) = front-items n (Some 0) b (elements n 1 bs (forest_of_members ms))
 
-pub member-data : (n : Bytes) (m : Bodies) (rest : Forest) → items_of rest ≡ json.no_items → is_filled m ≡ true → members_of (member_front n m rest) ≡ json.member n (bodies_data m) (members_of rest)
+pub member-data : (n : Bytes) (m : Bodies) (rest : Forest) → items_of rest ≡ json.no_items → has_elements m ≡ true → members_of (member_front n m rest) ≡ json.member n (bodies_data m) (members_of rest)
 member-data n (one b) rest fresh filled = front-members n None b rest
 member-data n (many []) rest fresh filled = absurd (true≢false (sym filled))
 member-data n (many (b ∷ bs)) rest fresh filled =
@@ -62,30 +62,25 @@ member-data n (many (b ∷ bs)) rest fresh filled =
     ∙ ap (λ ds. json.member n (json.array (json.item (body_data b) ds)) (members_of (elements n 1 bs rest))) (later-items n 0 bs rest fresh)
     ∙ ap (json.member n (json.array (json.item (body_data b) (listed (map body_data bs))))) (later-members n 0 bs rest)
 
-pub member-empty : (n : Bytes) (m : Bodies) (rest : Forest) → is_filled m ≡ false → members_of (member_front n m rest) ≡ members_of rest
-member-empty n (one b) rest h = absurd (true≢false h)
-member-empty n (many []) rest h = refl
-member-empty n (many (b ∷ bs)) rest h = absurd (true≢false h)
-
 -- ---- what is ordered is so inside
 
-front-ordered : (o : Option Standing) (n : Bytes) (p : Option ℕ) (b : Body) (rest : Forest) → IsOrderedBehind o (in_front n p b rest) → IsBodyOrdered b × IsOrderedBehind (Some (n, p)) rest
+front-ordered : (o : Option SiblingPlace) (n : Bytes) (p : Option ℕ) (b : Body) (rest : Forest) → IsOrderedBehind o (in_front n p b rest) → IsBodyOrdered b × IsOrderedBehind (Some (n, p)) rest
 front-ordered o n p (holds f) rest h = (h.1, h.2)
 front-ordered o n p (says c) rest h = (tt, h.1)
 
 record Inside (bs : List Body) (rest : Forest) : Type 0 where
   pub each : AllByRecursion IsBodyOrdered bs
-  pub before : Option Standing
+  pub before : Option SiblingPlace
   pub behind : IsOrderedBehind before rest
 
-elements-ordered : (o : Option Standing) (n : Bytes) (k : ℕ) (bs : List Body) (rest : Forest) → IsOrderedBehind o (elements n k bs rest) → Inside bs rest
+elements-ordered : (o : Option SiblingPlace) (n : Bytes) (k : ℕ) (bs : List Body) (rest : Forest) → IsOrderedBehind o (elements n k bs rest) → Inside bs rest
 elements-ordered o n k [] rest h = record { each = tt; before = o; behind = h }
 elements-ordered o n k (b ∷ bs) rest h =
     let parts = front-ordered o n (Some k) b (elements n (suc k) bs rest) h in
     let more = elements-ordered (Some (n, Some k)) n (suc k) bs rest parts.1 in
     record { each = (parts.0, more.each); before = more.before; behind = more.behind }
 
-members-ordered : (ms : List (Bytes × Bodies)) (o : Option Standing) → IsOrderedBehind o (forest_of_members ms) → AllByRecursion (λ m. AreBodiesOrdered m.1) ms
+members-ordered : (ms : List (Bytes × Bodies)) (o : Option SiblingPlace) → IsOrderedBehind o (forest_of_members ms) → AllByRecursion (λ m. AreBodiesOrdered m.1) ms
 members-ordered [] o h = tt
 members-ordered ((n, one b) ∷ ms) o h = let parts = front-ordered o n None b (forest_of_members ms) h in (parts.0, members-ordered ms (Some (n, None)) parts.1)
 members-ordered ((n, many bs) ∷ ms) o h = let parts = elements-ordered o n 0 bs (forest_of_members ms) h in (parts.each, members-ordered ms parts.before parts.behind)
@@ -133,7 +128,7 @@ placed-ascend name None d ds ms h k = (h, k)
 placed-ascend name (Some zero) d ds ms h k = (h, k)
 placed-ascend name (Some (suc i)) d ds ms h k = k
 
-ascend : (f : Forest) (o : Option Standing) → IsOrderedBehind o f → Ascend (members_of f)
+ascend : (f : Forest) (o : Option SiblingPlace) → IsOrderedBehind o f → Ascend (members_of f)
 ascend end o h = tt
 ascend (leaf i rest) o h = placed-ascend i.name i.place (content_data i.content) (items_of rest) (members_of rest) (after rest i.name i.place h.1) (ascend rest (Some (i.name, i.place)) h.1)
 ascend (branch name p kids rest) o h = placed-ascend name p (json.object (members_of kids)) (items_of rest) (members_of rest) (after rest name p h.2) (ascend rest (Some (name, p)) h.2)
@@ -184,7 +179,7 @@ one-more : (i : ℕ) → suc i ≡ i + 1
 one-more i = omega arith
 
 pub put-member : (old new : List LocatedLine) (name : String Global) (v : Value) (R : json.Members) (xs : List (Text × Member)) (i : ℕ) (m : Text × Member) → i < length xs → m ≡ get_or xs i m →
-    is_filled (bodies m.1) ≡ true → string_bytes name ≡ m.0 → view v ≡ bodies_data (bodies m.1) → new ≡ insert_entry string_cmp old name v →
+    has_elements (bodies m.1) ≡ true → string_bytes name ≡ m.0 → view v ≡ bodies_data (bodies m.1) → new ≡ insert_entry string_cmp old name v →
     put_all (members_of (members_forest (drop i xs))) (members_view old) ≡ R → put_all (members_of (members_forest (drop (i + 1) xs))) (members_view new) ≡ R
 put-member old new name v R xs i m h e filled is means put_in left =
     let rest = members_forest (drop (i + 1) xs) in

@@ -6,22 +6,22 @@ use Rattle.serde_json.specs.Data.{Data}
 use Rattle.serde_json.specs.Written.{has_float, items_have_float, members_have_float}
 use Rattle.iodef_tree.specs.Fit.{any_at, is_refused}
 use Rattle.iodef_tree.specs.Text.{Bytes, Tokens}
-use Rattle.iodef_tree.specs.Values.{Spot, Node, node, beneath, nodes, item_nodes, member_nodes, first_at, is_not_whole, is_nested_class, is_too_deep}
-use Rattle.iodef_tree.specs.Reading.{unless, ◌>>=◌, plain}
+use Rattle.iodef_tree.specs.Values.{Surrounded, Node, node, beneath, nodes, item_nodes, member_nodes, first_at, is_not_whole, is_nested_class, is_too_deep}
+use Rattle.iodef_tree.specs.Reading.{unless, ◌>>=◌, all_fit}
 use Rattle.iodef_tree.specs.declared.fault.ReadFault.{ReadFault}
 use Rattle.iodef_tree.specs.declared.fault.ReadFault.TheVariants.{NotWhole, NestedClass, TooDeep}
 
 -- nothing in either part passes
-pub split : (f : Spot → Bool) (t : Bytes) (a b : List Node) → first_at f (beneath t a ++ b) ≡ None → (first_at f a ≡ None) × (first_at f b ≡ None)
+pub split : (f : Surrounded → Bool) (t : Bytes) (a b : List Node) → first_at f (beneath t a ++ b) ≡ None → (first_at f a ≡ None) × (first_at f b ≡ None)
 split f t [] b e = (refl, e)
-split f t (n ∷ a) b e = step (f n.spot) e (split f t a b)
+split f t (n ∷ a) b e = step (f n.seen) e (split f t a b)
   where
     step : (c : Bool) → cond c (Some (t ∷ n.pointer)) (first_at f (beneath t a ++ b)) ≡ None → (first_at f (beneath t a ++ b) ≡ None → (first_at f a ≡ None) × (first_at f b ≡ None)) → (cond c (Some n.pointer) (first_at f a) ≡ None) × (first_at f b ≡ None)
     step true e later = cc
     step false e later = later e
 
-pub head : (f : Spot → Bool) (n : Node) (ns : List Node) → first_at f (n ∷ ns) ≡ None → (f n.spot ≡ false) × (first_at f ns ≡ None)
-head f n ns e = step (f n.spot) e
+pub head : (f : Surrounded → Bool) (n : Node) (ns : List Node) → first_at f (n ∷ ns) ≡ None → (f n.seen ≡ false) × (first_at f ns ≡ None)
+head f n ns e = step (f n.seen) e
   where
     step : (c : Bool) → cond c (Some n.pointer) (first_at f ns) ≡ None → (c ≡ false) × (first_at f ns ≡ None)
     step true e = cc
@@ -53,14 +53,14 @@ none_if_ok : {A : Type 0} (f : A → ReadFault) (o : Option A) → unless f o �
 none_if_ok f None e = refl
 none_if_ok f (Some x) e = cc
 
--- no value stands where `plain` would refuse it
+-- no value stands where `all_fit` would refuse it
 pub record IsPlain (d : Data) : Type 0 where
   pub whole : first_at is_not_whole (nodes 0 0 d) ≡ None
   pub nested : first_at is_nested_class (nodes 0 0 d) ≡ None
   pub shallow : first_at is_too_deep (nodes 0 0 d) ≡ None
 
-pub plain_ok : (d : Data) → plain d ≡ Ok tt → IsPlain d
-unfolding plain
+pub plain_ok : (d : Data) → all_fit d ≡ Ok tt → IsPlain d
+unfolding all_fit
 plain_ok d e = step (first_at is_not_whole (nodes 0 0 d)) (first_at is_nested_class (nodes 0 0 d)) (first_at is_too_deep (nodes 0 0 d)) refl refl refl e
   where
     step : (a b c : Option Tokens) → first_at is_not_whole (nodes 0 0 d) ≡ a → first_at is_nested_class (nodes 0 0 d) ≡ b → first_at is_too_deep (nodes 0 0 d) ≡ c → (unless NotWhole a >>= λ _. unless NestedClass b >>= λ _. unless (λ _. TooDeep) c) ≡ Ok tt → IsPlain d
@@ -82,18 +82,18 @@ first_none true b e = cc
 first_none false b e = refl
 
 -- where no value is refused, none of the three is found
-pub none_found : (f : Spot → Bool) → ((s : Spot) → is_refused s ≡ false → f s ≡ false) → (ns : List Node) → any_at is_refused ns ≡ false → first_at f ns ≡ None
+pub none_found : (f : Surrounded → Bool) → ((s : Surrounded) → is_refused s ≡ false → f s ≡ false) → (ns : List Node) → any_at is_refused ns ≡ false → first_at f ns ≡ None
 none_found f h [] e = refl
 none_found f h (n ∷ ns) e =
-    let here : f n.spot ≡ false = h n.spot (first_none (is_refused n.spot) (any_at is_refused ns) e) in
-    rw here (none_found f h ns (rest_none (is_refused n.spot) (any_at is_refused ns) e))
+    let here : f n.seen ≡ false = h n.seen (first_none (is_refused n.seen) (any_at is_refused ns) e) in
+    rw here (none_found f h ns (rest_none (is_refused n.seen) (any_at is_refused ns) e))
 
 positive : (b : Bool) → not b ≡ true → b ≡ false
 positive true e = cc
 positive false e = refl
 
-pub plain_at_once : (d : Data) → not (any_at is_refused (nodes 0 0 d)) ≡ true → plain d ≡ Ok tt
-unfolding plain
+pub plain_at_once : (d : Data) → not (any_at is_refused (nodes 0 0 d)) ≡ true → all_fit d ≡ Ok tt
+unfolding all_fit
 plain_at_once d e =
     let none : any_at is_refused (nodes 0 0 d) ≡ false = positive (any_at is_refused (nodes 0 0 d)) e in
     let w : first_at is_not_whole (nodes 0 0 d) ≡ None = none_found is_not_whole (λ s h. (parts (is_not_whole s) (is_nested_class s) (is_too_deep s) h).0) (nodes 0 0 d) none in

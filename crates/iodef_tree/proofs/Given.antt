@@ -1,12 +1,14 @@
 -- What serde_json gave, as the lists that the loops go over.
-use Rattle.std.proofs.Common.{◌≡◌, ◌==◌, List, [], ◌∷◌, ◌++◌, length, map, false, String, Global, string_bytes, refl, sym, ap, ◌∙◌, subst, append-nil, true≢false}
+use Rattle.std.proofs.Common.{◌≡◌, ◌==◌, List, [], ◌∷◌, ◌++◌, length, map, true, false, String, Global, string_bytes, refl, sym, ap, ◌∙◌, subst, append-nil, true≢false}
 use Rattle.serde_json.specs.Data.{array}
 use Rattle.serde_json.specs.View.{view, items_view, members_view}
 use Rattle.serde_json.specs.declared.value.Value.{Value}
 use Rattle.iodef_tree.specs.Text.{Bytes}
 use Rattle.iodef_tree.specs.Tree.{Body, Bodies, many}
 use Rattle.iodef_tree.specs.Values.{forest_of_data, bodies_of_data, items_of_data}
-use Rattle.iodef_tree.specs.View.{forest_of_members}
+use Rattle.iodef_tree.specs.Filled.{has_some}
+use Rattle.iodef_tree.specs.View.{body, forest_of_members}
+use Rattle.iodef_tree.specs.declared.object.Item.{Item}
 
 abbrev pub LocatedLine : Type 0
 LocatedLine = String Global × Value
@@ -27,3 +29,8 @@ members_done made es rest none e = ap forest_of_members (all_given made es rest 
 pub many_done : (vs : List Value) (bs : List Body) → bs ≡ items_of_data (items_view vs) → (length vs == 0) ≡ false → many bs ≡ bodies_of_data (array (items_view vs))
 many_done [] bs e n = absurd (true≢false n)
 many_done (v ∷ vs) bs e n = ap many e
+
+pub some_given : (vs : List Value) (is : List Item) → map body is ≡ items_of_data (items_view vs) → (length vs == 0) ≡ false → has_some is ≡ true
+some_given [] is e n = absurd (true≢false n)
+some_given (v ∷ vs) [] e n = cc
+some_given (v ∷ vs) (i ∷ is) e n = refl

@@ -1,18 +1,22 @@
 -- Members put behind others.
 use Rattle.std.proofs.Common.{◌≡◌, ℕ, suc, ◌+◌, ◌-◌, Bool, true, false, not, ◌==◌, ◌&&◌, List, [], ◌∷◌, ◌++◌, map, length, refl, sym, ◌∙◌, ap, subst, append_assoc, arith, Vec, Global, true≢false}
 use Rattle.std.specs.Prelude.{Option, Some, None}
+use Rattle.std.specs.List.{AllByRecursion}
 use Rattle.std.specs.Str.{bytes_eq}
 use Rattle.std.proofs.lemmas.List.{map-append}
 use Rattle.std.proofs.lemmas.Bool.{eq-eqb}
 use Rattle.iodef_tree.specs.Text.{Bytes}
 use Rattle.iodef_tree.specs.Tree.{Forest, end, leaf, branch, Body, holds, says, Bodies, one, many, in_front, elements, member_front, place_of, class_line, leaf_line, lines}
-use Rattle.iodef_tree.specs.Sound.{Standing}
+use Rattle.iodef_tree.specs.Sound.{SiblingPlace}
 use Rattle.iodef_tree.specs.View.{forest_of_members, body, bodies, named, members_forest}
-use Rattle.iodef_tree.specs.Built.{is_numbered, IsNumberedBehind, IsNumbered, IsBodyNumbered, last_standing, is_filled, ends_filled, IsGrown, Grows}
+use Rattle.iodef_tree.specs.Built.{is_numbered, IsNumberedBehind, IsNumbered, IsBodyNumbered, last_place, IsGrown, Grows}
+use Rattle.iodef_tree.specs.Filled.{has_some, IsMemberFilled, IsItemFilled}
 use Rattle.iodef_tree.specs.declared.text.Text.{Text}
 use Rattle.iodef_tree.specs.declared.object.Item.{Item}
 use Rattle.iodef_tree.specs.declared.object.Member.{Member}
 use Rattle.iodef_tree.specs.declared.object.Member.TheVariants.{One, Many}
+use Rattle.iodef_tree.proofs.Filled.{filled-One, many-filled, many-kept}
+use Rattle.iodef_tree.proofs.Siblings.{all-append, all-split}
 use Rattle.iodef_tree.proofs.Views.{bodies-One, bodies-Many}
 
 -- ---- one forest behind another
@@ -34,12 +38,12 @@ lines-append d (branch n p kids rest) g =
     ap (λ ls. class_line d n p ∷ (lines (suc d) kids ++ ls)) (lines-append d rest g)
     ∙ ap (λ ls. class_line d n p ∷ ls) (sym (append_assoc (lines (suc d) kids) (lines d rest) (lines d g)))
 
-last-append : (o : Option Standing) (f g : Forest) → last_standing o (append f g) ≡ last_standing (last_standing o f) g
+last-append : (o : Option SiblingPlace) (f g : Forest) → last_place o (append f g) ≡ last_place (last_place o f) g
 last-append o end g = refl
 last-append o (leaf i rest) g = last-append (Some (i.name, i.place)) rest g
 last-append o (branch n p kids rest) g = last-append (Some (n, p)) rest g
 
-numbered-append : (o : Option Standing) (f g : Forest) → IsNumberedBehind o f → IsNumberedBehind (last_standing o f) g → IsNumberedBehind o (append f g)
+numbered-append : (o : Option SiblingPlace) (f g : Forest) → IsNumberedBehind o f → IsNumberedBehind (last_place o f) g → IsNumberedBehind o (append f g)
 numbered-append o end g h k = k
 numbered-append o (leaf i rest) g h k = (h.0, numbered-append (Some (i.name, i.place)) rest g h.1 k)
 numbered-append o (branch n p kids rest) g h k = (h.0, h.1, numbered-append (Some (n, p)) rest g h.2 k)
@@ -83,18 +87,18 @@ elements-push n k (x ∷ bs) b =
 
 -- ---- the last of them
 
-last-front : (o : Option Standing) (n : Bytes) (p : Option ℕ) (b : Body) (f : Forest) → last_standing o (in_front n p b f) ≡ last_standing (Some (n, p)) f
+last-front : (o : Option SiblingPlace) (n : Bytes) (p : Option ℕ) (b : Body) (f : Forest) → last_place o (in_front n p b f) ≡ last_place (Some (n, p)) f
 last-front o n p (holds kids) f = refl
 last-front o n p (says c) f = refl
 
-last-elements : (o : Option Standing) (n : Bytes) (k : ℕ) (b : Body) (bs : List Body) → last_standing o (elements n k (b ∷ bs) end) ≡ Some (n, Some (k + length bs))
+last-elements : (o : Option SiblingPlace) (n : Bytes) (k : ℕ) (b : Body) (bs : List Body) → last_place o (elements n k (b ∷ bs) end) ≡ Some (n, Some (k + length bs))
 last-elements o n k b [] = last-front o n (Some k) b end ∙ ap (λ j. Some (n, Some j)) (omega arith)
 last-elements o n k b (c ∷ bs) =
     last-front o n (Some k) b (elements n (suc k) (c ∷ bs) end)
     ∙ last-elements (Some (n, Some k)) n (suc k) c bs
     ∙ ap (λ j. Some (n, Some j)) (omega arith)
 
-numbered-front : (o : Option Standing) (n : Bytes) (p : Option ℕ) (b : Body) → is_numbered o n p ≡ true → IsBodyNumbered b → IsNumberedBehind o (in_front n p b end)
+numbered-front : (o : Option SiblingPlace) (n : Bytes) (p : Option ℕ) (b : Body) → is_numbered o n p ≡ true → IsBodyNumbered b → IsNumberedBehind o (in_front n p b end)
 numbered-front o n p (holds kids) h k = (h, k, tt)
 numbered-front o n p (says c) h k = (h, tt)
 
@@ -103,13 +107,15 @@ lines-front : (d : ℕ) (n : Bytes) (j k : ℕ) (b : Body) → lines d (in_front
 lines-front d n j k (holds kids) = refl
 lines-front d n j k (says c) = refl
 
-ends-push : (xs : List (Bytes × Bodies)) (x : Bytes × Bodies) → ends_filled (xs ++ x ∷ []) ≡ is_filled x.1
-ends-push [] x = refl
-ends-push (y ∷ []) x = refl
-ends-push (y ∷ z ∷ xs) x = ends-push (z ∷ xs) x
+-- the last of members that are filled
+last-filled : (P : List (Text × Member)) (m : Text × Member) → IsGrown (P ++ m ∷ []) → IsMemberFilled m.1
+last-filled P m h = (all-split (λ x. IsMemberFilled x.1) P m h.filled).1
 
-ends-members : (ms : List (Text × Member)) (m : Text × Member) → ends_filled (map named (ms ++ m ∷ [])) ≡ is_filled (bodies m.1)
-ends-members ms m = ap ends_filled (map-append named ms (m ∷ [])) ∙ ends-push (map named ms) (named m)
+others-filled : (P : List (Text × Member)) (m : Text × Member) → IsGrown (P ++ m ∷ []) → AllByRecursion (λ x. IsMemberFilled x.1) P
+others-filled P m h = (all-split (λ x. IsMemberFilled x.1) P m h.filled).0
+
+all-push : (P : List (Text × Member)) (m : Text × Member) → AllByRecursion (λ x. IsMemberFilled x.1) P → IsMemberFilled m.1 → AllByRecursion (λ x. IsMemberFilled x.1) (P ++ m ∷ [])
+all-push P m all h = all-append (λ x. IsMemberFilled x.1) P (m ∷ []) all (h, tt)
 
 bytes_eq-same : (x : Bytes) → bytes_eq x x ≡ true
 bytes_eq-same [] = refl
@@ -120,85 +126,90 @@ bytes_eq-same (c ∷ cs) = ap (λ b. b && bytes_eq cs cs) (eq-eqb c c refl) ∙ 
 -- whatever is put behind the members
 grows : (old new : List (Text × Member)) (n : Bytes) (p : Option ℕ) (in_array : Bool) (b : Body) →
     members_forest new ≡ append (members_forest old) (in_front n p b end) → ((d : ℕ) → lines d (in_front n p b end) ≡ lines d (in_front n (place_of in_array 0) b end)) →
-    IsGrown old → IsBodyNumbered b → is_numbered (last_standing None (members_forest old)) n p ≡ true → ends_filled (map named new) ≡ true → Grows old n in_array b new
+    IsGrown old → IsBodyNumbered b → is_numbered (last_place None (members_forest old)) n p ≡ true → AllByRecursion (λ m. IsMemberFilled m.1) new → Grows old n in_array b new
 grows old new n p in_array b made same h k fits filled = record {
   grown = record {
-    numbered = subst IsNumbered (sym made) (numbered-append None (members_forest old) (in_front n p b end) h.numbered (numbered-front (last_standing None (members_forest old)) n p b fits k));
+    numbered = subst IsNumbered (sym made) (numbered-append None (members_forest old) (in_front n p b end) h.numbered (numbered-front (last_place None (members_forest old)) n p b fits k));
     filled = filled;
   };
   lines = λ d. ap (lines d) made ∙ lines-append d (members_forest old) (in_front n p b end) ∙ ap (λ ls. lines d (members_forest old) ++ ls) (same d);
 }
 
 -- a member that is no array
-pub grows-one : (old : List (Text × Member)) (n : Text) (i : Item) → IsGrown old → IsBodyNumbered (body i) → Grows old n false (body i) (old ++ (n, One i) ∷ [])
-grows-one old n i h k =
+pub grows-one : (old : List (Text × Member)) (n : Text) (i : Item) → IsGrown old → IsBodyNumbered (body i) → IsItemFilled i → Grows old n false (body i) (old ++ (n, One i) ∷ [])
+grows-one old n i h k full =
     grows old (old ++ (n, One i) ∷ []) n None false (body i)
     (members-push old (n, One i) ∙ ap (λ m. append (members_forest old) (member_front n m end)) (bodies-One i))
     (λ d. refl) h k refl
-    (ends-members old (n, One i) ∙ ap is_filled (bodies-One i))
+    (all-push old (n, One i) h.filled (filled-One i ∙ full))
 
 -- an array of one element
-pub grows-array : (old : List (Text × Member)) (n : Text) (i : Item) (v : Vec Item Global) → v.items ≡ i ∷ [] → IsGrown old → IsBodyNumbered (body i) →
-    is_numbered (last_standing None (members_forest old)) n (Some 0) ≡ true → Grows old n true (body i) (old ++ (n, Many v) ∷ [])
-grows-array old n i v is h k fits =
+pub grows-array : (old : List (Text × Member)) (n : Text) (i : Item) (v : Vec Item Global) → v.items ≡ i ∷ [] → IsGrown old → IsBodyNumbered (body i) → IsItemFilled i →
+    is_numbered (last_place None (members_forest old)) n (Some 0) ≡ true → Grows old n true (body i) (old ++ (n, Many v) ∷ [])
+grows-array old n i v is h k full fits =
     let held : bodies (Many v) ≡ many (body i ∷ []) = bodies-Many v ∙ ap (λ xs. many (map body xs)) is in
     grows old (old ++ (n, Many v) ∷ []) n (Some 0) true (body i)
     (members-push old (n, Many v) ∙ ap (λ m. append (members_forest old) (member_front n m end)) held)
     (λ d. refl) h k fits
-    (ends-members old (n, Many v) ∙ ap is_filled held)
+    (all-push old (n, Many v) h.filled (many-filled v (ap has_some is) (subst (AllByRecursion IsItemFilled) (sym is) (full, tt))))
 
 -- what the last member is
 last-push : (P : List (Text × Member)) (m : Text × Member) →
-    last_standing None (members_forest (P ++ m ∷ [])) ≡ last_standing (last_standing None (members_forest P)) (member_front m.0 (bodies m.1) end)
-last-push P m = ap (last_standing None) (members-push P m) ∙ last-append None (members_forest P) (member_front m.0 (bodies m.1) end)
+    last_place None (members_forest (P ++ m ∷ [])) ≡ last_place (last_place None (members_forest P)) (member_front m.0 (bodies m.1) end)
+last-push P m = ap (last_place None) (members-push P m) ∙ last-append None (members_forest P) (member_front m.0 (bodies m.1) end)
 
 -- an array may begin behind a member that is none
 pub first-behind_one : (P : List (Text × Member)) (n : Text) (i : Item) (name : Bytes) →
-    is_numbered (last_standing None (members_forest (P ++ (n, One i) ∷ []))) name (Some 0) ≡ true
+    is_numbered (last_place None (members_forest (P ++ (n, One i) ∷ []))) name (Some 0) ≡ true
 first-behind_one P n i name =
     ap (λ o. is_numbered o name (Some 0)) (
     last-push P (n, One i)
-    ∙ ap (λ m. last_standing (last_standing None (members_forest P)) (member_front n m end)) (bodies-One i)
-    ∙ last-front (last_standing None (members_forest P)) n None (body i) end
+    ∙ ap (λ m. last_place (last_place None (members_forest P)) (member_front n m end)) (bodies-One i)
+    ∙ last-front (last_place None (members_forest P)) n None (body i) end
     )
 
 -- the standing of the last element of an array that has one
-last-array : (o : Option Standing) (n : Bytes) (bs : List Body) → is_filled (many bs) ≡ true → last_standing o (elements n 0 bs end) ≡ Some (n, Some (length bs - 1))
+last-array : (o : Option SiblingPlace) (n : Bytes) (bs : List Body) → has_some bs ≡ true → last_place o (elements n 0 bs end) ≡ Some (n, Some (length bs - 1))
 last-array o n [] h = absurd (true≢false (sym h))
 last-array o n (b ∷ bs) h = last-elements o n 0 b bs ∙ ap (λ j. Some (n, Some j)) (omega arith)
 
+some-bodies : (xs : List Item) → has_some xs ≡ true → has_some (map body xs) ≡ true
+some-bodies [] h = h
+some-bodies (x ∷ xs) h = refl
+
 last-many : (P : List (Text × Member)) (n : Text) (v : Vec Item Global) → IsGrown (P ++ (n, Many v) ∷ []) →
-    last_standing None (members_forest (P ++ (n, Many v) ∷ [])) ≡ Some (n, Some (length (map body v.items) - 1))
+    last_place None (members_forest (P ++ (n, Many v) ∷ [])) ≡ Some (n, Some (length (map body v.items) - 1))
 last-many P n v h =
     last-push P (n, Many v)
-    ∙ ap (λ m. last_standing (last_standing None (members_forest P)) (member_front n m end)) (bodies-Many v)
-    ∙ last-array (last_standing None (members_forest P)) n (map body v.items) (sym (ends-members P (n, Many v) ∙ ap is_filled (bodies-Many v)) ∙ h.filled)
+    ∙ ap (λ m. last_place (last_place None (members_forest P)) (member_front n m end)) (bodies-Many v)
+    ∙ last-array (last_place None (members_forest P)) n (map body v.items) (some-bodies v.items (many-kept v (last-filled P (n, Many v) h)).0)
 
 -- an array may begin behind one of another name
 pub first-behind_many : (P : List (Text × Member)) (n : Text) (v : Vec Item Global) (name : Bytes) → IsGrown (P ++ (n, Many v) ∷ []) → bytes_eq n name ≡ false →
-    is_numbered (last_standing None (members_forest (P ++ (n, Many v) ∷ []))) name (Some 0) ≡ true
+    is_numbered (last_place None (members_forest (P ++ (n, Many v) ∷ []))) name (Some 0) ≡ true
 first-behind_many P n v name h differs = ap (λ o. is_numbered o name (Some 0)) (last-many P n v h) ∙ ap not differs
 
-filled-length : (bs : List Body) → is_filled (many bs) ≡ true → length bs ≡ suc (length bs - 1)
+filled-length : (bs : List Body) → has_some bs ≡ true → length bs ≡ suc (length bs - 1)
 filled-length [] h = absurd (true≢false (sym h))
 filled-length (b ∷ bs) h = omega arith
 
-filled-push : (bs : List Body) (b : Body) → is_filled (many (bs ++ b ∷ [])) ≡ true
-filled-push [] b = refl
-filled-push (x ∷ bs) b = refl
+some-push : (xs : List Item) (x : Item) → has_some (xs ++ x ∷ []) ≡ true
+some-push [] x = refl
+some-push (y ∷ xs) x = refl
 
 next-fits : (n : Bytes) (j k : ℕ) → k ≡ suc j → is_numbered (Some (n, Some j)) n (Some k) ≡ true
 next-fits n j k e = ap (λ i. is_numbered (Some (n, Some j)) n (Some i)) e ∙ ap (λ b. b && (j == j)) (bytes_eq-same n) ∙ eq-eqb j j refl
 
 -- one more element of the last array
 pub grows-element : (P : List (Text × Member)) (n : Text) (i : Item) (v w : Vec Item Global) → w.items ≡ v.items ++ i ∷ [] →
-    IsGrown (P ++ (n, Many v) ∷ []) → IsBodyNumbered (body i) → Grows (P ++ (n, Many v) ∷ []) n true (body i) (P ++ (n, Many w) ∷ [])
-grows-element P n i v w is h k =
+    IsGrown (P ++ (n, Many v) ∷ []) → IsBodyNumbered (body i) → IsItemFilled i → Grows (P ++ (n, Many v) ∷ []) n true (body i) (P ++ (n, Many w) ∷ [])
+grows-element P n i v w is h k inside =
     let bs = map body v.items in
     let b = body i in
     let F = members_forest P in
     let k' = length bs in
-    let full : is_filled (many bs) ≡ true = sym (ends-members P (n, Many v) ∙ ap is_filled (bodies-Many v)) ∙ h.filled in
+    let kept = many-kept v (last-filled P (n, Many v) h) in
+    let full : has_some bs ≡ true = some-bodies v.items kept.0 in
     let held : bodies (Many w) ≡ many (bs ++ b ∷ []) = bodies-Many w ∙ ap (λ xs. many (map body xs)) is ∙ ap many (map-append body v.items (i ∷ [])) in
     grows (P ++ (n, Many v) ∷ []) (P ++ (n, Many w) ∷ []) n (Some k') true b
     (members-push P (n, Many w)
@@ -209,4 +220,5 @@ grows-element P n i v w is h k =
     ∙ ap (λ f. append f (in_front n (Some k') b end)) (sym (members-push P (n, Many v))))
     (λ d. lines-front d n k' 0 b) h k
     (ap (λ o. is_numbered o n (Some k')) (last-many P n v h) ∙ next-fits n (k' - 1) k' (filled-length bs full))
-    (ends-members P (n, Many w) ∙ ap is_filled held ∙ filled-push bs b)
+    (all-push P (n, Many w) (others-filled P (n, Many v) h)
+    (many-filled w (ap has_some is ∙ some-push v.items i) (subst (AllByRecursion IsItemFilled) (sym is) (all-append IsItemFilled v.items (i ∷ []) kept.1 (inside, tt)))))

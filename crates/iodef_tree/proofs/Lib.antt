@@ -32,6 +32,7 @@ pub mod Seeking
 pub mod Counts
 pub mod Given
 pub mod Ordered
+pub mod Filled
 pub mod Fitness
 pub mod Shallow
 pub mod Exchanged

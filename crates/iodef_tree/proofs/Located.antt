@@ -10,7 +10,7 @@ use Rattle.std.proofs.lemmas.List.Sums.{sum_by-cons}
 use Rattle.iodef_tree.specs.Text.{Bytes, Tokens, bytes_lt}
 use Rattle.iodef_tree.specs.Tree.{Forest, end, leaf, branch, steps, place_of, lines, leaf_line, class_line}
 use Rattle.iodef_tree.specs.Paths.{LocatedLine, is_one_less_deep, parent_path, is_like, place_among, entry_at, placed, located_after, located}
-use Rattle.iodef_tree.specs.Sound.{Standing, may_stand, may_stand_behind, may_stand_first, IsOrderedBehind, IsSound}
+use Rattle.iodef_tree.specs.Sound.{SiblingPlace, may_stand, may_stand_behind, may_stand_first, IsOrderedBehind, IsSound}
 use Rattle.iodef_tree.specs.Walk.{leaf_entry, class_entry, walk}
 use Rattle.iodef_tree.specs.declared.line.Line.{Line}
 use Rattle.iodef_tree.proofs.Order.{bytes_eq-true, bytes_lt-trans, bytes_lt-ne}
@@ -43,7 +43,7 @@ place-here x before d name h = ap (count_by (is_like d name)) (before_first-here
 -- ---- where the next line stands
 
 -- Behind these lines, a line of depth d stands below p, and behind a sibling that stands so.
-record Stands (before : List LocatedLine) (d : ℕ) (p : Tokens) (s : Option Standing) : Type 0 where
+record Stands (before : List LocatedLine) (d : ℕ) (p : Tokens) (s : Option SiblingPlace) : Type 0 where
   parent : parent_path before d ≡ p
   place : (name : Bytes) (k : ℕ) → may_stand s name (Some k) ≡ true → place_among before d name ≡ k
 
@@ -51,7 +51,7 @@ not_deeper : (d k : ℕ) → d ≡ k → (suc d == k) ≡ false
 not_deeper d k e = ne_eqb (suc d) k (omega arith)
 
 -- a deeper line changes nothing
-stands-past : (x : LocatedLine) (before : List LocatedLine) (d : ℕ) (p : Tokens) (s : Option Standing) → d < x.line.depth → Stands before d p s → Stands (x ∷ before) d p s
+stands-past : (x : LocatedLine) (before : List LocatedLine) (d : ℕ) (p : Tokens) (s : Option SiblingPlace) → d < x.line.depth → Stands before d p s → Stands (x ∷ before) d p s
 stands-past x before d p s deep h =
     let up : is_one_less_deep d x ≡ false = ne_eqb (suc x.line.depth) d (omega arith) in
     record {
@@ -63,7 +63,7 @@ stands-past x before d p s deep h =
     }
 
 -- a later name than that of a sibling is later than all before it
-none-before : (s : Option Standing) (n : Bytes) (o : Option ℕ) (name : Bytes) → may_stand s n o ≡ true → bytes_lt n name ≡ true → may_stand s name (Some zero) ≡ true
+none-before : (s : Option SiblingPlace) (n : Bytes) (o : Option ℕ) (name : Bytes) → may_stand s n o ≡ true → bytes_lt n name ≡ true → may_stand s name (Some zero) ≡ true
 none-before None n o name h lt = refl
 none-before (Some (m, q)) n None name h lt = bytes_lt-trans m n name h lt
 none-before (Some (m, q)) n (Some zero) name h lt = bytes_lt-trans m n name h lt
@@ -71,7 +71,7 @@ none-before (Some (m, None)) n (Some (suc k)) name h lt = absurd (false≢true h
 none-before (Some (m, Some j)) n (Some (suc k)) name h lt =
     subst (λ x. bytes_lt x name ≡ true) (sym (bytes_eq-true m n (and_parts (bytes_eq m n) (j == k) h).0)) lt
 
-place-sibling : (x : LocatedLine) (before : List LocatedLine) (d : ℕ) (p : Tokens) (s : Option Standing) (o : Option ℕ) → x.line.depth ≡ d → may_stand s x.line.name o ≡ true → Stands before d p s →
+place-sibling : (x : LocatedLine) (before : List LocatedLine) (d : ℕ) (p : Tokens) (s : Option SiblingPlace) (o : Option ℕ) → x.line.depth ≡ d → may_stand s x.line.name o ≡ true → Stands before d p s →
     (name : Bytes) (k : ℕ) → may_stand_behind (x.line.name, o) name (Some k) ≡ true → cond (is_like d name x) 1 0 + place_among before d name ≡ k
 place-sibling x before d p s o is may h name zero next =
     ap (λ b. cond b 1 0 + place_among before d name) (and_right (x.line.depth == d) (bytes_eq x.line.name name) (bytes_lt-ne x.line.name name next))
@@ -85,7 +85,7 @@ place-sibling x before d p s (Some j) is may h name (suc k) next =
     ∙ ap (λ n. 1 + place_among before d n) (sym same)
     ∙ omega (arith, h.place x.line.name j may)
 
-stands-sibling : (x : LocatedLine) (before : List LocatedLine) (d : ℕ) (p : Tokens) (s : Option Standing) (o : Option ℕ) → x.line.depth ≡ d → may_stand s x.line.name o ≡ true → Stands before d p s →
+stands-sibling : (x : LocatedLine) (before : List LocatedLine) (d : ℕ) (p : Tokens) (s : Option SiblingPlace) (o : Option ℕ) → x.line.depth ≡ d → may_stand s x.line.name o ≡ true → Stands before d p s →
     Stands (x ∷ before) d p (Some (x.line.name, o))
 stands-sibling x before d p s o is may h =
     let up : is_one_less_deep d x ≡ false = not_deeper x.line.depth d is in
@@ -120,7 +120,7 @@ rev_onto-append : (xs ys zs : List LocatedLine) → rev_onto (xs ++ ys) zs ≡ r
 rev_onto-append [] ys zs = refl
 rev_onto-append (x ∷ xs) ys zs = rev_onto-append xs ys (x ∷ zs)
 
-stands-past_walk : (f : Forest) (k : ℕ) (q : Tokens) (before : List LocatedLine) (d : ℕ) (p : Tokens) (s : Option Standing) → d < k → Stands before d p s → Stands (rev_onto (walk k q f) before) d p s
+stands-past_walk : (f : Forest) (k : ℕ) (q : Tokens) (before : List LocatedLine) (d : ℕ) (p : Tokens) (s : Option SiblingPlace) → d < k → Stands before d p s → Stands (rev_onto (walk k q f) before) d p s
 stands-past_walk end k q before d p s deep h = h
 stands-past_walk (leaf i rest) k q before d p s deep h =
     let x = leaf_entry k q i in
@@ -133,19 +133,19 @@ stands-past_walk (branch name place kids rest) k q before d p s deep h =
     (stands-past_walk kids (suc k) x.path (x ∷ before) d p s (omega arith) (stands-past x before d p s deep h)))
 
 -- a line's entry, where it stands
-place-is : (before : List LocatedLine) (d : ℕ) (p : Tokens) (s : Option Standing) (name : Bytes) (o : Option ℕ) → Stands before d p s → may_stand s name o ≡ true →
+place-is : (before : List LocatedLine) (d : ℕ) (p : Tokens) (s : Option SiblingPlace) (name : Bytes) (o : Option ℕ) → Stands before d p s → may_stand s name o ≡ true →
     place_of (is_some o) (place_among before d name) ≡ o
 place-is before d p s name None h may = refl
 place-is before d p s name (Some k) h may = ap Some (h.place name k may)
 
-placed-is : (before : List LocatedLine) (l : Line) (p : Tokens) (s : Option Standing) (o : Option ℕ) → Stands before l.depth p s → may_stand s l.name o ≡ true → l.in_array ≡ is_some o →
+placed-is : (before : List LocatedLine) (l : Line) (p : Tokens) (s : Option SiblingPlace) (o : Option ℕ) → Stands before l.depth p s → may_stand s l.name o ≡ true → l.in_array ≡ is_some o →
     placed before l ≡ entry_at p o l
 placed-is before l p s o h may is =
     ap (λ q. entry_at q (place_of l.in_array (place_among before l.depth l.name)) l) h.parent
     ∙ ap (λ b. entry_at p (place_of b (place_among before l.depth l.name)) l) is
     ∙ ap (λ q. entry_at p q l) (place-is before l.depth p s l.name o h may)
 
-located-walk : (f : Forest) (d : ℕ) (p : Tokens) (s : Option Standing) (before : List LocatedLine) (ls : List Line) → IsOrderedBehind s f → Stands before d p s →
+located-walk : (f : Forest) (d : ℕ) (p : Tokens) (s : Option SiblingPlace) (before : List LocatedLine) (ls : List Line) → IsOrderedBehind s f → Stands before d p s →
     located_after before (lines d f ++ ls) ≡ walk d p f ++ located_after (rev_onto (walk d p f) before) ls
 located-walk end d p s before ls ordered h = refl
 located-walk (leaf i rest) d p s before ls ordered h =

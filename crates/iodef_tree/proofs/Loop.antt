@@ -7,7 +7,7 @@ use Rattle.serde_json.specs.Data as json
 use Rattle.serde_json.specs.View.{view, items_view}
 use Rattle.serde_json.specs.declared.value.Value.{Value}
 use Rattle.std.proofs.lemmas.List.Sums.{count_by-le-length}
-use Rattle.iodef_tree.specs.Reading.{◌>>=◌, if_short, document_of, documents, Fails, Gives}
+use Rattle.iodef_tree.specs.Reading.{◌>>=◌, if_short, document_of, documents, Fails, Returns}
 use Rattle.iodef_tree.specs.Sound.{IsOrdered, IsSound, class_height, is_label_line}
 use Rattle.iodef_tree.specs.Texts.{HasTexts}
 use Rattle.iodef_tree.specs.Tree.{Forest, end, leaf, branch, lines, height}
@@ -85,7 +85,7 @@ fails_then (NestedClass p) r f h = rw h
 fails_then TooDeep r f h = rw h
 fails_then TooManyLines r f h = rw h
 
-pub gives_err : {X Y : Type 0} (view : X → Y) (e : ReadFault) (r : Result X ReadFault) (read : Result Y ReadFault) → IsErrAnd r (λ f. f ≡ e) → Fails e read → Gives view r read
+pub gives_err : {X Y : Type 0} (view : X → Y) (e : ReadFault) (r : Result X ReadFault) (read : Result Y ReadFault) → IsErrAnd r (λ f. f ≡ e) → Fails e read → Returns view r read
 gives_err view e (Ok x) read h k = absurd h
 gives_err view e (Err f) read h k = subst (λ g. Fails g read) (sym h) k
 

@@ -16,7 +16,7 @@ use Rattle.serde_json.specs.Written.{comma_if, compact_text, items_text, members
 use Rattle.iodef_tree.specs.Text.{Bytes, bytes_lt}
 use Rattle.iodef_tree.specs.Texts.{may_be_value, may_be_text, HasTexts}
 use Rattle.iodef_tree.specs.Tree.{Content, text, value, Forest, end, leaf, branch, kind_of, text_of, leaf_line, class_line, lines}
-use Rattle.iodef_tree.specs.Sound.{Standing, may_stand, IsOrderedBehind, IsSound}
+use Rattle.iodef_tree.specs.Sound.{SiblingPlace, may_stand, IsOrderedBehind, IsSound}
 use Rattle.iodef_tree.specs.Outline.{sibling}
 use Rattle.iodef_tree.specs.Json.{continues, datum, members_from, items_from, data_of}
 use Rattle.iodef_tree.specs.Written.{content_text, front_text, is_later_place, goes_on, close_text, written, content_data, placed_member, placed_item, members_of, items_of}
@@ -111,7 +111,7 @@ alone-behind : (n : Bytes) (p : Option ℕ) (rest : Forest) → IsOrderedBehind 
 alone-behind n None rest h e = ends n rest h
 alone-behind n (Some k) rest h e = cc
 
-means : (f : Forest) (o : Option Standing) → IsOrderedBehind o f → HasTexts f → Means (λ later. written later f) (goes_on f) (closing (goes_on f)) (items_of f) (members_of f)
+means : (f : Forest) (o : Option SiblingPlace) → IsOrderedBehind o f → HasTexts f → Means (λ later. written later f) (goes_on f) (closing (goes_on f)) (items_of f) (members_of f)
 means end o h k = record { members = λ later e. refl; items = refl }
 means (leaf i rest) o h k =
     in_front-means i.name i.place (content_text i.content) (content_data i.content) rest (content-means (is_some i.place) i.content k.0) (alone-behind i.name i.place rest h.1) (means rest (Some (i.name, i.place)) h.1 k.1)
@@ -131,7 +131,7 @@ lt-ne Greater h = absurd (true≢false (sym h))
 other-name : (x y : Bytes) → bytes_lt x y ≡ true → bytes_eq x y ≡ false
 other-name x y h = sym (is_eq-slice_cmp x y) ∙ lt-ne (slice_cmp nat_cmp x y) h
 
-abbrev as_sibling : Option Standing → Option Sibling
+abbrev as_sibling : Option SiblingPlace → Option Sibling
 as_sibling None = None
 as_sibling (Some s) = Some (record { name = s.0; in_array = is_some s.1 })
 
@@ -141,7 +141,7 @@ and-false true false = refl
 and-false false b = refl
 
 -- a line goes on with its sibling's array where its place is a later one
-continues-is : (o : Option Standing) (l : Line) (p : Option ℕ) → l.in_array ≡ is_some p → may_stand o l.name p ≡ true → continues (as_sibling o) l ≡ is_later_place p
+continues-is : (o : Option SiblingPlace) (l : Line) (p : Option ℕ) → l.in_array ≡ is_some p → may_stand o l.name p ≡ true → continues (as_sibling o) l ≡ is_later_place p
 continues-is None l None a h = refl
 continues-is None l (Some zero) a h = refl
 continues-is None l (Some (suc k)) a h = absurd (true≢false (sym h))
@@ -229,11 +229,11 @@ plain-datum : (c : Content) (ms : json.Members) → datum (kind_of c) (text_of c
 plain-datum (text s) ms = refl
 plain-datum (value s) ms = refl
 
-record Tells (d : ℕ) (o : Option Standing) (ls : List Line) (ds : json.Items) (ms : json.Members) : Type 0 where
+record Tells (d : ℕ) (o : Option SiblingPlace) (ls : List Line) (ds : json.Items) (ms : json.Members) : Type 0 where
   pub members : members_from d (as_sibling o) ls ≡ ms
   pub items : items_from d (as_sibling o) ls ≡ ds
 
-one-tells : (d : ℕ) (o : Option Standing) (l : Line) (p : Option ℕ) (ls : List Line) (D : Data) (ds : json.Items) (ms : json.Members) → l.depth ≡ d → l.in_array ≡ is_some p →
+one-tells : (d : ℕ) (o : Option SiblingPlace) (l : Line) (p : Option ℕ) (ls : List Line) (D : Data) (ds : json.Items) (ms : json.Members) → l.depth ≡ d → l.in_array ≡ is_some p →
     may_stand o l.name p ≡ true → datum l.kind l.text (members_from (suc d) None ls) ≡ D →
     members_from d (Some (sibling l)) ls ≡ ms → items_from d (Some (sibling l)) ls ≡ ds → Tells d o (l ∷ ls) (placed_item p D ds) (placed_member l.name p D ds ms)
 one-tells d o l p ls D ds ms deep a fits is m i =
@@ -251,7 +251,7 @@ one-tells d o l p ls D ds ms deep a fits is m i =
           ∙ ap (placed_item p D) i;
     }
 
-tells : (f : Forest) (d : ℕ) (o : Option Standing) (X : List Line) → IsOrderedBehind o f → Stops d X → Tells d o (lines d f ++ X) (items_of f) (members_of f)
+tells : (f : Forest) (d : ℕ) (o : Option SiblingPlace) (X : List Line) → IsOrderedBehind o f → Stops d X → Tells d o (lines d f ++ X) (items_of f) (members_of f)
 tells end d o X h k = record { members = stops-members X d (as_sibling o) k; items = stops-items X d (as_sibling o) k }
 tells (leaf i rest) d o X h k =
     let r = tells rest d (Some (i.name, i.place)) X h.1 k in

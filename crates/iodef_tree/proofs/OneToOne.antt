@@ -6,7 +6,7 @@ use Rattle.std.specs.Str.{bytes_eq}
 use Rattle.std.proofs.lemmas.Bool.{and_parts, false≢true, eqb-true}
 use Rattle.iodef_tree.specs.Text.{Bytes, bytes_lt}
 use Rattle.iodef_tree.specs.Tree.{Content, text, value, Leaf, Forest, end, leaf, branch, kind_of, text_of, leaf_line, class_line, lines}
-use Rattle.iodef_tree.specs.Sound.{Standing, may_stand, IsOrderedBehind, IsSound}
+use Rattle.iodef_tree.specs.Sound.{SiblingPlace, may_stand, IsOrderedBehind, IsSound}
 use Rattle.iodef_tree.specs.declared.line.Line.{Line}
 use Rattle.iodef_tree.specs.declared.line.Kind.TheVariants as kind
 use Rattle.iodef_tree.proofs.Order.{bytes_lt-ne}
@@ -60,7 +60,7 @@ split d (x ∷ xs) (x' ∷ xs') ys ys' deep deep' shallow shallow' e =
 never : {A : Type 0} (m n : Bytes) → bytes_lt m n ≡ true → bytes_eq m n ≡ true → A
 never m n lt eq = absurd (true≢false (sym eq ∙ bytes_lt-ne m n lt))
 
-place-same : (s : Option Standing) (n : Bytes) (o o' : Option ℕ) → may_stand s n o ≡ true → may_stand s n o' ≡ true → is_some o ≡ is_some o' → o ≡ o'
+place-same : (s : Option SiblingPlace) (n : Bytes) (o o' : Option ℕ) → may_stand s n o ≡ true → may_stand s n o' ≡ true → is_some o ≡ is_some o' → o ≡ o'
 place-same s n None None h h' e = refl
 place-same s n None (Some k) h h' e = absurd (false≢true e)
 place-same s n (Some j) None h h' e = absurd (true≢false e)
@@ -95,7 +95,7 @@ leaf-same i i' a b c = ap (λ n. leaf_of n i.place i.content) a ∙ ap (λ o. le
 
 -- ---- the trees
 
-one_to_one-behind : (f g : Forest) (d : ℕ) (s : Option Standing) → IsOrderedBehind s f → IsOrderedBehind s g → lines d f ≡ lines d g → f ≡ g
+one_to_one-behind : (f g : Forest) (d : ℕ) (s : Option SiblingPlace) → IsOrderedBehind s f → IsOrderedBehind s g → lines d f ≡ lines d g → f ≡ g
 one_to_one-behind end end d s a b e = refl
 one_to_one-behind end (leaf i rest) d s a b e = cc
 one_to_one-behind end (branch n o kids rest) d s a b e = cc

@@ -8,7 +8,7 @@ use Rattle.std.proofs.lemmas.Bool.Decides.{nat_tests}
 use Rattle.std.proofs.lemmas.Slice.Eq.{bytes_eq-Decides}
 use Rattle.iodef_tree.specs.Text.{Bytes, bytes_lt}
 use Rattle.iodef_tree.specs.Tree.{Forest, Body, holds, says, Bodies, one, many, in_front, elements}
-use Rattle.iodef_tree.specs.Sound.{Standing, may_stand, IsOrderedBehind}
+use Rattle.iodef_tree.specs.Sound.{SiblingPlace, may_stand, IsOrderedBehind}
 use Rattle.iodef_tree.specs.Fit.{IsBodyOrdered, AreBodiesOrdered}
 use Rattle.iodef_tree.specs.View.{forest_of_members}
 use Rattle.iodef_tree.proofs.Given.{LocatedLine, given_members}
@@ -20,7 +20,7 @@ abbrev pub Ascend : List (Bytes × Bodies) → Type 0
 Ascend [] = Unit {0}
 Ascend (m ∷ ms) = AreAbove m.0 ms × Ascend ms
 
-abbrev pub AreAboveAll : Option Standing → List (Bytes × Bodies) → Type 0
+abbrev pub AreAboveAll : Option SiblingPlace → List (Bytes × Bodies) → Type 0
 AreAboveAll None ms = Unit {0}
 AreAboveAll (Some s) ms = AreAbove s.0 ms
 
@@ -34,7 +34,7 @@ unfolding IsStrictlySortedBy
 ascend_given [] h = tt
 ascend_given (e ∷ es) h = (above_given e.0 es h.0, ascend_given es h.1)
 
-in_front_ordered : (before : Option Standing) (name : Bytes) (place : Option ℕ) (b : Body) (rest : Forest)
+in_front_ordered : (before : Option SiblingPlace) (name : Bytes) (place : Option ℕ) (b : Body) (rest : Forest)
     → may_stand before name place ≡ true → IsBodyOrdered b → IsOrderedBehind (Some (name, place)) rest → IsOrderedBehind before (in_front name place b rest)
 in_front_ordered before name place (holds kids) rest h k r = (h, k, r)
 in_front_ordered before name place (says content) rest h k r = (h, r)
@@ -45,26 +45,26 @@ same_name name = (bytes_eq-Decides name name).1 refl
 next_stands : (name : Bytes) (k : ℕ) → may_stand (Some (name, Some k)) name (Some (suc k)) ≡ true
 next_stands name k = rw (same_name name) (grind (arith, nat_tests))
 
-elements_ordered : (name : Bytes) (bs : List Body) (k : ℕ) (before : Option Standing) (rest : Forest)
+elements_ordered : (name : Bytes) (bs : List Body) (k : ℕ) (before : Option SiblingPlace) (rest : Forest)
     → may_stand before name (Some k) ≡ true → AllByRecursion IsBodyOrdered bs → ((j : ℕ) → IsOrderedBehind (Some (name, Some j)) rest) → IsOrderedBehind before rest
     → IsOrderedBehind before (elements name k bs rest)
 elements_ordered name [] k before rest h all each r = r
 elements_ordered name (b ∷ bs) k before rest h all each r =
     in_front_ordered before name (Some k) b (elements name (suc k) bs rest) h all.0 (elements_ordered name bs (suc k) (Some (name, Some k)) rest (next_stands name k) all.1 each (each k))
 
-stands : (before : Option Standing) (name : Bytes) (m : Bodies) (ms : List (Bytes × Bodies)) → AreAboveAll before ((name, m) ∷ ms) → may_stand before name None ≡ true
+stands : (before : Option SiblingPlace) (name : Bytes) (m : Bodies) (ms : List (Bytes × Bodies)) → AreAboveAll before ((name, m) ∷ ms) → may_stand before name None ≡ true
 stands None name m ms h = refl
 stands (Some s) name m ms h = h.0
 
-stands_first : (before : Option Standing) (name : Bytes) (m : Bodies) (ms : List (Bytes × Bodies)) → AreAboveAll before ((name, m) ∷ ms) → may_stand before name (Some 0) ≡ true
+stands_first : (before : Option SiblingPlace) (name : Bytes) (m : Bodies) (ms : List (Bytes × Bodies)) → AreAboveAll before ((name, m) ∷ ms) → may_stand before name (Some 0) ≡ true
 stands_first None name m ms h = refl
 stands_first (Some s) name m ms h = h.0
 
-above_later : (before : Option Standing) (m : Bytes × Bodies) (ms : List (Bytes × Bodies)) → AreAboveAll before (m ∷ ms) → AreAboveAll before ms
+above_later : (before : Option SiblingPlace) (m : Bytes × Bodies) (ms : List (Bytes × Bodies)) → AreAboveAll before (m ∷ ms) → AreAboveAll before ms
 above_later None m ms h = tt
 above_later (Some s) m ms h = h.1
 
-pub ordered_members : (ms : List (Bytes × Bodies)) (before : Option Standing) → AreAboveAll before ms → Ascend ms → AllByRecursion (λ m. AreBodiesOrdered m.1) ms → IsOrderedBehind before (forest_of_members ms)
+pub ordered_members : (ms : List (Bytes × Bodies)) (before : Option SiblingPlace) → AreAboveAll before ms → Ascend ms → AllByRecursion (λ m. AreBodiesOrdered m.1) ms → IsOrderedBehind before (forest_of_members ms)
 ordered_members [] before h up all = tt
 ordered_members ((name, one b) ∷ ms) before h up all =
     in_front_ordered before name None b (forest_of_members ms) (stands before name (one b) ms h) all.0 (ordered_members ms (Some (name, None)) up.0 up.1 all.1)

@@ -2,27 +2,27 @@
 use Rattle.std.proofs.Common.{◌≡◌, List, [], ◌∷◌, ◌++◌, Bool, true, false, cond, ◌||◌, Some, None, refl}
 use Rattle.iodef_tree.specs.Fit.{any_at}
 use Rattle.iodef_tree.specs.Text.{Bytes, Tokens}
-use Rattle.iodef_tree.specs.Values.{Spot, Node, beneath, first_at}
+use Rattle.iodef_tree.specs.Values.{Surrounded, Node, beneath, first_at}
 
-pub first_at-none : (f : Spot → Bool) (t : Bytes) (a b : List Node) → first_at f a ≡ None → first_at f (beneath t a ++ b) ≡ first_at f b
+pub first_at-none : (f : Surrounded → Bool) (t : Bytes) (a b : List Node) → first_at f a ≡ None → first_at f (beneath t a ++ b) ≡ first_at f b
 first_at-none f t [] b e = refl
-first_at-none f t (n ∷ a) b e = step (f n.spot) e (first_at-none f t a b)
+first_at-none f t (n ∷ a) b e = step (f n.seen) e (first_at-none f t a b)
   where
     step : (c : Bool) → cond c (Some n.pointer) (first_at f a) ≡ None → (first_at f a ≡ None → first_at f (beneath t a ++ b) ≡ first_at f b) → cond c (Some (t ∷ n.pointer)) (first_at f (beneath t a ++ b)) ≡ first_at f b
     step true e later = cc
     step false e later = later e
 
-pub first_at-some : (f : Spot → Bool) (t : Bytes) (a b : List Node) (p : Tokens) → first_at f a ≡ Some p → first_at f (beneath t a ++ b) ≡ Some (t ∷ p)
+pub first_at-some : (f : Surrounded → Bool) (t : Bytes) (a b : List Node) (p : Tokens) → first_at f a ≡ Some p → first_at f (beneath t a ++ b) ≡ Some (t ∷ p)
 first_at-some f t [] b p e = cc
-first_at-some f t (n ∷ a) b p e = step (f n.spot) e (first_at-some f t a b p)
+first_at-some f t (n ∷ a) b p e = step (f n.seen) e (first_at-some f t a b p)
   where
     step : (c : Bool) → cond c (Some n.pointer) (first_at f a) ≡ Some p → (first_at f a ≡ Some p → first_at f (beneath t a ++ b) ≡ Some (t ∷ p)) → cond c (Some (t ∷ n.pointer)) (first_at f (beneath t a ++ b)) ≡ Some (t ∷ p)
     step true e later = cc
     step false e later = later e
 
-pub any_at-beneath : (f : Spot → Bool) (t : Bytes) (a b : List Node) → any_at f (beneath t a ++ b) ≡ (any_at f a || any_at f b)
+pub any_at-beneath : (f : Surrounded → Bool) (t : Bytes) (a b : List Node) → any_at f (beneath t a ++ b) ≡ (any_at f a || any_at f b)
 any_at-beneath f t [] b = refl
-any_at-beneath f t (n ∷ a) b = step (f n.spot) (any_at-beneath f t a b)
+any_at-beneath f t (n ∷ a) b = step (f n.seen) (any_at-beneath f t a b)
   where
     step : (c : Bool) → any_at f (beneath t a ++ b) ≡ (any_at f a || any_at f b) → (c || any_at f (beneath t a ++ b)) ≡ ((c || any_at f a) || any_at f b)
     step true e = refl

@@ -15,6 +15,10 @@ pub all-append : {X : Type 0} (Q : X → Type 0) (xs ys : List X) → AllByRecur
 all-append Q [] ys h k = k
 all-append Q (x ∷ xs) ys h k = (h.0, all-append Q xs ys h.1 k)
 
+pub all-split : {X : Type 0} (Q : X → Type 0) (xs : List X) (y : X) → AllByRecursion Q (xs ++ y ∷ []) → AllByRecursion Q xs × Q y
+all-split Q [] y h = (tt, h.0)
+all-split Q (x ∷ xs) y h = let r = all-split Q xs y h.1 in ((h.0, r.0), r.1)
+
 pub all-map : {X Y : Type 0} (Q : Y → Type 0) (f : X → Y) (xs : List X) → AllByRecursion (λ x. Q (f x)) xs → AllByRecursion Q (map f xs)
 all-map Q f [] h = tt
 all-map Q f (x ∷ xs) h = (h.0, all-map Q f xs h.1)

@@ -8,7 +8,7 @@ use Rattle.iodef_tree.specs.Text.{Bytes, bytes_lt}
 use Rattle.iodef_tree.specs.Texts.{HasTexts}
 use Rattle.iodef_tree.specs.Tree.{Content, text, value, Forest, end, leaf, branch, kind_of, leaf_line, class_line, lines, height}
 use Rattle.iodef_tree.specs.Paths.{is_class_kind}
-use Rattle.iodef_tree.specs.Sound.{Standing, may_stand, IsOrderedBehind, is_label_line, counted, class_height, IsSound}
+use Rattle.iodef_tree.specs.Sound.{SiblingPlace, may_stand, IsOrderedBehind, is_label_line, counted, class_height, IsSound}
 use Rattle.iodef_tree.specs.Outline.{sibling, last_sibling, may_follow, is_within_depth, is_sound_line, may_come, is_outline_after, is_outline, is_outline_back, back_onto, back}
 use Rattle.iodef_tree.specs.Built.{is_numbered, IsNumberedBehind, IsNumbered}
 use Rattle.iodef_tree.specs.declared.TheConstants.{DEPTH_LIMIT, LINE_LIMIT}
@@ -40,11 +40,11 @@ sibling_below x before d e = cond-true (nat_lt x.depth (suc d)) _ _ (lt-ltb x.de
 
 -- ---- what each line of an outline says, on the tree
 
-abbrev pub as_sibling : Option Standing → Option Sibling
+abbrev pub as_sibling : Option SiblingPlace → Option Sibling
 as_sibling None = None
 as_sibling (Some s) = Some (record { name = s.0; in_array = is_some s.1 })
 
-abbrev IsFine : Option Standing → ℕ → Forest → Type 0
+abbrev IsFine : Option SiblingPlace → ℕ → Forest → Type 0
 IsFine o d end = Unit {0}
 IsFine o d (leaf i rest) = (may_follow (as_sibling o) (sibling (leaf_line d i)) ≡ true) × (is_sound_line (leaf_line d i) ≡ true) × IsFine (Some (i.name, i.place)) d rest
 IsFine o d (branch n p kids rest) =
@@ -53,7 +53,7 @@ IsFine o d (branch n p kids rest) =
 follows : (before : List Line) (l : Line) (o : Option Sibling) → last_sibling l.depth before ≡ o → Came before l → may_follow o (sibling l) ≡ true
 follows before l o is k = ap (λ z. may_follow z (sibling l)) (sym is) ∙ k.follows
 
-fine : (f : Forest) (d : ℕ) (before : List Line) (o : Option Standing) → last_sibling d before ≡ as_sibling o → is_outline_after before (lines d f) ≡ true → IsFine o d f
+fine : (f : Forest) (d : ℕ) (before : List Line) (o : Option SiblingPlace) → last_sibling d before ≡ as_sibling o → is_outline_after before (lines d f) ≡ true → IsFine o d f
 fine end d before o is h = tt
 fine (leaf i rest) d before o is h =
     let x = leaf_line d i in
@@ -89,7 +89,7 @@ other-name true b h k = refl
 other-name false true h k = k
 other-name false false h k = h
 
-stands : (o : Option Standing) (name : Bytes) (place : Option ℕ) → may_follow (as_sibling o) (record { name = name; in_array = is_some place }) ≡ true → is_numbered o name place ≡ true →
+stands : (o : Option SiblingPlace) (name : Bytes) (place : Option ℕ) → may_follow (as_sibling o) (record { name = name; in_array = is_some place }) ≡ true → is_numbered o name place ≡ true →
     may_stand o name place ≡ true
 stands None name None h k = refl
 stands None name (Some zero) h k = refl
@@ -101,7 +101,7 @@ stands (Some (n, Some j)) name (Some zero) h k = other-name (bytes_lt n name) (b
 stands (Some (n, None)) name (Some (suc i)) h k = k
 stands (Some (n, Some j)) name (Some (suc i)) h k = k
 
-ordered : (f : Forest) (d : ℕ) (o : Option Standing) → IsFine o d f → IsNumberedBehind o f → IsOrderedBehind o f
+ordered : (f : Forest) (d : ℕ) (o : Option SiblingPlace) → IsFine o d f → IsNumberedBehind o f → IsOrderedBehind o f
 ordered end d o h k = tt
 ordered (leaf i rest) d o h k = (stands o i.name i.place h.0 k.0, ordered rest d (Some (i.name, i.place)) h.2 k.1)
 ordered (branch n p kids rest) d o h k = (stands o n p h.0 k.0, ordered kids (suc d) None h.2 k.1, ordered rest d (Some (n, p)) h.3 k.2)
@@ -112,7 +112,7 @@ plain-depth : (c : Content) (d : ℕ) → nat_le d (if is_class_kind (kind_of c)
 plain-depth (text s) d h = le_from d (DEPTH_LIMIT + 1) h
 plain-depth (value s) d h = le_from d (DEPTH_LIMIT + 1) h
 
-high : (f : Forest) (d : ℕ) (o : Option Standing) → d ≤ DEPTH_LIMIT + 2 → IsFine o d f → height f + d ≤ DEPTH_LIMIT + 2
+high : (f : Forest) (d : ℕ) (o : Option SiblingPlace) → d ≤ DEPTH_LIMIT + 2 → IsFine o d f → height f + d ≤ DEPTH_LIMIT + 2
 high end d o small h = omega (arith, small)
 high (leaf i rest) d o small h =
     let a = plain-depth i.content d ((and_parts (is_within_depth (leaf_line d i)) _ h.1).0) in
@@ -124,7 +124,7 @@ high (branch n p kids rest) d o small h =
     let c = high rest d (Some (n, p)) small h.3 in
     omega (arith, a, b, c)
 
-class_high : (f : Forest) (d : ℕ) (o : Option Standing) → d ≤ DEPTH_LIMIT + 1 → IsFine o d f → class_height f + d ≤ DEPTH_LIMIT + 1
+class_high : (f : Forest) (d : ℕ) (o : Option SiblingPlace) → d ≤ DEPTH_LIMIT + 1 → IsFine o d f → class_height f + d ≤ DEPTH_LIMIT + 1
 class_high end d o small h = omega (arith, small)
 class_high (leaf i rest) d o small h = class_high rest d (Some (i.name, i.place)) small h.2
 class_high (branch n p kids rest) d o small h =
@@ -135,7 +135,7 @@ class_high (branch n p kids rest) d o small h =
 
 -- ---- its texts are what they may be
 
-texts : (f : Forest) (d : ℕ) (o : Option Standing) → IsFine o d f → HasTexts f
+texts : (f : Forest) (d : ℕ) (o : Option SiblingPlace) → IsFine o d f → HasTexts f
 texts end d o h = tt
 texts (leaf i rest) d o h = ((and_parts (is_within_depth (leaf_line d i)) _ h.1).1, texts rest d (Some (i.name, i.place)) h.2)
 texts (branch n p kids rest) d o h = (texts kids (suc d) None h.2, texts rest d (Some (n, p)) h.3)

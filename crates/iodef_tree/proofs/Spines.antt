@@ -8,6 +8,7 @@ use Rattle.iodef_tree.specs.Text.{Bytes}
 use Rattle.iodef_tree.specs.Texts.{may_be_text, is_empty_text}
 use Rattle.iodef_tree.specs.Tree.{Content, text, value, Forest, end, Body, holds, says, in_front, place_of, class_line, kind_of, text_of, lines}
 use Rattle.iodef_tree.specs.Sound.{IsSound}
+use Rattle.iodef_tree.specs.Filled.{IsFilled}
 use Rattle.iodef_tree.specs.Outline.{deepest, back, may_come, is_outline, is_within_depth}
 use Rattle.iodef_tree.specs.View.{forest, body, members_forest}
 use Rattle.iodef_tree.specs.Built.{IsNumbered, IsGrown, Grows, open_line, lines_down, lines_of, IsOpenGrown, IsSpineGrown, Extends, HasLine}
@@ -20,6 +21,8 @@ use Rattle.iodef_tree.specs.declared.builder.Open.{Open}
 use Rattle.iodef_tree.specs.declared.builder.Spine.{Spine}
 use Rattle.iodef_tree.proofs.Views.{forest-members, body-Class}
 use Rattle.iodef_tree.proofs.Outlines.{came, back-push}
+use Rattle.iodef_tree.proofs.Filled.{object-filled}
+use Rattle.iodef_tree.proofs.Siblings.{all-append, all-split}
 use Rattle.iodef_tree.proofs.Sounds.{outline-sound}
 
 -- ---- results and lists
@@ -27,14 +30,6 @@ use Rattle.iodef_tree.proofs.Sounds.{outline-sound}
 pub if_ok : {A E : Type 0} (r : Result A E) (P Q : A → Type 0) → ((x : A) → P x → Q x) → IfOk r P → IfOk r Q
 if_ok (Ok x) P Q f h = f x h
 if_ok (Err e) P Q f h = h
-
-all-append : {X : Type 0} (Q : X → Type 0) (xs ys : List X) → AllByRecursion Q xs → AllByRecursion Q ys → AllByRecursion Q (xs ++ ys)
-all-append Q [] ys h k = k
-all-append Q (x ∷ xs) ys h k = (h.0, all-append Q xs ys h.1 k)
-
-pub all-split : {X : Type 0} (Q : X → Type 0) (xs : List X) (y : X) → AllByRecursion Q (xs ++ y ∷ []) → AllByRecursion Q xs × Q y
-all-split Q [] y h = (tt, h.0)
-all-split Q (x ∷ xs) y h = let r = all-split Q xs y h.1 in ((h.0, r.0), r.1)
 
 one-longer : (xs : List Open) (x : Open) → length (xs ++ x ∷ []) ≡ suc (length xs)
 one-longer xs x = search (arith, length_push)
@@ -117,7 +112,7 @@ opened s t x h root is none =
     record {
       grown = record {
         root = subst (λ (o : Object). IsGrown o.members.items) (sym root) h.root;
-        classes = subst (AllByRecursion IsOpenGrown) (sym is) (all-append IsOpenGrown s.classes.items (x ∷ []) h.classes (subst IsGrown (sym none) (record { numbered = tt; filled = refl }), tt));
+        classes = subst (AllByRecursion IsOpenGrown) (sym is) (all-append IsOpenGrown s.classes.items (x ∷ []) h.classes (subst IsGrown (sym none) (record { numbered = tt; filled = tt }), tt));
       };
       lines =
           ap (λ (o : Object). lines_down 1 (forest o) t.classes.items) root
@@ -241,3 +236,6 @@ finished s t e = sym (ap (lines_down 1 (forest t.root)) (none-left t.classes.ite
 pub finished-sound : (s t : Spine) → Extends s [] 0 t → is_outline (lines_of s) ≡ true → IsSound (forest t.root)
 finished-sound s t e h =
     outline-sound (forest t.root) (ap is_outline (finished s t e) ∙ h) (subst IsNumbered (sym (forest-members t.root)) e.grown.root.numbered)
+
+pub finished-filled : (s t : Spine) → Extends s [] 0 t → IsFilled t.root
+finished-filled s t e = object-filled t.root e.grown.root.filled

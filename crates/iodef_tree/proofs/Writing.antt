@@ -1,5 +1,5 @@
 -- The text of a tree, member by member.
-use Rattle.std.proofs.Common.{◌≡◌, ℕ, suc, ◌+◌, ◌<◌, Bool, true, false, not, List, [], ◌∷◌, ◌++◌, map, length, drop, drop-cons, get_or, arith, refl, sym, ◌∙◌, ap, append_assoc, if◌then◌else◌, true≢false}
+use Rattle.std.proofs.Common.{◌≡◌, ℕ, suc, ◌+◌, ◌<◌, Bool, true, false, List, [], ◌∷◌, ◌++◌, map, length, drop, drop-cons, get_or, arith, refl, sym, ◌∙◌, ap, append_assoc, if◌then◌else◌, true≢false}
 use Rattle.std.specs.Prelude.{Option, Some, None}
 use Rattle.json.specs.Print.{quoted}
 use Rattle.serde_json.specs.Written.{comma_if}
@@ -8,7 +8,7 @@ use Rattle.iodef_tree.specs.Tree.{Forest, Body, holds, says, Bodies, one, many, 
 use Rattle.iodef_tree.specs.View.{forest_of_members, bodies, named, members_forest}
 use Rattle.iodef_tree.specs.declared.text.Text.{Text}
 use Rattle.iodef_tree.specs.declared.object.Member.{Member}
-use Rattle.iodef_tree.specs.Built.{is_filled}
+use Rattle.iodef_tree.proofs.Filled.{has_elements}
 use Rattle.iodef_tree.specs.Written.{front_text, goes_on, close_text, written, body_text, array_text, member_text}
 
 written-front : (later : Bool) (n : Bytes) (p : Option ℕ) (b : Body) (rest : Forest) →
@@ -35,7 +35,7 @@ front-append : (later : Bool) (n s t : Bytes) → (comma_if later ++ (quoted n +
 front-append later n s t =
     append_assoc (comma_if later) (quoted n ++ 58 ∷ s) t ∙ ap (λ x. comma_if later ++ x) (append_assoc (quoted n) (58 ∷ s) t)
 
-pub written-member : (later : Bool) (n : Bytes) (m : Bodies) (rest : Forest) → goes_on rest ≡ false → is_filled m ≡ true →
+pub written-member : (later : Bool) (n : Bytes) (m : Bodies) (rest : Forest) → goes_on rest ≡ false → has_elements m ≡ true →
     written later (member_front n m rest) ≡ member_text later n m ++ written true rest
 written-member later n (one b) rest fresh filled =
     written-front later n None b rest
@@ -49,11 +49,6 @@ written-member later n (many (b ∷ bs)) rest fresh filled =
     ∙ ap (λ s. comma_if later ++ (quoted n ++ 58 ∷ 91 ∷ (body_text b ++ s))) (written-elements n 0 bs rest fresh)
     ∙ ap (λ s. comma_if later ++ (quoted n ++ 58 ∷ 91 ∷ s)) (sym (append_assoc (body_text b) (array_text true bs) (written true rest)))
     ∙ sym (front-append later n (91 ∷ (body_text b ++ array_text true bs)) (written true rest))
-
-pub written-empty : (later : Bool) (n : Bytes) (m : Bodies) (rest : Forest) → is_filled m ≡ false → written later (member_front n m rest) ≡ written later rest
-written-empty later n (one b) rest h = absurd (true≢false h)
-written-empty later n (many []) rest h = refl
-written-empty later n (many (b ∷ bs)) rest h = absurd (true≢false h)
 
 goes_on-one : (n : Bytes) (b : Body) (rest : Forest) → goes_on (in_front n None b rest) ≡ false
 goes_on-one n (holds f) rest = refl
@@ -85,7 +80,7 @@ first-left xs i m h e =
     ∙ ap (λ k. member_front m.0 (bodies m.1) (members_forest (drop k xs))) (one-more i)
 
 pub write-member : (out new R : Bytes) (later : Bool) (xs : List (Text × Member)) (i : ℕ) (m : Text × Member) → i < length xs → m ≡ get_or xs i m →
-    is_filled (bodies m.1) ≡ true → new ≡ out ++ member_text later m.0 (bodies m.1) → out ++ written later (members_forest (drop i xs)) ≡ R →
+    has_elements (bodies m.1) ≡ true → new ≡ out ++ member_text later m.0 (bodies m.1) → out ++ written later (members_forest (drop i xs)) ≡ R →
     new ++ written true (members_forest (drop (i + 1) xs)) ≡ R
 write-member out new R later xs i m h e filled made left =
     let rest = members_forest (drop (i + 1) xs) in
@@ -93,7 +88,3 @@ write-member out new R later xs i m h e filled made left =
     ∙ append_assoc out (member_text later m.0 (bodies m.1)) (written true rest)
     ∙ ap (λ s. out ++ s) (sym (ap (written later) (first-left xs i m h e) ∙ written-member later m.0 (bodies m.1) rest (goes_on-members (map named (drop (i + 1) xs))) filled))
     ∙ left
-
-pub not-false : (b : Bool) → not b ≡ false → b ≡ true
-not-false true h = refl
-not-false false h = absurd (true≢false h)

@@ -1,12 +1,13 @@
 -- A document under construction, seen as its lines.
-use Rattle.std.specs.Prelude.{◌≡◌, ℕ, zero, suc, List, [], ◌∷◌, ◌++◌, length, map, Bool, true, false, not, ◌==◌, ◌&&◌, Option, Some, None}
+use Rattle.std.specs.Prelude.{◌≡◌, ℕ, zero, suc, List, [], ◌∷◌, ◌++◌, length, Bool, true, false, not, ◌==◌, ◌&&◌, Option, Some, None}
 use Rattle.std.specs.List.{AllByRecursion}
 use Rattle.std.specs.Str.{bytes_eq}
 use Rattle.iodef_tree.specs.Text.{Bytes}
-use Rattle.iodef_tree.specs.Tree.{Forest, end, leaf, branch, Body, holds, says, Bodies, one, many, in_front, place_of, class_line, lines}
-use Rattle.iodef_tree.specs.Sound.{Standing}
+use Rattle.iodef_tree.specs.Tree.{Forest, end, leaf, branch, Body, holds, says, in_front, place_of, class_line, lines}
+use Rattle.iodef_tree.specs.Sound.{SiblingPlace}
+use Rattle.iodef_tree.specs.Filled.{IsMemberFilled}
 use Rattle.iodef_tree.specs.Outline.{deepest, back}
-use Rattle.iodef_tree.specs.View.{forest, named, members_forest}
+use Rattle.iodef_tree.specs.View.{forest, members_forest}
 use Rattle.iodef_tree.specs.declared.line.Line.{Line}
 use Rattle.iodef_tree.specs.declared.text.Text.{Text}
 use Rattle.iodef_tree.specs.declared.object.Member.{Member}
@@ -15,7 +16,7 @@ use Rattle.iodef_tree.specs.declared.builder.Spine.{Spine}
 
 -- ---- elements are numbered, and no array stands right behind another of its name
 
-abbrev pub is_numbered : Option Standing → Bytes → Option ℕ → Bool
+abbrev pub is_numbered : Option SiblingPlace → Bytes → Option ℕ → Bool
 is_numbered before name None = true
 is_numbered None name (Some zero) = true
 is_numbered None name (Some (suc k)) = false
@@ -24,7 +25,7 @@ is_numbered (Some (n, None)) name (Some (suc k)) = false
 is_numbered (Some (n, Some j)) name (Some zero) = not (bytes_eq n name)
 is_numbered (Some (n, Some j)) name (Some (suc k)) = bytes_eq n name && (j == k)
 
-abbrev pub IsNumberedBehind : Option Standing → Forest → Type 0
+abbrev pub IsNumberedBehind : Option SiblingPlace → Forest → Type 0
 IsNumberedBehind before end = Unit {0}
 IsNumberedBehind before (leaf i rest) = (is_numbered before i.name i.place ≡ true) × IsNumberedBehind (Some (i.name, i.place)) rest
 IsNumberedBehind before (branch name place kids rest) =
@@ -38,27 +39,16 @@ IsBodyNumbered (holds f) = IsNumbered f
 IsBodyNumbered (says c) = Unit {0}
 
 -- the last of siblings, or what stood before them
-abbrev pub last_standing : Option Standing → Forest → Option Standing
-last_standing before end = before
-last_standing before (leaf i rest) = last_standing (Some (i.name, i.place)) rest
-last_standing before (branch name place kids rest) = last_standing (Some (name, place)) rest
+abbrev pub last_place : Option SiblingPlace → Forest → Option SiblingPlace
+last_place before end = before
+last_place before (leaf i rest) = last_place (Some (i.name, i.place)) rest
+last_place before (branch name place kids rest) = last_place (Some (name, place)) rest
 
 -- ---- the members of one object
 
-abbrev pub is_filled : Bodies → Bool
-is_filled (one b) = true
-is_filled (many []) = false
-is_filled (many (b ∷ bs)) = true
-
--- the last member has an element if it is an array
-abbrev pub ends_filled : List (Bytes × Bodies) → Bool
-ends_filled [] = true
-ends_filled (m ∷ []) = is_filled m.1
-ends_filled (m ∷ n ∷ ms) = ends_filled (n ∷ ms)
-
 pub record IsGrown (ms : List (Text × Member)) : Type 0 where
   pub numbered : IsNumbered (members_forest ms)
-  pub filled : ends_filled (map named ms) ≡ true
+  pub filled : AllByRecursion (λ m. IsMemberFilled m.1) ms
 
 -- one thing more at the end
 pub record Grows (old : List (Text × Member)) (name : Bytes) (in_array : Bool) (b : Body) (new : List (Text × Member)) : Type 0 where

@@ -8,24 +8,24 @@ use Rattle.serde_json.specs.Written.{members_have_float}
 use Rattle.iodef_tree.specs.Texts.{is_plain, may_be_text, HasTexts}
 use Rattle.iodef_tree.specs.Tree.{Forest, end, leaf, branch, Body, holds, says, Bodies, one, many, kind_of, text_of, height}
 use Rattle.iodef_tree.specs.Sound.{IsOrdered}
-use Rattle.iodef_tree.specs.Values.{Spot, Node, is_not_whole, is_nested_class, is_too_deep}
+use Rattle.iodef_tree.specs.Values.{Surrounded, Node, is_not_whole, is_nested_class, is_too_deep}
 use Rattle.iodef_tree.specs.Reading.{with_incident, document_of}
 use Rattle.iodef_tree.specs.declared.TheConstants.{DEPTH_LIMIT}
 use Rattle.iodef_tree.specs.declared.seek.Sought.{Sought}
 use Rattle.iodef_tree.specs.declared.seek.Sought.TheVariants as sought
 
-abbrev pub is_sought : Sought → Spot → Bool
+abbrev pub is_sought : Sought → Surrounded → Bool
 is_sought sought.NotWhole s = is_not_whole s
 is_sought sought.NestedClass s = is_nested_class s
 is_sought sought.TooDeep s = is_too_deep s
 
 -- what any of the three looks for
-abbrev pub is_refused : Spot → Bool
+abbrev pub is_refused : Surrounded → Bool
 is_refused s = is_not_whole s || (is_nested_class s || is_too_deep s)
 
-abbrev pub any_at : (Spot → Bool) → List Node → Bool
+abbrev pub any_at : (Surrounded → Bool) → List Node → Bool
 any_at test [] = false
-any_at test (n ∷ ns) = test n.spot || any_at test ns
+any_at test (n ∷ ns) = test n.seen || any_at test ns
 
 abbrev pub IsBodyOrdered : Body → Type 0
 IsBodyOrdered (holds kids) = IsOrdered kids

@@ -14,6 +14,7 @@ pub mod Walk
 pub mod Lookup
 pub mod Values
 pub mod Reading
+pub mod Filled
 pub mod Fit
 pub mod Laws
 pub mod Examples

@@ -92,8 +92,8 @@ all_complete k json.no_items = Ok tt
 all_complete k (json.item d ds) = unless (Missing (incident_at k)) (lacking d) >>= λ _. all_complete (suc k) ds
 
 -- no value is one that a document can't hold
-unfoldable pub plain : Data → Result (Unit {0}) ReadFault
-plain d = do
+unfoldable pub all_fit : Data → Result (Unit {0}) ReadFault
+all_fit d = do
   whole ← unless NotWhole (first_at is_not_whole (nodes 0 0 d))
   flat ← unless NestedClass (first_at is_nested_class (nodes 0 0 d))
   unless (λ _. TooDeep) (first_at is_too_deep (nodes 0 0 d))
@@ -122,7 +122,7 @@ reading bytes = do
   root ← or_fault NotDocument (as_object body)
   incidents ← or_fault NotDocument (incidents_of root)
   complete ← all_complete 0 incidents
-  fine ← plain body
+  fine ← all_fit body
   documents root incidents
 
 -- What a function returned, seen by view, is what reading gives, unless memory ran out.
@@ -136,6 +136,6 @@ Fails (NestedClass p) read = read ≡ Err (NestedClass p)
 Fails TooDeep read = read ≡ Err TooDeep
 Fails TooManyLines read = read ≡ Err TooManyLines
 
-abbrev pub Gives : {X Y : Type 0} → (X → Y) → Result X ReadFault → Result Y ReadFault → Type 0
-Gives view (Ok x) read = read ≡ Ok (view x)
-Gives view (Err e) read = Fails e read
+abbrev pub Returns : {X Y : Type 0} → (X → Y) → Result X ReadFault → Result Y ReadFault → Type 0
+Returns view (Ok x) read = read ≡ Ok (view x)
+Returns view (Err e) read = Fails e read

@@ -9,12 +9,12 @@ use Rattle.iodef_tree.specs.declared.line.Line.{Line}
 use Rattle.iodef_tree.specs.declared.TheConstants.{DEPTH_LIMIT, LINE_LIMIT}
 
 -- where a sibling stands: its name, and its place where it is an element
-abbrev pub Standing : Type 0
-Standing = Bytes × Option ℕ
+abbrev pub SiblingPlace : Type 0
+SiblingPlace = Bytes × Option ℕ
 
 -- Right behind a sibling may stand a member of a later name, which begins its array where it has one, or the next element
 -- of the same array.
-abbrev pub may_stand_behind : Standing → Bytes → Option ℕ → Bool
+abbrev pub may_stand_behind : SiblingPlace → Bytes → Option ℕ → Bool
 may_stand_behind s name None = bytes_lt s.0 name
 may_stand_behind s name (Some zero) = bytes_lt s.0 name
 may_stand_behind (n, None) name (Some (suc k)) = false
@@ -26,12 +26,12 @@ may_stand_first None = true
 may_stand_first (Some zero) = true
 may_stand_first (Some (suc k)) = false
 
-abbrev pub may_stand : Option Standing → Bytes → Option ℕ → Bool
+abbrev pub may_stand : Option SiblingPlace → Bytes → Option ℕ → Bool
 may_stand None name place = may_stand_first place
 may_stand (Some s) name place = may_stand_behind s name place
 
 -- names ascend in byte order, and the elements of an array are numbered from 0, in each class
-abbrev pub IsOrderedBehind : Option Standing → Forest → Type 0
+abbrev pub IsOrderedBehind : Option SiblingPlace → Forest → Type 0
 IsOrderedBehind before end = Unit {0}
 IsOrderedBehind before (leaf i rest) = (may_stand before i.name i.place ≡ true) × IsOrderedBehind (Some (i.name, i.place)) rest
 IsOrderedBehind before (branch name place kids rest) =

@@ -48,7 +48,7 @@ bodies_of_data d = one_or_many (body_of_data d) (elements_of_data d)
 -- ---- every value of a body
 
 -- a value, with how many objects stand around it and how many arrays inside the nearest of these
-pub record Spot : Type 0 where
+pub record Surrounded : Type 0 where
   pub objects : ℕ
   pub arrays : ℕ
   pub value : Data
@@ -56,15 +56,15 @@ pub record Spot : Type 0 where
 -- with its pointer (RFC 6901)
 pub record Node : Type 0 where
   pub pointer : Tokens
-  pub spot : Spot
+  pub seen : Surrounded
 
 abbrev pub node : ℕ → ℕ → Data → Node
-node objects arrays d = record { pointer = []; spot = record { objects = objects; arrays = arrays; value = d } }
+node objects arrays d = record { pointer = []; seen = record { objects = objects; arrays = arrays; value = d } }
 
 -- the same values, seen from one token above
 abbrev pub beneath : Bytes → List Node → List Node
 beneath token [] = []
-beneath token (n ∷ ns) = record { pointer = token ∷ n.pointer; spot = n.spot } ∷ beneath token ns
+beneath token (n ∷ ns) = record { pointer = token ∷ n.pointer; seen = n.seen } ∷ beneath token ns
 
 -- the values in stored order, each in front of those inside it
 abbrev mutual
@@ -85,19 +85,19 @@ abbrev mutual
   member_nodes o (json.member name d ms) = beneath name (nodes o 0 d) ++ member_nodes o ms
 
 -- the pointer of the first value that passes
-abbrev pub first_at : (Spot → Bool) → List Node → Option Tokens
+abbrev pub first_at : (Surrounded → Bool) → List Node → Option Tokens
 first_at test [] = None
-first_at test (n ∷ ns) = if test n.spot then Some n.pointer else first_at test ns
+first_at test (n ∷ ns) = if test n.seen then Some n.pointer else first_at test ns
 
 -- a number that is neither an i64 nor a u64 (RFC 8259 section 6)
-abbrev pub is_not_whole : Spot → Bool
+abbrev pub is_not_whole : Surrounded → Bool
 is_not_whole s = unwrap_or (option_map is_float (as_number s.value)) false
 
 -- an object inside an array inside an array
-abbrev pub is_nested_class : Spot → Bool
+abbrev pub is_nested_class : Surrounded → Bool
 is_nested_class s = nat_lt 1 s.arrays && is_some (as_object s.value)
 
 -- A line deeper than the limit, or a value whose arrays are: the outermost array of a member makes its lines, and is no
 -- part of a value.
-abbrev pub is_too_deep : Spot → Bool
+abbrev pub is_too_deep : Surrounded → Bool
 is_too_deep s = nat_lt DEPTH_LIMIT s.objects || (nat_lt DEPTH_LIMIT s.arrays && is_some (as_array s.value))

@@ -3,7 +3,8 @@
 ghost use Rattle.std.specs.Prelude.{◌≡◌, ℕ, suc, ◌-◌, ◌≤◌, List, [], ◌∷◌, ◌++◌, length, true, Some, None, IfOk, OnOk, OnErr};
 ghost use Rattle.iodef_tree.specs.Tree.{lines, in_front, end, holds, place_of};
 ghost use Rattle.iodef_tree.specs.View.{forest, body, members_forest};
-ghost use Rattle.iodef_tree.specs.Built.{is_numbered, IsBodyNumbered, last_standing, IsGrown, Grows, open_line, lines_of, IsSpineGrown, Extends, IsBuilt, HasLine};
+ghost use Rattle.iodef_tree.specs.Built.{is_numbered, IsBodyNumbered, last_place, IsGrown, Grows, open_line, lines_of, IsSpineGrown, Extends, IsBuilt, HasLine};
+ghost use Rattle.iodef_tree.specs.Filled.{IsItemFilled};
 ghost use Rattle.iodef_tree.specs.Outline.{back, may_come};
 
 use crate::document::Document;
@@ -39,6 +40,7 @@ fn attach(
 ) -> Result<Vec<(Text, Member)>, AllocError>
     requires grown { IsGrown members.items }
     requires numbered { IsBodyNumbered (body item) }
+    requires filled { IsItemFilled item }
     ensures { IfOk result (λ new. Grows members.items name in_array (body item) new.items) }
 {
     if in_array {
@@ -56,6 +58,7 @@ fn attach_element(
 ) -> Result<Vec<(Text, Member)>, AllocError>
     requires grown { IsGrown members.items }
     requires numbered { IsBodyNumbered (body item) }
+    requires filled { IsItemFilled item }
     ensures { IfOk result (λ new. Grows members.items name true (body item) new.items) }
 {
     match members.pop() {
@@ -87,7 +90,8 @@ fn attach_array(
 ) -> Result<Vec<(Text, Member)>, AllocError>
     requires grown { IsGrown members.items }
     requires numbered { IsBodyNumbered (body item) }
-    requires first { is_numbered (last_standing None (members_forest members.items)) name (Some 0) ≡ true }
+    requires filled { IsItemFilled item }
+    requires first { is_numbered (last_place None (members_forest members.items)) name (Some 0) ≡ true }
     ensures { IfOk result (λ new. Grows members.items name true (body item) new.items) }
 {
     let mut items = Vec::new(alloc);
@@ -114,6 +118,7 @@ impl Spine {
     fn put(self, alloc: Global, name: Text, in_array: bool, item: Item) -> Result<Spine, AllocError>
         requires grown { IsSpineGrown self }
         requires numbered { IsBodyNumbered (body item) }
+        requires filled { IsItemFilled item }
         ensures { IfOk result (λ new. Extends self
             (lines (suc (length self.classes.items)) (in_front name (place_of in_array 0) (body item) end))
             (length self.classes.items) new) }

@@ -8,6 +8,7 @@ ghost use Rattle.serde_json.specs.Data.{array, depth as nesting};
 ghost use Rattle.serde_json.specs.Read.{max_depth, read as read_text};
 ghost use Rattle.iodef_tree.specs.Sound.{IsOrdered};
 ghost use Rattle.iodef_tree.specs.Texts.{HasTexts};
+ghost use Rattle.iodef_tree.specs.Filled.{IsFilled, IsMemberFilled, IsItemFilled};
 ghost use Rattle.iodef_tree.specs.Fit.{IsBodyOrdered, AreBodiesOrdered, HasBodyTexts, HaveTexts, is_flat, is_element_flat, are_flat, are_members_flat};
 ghost use Rattle.iodef_tree.specs.Values.{forest_of_data, bodies_of_data, body_of_data, items_of_data};
 ghost use Rattle.iodef_tree.specs.View.{forest, bodies, body};
@@ -25,6 +26,7 @@ pub(crate) fn object_from(alloc: Global, members: Map<String, Value>) -> Result<
     ensures made { IfOk result (λ o. forest o ≡ forest_of_data (members_view members.entries)) }
     ensures ordered { IfOk result (λ o. IsOrdered (forest o)) }
     ensures texts { IfOk result (λ o. HasTexts (forest o)) }
+    ensures filled { IfOk result (λ o. IsFilled o) }
 {
     let mut made = Vec::with_capacity(alloc, members.len())?;
     for (name, value) in members {
@@ -41,6 +43,7 @@ fn member_from(alloc: Global, value: Value) -> Result<Member, AllocError>
     ensures made { IfOk result (λ m. bodies m ≡ bodies_of_data (view value)) }
     ensures ordered { IfOk result (λ m. AreBodiesOrdered (bodies m)) }
     ensures texts { IfOk result (λ m. HaveTexts (bodies m)) }
+    ensures filled { IfOk result (λ m. IsMemberFilled m) }
 {
     match value {
         Value::Array(items) => array_from(alloc, items),
@@ -62,6 +65,7 @@ fn array_from(alloc: Global, items: Vec<Value>) -> Result<Member, AllocError>
     ensures made { IfOk result (λ m. bodies m ≡ bodies_of_data (array (items_view items.items))) }
     ensures ordered { IfOk result (λ m. AreBodiesOrdered (bodies m)) }
     ensures texts { IfOk result (λ m. HaveTexts (bodies m)) }
+    ensures filled { IfOk result (λ m. IsMemberFilled m) }
 {
     if items.as_slice().is_empty() {
         Ok(Member::One(Item::Value(written(alloc, Value::Array(items))?)))
@@ -77,6 +81,7 @@ fn items_from(alloc: Global, items: Vec<Value>) -> Result<Vec<Item>, AllocError>
     ensures made { IfOk result (λ v. map body v.items ≡ items_of_data (items_view items.items)) }
     ensures ordered { IfOk result (λ v. AllByRecursion IsBodyOrdered (map body v.items)) }
     ensures texts { IfOk result (λ v. AllByRecursion (HasBodyTexts true) (map body v.items)) }
+    ensures filled { IfOk result (λ v. AllByRecursion IsItemFilled v.items) }
 {
     let mut made = Vec::with_capacity(alloc, items.len())?;
     for item in items {
@@ -92,6 +97,7 @@ fn item_from(alloc: Global, value: Value) -> Result<Item, AllocError>
     ensures made { IfOk result (λ i. body i ≡ body_of_data (view value)) }
     ensures ordered { IfOk result (λ i. IsBodyOrdered (body i)) }
     ensures texts { IfOk result (λ i. HasBodyTexts true (body i)) }
+    ensures filled { IfOk result (λ i. IsItemFilled i) }
 {
     match value {
         Value::Object(members) => Ok(Item::Class(object_from(alloc, members)?)),

@@ -1,4 +1,5 @@
 ghost use Rattle.std.specs.Prelude.{◌≡◌, ◌||◌, IfOk, IfSome, is_some};
+ghost use Rattle.iodef_tree.specs.Filled.{IsFilled};
 ghost use Rattle.iodef_tree.specs.Paths.{located, classes_of as class_paths_of, has_class as has_class_at};
 ghost use Rattle.iodef_tree.specs.Text.{is_root};
 ghost use Rattle.iodef_tree.specs.Tree.{lines};
@@ -30,6 +31,7 @@ pub struct Document {
 impl Model for Document {
     ghost use Rattle.std.specs.Prelude.{List};
     ghost use Rattle.iodef_tree.specs.declared.line.Line.{Line};
+    ghost use Rattle.iodef_tree.specs.Filled.{IsFilled};
     ghost use Rattle.iodef_tree.specs.Tree.{lines};
     ghost use Rattle.iodef_tree.specs.Sound.{IsSound};
     ghost use Rattle.iodef_tree.specs.View.{forest};
@@ -38,7 +40,7 @@ impl Model for Document {
 
     ghost view = { λ d. lines 1 (forest d.root) };
 
-    ghost invariant = { λ d. IsSound (forest d.root) };
+    ghost invariant = { λ d. IsSound (forest d.root) × IsFilled d.root };
 }
 
 impl Document {
@@ -50,19 +52,20 @@ impl Document {
     ghost use Rattle.iodef_tree.specs.Sound.{IsSound};
     ghost use Rattle.iodef_tree.specs.Outline.{is_outline};
     ghost use Rattle.iodef_tree.specs.declared.fault.OutlineFault.TheVariants.{BadOutline};
-    ghost use Rattle.iodef_tree.specs.Reading.{Gives, reading};
+    ghost use Rattle.iodef_tree.specs.Reading.{Returns, reading};
 
     /// The documents of a body, one for each Incident (RFC 8727 section 2.1), or the first of the faults in their order.
     /// Each has all other members of the root, and its Incident alone at place 0.
     pub fn read(alloc: Global, bytes: &[u8]) -> Result<Vec<Document>, ReadFault>
-        ensures { Gives (λ v. v.items) result (reading bytes.now) }
+        ensures { Returns (λ v. v.items) result (reading bytes.now) }
     {
         read(alloc, bytes)
     }
 
-    /// The document of a sound tree; takes no memory.
+    /// The document of a sound tree in which no array is empty; takes no memory.
     pub fn new(root: Object) -> Document
-        requires { IsSound (forest root) }
+        requires sound { IsSound (forest root) }
+        requires filled { IsFilled root }
         ensures { result ≡ lines 1 (forest root) }
     {
         Document { root }
@@ -136,14 +139,16 @@ impl Document {
     pub fn class(&self, path: &Path) -> Option<&Object>
         ensures found { is_some result ≡ (is_root path.now || has_class_at (located self.now) path.now) }
         ensures block { IfSome result (λ o. IsBlock path.now (located self.now) (forest o.now)) }
+        ensures filled { IfSome result (λ o. IsFilled o.now) }
     {
         object_at(&self.root, path.tokens())
     }
 
-    /// The tree whose lines are the outline.
+    /// The tree whose lines are the outline. Each array in it, at any depth, has at least one element.
     pub fn root(&self) -> &Object
         ensures lines { lines 1 (forest result.now) ≡ self.now }
         ensures sound { IsSound (forest result.now) }
+        ensures filled { IsFilled result.now }
     {
         &self.root
     }

@@ -1,6 +1,8 @@
 //! What holds of every sound tree, and so of every document, and of every path, as the definitions of later crates stand
 //! on it. Each law is the contract of a function that does nothing.
 
+ghost use Rattle.std.specs.Prelude.{◌≡◌};
+ghost use Rattle.iodef_tree.specs.declared.TheConstants.{DEPTH_LIMIT, LINE_LIMIT, INCIDENT_LIMIT};
 ghost use Rattle.iodef_tree.specs.Laws.{
   EntriesAreTheWalk,
   SiblingsStandApart,
@@ -56,4 +58,11 @@ pub fn pointer_is_read()
 /// A text that is read as a path is the path's pointer.
 pub fn read_is_printed()
     ensures { ReadIsPrinted }
+{}
+
+/// The limits of what is read: 32 classes one below the other, 4,096 lines of a document, 16 Incidents of a body.
+pub fn limits_of_reading()
+    ensures depth { DEPTH_LIMIT ≡ 32 }
+    ensures lines { LINE_LIMIT ≡ 4096 }
+    ensures incidents { INCIDENT_LIMIT ≡ 16 }
 {}

@@ -12,24 +12,17 @@ mod line;
 mod lookup;
 mod object;
 mod outline;
-#[cfg(test)]
-mod outline_tests;
 mod path;
 mod pointer;
 mod read;
 mod room;
 mod seek;
 mod shape;
-#[cfg(test)]
-mod tests_read;
+mod string;
 mod text;
 mod value;
-#[cfg(test)]
-mod value_tests;
 mod value_text;
 mod writer;
-#[cfg(test)]
-mod written_back_tests;
 
 pub use builder::Builder;
 pub use document::Document;
@@ -38,6 +31,7 @@ pub use line::{Kind, Line};
 pub use object::{Item, Member, Object};
 pub use path::Path;
 pub use pointer::{PathFault, push_token};
+pub use string::push_quoted;
 pub use shape::{Shape, Sibling};
 pub use text::Text;
 

@@ -15,6 +15,8 @@ ghost use Rattle.std.specs.Prelude.{
   option_map,
 };
 ghost use Rattle.std.specs.Option.{option_map_or};
+ghost use Rattle.std.specs.List.{AllByRecursion};
+ghost use Rattle.iodef_tree.specs.Filled.{IsFilled, IsMemberFilled, IsItemFilled};
 ghost use Rattle.iodef_tree.specs.Lookup.{
   class_at as class_in_tree,
   object_at as object_in_tree,
@@ -42,14 +44,18 @@ fn place_of_token(token: &str) -> Option<usize>
 }
 
 fn element_at<'a>(items: &'a [Item], token: &str) -> Option<&'a Item>
-    ensures { option_map (λ i. body i.now) result ≡ element_of token.now 0 (map body items.now) }
+    requires { AllByRecursion IsItemFilled items.now }
+    ensures found { option_map (λ i. body i.now) result ≡ element_of token.now 0 (map body items.now) }
+    ensures filled { IfSome result (λ i. IsItemFilled i.now) }
 {
     items.get(place_of_token(token)?)
 }
 
 /// What the next tokens name in a member, and the tokens that are left.
 fn part_of<'a, 'p>(member: &'a Member, path: &'p [Text]) -> Option<(&'a Item, &'p [Text])>
+    requires { IsMemberFilled member.now }
     ensures parts { option_map (λ r. (body r.0.now, r.1.now)) result ≡ part_at (bodies member.now) path.now }
+    ensures filled { IfSome result (λ r. IsItemFilled r.0.now) }
     ensures shorter { IfSome result (λ r. length r.1.now ≤ length path.now) }
 {
     match member {
@@ -68,6 +74,8 @@ fn item_at<'a, 'p>(
     name: &str,
     path: &'p [Text],
 ) -> Option<(&'a Item, &'p [Text])>
+    requires { IsFilled object.now }
+    ensures filled { IfSome result (λ r. IsItemFilled r.0.now) }
     ensures parts { option_map_or (λ r. object_in (body r.0.now) r.1.now) result None
         ≡ class_in_tree (forest object.now) (name.now ∷ path.now) }
     ensures shorter { IfSome result (λ r. length r.1.now ≤ length path.now) }
@@ -85,7 +93,9 @@ fn item_at<'a, 'p>(
 
 /// The object at a path, from an object whose path is empty.
 pub(crate) fn object_at<'a>(root: &'a Object, path: &[Text]) -> Option<&'a Object>
-    ensures { option_map (λ o. forest o.now) result ≡ object_in_tree (forest root.now) path.now }
+    requires { IsFilled root.now }
+    ensures found { option_map (λ o. forest o.now) result ≡ object_in_tree (forest root.now) path.now }
+    ensures filled { IfSome result (λ o. IsFilled o.now) }
 {
     let mut object = root;
     let mut left = path;

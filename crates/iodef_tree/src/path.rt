@@ -45,7 +45,7 @@ impl Path {
         &self.tokens
     }
 
-    /// Gives the tokens back; takes no memory.
+    /// Returns the tokens back; takes no memory.
     pub fn into_tokens(self) -> Vec<Text>
         ensures { result.items ≡ self }
     {

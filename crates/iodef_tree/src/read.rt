@@ -5,7 +5,7 @@ ghost use Rattle.serde_json.specs.Data.{depth as nesting, null, put};
 ghost use Rattle.serde_json.specs.Find.{as_array, as_object, get_member};
 ghost use Rattle.serde_json.specs.Read.{max_depth};
 ghost use Rattle.serde_json.specs.View.{view, items_view, members_view};
-ghost use Rattle.iodef_tree.specs.Reading.{Gives, parsed, lacking, all_objects, are_incidents, incidents_of, all_complete, plain, document_of, if_short, documents, reading};
+ghost use Rattle.iodef_tree.specs.Reading.{Returns, parsed, lacking, all_objects, are_incidents, incidents_of, all_complete, all_fit, document_of, if_short, documents, reading};
 ghost use Rattle.iodef_tree.specs.Fit.{IsFit, AreFit, taken};
 ghost use Rattle.iodef_tree.specs.Tree.{lines};
 
@@ -22,7 +22,7 @@ use std::alloc::Global;
 /// The documents that the bytes are, one for each Incident, or the first fault.
 #[tactic(auto, unfolding(crate::specs::Reading::reading))]
 pub(crate) fn read(alloc: Global, bytes: &[u8]) -> Result<Vec<Document>, ReadFault>
-    ensures { Gives (λ v. v.items) result (reading bytes.now) }
+    ensures { Returns (λ v. v.items) result (reading bytes.now) }
 {
     let body = parse(alloc, bytes)?;
     let Some(incidents) = incidents_in(&body) else {
@@ -37,7 +37,7 @@ pub(crate) fn read(alloc: Global, bytes: &[u8]) -> Result<Vec<Document>, ReadFau
 }
 
 fn parse(alloc: Global, bytes: &[u8]) -> Result<Value, ReadFault>
-    ensures gives { Gives view result (parsed bytes.now) }
+    ensures gives { Returns view result (parsed bytes.now) }
     ensures nests { IfOk result (λ v. nesting (view v) ≤ max_depth) }
 {
     match Value::from_slice(alloc, bytes) {
@@ -90,7 +90,7 @@ fn all_are_objects(items: &Vec<Value>) -> bool
 }
 
 fn check_members(alloc: Global, incidents: &Vec<Value>) -> Result<(), ReadFault>
-    ensures { Gives (λ _. tt) result (all_complete 0 (items_view incidents.now.items)) }
+    ensures { Returns (λ _. tt) result (all_complete 0 (items_view incidents.now.items)) }
 {
     for (index, incident) in incidents.iter().enumerate() {
         if let Some(required) = first_lacking(incident) {
@@ -124,7 +124,7 @@ fn first_lacking(incident: &Value) -> Option<Required>
 /// One pass tells whether there is any fault, and only then each is looked for.
 fn check_values(alloc: Global, body: &Value) -> Result<(), ReadFault>
     requires { nesting (view body.now) ≤ max_depth }
-    ensures { Gives (λ _. tt) result (plain (view body.now)) }
+    ensures { Returns (λ _. tt) result (all_fit (view body.now)) }
 {
     if is_plain(0, 0, body) {
         return Ok(());
@@ -132,10 +132,10 @@ fn check_values(alloc: Global, body: &Value) -> Result<(), ReadFault>
     find_fault(alloc, body)
 }
 
-#[tactic(auto, unfolding(crate::specs::Reading::plain))]
+#[tactic(auto, unfolding(crate::specs::Reading::all_fit))]
 fn find_fault(alloc: Global, body: &Value) -> Result<(), ReadFault>
     requires { nesting (view body.now) ≤ max_depth }
-    ensures { Gives (λ _. tt) result (plain (view body.now)) }
+    ensures { Returns (λ _. tt) result (all_fit (view body.now)) }
 {
     if let Some(pointer) = first_in(alloc, Sought::NotWhole, 0, 0, body)? {
         return Err(ReadFault::NotWhole(Path::new(pointer)));
@@ -154,7 +154,7 @@ fn take_incidents(
     alloc: Global,
     body: Value,
 ) -> Result<Option<(Map<String, Value>, Vec<Value>)>, ReadFault>
-    ensures { Gives (option_map (λ p. (members_view p.0.entries, items_view p.1.items))) result (Ok (taken (view body))) }
+    ensures { Returns (option_map (λ p. (members_view p.0.entries, items_view p.1.items))) result (Ok (taken (view body))) }
 {
     let Value::Object(mut root) = body else {
         return Ok(None);
@@ -186,7 +186,7 @@ fn documents_from(
     mut incidents: Vec<Value>,
 ) -> Result<Vec<Document>, ReadFault>
     requires { AreFit (members_view root.entries) (items_view incidents.items) }
-    ensures { Gives (λ v. v.items) result (documents (members_view root.entries) (items_view incidents.items)) }
+    ensures { Returns (λ v. v.items) result (documents (members_view root.entries) (items_view incidents.items)) }
 {
     let Some(last) = incidents.pop() else {
         return Ok(Vec::new(alloc));
@@ -204,7 +204,7 @@ fn documents_beside(
     incidents: Vec<Value>,
 ) -> Result<Vec<Document>, ReadFault>
     requires { AreFit (members_view root.now.entries) (items_view incidents.items) }
-    ensures { Gives (λ v. v.items) result (documents (members_view root.now.entries) (items_view incidents.items)) }
+    ensures { Returns (λ v. v.items) result (documents (members_view root.now.entries) (items_view incidents.items)) }
 {
     let mut all = Vec::with_capacity(alloc, incidents.as_slice().len() + 1)?;
     for incident in incidents {
@@ -220,7 +220,7 @@ fn document_from(
     incident: Value,
 ) -> Result<Document, ReadFault>
     requires { IsFit (members_view root.entries) (view incident) }
-    ensures { Gives (λ d. d) result (if_short (lines 1 (document_of (view incident) (members_view root.entries)))) }
+    ensures { Returns (λ d. d) result (if_short (lines 1 (document_of (view incident) (members_view root.entries)))) }
 {
     let mut incidents = Vec::with_capacity(alloc, 1)?;
     incidents.push(incident)?;

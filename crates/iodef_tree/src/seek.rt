@@ -24,7 +24,7 @@ impl Sought {
 
     /// Whether it is this value, inside so many objects, and so many arrays of the nearest.
     fn is(self, objects: u32, arrays: u32, value: &Value) -> bool
-        ensures { result ≡ is_sought self (node objects arrays (view value.now)).spot }
+        ensures { result ≡ is_sought self (node objects arrays (view value.now)).seen }
     {
         match self {
             Sought::NotWhole => value.is_f64(),

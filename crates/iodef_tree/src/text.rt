@@ -31,7 +31,7 @@ impl Text {
         self.string.as_str()
     }
 
-    /// Gives the string back; takes no memory.
+    /// Returns the string back; takes no memory.
     pub fn into_string(self) -> String
         ensures { string_bytes result ≡ self }
     {

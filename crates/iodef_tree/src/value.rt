@@ -7,6 +7,7 @@ ghost use Rattle.serde_json.specs.Find.{get_member, as_object};
 ghost use Rattle.serde_json.specs.Read.{read as read_text};
 ghost use Rattle.serde_json.specs.View.{view, members_view};
 ghost use Rattle.serde_json.specs.Written.{compact_text};
+ghost use Rattle.iodef_tree.specs.Filled.{IsFilled, IsMemberFilled, IsItemFilled};
 ghost use Rattle.iodef_tree.specs.Fit.{IsBodyOrdered, AreBodiesOrdered};
 ghost use Rattle.iodef_tree.specs.Json.{zeroth as zeroth_of, id_in as id_of};
 ghost use Rattle.iodef_tree.specs.Kept.{IsKept, AreKept, kids_of};
@@ -16,21 +17,18 @@ ghost use Rattle.iodef_tree.specs.Written.{members_of, body_data, bodies_data};
 
 use crate::object::{Item, Member, Object};
 use crate::text::Text;
-use crate::writer::is_empty;
 use serde_json::{Map, Value};
 use std::alloc::{AllocError, Global};
 
-/// The members of an object. An array without elements has no line, and is left out.
+/// The members of an object.
 #[cycle(value)]
 pub(crate) fn object_value(alloc: Global, object: &Object) -> Result<Map<String, Value>, AllocError>
-    requires { IsOrdered (forest object.now) }
+    requires ordered { IsOrdered (forest object.now) }
+    requires filled { IsFilled object.now }
     ensures { IfOk result (λ m. members_view m.entries ≡ members_of (forest object.now)) }
 {
     let mut made = Map::new(alloc);
     for (name, member) in &object.members {
-        if is_empty(member) {
-            continue;
-        }
         let value = member_value(alloc, member)?;
         let name = String::from_str(alloc, name.as_str())?;
         drop(made.insert(name, value)?);
@@ -40,7 +38,8 @@ pub(crate) fn object_value(alloc: Global, object: &Object) -> Result<Map<String,
 
 #[cycle(value)]
 fn member_value(alloc: Global, member: &Member) -> Result<Value, AllocError>
-    requires { AreBodiesOrdered (bodies member.now) }
+    requires ordered { AreBodiesOrdered (bodies member.now) }
+    requires filled { IsMemberFilled member.now }
     ensures { IfOk result (λ v. view v ≡ bodies_data (bodies member.now)) }
 {
     match member {
@@ -51,7 +50,8 @@ fn member_value(alloc: Global, member: &Member) -> Result<Value, AllocError>
 
 #[cycle(value)]
 fn items_value(alloc: Global, items: &Vec<Item>) -> Result<Vec<Value>, AllocError>
-    requires { AllByRecursion IsBodyOrdered (map body items.now.items) }
+    requires ordered { AllByRecursion IsBodyOrdered (map body items.now.items) }
+    requires filled { AllByRecursion IsItemFilled items.now.items }
     ensures { IfOk result (λ v. map view v.items ≡ map body_data (map body items.now.items)) }
 {
     let mut made = Vec::with_capacity(alloc, items.as_slice().len())?;
@@ -63,7 +63,8 @@ fn items_value(alloc: Global, items: &Vec<Item>) -> Result<Vec<Value>, AllocErro
 
 #[cycle(value)]
 fn item_value(alloc: Global, item: &Item) -> Result<Value, AllocError>
-    requires { IsBodyOrdered (body item.now) }
+    requires ordered { IsBodyOrdered (body item.now) }
+    requires filled { IsItemFilled item.now }
     ensures { IfOk result (λ v. view v ≡ body_data (body item.now)) }
 {
     match item {
@@ -90,21 +91,24 @@ fn read_value(alloc: Global, text: &Text) -> Result<Value, AllocError>
 
 /// The member as compact JSON.
 pub(crate) fn member_text(alloc: Global, member: &Member) -> Result<String, AllocError>
-    requires { AreKept (bodies member.now) }
+    requires kept { AreKept (bodies member.now) }
+    requires filled { IsMemberFilled member.now }
     ensures { IfOk result (λ s. string_bytes s ≡ compact_text (bodies_data (bodies member.now))) }
 {
     member_value(alloc, member)?.to_string(alloc)
 }
 
-/// The member of this name. An array without elements is none.
+/// The member of this name.
 fn member_named<'a>(object: &'a Object, name: &str) -> Option<&'a Member>
-    requires { IsKept (forest object.now) }
+    requires kept { IsKept (forest object.now) }
+    requires filled { IsFilled object.now }
     ensures found { option_map (λ m. bodies_data (bodies m.now)) result
         ≡ get_member name.now (members_of (forest object.now)) }
     ensures kept { IfSome result (λ m. AreKept (bodies m.now)) }
+    ensures filled { IfSome result (λ m. IsMemberFilled m.now) }
 {
     for (own, member) in &object.members {
-        if own.as_str() == name && !is_empty(member) {
+        if own.as_str() == name {
             return Some(member);
         }
     }
@@ -113,7 +117,9 @@ fn member_named<'a>(object: &'a Object, name: &str) -> Option<&'a Member>
 
 /// The object that the item is.
 fn object_of(item: &Item) -> Option<&Object>
-    ensures { option_map (λ o. forest o.now) result ≡ kids_of (body item.now) }
+    requires { IsItemFilled item.now }
+    ensures found { option_map (λ o. forest o.now) result ≡ kids_of (body item.now) }
+    ensures filled { IfSome result (λ o. IsFilled o.now) }
 {
     match item {
         Item::Class(object) => Some(object),
@@ -123,9 +129,11 @@ fn object_of(item: &Item) -> Option<&Object>
 
 /// The object that the member is.
 fn object_in(member: &Member) -> Option<&Object>
-    requires { AreKept (bodies member.now) }
+    requires kept { AreKept (bodies member.now) }
+    requires filled { IsMemberFilled member.now }
     ensures found { option_map (λ o. members_of (forest o.now)) result ≡ as_object (bodies_data (bodies member.now)) }
     ensures kept { IfSome result (λ o. IsKept (forest o.now)) }
+    ensures filled { IfSome result (λ o. IsFilled o.now) }
 {
     match member {
         Member::One(item) => object_of(item),
@@ -135,10 +143,12 @@ fn object_in(member: &Member) -> Option<&Object>
 
 /// The object at `0` in the member.
 fn zeroth(member: &Member) -> Option<&Object>
-    requires { AreKept (bodies member.now) }
+    requires kept { AreKept (bodies member.now) }
+    requires filled { IsMemberFilled member.now }
     ensures found { option_map (λ o. members_of (forest o.now)) result
         ≡ option_and_then as_object (zeroth_of (bodies_data (bodies member.now))) }
     ensures kept { IfSome result (λ o. IsKept (forest o.now)) }
+    ensures filled { IfSome result (λ o. IsFilled o.now) }
 {
     match member {
         Member::One(_) => object_in(member_named(object_in(member)?, "0")?),
@@ -148,10 +158,12 @@ fn zeroth(member: &Member) -> Option<&Object>
 
 /// The member `IncidentID` of what stands at `/Incident/0`.
 pub(crate) fn id_in(root: &Object) -> Option<&Member>
-    requires { IsKept (forest root.now) }
+    requires kept { IsKept (forest root.now) }
+    requires filled { IsFilled root.now }
     ensures found { option_map (λ m. bodies_data (bodies m.now)) result
         ≡ id_of (json_object (members_of (forest root.now))) }
     ensures kept { IfSome result (λ m. AreKept (bodies m.now)) }
+    ensures filled { IfSome result (λ m. IsMemberFilled m.now) }
 {
     let incidents = member_named(root, "Incident")?;
     let incident = zeroth(incidents)?;

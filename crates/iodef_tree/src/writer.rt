@@ -1,20 +1,21 @@
 //! A tree as compact JSON.
 
-ghost use Rattle.std.specs.Prelude.{◌≡◌, ◌++◌, ◌∷◌, [], map, true, false, not, string_bytes, IfOk};
-ghost use Rattle.std.specs.List.{list_any};
+ghost use Rattle.std.specs.Prelude.{◌≡◌, ◌++◌, ◌∷◌, [], map, true, false, string_bytes, IfOk};
+ghost use Rattle.std.specs.List.{AllByRecursion};
 ghost use Rattle.json.specs.Print.{quoted};
 ghost use Rattle.serde_json.specs.Written.{comma_if};
 ghost use Rattle.iodef_tree.specs.View.{forest, bodies, body};
-ghost use Rattle.iodef_tree.specs.Built.{is_filled};
-ghost use Rattle.iodef_tree.specs.Written.{needs_escape, written, body_text, array_text, bodies_text, member_text};
+ghost use Rattle.iodef_tree.specs.Filled.{IsFilled, IsMemberFilled, IsItemFilled};
+ghost use Rattle.iodef_tree.specs.Written.{written, body_text, array_text, bodies_text, member_text};
 
 use crate::object::{Item, Member, Object};
+use crate::string::push_quoted;
 use crate::text::Text;
-use serde_json::Value;
 use std::alloc::{AllocError, Global};
 
 /// The object as compact JSON.
 pub(crate) fn object_text(alloc: Global, object: &Object) -> Result<String, AllocError>
+    requires { IsFilled object.now }
     ensures { IfOk result (λ s. string_bytes s ≡ 123 ∷ (written false (forest object.now) ++ 125 ∷ [])) }
 {
     let mut out = String::new(alloc);
@@ -28,24 +29,8 @@ pub(crate) fn object_text(alloc: Global, object: &Object) -> Result<String, Allo
 fn quote(alloc: Global, mut out: String, text: &str) -> Result<String, AllocError>
     ensures { IfOk result (λ s. string_bytes s ≡ string_bytes out ++ quoted text.now) }
 {
-    if is_escaped(text) {
-        let quoted = Value::String(String::from_str(alloc, text)?).to_string(alloc)?;
-        out.push_str(quoted.as_str())?;
-        return Ok(out);
-    }
-    out.push('"')?;
-    out.push_str(text)?;
-    out.push('"')?;
+    push_quoted(alloc, &mut out, text)?;
     Ok(out)
-}
-
-/// Whether a byte of the text is escaped in JSON (RFC 8259 section 7).
-fn is_escaped(text: &str) -> bool
-    ensures { result ≡ list_any needs_escape text.now }
-{
-    text.as_bytes()
-        .iter()
-        .any(|byte| *byte == b'"' || *byte == b'\\' || *byte < 32)
 }
 
 /// With the members of the object at the end.
@@ -55,31 +40,16 @@ pub(crate) fn write_members(
     out: String,
     object: &Object,
 ) -> Result<String, AllocError>
+    requires { IsFilled object.now }
     ensures { IfOk result (λ s. string_bytes s ≡ string_bytes out ++ written false (forest object.now)) }
 {
     let mut out = out;
     let mut later = false;
     for (name, member) in &object.members {
-        if is_empty(member) {
-            continue;
-        }
         out = write_member(alloc, out, later, name, member)?;
         later = true;
     }
     Ok(out)
-}
-
-/// Whether it is an array without elements, which has no line.
-pub(crate) fn is_empty(member: &Member) -> bool
-    ensures { result ≡ not (is_filled (bodies member.now)) }
-{
-    match member {
-        Member::One(_) => false,
-        Member::Many(items) => match items.as_slice() {
-            [] => true,
-            [_, ..] => false,
-        },
-    }
 }
 
 #[cycle(write)]
@@ -90,6 +60,7 @@ fn write_member(
     name: &Text,
     member: &Member,
 ) -> Result<String, AllocError>
+    requires { IsMemberFilled member.now }
     ensures { IfOk result (λ s. string_bytes s ≡ string_bytes out ++ member_text later name.now (bodies member.now)) }
 {
     let mut out = write_comma(out, later)?;
@@ -110,6 +81,7 @@ fn write_comma(mut out: String, later: bool) -> Result<String, AllocError>
 
 #[cycle(write)]
 fn write_bodies(alloc: Global, mut out: String, member: &Member) -> Result<String, AllocError>
+    requires { IsMemberFilled member.now }
     ensures { IfOk result (λ s. string_bytes s ≡ string_bytes out ++ bodies_text (bodies member.now)) }
 {
     match member {
@@ -124,6 +96,7 @@ fn write_bodies(alloc: Global, mut out: String, member: &Member) -> Result<Strin
 /// With the items and the bracket behind them at the end.
 #[cycle(write)]
 fn write_items(alloc: Global, mut out: String, items: &Vec<Item>) -> Result<String, AllocError>
+    requires { AllByRecursion IsItemFilled items.now.items }
     ensures { IfOk result (λ s. string_bytes s ≡ string_bytes out ++ array_text false (map body items.now.items)) }
 {
     let mut later = false;
@@ -139,6 +112,7 @@ fn write_items(alloc: Global, mut out: String, items: &Vec<Item>) -> Result<Stri
 /// With the item at the end, a value as the text that it is.
 #[cycle(write)]
 pub(crate) fn write_item(alloc: Global, mut out: String, item: &Item) -> Result<String, AllocError>
+    requires { IsItemFilled item.now }
     ensures { IfOk result (λ s. string_bytes s ≡ string_bytes out ++ body_text (body item.now)) }
 {
     match item {

@@ -2,12 +2,14 @@
 use Rattle.std.proofs.Common.{◌≡◌, ℕ, suc, List, [], ◌∷◌, ◌++◌, true, false, cond, refl, sym, ◌∙◌, ap, append-nil, append_assoc}
 use Rattle.std.specs.Prelude.{Option, Some, None, option_map}
 use Rattle.std.specs.Option.{option_or}
+use Rattle.std.specs.List.{flat_map}
 use Rattle.std.specs.Str.{bytes_eq}
+use Rattle.std.proofs.lemmas.List.Concat.{flat_map-append}
 use Rattle.iodef_tree.specs.Text.{Bytes, Tokens}
 use Rattle.iodef_tree.specs.Tree.{Forest, end, Body, holds, says, Bodies, one, many, text, value, in_front, elements, member_front, steps}
-use Rattle.marking.specs.Marks.{Held, absent, plain, other}
+use Rattle.marking.specs.Marks.{Held, absent, plain, other, Marked}
 use Rattle.marking.specs.Members.{held_by_bodies, held_in}
-use Rattle.marking.specs.Pass.{bad_below, bad_in_body, Inherited, enter, told_below}
+use Rattle.marking.specs.Pass.{bad_below, bad_in_body, enter, marked_below}
 
 -- ---- what is held under a name
 
@@ -86,30 +88,36 @@ bad-none n m rest h = bad-member n m rest ∙ ap (λ o. option_or o (bad_below r
 pub bad-some : (n : Bytes) (m : Bodies) (rest : Forest) (t : Tokens) → Some t ≡ bad_below (member_front n m end) → bad_below (member_front n m rest) ≡ Some t
 bad-some n m rest t h = bad-member n m rest ∙ ap (λ o. option_or o (bad_below rest)) (sym h)
 
--- ---- what is told
+-- ---- how classes are marked
 
-pub told-one : (a : Inherited) (n : Bytes) (o : Option ℕ) (b : Body) (rest : Forest) → told_below a (in_front n o b rest) ≡ told_below a (in_front n o b end) ++ told_below a rest
-told-one a n o (holds kids) rest =
+pub marked-one : (a : Marked) (n : Bytes) (o : Option ℕ) (b : Body) (rest : Forest) → marked_below a (in_front n o b rest) ≡ marked_below a (in_front n o b end) ++ marked_below a rest
+marked-one a n o (holds kids) rest =
     let here = enter a n o kids in
-    ap (λ ts. here.told ∷ (ts ++ told_below a rest)) (sym (append-nil (told_below here kids)))
-told-one a n o (says content) rest = refl
+    ap (λ ts. here ∷ (ts ++ marked_below a rest)) (sym (append-nil (marked_below here kids)))
+marked-one a n o (says content) rest = refl
 
-told-elements : (a : Inherited) (n : Bytes) (k : ℕ) (bs : List Body) (rest : Forest) → told_below a (elements n k bs rest) ≡ told_below a (elements n k bs end) ++ told_below a rest
-told-elements a n k [] rest = refl
-told-elements a n k (b ∷ bs) rest =
-    let here = told_below a (in_front n (Some k) b end) in
+marked-elements : (a : Marked) (n : Bytes) (k : ℕ) (bs : List Body) (rest : Forest) → marked_below a (elements n k bs rest) ≡ marked_below a (elements n k bs end) ++ marked_below a rest
+marked-elements a n k [] rest = refl
+marked-elements a n k (b ∷ bs) rest =
+    let here = marked_below a (in_front n (Some k) b end) in
     let more = elements n (suc k) bs in
-    told-one a n (Some k) b (more rest)
-    ∙ ap (λ ts. here ++ ts) (told-elements a n (suc k) bs rest)
-    ∙ sym (append_assoc here (told_below a (more end)) (told_below a rest))
-    ∙ ap (λ ts. ts ++ told_below a rest) (sym (told-one a n (Some k) b (more end)))
+    marked-one a n (Some k) b (more rest)
+    ∙ ap (λ ts. here ++ ts) (marked-elements a n (suc k) bs rest)
+    ∙ sym (append_assoc here (marked_below a (more end)) (marked_below a rest))
+    ∙ ap (λ ts. ts ++ marked_below a rest) (sym (marked-one a n (Some k) b (more end)))
 
-pub told-member : (a : Inherited) (n : Bytes) (m : Bodies) (rest : Forest) → told_below a (member_front n m rest) ≡ told_below a (member_front n m end) ++ told_below a rest
-told-member a n (one b) rest = told-one a n None b rest
-told-member a n (many bs) rest = told-elements a n 0 bs rest
+pub marked-member : (a : Marked) (n : Bytes) (m : Bodies) (rest : Forest) → marked_below a (member_front n m rest) ≡ marked_below a (member_front n m end) ++ marked_below a rest
+marked-member a n (one b) rest = marked-one a n None b rest
+marked-member a n (many bs) rest = marked-elements a n 0 bs rest
+
+-- and written, each by a text
+pub written-member : (line : Marked → Bytes) (a : Marked) (n : Bytes) (m : Bodies) (rest : Forest) →
+    flat_map line (marked_below a (member_front n m rest)) ≡ flat_map line (marked_below a (member_front n m end)) ++ flat_map line (marked_below a rest)
+written-member line a n m rest =
+    ap (flat_map line) (marked-member a n m rest) ∙ flat_map-append line (marked_below a (member_front n m end)) (marked_below a rest)
 
 pub ruleset held_steps = (held-skip, held-here)
 
 pub ruleset bad_steps = (bad-one, bad-member)
 
-pub ruleset told_steps = (told-one, told-member)
+pub ruleset marked_steps = (marked-one, marked-member)

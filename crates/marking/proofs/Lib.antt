@@ -3,5 +3,5 @@ pub mod Sites
 pub mod Written
 pub mod Bad
 pub mod Placed
-pub mod Told
+pub mod Marked
 pub mod Owned

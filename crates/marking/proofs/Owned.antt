@@ -12,7 +12,7 @@ use Rattle.marking.specs.Label.{private}
 use Rattle.marking.specs.Marks.{incident_path, written_label, own_label, has_own_label, site_of}
 use Rattle.marking.specs.Sited.{own_in}
 use Rattle.marking.proofs.Sites.{site-push, root-own}
-use Rattle.marking.proofs.Told.{root-written}
+use Rattle.marking.proofs.Marked.{root-written}
 use Rattle.marking.proofs.Written.{AreUnderParents, written-block}
 
 and-true : (b t : Bool) → t ≡ true → b ≡ (b && t)

@@ -1,11 +1,11 @@
--- Three small reports by their lines, and what is told of their classes: to be computed by the definitions alone.
-use Rattle.std.specs.Prelude.{◌≡◌, ℕ, List, [], ◌∷◌, map, Bool, true, false, String, codes}
+-- Three small reports by their lines, and how their classes are marked: to be computed by the definitions alone.
+use Rattle.std.specs.Prelude.{◌≡◌, ℕ, List, [], ◌∷◌, map, Bool, true, false, codes}
 use Rattle.iodef_tree.specs.Text.{Bytes}
 use Rattle.iodef_tree.specs.Paths.{located, class_paths}
 use Rattle.iodef_tree.specs.declared.line.Line.{Line}
 use Rattle.iodef_tree.specs.declared.line.Kind.TheVariants as kind
 use Rattle.marking.specs.Label.{Marking, public, amber, private, extended}
-use Rattle.marking.specs.Marks.{Told, told_at}
+use Rattle.marking.specs.Marks.{Marked, marked_at}
 
 abbrev pub class_line : ℕ → Bytes → Bool → Line
 class_line d name in_array = record { depth = d; name = name; in_array = in_array; kind = kind.Class; text = [] }
@@ -16,17 +16,17 @@ text_line d name in_array text = record { depth = d; name = name; in_array = in_
 abbrev pub value_line : ℕ → Bytes → Bool → Bytes → Line
 value_line d name in_array text = record { depth = d; name = name; in_array = in_array; kind = kind.Value; text = text }
 
-abbrev pub told : Bytes → Marking → Bytes → Told
-told path label site = record { path = path; label = label; site = site }
+abbrev pub marked : Bytes → Marking → Bytes → Marked
+marked path label site = record { path = path; label = label; site = site }
 
--- what is told of each class of an outline
-abbrev pub told_of : List Line → List Told
-told_of ls = let es = located ls in map (told_at es) (class_paths es)
+-- how each class of an outline is marked
+abbrev pub marks_of : List Line → List Marked
+marks_of ls = let es = located ls in map (marked_at es) (class_paths es)
 
 -- a report without labels
 abbrev pub UnmarkedIsPrivate : Type 0
 UnmarkedIsPrivate =
-    told_of (
+    marks_of (
     class_line 1 (codes "Incident") true
     ∷ class_line 2 (codes "Contact") true
     ∷ text_line 3 (codes "role") false (codes "creator")
@@ -38,15 +38,15 @@ UnmarkedIsPrivate =
     ∷ text_line 2 (codes "purpose") false (codes "reporting")
     ∷ text_line 1 (codes "version") false (codes "2.0")
     ∷ [])
-    ≡ told (codes "/Incident/0") private (codes "/Incident/0")
-    ∷ told (codes "/Incident/0/Contact/0") private (codes "/Incident/0")
-    ∷ told (codes "/Incident/0/IncidentID") private (codes "/Incident/0")
+    ≡ marked (codes "/Incident/0") private (codes "/Incident/0")
+    ∷ marked (codes "/Incident/0/Contact/0") private (codes "/Incident/0")
+    ∷ marked (codes "/Incident/0/IncidentID") private (codes "/Incident/0")
     ∷ []
 
 -- labels at two depths, and a class and a `restriction` at the root
 abbrev pub NearestLabelHolds : Type 0
 NearestLabelHolds =
-    told_of (
+    marks_of (
     class_line 1 (codes "Incident") true
     ∷ value_line 2 (codes "Contact") false (codes "[]")
     ∷ class_line 2 (codes "EventData") true
@@ -64,16 +64,16 @@ NearestLabelHolds =
     ∷ text_line 1 (codes "restriction") false (codes "public")
     ∷ text_line 1 (codes "version") false (codes "2.0")
     ∷ [])
-    ≡ told (codes "/Incident/0") public (codes "/Incident/0")
-    ∷ told (codes "/Incident/0/EventData/0") amber (codes "/Incident/0/EventData/0")
-    ∷ told (codes "/Incident/0/EventData/1") (extended (codes "TLP:AMBER")) (codes "/Incident/0/EventData/1")
-    ∷ told (codes "/a") private []
+    ≡ marked (codes "/Incident/0") public (codes "/Incident/0")
+    ∷ marked (codes "/Incident/0/EventData/0") amber (codes "/Incident/0/EventData/0")
+    ∷ marked (codes "/Incident/0/EventData/1") (extended (codes "TLP:AMBER")) (codes "/Incident/0/EventData/1")
+    ∷ marked (codes "/a") private []
     ∷ []
 
 -- an array of a text, a number and an array, and an empty class
 abbrev pub PlainLinesAreNoClasses : Type 0
 PlainLinesAreNoClasses =
-    told_of (
+    marks_of (
     class_line 1 (codes "Incident") true
     ∷ class_line 2 (codes "Contact") true
     ∷ text_line 2 (codes "GenerationTime") false (codes "g")
@@ -84,6 +84,6 @@ PlainLinesAreNoClasses =
     ∷ text_line 2 (codes "purpose") false (codes "q")
     ∷ value_line 1 (codes "a") false (codes "[]")
     ∷ [])
-    ≡ told (codes "/Incident/0") private (codes "/Incident/0")
-    ∷ told (codes "/Incident/0/Contact/0") private (codes "/Incident/0")
+    ≡ marked (codes "/Incident/0") private (codes "/Incident/0")
+    ∷ marked (codes "/Incident/0/Contact/0") private (codes "/Incident/0")
     ∷ []

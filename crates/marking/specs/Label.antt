@@ -1,5 +1,5 @@
 -- Labels, and how what is under each is to be handled (RFC 7970 section 3.3.1, FIRST TLP 2.0).
-use Rattle.std.specs.Prelude.{◌++◌, map, Bool, if◌then◌else◌, Option, Some, None, option_map, unwrap_or, codes}
+use Rattle.std.specs.Prelude.{ℕ, nat_le, ◌++◌, map, Bool, if◌then◌else◌, Option, Some, None, option_map, unwrap_or, codes}
 use Rattle.std.specs.Str.{bytes_eq}
 use Rattle.std.specs.Char.{to_ascii_lowercase}
 use Rattle.iodef_tree.specs.Text.{Bytes}
@@ -91,6 +91,17 @@ text_of private = codes "private"
 text_of red = codes "red"
 text_of by_arrangement = codes "default"
 text_of (extended text) = codes "ext-value " ++ text
+
+-- the order of handlings, the widest audience first: CLEAR < GREEN < AMBER < STRICT < RED
+abbrev pub rank : Handling → ℕ
+rank Clear = 0
+rank Green = 1
+rank Amber = 2
+rank Strict = 3
+rank Red = 4
+
+abbrev pub is_at_most : Handling → Handling → Bool
+is_at_most a b = nat_le (rank a) (rank b)
 
 abbrev pub name_of : Handling → Bytes
 name_of Clear = codes "CLEAR"

@@ -94,14 +94,14 @@ site_of es p = unwrap_or (find (has_own_label es) (reverse (prefixes p))) []
 abbrev pub label_at : List LocatedLine → Tokens → Marking
 label_at es p = unwrap_or (own_label es (site_of es p)) private
 
--- what is told of a class: its path, the label that holds at it, and that label's site, the paths as JSON pointers
-pub record Told : Type 0 where
+-- how a class is marked: its path, the label that holds at it, and that label's site, the paths as JSON pointers
+pub record Marked : Type 0 where
   pub path : Bytes
   pub label : Marking
   pub site : Bytes
 
-abbrev pub told_at : List LocatedLine → Tokens → Told
-told_at es p = record { path = pointer_text p; label = label_at es p; site = pointer_text (site_of es p) }
+abbrev pub marked_at : List LocatedLine → Tokens → Marked
+marked_at es p = record { path = pointer_text p; label = label_at es p; site = pointer_text (site_of es p) }
 
-abbrev pub told_by : Mark → Told
-told_by m = record { path = m.path; label = marking_of m.label; site = m.site }
+abbrev pub marked_by : Mark → Marked
+marked_by m = record { path = m.path.now; label = marking_of m.label; site = m.site.now }

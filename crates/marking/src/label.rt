@@ -33,7 +33,14 @@ pub enum Label<'a> {
 
 impl Handling {
     ghost use Rattle.std.specs.Prelude.{◌≡◌};
-    ghost use Rattle.marking.specs.Label.{name_of};
+    ghost use Rattle.marking.specs.Label.{name_of, is_at_most};
+
+    /// Whether it is the other or has a wider audience: CLEAR, GREEN, AMBER, STRICT, RED.
+    pub fn is_at_most(self, other: Handling) -> bool
+        ensures { result ≡ is_at_most self other }
+    {
+        self <= other
+    }
 
     /// Its name in capital letters.
     pub fn name(self) -> &'static str

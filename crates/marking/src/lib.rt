@@ -6,15 +6,13 @@ pub mod class;
 pub mod examples;
 mod fault;
 mod label;
+pub mod laws;
 mod nearest;
 mod pass;
 mod rule;
 
 pub use fault::{MarkingFault, SiteFault};
 pub use label::{Handling, Label};
-pub use nearest::{own, site, written_at};
-pub use pass::{Mark, marks};
+pub use nearest::{is_incident, own, site, written_at};
+pub use pass::{Mark, MarkWriter, write_marks};
 pub use rule::check;
-
-#[cfg(test)]
-mod tests;

@@ -1,6 +1,6 @@
 //! The own label of a class, and the nearest class or root with one.
 
-ghost use Rattle.std.specs.Prelude.{◌≡◌, ◌-◌, false, None, Some, option_map, take, length};
+ghost use Rattle.std.specs.Prelude.{◌≡◌, ◌-◌, ◌∷◌, [], false, None, Some, option_map, take, length};
 ghost use Rattle.iodef_tree.specs.Text.{same_path, is_root};
 ghost use Rattle.iodef_tree.specs.Paths.{located};
 ghost use Rattle.iodef_tree.specs.View.{forest};
@@ -82,20 +82,20 @@ fn own_of<'a>(tokens: &[Text], object: &'a Object) -> Option<Label<'a>>
     match written(object) {
         Some(label) => Some(label),
         None => {
-            if is_incident_path(tokens) {
-                Some(Label::Private)
-            } else {
-                None
+            match tokens {
+                [first, second] if is_incident(first.as_str(), second.as_str()) => {
+                    Some(Label::Private)
+                }
+                _ => None,
             }
         }
     }
 }
 
-fn is_incident_path(tokens: &[Text]) -> bool
-    ensures { result ≡ same_path tokens.now incident_path }
+/// Whether the path of these two reference tokens is the Incident's, that of the first Incident of a document. No path of
+/// fewer or more tokens is. Takes no memory.
+pub fn is_incident(first: &str, second: &str) -> bool
+    ensures { result ≡ same_path (first.now ∷ second.now ∷ []) incident_path }
 {
-    match tokens {
-        [first, second] => first.as_str() == "Incident" && second.as_str() == "0",
-        _ => false,
-    }
+    first == "Incident" && second == "0"
 }

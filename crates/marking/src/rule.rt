@@ -6,7 +6,7 @@ ghost use Rattle.iodef_tree.specs.View.{forest, bodies, body};
 ghost use Rattle.iodef_tree.specs.Paths.{located};
 ghost use Rattle.marking.specs.Marks.{first_bad_marking};
 ghost use Rattle.marking.specs.Pass.{bad_below, bad_in_body, tokens_of};
-ghost use Rattle.marking.specs.Checked.{Answers};
+ghost use Rattle.marking.specs.Checked.{Checks};
 
 use crate::class::is_well_marked;
 use crate::fault::MarkingFault;
@@ -17,7 +17,7 @@ use std::alloc::{AllocError, Global};
 /// `ext-restriction`, or the two spell a label (RFC 7970 sections 3.3.1 and 5.1.1). Else the fault names the first class,
 /// in stored order, that doesn't. What the root holds under these names marks nothing. Takes memory for that path alone.
 pub fn check(alloc: Global, document: &Document) -> Result<(), MarkingFault>
-    ensures { Answers result (first_bad_marking (located document.now)) }
+    ensures { Checks result (first_bad_marking (located document.now)) }
 {
     match bad_below(alloc, document.root())? {
         None => Ok(()),

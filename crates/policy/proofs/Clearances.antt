@@ -5,9 +5,10 @@ use Rattle.std.specs.Option.{option_map_or}
 use Rattle.std.specs.List.{list_all}
 use Rattle.std.proofs.lemmas.Bool.{and_parts, and_from, false≢true}
 use Rattle.std.proofs.lemmas.List.Sums.{AllPass-from_list_all}
+use Rattle.marking.specs.Label.{is_at_most}
 use Rattle.marking.specs.declared.label.Handling.{Handling}
 use Rattle.marking.specs.declared.label.Handling.TheVariants.{Clear, Green, Amber, Strict, Red}
-use Rattle.policy.specs.Clearance.{is_at_most, Row, row, clearance_rows, cleared_by, clearance_of}
+use Rattle.policy.specs.Clearance.{Row, row, clearance_rows, cleared_by, clearance_of}
 use Rattle.policy.specs.Laws.{IsRaised}
 use Rattle.policy.specs.declared.rule.Rule.TheVariants.{P, O, C, M, A}
 use Rattle.policy.specs.declared.standing.Standing.{Standing}

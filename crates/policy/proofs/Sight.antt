@@ -1,14 +1,14 @@
 -- Who sees more: readers of the source, permissions, raised clearances.
-use Rattle.std.proofs.Common.{◌≡◌, ℕ, Bool, true, false, List, refl, sym, ◌∙◌, ap, subst, arith, if◌then◌else◌, ◌&&◌, ◌||◌, ◌==◌}
+use Rattle.std.proofs.Common.{◌≡◌, ℕ, Bool, true, false, not, List, refl, sym, ◌∙◌, ap, subst, arith, if◌then◌else◌, ◌&&◌, ◌||◌, ◌==◌}
 use Rattle.std.specs.Prelude.{Option, Some, None, unwrap_or, is_some, is_none, filter, All, Contains}
 use Rattle.std.specs.List.{filter_map, flat_map, list_any}
 use Rattle.std.proofs.lemmas.Bool.{and_parts, and_from, false≢true}
 use Rattle.std.proofs.lemmas.List.Folds.{Any-from_list_any, list_any-from_Any}
 use Rattle.iodef_tree.specs.Text.{Tokens, same_path, is_prefix, prefixes}
 use Rattle.iodef_tree.specs.Paths.{LocatedLine}
-use Rattle.marking.specs.Label.{handling_of}
+use Rattle.marking.specs.Label.{handling_of, is_at_most}
 use Rattle.marking.specs.Marks.{label_at}
-use Rattle.policy.specs.Clearance.{is_at_most, clearance_of}
+use Rattle.policy.specs.Clearance.{clearance_of}
 use Rattle.policy.specs.Numbers.{is_among}
 use Rattle.policy.specs.Gates.{refused_unless, group_passage, passage_of}
 use Rattle.policy.specs.Permissions.{includes, reaches, covers}
@@ -76,8 +76,8 @@ choose false x y x' y' f g h = g h
 group-same : (s t : Standing) → IsRaised s t → (o : Option ℕ) → group_passage t o ≡ group_passage s o
 group-same s t up None = refl
 group-same s t up (Some n) =
-    ap (λ a. if is_among n a then None else if is_among n t.groups then Some G4X else Some G4) (sym up.active_groups)
-    ∙ ap (λ a. if is_among n s.active_groups then None else if is_among n a then Some G4X else Some G4) (sym up.groups)
+    ap (λ a. if not (is_among n a) then Some G4 else if not (is_among n t.active_groups) then Some G4X else None) (sym up.groups)
+    ∙ ap (λ a. if not (is_among n s.groups) then Some G4 else if not (is_among n a) then Some G4X else None) (sym up.active_groups)
 
 passage-raised : (s t : Standing) → IsRaised s t → (g : Gate) → is_some (passage_of t g) ≡ true → is_some (passage_of s g) ≡ true
 passage-raised s t up g =
@@ -115,7 +115,7 @@ includes-raised : (s t : Standing) → IsRaised s t → (x : Grantee) → includ
 includes-raised s t up (Person n) = ap (λ k. k == n) up.who
 includes-raised s t up (Org n) = ap (λ k. k == n) up.org
 includes-raised s t up (Community n) = ap (is_among n) up.communities
-includes-raised s t up (Group n) = ap (is_among n) up.active_groups
+includes-raised s t up (Group n) = ap (λ a. is_among n a && is_among n s.active_groups) up.groups ∙ ap (λ a. is_among n t.groups && is_among n a) up.active_groups
 
 pub visible-raised : (es : List LocatedLine) (c : Case) (s t : Standing) (p : Tokens) → IsRaised s t →
     is_visible es c s p ≡ true → is_visible es c t p ≡ true

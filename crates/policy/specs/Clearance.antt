@@ -1,23 +1,12 @@
 -- What a reader is cleared for (FIRST TLP 2.0): the recipients that the source named, their organisations and clients, and
 -- the source's communities.
-use Rattle.std.specs.Prelude.{ℕ, Bool, true, ◌&&◌, List, [], ◌∷◌, find, nat_le}
+use Rattle.std.specs.Prelude.{Bool, true, ◌&&◌, List, [], ◌∷◌, find}
 use Rattle.std.specs.Option.{option_map_or}
 use Rattle.marking.specs.declared.label.Handling.{Handling}
 use Rattle.marking.specs.declared.label.Handling.TheVariants.{Clear, Green, Amber, Strict, Red}
 use Rattle.policy.specs.declared.rule.Rule.{Rule}
 use Rattle.policy.specs.declared.rule.Rule.TheVariants.{P, O, C, M, A}
 use Rattle.policy.specs.declared.standing.Standing.{Standing}
-
--- the order of handlings: CLEAR < GREEN < AMBER < STRICT < RED
-abbrev pub rank : Handling → ℕ
-rank Clear = 0
-rank Green = 1
-rank Amber = 2
-rank Strict = 3
-rank Red = 4
-
-abbrev pub is_at_most : Handling → Handling → Bool
-is_at_most a b = nat_le (rank a) (rank b)
 
 -- a row of the table of clearances: a rule, whether it holds of the reader, and the handling that it clears the reader for
 pub record Row : Type 0 where

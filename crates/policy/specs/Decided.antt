@@ -13,11 +13,8 @@ use Rattle.policy.specs.declared.fault.DecideFault.TheVariants.{NoClass, NoMemor
 abbrev pub decided_at : List LocatedLine → Case → Standing → Tokens → Option Verdict
 decided_at es c s p = if has_class es p then Some (verdict_of es c s p) else None
 
--- want of memory may stand in place of any other answer
-abbrev pub Answers : Result Verdict DecideFault → Option Verdict → Type 0
-Answers (Ok v) decided = decided ≡ Some v
-Answers (Err NoClass) decided = decided ≡ None
-Answers (Err NoMemory) decided = Unit {0}
-
+-- the verdict that is decided there, or NoClass; want of memory may stand in place of both
 abbrev pub Decides : Result Verdict DecideFault → List LocatedLine → Case → Standing → Tokens → Type 0
-Decides r es c s p = Answers r (decided_at es c s p)
+Decides (Ok v) es c s p = decided_at es c s p ≡ Some v
+Decides (Err NoClass) es c s p = decided_at es c s p ≡ None
+Decides (Err NoMemory) es c s p = Unit {0}

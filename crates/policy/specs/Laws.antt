@@ -1,12 +1,14 @@
 -- The laws of the policy, in its own words.
-use Rattle.std.specs.Prelude.{◌≡◌, ◌≤◌, Bool, true, false, ◌&&◌, List, length, find, Some, None, is_some, All, Contains}
-use Rattle.iodef_tree.specs.Text.{Tokens, is_prefix, same_path}
-use Rattle.iodef_tree.specs.Paths.{LocatedLine}
-use Rattle.marking.specs.Marks.{label_at}
+use Rattle.std.specs.Prelude.{◌≡◌, ◌≤◌, Bool, true, false, ◌&&◌, List, [], ◌∷◌, ◌++◌, length, find, Some, None, is_some, All, Contains}
+use Rattle.iodef_tree.specs.Text.{Bytes, Tokens, is_prefix, same_path}
+use Rattle.iodef_tree.specs.Paths.{LocatedLine, has_class}
+use Rattle.marking.specs.Label.{is_at_most}
+use Rattle.marking.specs.Marks.{written_label, label_at}
 use Rattle.marking.specs.declared.label.Handling.TheVariants.{Clear}
-use Rattle.policy.specs.Clearance.{is_at_most, clearance_rows, clearance_of}
+use Rattle.policy.specs.Clearance.{clearance_rows, clearance_of}
 use Rattle.policy.specs.Gates.{passage_of}
 use Rattle.policy.specs.Verdict.{refusal_at, handling_for, is_visible, verdict_of}
+use Rattle.policy.specs.Inherited.{inherited_at, at_root, enter_array, enter_class}
 use Rattle.policy.specs.declared.rule.Rule.{Rule}
 use Rattle.policy.specs.declared.rule.Rule.TheVariants.{Src}
 use Rattle.policy.specs.declared.standing.Standing.{Standing}
@@ -17,6 +19,11 @@ use Rattle.policy.specs.declared.verdict.Verdict.TheVariants.{Shown, Hidden}
 -- a reader of the source sees every class
 abbrev pub SourceSeesAll : Type 0
 SourceSeesAll = (es : List LocatedLine) (c : Case) (s : Standing) (p : Tokens) → s.source ≡ true → verdict_of es c s p ≡ Shown Src
+
+-- where no gate refuses on a path, the reader passes every gate on it
+abbrev pub UnrefusedPassesGates : Type 0
+UnrefusedPassesGates = (c : Case) (s : Standing) (p : Tokens) → refusal_at c s p ≡ None →
+    All (λ g. is_prefix g.path p ≡ true → passage_of s g ≡ None) c.gates
 
 -- whoever else sees a class passes every gate on its path
 abbrev pub VisiblePassesGates : Type 0
@@ -86,3 +93,16 @@ ClearIsNeverHidden = (es : List LocatedLine) (c : Case) (s : Standing) (p : Toke
 -- no row of the table of clearances that holds is stricter than the clearance
 abbrev pub ClearanceIsStrictest : Type 0
 ClearanceIsStrictest = (s : Standing) → All (λ r. r.holds ≡ true → is_at_most r.handling (clearance_of s).0 ≡ true) (clearance_rows s)
+
+-- The step law: what a pass inherits one token further down is what the definitions say there. It begins at the root, goes
+-- into the path of a class with the label that is written in it, and into any other path as into an array's.
+abbrev pub RootIsAsSaid : Type 0
+RootIsAsSaid = (es : List LocatedLine) (c : Case) (s : Standing) → has_class es [] ≡ false → at_root c s ≡ inherited_at es c s []
+
+abbrev pub ClassIsAsSaid : Type 0
+ClassIsAsSaid = (es : List LocatedLine) (c : Case) (s : Standing) (p : Tokens) (x : Bytes) → has_class es (p ++ x ∷ []) ≡ true →
+    enter_class c s (inherited_at es c s p) x (written_label es (p ++ x ∷ [])) ≡ inherited_at es c s (p ++ x ∷ [])
+
+abbrev pub ArrayIsAsSaid : Type 0
+ArrayIsAsSaid = (es : List LocatedLine) (c : Case) (s : Standing) (p : Tokens) (x : Bytes) → has_class es (p ++ x ∷ []) ≡ false →
+    enter_array c s (inherited_at es c s p) x ≡ inherited_at es c s (p ++ x ∷ [])

@@ -1,5 +1,6 @@
 pub mod Numbers
 pub mod Rule
+pub mod Standing
 pub mod Clearance
 pub mod Gates
 pub mod Permissions

@@ -11,12 +11,12 @@ use Rattle.policy.specs.declared.permission.Grantee.{Grantee}
 use Rattle.policy.specs.declared.permission.Grantee.TheVariants.{Person, Org, Community, Group}
 use Rattle.policy.specs.declared.permission.Permission.{Permission}
 
--- the grantee is the reader, its organisation, a community of that, or an active group of which that is a member
+-- the grantee is the reader, its organisation, a community of that, or a group of which that is a member and which is active
 abbrev pub includes : Standing → Grantee → Bool
 includes s (Person n) = s.who == n
 includes s (Org n) = s.org == n
 includes s (Community n) = is_among n s.communities
-includes s (Group n) = is_among n s.active_groups
+includes s (Group n) = is_among n s.groups && is_among n s.active_groups
 
 -- the permission holds for the reader, wherever it stands
 abbrev pub holds_for : Standing → Permission → Bool

@@ -4,11 +4,11 @@ use Rattle.std.specs.Prelude.{Bool, ◌&&◌, ◌||◌, List, [], ◌∷◌, fil
 use Rattle.std.specs.List.{filter_map, flat_map, list_any}
 use Rattle.iodef_tree.specs.Text.{Tokens, same_path, prefixes}
 use Rattle.iodef_tree.specs.Paths.{LocatedLine}
-use Rattle.marking.specs.Label.{Marking, handling_of}
+use Rattle.marking.specs.Label.{Marking, handling_of, is_at_most}
 use Rattle.marking.specs.Marks.{label_at}
 use Rattle.marking.specs.declared.label.Handling.{Handling}
 use Rattle.marking.specs.declared.label.Handling.TheVariants.{Clear, Green, Amber, Strict, Red}
-use Rattle.policy.specs.Clearance.{clearance_of, is_at_most}
+use Rattle.policy.specs.Clearance.{clearance_of}
 use Rattle.policy.specs.Gates.{passage_of}
 use Rattle.policy.specs.Permissions.{covers}
 use Rattle.policy.specs.declared.rule.Rule.{Rule}

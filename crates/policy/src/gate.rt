@@ -56,8 +56,9 @@ impl Gates {
     }
 }
 
-/// Whether the reader passes the gate, else the rule that refuses. Levels 3 and 5 let everybody pass. Level 4 without a
-/// group is refused as one of whose group the reader's organisation is no member. A level above 5 counts as 0. Takes no
+/// Whether the reader passes the gate, else the rule that refuses. Levels 3 and 5 let everybody pass. Level 4 asks
+/// membership first and then whether the group is active; without a group it is refused as one of whose group the reader's
+/// organisation is no member. A level above 5 counts as 0. Takes no
 /// memory.
 pub fn passes(standing: &Standing, gate: &Gate) -> Result<(), Rule>
     ensures { result_err result ≡ passage_of standing.now gate.now }
@@ -83,12 +84,12 @@ fn passes_group(standing: &Standing, group: Option<u32>) -> Result<(), Rule>
     match group {
         None => Err(Rule::G4),
         Some(number) => {
-            if standing.active_groups.contains(number) {
-                Ok(())
-            } else if standing.groups.contains(number) {
+            if !standing.groups.contains(number) {
+                Err(Rule::G4)
+            } else if !standing.active_groups.contains(number) {
                 Err(Rule::G4X)
             } else {
-                Err(Rule::G4)
+                Ok(())
             }
         }
     }

@@ -4,7 +4,6 @@ ghost use Rattle.std.specs.Prelude.{◌≡◌, [], if◌then◌else◌, Option, 
 ghost use Rattle.std.specs.Option.{option_or};
 ghost use Rattle.iodef_tree.specs.Text.{same_path};
 ghost use Rattle.marking.specs.Label.{marking_of};
-ghost use Rattle.policy.specs.Clearance.{rank as rank_of};
 ghost use Rattle.policy.specs.Gates.{passage_of};
 ghost use Rattle.policy.specs.Verdict.{first_of, refusals_at, handling_for, is_cleared_for, showing_rule, hidden_by as hides_by};
 ghost use Rattle.policy.specs.Inherited.{carried, at_root as at_the_root, array_step, class_step, label_step, is_granted as is_granted_at, is_seen as is_seen_by, hides as hides_at, verdict_by};
@@ -111,19 +110,7 @@ fn handling(standing: &Standing, label: Label) -> Handling
 fn is_cleared(standing: &Standing, label: Label) -> bool
     ensures { result ≡ is_cleared_for standing.now (marking_of label.entry) }
 {
-    rank(handling(standing, label)) <= rank(clearance(standing).0)
-}
-
-fn rank(handling: Handling) -> u8
-    ensures { result ≡ rank_of handling }
-{
-    match handling {
-        Handling::Clear => 0,
-        Handling::Green => 1,
-        Handling::Amber => 2,
-        Handling::Strict => 3,
-        Handling::Red => 4,
-    }
+    handling(standing, label).is_at_most(clearance(standing).0)
 }
 
 fn shown_by(standing: &Standing, label: Label) -> Rule

@@ -1,11 +1,16 @@
 //! What the policy promises whatever the document, the case and the reader are. Each law is the contract of a function
 //! that does nothing.
 
-ghost use Rattle.policy.specs.Laws.{SourceSeesAll, VisiblePassesGates, RefusalIsNearest, PermissionHidesNothing, PermissionOpensNoGate, RaisedIsClearedForMore, RaisedSeesNoLess, ClearIsNeverHidden, ClearanceIsStrictest};
+ghost use Rattle.policy.specs.Laws.{SourceSeesAll, UnrefusedPassesGates, VisiblePassesGates, RefusalIsNearest, PermissionHidesNothing, PermissionOpensNoGate, RaisedIsClearedForMore, RaisedSeesNoLess, ClearIsNeverHidden, ClearanceIsStrictest, RootIsAsSaid, ClassIsAsSaid, ArrayIsAsSaid};
 
 /// A reader of the source sees every class.
 pub fn source_sees_all()
     ensures { SourceSeesAll }
+{}
+
+/// Where no gate refuses on a path, the reader passes every gate on it.
+pub fn unrefused_passes_gates()
+    ensures { UnrefusedPassesGates }
 {}
 
 /// Whoever else sees a class passes every gate on its path.
@@ -46,4 +51,12 @@ pub fn clear_is_never_hidden()
 /// The clearance is the strictest that any of the rules gives.
 pub fn clearance_is_strictest()
     ensures { ClearanceIsStrictest }
+{}
+
+/// What a pass carries one token further down is what the definitions say there: at the root, at a class and at any other
+/// path, as an array's.
+pub fn steps_are_as_said()
+    ensures root { RootIsAsSaid }
+    ensures class { ClassIsAsSaid }
+    ensures array { ArrayIsAsSaid }
 {}

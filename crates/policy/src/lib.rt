@@ -29,6 +29,3 @@ pub use rule::Rule;
 pub use spot::Spot;
 pub use standing::Standing;
 pub use verdict::Verdict;
-
-#[cfg(test)]
-mod tests;

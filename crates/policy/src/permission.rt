@@ -60,8 +60,8 @@ impl Permissions {
     }
 }
 
-/// Whether the grantee includes the reader: it is the reader, its organisation, a community of its organisation, or an
-/// active group of which its organisation is a member. Takes no memory.
+/// Whether the grantee includes the reader: it is the reader, its organisation, a community of its organisation, or a group
+/// of which its organisation is a member and which is active. Takes no memory.
 pub fn includes(standing: &Standing, grantee: &Grantee) -> bool
     ensures { result ≡ is_included standing.now grantee.now }
 {
@@ -69,7 +69,9 @@ pub fn includes(standing: &Standing, grantee: &Grantee) -> bool
         Grantee::Person(number) => standing.who == *number,
         Grantee::Org(number) => standing.org == *number,
         Grantee::Community(number) => standing.communities.contains(*number),
-        Grantee::Group(number) => standing.active_groups.contains(*number),
+        Grantee::Group(number) => {
+            standing.groups.contains(*number) && standing.active_groups.contains(*number)
+        }
     }
 }
 

@@ -1,5 +1,9 @@
+ghost use Rattle.std.specs.Prelude.{◌≡◌};
+ghost use Rattle.policy.specs.Standing.{stranger};
+
 use crate::numbers::Numbers;
 use marking::Handling;
+use std::alloc::Global;
 
 /// How a person, the reader, stands to an incident and to its source, the organisation that posted it.
 #[derive(Drop)]
@@ -26,8 +30,31 @@ pub struct Standing {
     pub org: u32,
     /// The groups of which the reader's organisation is a member.
     pub groups: Numbers,
-    /// Those of them that are active.
+    /// The groups that are active. One that `groups` lacks counts for nothing.
     pub active_groups: Numbers,
     /// The communities of which the reader's organisation is a member.
     pub communities: Numbers,
+}
+
+impl Standing {
+    /// The reader of this number and of the organisation of that number, of whom nothing else holds. Takes no memory.
+    pub fn stranger(alloc: Global, who: u32, org: u32) -> Standing
+        ensures { result ≡ stranger who org }
+    {
+        Standing {
+            source: false,
+            person: false,
+            nominated: false,
+            addressed: false,
+            client: false,
+            community: false,
+            connected: false,
+            arrangement: None,
+            who,
+            org,
+            groups: Numbers::new(Vec::new(alloc)),
+            active_groups: Numbers::new(Vec::new(alloc)),
+            communities: Numbers::new(Vec::new(alloc)),
+        }
+    }
 }

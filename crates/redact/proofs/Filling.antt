@@ -1,5 +1,7 @@
 -- Where an attribute goes among members, by its name.
-use Rattle.std.proofs.Common.{◌≡◌, ℕ, zero, suc, ◌<◌, ◌≤◌, true, false, List, [], ◌∷◌, ◌++◌, map, length, get_or, take, drop, refl, ◌∙◌, ap, arith, All}
+use Rattle.std.proofs.Common.{◌≡◌, ℕ, zero, suc, ◌<◌, ◌≤◌, true, false, List, [], ◌∷◌, ◌++◌, map, length, get_or, take, drop, refl, ◌∙◌, ap, arith, sym}
+use Rattle.std.specs.List.{AllByRecursion}
+use Rattle.iodef_tree.specs.Filled.{IsMemberFilled}
 use Rattle.std.specs.Prelude.{Option, Some, None}
 use Rattle.std.proofs.lemmas.Bool.{cond-true, cond-false, true≢false}
 use Rattle.iodef_tree.specs.Text.{Bytes, bytes_lt}
@@ -7,7 +9,8 @@ use Rattle.iodef_tree.specs.Tree.{Leaf, Forest, leaf, Body, holds, says, Bodies,
 use Rattle.iodef_tree.specs.View.{bodies, named, members_forest, forest_of_members}
 use Rattle.iodef_tree.specs.declared.object.Member.{Member}
 use Rattle.redact.specs.Judged.{put_leaf, attribute_leaf, is_end}
-use Rattle.redact.specs.Filled.{IsFilled, saying}
+use Rattle.iodef_tree.proofs.Filled.{has_elements, member-elements}
+use Rattle.redact.specs.Filled.{saying}
 
 past_front : (x : Leaf) (n : Bytes) (p : Option ℕ) (b : Body) (rest : Forest) → bytes_lt x.name n ≡ false → put_leaf x (in_front n p b rest) ≡ in_front n p b (put_leaf x rest)
 past_front x n p (holds kids) rest h = cond-false (bytes_lt x.name n) _ _ h
@@ -25,9 +28,9 @@ stops_front : (x : Leaf) (n : Bytes) (p : Option ℕ) (b : Body) (rest : Forest)
 stops_front x n p (holds kids) rest h = cond-true (bytes_lt x.name n) _ _ h
 stops_front x n p (says content) rest h = cond-true (bytes_lt x.name n) _ _ h
 
-stops_member : (x : Leaf) (n : Bytes) (b : Bodies) (rest : Forest) → IsFilled b → bytes_lt x.name n ≡ true → put_leaf x (member_front n b rest) ≡ leaf x (member_front n b rest)
+stops_member : (x : Leaf) (n : Bytes) (b : Bodies) (rest : Forest) → has_elements b ≡ true → bytes_lt x.name n ≡ true → put_leaf x (member_front n b rest) ≡ leaf x (member_front n b rest)
 stops_member x n (one b) rest filled h = stops_front x n None b rest h
-stops_member x n (many []) rest filled h = absurd (true≢false filled)
+stops_member x n (many []) rest filled h = absurd (true≢false (sym filled))
 stops_member x n (many (b ∷ bs)) rest filled h = stops_front x n (Some 0) b _ h
 
 abbrev Pair : Type 0
@@ -36,7 +39,7 @@ Pair = Bytes × Member
 -- the place is behind the last member of a name that isn't later
 pub put_split : (name text : Bytes) (ms : List Pair) (i : ℕ) → i ≤ length ms →
     ((k : ℕ) (d : Pair) → k < i → bytes_lt name (get_or ms k d).0 ≡ false) →
-    ((d : Pair) → i < length ms → bytes_lt name (get_or ms i d).0 ≡ true × IsFilled (bodies (get_or ms i d).1)) →
+    ((d : Pair) → i < length ms → bytes_lt name (get_or ms i d).0 ≡ true × (has_elements (bodies (get_or ms i d).1) ≡ true)) →
     put_leaf (attribute_leaf (name, text)) (members_forest ms) ≡ forest_of_members (map named (take i ms) ++ (name, saying text) ∷ map named (drop i ms))
 put_split name text [] zero le before here = refl
 put_split name text [] (suc i) le before here = absurd (omega arith)
@@ -51,16 +54,23 @@ front-end : (n : Bytes) (p : Option ℕ) (b : Body) (rest : Forest) → is_end (
 front-end n p (holds kids) rest = refl
 front-end n p (says content) rest = refl
 
-member-end : (n : Bytes) (b : Bodies) (rest : Forest) → IsFilled b → is_end (member_front n b rest) ≡ false
+member-end : (n : Bytes) (b : Bodies) (rest : Forest) → has_elements b ≡ true → is_end (member_front n b rest) ≡ false
 member-end n (one b) rest h = front-end n None b rest
-member-end n (many []) rest h = absurd (true≢false h)
+member-end n (many []) rest h = absurd (true≢false (sym h))
 member-end n (many (b ∷ bs)) rest h = front-end n (Some 0) b _
 
 -- members that have lines have an end only where there are none
-pub filled-end : (ms : List Pair) → All (λ m. IsFilled (bodies m.1)) ms → (length ms ≡ 0 → ⊥) → is_end (members_forest ms) ≡ false
+pub filled-end : (ms : List Pair) → AllByRecursion (λ m. IsMemberFilled m.1) ms → (length ms ≡ 0 → ⊥) → is_end (members_forest ms) ≡ false
 filled-end [] all h = absurd (h refl)
-filled-end (m ∷ ms) all h = member-end m.0 (bodies m.1) (members_forest ms) (all 0 m (omega arith))
+filled-end (m ∷ ms) all h = member-end m.0 (bodies m.1) (members_forest ms) (member-elements m.1 all.0)
 
 pub filled-none : (ms : List Pair) → length ms ≡ 0 → is_end (members_forest ms) ≡ true
 filled-none [] none = refl
 filled-none (m ∷ ms) none = absurd (omega (arith, none))
+
+-- what is filled stays so with one member more
+pub inserted-filled : (ms : List Pair) (i : ℕ) (e : Pair) → AllByRecursion (λ m. IsMemberFilled m.1) ms → IsMemberFilled e.1 → AllByRecursion (λ m. IsMemberFilled m.1) (take i ms ++ e ∷ drop i ms)
+inserted-filled [] zero e all h = (h, tt)
+inserted-filled [] (suc i) e all h = (h, tt)
+inserted-filled (m ∷ ms) zero e all h = (h, all)
+inserted-filled (m ∷ ms) (suc i) e all h = (all.0, inserted-filled ms i e all.1 h)

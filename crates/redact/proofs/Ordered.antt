@@ -10,7 +10,7 @@ use Rattle.std.proofs.lemmas.Cmp.{nat_list_cmp_total}
 use Rattle.std.proofs.lemmas.Map.Text.{is_eq-slice_cmp}
 use Rattle.iodef_tree.specs.Text.{Bytes, Tokens, bytes_lt}
 use Rattle.iodef_tree.specs.Tree.{Leaf, Forest, end, leaf, branch, steps}
-use Rattle.iodef_tree.specs.Sound.{Standing, may_stand_behind, may_stand_first, may_stand, IsOrderedBehind, IsOrdered}
+use Rattle.iodef_tree.specs.Sound.{SiblingPlace, may_stand_behind, may_stand_first, may_stand, IsOrderedBehind, IsOrdered}
 use Rattle.iodef_tree.specs.Laws.{AllSiblings}
 use Rattle.iodef_tree.proofs.Order.{is_false, bytes_eq-refl, bytes_eq-true, bytes_lt-trans, bytes_lt-ne}
 use Rattle.redact.specs.Kept.{Attribute, Verdicts}
@@ -50,7 +50,7 @@ later x y differ h = by_order (not-lt y x h)
 -- ---- siblings that are left out
 
 -- How the last sibling that is left stands to the last one of the document, with so many elements of its array left.
-abbrev pub Trails : Option Standing → Option Standing → ℕ → Type 0
+abbrev pub Trails : Option SiblingPlace → Option SiblingPlace → ℕ → Type 0
 Trails None None n = Unit {0}
 Trails None (Some s) n = ⊥
 Trails (Some (a, None)) None n = Unit {0}
@@ -65,7 +65,7 @@ lt-after a b name (Some k) o' n (inl t) h = bytes_lt-trans b a name t.1 h
 lt-after a b name (Some k) o' n (inr t) h = subst (λ x. bytes_lt x name ≡ true) (sym t.1.2) h
 
 -- a sibling may stand where it comes behind fewer
-pub stands-left : (before before' : Option Standing) (n : ℕ) (name : Bytes) (place : Option ℕ) →
+pub stands-left : (before before' : Option SiblingPlace) (n : ℕ) (name : Bytes) (place : Option ℕ) →
     Trails before before' n → may_stand before name place ≡ true → may_stand before' name (new_place n place) ≡ true
 stands-left None None n name None t h = refl
 stands-left None None n name (Some zero) t h = refl
@@ -94,7 +94,7 @@ trails-left n name None = lt-self name
 trails-left n name (Some zero) = inr (0, (refl, refl, refl))
 trails-left n name (Some (suc k)) = inr (n, (refl, refl, refl))
 
-pub trails-dropped : (before before' : Option Standing) (n : ℕ) (name : Bytes) (place : Option ℕ) →
+pub trails-dropped : (before before' : Option SiblingPlace) (n : ℕ) (name : Bytes) (place : Option ℕ) →
     Trails before before' n → may_stand before name place ≡ true → Trails (Some (name, place)) before' (left_before n place)
 trails-dropped None None n name None t h = tt
 trails-dropped None None n name (Some zero) t h = refl
@@ -126,7 +126,7 @@ lacks-put x y (branch name place kids rest) h all =
     elim (bytes_lt y.name name) as (λ b. Lacks x (if b then leaf y (branch name place kids rest) else branch name place kids (put_leaf y rest))) [ true ↦ (h, all) | false ↦ (all.0, lacks-put x y rest h all.1) ]
 
 -- what stood behind a sibling stands behind an attribute of an earlier name, which isn't put into the middle of an array
-stands-put : (before : Option Standing) (x name : Bytes) (place : Option ℕ) → may_stand before x None ≡ true → may_stand before name place ≡ true → bytes_lt x name ≡ true →
+stands-put : (before : Option SiblingPlace) (x name : Bytes) (place : Option ℕ) → may_stand before x None ≡ true → may_stand before name place ≡ true → bytes_lt x name ≡ true →
     may_stand (Some (x, None)) name place ≡ true
 stands-put before x name None h k lt = lt
 stands-put before x name (Some zero) h k lt = lt
@@ -136,7 +136,7 @@ stands-put (Some (a, Some i)) x name (Some (suc j)) h k lt =
     let parts = and_parts (bytes_eq a name) (i == j) k in
     absurd (true≢false (sym (subst (λ y. bytes_lt y x ≡ true) (bytes_eq-true a name parts.0) h) ∙ lt-back x name lt))
 
-put-ordered : (f : Forest) (before : Option Standing) (a : Attribute) → IsOrderedBehind before f → Lacks a.0 f → may_stand before a.0 None ≡ true →
+put-ordered : (f : Forest) (before : Option SiblingPlace) (a : Attribute) → IsOrderedBehind before f → Lacks a.0 f → may_stand before a.0 None ≡ true →
     IsOrderedBehind before (put_leaf (attribute_leaf a) f)
 put-ordered end before a order all h = (h, tt)
 put-ordered (leaf i rest) before a order all h =
@@ -209,7 +209,7 @@ module _ (v : Verdicts) where
       by_label true true fits = order
       by_label false s fits = order
 
-  pub ordered-cut : (f : Forest) (h : Home) (p : Tokens) (n : ℕ) (before before' : Option Standing) → IsOrderedBehind before f → LabelsFit p f → Trails before before' n →
+  pub ordered-cut : (f : Forest) (h : Home) (p : Tokens) (n : ℕ) (before before' : Option SiblingPlace) → IsOrderedBehind before f → LabelsFit p f → Trails before before' n →
       IsOrderedBehind before' (cut h n (judge v p f))
   ordered-cut end h p n before before' order fit t = tt
   ordered-cut (leaf i rest) h p n before before' order fit t =

@@ -1,11 +1,13 @@
 //! Labels, put in among the members of a class.
 
-ghost use Rattle.std.specs.Prelude.{◌≡◌, ◌≤◌, ◌++◌, ◌∷◌, All, IfOk, List, ℕ, length, take, drop, map, option_map};
-ghost use Rattle.iodef_tree.specs.View.{forest, bodies, named, members_forest};
+ghost use Rattle.std.specs.Prelude.{◌≡◌, ◌≤◌, ◌++◌, ◌∷◌, IfOk, List, ℕ, length, take, drop, map, option_map};
+ghost use Rattle.std.specs.List.{AllByRecursion};
+ghost use Rattle.iodef_tree.specs.View.{forest, named, members_forest};
 ghost use Rattle.marking.specs.Label.{marking_of};
 ghost use Rattle.redact.specs.Judged.{put_leaf, put_attributes, attribute_leaf};
 ghost use Rattle.redact.specs.Told.{attributes_of, restriction_of, ext_restriction_of};
-ghost use Rattle.redact.specs.Filled.{IsFilled, saying};
+ghost use Rattle.iodef_tree.specs.Filled.{IsFilled, IsMemberFilled};
+ghost use Rattle.redact.specs.Filled.{saying};
 ghost use Rattle.iodef_tree.specs.View.{forest_of_members};
 
 use iodef_tree::{Item, Member, Object, Text};
@@ -14,7 +16,7 @@ use std::alloc::{AllocError, Global};
 
 /// Where a member of this name goes.
 fn place_for(members: &[(Text, Member)], name: &str) -> usize
-    requires { All (λ m. IsFilled (bodies m.1)) members.now }
+    requires { AllByRecursion (λ m. IsMemberFilled m.1) members.now }
     ensures within { result ≤ length members.now }
     ensures splits { (text : List ℕ) → put_leaf (attribute_leaf (name.now, text)) (members_forest members.now)
         ≡ forest_of_members (map named (take result members.now) ++ (name.now, saying text) ∷ map named (drop result members.now)) }
@@ -33,9 +35,9 @@ fn with_attribute(
     name: &str,
     text: &str,
 ) -> Result<Object, AllocError>
-    requires { All (λ m. IsFilled (bodies m.1)) object.members.items }
+    requires { IsFilled object }
     ensures put { IfOk result (λ o. forest o ≡ put_leaf (attribute_leaf (name.now, text.now)) (forest object)) }
-    ensures filled { IfOk result (λ o. All (λ m. IsFilled (bodies m.1)) o.members.items) }
+    ensures filled { IfOk result (λ o. IsFilled o) }
 {
     let mut members = object.members;
     let at = place_for(&members, name);
@@ -74,9 +76,9 @@ fn ext_restriction<'a>(label: Label<'a>) -> Option<&'a str>
 
 /// The members with a label.
 pub fn labelled(alloc: Global, object: Object, label: Label<'_>) -> Result<Object, AllocError>
-    requires { All (λ m. IsFilled (bodies m.1)) object.members.items }
+    requires { IsFilled object }
     ensures put { IfOk result (λ o. forest o ≡ put_attributes (attributes_of (marking_of label.entry)) (forest object)) }
-    ensures filled { IfOk result (λ o. All (λ m. IsFilled (bodies m.1)) o.members.items) }
+    ensures filled { IfOk result (λ o. IsFilled o) }
 {
     let object = with_attribute(alloc, object, "restriction", restriction(label))?;
     match ext_restriction(label) {

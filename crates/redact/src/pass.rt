@@ -1,13 +1,14 @@
 //! One pass down a document, with what is inherited from above. A class that isn't visible is looked at when what is left
 //! below it is known.
 
-ghost use Rattle.std.specs.Prelude.{◌≡◌, ◌≤◌, ◌∷◌, ◌++◌, [], All, IfOk, IfSome, List, ℕ, length, take, map, option_map, is_none, ◌&&◌, ◌+◌, not, true, false, if◌then◌else◌, Some, None};
+ghost use Rattle.std.specs.Prelude.{◌≡◌, ◌≤◌, ◌∷◌, ◌++◌, [], IfOk, IfSome, List, ℕ, length, take, map, option_map, is_none, ◌&&◌, ◌+◌, not, true, false, if◌then◌else◌, Some, None};
 ghost use Rattle.iodef_tree.specs.View.{forest, bodies, body, named};
 ghost use Rattle.marking.specs.Members.{spelled_in};
 ghost use Rattle.redact.specs.Judged.{inside, is_end, with_label, keeps_plain as keeps, shows_label, cut as what_is_left, told, visible_classes};
 ghost use Rattle.redact.specs.Pass.{pass, judgment_by};
 ghost use Rattle.policy.specs.Inherited.{carried, hides};
-ghost use Rattle.redact.specs.Filled.{IsFilled};
+ghost use Rattle.std.specs.List.{AllByRecursion};
+ghost use Rattle.iodef_tree.specs.Filled.{IsFilled, IsMemberFilled, IsItemFilled};
 ghost use Rattle.redact.specs.Tokens.{token_of, path_of};
 ghost use Rattle.redact.specs.Left.{home_of, class_left, class_told, class_count, left_at, told_at, count_at, left_items, told_items, count_items, left_member, told_member, count_member, Goes};
 
@@ -74,7 +75,7 @@ impl<'a> Reader<'a> {
     ) -> Result<Object, AllocError>
         ensures left { IfOk result (λ o. forest o ≡ what_is_left (home_of home) 0
             (pass self.now.case.now self.now.standing.now (carried (path_of state.old.path.items) above.entry) (forest object.now))) }
-        ensures filled { IfOk result (λ o. All (λ m. IsFilled (bodies m.1)) o.members.items) }
+        ensures filled { IfOk result (λ o. IsFilled o) }
         ensures goes { IfOk result (λ o.
             let judged = pass self.now.case.now self.now.standing.now (carried (path_of state.old.path.items) above.entry) (forest object.now) in
             Goes state.old state.new (told (home_of home) (path_of state.old.place.items) 0 judged) [] (visible_classes judged) 0) }
@@ -99,6 +100,7 @@ impl<'a> Reader<'a> {
     ) -> Result<Option<Member>, AllocError>
         ensures left { IfOk result (λ r. option_map bodies r ≡ left_member self.now.case.now self.now.standing.now (home_of home)
             (carried (path_of state.old.path.items) above.entry) name.now (bodies member.now)) }
+        ensures filled { IfOk result (λ r. IfSome r (λ m. IsMemberFilled m)) }
         ensures goes { IfOk result (λ r. Goes state.old state.new
             (told_member self.now.case.now self.now.standing.now (home_of home) (carried (path_of state.old.path.items) above.entry) (path_of state.old.place.items) name.now (bodies member.now)) []
             (count_member self.now.case.now self.now.standing.now (carried (path_of state.old.path.items) above.entry) name.now (bodies member.now)) 0) }
@@ -145,6 +147,7 @@ impl<'a> Reader<'a> {
         requires { base ≤ length state.old.place.items }
         ensures left { IfOk result (λ v. map body v.items ≡ left_items self.now.case.now self.now.standing.now (home_of home)
             (carried (path_of state.old.path.items) array.entry) 0 (map body items.now.items)) }
+        ensures filled { IfOk result (λ v. AllByRecursion IsItemFilled v.items) }
         ensures goes { IfOk result (λ v. Goes state.old state.new
             (told_items self.now.case.now self.now.standing.now (home_of home) (carried (path_of state.old.path.items) array.entry)
             (path_of (take base state.old.place.items)) (path_of state.old.place.items) 0 0 (map body items.now.items)) []
@@ -183,6 +186,7 @@ impl<'a> Reader<'a> {
         requires { base ≤ length state.old.place.items }
         ensures left { IfOk result (λ r. option_map body r ≡ left_at self.now.case.now self.now.standing.now (home_of home)
             (carried (path_of state.old.path.items) door.entry) (token_of token.entry) (body item.now)) }
+        ensures filled { IfOk result (λ r. IfSome r (λ i. IsItemFilled i)) }
         ensures goes { IfOk result (λ r. Goes state.old state.new
             (told_at self.now.case.now self.now.standing.now (carried (path_of state.old.path.items) door.entry)
             (path_of (take base state.old.place.items)) (path_of (state.old.place.items ++ place.entry ∷ [])) (token_of token.entry) (body item.now)) []
@@ -232,6 +236,7 @@ impl<'a> Reader<'a> {
         ensures left { IfOk result (λ r. option_map forest r ≡ (
             let k = carried (path_of state.old.path.items) at.entry in
             class_left self.now.case.now self.now.standing.now (home_of home) (judgment_by self.now.case.now self.now.standing.now k (spelled_in (forest object.now))) (pass self.now.case.now self.now.standing.now k (forest object.now)))) }
+        ensures filled { IfOk result (λ r. IfSome r (λ o. IsFilled o)) }
         ensures goes { IfOk result (λ r.
             let k = carried (path_of state.old.path.items) at.entry in
             let judged = pass self.now.case.now self.now.standing.now k (forest object.now) in
@@ -261,6 +266,7 @@ impl<'a> Reader<'a> {
             let k = carried (path_of state.old.path.items) at.entry in
             with_label (home_of home) (judgment_by self.now.case.now self.now.standing.now k (spelled_in (forest object.now)))
             (what_is_left (inside true) 0 (pass self.now.case.now self.now.standing.now k (forest object.now))))) }
+        ensures filled { IfOk result (λ o. IsFilled o) }
         ensures goes { IfOk result (λ o.
             let k = carried (path_of state.old.path.items) at.entry in
             let judged = pass self.now.case.now self.now.standing.now k (forest object.now) in
@@ -289,6 +295,7 @@ impl<'a> Reader<'a> {
         ensures left { IfOk result (λ r. option_map forest r ≡ (
             let inner = what_is_left (inside false) 0 (pass self.now.case.now self.now.standing.now (carried (path_of state.old.path.items) at.entry) (forest object.now)) in
             if is_end inner then None else Some inner)) }
+        ensures filled { IfOk result (λ r. IfSome r (λ o. IsFilled o)) }
         ensures goes { IfOk result (λ r.
             let k = carried (path_of state.old.path.items) at.entry in
             let judged = pass self.now.case.now self.now.standing.now k (forest object.now) in

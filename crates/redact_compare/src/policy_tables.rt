@@ -10,17 +10,6 @@ pub struct Written<'a> {
     pub ext: Option<&'a str>,
 }
 
-/// CLEAR, GREEN, AMBER, STRICT and RED.
-fn rank(handling: Handling) -> u32 {
-    match handling {
-        Handling::Clear => 0,
-        Handling::Green => 1,
-        Handling::Amber => 2,
-        Handling::Strict => 3,
-        Handling::Red => 4,
-    }
-}
-
 fn rank_of_text(text: &str) -> u32 {
     let table = [
         ("tlp:clear", 0),
@@ -44,7 +33,7 @@ pub fn strictness(label: Written<'_>, arranged: Option<Handling>) -> u32 {
         "partner" | "green" => 1,
         "need-to-know" | "amber" => 3,
         "default" => match arranged {
-            Some(handling) => rank(handling),
+            Some(handling) => handling as u32,
             None => 4,
         },
         "ext-value" => match label.ext {
@@ -85,13 +74,13 @@ fn group_refusal(standing: &Standing, group: Option<u32>) -> Option<&'static str
     let Some(number) = group else {
         return Some("G4");
     };
-    if standing.active_groups.as_slice().contains(&number) {
-        return None;
+    if !standing.groups.as_slice().contains(&number) {
+        return Some("G4");
     }
-    if standing.groups.as_slice().contains(&number) {
+    if !standing.active_groups.as_slice().contains(&number) {
         return Some("G4X");
     }
-    Some("G4")
+    None
 }
 
 /// The rule by which the gate refuses the reader, if it does.
@@ -113,6 +102,9 @@ pub fn is_meant(standing: &Standing, grantee: Grantee) -> bool {
         Grantee::Person(number) => standing.who == number,
         Grantee::Org(number) => standing.org == number,
         Grantee::Community(number) => standing.communities.as_slice().contains(&number),
-        Grantee::Group(number) => standing.active_groups.as_slice().contains(&number),
+        Grantee::Group(number) => {
+            standing.groups.as_slice().contains(&number)
+                && standing.active_groups.as_slice().contains(&number)
+        }
     }
 }

@@ -1,6 +1,6 @@
 //! Commands of the directory: circle judges them.
 ghost use Rattle.std.specs.Prelude.{◌≡◌, IfErr, IfOk, None, OnOk, map};
-ghost use Rattle.circle.specs.Answers.{RefusedAs};
+ghost use Rattle.circle.specs.Outcomes.{RefusedAs};
 ghost use Rattle.circle.specs.Aftermath.{rows_of, state_after};
 ghost use Rattle.circle.specs.Facts.{facts_of};
 ghost use Rattle.circle.specs.Refusals.{refusal_of};
@@ -30,7 +30,7 @@ pub fn judge_command(
     let change = judge(alloc, actor, facts, command)?;
     match rows(alloc, change) {
         Ok(edits) => Ok(edits),
-        Err(_) => Err(Refusal::plain(alloc, Code::F2)),
+        Err(_) => Err(Refusal::bare(alloc, Code::F2)),
     }
 }
 

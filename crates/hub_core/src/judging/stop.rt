@@ -42,7 +42,7 @@ pub fn refuse_if(alloc: Global, holds: bool, code: Code) -> Result<(), Stop>
     ensures { Asks (refuse code holds ∷ []) result }
 {
     if holds {
-        return Err(Stop::Refused(Refusal::plain(alloc, code)));
+        return Err(Stop::Refused(Refusal::bare(alloc, code)));
     }
     Ok(())
 }
@@ -88,7 +88,7 @@ pub fn own<'a>(alloc: Global, actor: &Person, facts: &'a Facts) -> Result<&'a Kn
 {
     match &facts.incident {
         Some(known) if known.source == actor.org => Ok(known),
-        _ => Err(Stop::Refused(Refusal::plain(alloc, Code::N1))),
+        _ => Err(Stop::Refused(Refusal::bare(alloc, Code::N1))),
     }
 }
 

@@ -12,4 +12,4 @@ returns c =
     let n = c.args.name in
     let b = body c.args.item in
     subst (λ (a : Bool). Grows old n a b c.push.new.self.items) (sym c.if-in_array.false)
-    (subst (λ (ms : List (Text × Member)). Grows old n false b ms) (sym c.in_ok-push.ensures.items) (grows-one old n c.args.item c.requires.grown c.requires.numbered))
+    (subst (λ (ms : List (Text × Member)). Grows old n false b ms) (sym c.in_ok-push.ensures.items) (grows-one old n c.args.item c.requires.grown c.requires.numbered c.requires.filled))

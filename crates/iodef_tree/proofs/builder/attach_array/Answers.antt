@@ -12,4 +12,4 @@ returns c =
     let n = c.args.name in
     let i = c.args.item in
     subst (λ (ms : List (Text × Member)). Grows old n true (body i) ms) (sym c.in_ok-push-2.ensures.items)
-    (grows-array old n i c.push.new.self (c.in_ok-push.ensures.items ∙ ap (λ xs. xs ++ i ∷ []) c.new-items.ensures.items) c.requires.grown c.requires.numbered c.requires.first)
+    (grows-array old n i c.push.new.self (c.in_ok-push.ensures.items ∙ ap (λ xs. xs ++ i ∷ []) c.new-items.ensures.items) c.requires.grown c.requires.numbered c.requires.filled c.requires.first)

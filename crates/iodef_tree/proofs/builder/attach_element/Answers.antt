@@ -4,7 +4,7 @@ use Rattle.std.specs.Str.{bytes_eq}
 use Rattle.std.proofs.lemmas.Slice.Eq.{bytes_eq-Decides}
 use Rattle.iodef_tree.specs.Text.{Bytes}
 use Rattle.iodef_tree.specs.View.{body, members_forest}
-use Rattle.iodef_tree.specs.Built.{is_numbered, last_standing, IsGrown, Grows}
+use Rattle.iodef_tree.specs.Built.{is_numbered, last_place, IsGrown, Grows}
 use Rattle.iodef_tree.specs.declared.text.Text.{Text}
 use Rattle.iodef_tree.specs.declared.object.Member.{Member}
 use Rattle.iodef_tree.specs.declared.object.Member.TheVariants.{Many}
@@ -13,7 +13,7 @@ use Rattle.iodef_tree.proofs.builder.attach_element.Goals as goal
 
 pub attach_array-requires-in-One-clause-first : goal.attach_array-requires-in-One-clause-first
 attach_array-requires-in-One-clause-first c =
-    subst (λ (ms : List (Text × Member)). is_numbered (last_standing None (members_forest ms)) c.args.name (Some 0) ≡ true) (sym c.in_ok-push-in-One.ensures.items)
+    subst (λ (ms : List (Text × Member)). is_numbered (last_place None (members_forest ms)) c.args.name (Some 0) ≡ true) (sym c.in_ok-push-in-One.ensures.items)
     (first-behind_one c.pop.new.self.items c.in-Some.last c.in-One.one c.args.name)
 
 pub returns-then-eq : goal.returns-then-eq
@@ -29,7 +29,7 @@ returns-then-eq c =
     subst (λ (n : Bytes). Grows c.args.members.items n true b new) same
     (subst (λ (ms : List (Text × Member)). Grows ms last true b new) (sym was)
     (subst (λ (ms : List (Text × Member)). Grows (P ++ (last, Many items) ∷ []) last true b ms) (sym c.in_ok-push-in-Many-2.ensures.items)
-    (grows-element P last c.args.item items c.push-then-eq.new.self c.in_ok-push-in-Many.ensures.items grown c.requires.numbered)))
+    (grows-element P last c.args.item items c.push-then-eq.new.self c.in_ok-push-in-Many.ensures.items grown c.requires.numbered c.requires.filled)))
 
 pub attach_array-requires-in-Many-clause-first : goal.attach_array-requires-in-Many-clause-first
 attach_array-requires-in-Many-clause-first c =
@@ -40,5 +40,5 @@ attach_array-requires-in-Many-clause-first c =
     let grown : IsGrown (P ++ (last, Many items) ∷ []) = subst IsGrown was c.requires.grown in
     let differs : bytes_eq last c.args.name ≡ false =
     ap (λ (n : Bytes). bytes_eq n c.args.name) (sym c.as_str.ensures) ∙ ap (bytes_eq c.as_str.result.now) (sym c.as_str-in-Many.ensures) ∙ sym c.eq.ensures ∙ c.if-eq.false in
-    subst (λ (ms : List (Text × Member)). is_numbered (last_standing None (members_forest ms)) c.args.name (Some 0) ≡ true) (sym c.in_ok-push-in-Many-3.ensures.items)
+    subst (λ (ms : List (Text × Member)). is_numbered (last_place None (members_forest ms)) c.args.name (Some 0) ≡ true) (sym c.in_ok-push-in-Many-3.ensures.items)
     (first-behind_many P last items c.args.name grown differs)

@@ -7,7 +7,8 @@ use Rattle.iodef_tree.specs.Sound.{IsOrdered}
 use Rattle.iodef_tree.specs.Texts.{may_be_value, HasTexts}
 use Rattle.iodef_tree.specs.View.{body, named}
 use Rattle.std.proofs.Common.{None}
-use Rattle.iodef_tree.proofs.Given.{all_given, members_done, many_done}
+use Rattle.iodef_tree.proofs.Filled.{made-filled, many-filled}
+use Rattle.iodef_tree.proofs.Given.{all_given, members_done, many_done, some_given}
 use Rattle.iodef_tree.proofs.Ordered.{Ascend, ascend_given, ordered_members}
 use Rattle.iodef_tree.proofs.ValueTexts.{texts-members, inner-value, written-text}
 use Rattle.iodef_tree.proofs.Views.{body-Value, bodies-Many, forest-made}
@@ -36,3 +37,13 @@ item_from-returns-in_ok-written-in-Array-clause-texts t c =
     let plain = inner-value (items_view v.items) (subst (λ d. is_element_flat d ≡ true) (ap view c.in-Array.is ∙ view-Array v) c.requires.flat) in
     subst (HasBodyTexts true) (sym (body-Value made))
     (written-text true (Array v) made (subst (λ d. may_be_value true d ≡ true) (sym (view-Array v)) plain) c.in_ok-written-in-Array.ensures.text c.in_ok-written-in-Array.ensures.reads_back)
+
+pub object_from-returns-clause-filled : goal.object_from-returns-clause-filled
+object_from-returns-clause-filled t c = made-filled c.loop-name.made c.loop-name.invariant.filled
+
+pub array_from-returns-in_ok-items_from-clause-filled : goal.array_from-returns-in_ok-items_from-clause-filled
+array_from-returns-in_ok-items_from-clause-filled t c =
+    let made = c.in_ok-items_from.field-0 in
+    many-filled made
+    (some_given c.args.items.items made.items c.in_ok-items_from.ensures.made (subst (λ xs. (length xs == 0) ≡ false) c.as_slice.ensures.value (sym c.is_empty.ensures ∙ c.if-is_empty.false)))
+    c.in_ok-items_from.ensures.filled

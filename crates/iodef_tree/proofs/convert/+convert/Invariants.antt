@@ -3,6 +3,7 @@ use Rattle.std.specs.List.{AllByRecursion}
 use Rattle.std.specs.Vec.Iter.{into_iter_items}
 use Rattle.serde_json.specs.View.{items_view, members_view}
 use Rattle.serde_json.specs.Written.{items_have_float, members_have_float}
+use Rattle.iodef_tree.specs.Filled.{IsItemFilled, IsMemberFilled}
 use Rattle.iodef_tree.specs.Fit.{IsBodyOrdered, AreBodiesOrdered, HasBodyTexts, HaveTexts, are_flat, are_members_flat}
 use Rattle.iodef_tree.specs.Values.{items_of_data}
 use Rattle.iodef_tree.specs.View.{body, named}
@@ -14,6 +15,7 @@ invariant-items_from-loop-item l = record {
   made : map body l.made.items ++ items_of_data (items_view (into_iter_items l.item-iterator)) ≡ items_of_data (items_view l.fn.items.items);
   ordered : AllByRecursion IsBodyOrdered (map body l.made.items);
   texts : AllByRecursion (HasBodyTexts true) (map body l.made.items);
+  filled : AllByRecursion IsItemFilled l.made.items;
   whole : items_have_float (items_view (into_iter_items l.item-iterator)) ≡ false;
   flat : are_flat (items_view (into_iter_items l.item-iterator)) ≡ true;
 }
@@ -23,6 +25,7 @@ invariant-object_from-loop-name l = record {
   made : map named l.made.items ++ given_members l.name-iterator ≡ given_members l.fn.members.entries;
   ordered : AllByRecursion (λ m. AreBodiesOrdered m.1) (map named l.made.items);
   texts : AllByRecursion (λ m. HaveTexts m.1) (map named l.made.items);
+  filled : AllByRecursion (λ m. IsMemberFilled m.1) l.made.items;
   whole : members_have_float (members_view l.name-iterator) ≡ false;
   flat : are_members_flat (members_view l.name-iterator) ≡ true;
 }

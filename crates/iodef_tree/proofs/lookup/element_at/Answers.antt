@@ -20,14 +20,14 @@ got items k None h is =
     sym (slice_get_past (map body items) k (omega (arith, length-map items body)))
 got items k (Some x) h is = let lt : k < length items = grind (arith, nat_tests) in ap (λ y. Some (body y)) is ∙ sym (within items k x.now lt)
 
-pub returns-in_err-place_of_token : goal.returns-in_err-place_of_token
-returns-in_err-place_of_token c =
+pub returns-in_err-place_of_token-clause-found : goal.returns-in_err-place_of_token-clause-found
+returns-in_err-place_of_token-clause-found c =
     let none = c.in_err-place_of_token.ensures.none in
     ap (option_map (λ i. body i.now)) c.from_residual.ensures
     ∙ sym (element-none (map body c.args.items.now) c.args.token.now 0 (omega (arith, length-map c.args.items.now body)) none)
 
-pub returns : goal.returns
-returns c =
+pub returns-clause-found : goal.returns-clause-found
+returns-clause-found c =
     let k = c.in_ok-place_of_token.field-0 in
     let own = rw c.in_ok-place_of_token.was at c.place_of_token.type_inv in
     got c.args.items.now k c.get.result c.get.ensures.lookup.0 c.get.ensures.lookup.1

@@ -1,5 +1,6 @@
 use Rattle.std.proofs.Common.{◌≡◌, true, sym, ◌∙◌, ap}
 use Rattle.std.specs.Str.{bytes_eq}
+use Rattle.iodef_tree.proofs.Filled.{member-at}
 use Rattle.iodef_tree.proofs.Members.{found-here, not-here, other-here}
 use Rattle.iodef_tree.proofs.lookup.item_at.Goals.{then-eq+else-is_some, else-eq}
 use Rattle.iodef_tree.proofs.lookup.item_at.Goals as goal
@@ -24,3 +25,7 @@ loop-own-preserved c = elim c.if-eq.branch [
       c.loop-own-test.true c.loop-own-item.is (ap (λ x. bytes_eq x c.args.name.now) (sym c.as_str.ensures) ∙ sym c.eq.ensures ∙ w.if-eq.false)
       ∙ c.loop-own.invariant
 ]
+
+pub part_of-part-requires : goal.part_of-part-requires
+part_of-part-requires c =
+    member-at c.args.object.now c.deref-own-items.result.now c.loop-own.own-index c.loop-own-item.result c.requires c.deref-own-items.ensures.value c.loop-own-test.true c.loop-own-item.is

@@ -1,10 +1,14 @@
 use Rattle.std.proofs.Common.{◌≡◌, length}
+use Rattle.iodef_tree.specs.Filled.{IsFilled}
 use Rattle.iodef_tree.specs.Lookup.{object_at}
 use Rattle.iodef_tree.specs.View.{forest}
 use Rattle.iodef_tree.proofs.lookup.object_at.Given as goal
 
 abbrev pub invariant-loop-name : goal.invariant-loop-name
-invariant-loop-name l = object_at (forest l.object) l.left ≡ object_at (forest l.root) l.path
+invariant-loop-name l = record {
+  at : object_at (forest l.object) l.left ≡ object_at (forest l.root) l.path;
+  filled : IsFilled l.object;
+}
 
 abbrev pub decreases-loop-name : goal.decreases-loop-name
 decreases-loop-name l = length l.left

@@ -21,8 +21,8 @@ returns-then-is_none c =
     let more = room_lacks c.room_left.result c.is_none.result (line_count (forest c.in_ok-root.root)) LINE_LIMIT c.room_left.ensures.none c.is_none.ensures c.if-is_none.true in
     too_long (document_of (view c.args.incident) (members_view c.args.root.entries)) (subst (λ f. LINE_LIMIT < line_count f) (c.in_ok-root.ensures.made ∙ ap forest_of_data all) more)
 
-pub new-requires : goal.new-requires
-new-requires c =
+pub new-requires-clause-sound : goal.new-requires-clause-sound
+new-requires-clause-sound c =
     let all = put_in c.args.root.entries c.insert.new.self.entries c.in_ok-name.name c.push.new.self c.args.incident c.in_ok-insert.ensures.entries c.in_ok-name.ensures.ok (rw (c.in_ok-push.ensures.items, c.in_ok-incidents.ensures.items)) in
     let kept = room_kept c.room_left.result c.is_none.result (line_count (forest c.in_ok-root.root)) LINE_LIMIT c.room_left.ensures.some c.is_none.ensures c.if-is_none.false in
     sound (forest c.in_ok-root.root) c.in_ok-root.ensures.ordered (subst (λ f. height f ≤ DEPTH_LIMIT) (sym (c.in_ok-root.ensures.made ∙ ap forest_of_data all)) c.requires.shallow) kept c.in_ok-root.ensures.texts

@@ -1,29 +1,43 @@
-use Rattle.std.proofs.Common.{◌≡◌, true, ◌∙◌, sym, rules}
-use Rattle.std.proofs.lemmas.Bool.{not-false}
-use Rattle.iodef_tree.specs.Built.{is_filled}
+use Rattle.std.proofs.Common.{◌∙◌, ap, subst, rules}
 use Rattle.iodef_tree.specs.Fit.{AreBodiesOrdered}
+use Rattle.iodef_tree.specs.Filled.{IsMemberFilled}
 use Rattle.iodef_tree.specs.View.{forest, bodies}
 use Rattle.iodef_tree.specs.Written.{members_of}
 use Rattle.iodef_tree.specs.declared.object.Object.{the_lemmas}
 use Rattle.iodef_tree.proofs.Data.{put-started, object-ordered, put-member, all-left}
+use Rattle.iodef_tree.proofs.Filled.{many-kept, member-at, member-elements}
+use Rattle.iodef_tree.proofs.Views.{bodies-Many}
 use Rattle.iodef_tree.proofs.value.+value.Goals as goal
 
 pub object_value-loop-name-init : goal.object_value-loop-name-init
 object_value-loop-name-init t c = record {
-  left = put-started c.args.object.now c.deref-name-items.result.now c.new-made.result.entries c.requires c.deref-name-items.ensures.value c.new-made.ensures.empty;
-  ordered = object-ordered c.args.object.now c.deref-name-items.result.now c.requires c.deref-name-items.ensures.value;
+  left = put-started c.args.object.now c.deref-name-items.result.now c.new-made.result.entries c.requires.ordered c.deref-name-items.ensures.value c.new-made.ensures.empty;
+  ordered = object-ordered c.args.object.now c.deref-name-items.result.now c.requires.ordered c.deref-name-items.ensures.value;
 }
 
 pub object_value-member_value-requires : goal.object_value-member_value-requires
 object_value-member_value-requires t c = (
   search (rules, the_lemmas),
-  (all-left (λ x. AreBodiesOrdered x.1) c.deref-name-items.result.now c.loop-name.name-index c.loop-name-item.result c.loop-name-test.true c.loop-name-item.is c.loop-name.invariant.ordered).0,
+  (
+    (all-left (λ x. AreBodiesOrdered x.1) c.deref-name-items.result.now c.loop-name.name-index c.loop-name-item.result c.loop-name-test.true c.loop-name-item.is c.loop-name.invariant.ordered).0,
+    member-at c.args.object.now c.deref-name-items.result.now c.loop-name.name-index c.loop-name-item.result c.requires.filled c.deref-name-items.ensures.value c.loop-name-test.true c.loop-name-item.is,
+  ),
 )
+
+pub member_value-items_value-requires : goal.member_value-items_value-requires
+member_value-items_value-requires t c =
+    let v = c.in-Many.items in (
+      search (rules, the_lemmas),
+      (
+        subst AreBodiesOrdered (ap bodies c.in-Many.is ∙ bodies-Many v) c.requires.ordered,
+        (many-kept v (subst IsMemberFilled c.in-Many.is c.requires.filled)).1,
+      ),
+    )
 
 pub object_value-loop-name-preserved : goal.object_value-loop-name-preserved
 object_value-loop-name-preserved t c =
     let m = c.loop-name-item.result in
-    let filled : is_filled (bodies m.1) ≡ true = not-false (is_filled (bodies m.1)) (sym c.is_empty.ensures ∙ c.if-is_empty.false) in
+    let filled = member-elements m.1 (member-at c.args.object.now c.deref-name-items.result.now c.loop-name.name-index m c.requires.filled c.deref-name-items.ensures.value c.loop-name-test.true c.loop-name-item.is) in
     record {
       left = put-member c.loop-name.made.entries c.insert.new.self.entries c.in_ok-name.name c.in_ok-value.value (members_of (forest c.args.object.now)) c.deref-name-items.result.now c.loop-name.name-index m
           c.loop-name-test.true c.loop-name-item.is filled (c.in_ok-name.ensures.ok ∙ c.as_str.ensures) c.in_ok-value.ensures c.in_ok-insert.ensures.entries c.loop-name.invariant.left;

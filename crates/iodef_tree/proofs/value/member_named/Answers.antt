@@ -1,14 +1,11 @@
 use Rattle.std.proofs.Common.{◌≡◌, true, sym, ◌∙◌, ap}
 use Rattle.std.specs.Str.{bytes_eq}
-use Rattle.std.proofs.lemmas.Bool.{not-false, not-true}
 use Rattle.serde_json.specs.Find.{get_member}
-use Rattle.iodef_tree.specs.Built.{is_filled}
 use Rattle.iodef_tree.specs.Kept.{AreKept}
-use Rattle.iodef_tree.specs.View.{bodies}
 use Rattle.iodef_tree.specs.Written.{members_of}
 use Rattle.iodef_tree.proofs.Data.{all-left}
-use Rattle.iodef_tree.proofs.Found.{object-members, kept-members, member-found, member-other, member-empty-here}
-use Rattle.iodef_tree.proofs.value.member_named.Goals.{else-eq-via-then-eq+else-not-is_empty, else-eq-via-else-eq}
+use Rattle.iodef_tree.proofs.Filled.{member-at, member-elements}
+use Rattle.iodef_tree.proofs.Found.{object-members, kept-members, member-found, member-other}
 use Rattle.iodef_tree.proofs.value.member_named.Goals as goal
 
 pub loop-own-init : goal.loop-own-init
@@ -17,31 +14,36 @@ loop-own-init c =
     let xs = c.deref-own-items.result.now in
     record {
       left = ap (λ f. get_member c.args.name.now (members_of f)) (object-members o xs c.deref-own-items.ensures.value);
-      kept = kept-members o xs c.requires c.deref-own-items.ensures.value;
+      kept = kept-members o xs c.requires.kept c.deref-own-items.ensures.value;
     }
 
-pub returns-then-not-is_empty-clause-found : goal.returns-then-not-is_empty-clause-found
-returns-then-not-is_empty-clause-found c =
+pub returns-then-eq-clause-found : goal.returns-then-eq-clause-found
+returns-then-eq-clause-found c =
     let m = c.loop-own-item.result in
-    let filled : is_filled (bodies m.1) ≡ true = not-false (is_filled (bodies m.1)) (sym c.is_empty.ensures ∙ c.if-not-is_empty.true) in
+    let xs = c.deref-own-items.result.now in
+    let i = c.loop-own.own-index in
+    let filled = member-elements m.1 (member-at c.args.object.now xs i m c.requires.filled c.deref-own-items.ensures.value c.loop-own-test.true c.loop-own-item.is) in
     let named : bytes_eq m.0 c.args.name.now ≡ true = ap (λ x. bytes_eq x c.args.name.now) (sym c.as_str.ensures) ∙ sym c.eq.ensures ∙ c.if-eq.true in
-    member-found c.args.name.now c.deref-own-items.result.now c.loop-own.own-index m c.loop-own-test.true c.loop-own-item.is named filled ∙ c.loop-own.invariant.left
+    member-found c.args.name.now xs i m c.loop-own-test.true c.loop-own-item.is named filled ∙ c.loop-own.invariant.left
 
-pub returns-then-not-is_empty-clause-kept : goal.returns-then-not-is_empty-clause-kept
-returns-then-not-is_empty-clause-kept c =
+pub returns-then-eq-clause-kept : goal.returns-then-eq-clause-kept
+returns-then-eq-clause-kept c =
     (all-left (λ x. AreKept x.1) c.deref-own-items.result.now c.loop-own.own-index c.loop-own-item.result c.loop-own-test.true c.loop-own-item.is c.loop-own.invariant.kept).0
+
+pub returns-then-eq-clause-filled : goal.returns-then-eq-clause-filled
+returns-then-eq-clause-filled c =
+    member-at c.args.object.now c.deref-own-items.result.now c.loop-own.own-index c.loop-own-item.result c.requires.filled c.deref-own-items.ensures.value c.loop-own-test.true c.loop-own-item.is
 
 pub loop-own-preserved : goal.loop-own-preserved
 loop-own-preserved c =
     let k = c.args.name.now in
     let xs = c.deref-own-items.result.now in
+    let i = c.loop-own.own-index in
     let m = c.loop-own-item.result in
+    let filled = member-elements m.1 (member-at c.args.object.now xs i m c.requires.filled c.deref-own-items.ensures.value c.loop-own-test.true c.loop-own-item.is) in
     record {
-      left = elim c.else-eq.branch [
-        | else-eq-via-then-eq+else-not-is_empty w ↦
-            member-empty-here k xs c.loop-own.own-index m c.loop-own-test.true c.loop-own-item.is (not-true (is_filled (bodies m.1)) (sym w.is_empty.ensures ∙ w.if-not-is_empty.false)) ∙ c.loop-own.invariant.left
-        | else-eq-via-else-eq w ↦
-            member-other k xs c.loop-own.own-index m c.loop-own-test.true c.loop-own-item.is (ap (λ x. bytes_eq x k) (sym c.as_str.ensures) ∙ sym c.eq.ensures ∙ w.if-eq.false) ∙ c.loop-own.invariant.left
-      ];
-      kept = (all-left (λ x. AreKept x.1) xs c.loop-own.own-index m c.loop-own-test.true c.loop-own-item.is c.loop-own.invariant.kept).1;
+      left =
+          member-other k xs i m c.loop-own-test.true c.loop-own-item.is (ap (λ x. bytes_eq x k) (sym c.as_str.ensures) ∙ sym c.eq.ensures ∙ c.if-eq.false) filled
+          ∙ c.loop-own.invariant.left;
+      kept = (all-left (λ x. AreKept x.1) xs i m c.loop-own-test.true c.loop-own-item.is c.loop-own.invariant.kept).1;
     }

@@ -8,8 +8,8 @@ use Rattle.iodef_tree.proofs.Spines.{if_ok}
 use Rattle.iodef_tree.proofs.Whole.{kept-whole}
 use Rattle.iodef_tree.proofs.value.member_text.Goals as goal
 
-pub member_value-requires : goal.member_value-requires
-member_value-requires c = kept-ordered (bodies c.args.member.now) c.requires
+pub member_value-requires-clause-ordered : goal.member_value-requires-clause-ordered
+member_value-requires-clause-ordered c = kept-ordered (bodies c.args.member.now) c.requires.kept
 
 pub returns : goal.returns
 returns c =
@@ -17,4 +17,4 @@ returns c =
     let v = c.in_ok-member_value.field-0 in
     let is : view v ≡ bodies_data m = c.in_ok-member_value.ensures in
     if_ok c.to_string.result (λ s. has_float (view v) ≡ false → string_bytes s ≡ compact_text (view v)) (λ s. string_bytes s ≡ compact_text (bodies_data m))
-    (λ s h. h (ap has_float is ∙ kept-whole m c.requires) ∙ ap compact_text is) c.to_string.ensures.text
+    (λ s h. h (ap has_float is ∙ kept-whole m c.requires.kept) ∙ ap compact_text is) c.to_string.ensures.text

@@ -1,12 +1,25 @@
-use Rattle.std.proofs.Common.{string_bytes, ◌++◌, false, sym, ◌∙◌}
-use Rattle.iodef_tree.specs.View.{forest, bodies}
-use Rattle.iodef_tree.specs.Built.{is_filled}
+use Rattle.std.proofs.Common.{string_bytes, ◌++◌, false, subst, rules}
+use Rattle.iodef_tree.specs.Filled.{IsMemberFilled}
+use Rattle.iodef_tree.specs.View.{forest}
 use Rattle.iodef_tree.specs.Written.{written}
-use Rattle.iodef_tree.proofs.Writing.{write-member, not-false}
+use Rattle.iodef_tree.specs.declared.object.Object.{the_lemmas}
+use Rattle.iodef_tree.proofs.Filled.{many-kept, member-at, member-elements}
+use Rattle.iodef_tree.proofs.Writing.{write-member}
 use Rattle.iodef_tree.proofs.writer.+write.Goals as goal
 
 pub write_members-loop-name-preserved : goal.write_members-loop-name-preserved
 write_members-loop-name-preserved t c =
     let m = c.loop-name-item.result in
     write-member (string_bytes c.loop-name.out) (string_bytes c.in_ok-out.out) (string_bytes c.args.out ++ written false (forest c.args.object.now)) c.loop-name.later c.deref-name-items.result.now c.loop-name.name-index m
-    c.loop-name-test.true c.loop-name-item.is (not-false (is_filled (bodies m.1)) (sym c.is_empty.ensures ∙ c.if-is_empty.false)) c.in_ok-out.ensures c.loop-name.invariant
+    c.loop-name-test.true c.loop-name-item.is
+    (member-elements m.1 (member-at c.args.object.now c.deref-name-items.result.now c.loop-name.name-index m c.requires c.deref-name-items.ensures.value c.loop-name-test.true c.loop-name-item.is))
+    c.in_ok-out.ensures c.loop-name.invariant
+
+pub write_bodies-write_items-requires : goal.write_bodies-write_items-requires
+write_bodies-write_items-requires t c = (search (rules, the_lemmas), (many-kept c.in-Many.items (subst IsMemberFilled c.in-Many.is c.requires)).1)
+
+pub write_members-write_member-requires : goal.write_members-write_member-requires
+write_members-write_member-requires t c = (
+  search (rules, the_lemmas),
+  member-at c.args.object.now c.deref-name-items.result.now c.loop-name.name-index c.loop-name-item.result c.requires c.deref-name-items.ensures.value c.loop-name-test.true c.loop-name-item.is,
+)

@@ -2,6 +2,8 @@ use Rattle.std.proofs.Common.{length, sym, ◌∙◌, ap, arith}
 use Rattle.std.proofs.lemmas.List.{get_or_read}
 use Rattle.iodef_tree.specs.Text.{Bytes, bytes_lt}
 use Rattle.iodef_tree.specs.declared.object.Member.{Member}
+use Rattle.iodef_tree.specs.Filled.{IsMemberFilled}
+use Rattle.iodef_tree.proofs.Filled.{all-at, member-elements}
 use Rattle.redact.proofs.Filling.{put_split}
 use Rattle.redact.proofs.attributes.place_for.Goals as goal
 
@@ -12,7 +14,7 @@ returns-then-lt-clause-splits c = λ text.
     put_split name text ms c.loop-i.i (omega arith) c.loop-i.invariant (λ d h. (
       ap (λ (m : Bytes × Member). bytes_lt name m.0) (sym (get_or_read ms c.loop-i.i c.index-members-i.result h c.index-members-i.is d))
           ∙ ap (bytes_lt name) (sym c.as_str.ensures) ∙ sym c.if-lt.ensures,
-      c.requires c.loop-i.i d h,
+      member-elements _ (all-at (λ (m : Bytes × Member). IsMemberFilled m.1) ms c.loop-i.i d h c.requires),
     ))
 
 pub returns-clause-splits : goal.returns-clause-splits

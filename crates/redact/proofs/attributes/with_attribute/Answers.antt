@@ -1,10 +1,14 @@
-use Rattle.std.proofs.Common.{◌≡◌, ◌∷◌, ◌++◌, map, take, drop, sym, ◌∙◌, ap}
+use Rattle.std.specs.List.{AllByRecursion}
+use Rattle.std.proofs.Common.{List, subst, ◌≡◌, ◌∷◌, ◌++◌, map, take, drop, sym, ◌∙◌, ap}
 use Rattle.std.proofs.lemmas.List.{map-append}
 use Rattle.iodef_tree.specs.Text.{Bytes}
 use Rattle.iodef_tree.specs.Tree.{Bodies, one}
 use Rattle.iodef_tree.specs.View.{bodies, named, members_forest, forest_of_members}
 use Rattle.iodef_tree.specs.declared.object.Item.{Text}
 use Rattle.iodef_tree.specs.declared.object.Member.{Member, One}
+use Rattle.iodef_tree.specs.Filled.{IsMemberFilled}
+use Rattle.iodef_tree.proofs.Filled.{made-filled, members-filled, filled-One, filled-Text}
+use Rattle.redact.proofs.Filling.{inserted-filled}
 use Rattle.iodef_tree.proofs.Views.{forest-members, forest-made, bodies-One, body-Text}
 use Rattle.redact.specs.Judged.{put_leaf, attribute_leaf}
 use Rattle.redact.specs.Filled.{saying}
@@ -29,3 +33,14 @@ returns-clause-put c =
     ∙ sym (c.place_for-at.ensures.splits text)
     ∙ ap (λ zs. put_leaf x (members_forest zs)) c.deref.ensures.value
     ∙ ap (put_leaf x) (sym (forest-members c.args.object))
+
+pub place_for-at-requires : goal.place_for-at-requires
+place_for-at-requires c = subst (λ (ms : List (Bytes × Member)). AllByRecursion (λ m. IsMemberFilled m.1) ms) (sym c.deref.ensures.value) (members-filled c.args.object c.requires)
+
+pub returns-clause-filled : goal.returns-clause-filled
+returns-clause-filled c =
+    let value = c.new.result in
+    let e : Bytes × Member = (c.new-2.result, One (Text value)) in
+    made-filled c.insert.new.self
+    (subst (λ (ms : List (Bytes × Member)). AllByRecursion (λ m. IsMemberFilled m.1) ms) (sym c.in_ok-insert.ensures.items)
+    (inserted-filled c.args.object.members.items c.place_for-at.result e (members-filled c.args.object c.requires) (filled-One (Text value) ∙ filled-Text value)))

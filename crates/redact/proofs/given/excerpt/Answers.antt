@@ -26,8 +26,8 @@ returns-then-state-eq0 c =
     let n = ended-count f C S c.root.ensures.sound ok J J_is c.cut.new.state.classes c.in_ok-kept.ensures.goes.classes in
     ap (λ ls. visible_count ls C S) (sym c.root.ensures.lines) ∙ sym n ∙ c.if-state-eq0.true
 
-pub new-document-requires : goal.new-document-requires
-new-document-requires c =
+pub new-document-requires-clause-sound : goal.new-document-requires-clause-sound
+new-document-requires-clause-sound c =
     let C = c.args.case.now in
     let S = c.args.standing.now in
     let f = forest c.root.result.now in

@@ -1,9 +1,10 @@
-use Rattle.std.proofs.Common.{◌-◌, suc, [], length, refl, sym, subst}
+use Rattle.std.proofs.Common.{◌-◌, suc, [], length, refl, sym, ◌∙◌, subst}
 use Rattle.iodef_tree.specs.Built.{IsNumbered, IsBodyNumbered, Extends}
 use Rattle.iodef_tree.specs.Tree.{lines, in_front, end, place_of}
 use Rattle.iodef_tree.specs.View.{body}
 use Rattle.iodef_tree.specs.declared.object.Item.TheVariants.{Class}
 use Rattle.iodef_tree.specs.declared.builder.Spine.{Spine}
+use Rattle.iodef_tree.proofs.Filled.{object-filled, filled-Class}
 use Rattle.iodef_tree.proofs.Views.{forest-members, body-Class}
 use Rattle.iodef_tree.proofs.Spines.{if_ok, innermost-grown, closed}
 use Rattle.iodef_tree.proofs.builder.Spine.close.Goals as goal
@@ -13,6 +14,11 @@ put-requires-clause-numbered c =
     let x = c.in-Some.class in
     subst IsBodyNumbered (sym (body-Class x.object))
     (subst IsNumbered (sym (forest-members x.object)) (innermost-grown c.args.self c.pop.new.self.items x c.in-Some.ensures.items c.requires).numbered)
+
+pub put-requires-clause-filled : goal.put-requires-clause-filled
+put-requires-clause-filled c =
+    let x = c.in-Some.class in
+    filled-Class x.object ∙ object-filled x.object (innermost-grown c.args.self c.pop.new.self.items x c.in-Some.ensures.items c.requires).filled
 
 pub returns-in-Some : goal.returns-in-Some
 returns-in-Some c =

@@ -26,8 +26,8 @@ block_of root p (Some o) sound is = block root p (forest o.now) sound (sym is)
 
 pub returns-clause-found : goal.returns-clause-found
 returns-clause-found c =
-    rw (← c.tokens.ensures, ← c.self.view_is) (found_by (forest c.self.inside.root) c.tokens.result.now c.object_at.result c.self.invariant c.object_at.ensures)
+    rw (← c.tokens.ensures, ← c.self.view_is) (found_by (forest c.self.inside.root) c.tokens.result.now c.object_at.result c.self.invariant.0 c.object_at.ensures.found)
 
 pub returns-clause-block : goal.returns-clause-block
 returns-clause-block c =
-    rw (← c.tokens.ensures, ← c.self.view_is) (block_of (forest c.self.inside.root) c.tokens.result.now c.object_at.result c.self.invariant c.object_at.ensures)
+    rw (← c.tokens.ensures, ← c.self.view_is) (block_of (forest c.self.inside.root) c.tokens.result.now c.object_at.result c.self.invariant.0 c.object_at.ensures.found)

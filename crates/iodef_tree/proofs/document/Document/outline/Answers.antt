@@ -9,4 +9,4 @@ use Rattle.iodef_tree.proofs.document.Document.outline.Goals as goal
 pub returns-clause-outline : goal.returns-clause-outline
 returns-clause-outline c =
     let f = forest c.self.inside.root in
-    if_ok c.outline_of.result (λ v. v.items ≡ lines 1 f) (λ v. is_outline v.items ≡ true) (λ v e. ap is_outline e ∙ lines-outline f c.self.invariant) c.outline_of.ensures
+    if_ok c.outline_of.result (λ v. v.items ≡ lines 1 f) (λ v. is_outline v.items ≡ true) (λ v e. ap is_outline e ∙ lines-outline f c.self.invariant.0) c.outline_of.ensures

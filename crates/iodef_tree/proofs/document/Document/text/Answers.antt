@@ -12,5 +12,5 @@ pub returns : goal.returns
 returns c =
     let f = forest c.self.inside.root in
     if_ok c.object_text.result (λ s. string_bytes s ≡ 123 ∷ (written false f ++ 125 ∷ [])) (λ s. string_bytes s ≡ compact_text (object (data_of c.args.self.now)))
-    (λ s e. e ∙ text-is f c.self.invariant ∙ ap (λ ls. compact_text (object (data_of ls))) c.self.view_is)
+    (λ s e. e ∙ text-is f c.self.invariant.0 ∙ ap (λ ls. compact_text (object (data_of ls))) c.self.view_is)
     c.object_text.ensures

@@ -9,4 +9,4 @@ use Rattle.iodef_tree.proofs.document.Document.value.Goals as goal
 pub returns : goal.returns
 returns c =
     view-Object c.in_ok-object_value.field-0
-    ∙ ap object (c.in_ok-object_value.ensures ∙ sym (data-is (forest c.self.inside.root) c.self.invariant) ∙ ap data_of c.self.view_is)
+    ∙ ap object (c.in_ok-object_value.ensures ∙ sym (data-is (forest c.self.inside.root) c.self.invariant.0) ∙ ap data_of c.self.view_is)

@@ -1,9 +1,14 @@
-use Rattle.std.proofs.Common.{List, ◌≡◌, ℕ, suc, ◌+◌, ◌<◌, [], ◌∷◌, ◌++◌, map, length, get_or, drop, take, length-append, refl, sym, ◌∙◌, ap, subst, arith, add-one, decimal, true, false, if◌then◌else◌}
-use Rattle.std.specs.Prelude.{Some, None, option_map, is_some}
+use Rattle.std.proofs.Common.{Vec, Global, List, ◌≡◌, ℕ, suc, ◌+◌, ◌<◌, [], ◌∷◌, ◌++◌, map, length, get_or, drop, take, length-append, refl, sym, ◌∙◌, ap, subst, arith, add-one, decimal, true, false, if◌then◌else◌}
+use Rattle.std.specs.Prelude.{Option, Some, None, option_map, is_some, IfSome}
 use Rattle.std.proofs.lemmas.List.{drop_all, append-nil, map-append, at_drop_more}
 use Rattle.std.proofs.lemmas.Bool.{eqb-false, eqb-true, cond-false, cond-true}
 use Rattle.iodef_tree.specs.Text.{Tokens}
 use Rattle.iodef_tree.specs.View.{forest, body, named, members_forest, forest_of_members}
+use Rattle.std.specs.List.{AllByRecursion}
+use Rattle.iodef_tree.specs.Filled.{has_some, IsItemFilled}
+use Rattle.iodef_tree.specs.declared.object.Item.{Item}
+use Rattle.iodef_tree.proofs.Filled.{made-filled, many-filled, members-filled}
+use Rattle.iodef_tree.proofs.Siblings.{all-append}
 use Rattle.iodef_tree.proofs.Views.{forest-members, forest-made}
 use Rattle.policy.specs.Inherited.{carried, hides}
 use Rattle.policy.specs.declared.rule.Rule.{Rule}
@@ -56,13 +61,25 @@ cut-returns-clause-goes t c =
     (subst (λ n. Goes c.args.state.now c.loop-name.state (told H Q 0 (pass C S A (members_forest D))) [] n 0) (members-count C S H A (map named D))
     (subst (λ ts. Goes c.args.state.now c.loop-name.state ts [] (count_members C S A (map named D)) 0) (members-told C S H A Q (map named D)) over))
 
+pub cut-returns-clause-filled : goal.cut-returns-clause-filled
+cut-returns-clause-filled t c = made-filled c.loop-name.members c.loop-name.invariant.filled
+
+some-kept : (xs : List Item) → (length xs ≡ 0 → ⊥) → has_some xs ≡ true
+some-kept [] h = absurd (h refl)
+some-kept (x ∷ xs) h = refl
+
+pub cut_member-returns-else-is_empty-clause-filled : goal.cut_member-returns-else-is_empty-clause-filled
+cut_member-returns-else-is_empty-clause-filled t c =
+    let v = c.in_ok-kept-in-Many.kept in
+    many-filled v (some-kept v.items (λ e. eqb-false _ 0 (sym c.if-is_empty.ensures) (v.ok.0 ∙ e))) c.in_ok-kept-in-Many.ensures.filled
+
 pub cut_hidden-returns-else-is_empty-clause-left : goal.cut_hidden-returns-else-is_empty-clause-left
 cut_hidden-returns-else-is_empty-clause-left t c =
     let o = c.in_ok-kept.kept in
     let I = cut (inside false) 0 (pass c.args.self.now.case.now c.args.self.now.standing.now (carried (path_of c.args.state.now.path.items) c.args.at) (forest c.args.object.now)) in
     let some : is_end I ≡ false =
     ap is_end (sym c.in_ok-kept.ensures.left ∙ forest-members o)
-    ∙ filled-end o.members.items c.in_ok-kept.ensures.filled (λ e. eqb-false _ 0 (sym c.if-is_empty.ensures) (o.members.ok.0 ∙ e)) in
+    ∙ filled-end o.members.items (members-filled o c.in_ok-kept.ensures.filled) (λ e. eqb-false _ 0 (sym c.if-is_empty.ensures) (o.members.ok.0 ∙ e)) in
     ap Some c.in_ok-kept.ensures.left ∙ sym (cond-false (is_end I) None (Some I) some)
 
 pub cut_hidden-returns-else-is_empty-clause-goes : goal.cut_hidden-returns-else-is_empty-clause-goes
@@ -76,7 +93,7 @@ cut_hidden-returns-else-is_empty-clause-goes t c =
     let rule = hides c.args.self.now.standing.now k in
     let some : is_end I ≡ false =
     ap is_end (sym c.in_ok-kept.ensures.left ∙ forest-members o)
-    ∙ filled-end o.members.items c.in_ok-kept.ensures.filled (λ e. eqb-false _ 0 (sym c.if-is_empty.ensures) (o.members.ok.0 ∙ e)) in
+    ∙ filled-end o.members.items (members-filled o c.in_ok-kept.ensures.filled) (λ e. eqb-false _ 0 (sym c.if-is_empty.ensures) (o.members.ok.0 ∙ e)) in
     let b : State = record st { withheld = c.push.new.self } in
     let x : Withheld = (r, rule) in
     let here : c.in_ok-here.here ≡ x =
@@ -117,6 +134,9 @@ cut_hidden-returns-in_ok-push-2-clause-goes t c =
     subst (λ ts. Goes st e ts [] (visible_classes J) 0)
     (sym (cond-true (is_end I) (y ∷ []) ((r, rule) ∷ T) none))
     (goes-back st b d e x y T (visible_classes J) refl refl refl c.in_ok-push.ensures.items c.in_ok-kept.ensures.goes refl refl refl listed)
+
+found-filled : (r : Option Item) (i : Item) → r ≡ Some i → IfSome r (λ x. IsItemFilled x) → IsItemFilled i
+found-filled r i is h = subst (λ (o : Option Item). IfSome o (λ x. IsItemFilled x)) is h
 
 pub cut_items-loop-i-preserved : goal.cut_items-loop-i-preserved
 cut_items-loop-i-preserved t c =
@@ -159,6 +179,7 @@ cut_items-loop-i-preserved t c =
                 ∙ ap (λ bs. bs ++ left_items C S H A (i + 1) R) (map-append body ks (k ∷ []))
                 ∙ ap (λ j. (map body ks ++ body k ∷ []) ++ left_items C S H A j R) (add-one i)
                 ∙ items-step C S H A (map body ks) i (body x) R (left_items C S H A 0 (map body xs)) (Some (body k)) e L;
+            filled = subst (λ (ys : List Item). AllByRecursion IsItemFilled ys) (sym items_is) (all-append IsItemFilled ks (k ∷ []) c.loop-i.invariant.filled (found-filled c.in_ok-x.field-0 k w.in-Some.is c.in_ok-x.ensures.filled, tt));
             goes = subst (λ m. F (i + 1) m)
                 (ap (λ o. if is_some o then suc n else n) e ∙ omega (arith, ap length items_is, length-append ks (k ∷ []))) stepped;
           })
@@ -168,6 +189,7 @@ cut_items-loop-i-preserved t c =
             left = ap (λ v. map body v.items ++ left_items C S H A (i + 1) R) w.kept-is
                 ∙ ap (λ j. map body ks ++ left_items C S H A j R) (add-one i)
                 ∙ items-step C S H A (map body ks) i (body x) R (left_items C S H A 0 (map body xs)) None e L;
+            filled = subst (λ (v : Vec Item Global). AllByRecursion IsItemFilled v.items) (sym w.kept-is) c.loop-i.invariant.filled;
             goes = subst (λ m. F (i + 1) m) (ap (λ o. if is_some o then suc n else n) e ∙ ap (λ v. length v.items) (sym w.kept-is)) stepped;
           })
     ]

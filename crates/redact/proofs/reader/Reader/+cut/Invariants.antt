@@ -1,7 +1,8 @@
-use Rattle.std.proofs.Common.{◌≡◌, ◌++◌, map, drop, take, length, All}
-use Rattle.iodef_tree.specs.View.{body, bodies, named}
+use Rattle.std.proofs.Common.{◌≡◌, ◌++◌, map, drop, take, length}
+use Rattle.std.specs.List.{AllByRecursion}
+use Rattle.iodef_tree.specs.Filled.{IsMemberFilled, IsItemFilled}
+use Rattle.iodef_tree.specs.View.{body, named}
 use Rattle.policy.specs.Inherited.{carried}
-use Rattle.redact.specs.Filled.{IsFilled}
 use Rattle.redact.specs.Tokens.{path_of}
 use Rattle.redact.specs.Left.{home_of, left_members, told_members, count_members, left_items, told_items, count_items, Goes}
 use Rattle.redact.proofs.reader.Reader.+cut.Given as goal
@@ -13,7 +14,7 @@ invariant-cut-loop-name l =
     record {
       left : map named l.members.items ++ left_members l.self.case.now l.self.standing.now (home_of l.home) A (map named (drop l.name-index l.name-items))
           ≡ left_members l.self.case.now l.self.standing.now (home_of l.home) A (map named l.name-items);
-      filled : All (λ m. IsFilled (bodies m.1)) l.members.items;
+      filled : AllByRecursion (λ m. IsMemberFilled m.1) l.members.items;
       goes : Goes l.initial.state l.state (told_members l.self.case.now l.self.standing.now (home_of l.home) A Q (map named l.name-items))
           (told_members l.self.case.now l.self.standing.now (home_of l.home) A Q (map named (drop l.name-index l.name-items)))
           (count_members l.self.case.now l.self.standing.now A (map named l.name-items)) (count_members l.self.case.now l.self.standing.now A (map named (drop l.name-index l.name-items)));
@@ -27,6 +28,7 @@ invariant-cut_items-loop-i l =
     record {
       left : map body l.kept.items ++ left_items l.self.case.now l.self.standing.now (home_of l.home) D l.i (map body (drop l.i l.items.items))
           ≡ left_items l.self.case.now l.self.standing.now (home_of l.home) D 0 (map body l.items.items);
+      filled : AllByRecursion IsItemFilled l.kept.items;
       goes : Goes l.initial.state l.state (told_items l.self.case.now l.self.standing.now (home_of l.home) D q r 0 0 (map body l.items.items))
           (told_items l.self.case.now l.self.standing.now (home_of l.home) D q r l.i (length l.kept.items) (map body (drop l.i l.items.items)))
           (count_items l.self.case.now l.self.standing.now D 0 (map body l.items.items)) (count_items l.self.case.now l.self.standing.now D l.i (map body (drop l.i l.items.items)));

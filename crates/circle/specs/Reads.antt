@@ -1,0 +1,66 @@
+-- What is asked of a directory beside its commands.
+use Rattle.std.specs.Prelude.{ℕ, Bool, true, ◌&&◌, ◌||◌, ◌==◌, List, map, filter, find, Option, option_map}
+use Rattle.std.specs.List.{list_any}
+use Rattle.std.specs.Str.{bytes_eq}
+use Rattle.circle.specs.declared.directory.Handling.{Handling}
+use Rattle.circle.specs.declared.directory.Person.{Person}
+use Rattle.circle.specs.declared.directory.Account.{Account}
+use Rattle.circle.specs.declared.directory.Client.{Client}
+use Rattle.circle.specs.declared.directory.Membership.{Membership}
+use Rattle.circle.specs.declared.directory.Connection.{Connection}
+use Rattle.circle.specs.declared.directory.Group.{Group}
+use Rattle.circle.specs.declared.directory.GroupMember.{GroupMember}
+use Rattle.circle.specs.declared.directory.Arrangement.{Arrangement}
+use Rattle.circle.specs.Directory.{Directory, has_membership, has_group_being}
+
+-- ---- rows
+
+abbrev pub person_in : Account → Person
+person_in a = a.person
+
+-- the person with this key, active or not
+abbrev pub person_of_key : List ℕ → Directory → Option Person
+person_of_key key d = option_map person_in (find (λ (a : Account). bytes_eq a.key key) d.accounts)
+
+abbrev pub person_of : ℕ → Directory → Option Person
+person_of n d = option_map person_in (find (λ (a : Account). a.person.number == n) d.accounts)
+
+abbrev pub group_of : ℕ → Directory → Option Group
+group_of n d = find (λ (g : Group). g.number == n) d.groups
+
+-- ---- what an organisation is part of, by number
+
+abbrev pub communities_of : ℕ → Directory → List ℕ
+communities_of org d = map (λ (m : Membership). m.community) (filter (λ (m : Membership). m.org == org) d.memberships)
+
+-- its rows among the members of groups
+abbrev pub memberships_in_groups : ℕ → Directory → List GroupMember
+memberships_in_groups org d = filter (λ (m : GroupMember). m.org == org) d.group_members
+
+abbrev pub groups_joined : ℕ → Directory → List ℕ
+groups_joined org d = map (λ (m : GroupMember). m.group) (memberships_in_groups org d)
+
+abbrev pub active_groups_joined : ℕ → Directory → List ℕ
+active_groups_joined org d = filter (λ n. has_group_being n true d) (groups_joined org d)
+
+-- those whose client it is
+abbrev pub served_by : ℕ → Directory → List ℕ
+served_by client d = map (λ (c : Client). c.org) (filter (λ (c : Client). c.client == client) d.clients)
+
+-- ---- how organisations stand to each other
+
+-- they are in one community
+abbrev pub share_community : ℕ → ℕ → Directory → Bool
+share_community org other d = list_any (λ n. has_membership n other d) (communities_of org d)
+
+-- one is in one of two connected communities, and the other in the other
+abbrev pub joins : ℕ → ℕ → Directory → Connection → Bool
+joins org other d l =
+    (has_membership l.low org d && has_membership l.high other d) || (has_membership l.high org d && has_membership l.low other d)
+
+abbrev pub are_connected : ℕ → ℕ → Directory → Bool
+are_connected org other d = list_any (joins org other d) d.connections
+
+-- what the source arranged with the organisation
+abbrev pub arranged : ℕ → ℕ → Directory → Option Handling
+arranged source org d = option_map (λ (a : Arrangement). a.handling) (find (λ (a : Arrangement). a.source == source && a.org == org) d.arrangements)

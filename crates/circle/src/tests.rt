@@ -1,7 +1,0 @@
-mod codes;
-mod commands;
-mod compared;
-mod dice;
-mod limits;
-mod made;
-mod world;

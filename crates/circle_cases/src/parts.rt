@@ -1,0 +1,129 @@
+//! name|TEXT, releasability|TEXT, text|ONE|OTHER, between|ONE|OTHER, refusal|CODE|DETAIL, code|CODE.
+use crate::written::{number_of, text_of};
+use circle::directory::Connection;
+use circle::name::Name;
+use circle::refusal::{Code, Refusal};
+use circle::releasability::Releasability;
+use circle::text::Text;
+use std::alloc::{AllocError, Global};
+
+const CODES: [Code; 14] = [
+    Code::K1,
+    Code::W1,
+    Code::B1,
+    Code::N1,
+    Code::N2,
+    Code::W2,
+    Code::W3,
+    Code::N3,
+    Code::S1,
+    Code::S2,
+    Code::S3,
+    Code::L1,
+    Code::F1,
+    Code::F2,
+];
+
+/// Whether a name keeps its text, as does its copy, or is refused.
+fn name(alloc: Global, text: &str) -> Result<&'static str, AllocError> {
+    match Name::of(alloc, text)? {
+        Some(name) => {
+            let copy = name.clone()?;
+            let is_kept = name == copy && name.as_str() == text;
+            Ok(as_told(is_kept && copy.into_string().as_str() == text))
+        }
+        None => Ok("refused"),
+    }
+}
+
+fn releasability(alloc: Global, text: &str) -> Result<&'static str, AllocError> {
+    match Releasability::of(alloc, text)? {
+        Some(found) => {
+            let copy = found.clone()?;
+            let is_kept = found == copy && found.as_str() == text;
+            Ok(as_told(is_kept && copy.into_string().as_str() == text))
+        }
+        None => Ok("refused"),
+    }
+}
+
+fn as_told(is_kept: bool) -> &'static str {
+    if is_kept { "kept" } else { "changed" }
+}
+
+/// Whether two texts are the same, and each its own copy.
+fn texts(alloc: Global, one: &str, other: &str) -> Result<&'static str, AllocError> {
+    let text = Text::of(alloc, one)?;
+    let copy = text.clone()?;
+    if text != copy || text.as_str() != one || copy.into_string().as_str() != one {
+        return Ok("changed");
+    }
+    if text == Text::of(alloc, other)? {
+        Ok("the same")
+    } else {
+        Ok("different")
+    }
+}
+
+fn code_of(word: &str) -> Option<Code> {
+    for code in CODES {
+        if code.name() == word {
+            return Some(code);
+        }
+    }
+    None
+}
+
+fn refusal(alloc: Global, word: &str, detail: &str) -> Result<String, AllocError> {
+    let Some(code) = code_of(word) else {
+        return String::from_str(alloc, "no code");
+    };
+    let refusal = if detail.is_empty() {
+        Refusal::bare(alloc, code)
+    } else {
+        Refusal::new(alloc, code, detail)
+    };
+    format!(in alloc; "{refusal:?}")
+}
+
+fn code(alloc: Global, word: &str) -> Result<String, AllocError> {
+    match code_of(word) {
+        Some(code) => {
+            let name = code.name();
+            let status = code.status();
+            let reason = code.reason();
+            format!(in alloc; "{name} {status} {reason}")
+        }
+        None => String::from_str(alloc, "no code"),
+    }
+}
+
+fn between(alloc: Global, one: &str, other: &str) -> Result<String, AllocError> {
+    let row = Connection::between(number_of(one), number_of(other));
+    format!(in alloc; "{row:?}")
+}
+
+/// The answer to a line of these kinds; none of another.
+pub fn answer(alloc: Global, line: &str) -> Result<Option<String>, AllocError> {
+    let Some((kind, rest)) = line.split_once('|') else {
+        return Ok(None);
+    };
+    let (one, other) = rest.split_once('|').unwrap_or((rest, ""));
+    let first = text_of(alloc, one)?;
+    let second = text_of(alloc, other)?;
+    match kind {
+        "name" => Ok(Some(String::from_str(alloc, name(alloc, first.as_str())?)?)),
+        "releasability" => {
+            let told = releasability(alloc, first.as_str())?;
+            Ok(Some(String::from_str(alloc, told)?))
+        }
+        "text" => {
+            let told = texts(alloc, first.as_str(), second.as_str())?;
+            Ok(Some(String::from_str(alloc, told)?))
+        }
+        "between" => Ok(Some(between(alloc, one, other)?)),
+        "refusal" => Ok(Some(refusal(alloc, one, second.as_str())?)),
+        "code" => Ok(Some(code(alloc, one)?)),
+        _ => Ok(None),
+    }
+}

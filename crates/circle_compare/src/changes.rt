@@ -1,0 +1,271 @@
+//! How a command changes the rows: by the edit that was judged, and as the command says it.
+use crate::rows::World;
+use circle::command::{CircleCommand, Edit, RowEdit};
+use circle::directory::{
+    Account, Arrangement, Client, Community, Connection, Group, GroupMember, Membership, Org,
+    Person, Role,
+};
+use circle::name::Name;
+use circle::releasability::Releasability;
+use circle::text::Text;
+use std::alloc::{AllocError, Global};
+
+/// Makes the edit, as a store would.
+pub fn make(world: &mut World, edit: Edit) -> Result<(), AllocError> {
+    match edit {
+        Edit::Row(edit) => make_row(world, edit),
+        Edit::Found(group) => {
+            world.members.push(GroupMember {
+                group: group.number,
+                org: group.owner,
+                extend: true,
+            })?;
+            world.groups.push(group)?;
+            Ok(())
+        }
+    }
+}
+
+fn make_row(world: &mut World, edit: RowEdit) -> Result<(), AllocError> {
+    match edit {
+        RowEdit::PutOrg(org) => world.orgs.push(org)?,
+        RowEdit::PutAccount(account) => world.accounts.push(account)?,
+        RowEdit::Suspend(person) => suspend(world, person),
+        RowEdit::PutClient(client) => world.clients.push(client)?,
+        RowEdit::TakeClient(client) => world.clients.retain(|c| *c != client),
+        RowEdit::PutCommunity(community) => world.communities.push(community)?,
+        RowEdit::PutMembership(row) => world.memberships.push(row)?,
+        RowEdit::TakeMembership(row) => world.memberships.retain(|m| *m != row),
+        RowEdit::PutConnection(row) => world.connections.push(row)?,
+        RowEdit::TakeConnection(row) => world.connections.retain(|c| *c != row),
+        RowEdit::PutGroup(group) => world.groups.push(group)?,
+        RowEdit::PutGroupMember(row) => world.members.push(row)?,
+        RowEdit::TakeGroupMember { group, org } => {
+            world.members.retain(|m| m.group != group || m.org != org)
+        }
+        RowEdit::SetGroupActive { group, active } => switch(world, group, active),
+        RowEdit::PutArrangement(row) => world.arrangements.push(row)?,
+        RowEdit::TakeArrangement { source, org } => {
+            world
+                .arrangements
+                .retain(|a| a.source != source || a.org != org)
+        }
+        RowEdit::SetNominated { person, nominated } => nominate(world, person, nominated),
+    }
+    Ok(())
+}
+
+fn suspend(world: &mut World, person: u32) {
+    for account in world.accounts.iter_mut() {
+        if account.person.number == person {
+            account.person.active = false;
+        }
+    }
+}
+
+fn switch(world: &mut World, group: u32, active: bool) {
+    for row in world.groups.iter_mut() {
+        if row.number == group {
+            row.active = active;
+        }
+    }
+}
+
+fn nominate(world: &mut World, person: u32, nominated: bool) {
+    for account in world.accounts.iter_mut() {
+        if account.person.number == person {
+            account.person.nominated = nominated;
+        }
+    }
+}
+
+/// Changes the rows as the command of a person of this organisation says, with no edit between. A text outside
+/// the limits adds nothing.
+pub fn obey(
+    world: &mut World,
+    alloc: Global,
+    own: u32,
+    command: &CircleCommand,
+) -> Result<(), AllocError> {
+    match command {
+        CircleCommand::AddOrg { name } => add_org(world, alloc, name),
+        CircleCommand::AddPerson {
+            org,
+            name,
+            role,
+            key,
+        } => { add_person(world, alloc, *org, name, *role, *key) }
+        CircleCommand::AddCommunity { name } => add_community(world, alloc, name),
+        CircleCommand::NewGroup {
+            name,
+            releasability,
+        } => { found(world, alloc, own, name, releasability) }
+        CircleCommand::SuspendPerson { person } => {
+            suspend(world, *person);
+            Ok(())
+        }
+        CircleCommand::AddClient { .. }
+        | CircleCommand::RemoveClient { .. }
+        | CircleCommand::Join { .. }
+        | CircleCommand::Leave { .. }
+        | CircleCommand::Link { .. }
+        | CircleCommand::Unlink { .. } => relate(world, command),
+        _ => coordinate(world, own, command),
+    }
+}
+
+/// The number behind the greatest, or 1.
+fn behind(greatest: Option<u32>) -> u32 {
+    greatest.unwrap_or(0).saturating_add(1)
+}
+
+fn add_org(world: &mut World, alloc: Global, name: &Text) -> Result<(), AllocError> {
+    let number = behind(world.orgs.iter().map(|o| o.number).max());
+    if let Some(name) = Name::of(alloc, name.as_str())? {
+        world.orgs.push(Org { number, name })?;
+    }
+    Ok(())
+}
+
+fn add_person(
+    world: &mut World,
+    alloc: Global,
+    org: u32,
+    name: &Text,
+    role: Role,
+    key: [u8; 32],
+) -> Result<(), AllocError> {
+    let number = behind(world.accounts.iter().map(|a| a.person.number).max());
+    if let Some(name) = Name::of(alloc, name.as_str())? {
+        let person = Person {
+            number,
+            org,
+            name,
+            role,
+            active: true,
+            nominated: false,
+        };
+        world.accounts.push(Account { person, key })?;
+    }
+    Ok(())
+}
+
+fn add_community(world: &mut World, alloc: Global, name: &Text) -> Result<(), AllocError> {
+    let number = behind(world.communities.iter().map(|c| c.number).max());
+    if let Some(name) = Name::of(alloc, name.as_str())? {
+        world.communities.push(Community { number, name })?;
+    }
+    Ok(())
+}
+
+fn found(
+    world: &mut World,
+    alloc: Global,
+    own: u32,
+    name: &Text,
+    releasability: &Text,
+) -> Result<(), AllocError> {
+    let number = behind(world.groups.iter().map(|g| g.number).max());
+    let name = Name::of(alloc, name.as_str())?;
+    let releasability = Releasability::of(alloc, releasability.as_str())?;
+    if let (Some(name), Some(releasability)) = (name, releasability) {
+        world.groups.push(Group {
+            number,
+            owner: own,
+            name,
+            releasability,
+            active: true,
+        })?;
+        world.members.push(GroupMember {
+            group: number,
+            org: own,
+            extend: true,
+        })?;
+    }
+    Ok(())
+}
+
+/// The pairs that an administrator puts and takes out.
+fn relate(world: &mut World, command: &CircleCommand) -> Result<(), AllocError> {
+    match command {
+        CircleCommand::AddClient { org, client } => {
+            world.clients.push(Client {
+                org: *org,
+                client: *client,
+            })?
+        }
+        CircleCommand::RemoveClient { org, client } => {
+            world
+                .clients
+                .retain(|c| c.org != *org || c.client != *client)
+        }
+        CircleCommand::Join { community, org } => {
+            world.memberships.push(Membership {
+                community: *community,
+                org: *org,
+            })?
+        }
+        CircleCommand::Leave { community, org } => {
+            world
+                .memberships
+                .retain(|m| m.community != *community || m.org != *org)
+        }
+        CircleCommand::Link { community, other } => {
+            world.connections.push(in_order(*community, *other))?
+        }
+        CircleCommand::Unlink { community, other } => world.connections.retain(|c| {
+            !(c.low == *community && c.high == *other || c.low == *other && c.high == *community)
+        }),
+        _ => {}
+    }
+    Ok(())
+}
+
+fn in_order(one: u32, other: u32) -> Connection {
+    if one < other {
+        Connection {
+            low: one,
+            high: other,
+        }
+    } else {
+        Connection {
+            low: other,
+            high: one,
+        }
+    }
+}
+
+/// What a coordinator of the organisation changes.
+fn coordinate(world: &mut World, own: u32, command: &CircleCommand) -> Result<(), AllocError> {
+    match command {
+        CircleCommand::GroupAdd { group, org, extend } => {
+            world.members.push(GroupMember {
+                group: *group,
+                org: *org,
+                extend: *extend,
+            })?
+        }
+        CircleCommand::GroupRemove { group, org } => {
+            world
+                .members
+                .retain(|m| !(m.group == *group && m.org == *org))
+        }
+        CircleCommand::GroupActive { group, active } => switch(world, *group, *active),
+        CircleCommand::Arrange { org, handling } => {
+            world.arrangements.push(Arrangement {
+                source: own,
+                org: *org,
+                handling: *handling,
+            })?
+        }
+        CircleCommand::CancelArrange { org } => {
+            world
+                .arrangements
+                .retain(|a| !(a.source == own && a.org == *org))
+        }
+        CircleCommand::Nominate { person } => nominate(world, *person, true),
+        CircleCommand::Unnominate { person } => nominate(world, *person, false),
+        _ => {}
+    }
+    Ok(())
+}

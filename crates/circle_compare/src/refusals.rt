@@ -1,0 +1,200 @@
+//! Why a command is refused, from the rows alone.
+use crate::rows::World;
+use circle::command::CircleCommand;
+use circle::directory::{Person, Role};
+use circle::refusal::Code;
+use circle::text::Text;
+
+/// A condition, and the refusal where it holds.
+type Ground = (bool, Code, &'static str);
+
+/// The first ground that holds.
+fn first(grounds: &[Ground]) -> Option<(Code, &'static str)> {
+    for (holds, code, detail) in grounds {
+        if *holds {
+            return Some((*code, *detail));
+        }
+    }
+    None
+}
+
+fn is_bad_name(text: &Text) -> bool {
+    let bytes = text.as_str().as_bytes();
+    bytes.is_empty() || 128 < bytes.len() || bytes.iter().any(|b| b.is_ascii_control())
+}
+
+impl World {
+    /// Why an administrator's command is refused, from the rows alone.
+    fn administrators_refusal(
+        &self,
+        actor: &Person,
+        command: &CircleCommand,
+    ) -> Option<(Code, &'static str)> {
+        let role = (actor.role != Role::Administrator, Code::W1, "");
+        match command {
+            CircleCommand::AddOrg { name } => first(&[
+                role,
+                (is_bad_name(name), Code::B1, "name"),
+                (self.has_org_named(name), Code::S1, ""),
+                (self.orgs.len() >= 1000, Code::L1, ""),
+            ]),
+            CircleCommand::AddPerson { org, name, key, .. } => first(&[
+                role,
+                (is_bad_name(name), Code::B1, "name"),
+                (!self.has_org(*org), Code::N2, ""),
+                (self.has_key(key), Code::S1, ""),
+                (self.accounts.len() >= 10_000, Code::L1, ""),
+            ]),
+            CircleCommand::SuspendPerson { person } => first(&[
+                role,
+                (*person == actor.number, Code::B1, "person"),
+                (!self.has_person(*person), Code::N2, ""),
+                (self.is_suspended(*person), Code::S1, ""),
+            ]),
+            CircleCommand::AddClient { org, client } => first(&[
+                role,
+                (*org == *client, Code::B1, "client"),
+                (!self.has_org(*org) || !self.has_org(*client), Code::N2, ""),
+                (self.has_client(*org, *client), Code::S1, ""),
+            ]),
+            CircleCommand::RemoveClient { org, client } => first(&[
+                role,
+                (*org == *client, Code::B1, "client"),
+                (!self.has_org(*org) || !self.has_org(*client), Code::N2, ""),
+                (!self.has_client(*org, *client), Code::S2, ""),
+            ]),
+            CircleCommand::AddCommunity { name } => first(&[
+                role,
+                (is_bad_name(name), Code::B1, "name"),
+                (self.has_community_named(name), Code::S1, ""),
+                (self.communities.len() >= 1000, Code::L1, ""),
+            ]),
+            CircleCommand::Join { community, org } => first(&[
+                role,
+                (
+                    !self.has_community(*community) || !self.has_org(*org),
+                    Code::N2,
+                    "",
+                ),
+                (self.has_membership(*community, *org), Code::S1, ""),
+            ]),
+            CircleCommand::Leave { community, org } => first(&[
+                role,
+                (
+                    !self.has_community(*community) || !self.has_org(*org),
+                    Code::N2,
+                    "",
+                ),
+                (!self.has_membership(*community, *org), Code::S2, ""),
+            ]),
+            CircleCommand::Link { community, other } => first(&[
+                role,
+                (*community == *other, Code::B1, "other"),
+                (
+                    !self.has_community(*community) || !self.has_community(*other),
+                    Code::N2,
+                    "",
+                ),
+                (self.are_connected(*community, *other), Code::S1, ""),
+            ]),
+            CircleCommand::Unlink { community, other } => first(&[
+                role,
+                (*community == *other, Code::B1, "other"),
+                (
+                    !self.has_community(*community) || !self.has_community(*other),
+                    Code::N2,
+                    "",
+                ),
+                (!self.are_connected(*community, *other), Code::S2, ""),
+            ]),
+            _ => None,
+        }
+    }
+
+    /// Why a coordinator's command is refused, from the rows alone.
+    fn coordinators_refusal(
+        &self,
+        actor: &Person,
+        command: &CircleCommand,
+    ) -> Option<(Code, &'static str)> {
+        let role = (actor.role != Role::Coordinator, Code::W1, "");
+        match command {
+            CircleCommand::NewGroup {
+                name,
+                releasability,
+            } => first(&[
+                role,
+                (is_bad_name(name), Code::B1, "name"),
+                (
+                    512 < releasability.as_str().len(),
+                    Code::B1,
+                    "releasability",
+                ),
+                (self.has_group_named(actor.org, name), Code::S1, ""),
+                (self.groups.len() >= 1000, Code::L1, ""),
+            ]),
+            CircleCommand::GroupAdd { group, org, .. } => first(&[
+                role,
+                (
+                    !self.has_member(*group, actor.org) || !self.has_org(*org),
+                    Code::N2,
+                    "",
+                ),
+                (!self.may_extend(*group, actor.org), Code::W2, ""),
+                (self.has_member(*group, *org), Code::S1, ""),
+            ]),
+            CircleCommand::GroupRemove { group, org } => first(&[
+                role,
+                (
+                    !self.has_member(*group, actor.org) || !self.has_org(*org),
+                    Code::N2,
+                    "",
+                ),
+                (
+                    self.owner_of(*group) != Some(actor.org) || self.owner_of(*group) == Some(*org),
+                    Code::W2,
+                    "",
+                ),
+                (!self.has_member(*group, *org), Code::S2, ""),
+            ]),
+            CircleCommand::GroupActive { group, active } => first(&[
+                role,
+                (!self.has_member(*group, actor.org), Code::N2, ""),
+                (self.owner_of(*group) != Some(actor.org), Code::W2, ""),
+                (self.is_switched(*group, *active), Code::S1, ""),
+            ]),
+            CircleCommand::Arrange { org, .. } => first(&[
+                role,
+                (*org == actor.org, Code::B1, "org"),
+                (!self.has_org(*org), Code::N2, ""),
+                (self.has_arrangement(actor.org, *org), Code::S1, ""),
+            ]),
+            CircleCommand::CancelArrange { org } => first(&[
+                role,
+                (!self.has_org(*org), Code::N2, ""),
+                (!self.has_arrangement(actor.org, *org), Code::S2, ""),
+            ]),
+            CircleCommand::Nominate { person } => first(&[
+                role,
+                (!self.has_person(*person), Code::N2, ""),
+                (self.org_of(*person) != Some(actor.org), Code::W3, ""),
+                (self.is_nominated(*person), Code::S1, ""),
+            ]),
+            CircleCommand::Unnominate { person } => first(&[
+                role,
+                (!self.has_person(*person), Code::N2, ""),
+                (self.org_of(*person) != Some(actor.org), Code::W3, ""),
+                (!self.is_nominated(*person), Code::S2, ""),
+            ]),
+            _ => None,
+        }
+    }
+
+    /// Why the command is refused, from the rows alone: the code and its detail.
+    pub fn refusal(&self, actor: &Person, command: &CircleCommand) -> Option<(Code, &'static str)> {
+        match self.administrators_refusal(actor, command) {
+            Some(told) => Some(told),
+            None => self.coordinators_refusal(actor, command),
+        }
+    }
+}

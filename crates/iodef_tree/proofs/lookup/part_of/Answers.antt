@@ -1,0 +1,10 @@
+use Rattle.std.proofs.Common.{List, sym, subst}
+use Rattle.std.specs.List.{AllByRecursion}
+use Rattle.iodef_tree.specs.Filled.{IsMemberFilled, IsItemFilled}
+use Rattle.iodef_tree.specs.declared.object.Item.{Item}
+use Rattle.iodef_tree.proofs.Filled.{many-kept}
+use Rattle.iodef_tree.proofs.lookup.part_of.Goals as goal
+
+pub element_at-requires : goal.element_at-requires
+element_at-requires c =
+    subst (λ (xs : List Item). AllByRecursion IsItemFilled xs) (sym c.deref.ensures.value) (many-kept c.in-Many.items (subst IsMemberFilled c.in-Many.is c.requires)).1

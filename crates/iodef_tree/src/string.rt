@@ -1,0 +1,34 @@
+//! A text as a JSON string.
+
+ghost use Rattle.std.specs.Prelude.{◌≡◌, ◌++◌, string_bytes, OnOk};
+ghost use Rattle.std.specs.List.{list_any};
+ghost use Rattle.json.specs.Print.{quoted};
+ghost use Rattle.iodef_tree.specs.Written.{needs_escape};
+
+use serde_json::Value;
+use std::alloc::{AllocError, Global};
+
+/// Writes the text behind `out` as a JSON string: in quotes, and escaped as `serde_json` does (RFC 8259 section 7). Takes
+/// memory of its own only where something is escaped. Without memory `out` may end in a part of it.
+pub fn push_quoted(alloc: Global, out: &mut String, text: &str) -> Result<(), AllocError>
+    ensures { OnOk result (string_bytes out.new ≡ string_bytes out.old ++ quoted text.now) }
+{
+    if is_escaped(text) {
+        let quoted = Value::String(String::from_str(alloc, text)?).to_string(alloc)?;
+        out.push_str(quoted.as_str())?;
+        return Ok(());
+    }
+    out.push('"')?;
+    out.push_str(text)?;
+    out.push('"')?;
+    Ok(())
+}
+
+/// Whether a byte of the text is escaped in JSON (RFC 8259 section 7).
+fn is_escaped(text: &str) -> bool
+    ensures { result ≡ list_any needs_escape text.now }
+{
+    text.as_bytes()
+        .iter()
+        .any(|byte| *byte == b'"' || *byte == b'\\' || *byte < 32)
+}

@@ -1,0 +1,21 @@
+-- How a reader stands of whom nothing holds.
+use Rattle.std.specs.Prelude.{ℕ, [], false, None}
+use Rattle.policy.specs.declared.standing.Standing.{Standing}
+
+-- the person and its organisation, by their numbers
+abbrev pub stranger : ℕ → ℕ → Standing
+stranger who org = record {
+  source = false;
+  person = false;
+  nominated = false;
+  addressed = false;
+  client = false;
+  community = false;
+  connected = false;
+  arrangement = None;
+  who = who;
+  org = org;
+  groups = [];
+  active_groups = [];
+  communities = [];
+}

@@ -1,0 +1,142 @@
+//! The lines of the table, their words apart by bars:
+//!
+//!     label|ARRANGED|RESTRICTION            the label that it spells, and its handling; ARRANGED is a handling or -
+//!     label|ARRANGED|RESTRICTION|EXT        the same with a text in ext-restriction
+//!     order|HANDLING|HANDLING               how the two compare
+//!     incident|TOKEN|TOKEN                  whether the path of the two tokens is the Incident's
+//!     report|JSON                           reads the report that the lines behind ask of, and checks its markings
+//!     marks                                 each class of the report with its label
+//!     site|POINTER                          the labels at a path of it
+//!     clearance|STANDING                    what the reader is cleared for
+//!     gate|STANDING|LEVEL                   whether it passes the gate; LEVEL may have a group, as 4:7
+//!     grantee|STANDING|GRANTEE              whether the grantee includes it
+//!     decide|STANDING|GATES|PERMISSIONS|POINTERS      the verdict of each pointer
+//!     lists|GATES|PERMISSIONS               the gates and permissions that a case gives back
+//!     numbers|STANDING                      the groups that the reader's standing gives back
+//!
+//! `words` tells how standings, gates, permissions and grantees are written. Empty lines, and those that begin with #, are
+//! skipped.
+
+ghost use Rattle.std.specs.Prelude.{◌≡◌, None};
+ghost use Rattle.iodef_tree.specs.Paths.{located};
+ghost use Rattle.marking.specs.Marks.{first_bad_marking};
+
+use crate::labels::{compared, marked, sited, spelled};
+use crate::unfit::Unfit;
+use crate::verdicts::{cleared, given_back, groups_given_back, passed, verdicts};
+use crate::words::{arranged_of, case_of, gate_of, grantee_of, handling_of, standing_of};
+use iodef_tree::{Document, Path};
+use marking::{MarkingFault, check, is_incident};
+use policy::includes;
+use std::alloc::{AllocError, Global};
+
+/// A report whose markings were accepted.
+#[derive(Drop)]
+struct Report {
+    document: Document,
+    ghost accepted: { first_bad_marking (located document) ≡ None },
+}
+
+/// The table as far as it was answered: the report that the last line with one gave.
+#[derive(Drop)]
+pub struct Table {
+    report: Option<Report>,
+}
+
+impl Table {
+    pub fn new() -> Table {
+        Table { report: None }
+    }
+
+    pub fn answer(&mut self, alloc: Global, line: &str) -> Result<String, Unfit> {
+        let words: Vec<&str> = line.split('|').collect(alloc)?;
+        match words.as_slice() {
+            ["report", body] => self.read(alloc, body),
+            ["marks"] => self.marks(alloc),
+            ["site", pointer] => self.site(alloc, pointer),
+            ["decide", standing, gates, permissions, pointers] => {
+                self.decide(alloc, standing, gates, permissions, pointers)
+            }
+            words => answer_alone(alloc, words),
+        }
+    }
+
+    fn read(&mut self, alloc: Global, body: &str) -> Result<String, Unfit> {
+        self.report = None;
+        let Ok(mut documents) = Document::read(alloc, body.as_bytes()) else {
+            return Ok(String::from_str(alloc, "not read")?);
+        };
+        let document = documents.pop().ok_or(Unfit::NoCase)?;
+        match check(alloc, &document) {
+            Ok(()) => {
+                self.report = Some(Report { document });
+                Ok(String::from_str(alloc, "accepted")?)
+            }
+            Err(MarkingFault::BadMarking(path)) => {
+                let pointer = path.print(alloc)?;
+                Ok(format!(in alloc; "BadMarking {pointer}")?)
+            }
+            Err(MarkingFault::NoMemory) => Err(Unfit::NoMemory),
+        }
+    }
+
+    fn marks(&self, alloc: Global) -> Result<String, Unfit> {
+        let report = self.report.as_ref().ok_or(Unfit::NoCase)?;
+        Ok(marked(alloc, &report.document)?)
+    }
+
+    fn site(&self, alloc: Global, pointer: &str) -> Result<String, Unfit> {
+        let report = self.report.as_ref().ok_or(Unfit::NoCase)?;
+        let path = Path::parse(alloc, pointer)?;
+        Ok(sited(alloc, &report.document, &path)?)
+    }
+
+    fn decide(
+        &self,
+        alloc: Global,
+        standing: &str,
+        gates: &str,
+        permissions: &str,
+        pointers: &str,
+    ) -> Result<String, Unfit> {
+        let report = self.report.as_ref().ok_or(Unfit::NoCase)?;
+        let standing = standing_of(alloc, standing)?;
+        let case = case_of(alloc, gates, permissions)?;
+        verdicts(alloc, &report.document, &case, &standing, pointers)
+    }
+}
+
+fn truth(alloc: Global, holds: bool) -> Result<String, AllocError> {
+    String::from_str(alloc, if holds { "yes" } else { "no" })
+}
+
+/// The answer of a line that asks of no report.
+fn answer_alone(alloc: Global, words: &[&str]) -> Result<String, Unfit> {
+    match words {
+        ["label", arranged, restriction] => {
+            Ok(spelled(alloc, restriction, None, arranged_of(arranged)?)?)
+        }
+        ["label", arranged, restriction, ext] => {
+            Ok(spelled(alloc, restriction, Some(ext), arranged_of(arranged)?)?)
+        }
+        ["order", first, second] => {
+            Ok(compared(alloc, handling_of(first)?, handling_of(second)?)?)
+        }
+        ["incident", first, second] => Ok(truth(alloc, is_incident(first, second))?),
+        ["clearance", standing] => Ok(cleared(alloc, &standing_of(alloc, standing)?)?),
+        ["gate", standing, level] => {
+            let gate = gate_of(alloc, format!(in alloc; "{level}@")?.as_str())?;
+            let standing = standing_of(alloc, standing)?;
+            Ok(String::from_str(alloc, passed(&standing, &gate))?)
+        }
+        ["grantee", standing, grantee] => {
+            let standing = standing_of(alloc, standing)?;
+            Ok(truth(alloc, includes(&standing, &grantee_of(grantee)?))?)
+        }
+        ["lists", gates, permissions] => {
+            Ok(given_back(alloc, case_of(alloc, gates, permissions)?)?)
+        }
+        ["numbers", standing] => { Ok(groups_given_back(alloc, standing_of(alloc, standing)?)?) }
+        _ => Err(Unfit::NoCase),
+    }
+}

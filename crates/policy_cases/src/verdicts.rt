@@ -1,0 +1,107 @@
+//! Clearances, gates, grantees and verdicts.
+
+ghost use Rattle.std.specs.Prelude.{◌≡◌, None};
+ghost use Rattle.iodef_tree.specs.Paths.{located};
+ghost use Rattle.marking.specs.Marks.{first_bad_marking};
+
+use crate::unfit::Unfit;
+use iodef_tree::{Document, Path};
+use policy::{Case, DecideFault, Gate, Grantee, Standing, Verdict, clearance, decide, passes};
+use std::alloc::{AllocError, Global};
+
+pub fn cleared(alloc: Global, standing: &Standing) -> Result<String, AllocError> {
+    let (handling, rule) = clearance(standing);
+    let handling = handling.name();
+    let rule = rule.name();
+    format!(in alloc; "{handling} by {rule}")
+}
+
+pub fn passed(standing: &Standing, gate: &Gate) -> &'static str {
+    match passes(standing, gate) {
+        Ok(()) => "passes",
+        Err(rule) => rule.name(),
+    }
+}
+
+fn decided(
+    alloc: Global,
+    document: &Document,
+    case: &Case,
+    standing: &Standing,
+    path: &Path,
+) -> (&'static str, &'static str)
+    requires { first_bad_marking (located document.now) ≡ None }
+{
+    match decide(alloc, document, case, standing, path) {
+        Ok(Verdict::Shown(rule)) => ("Shown ", rule.name()),
+        Ok(Verdict::Hidden(rule)) => ("Hidden ", rule.name()),
+        Err(DecideFault::NoClass) => ("", "NoClass"),
+        Err(DecideFault::NoMemory) => ("", "NoMemory"),
+    }
+}
+
+/// The verdict of each pointer, with commas between them.
+pub fn verdicts(
+    alloc: Global,
+    document: &Document,
+    case: &Case,
+    standing: &Standing,
+    pointers: &str,
+) -> Result<String, Unfit>
+    requires { first_bad_marking (located document.now) ≡ None }
+{
+    let mut told = String::new(alloc);
+    for pointer in pointers.split(',') {
+        let path = Path::parse(alloc, pointer)?;
+        let (side, rule) = decided(alloc, document, case, standing, &path);
+        told.push_str(side)?;
+        told.push_str(rule)?;
+        told.push_str("; ")?;
+    }
+    Ok(told)
+}
+
+fn kind_of(grantee: Grantee) -> (&'static str, u32) {
+    match grantee {
+        Grantee::Person(number) => ("person", number),
+        Grantee::Org(number) => ("org", number),
+        Grantee::Community(number) => ("community", number),
+        Grantee::Group(number) => ("group", number),
+    }
+}
+
+/// The gates and permissions that a case gives back.
+pub fn given_back(alloc: Global, case: Case) -> Result<String, AllocError> {
+    let Case {
+        source,
+        gates,
+        permissions,
+    } = case;
+    let mut told = format!(in alloc; "source {source}")?;
+    for gate in &gates.into_vec() {
+        let level = gate.level;
+        let pointer = gate.path.print(alloc)?;
+        let line = match gate.group {
+            Some(group) => format!(in alloc; "; {level}:{group}@{pointer}")?,
+            None => format!(in alloc; "; {level}@{pointer}")?,
+        };
+        told.push_str(line.as_str())?;
+    }
+    for permission in &permissions.into_vec() {
+        let (kind, number) = kind_of(permission.grantee);
+        let pointer = permission.path.print(alloc)?;
+        let line = format!(in alloc; "; {kind}:{number}@{pointer}")?;
+        told.push_str(line.as_str())?;
+    }
+    Ok(told)
+}
+
+/// The numbers of the groups that a standing gives back.
+pub fn groups_given_back(alloc: Global, standing: Standing) -> Result<String, AllocError> {
+    let mut told = String::from_str(alloc, "groups")?;
+    for number in &standing.groups.into_vec() {
+        let word = format!(in alloc; " {number}")?;
+        told.push_str(word.as_str())?;
+    }
+    Ok(told)
+}
