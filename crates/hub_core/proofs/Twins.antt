@@ -1,0 +1,20 @@
+-- Two of a list that are the same, found in a loop over it.
+use Rattle.std.proofs.Common.{◌≡◌, ℕ, suc, ◌+◌, ◌<◌, List, [], ◌∷◌, Bool, ◌||◌, map, length, drop, drop-cons, get_or, add-one, refl, sym, ap, ◌∙◌}
+use Rattle.std.specs.List.{list_any}
+use Rattle.std.specs.Str.{bytes_eq}
+use Rattle.iodef_tree.specs.Text.{Bytes}
+use Rattle.hub_core.specs.Refusals.{stands_twice}
+
+-- a test of what is made of the elements
+pub any_map : {X Y : Type 0} (test : Y → Bool) (f : X → Y) (xs : List X) → list_any test (map f xs) ≡ list_any (λ x. test (f x)) xs
+any_map test f [] = refl
+any_map test f (x ∷ xs) = ap (λ b. test (f x) || b) (any_map test f xs)
+
+-- from an element on, as at a step of a loop
+pub from_here : {X : Type 0} (xs : List X) (i : ℕ) (x : X) → i < length xs → x ≡ get_or xs i x → drop i xs ≡ x ∷ drop (i + 1) xs
+from_here xs i x h is = rw add-one (drop-cons xs i x h ∙ ap (λ y. y ∷ drop (suc i) xs) (sym is))
+
+-- of the texts from an element on, two are the same: it and a later one, or two later ones
+pub twins_here : {X : Type 0} (f : X → Bytes) (xs : List X) (i : ℕ) (x : X) → i < length xs → x ≡ get_or xs i x →
+    stands_twice (map f (drop i xs)) ≡ (list_any (λ y. bytes_eq (f x) (f y)) (drop (i + 1) xs) || stands_twice (map f (drop (i + 1) xs)))
+twins_here f xs i x h is = rw (from_here xs i x h is) (ap (λ b. b || stands_twice (map f (drop (i + 1) xs))) (any_map (bytes_eq (f x)) f (drop (i + 1) xs)))

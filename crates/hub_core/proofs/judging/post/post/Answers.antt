@@ -1,0 +1,14 @@
+use Rattle.std.proofs.Common.{[], ◌∷◌, rules}
+use Rattle.hub_core.specs.Documents.{documents_in}
+use Rattle.hub_core.specs.Refusals.{unless_poster}
+use Rattle.hub_core.specs.Asked.{Asks, root_gate, post_arguments, post_facts}
+use Rattle.hub_core.proofs.Asking.{fourth}
+use Rattle.hub_core.proofs.judging.post.post.Goals as goal
+
+pub returns-in_err-allowed-clause-asked : goal.returns-in_err-allowed-clause-asked
+returns-in_err-allowed-clause-asked c =
+    let arguments = post_arguments c.args.gates.now c.args.body.now in
+    let facts = post_facts c.args.facts.now c.args.gates.now (documents_in c.args.body.now) in
+    let result = c.from_residual-in_err-allowed.result in
+    let asked : Asks facts result = search rules in
+    fourth (unless_poster c.args.actor.now ∷ []) (root_gate c.args.level c.args.group) arguments facts result c.in_ok-poster.ensures c.in_ok-level.ensures.asked c.in_ok-gates.ensures.asked asked

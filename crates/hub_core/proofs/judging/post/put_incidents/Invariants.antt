@@ -1,0 +1,10 @@
+use Rattle.std.proofs.Common.{◌≡◌, ◌+◌, ◌++◌, length}
+use Rattle.std.specs.Vec.Iter.{into_iter_items}
+use Rattle.hub_core.specs.Aftermath.{put_incidents}
+use Rattle.hub_core.proofs.judging.post.put_incidents.Given as goal
+
+abbrev pub invariant-loop-posted : goal.invariant-loop-posted
+invariant-loop-posted l = record {
+  left : l.edits.items ++ put_incidents l.source l.number l.level l.fn.group l.gates (into_iter_items l.posted-iterator) ≡ put_incidents l.source l.fn.first l.level l.fn.group l.gates l.fn.documents.items;
+  count : l.number + length (into_iter_items l.posted-iterator) ≡ l.fn.first + length l.fn.documents.items;
+}

@@ -1,0 +1,63 @@
+-- What a step of the judge answers for the grounds that it asks.
+use Rattle.std.specs.Prelude.{◌≡◌, ℕ, ◌+◌, true, ◌||◌, ◌&&◌, List, [], ◌∷◌, map, length, Option, Some, None, option_map, Result, Ok, Err, codes, decimal}
+use Rattle.iodef_tree.specs.Text.{Bytes}
+use Rattle.circle.specs.Refusals.{Ground, first_of, bad, unknown_unless, not_so_unless}
+use Rattle.circle.specs.declared.refusal.Code.TheVariants.{B1, S1, S3}
+use Rattle.circle.specs.declared.directory.Person.{Person}
+use Rattle.hub_core.specs.Documents.{Lines, fault_in, documents_in, ident_of, bad_marking}
+use Rattle.hub_core.specs.Refusals.{because, no_class_unless, over, is_bad_level, is_bad_group, are_bad_gates, stands_twice, has_some, has_several, stand_at_classes}
+use Rattle.hub_core.specs.Judgement.{unless_known_own, keep_known_ident, other_known, next_known}
+use Rattle.hub_core.specs.declared.facts.Facts.{Facts}
+use Rattle.hub_core.specs.declared.request.WantedGate.{WantedGate}
+use Rattle.hub_core.specs.declared.judging.stop.Stop.{Stop}
+use Rattle.hub_core.specs.declared.judging.stop.Stop.TheVariants.{Refused, NoMemory}
+
+-- none of them holds, or the refusal is the answer of the first that does
+abbrev pub Asks : {X : Type 0} → List Ground → Result X Stop → Type 0
+Asks grounds (Ok x) = first_of grounds ≡ None
+Asks grounds (Err (Refused why)) = first_of grounds ≡ Some why
+Asks grounds (Err NoMemory) = Unit {0}
+
+-- ---- parts of the grounds of requests with a document: of the arguments, and of what there is
+
+-- the gate at the root
+abbrev pub root_gate : ℕ → Option ℕ → List Ground
+root_gate level group = bad (codes "level") (is_bad_level true level) ∷ bad (codes "group") (is_bad_group level group) ∷ []
+
+abbrev pub post_arguments : List WantedGate → Bytes → List Ground
+post_arguments gates body =
+    let docs = documents_in body in
+    bad (codes "gates") (are_bad_gates gates || (has_several docs && has_some gates))
+    ∷ because B1 (fault_in body)
+    ∷ bad (codes "IncidentID") (stands_twice (map ident_of docs))
+    ∷ because B1 (bad_marking docs)
+    ∷ []
+
+abbrev pub post_facts : Facts → List WantedGate → List Lines → List Ground
+post_facts f gates docs =
+    unknown_unless f.circle.exists
+    ∷ no_class_unless (stand_at_classes gates docs)
+    ∷ because S1 (option_map decimal f.posted)
+    ∷ over 1000000 (f.circle.count + length docs)
+    ∷ over 16 f.gates
+    ∷ []
+
+abbrev pub replace_arguments : List WantedGate → Bytes → List Ground
+replace_arguments gates body =
+    let docs = documents_in body in
+    bad (codes "gates") (are_bad_gates gates)
+    ∷ because B1 (fault_in body)
+    ∷ bad (codes "document") (has_several docs)
+    ∷ because B1 (bad_marking docs)
+    ∷ []
+
+abbrev pub replace_facts : Facts → Person → ℕ → List WantedGate → List Lines → List Ground
+replace_facts f a revision gates docs =
+    unless_known_own f a
+    ∷ unknown_unless f.circle.exists
+    ∷ no_class_unless (stand_at_classes gates docs)
+    ∷ not_so_unless (keep_known_ident f docs)
+    ∷ because S3 (other_known f revision)
+    ∷ over 1000000 (next_known f)
+    ∷ over 16 f.gates
+    ∷ []

@@ -1,0 +1,13 @@
+-- A gate of a class, as it is asked for and as it is put.
+use Rattle.std.specs.Prelude.{ℕ}
+use Rattle.iodef_tree.specs.Pointer.{pointer_text}
+use Rattle.policy.specs.declared.gate.Gate.{Gate}
+use Rattle.hub_core.specs.declared.edit.Edit.{Edit}
+use Rattle.hub_core.specs.declared.edit.Edit.TheVariants.{PutGate}
+use Rattle.hub_core.specs.declared.request.WantedGate.{WantedGate}
+
+abbrev pub asked_as : Gate → WantedGate
+asked_as g = record { level = g.level; group = g.group; path = pointer_text g.path }
+
+abbrev pub put_at : ℕ → Gate → Edit
+put_at n g = PutGate (record { incident = n; path = g.path; level = g.level; group = g.group })

@@ -1,0 +1,127 @@
+//! Why a request is refused, or what it changes: by the facts alone.
+ghost use Rattle.std.specs.Prelude.{◌≡◌, List, IfErr, IfOk, None, OnOk};
+ghost use Rattle.circle.specs.Outcomes.{RefusedAs};
+ghost use Rattle.circle.specs.Refusals.{Ground, first_of};
+ghost use Rattle.hub_core.specs.State.{State};
+ghost use Rattle.hub_core.specs.Edits.{after as after_edits};
+ghost use Rattle.hub_core.specs.Sound.{IsSound};
+ghost use Rattle.hub_core.specs.Facts.{facts_of};
+ghost use Rattle.hub_core.specs.Refusals.{refusal_of, state_after};
+ghost use Rattle.hub_core.specs.Asked.{Asks};
+
+mod body;
+mod change;
+mod class_gates;
+mod directory;
+mod gate;
+mod post;
+mod posted;
+mod replace;
+mod search;
+mod stop;
+
+use crate::edit::Edit;
+use crate::facts::Facts;
+use crate::request::Request;
+use change::{address, grant, redistribute, unaddress, withdraw};
+use circle::directory::Person;
+use circle::refusal::{Code, Refusal};
+use directory::judge_command;
+use post::post;
+use replace::replace;
+use search::search;
+use std::alloc::Global;
+use stop::Stop;
+
+/// The refusal of the actor's request, or the edits that make its whole change: for each state of which these are the
+/// facts, and where a number is given for each sound one. A request that reads and isn't refused changes nothing; whether
+/// a person may see an incident isn't asked here. Want of memory is `F2`, which may stand in place of any answer.
+pub fn judge(
+    alloc: Global,
+    actor: &Person,
+    facts: &Facts,
+    request: &Request,
+) -> Result<Vec<Edit>, Refusal>
+    ensures refused { (s : State) → facts.now ≡ facts_of s actor.now request.now → IfErr result (RefusedAs (refusal_of s actor.now request.now)) }
+    ensures allowed { (s : State) → facts.now ≡ facts_of s actor.now request.now → OnOk result (refusal_of s actor.now request.now ≡ None) }
+    ensures made { (s : State) → IsSound s → facts.now ≡ facts_of s actor.now request.now → IfOk result (λ edits. after_edits edits.items s ≡ state_after s actor.now request.now) }
+{
+    match request {
+        Request::Circle(command) => judge_command(alloc, actor, &facts.circle, command),
+        Request::Post {
+            level,
+            group,
+            gates,
+            document,
+        } => {
+            let judged = post(alloc, actor, facts, *level, *group, gates, document);
+            answer(alloc, judged)
+        }
+        Request::Replace {
+            incident,
+            revision,
+            level,
+            group,
+            gates,
+            document,
+        } => {
+            let judged = replace(
+                alloc, actor, facts, *incident, *revision, *level, *group, gates, document,
+            );
+            answer(alloc, judged)
+        }
+        Request::Redistribute {
+            incident,
+            revision,
+            path,
+            level,
+            group,
+        } => {
+            let judged = redistribute(
+                alloc, actor, facts, *incident, *revision, path, *level, *group,
+            );
+            answer(alloc, judged)
+        }
+        Request::Address { incident, target } => {
+            answer(alloc, address(alloc, actor, facts, *incident, *target))
+        }
+        Request::Unaddress { incident, target } => {
+            answer(alloc, unaddress(alloc, actor, facts, *incident, *target))
+        }
+        Request::Grant {
+            incident,
+            revision,
+            path,
+            grantee,
+        } => {
+            let judged = grant(alloc, actor, facts, *incident, *revision, path, *grantee);
+            answer(alloc, judged)
+        }
+        Request::Withdraw {
+            incident,
+            path,
+            grantee,
+        } => {
+            let judged = withdraw(alloc, actor, facts, *incident, path, *grantee);
+            answer(alloc, judged)
+        }
+        Request::Search {
+            needle,
+            class,
+            after,
+        } => answer(alloc, search(alloc, actor, facts, needle, class, *after)),
+        _ => Ok(Vec::new(alloc)),
+    }
+}
+
+/// Want of memory as a refusal.
+fn answer(alloc: Global, judged: Result<Vec<Edit>, Stop>) -> Result<Vec<Edit>, Refusal>
+    ensures refused { (grounds : List Ground) → Asks grounds judged → IfErr result (RefusedAs (first_of grounds)) }
+    ensures edits { IfOk result (λ edits. judged ≡ Ok edits) }
+{
+    match judged {
+        Ok(edits) => Ok(edits),
+        Err(Stop::Refused(refusal)) => Err(refusal),
+        Err(Stop::NoMemory) => Err(Refusal::bare(alloc, Code::F2)),
+    }
+}

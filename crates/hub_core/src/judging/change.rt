@@ -1,0 +1,174 @@
+//! Recipients, permissions and gates, one at a time.
+ghost use Rattle.std.specs.Prelude.{◌≡◌, [], ◌∷◌, IfOk};
+ghost use Rattle.hub_core.specs.Judgement.{grounds_by, edits_by, is_known_class, is_known_place};
+ghost use Rattle.hub_core.specs.Asked.{Asks};
+ghost use Rattle.hub_core.specs.declared.request.Request.TheVariants as ask;
+
+use crate::edit::Edit;
+use crate::facts::Facts;
+use crate::judging::gate::{is_bad_group, is_bad_level, is_root};
+use crate::judging::stop::{
+    Stop, bad_if, other_than, own, path_of, poster, refuse_if, refuse_with,
+};
+use crate::request::Target;
+use crate::state::{Gate, Permission, Recipient};
+use circle::directory::Person;
+use circle::refusal::Code;
+use circle::text::Text;
+use iodef_tree::Path;
+use policy::Grantee;
+use std::alloc::{AllocFailed, Global};
+
+fn one(alloc: Global, edit: Edit) -> Result<Vec<Edit>, AllocFailed<Edit>>
+    ensures { IfOk result (λ edits. edits.items ≡ edit ∷ []) }
+{
+    let mut edits = Vec::new(alloc);
+    edits.push(edit)?;
+    Ok(edits)
+}
+
+pub fn address(
+    alloc: Global,
+    actor: &Person,
+    facts: &Facts,
+    incident: u32,
+    target: Target,
+) -> Result<Vec<Edit>, Stop>
+    ensures asked { Asks (grounds_by facts.now actor.now (ask.Address incident target)) result }
+    ensures made { IfOk result (λ edits. edits.items ≡ edits_by facts.now actor.now (ask.Address incident target)) }
+{
+    poster(alloc, actor)?;
+    own(alloc, actor, facts)?;
+    refuse_if(alloc, !facts.circle.exists, Code::N2)?;
+    refuse_if(alloc, facts.circle.stands, Code::S1)?;
+    refuse_if(alloc, facts.recipients > 64, Code::L1)?;
+    Ok(one(alloc, Edit::PutRecipient(Recipient { incident, target }))?)
+}
+
+pub fn unaddress(
+    alloc: Global,
+    actor: &Person,
+    facts: &Facts,
+    incident: u32,
+    target: Target,
+) -> Result<Vec<Edit>, Stop>
+    ensures asked { Asks (grounds_by facts.now actor.now (ask.Unaddress incident target)) result }
+    ensures made { IfOk result (λ edits. edits.items ≡ edits_by facts.now actor.now (ask.Unaddress incident target)) }
+{
+    poster(alloc, actor)?;
+    own(alloc, actor, facts)?;
+    refuse_if(alloc, !facts.circle.stands, Code::S2)?;
+    Ok(one(alloc, Edit::TakeRecipient(Recipient { incident, target }))?)
+}
+
+pub fn grant(
+    alloc: Global,
+    actor: &Person,
+    facts: &Facts,
+    incident: u32,
+    revision: u32,
+    path: &Text,
+    grantee: Grantee,
+) -> Result<Vec<Edit>, Stop>
+    ensures asked { Asks (grounds_by facts.now actor.now (ask.Grant incident revision path.now grantee)) result }
+    ensures made { IfOk result (λ edits. edits.items ≡ edits_by facts.now actor.now (ask.Grant incident revision path.now grantee)) }
+{
+    poster(alloc, actor)?;
+    let path = path_of(alloc, path.as_str(), "path")?;
+    let known = own(alloc, actor, facts)?;
+    refuse_if(alloc, !facts.circle.exists, Code::N2)?;
+    refuse_if(alloc, !is_class(facts, &path), Code::N3)?;
+    refuse_if(alloc, facts.circle.stands, Code::S1)?;
+    refuse_with(alloc, Code::S3, other_than(known.revision, revision))?;
+    refuse_if(alloc, facts.permissions > 64, Code::L1)?;
+    Ok(one(
+        alloc,
+        Edit::PutPermission(Permission {
+            incident,
+            path,
+            grantee,
+        }),
+    )?)
+}
+
+pub fn withdraw(
+    alloc: Global,
+    actor: &Person,
+    facts: &Facts,
+    incident: u32,
+    path: &Text,
+    grantee: Grantee,
+) -> Result<Vec<Edit>, Stop>
+    ensures asked { Asks (grounds_by facts.now actor.now (ask.Withdraw incident path.now grantee)) result }
+    ensures made { IfOk result (λ edits. edits.items ≡ edits_by facts.now actor.now (ask.Withdraw incident path.now grantee)) }
+{
+    poster(alloc, actor)?;
+    let path = path_of(alloc, path.as_str(), "path")?;
+    own(alloc, actor, facts)?;
+    refuse_if(alloc, !facts.circle.stands, Code::S2)?;
+    Ok(one(
+        alloc,
+        Edit::TakePermission {
+            incident,
+            path,
+            grantee,
+        },
+    )?)
+}
+
+/// Another gate, in place of one at that path.
+pub fn redistribute(
+    alloc: Global,
+    actor: &Person,
+    facts: &Facts,
+    incident: u32,
+    revision: u32,
+    path: &Text,
+    level: u32,
+    group: Option<u32>,
+) -> Result<Vec<Edit>, Stop>
+    ensures asked { Asks (grounds_by facts.now actor.now (ask.Redistribute incident revision path.now level group)) result }
+    ensures made { IfOk result (λ edits. edits.items ≡ edits_by facts.now actor.now (ask.Redistribute incident revision path.now level group)) }
+{
+    poster(alloc, actor)?;
+    let path = path_of(alloc, path.as_str(), "path")?;
+    bad_if(alloc, is_bad_level(is_root(&path), level), "level")?;
+    bad_if(alloc, is_bad_group(level, group), "group")?;
+    let known = own(alloc, actor, facts)?;
+    refuse_if(alloc, !facts.circle.exists, Code::N2)?;
+    refuse_if(alloc, !is_place(facts, &path), Code::N3)?;
+    refuse_if(alloc, facts.circle.stands, Code::S1)?;
+    refuse_with(alloc, Code::S3, other_than(known.revision, revision))?;
+    refuse_if(alloc, facts.gates > 16, Code::L1)?;
+    let mut edits = Vec::with_capacity(alloc, 2)?;
+    edits.push(Edit::TakeGate {
+        incident,
+        path: path.clone()?,
+    })?;
+    edits.push(Edit::PutGate(Gate {
+        incident,
+        path,
+        level: level as u8,
+        group,
+    }))?;
+    Ok(edits)
+}
+
+fn is_class(facts: &Facts, path: &Path) -> bool
+    ensures { result ≡ is_known_class facts.now path.now }
+{
+    match &facts.document {
+        Some(document) => document.has_class(path),
+        None => false,
+    }
+}
+
+/// The root, or a class.
+fn is_place(facts: &Facts, path: &Path) -> bool
+    ensures { result ≡ is_known_place facts.now path.now }
+{
+    match &facts.document {
+        Some(document) => is_root(path) || document.has_class(path),
+        None => false,
+    }
+}

@@ -1,0 +1,55 @@
+//! Commands of the directory: circle judges them.
+ghost use Rattle.std.specs.Prelude.{◌≡◌, IfErr, IfOk, None, OnOk, map};
+ghost use Rattle.circle.specs.Outcomes.{RefusedAs};
+ghost use Rattle.circle.specs.Aftermath.{rows_of, state_after};
+ghost use Rattle.circle.specs.Facts.{facts_of};
+ghost use Rattle.circle.specs.Refusals.{refusal_of};
+ghost use Rattle.circle.specs.Sound.{IsSound};
+ghost use Rattle.hub_core.specs.State.{State};
+ghost use Rattle.hub_core.specs.Edits.{after};
+ghost use Rattle.hub_core.specs.declared.edit.Edit.TheVariants as edit;
+
+use crate::edit::Edit;
+use circle::command::{CircleCommand, CircleFacts, Edit as Change, RowEdit};
+use circle::directory::{GroupMember, Person};
+use circle::judge::judge;
+use circle::refusal::{Code, Refusal};
+use std::alloc::{AllocFailed, Global};
+
+/// The refusal of circle, or the rows that it changes.
+pub fn judge_command(
+    alloc: Global,
+    actor: &Person,
+    facts: &CircleFacts,
+    command: &CircleCommand,
+) -> Result<Vec<Edit>, Refusal>
+    ensures refused { (s : State) → facts.now ≡ facts_of s.directory actor.now command.now → IfErr result (RefusedAs (refusal_of s.directory actor.now command.now)) }
+    ensures allowed { (s : State) → facts.now ≡ facts_of s.directory actor.now command.now → OnOk result (refusal_of s.directory actor.now command.now ≡ None) }
+    ensures made { (s : State) → IsSound s.directory → facts.now ≡ facts_of s.directory actor.now command.now → IfOk result (λ edits. after edits.items s ≡ record s { directory = state_after s.directory actor.now command.now }) }
+{
+    let change = judge(alloc, actor, facts, command)?;
+    match rows(alloc, change) {
+        Ok(edits) => Ok(edits),
+        Err(_) => Err(Refusal::bare(alloc, Code::F2)),
+    }
+}
+
+/// One edit for each row. A founded group is two: the group, and its owner as a member that may extend it.
+fn rows(alloc: Global, change: Change) -> Result<Vec<Edit>, AllocFailed<Edit>>
+    ensures { IfOk result (λ edits. edits.items ≡ map edit.Directory (rows_of change)) }
+{
+    let mut edits = Vec::new(alloc);
+    match change {
+        Change::Row(row) => edits.push(Edit::Directory(row))?,
+        Change::Found(group) => {
+            let founder = GroupMember {
+                group: group.number,
+                org: group.owner,
+                extend: true,
+            };
+            edits.push(Edit::Directory(RowEdit::PutGroup(group)))?;
+            edits.push(Edit::Directory(RowEdit::PutGroupMember(founder)))?;
+        }
+    }
+    Ok(edits)
+}

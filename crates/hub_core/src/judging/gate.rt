@@ -1,0 +1,43 @@
+//! The levels and the groups of gates (the MISP book's distribution levels).
+ghost use Rattle.std.specs.Prelude.{◌≡◌, IfOk};
+ghost use Rattle.iodef_tree.specs.Text.{is_root as is_path_of_root};
+ghost use Rattle.hub_core.specs.Refusals.{is_bad_level as is_level_bad, is_bad_group as is_group_bad};
+ghost use Rattle.hub_core.specs.Asked.{Asks, root_gate};
+
+use crate::judging::stop::{Stop, bad_if};
+use iodef_tree::Path;
+use std::alloc::Global;
+
+pub fn is_root(path: &Path) -> bool
+    ensures { result ≡ is_path_of_root path.now }
+{
+    path.tokens().is_empty()
+}
+
+/// Whether there is no such level; 5, as above, is for classes alone.
+pub fn is_bad_level(at_root: bool, level: u32) -> bool
+    ensures { result ≡ is_level_bad at_root level }
+{
+    level > if at_root { 4 } else { 5 }
+}
+
+/// Whether level 4 has no group, or another has one.
+pub fn is_bad_group(level: u32, group: Option<u32>) -> bool
+    ensures { result ≡ is_group_bad level group }
+{
+    if level == 4 {
+        group.is_none()
+    } else {
+        group.is_some()
+    }
+}
+
+/// The level of the gate at the root of an incident.
+pub fn root_level(alloc: Global, level: u32, group: Option<u32>) -> Result<u8, Stop>
+    ensures asked { Asks (root_gate level group) result }
+    ensures level { IfOk result (λ l. l ≡ level) }
+{
+    bad_if(alloc, is_bad_level(true, level), "level")?;
+    bad_if(alloc, is_bad_group(level, group), "group")?;
+    Ok(level as u8)
+}

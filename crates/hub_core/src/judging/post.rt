@@ -1,0 +1,109 @@
+//! New incidents, one for each Incident of a body.
+ghost use Rattle.std.specs.Prelude.{◌≡◌, ◌+◌, ◌<◌, ◌≤◌, ◌^◌, length, IfOk, OnOk};
+ghost use Rattle.hub_core.specs.Documents.{documents_in};
+ghost use Rattle.hub_core.specs.Aftermath.{put_incidents as put_all_incidents};
+ghost use Rattle.hub_core.specs.Judgement.{grounds_by, edits_by};
+ghost use Rattle.hub_core.specs.Asked.{Asks, post_arguments, post_facts};
+ghost use Rattle.hub_core.specs.declared.request.Request.TheVariants as ask;
+
+use crate::bytes::Bytes;
+use crate::edit::Edit;
+use crate::facts::Facts;
+use crate::judging::body::{documents, have_twins, well_marked};
+use crate::judging::class_gates::ClassGates;
+use crate::judging::gate::root_level;
+use crate::judging::posted::Posted;
+use crate::judging::stop::{Stop, bad_if, poster, refuse_if, refuse_with};
+use crate::request::WantedGates;
+use crate::state::Incident;
+use circle::directory::Person;
+use circle::refusal::Code;
+use std::alloc::{AllocError, Global};
+
+pub fn post(
+    alloc: Global,
+    actor: &Person,
+    facts: &Facts,
+    level: u32,
+    group: Option<u32>,
+    gates: &WantedGates,
+    body: &Bytes,
+) -> Result<Vec<Edit>, Stop>
+    ensures asked { Asks (grounds_by facts.now actor.now (ask.Post level group gates.now body.now)) result }
+    ensures made { IfOk result (λ edits. edits.items ≡ edits_by facts.now actor.now (ask.Post level group gates.now body.now)) }
+{
+    poster(alloc, actor)?;
+    let level = root_level(alloc, level, group)?;
+    let (gates, documents) = arguments(alloc, gates, body)?;
+    allowed(alloc, facts, &gates, &documents)?;
+    let first = facts.circle.count + 1;
+    Ok(put_incidents(alloc, actor.org, first, level, group, &gates, documents)?)
+}
+
+/// The gates and the documents. Gates are for a single document, since a path would name another class in each.
+fn arguments(
+    alloc: Global,
+    gates: &WantedGates,
+    body: &Bytes,
+) -> Result<(ClassGates, Vec<Posted>), Stop>
+    ensures asked { Asks (post_arguments gates.now body.now) result }
+    ensures gates { IfOk result (λ both. both.0 ≡ gates.now) }
+    ensures documents { IfOk result (λ both. both.1.items ≡ documents_in body.now) }
+{
+    let wanted = gates.as_slice();
+    let gates = ClassGates::new(alloc, wanted)?;
+    let documents = documents(alloc, body.as_slice())?;
+    let is_ambiguous = documents.len() > 1 && !wanted.is_empty();
+    bad_if(alloc, is_ambiguous, "gates")?;
+    bad_if(alloc, have_twins(&documents), "IncidentID")?;
+    well_marked(alloc, &documents)?;
+    Ok((gates, documents))
+}
+
+fn allowed(
+    alloc: Global,
+    facts: &Facts,
+    gates: &ClassGates,
+    documents: &[Posted],
+) -> Result<(), Stop>
+    ensures asked { Asks (post_facts facts.now gates.now documents.now) result }
+    ensures room { OnOk result (facts.now.circle.count + length documents.now ≤ 1000000) }
+{
+    refuse_if(alloc, !facts.circle.exists, Code::N2)?;
+    refuse_if(alloc, !gates.stand_at_classes(documents), Code::N3)?;
+    refuse_with(alloc, Code::S1, facts.posted)?;
+    let count = facts.circle.count as usize;
+    refuse_if(alloc, count + documents.len() > 1_000_000, Code::L1)?;
+    refuse_if(alloc, facts.gates > 16, Code::L1)?;
+    Ok(())
+}
+
+/// The incidents in the order of the body, from a number on, each with its gates.
+fn put_incidents(
+    alloc: Global,
+    source: u32,
+    first: u32,
+    level: u8,
+    group: Option<u32>,
+    gates: &ClassGates,
+    documents: Vec<Posted>,
+) -> Result<Vec<Edit>, AllocError>
+    requires { first + length documents.items < 2 ^ 32 }
+    ensures { IfOk result (λ edits. edits.items ≡ put_all_incidents source first level group gates.now documents.items) }
+{
+    let mut edits = Vec::new(alloc);
+    let mut number = first;
+    for posted in documents {
+        let (document, ident) = posted.into_parts();
+        edits.push(Edit::PutIncident(Incident {
+            number,
+            source,
+            ident,
+            revision: 1,
+            document,
+        }))?;
+        gates.put(alloc, &mut edits, number, level, group)?;
+        number += 1;
+    }
+    Ok(edits)
+}

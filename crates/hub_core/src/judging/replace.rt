@@ -1,0 +1,121 @@
+//! Another document for an incident.
+ghost use Rattle.std.specs.Prelude.{◌≡◌, ◌+◌, ◌≤◌, true, Some, length, IfOk};
+ghost use Rattle.std.specs.List.{list_all};
+ghost use Rattle.std.specs.Str.{bytes_eq};
+ghost use Rattle.hub_core.specs.Documents.{Lines, documents_in, ident_of};
+ghost use Rattle.hub_core.specs.Judgement.{grounds_by, edits_by, put_known};
+ghost use Rattle.hub_core.specs.Asked.{Asks, replace_arguments, replace_facts};
+ghost use Rattle.hub_core.specs.declared.request.Request.TheVariants as ask;
+
+use crate::bytes::Bytes;
+use crate::edit::Edit;
+use crate::facts::{Facts, Known};
+use crate::judging::body::{documents, well_marked};
+use crate::judging::class_gates::ClassGates;
+use crate::judging::gate::root_level;
+use crate::judging::posted::Posted;
+use crate::judging::stop::{Stop, bad_if, other_than, own, poster, refuse_if, refuse_with};
+use crate::request::WantedGates;
+use crate::state::Incident;
+use circle::directory::Person;
+use circle::refusal::Code;
+use circle::text::Text;
+use std::alloc::{AllocError, Global};
+
+pub fn replace(
+    alloc: Global,
+    actor: &Person,
+    facts: &Facts,
+    incident: u32,
+    revision: u32,
+    level: u32,
+    group: Option<u32>,
+    gates: &WantedGates,
+    body: &Bytes,
+) -> Result<Vec<Edit>, Stop>
+    ensures asked { Asks (grounds_by facts.now actor.now (ask.Replace incident revision level group gates.now body.now)) result }
+    ensures made { IfOk result (λ edits. edits.items ≡ edits_by facts.now actor.now (ask.Replace incident revision level group gates.now body.now)) }
+{
+    poster(alloc, actor)?;
+    let level = root_level(alloc, level, group)?;
+    let (gates, documents) = arguments(alloc, gates, body)?;
+    let known = allowed(alloc, actor, facts, revision, &gates, &documents)?;
+    let mut edits = next_revision(alloc, incident, known, documents)?;
+    edits.push(Edit::TakePolicy(incident))?;
+    gates.put(alloc, &mut edits, incident, level, group)?;
+    Ok(edits)
+}
+
+/// The gates, and the one document.
+fn arguments(
+    alloc: Global,
+    gates: &WantedGates,
+    body: &Bytes,
+) -> Result<(ClassGates, Vec<Posted>), Stop>
+    ensures asked { Asks (replace_arguments gates.now body.now) result }
+    ensures gates { IfOk result (λ both. both.0 ≡ gates.now) }
+    ensures documents { IfOk result (λ both. both.1.items ≡ documents_in body.now) }
+    ensures single { IfOk result (λ both. length both.1.items ≤ 1) }
+{
+    let gates = ClassGates::new(alloc, gates.as_slice())?;
+    let documents = documents(alloc, body.as_slice())?;
+    bad_if(alloc, documents.len() > 1, "document")?;
+    well_marked(alloc, &documents)?;
+    Ok((gates, documents))
+}
+
+fn allowed<'a>(
+    alloc: Global,
+    actor: &Person,
+    facts: &'a Facts,
+    revision: u32,
+    gates: &ClassGates,
+    documents: &[Posted],
+) -> Result<&'a Known, Stop>
+    ensures asked { Asks (replace_facts facts.now actor.now revision gates.now documents.now) result }
+    ensures known { IfOk result (λ k. facts.now.incident ≡ Some k.now) }
+    ensures ident { IfOk result (λ k. list_all (λ (doc : Lines). bytes_eq (ident_of doc) k.now.ident) documents.now ≡ true) }
+    ensures room { IfOk result (λ k. k.now.revision + 1 ≤ 1000000) }
+{
+    let known = own(alloc, actor, facts)?;
+    refuse_if(alloc, !facts.circle.exists, Code::N2)?;
+    refuse_if(alloc, !gates.stand_at_classes(documents), Code::N3)?;
+    refuse_if(alloc, !have_ident(documents, &known.ident), Code::S2)?;
+    refuse_with(alloc, Code::S3, other_than(known.revision, revision))?;
+    refuse_if(alloc, known.revision >= 1_000_000, Code::L1)?;
+    refuse_if(alloc, facts.gates > 16, Code::L1)?;
+    Ok(known)
+}
+
+fn have_ident(documents: &[Posted], ident: &Text) -> bool
+    ensures { result ≡ list_all (λ (doc : Lines). bytes_eq (ident_of doc) ident.now) documents.now }
+{
+    documents.iter().all(|document| document.ident() == ident)
+}
+
+/// The row of the incident with this document, in place of the one that stands.
+fn next_revision(
+    alloc: Global,
+    incident: u32,
+    known: &Known,
+    mut documents: Vec<Posted>,
+) -> Result<Vec<Edit>, AllocError>
+    requires single { length documents.items ≤ 1 }
+    requires ident { list_all (λ (doc : Lines). bytes_eq (ident_of doc) known.now.ident) documents.items ≡ true }
+    requires room { known.now.revision + 1 ≤ 1000000 }
+    ensures { IfOk result (λ edits. edits.items ≡ put_known incident known.now documents.items) }
+{
+    let mut edits = Vec::new(alloc);
+    if let Some(posted) = documents.pop() {
+        let (document, ident) = posted.into_parts();
+        edits.push(Edit::TakeIncident(incident))?;
+        edits.push(Edit::PutIncident(Incident {
+            number: incident,
+            source: known.source,
+            ident,
+            revision: known.revision + 1,
+            document,
+        }))?;
+    }
+    Ok(edits)
+}

@@ -1,0 +1,39 @@
+//! What may be wrong with a search.
+ghost use Rattle.std.specs.Prelude.{◌≡◌, IfOk, option_map};
+ghost use Rattle.hub_core.specs.Judgement.{grounds_by, edits_by};
+ghost use Rattle.hub_core.specs.Refusals.{is_bad_word as is_word_bad};
+ghost use Rattle.hub_core.specs.Asked.{Asks};
+ghost use Rattle.hub_core.specs.declared.request.Request.TheVariants as ask;
+
+use crate::edit::Edit;
+use crate::facts::Facts;
+use crate::judging::stop::{Stop, bad_if};
+use circle::directory::Person;
+use circle::text::Text;
+use std::alloc::Global;
+
+/// A needle, or the name of a class, has 1 to 256 bytes.
+pub fn search(
+    alloc: Global,
+    actor: &Person,
+    facts: &Facts,
+    needle: &Text,
+    class: &Option<Text>,
+    after: u32,
+) -> Result<Vec<Edit>, Stop>
+    ensures asked { Asks (grounds_by facts.now actor.now (ask.Search needle.now class.now after)) result }
+    ensures made { IfOk result (λ edits. edits.items ≡ edits_by facts.now actor.now (ask.Search needle.now class.now after)) }
+{
+    bad_if(alloc, is_bad_word(needle), "needle")?;
+    if let Some(class) = class {
+        bad_if(alloc, is_bad_word(class), "class")?;
+    }
+    Ok(Vec::new(alloc))
+}
+
+fn is_bad_word(text: &Text) -> bool
+    ensures { result ≡ is_word_bad text.now }
+{
+    let length = text.as_str().len();
+    length == 0 || length > 256
+}

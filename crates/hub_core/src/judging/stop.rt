@@ -1,0 +1,119 @@
+//! How the grounds of a request are asked: each is a test and the refusal that it gives.
+ghost use Rattle.std.specs.Prelude.{◌≡◌, [], ◌∷◌, IfOk, option_map, decimal};
+ghost use Rattle.circle.specs.Refusals.{refuse, bad};
+ghost use Rattle.iodef_tree.specs.Pointer.{pointer_tokens};
+ghost use Rattle.hub_core.specs.Refusals.{because, unless_poster, is_bad_pointer, other_than as told_unless_same};
+ghost use Rattle.hub_core.specs.Judgement.{unless_known_own};
+ghost use Rattle.hub_core.specs.Asked.{Asks};
+ghost use Rattle.hub_core.specs.declared.judging.stop.Stop.TheVariants.{NoMemory};
+
+use crate::facts::{Facts, Known};
+use circle::directory::{Person, Role};
+use circle::refusal::{Code, Refusal};
+use circle::text::Text;
+use iodef_tree::{Path, PathFault};
+use std::alloc::{AllocError, AllocFailed, Global};
+
+/// Why there are no edits.
+#[derive(Drop)]
+pub enum Stop {
+    Refused(Refusal),
+    NoMemory,
+}
+
+impl From<AllocError> for Stop {
+    ghost from_gives = { λ _ stop. stop ≡ NoMemory };
+
+    fn from(_refused: AllocError) -> Stop {
+        Stop::NoMemory
+    }
+}
+
+impl<T: Drop> From<AllocFailed<T>> for Stop {
+    ghost from_gives = { λ _ stop. stop ≡ NoMemory };
+
+    fn from(_refused: AllocFailed<T>) -> Stop {
+        Stop::NoMemory
+    }
+}
+
+/// Refuses where the ground holds.
+pub fn refuse_if(alloc: Global, holds: bool, code: Code) -> Result<(), Stop>
+    ensures { Asks (refuse code holds ∷ []) result }
+{
+    if holds {
+        return Err(Stop::Refused(Refusal::bare(alloc, code)));
+    }
+    Ok(())
+}
+
+/// Refuses a bad argument by its field's name.
+pub fn bad_if(alloc: Global, holds: bool, field: &'static str) -> Result<(), Stop>
+    ensures { Asks (bad field.now holds ∷ []) result }
+{
+    if holds {
+        return Err(Stop::Refused(Refusal {
+            code: Code::B1,
+            detail: Text::of(alloc, field)?,
+        }));
+    }
+    Ok(())
+}
+
+/// Refuses where there is a number to tell.
+pub fn refuse_with(alloc: Global, code: Code, number: Option<u32>) -> Result<(), Stop>
+    ensures { Asks (because code (option_map decimal number) ∷ []) result }
+{
+    if let Some(number) = number {
+        return Err(Stop::Refused(Refusal {
+            code,
+            detail: Text::new(format!(in alloc; "{number}")?),
+        }));
+    }
+    Ok(())
+}
+
+/// Posters and coordinators alone post and change incidents.
+pub fn poster(alloc: Global, actor: &Person) -> Result<(), Stop>
+    ensures { Asks (unless_poster actor.now ∷ []) result }
+{
+    let may_post = matches!(actor.role, Role::Coordinator | Role::Poster);
+    refuse_if(alloc, !may_post, Code::W1)
+}
+
+/// What is known of the incident, where it is there and the actor's organisation posted it.
+pub fn own<'a>(alloc: Global, actor: &Person, facts: &'a Facts) -> Result<&'a Known, Stop>
+    ensures asked { Asks (unless_known_own facts.now actor.now ∷ []) result }
+    ensures known { IfOk result (λ k. facts.now.incident ≡ Some k.now) }
+{
+    match &facts.incident {
+        Some(known) if known.source == actor.org => Ok(known),
+        _ => Err(Stop::Refused(Refusal::bare(alloc, Code::N1))),
+    }
+}
+
+/// The path that a text is the JSON pointer of (RFC 6901).
+pub fn path_of(alloc: Global, text: &str, field: &'static str) -> Result<Path, Stop>
+    ensures asked { Asks (bad field.now (is_bad_pointer text.now) ∷ []) result }
+    ensures path { IfOk result (λ p. pointer_tokens text.now ≡ Some p) }
+{
+    match Path::parse(alloc, text) {
+        Ok(path) => Ok(path),
+        Err(PathFault::BadPath) => Err(Stop::Refused(Refusal {
+            code: Code::B1,
+            detail: Text::of(alloc, field)?,
+        })),
+        Err(PathFault::NoMemory) => Err(Stop::NoMemory),
+    }
+}
+
+/// The present revision, where it isn't the one that the request names.
+pub fn other_than(present: u32, revision: u32) -> Option<u32>
+    ensures { option_map decimal result ≡ told_unless_same revision present }
+{
+    if present == revision {
+        None
+    } else {
+        Some(present)
+    }
+}
