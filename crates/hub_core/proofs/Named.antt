@@ -62,7 +62,7 @@ pub group_if_any : (s : State) (a : Person) (g : Option ℕ) → circle.IsSound 
 group_if_any s a None h k = tt
 group_if_any s a (Some n) h k = group_is s.directory n a.org h k
 
-both : (a b : Bool) → (a && b) ≡ true → (a ≡ true) × (b ≡ true)
+pub both : (a b : Bool) → (a && b) ≡ true → (a ≡ true) × (b ≡ true)
 both true b h = (refl, h)
 both false b h = cc
 
