@@ -38,3 +38,4 @@ pub mod Exchanged
 pub mod Loop
 pub mod Bodies
 mod Found
+pub mod Identified
