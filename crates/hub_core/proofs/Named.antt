@@ -31,7 +31,7 @@ own s a n h =
     let f = found_passing (λ (i : Incident). i.source == a.org) (incident_of n s) (yes (is_own s a n) h) in
     record { incident = f.0; found = f.1; source = same_number f.0.source a.org f.2; number = same_number f.0.number n (found_is (λ (i : Incident). i.number == n) s.incidents f.0 f.1) }
 
-some_is : {X : Type 0} (o : Option X) (x : X) → o ≡ Some x → is_some o ≡ true
+pub some_is : {X : Type 0} (o : Option X) (x : X) → o ≡ Some x → is_some o ≡ true
 some_is o x h = ap is_some h
 
 pub is_incident : (s : State) (n : ℕ) (i : Incident) → incident_of n s ≡ Some i → IsIncident s.incidents n
