@@ -16,7 +16,7 @@ use Rattle.hub_core.specs.declared.state.Recipient.{Recipient}
 use Rattle.hub_core.proofs.Keys.{recipient_total, apart_recipient}
 use Rattle.hub_core.proofs.Named.{own, is_incident, counted_is, target_is}
 use Rattle.hub_core.proofs.Limits.{limit_put}
-use Rattle.hub_core.proofs.Rows.{yes, within, count_left, at_most}
+use Rattle.hub_core.proofs.Keeping.{yes, within, count_left, at_most}
 
 with_recipients : (s : State) (rows : List Recipient) → IsSound s → SoundRecipients s.directory s.incidents rows → IsSound (record s { recipients = rows })
 with_recipients s rows h new = record { directory = h.directory; incidents = h.incidents; gates = h.gates; recipients = new; permissions = h.permissions }

@@ -36,7 +36,7 @@ use Rattle.hub_core.specs.declared.state.Recipient.{Recipient}
 use Rattle.hub_core.proofs.Gated.{after_append}
 use Rattle.hub_core.proofs.Named.{own, is_incident}
 use Rattle.hub_core.proofs.Posted.{not_new}
-use Rattle.hub_core.proofs.Rows.{no, never, same_number, other_number, not_both, turned, find_put, find_left, filter_put, filter_left, filter_none}
+use Rattle.hub_core.proofs.Keeping.{no, never, same_number, other_number, not_both, turned, find_put, find_left, filter_put, filter_left, filter_none}
 
 -- ---- one edit
 
@@ -138,7 +138,6 @@ not_theirs s a n i found other h =
   where
     same : (x y : Incident) → Some x ≡ Some y → x ≡ y
     same x y e = cc
-
 
 all_spared : (s : State) (a : Person) (r : Request) (i : Incident) → IsSound s → incident_of i.number s ≡ Some i → i.source ≢ a.org → refusal_of s a r ≡ None → Each (Spares i.number) (edits_of s a r)
 all_spared s a (ask.Circle command) i h found other fine = rows_spare i.number (rows_of (circle.edit_of (circle.next_in s.directory command) a command))

@@ -24,7 +24,7 @@ use Rattle.hub_core.specs.declared.request.WantedGate.{WantedGate}
 use Rattle.hub_core.specs.declared.state.Incident.{Incident}
 use Rattle.hub_core.proofs.Named.{groups_are}
 use Rattle.hub_core.proofs.Posted.{Wishes, IsFit, IsNew, StandAtClasses}
-use Rattle.hub_core.proofs.Rows.{all_each}
+use Rattle.hub_core.proofs.Keeping.{all_each}
 
 or_parts : (a b : Bool) → (a || b) ≡ false → (a ≡ false) × (b ≡ false)
 or_parts true b h = cc

@@ -22,7 +22,7 @@ use Rattle.hub_core.specs.declared.state.Recipient.{Recipient}
 use Rattle.hub_core.specs.declared.state.Permission.{Permission}
 use Rattle.hub_core.proofs.Gated.{IsBeside, put_all, given}
 use Rattle.hub_core.proofs.Posted.{Wishes, StandAtClasses, wanted_at}
-use Rattle.hub_core.proofs.Rows.{never, no, same_number, is_itself, not_both, turned, found_each, find_put, find_new, find_left, each_passed, each_passes, count_kept, count_left, at_most}
+use Rattle.hub_core.proofs.Keeping.{never, no, same_number, is_itself, not_both, turned, found_each, find_put, find_new, find_left, each_passed, each_passes, count_kept, count_left, at_most}
 
 is_not : (b : Bool) → not b ≡ true → b ≡ false
 is_not true h = cc
@@ -195,9 +195,9 @@ beside s i doc h =
       ends = each_left _ (λ (g : Gate). not (g.incident == n)) s.gates h.gates.ends;
       others = each_weaker _ _ (gates_beside n s.gates) (λ g e. is_not (g.incident == n) e) (each_passes (λ (g : Gate). not (g.incident == n)) s.gates);
       roots = each_put (λ (x : Incident). (n == x.number) ≡ false → root_gates x.number (gates_beside n s.gates) ≡ 1) (by_number incident_number) (revised doc i) (others n s.incidents) (λ e. never (n == n) (is_itself n) e)
-      (each_left _ (λ (x : Incident). not (x.number == n)) s.incidents (each_weaker _ _ s.incidents (λ x e other. count_beside is_root x.number n s.gates other ∙ e) h.gates.roots));
+          (each_left _ (λ (x : Incident). not (x.number == n)) s.incidents (each_weaker _ _ s.incidents (λ x e other. count_beside is_root x.number n s.gates other ∙ e) h.gates.roots));
       limit = each_put (λ (x : Incident). (n == x.number) ≡ false → class_gates x.number (gates_beside n s.gates) ≤ 16) (by_number incident_number) (revised doc i) (others n s.incidents) (λ e. never (n == n) (is_itself n) e)
-      (each_left _ (λ (x : Incident). not (x.number == n)) s.incidents (each_weaker _ _ s.incidents (λ x e other. subst (λ k. k ≤ 16) (sym (count_beside (λ p. not (is_root p)) x.number n s.gates other)) e) h.gates.limit));
+          (each_left _ (λ (x : Incident). not (x.number == n)) s.incidents (each_weaker _ _ s.incidents (λ x e other. subst (λ k. k ≤ 16) (sym (count_beside (λ p. not (is_root p)) x.number n s.gates other)) e) h.gates.limit));
     }
 
 recipients_stay : (s : State) (i : Incident) (doc : Lines) → IsSound s → incident_of i.number s ≡ Some i → SoundRecipients s.directory (put_revised doc i s.incidents) s.recipients
@@ -221,7 +221,7 @@ permissions_stay s i doc h found =
       places = each_passed _ _ (λ (x : Permission). not (x.incident == n)) s.permissions (λ x other e. holds_before (λ (y : Incident). is_class_in y.document x.path) x.incident i doc s.incidents (is_not (x.incident == n) other) e) h.permissions.places;
       grantees = each_left _ (λ (x : Permission). not (x.incident == n)) s.permissions h.permissions.grantees;
       limit = each_put (λ (x : Incident). permissions_of x.number (permissions_beside n s.permissions) ≤ 64) (by_number incident_number) (revised doc i) (others n s.incidents)
-      (found_each (λ (x : Incident). permissions_of x.number (permissions_beside n s.permissions) ≤ 64) (λ (x : Incident). x.number == n) s.incidents i found fewer) (each_left _ (λ (x : Incident). not (x.number == n)) s.incidents fewer);
+          (found_each (λ (x : Incident). permissions_of x.number (permissions_beside n s.permissions) ≤ 64) (λ (x : Incident). x.number == n) s.incidents i found fewer) (each_left _ (λ (x : Incident). not (x.number == n)) s.incidents fewer);
     }
 
 -- ---- the state at the end

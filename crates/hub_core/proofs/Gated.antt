@@ -23,7 +23,7 @@ use Rattle.hub_core.specs.declared.request.WantedGate.{WantedGate}
 use Rattle.hub_core.specs.declared.state.Gate.{Gate}
 use Rattle.hub_core.specs.declared.state.Incident.{Incident}
 use Rattle.hub_core.proofs.Keys.{gate_total, apart_gate, apart_text}
-use Rattle.hub_core.proofs.Rows.{never, same_number, is_itself, count_more, count_same, count_none, count_next, each_both}
+use Rattle.hub_core.proofs.Keeping.{never, same_number, is_itself, count_more, count_same, count_none, count_next, each_both}
 
 -- ---- what the edits make of the gates
 
@@ -128,7 +128,9 @@ wanted_put groups incidents n (w ∷ ws) gates fit once h =
           fresh = each_weaker _ _ ws (λ v e. each_put (λ (g : Gate). is_at n v.path g ≡ false) gate_cmp row gates (and_false (n == n) (bytes_eq (pointer_text p) v.path) (subst (λ t. bytes_eq t v.path ≡ false) (sym text) e.0)) e.1) (each_both _ _ ws differ h.fresh.1);
         }) in
         record {
-          rising = all.rising; places = all.places; ends = all.ends;
+          rising = all.rising;
+          places = all.places;
+          ends = all.ends;
           roots = λ m. all.roots m ∙ count_same (λ (g : Gate). g.incident == m && is_root g.path) gate_cmp row gates (and_false (n == m) (is_root p) below);
           others = λ m e. all.others m e ∙ count_same (λ (g : Gate). g.incident == m && not (is_root g.path)) gate_cmp row gates (first_false (n == m) (not (is_root p)) e);
           own = let more = all.own in let next = count_next (λ (g : Gate). g.incident == n && not (is_root g.path)) gate_cmp row gates in omega (arith, more, next);
@@ -166,7 +168,9 @@ given groups incidents n level group wanted gates i found known fit once few h =
       fresh = each_weaker _ _ wanted (λ w e. each_put (λ (g : Gate). is_at n w.path g ≡ false) gate_cmp row gates (and_false (n == n) (bytes_eq [] w.path) (not_empty w.path e.below)) (each_weaker _ _ gates (λ g o. first_false (g.incident == n) (bytes_eq (pointer_text g.path) w.path) o) h.others)) fit;
     }) in
     record {
-      rising = all.rising; places = all.places; ends = all.ends;
+      rising = all.rising;
+      places = all.places;
+      ends = all.ends;
       roots = each_weaker _ _ incidents (λ x e. all.roots x.number ∙ roots_at x.number e) h.roots;
       limit = each_weaker _ _ incidents (λ x e. limit_at all.own all.others x.number e) h.limit;
     }

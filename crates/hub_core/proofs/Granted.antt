@@ -22,7 +22,7 @@ use Rattle.hub_core.specs.declared.state.Permission.{Permission}
 use Rattle.hub_core.proofs.Keys.{permission_total, apart_permission}
 use Rattle.hub_core.proofs.Named.{own, counted_is, grantee_is}
 use Rattle.hub_core.proofs.Limits.{limit_put}
-use Rattle.hub_core.proofs.Rows.{yes, never, within, count_left, at_most}
+use Rattle.hub_core.proofs.Keeping.{yes, never, within, count_left, at_most}
 
 with_permissions : (s : State) (rows : List Permission) → IsSound s → SoundPermissions s.directory s.incidents rows → IsSound (record s { permissions = rows })
 with_permissions s rows h new = record { directory = h.directory; incidents = h.incidents; gates = h.gates; recipients = h.recipients; permissions = new }

@@ -51,22 +51,29 @@ with_directory s e h sound more =
     record {
       directory = sound;
       incidents = record {
-        numbered = h.incidents.numbered; idents = h.incidents.idents;
+        numbered = h.incidents.numbered;
+        idents = h.incidents.idents;
         sources = each_weaker _ _ s.incidents (λ i known. more.orgs i.source known) h.incidents.sources;
-        revisions = h.incidents.revisions; documents = h.incidents.documents; follow = h.incidents.follow;
+        revisions = h.incidents.revisions;
+        documents = h.incidents.documents;
+        follow = h.incidents.follow;
       };
       gates = record {
-        rising = h.gates.rising; places = h.gates.places;
+        rising = h.gates.rising;
+        places = h.gates.places;
         ends = each_weaker _ _ s.gates (λ g known. group_stays d e more g.group known) h.gates.ends;
-        roots = h.gates.roots; limit = h.gates.limit;
+        roots = h.gates.roots;
+        limit = h.gates.limit;
       };
       recipients = record {
-        rising = h.recipients.rising; ends = h.recipients.ends;
+        rising = h.recipients.rising;
+        ends = h.recipients.ends;
         targets = each_weaker _ _ s.recipients (λ r known. target_stays d e more r.target known) h.recipients.targets;
         limit = h.recipients.limit;
       };
       permissions = record {
-        rising = h.permissions.rising; places = h.permissions.places;
+        rising = h.permissions.rising;
+        places = h.permissions.places;
         grantees = each_weaker _ _ s.permissions (λ x known. grantee_stays d e more x.grantee known) h.permissions.grantees;
         limit = h.permissions.limit;
       };

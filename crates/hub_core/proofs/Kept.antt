@@ -34,7 +34,7 @@ use Rattle.hub_core.proofs.Grown.{directory_kept}
 use Rattle.hub_core.proofs.Named.{own, counted_is}
 use Rattle.hub_core.proofs.Posted.{IsFit, posted}
 use Rattle.hub_core.proofs.Redistributed.{redistribute_kept}
-use Rattle.hub_core.proofs.Rows.{yes, within, all_each}
+use Rattle.hub_core.proofs.Keeping.{yes, within, all_each}
 
 or_first : (a b : Bool) → (a || b) ≡ false → a ≡ false
 or_first true b h = h
@@ -65,6 +65,7 @@ one_of (doc ∷ other ∷ docs) h k = absurd (never_two (sym h ∙ two (length d
   where
     never_two : false ≡ true → ⊥
     never_two e = cc
+
     two : (n : ℕ) → nat_lt 1 (suc (suc n)) ≡ true
     two n = grind (arith, nat_tests)
 

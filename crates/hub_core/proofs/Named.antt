@@ -17,7 +17,7 @@ use Rattle.hub_core.specs.declared.request.Target.{Target}
 use Rattle.hub_core.specs.declared.request.Target.TheVariants as target
 use Rattle.hub_core.specs.declared.request.WantedGate.{WantedGate}
 use Rattle.hub_core.specs.declared.state.Incident.{Incident}
-use Rattle.hub_core.proofs.Rows.{yes, all_each, found_any, found_is, found_passing, same_number}
+use Rattle.hub_core.proofs.Keeping.{yes, all_each, found_any, found_is, found_passing, same_number}
 
 -- the incident that the source named
 pub record Own (s : State) (a : Person) (n : ℕ) : Type 0 where

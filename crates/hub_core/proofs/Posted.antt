@@ -25,7 +25,7 @@ use Rattle.hub_core.specs.declared.state.Recipient.{Recipient}
 use Rattle.hub_core.specs.declared.state.Permission.{Permission}
 use Rattle.hub_core.proofs.Gated.{IsWanted, IsBeside, put_all, after_append, after_gates, given}
 use Rattle.hub_core.proofs.Named.{some_is}
-use Rattle.hub_core.proofs.Rows.{never, other_number, turned, is_itself, found_any, found_passing, find_put, find_new, count_none, at_most}
+use Rattle.hub_core.proofs.Keeping.{never, other_number, turned, is_itself, found_any, found_passing, find_put, find_new, count_none, at_most}
 
 -- ---- what is asked for every incident alike
 
@@ -103,7 +103,7 @@ incidents_put s source n wanted doc h next room known fit new =
       numbered = numbered_put incident_number 1000000 row s.incidents next room h.incidents.numbered;
       idents = pairs_put _ (by_number incident_number) row s.incidents (each_weaker _ _ s.incidents (λ i e. (
         (λ same. pair_apart source i.source (ident_of doc) i.ident e (ap (λ (p : ℕ × Bytes). p.0) same) (ap (λ (p : ℕ × Bytes). p.1) same)),
-        (λ same. pair_apart source i.source (ident_of doc) i.ident e (ap (λ (p : ℕ × Bytes). p.0) (sym same)) (ap (λ (p : ℕ × Bytes). p.1) (sym same)))
+        (λ same. pair_apart source i.source (ident_of doc) i.ident e (ap (λ (p : ℕ × Bytes). p.0) (sym same)) (ap (λ (p : ℕ × Bytes). p.1) (sym same))),
       )) new) h.incidents.idents;
       sources = each_put _ (by_number incident_number) row s.incidents known h.incidents.sources;
       revisions = each_put _ (by_number incident_number) row s.incidents (omega arith) h.incidents.revisions;

@@ -22,7 +22,7 @@ use Rattle.hub_core.specs.declared.state.Gate.{Gate}
 use Rattle.hub_core.specs.declared.state.Incident.{Incident}
 use Rattle.hub_core.proofs.Keys.{gate_total, apart_gate}
 use Rattle.hub_core.proofs.Named.{own, counted_is, group_if_any, both}
-use Rattle.hub_core.proofs.Rows.{yes, no, never, within, at_most, same_number, is_itself, each_passes, count_more, count_same, count_none, count_kept, count_left}
+use Rattle.hub_core.proofs.Keeping.{yes, no, never, within, at_most, same_number, is_itself, each_passes, count_more, count_same, count_none, count_kept, count_left}
 
 is_not : (b : Bool) → not b ≡ true → b ≡ false
 is_not true h = cc
