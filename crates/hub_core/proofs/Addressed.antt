@@ -1,5 +1,6 @@
 -- A recipient more or less leaves a sound state.
 use Rattle.std.proofs.Common.{◌≡◌, ℕ, ◌≤◌, ◌==◌, not, List, filter, Option, Some, None, refl, sym, ap, ◌∙◌, subst}
+use Rattle.std.proofs.lemmas.Bool.{ltb-false, not-false}
 use Rattle.circle.specs.Ordered.{put_by}
 use Rattle.circle.specs.Sound.{Each}
 use Rattle.circle.specs.declared.directory.Person.{Person}
@@ -16,7 +17,7 @@ use Rattle.hub_core.specs.declared.state.Recipient.{Recipient}
 use Rattle.hub_core.proofs.Keys.{recipient_total, apart_recipient}
 use Rattle.hub_core.proofs.Named.{own, is_incident, counted_is, target_is}
 use Rattle.hub_core.proofs.Limits.{limit_put}
-use Rattle.hub_core.proofs.Keeping.{yes, within, count_left, at_most}
+use Rattle.hub_core.proofs.Keeping.{count_left, at_most}
 
 with_recipients : (s : State) (rows : List Recipient) → IsSound s → SoundRecipients s.directory s.incidents rows → IsSound (record s { recipients = rows })
 with_recipients s rows h new = record { directory = h.directory; incidents = h.incidents; gates = h.gates; recipients = new; permissions = h.permissions }
@@ -26,12 +27,12 @@ address_kept s a n target h fine =
     let p = passed (grounds s a (ask.Address n target)) fine in
     let row : Recipient = record { incident = n; target = target } in
     let it = own s a n p.1.0 in
-    let few : recipients_then s a (ask.Address n target) ≤ 64 = within 64 _ p.1.1.1.1.0 in
+    let few : recipients_then s a (ask.Address n target) ≤ 64 = ltb-false 64 _ p.1.1.1.1.0 in
     let here : recipients_of n (put_by recipient_cmp row s.recipients) ≤ 64 = subst (λ m. m ≤ 64) (counted_is s n it.incident (λ m. recipients_of m (changed s a (ask.Address n target)).recipients) it.found) few in
     with_recipients s _ h (record {
       rising = order_put recipient_cmp row s.recipients recipient_total (each_weaker _ _ s.recipients (λ r e. apart_recipient row r e) (none_of (is_recipient_being n target) s.recipients p.1.1.1.0)) h.recipients.rising;
       ends = each_put _ recipient_cmp row s.recipients (is_incident s n it.incident it.found) h.recipients.ends;
-      targets = each_put _ recipient_cmp row s.recipients (target_is s.directory target (yes (is_target s.directory target) p.1.1.0)) h.recipients.targets;
+      targets = each_put _ recipient_cmp row s.recipients (target_is s.directory target (not-false (is_target s.directory target) p.1.1.0)) h.recipients.targets;
       limit = limit_put (λ (r : Recipient). r.incident) recipient_cmp 64 row s.recipients s.incidents here h.recipients.limit;
     })
 

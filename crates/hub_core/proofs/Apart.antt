@@ -1,5 +1,6 @@
 -- What a request leaves of the incidents that it doesn't name.
 use Rattle.std.proofs.Common.{◌≡◌, ◌≢◌, ℕ, ◌+◌, ◌≤◌, ◌==◌, ◌&&◌, Bool, true, false, not, List, [], ◌∷◌, ◌++◌, length, map, filter, Option, Some, None, refl, sym, ap, ◌∙◌, subst, arith}
+use Rattle.std.proofs.lemmas.Bool.{and_left, eqb-true, false_from_ne_true, ne_eqb, not-true, not_from_false}
 use Rattle.std.specs.Prelude.{find}
 use Rattle.std.specs.List.{flat_map}
 use Rattle.std.specs.Option.{option_map_or}
@@ -36,7 +37,7 @@ use Rattle.hub_core.specs.declared.state.Recipient.{Recipient}
 use Rattle.hub_core.proofs.Gated.{after_append}
 use Rattle.hub_core.proofs.Named.{own, is_incident}
 use Rattle.hub_core.proofs.Posted.{not_new}
-use Rattle.hub_core.proofs.Keeping.{no, never, same_number, other_number, not_both, turned, find_put, find_left, filter_put, filter_left, filter_none}
+use Rattle.hub_core.proofs.Keeping.{never, not_both, turned, find_put, find_left, filter_put, filter_left, filter_none}
 
 -- ---- one edit
 
@@ -53,20 +54,12 @@ Spares n (TakeRecipient r) = (r.incident == n) ≡ false
 Spares n (PutPermission x) = (x.incident == n) ≡ false
 Spares n (TakePermission m p grantee) = (m == n) ≡ false
 
-not_is : (b : Bool) → b ≡ false → not b ≡ true
-not_is true h = cc
-not_is false h = refl
-
 -- a row of the one isn't a row of the other
 is_other : (m n k : ℕ) → (m == n) ≡ false → (k == n) ≡ true → not (k == m) ≡ true
-is_other m n k h e = not_is (k == m) (not_both k n m (turned m n h) e)
+is_other m n k h e = not_from_false (k == m) (not_both k n m (turned m n h) e)
 
 is_no_such : (m n k : ℕ) (b : Bool) → (m == n) ≡ false → (k == n) ≡ true → not (k == m && b) ≡ true
-is_no_such m n k b h e = not_is (k == m && b) (first_false (k == m) b (not_both k n m (turned m n h) e))
-  where
-    first_false : (a c : Bool) → a ≡ false → (a && c) ≡ false
-    first_false true c h = cc
-    first_false false c h = refl
+is_no_such m n k b h e = not_from_false (k == m && b) (and_left (k == m) b (not_both k n m (turned m n h) e))
 
 spared_by : (n : ℕ) (edit : Edit) (s : State) → Spares n edit → LeavesIncident n s (edited edit s)
 spared_by n (Directory edit) s h = record { row = refl; gates = refl; recipients = refl; permissions = refl }
@@ -121,7 +114,7 @@ next_spares n (Some i) (doc ∷ docs) h = (h i refl, (h i refl, tt))
 incidents_spare : (n source m level : ℕ) (group : Option ℕ) (gates : List WantedGate) (docs : List Lines) → n + 1 ≤ m → Each (Spares n) (put_incidents source m level group gates docs)
 incidents_spare n source m level group gates [] h = tt
 incidents_spare n source m level group gates (doc ∷ docs) h =
-    let other : (m == n) ≡ false = other_number m n (λ e. absurd (omega arith)) in
+    let other : (m == n) ≡ false = ne_eqb m n (λ e. absurd (omega arith)) in
     each_append n (put_incident source m level group gates doc) (put_incidents source (m + 1) level group gates docs) (other, gates_spare n m level group gates other) (incidents_spare n source (m + 1) level group gates docs (omega arith))
 
 rows_spare : (n : ℕ) (rows : List RowEdit) → Each (Spares n) (map Directory rows)
@@ -134,7 +127,7 @@ rows_spare n (row ∷ rows) = (tt, rows_spare n rows)
 not_theirs : (s : State) (a : Person) (n : ℕ) (i : Incident) → incident_of i.number s ≡ Some i → i.source ≢ a.org → not (is_own s a n) ≡ false → (n == i.number) ≡ false
 not_theirs s a n i found other h =
     let it = own s a n h in
-    no (n == i.number) (λ e. other (sym (ap (λ (x : Incident). x.source) (same it.incident i (sym it.found ∙ (ap (λ m. incident_of m s) (same_number n i.number e) ∙ found)))) ∙ it.source))
+    false_from_ne_true (n == i.number) (λ e. other (sym (ap (λ (x : Incident). x.source) (same it.incident i (sym it.found ∙ (ap (λ m. incident_of m s) (eqb-true n i.number e) ∙ found)))) ∙ it.source))
   where
     same : (x y : Incident) → Some x ≡ Some y → x ≡ y
     same x y e = cc
@@ -245,13 +238,9 @@ replaced s n level group gates o docs =
     let two = keeps (put_gates n level group gates) u (tt, wanted_plain n gates) in
     let all : after (first ++ TakePolicy n ∷ put_gates n level group gates) s ≡ after (put_gates n level group gates) u = after_append first (TakePolicy n ∷ put_gates n level group gates) s in
     record {
-      permissions = ap (permissions_at n) all ∙ (ap (filter (λ (x : Permission). x.incident == n)) two.permissions ∙ filter_none (λ (x : Permission). x.incident == n) (λ (x : Permission). not (x.incident == n)) t.permissions (λ x h. is_not (x.incident == n) h));
+      permissions = ap (permissions_at n) all ∙ (ap (filter (λ (x : Permission). x.incident == n)) two.permissions ∙ filter_none (λ (x : Permission). x.incident == n) (λ (x : Permission). not (x.incident == n)) t.permissions (λ x h. not-true (x.incident == n) h));
       recipients = ap (recipients_at n) all ∙ ap (filter (λ (r : Recipient). r.incident == n)) (two.recipients ∙ one.recipients);
     }
-  where
-    is_not : (b : Bool) → not b ≡ true → b ≡ false
-    is_not true h = cc
-    is_not false h = refl
 
 pub exchanges_end_permissions : ExchangesEndPermissions
 exchanges_end_permissions s a n revision level group gates body fine =

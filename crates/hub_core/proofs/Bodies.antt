@@ -1,5 +1,6 @@
 -- What the grounds say of a body and of the gates asked for, where none holds.
 use Rattle.std.proofs.Common.{◌≡◌, ℕ, suc, ◌+◌, ◌≤◌, ◌<◌, ◌==◌, ◌&&◌, ◌||◌, Bool, true, false, not, if◌then◌else◌, List, [], ◌∷◌, length, map, Option, Some, None, refl, sym, ap, ◌∙◌, subst, arith}
+use Rattle.std.proofs.lemmas.Bool.{or_parts}
 use Rattle.std.specs.Prelude.{is_some, find, option_map, unwrap_or, Result, Ok, Err, Contains, decimal, min}
 use Rattle.std.specs.List.{list_any, list_all, filter_map, cons_option}
 use Rattle.std.specs.Option.{option_or}
@@ -26,14 +27,6 @@ use Rattle.hub_core.proofs.Named.{groups_are}
 use Rattle.hub_core.proofs.Posted.{Wishes, IsFit, IsNew, StandAtClasses}
 use Rattle.hub_core.proofs.Keeping.{all_each}
 
-or_parts : (a b : Bool) → (a || b) ≡ false → (a ≡ false) × (b ≡ false)
-or_parts true b h = cc
-or_parts false b h = (refl, h)
-
-none_is : {X : Type 0} (o : Option X) → is_some o ≡ false → o ≡ None
-none_is None h = refl
-none_is (Some x) h = cc
-
 -- ---- the documents
 
 read_as : (r : Result (List Lines) ReadFault) → is_some (fault_of r) ≡ false → r ≡ Ok (documents_of r)
@@ -55,7 +48,7 @@ named_is : (o : Option Bytes) → is_some o ≡ true → o ≡ Some (unwrap_or o
 named_is None h = cc
 named_is (Some x) h = refl
 
-pub classes_are : (wanted : List WantedGate) (docs : List Lines) → stand_at_classes wanted docs ≡ true → Each (StandAtClasses wanted) docs
+classes_are : (wanted : List WantedGate) (docs : List Lines) → stand_at_classes wanted docs ≡ true → Each (StandAtClasses wanted) docs
 classes_are wanted docs h = each_weaker _ _ docs (λ doc e. all_each (λ (w : WantedGate). at_pointer (is_class_in doc) w.path) wanted e) (all_each (λ (doc : Lines). list_all (λ (w : WantedGate). at_pointer (is_class_in doc) w.path) wanted) docs h)
 
 -- each document of a body without a fault and without a bad marking

@@ -1,5 +1,6 @@
 -- Another document for an incident, with other gates, leaves a sound state.
 use Rattle.std.proofs.Common.{◌≡◌, ◌≢◌, ℕ, ◌+◌, ◌≤◌, ◌<◌, ◌==◌, ◌&&◌, ◌||◌, Bool, true, false, not, if◌then◌else◌, List, [], ◌∷◌, ◌++◌, length, map, filter, Option, Some, None, IsTrue, refl, sym, ap, ◌∙◌, subst, arith}
+use Rattle.std.proofs.lemmas.Bool.{and_parts, eq-eqb, eqb-true, not-true, not_from_false}
 use Rattle.std.specs.Prelude.{count_by, find, is_some}
 use Rattle.std.specs.Option.{option_map_or}
 use Rattle.std.specs.Ordering.{is_lt, nat_cmp}
@@ -22,15 +23,7 @@ use Rattle.hub_core.specs.declared.state.Recipient.{Recipient}
 use Rattle.hub_core.specs.declared.state.Permission.{Permission}
 use Rattle.hub_core.proofs.Gated.{IsBeside, put_all, given}
 use Rattle.hub_core.proofs.Posted.{Wishes, StandAtClasses, wanted_at}
-use Rattle.hub_core.proofs.Keeping.{never, no, same_number, is_itself, not_both, turned, found_each, find_put, find_new, find_left, each_passed, each_passes, count_kept, count_left, at_most}
-
-is_not : (b : Bool) → not b ≡ true → b ≡ false
-is_not true h = cc
-is_not false h = refl
-
-not_is : (b : Bool) → b ≡ false → not b ≡ true
-not_is true h = cc
-not_is false h = refl
+use Rattle.hub_core.proofs.Keeping.{never, not_both, turned, found_each, find_put, find_new, find_left, each_passed, each_passes, count_kept, count_left, at_most}
 
 -- ---- a row taken out and put in again is one exchanged
 
@@ -79,7 +72,7 @@ put_back n k f (x ∷ xs) i same counts found is = split (x.number == n) refl (p
         → put_by (by_number incident_number) (f i) (others n (x ∷ xs)) ≡ exchange n f (x ∷ xs)
     split true here rest =
         let first : x.number ≡ k + 1 = counts.0 in
-        let at : x.number ≡ n = same_number x.number n here in
+        let at : x.number ≡ n = eqb-true x.number n here in
         let one : Some x ≡ Some i = sym (ap (λ b. if b then Some x else find (λ (x : Incident). x.number == n) xs) here) ∙ found in
         let it : x ≡ i = cc (one) in
         let up = numbers_above (k + 1) xs counts.1 in
@@ -109,7 +102,7 @@ only_one n k (x ∷ xs) i counts found = split (x.number == n) refl (only_one n 
     split : (b : Bool) → (x.number == n) ≡ b → (find (λ (x : Incident). x.number == n) xs ≡ Some i → Each (λ (y : Incident). (y.number == n) ≡ true → y ≡ i) xs) → Each (λ (y : Incident). (y.number == n) ≡ true → y ≡ i) (x ∷ xs)
     split true here rest =
         let first : x.number ≡ k + 1 = counts.0 in
-        let at : x.number ≡ n = same_number x.number n here in
+        let at : x.number ≡ n = eqb-true x.number n here in
         let one : Some x ≡ Some i = sym (ap (λ b. if b then Some x else find (λ (x : Incident). x.number == n) xs) here) ∙ found in
         let it : x ≡ i = cc (one) in
         ((λ e. it), each_weaker (λ (y : Incident). k + 1 < y.number) (λ (y : Incident). (y.number == n) ≡ true → y ≡ i) xs (λ y e at_y. never (y.number == n) at_y (differs y.number n (k + 1) (sym at ∙ first) e)) (numbers_above (k + 1) xs counts.1))
@@ -164,7 +157,7 @@ incidents_exchanged s i doc h found new =
 found_before : (m : ℕ) (i : Incident) (doc : Lines) (incidents : List Incident) → (m == i.number) ≡ false → incident_in m (put_revised doc i incidents) ≡ incident_in m incidents
 found_before m i doc incidents other =
     find_put (λ (x : Incident). x.number == m) (by_number incident_number) (revised doc i) (others i.number incidents) (turned m i.number other)
-    ∙ find_left (λ (x : Incident). x.number == m) (λ (x : Incident). not (x.number == i.number)) incidents (λ x h. not_is (x.number == i.number) (not_both x.number m i.number other h))
+    ∙ find_left (λ (x : Incident). x.number == m) (λ (x : Incident). not (x.number == i.number)) incidents (λ x h. not_from_false (x.number == i.number) (not_both x.number m i.number other h))
 
 holds_before : (test : Incident → Bool) (m : ℕ) (i : Incident) (doc : Lines) (incidents : List Incident) → (m == i.number) ≡ false → option_map_or test (incident_in m incidents) false ≡ true → option_map_or test (incident_in m (put_revised doc i incidents)) false ≡ true
 holds_before test m i doc incidents other h = ap (λ o. option_map_or test o false) (found_before m i doc incidents other) ∙ h
@@ -177,26 +170,22 @@ gates_beside n = filter (λ (g : Gate). not (g.incident == n))
 abbrev permissions_beside : ℕ → List Permission → List Permission
 permissions_beside n = filter (λ (x : Permission). not (x.incident == n))
 
-and_first : (a b : Bool) → (a && b) ≡ true → a ≡ true
-and_first true b h = refl
-and_first false b h = cc
-
 -- those of another incident all stay
 count_beside : (test : Tokens → Bool) (m n : ℕ) (gates : List Gate) → (n == m) ≡ false → count_by (λ (g : Gate). g.incident == m && test g.path) (gates_beside n gates) ≡ count_by (λ (g : Gate). g.incident == m && test g.path) gates
 count_beside test m n gates other = count_kept (λ (g : Gate). g.incident == m && test g.path) (λ (g : Gate). not (g.incident == n)) gates
-    (λ g h. not_is (g.incident == n) (not_both g.incident m n (turned n m other) (and_first (g.incident == m) (test g.path) h)))
+    (λ g h. not_from_false (g.incident == n) (not_both g.incident m n (turned n m other) (and_parts (g.incident == m) (test g.path) h).0))
 
 beside : (s : State) (i : Incident) (doc : Lines) → IsSound s → IsBeside s.directory.groups (put_revised doc i s.incidents) i.number (gates_beside i.number s.gates)
 beside s i doc h =
     let n = i.number in
     record {
       rising = pairs_left _ (λ (g : Gate). not (g.incident == n)) s.gates h.gates.rising;
-      places = each_passed _ _ (λ (g : Gate). not (g.incident == n)) s.gates (λ g other e. holds_before (λ (x : Incident). is_root g.path || is_class_in x.document g.path) g.incident i doc s.incidents (is_not (g.incident == n) other) e) h.gates.places;
+      places = each_passed _ _ (λ (g : Gate). not (g.incident == n)) s.gates (λ g other e. holds_before (λ (x : Incident). is_root g.path || is_class_in x.document g.path) g.incident i doc s.incidents (not-true (g.incident == n) other) e) h.gates.places;
       ends = each_left _ (λ (g : Gate). not (g.incident == n)) s.gates h.gates.ends;
-      others = each_weaker _ _ (gates_beside n s.gates) (λ g e. is_not (g.incident == n) e) (each_passes (λ (g : Gate). not (g.incident == n)) s.gates);
-      roots = each_put (λ (x : Incident). (n == x.number) ≡ false → root_gates x.number (gates_beside n s.gates) ≡ 1) (by_number incident_number) (revised doc i) (others n s.incidents) (λ e. never (n == n) (is_itself n) e)
+      others = each_weaker _ _ (gates_beside n s.gates) (λ g e. not-true (g.incident == n) e) (each_passes (λ (g : Gate). not (g.incident == n)) s.gates);
+      roots = each_put (λ (x : Incident). (n == x.number) ≡ false → root_gates x.number (gates_beside n s.gates) ≡ 1) (by_number incident_number) (revised doc i) (others n s.incidents) (λ e. never (n == n) (eq-eqb n n refl) e)
           (each_left _ (λ (x : Incident). not (x.number == n)) s.incidents (each_weaker _ _ s.incidents (λ x e other. count_beside is_root x.number n s.gates other ∙ e) h.gates.roots));
-      limit = each_put (λ (x : Incident). (n == x.number) ≡ false → class_gates x.number (gates_beside n s.gates) ≤ 16) (by_number incident_number) (revised doc i) (others n s.incidents) (λ e. never (n == n) (is_itself n) e)
+      limit = each_put (λ (x : Incident). (n == x.number) ≡ false → class_gates x.number (gates_beside n s.gates) ≤ 16) (by_number incident_number) (revised doc i) (others n s.incidents) (λ e. never (n == n) (eq-eqb n n refl) e)
           (each_left _ (λ (x : Incident). not (x.number == n)) s.incidents (each_weaker _ _ s.incidents (λ x e other. subst (λ k. k ≤ 16) (sym (count_beside (λ p. not (is_root p)) x.number n s.gates other)) e) h.gates.limit));
     }
 
@@ -218,7 +207,7 @@ permissions_stay s i doc h found =
     each_weaker _ _ s.incidents (λ x e. at_most _ _ 64 (count_left (λ (y : Permission). y.incident == x.number) (λ (y : Permission). not (y.incident == n)) s.permissions) e) h.permissions.limit in
     record {
       rising = pairs_left _ (λ (x : Permission). not (x.incident == n)) s.permissions h.permissions.rising;
-      places = each_passed _ _ (λ (x : Permission). not (x.incident == n)) s.permissions (λ x other e. holds_before (λ (y : Incident). is_class_in y.document x.path) x.incident i doc s.incidents (is_not (x.incident == n) other) e) h.permissions.places;
+      places = each_passed _ _ (λ (x : Permission). not (x.incident == n)) s.permissions (λ x other e. holds_before (λ (y : Incident). is_class_in y.document x.path) x.incident i doc s.incidents (not-true (x.incident == n) other) e) h.permissions.places;
       grantees = each_left _ (λ (x : Permission). not (x.incident == n)) s.permissions h.permissions.grantees;
       limit = each_put (λ (x : Incident). permissions_of x.number (permissions_beside n s.permissions) ≤ 64) (by_number incident_number) (revised doc i) (others n s.incidents)
           (found_each (λ (x : Incident). permissions_of x.number (permissions_beside n s.permissions) ≤ 64) (λ (x : Incident). x.number == n) s.incidents i found fewer) (each_left _ (λ (x : Incident). not (x.number == n)) s.incidents fewer);
@@ -240,7 +229,7 @@ exchanged s i level group wanted doc h found new classes wishes =
     let incidents : List Incident = put_revised doc i s.incidents in
     let row : Incident = revised doc i in
     let there : incident_in n incidents ≡ Some row =
-    find_new (λ (x : Incident). x.number == n) (by_number incident_number) row (others n s.incidents) (is_itself n) (each_weaker _ _ (others n s.incidents) (λ x e. is_not (x.number == n) e) (each_passes (λ (x : Incident). not (x.number == n)) s.incidents)) in
+    find_new (λ (x : Incident). x.number == n) (by_number incident_number) row (others n s.incidents) (eq-eqb n n refl) (each_weaker _ _ (others n s.incidents) (λ x e. not-true (x.number == n) e) (each_passes (λ (x : Incident). not (x.number == n)) s.incidents)) in
     record {
       directory = h.directory;
       incidents = incidents_exchanged s i doc h found new;

@@ -1,5 +1,6 @@
 -- The gates that an incident is given: at its root, and those asked for.
 use Rattle.std.proofs.Common.{◌≡◌, ◌≢◌, ℕ, ◌+◌, ◌≤◌, ◌==◌, ◌&&◌, ◌||◌, Bool, true, false, not, List, [], ◌∷◌, ◌++◌, length, map, filter, Option, Some, None, refl, sym, ap, ◌∙◌, subst, arith}
+use Rattle.std.proofs.lemmas.Bool.{and_from, and_left, and_right, eqb-true, or_parts}
 use Rattle.std.specs.Prelude.{count_by}
 use Rattle.std.specs.List.{list_any, flat_map}
 use Rattle.std.specs.Option.{option_map_or}
@@ -23,7 +24,7 @@ use Rattle.hub_core.specs.declared.request.WantedGate.{WantedGate}
 use Rattle.hub_core.specs.declared.state.Gate.{Gate}
 use Rattle.hub_core.specs.declared.state.Incident.{Incident}
 use Rattle.hub_core.proofs.Keys.{gate_total, apart_gate, apart_text}
-use Rattle.hub_core.proofs.Keeping.{never, same_number, is_itself, count_more, count_same, count_none, count_next, each_both}
+use Rattle.hub_core.proofs.Keeping.{never, count_more, count_same, count_none, count_next, each_both}
 
 -- ---- what the edits make of the gates
 
@@ -89,18 +90,6 @@ class_place (Some i) p h = right (is_root p) (is_class_in i.document p) h
     right true b h = refl
     right false b h = h
 
-and_false : (a b : Bool) → b ≡ false → (a && b) ≡ false
-and_false true b h = h
-and_false false b h = refl
-
-first_false : (a b : Bool) → a ≡ false → (a && b) ≡ false
-first_false true b h = cc
-first_false false b h = refl
-
-or_parts : (a b : Bool) → (a || b) ≡ false → (a ≡ false) × (b ≡ false)
-or_parts true b h = cc
-or_parts false b h = (refl, h)
-
 none_map : (text : Bytes) (ws : List WantedGate) → list_any (bytes_eq text) (map (λ (g : WantedGate). g.path) ws) ≡ false → Each (λ (w : WantedGate). bytes_eq text w.path ≡ false) ws
 none_map text [] h = tt
 none_map text (w ∷ ws) h = let parts = or_parts (bytes_eq text w.path) (list_any (bytes_eq text) (map (λ (g : WantedGate). g.path) ws)) h in (parts.0, none_map text ws parts.1)
@@ -125,14 +114,14 @@ wanted_put groups incidents n (w ∷ ws) gates fit once h =
           rising = order_put gate_cmp row gates gate_total (each_weaker _ _ gates (λ g e. apart_text n g.incident (pointer_text p) (pointer_text g.path) (subst (λ t. (g.incident == n && bytes_eq (pointer_text g.path) t) ≡ false) (sym text) e)) h.fresh.0) h.rising;
           places = each_put (λ (g : Gate). is_place_of incidents g.incident g.path ≡ true) gate_cmp row gates (class_place (incident_in n incidents) p class) h.places;
           ends = each_put (λ (g : Gate). IsGroupIfAny groups g.group) gate_cmp row gates fit.0.group h.ends;
-          fresh = each_weaker _ _ ws (λ v e. each_put (λ (g : Gate). is_at n v.path g ≡ false) gate_cmp row gates (and_false (n == n) (bytes_eq (pointer_text p) v.path) (subst (λ t. bytes_eq t v.path ≡ false) (sym text) e.0)) e.1) (each_both _ _ ws differ h.fresh.1);
+          fresh = each_weaker _ _ ws (λ v e. each_put (λ (g : Gate). is_at n v.path g ≡ false) gate_cmp row gates (and_right (n == n) (bytes_eq (pointer_text p) v.path) (subst (λ t. bytes_eq t v.path ≡ false) (sym text) e.0)) e.1) (each_both _ _ ws differ h.fresh.1);
         }) in
         record {
           rising = all.rising;
           places = all.places;
           ends = all.ends;
-          roots = λ m. all.roots m ∙ count_same (λ (g : Gate). g.incident == m && is_root g.path) gate_cmp row gates (and_false (n == m) (is_root p) below);
-          others = λ m e. all.others m e ∙ count_same (λ (g : Gate). g.incident == m && not (is_root g.path)) gate_cmp row gates (first_false (n == m) (not (is_root p)) e);
+          roots = λ m. all.roots m ∙ count_same (λ (g : Gate). g.incident == m && is_root g.path) gate_cmp row gates (and_right (n == m) (is_root p) below);
+          others = λ m e. all.others m e ∙ count_same (λ (g : Gate). g.incident == m && not (is_root g.path)) gate_cmp row gates (and_left (n == m) (not (is_root p)) e);
           own = let more = all.own in let next = count_next (λ (g : Gate). g.incident == n && not (is_root g.path)) gate_cmp row gates in omega (arith, more, next);
         }
 
@@ -151,10 +140,6 @@ not_empty : (text : Bytes) → at_pointer is_root text ≡ false → bytes_eq []
 not_empty [] h = cc
 not_empty (c ∷ cs) h = refl
 
-both_true : (a b : Bool) → a ≡ true → b ≡ true → (a && b) ≡ true
-both_true true b h k = k
-both_true false b h k = cc
-
 pub given : (groups : List Group) (incidents : List Incident) (n level : ℕ) (group : Option ℕ) (wanted : List WantedGate) (gates : List Gate) (i : Incident) → incident_in n incidents ≡ Some i → IsGroupIfAny groups group →
     Each (IsWanted groups incidents n) wanted → stands_twice (map (λ (g : WantedGate). g.path) wanted) ≡ false → length wanted ≤ 16 → IsBeside groups incidents n gates → SoundGates groups incidents (put_all n level group wanted gates)
 given groups incidents n level group wanted gates i found known fit once few h =
@@ -162,10 +147,10 @@ given groups incidents n level group wanted gates i found known fit once few h =
     let first : List Gate = put_by gate_cmp row gates in
     let root : is_place_of incidents n [] ≡ true = ap (λ o. option_map_or (λ (i : Incident). true) o false) found in
     let all = wanted_put groups incidents n wanted first fit once (record {
-      rising = order_put gate_cmp row gates gate_total (each_weaker _ _ gates (λ g e. apart_gate n [] g (first_false (g.incident == n) (same_path g.path []) e)) h.others) h.rising;
+      rising = order_put gate_cmp row gates gate_total (each_weaker _ _ gates (λ g e. apart_gate n [] g (and_left (g.incident == n) (same_path g.path []) e)) h.others) h.rising;
       places = each_put (λ (g : Gate). is_place_of incidents g.incident g.path ≡ true) gate_cmp row gates root h.places;
       ends = each_put (λ (g : Gate). IsGroupIfAny groups g.group) gate_cmp row gates known h.ends;
-      fresh = each_weaker _ _ wanted (λ w e. each_put (λ (g : Gate). is_at n w.path g ≡ false) gate_cmp row gates (and_false (n == n) (bytes_eq [] w.path) (not_empty w.path e.below)) (each_weaker _ _ gates (λ g o. first_false (g.incident == n) (bytes_eq (pointer_text g.path) w.path) o) h.others)) fit;
+      fresh = each_weaker _ _ wanted (λ w e. each_put (λ (g : Gate). is_at n w.path g ≡ false) gate_cmp row gates (and_right (n == n) (bytes_eq [] w.path) (not_empty w.path e.below)) (each_weaker _ _ gates (λ g o. and_left (g.incident == n) (bytes_eq (pointer_text g.path) w.path) o) h.others)) fit;
     }) in
     record {
       rising = all.rising;
@@ -176,22 +161,22 @@ given groups incidents n level group wanted gates i found known fit once few h =
     }
   where
     no_root : root_gates n gates ≡ 0
-    no_root = count_none (λ (g : Gate). g.incident == n && is_root g.path) gates (each_weaker _ _ gates (λ g e. first_false (g.incident == n) (is_root g.path) e) h.others)
+    no_root = count_none (λ (g : Gate). g.incident == n && is_root g.path) gates (each_weaker _ _ gates (λ g e. and_left (g.incident == n) (is_root g.path) e) h.others)
 
     no_class : class_gates n gates ≡ 0
-    no_class = count_none (λ (g : Gate). g.incident == n && not (is_root g.path)) gates (each_weaker _ _ gates (λ g e. first_false (g.incident == n) (not (is_root g.path)) e) h.others)
+    no_class = count_none (λ (g : Gate). g.incident == n && not (is_root g.path)) gates (each_weaker _ _ gates (λ g e. and_left (g.incident == n) (not (is_root g.path)) e) h.others)
 
     roots_at : (m : ℕ) → ((n == m) ≡ false → root_gates m gates ≡ 1) → root_gates m (put_by gate_cmp (record { incident = n; path = []; level = level; group = group }) gates) ≡ 1
     roots_at m was = at (n == m) refl
       where
         at : (b : Bool) → (n == m) ≡ b → root_gates m (put_by gate_cmp (record { incident = n; path = []; level = level; group = group }) gates) ≡ 1
         at true is =
-            count_more (λ (g : Gate). g.incident == m && is_root g.path) gate_cmp (record { incident = n; path = []; level = level; group = group }) gates (both_true (n == m) true is refl)
-            ∙ ap (λ k. 1 + k) (subst (λ k. root_gates k gates ≡ 0) (same_number n m is) no_root)
-        at false is = count_same (λ (g : Gate). g.incident == m && is_root g.path) gate_cmp (record { incident = n; path = []; level = level; group = group }) gates (first_false (n == m) true is) ∙ was is
+            count_more (λ (g : Gate). g.incident == m && is_root g.path) gate_cmp (record { incident = n; path = []; level = level; group = group }) gates (and_from (n == m) true is refl)
+            ∙ ap (λ k. 1 + k) (subst (λ k. root_gates k gates ≡ 0) (eqb-true n m is) no_root)
+        at false is = count_same (λ (g : Gate). g.incident == m && is_root g.path) gate_cmp (record { incident = n; path = []; level = level; group = group }) gates (and_left (n == m) true is) ∙ was is
 
     first_same : (m : ℕ) → class_gates m (put_by gate_cmp (record { incident = n; path = []; level = level; group = group }) gates) ≡ class_gates m gates
-    first_same m = count_same (λ (g : Gate). g.incident == m && not (is_root g.path)) gate_cmp (record { incident = n; path = []; level = level; group = group }) gates (and_false (n == m) false refl)
+    first_same m = count_same (λ (g : Gate). g.incident == m && not (is_root g.path)) gate_cmp (record { incident = n; path = []; level = level; group = group }) gates (and_right (n == m) false refl)
 
     at_most_16 : (all own had : ℕ) → all ≤ length wanted + own → own ≡ had → had ≡ 0 → all ≤ 16
     at_most_16 all own had h k none = omega (arith, few)
@@ -202,5 +187,5 @@ given groups incidents n level group wanted gates i found known fit once few h =
     limit_at own others m was = at (n == m) refl
       where
         at : (b : Bool) → (n == m) ≡ b → class_gates m (put_all n level group wanted gates) ≤ 16
-        at true is = subst (λ k. class_gates k (put_all n level group wanted gates) ≤ 16) (same_number n m is) (at_most_16 _ _ _ own (first_same n) no_class)
+        at true is = subst (λ k. class_gates k (put_all n level group wanted gates) ≤ 16) (eqb-true n m is) (at_most_16 _ _ _ own (first_same n) no_class)
         at false is = subst (λ k. k ≤ 16) (sym (others m is ∙ first_same m)) (was is)

@@ -1,5 +1,6 @@
 -- A permission more or less leaves a sound state.
 use Rattle.std.proofs.Common.{◌≡◌, ℕ, ◌≤◌, ◌==◌, not, List, [], ◌∷◌, filter, Option, Some, None, true, false, refl, sym, ap, ◌∙◌, subst}
+use Rattle.std.proofs.lemmas.Bool.{ltb-false, not-false}
 use Rattle.std.specs.Option.{option_map_or}
 use Rattle.iodef_tree.specs.Text.{Bytes, Tokens}
 use Rattle.iodef_tree.specs.Pointer.{pointer_tokens}
@@ -22,7 +23,7 @@ use Rattle.hub_core.specs.declared.state.Permission.{Permission}
 use Rattle.hub_core.proofs.Keys.{permission_total, apart_permission}
 use Rattle.hub_core.proofs.Named.{own, counted_is, grantee_is}
 use Rattle.hub_core.proofs.Limits.{limit_put}
-use Rattle.hub_core.proofs.Keeping.{yes, never, within, count_left, at_most}
+use Rattle.hub_core.proofs.Keeping.{never, count_left, at_most}
 
 with_permissions : (s : State) (rows : List Permission) → IsSound s → SoundPermissions s.directory s.incidents rows → IsSound (record s { permissions = rows })
 with_permissions s rows h new = record { directory = h.directory; incidents = h.incidents; gates = h.gates; recipients = h.recipients; permissions = new }
@@ -46,8 +47,8 @@ pub grant_kept : (s : State) (a : Person) (n revision : ℕ) (path : Bytes) (gra
 grant_kept s a n revision path grantee h fine =
     let p = passed (grounds s a (ask.Grant n revision path grantee)) fine in
     let it = own s a n p.1.1.0 in
-    let few : permissions_then s a (ask.Grant n revision path grantee) ≤ 64 = within 64 _ p.1.1.1.1.1.1.1.0 in
-    granted_at s n (pointer_tokens path) grantee h (yes (at_pointer (is_class_of s.incidents n) path) p.1.1.1.1.0) p.1.1.1.1.1.0 (grantee_is s.directory a.org grantee h.directory (yes (is_grantee s.directory a.org grantee) p.1.1.1.0))
+    let few : permissions_then s a (ask.Grant n revision path grantee) ≤ 64 = ltb-false 64 _ p.1.1.1.1.1.1.1.0 in
+    granted_at s n (pointer_tokens path) grantee h (not-false (at_pointer (is_class_of s.incidents n) path) p.1.1.1.1.0) p.1.1.1.1.1.0 (grantee_is s.directory a.org grantee h.directory (not-false (is_grantee s.directory a.org grantee) p.1.1.1.0))
     (subst (λ m. m ≤ 64) (counted_is s n it.incident (λ m. permissions_of m (changed s a (ask.Grant n revision path grantee)).permissions) it.found) few)
 
 withdrawn_at : (s : State) (n : ℕ) (o : Option Tokens) (grantee : Grantee) → IsSound s → IsSound (after (option_map_or (λ p. TakePermission n p grantee ∷ []) o []) s)

@@ -27,7 +27,7 @@ use Rattle.hub_core.specs.declared.request.Target.{Target}
 use Rattle.hub_core.specs.declared.request.Target.TheVariants as target
 
 -- the edits of the rows make the change of the directory
-pub rows_make : (edit : CircleEdit) (s : State) → after (map edits.Directory (rows_of edit)) s ≡ record s { directory = circle.edited edit s.directory }
+rows_make : (edit : CircleEdit) (s : State) → after (map edits.Directory (rows_of edit)) s ≡ record s { directory = circle.edited edit s.directory }
 rows_make (Row edit) s = refl
 rows_make (Found group) s = refl
 

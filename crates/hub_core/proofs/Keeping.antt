@@ -1,24 +1,17 @@
 -- Rows put in and taken out: what is found, filtered and counted then.
 use Rattle.std.proofs.Common.{◌≡◌, ◌≢◌, ℕ, ◌+◌, ◌≤◌, ◌<◌, ◌==◌, ◌||◌, Bool, true, false, not, if◌then◌else◌, List, [], ◌∷◌, map, filter, Option, Some, None, IsTrue, refl, sym, ap, ◌∙◌, subst, arith}
+use Rattle.std.proofs.lemmas.Bool.{false_from_ne_true}
 use Rattle.std.specs.Prelude.{count_by, find, is_some, nat_lt}
 use Rattle.std.specs.List.{list_any, list_all}
 use Rattle.std.specs.Option.{option_map_or}
 use Rattle.std.specs.Ordering.{is_lt}
 use Rattle.std.specs.declared.cmp.Ordering.{Ordering}
-use Rattle.std.proofs.lemmas.List.Sums.{sum_by-cons}
 use Rattle.std.proofs.lemmas.Bool.Decides.{nat_tests}
+use Rattle.redact.proofs.Counts.{count_by-cons}
 use Rattle.circle.specs.Ordered.{put_by}
 use Rattle.circle.specs.Sound.{Each}
 
 -- ---- tests
-
-pub yes : (b : Bool) → not b ≡ false → b ≡ true
-yes true h = refl
-yes false h = cc
-
-pub no : (b : Bool) → (b ≡ true → ⊥) → b ≡ false
-no true h = absurd (h refl)
-no false h = refl
 
 pub never : {A : Type 0} (b : Bool) → b ≡ true → b ≡ false → A
 never b h k = absurd (cannot (sym h ∙ k))
@@ -26,27 +19,12 @@ never b h k = absurd (cannot (sym h ∙ k))
     cannot : true ≡ false → ⊥
     cannot e = cc
 
-pub same_number : (m n : ℕ) → (m == n) ≡ true → m ≡ n
-same_number m n h = grind (arith, nat_tests)
-
-pub other_number : (m n : ℕ) → m ≢ n → (m == n) ≡ false
-other_number m n h = grind (arith, nat_tests)
-
-pub not_same : (m n : ℕ) → (m == n) ≡ false → m ≢ n
-not_same m n h = grind (arith, nat_tests)
-
-pub is_itself : (n : ℕ) → (n == n) ≡ true
-is_itself n = grind (arith, nat_tests)
-
 pub turned : (m n : ℕ) → (m == n) ≡ false → (n == m) ≡ false
 turned m n h = grind (arith, nat_tests)
 
 -- what is one number isn't another
 pub not_both : (m n k : ℕ) → (n == k) ≡ false → (m == n) ≡ true → (m == k) ≡ false
 not_both m n k h e = grind (arith, nat_tests)
-
-pub within : (limit n : ℕ) → nat_lt limit n ≡ false → n ≤ limit
-within limit n h = grind (arith, nat_tests)
 
 -- ---- what is found
 
@@ -101,7 +79,7 @@ find_left p q (x ∷ xs) stays = split (q x) refl (find_left p q xs stays)
     split : (b : Bool) → q x ≡ b → find p (filter q xs) ≡ find p xs → find p (filter q (x ∷ xs)) ≡ find p (x ∷ xs)
     split true is rest = ap (λ b. find p (if b then x ∷ filter q xs else filter q xs)) is ∙ ap (λ o. if p x then Some x else o) rest
     split false is rest =
-        let other : p x ≡ false = no (p x) (λ h. never (q x) (stays x h) is) in
+        let other : p x ≡ false = false_from_ne_true (p x) (λ h. never (q x) (stays x h) is) in
         ap (λ b. find p (if b then x ∷ filter q xs else filter q xs)) is ∙ (rest ∙ sym (ap (λ b. if b then Some x else find p xs) other))
 
 -- ---- what is left
@@ -127,10 +105,6 @@ pub each_both : {X : Type 0} (P Q : X → Type 0) (xs : List X) → Each P xs �
 each_both P Q [] h k = tt
 each_both P Q (x ∷ xs) h k = ((h.0, k.0), each_both P Q xs h.1 k.1)
 
-pub each_any : {X : Type 0} (P : X → Type 0) (xs : List X) → ((x : X) → P x) → Each P xs
-each_any P [] h = tt
-each_any P (x ∷ xs) h = (h x, each_any P xs h)
-
 pub all_each : {X : Type 0} (p : X → Bool) (xs : List X) → list_all p xs ≡ true → Each (λ x. p x ≡ true) xs
 all_each p [] h = tt
 all_each p (x ∷ xs) h = (grind arith, all_each p xs (grind arith))
@@ -150,7 +124,7 @@ filter_left p q (x ∷ xs) stays = split (q x) refl (filter_left p q xs stays)
     split : (b : Bool) → q x ≡ b → filter p (filter q xs) ≡ filter p xs → filter p (filter q (x ∷ xs)) ≡ filter p (x ∷ xs)
     split true is rest = ap (λ b. filter p (if b then x ∷ filter q xs else filter q xs)) is ∙ ap (λ zs. if p x then x ∷ zs else zs) rest
     split false is rest =
-        let other : p x ≡ false = no (p x) (λ h. never (q x) (stays x h) is) in
+        let other : p x ≡ false = false_from_ne_true (p x) (λ h. never (q x) (stays x h) is) in
         ap (λ b. filter p (if b then x ∷ filter q xs else filter q xs)) is ∙ (rest ∙ sym (ap (λ b. if b then x ∷ filter p xs else filter p xs) other))
 
 -- a filter of what its contrary left
@@ -164,11 +138,8 @@ filter_none p q (x ∷ xs) gone = split (q x) refl (filter_none p q xs gone)
 
 -- ---- how many
 
-abbrev pub one_if : Bool → ℕ
+abbrev one_if : Bool → ℕ
 one_if b = if b then 1 else 0
-
-pub count-cons : {X : Type 0} (p : X → Bool) (x : X) (xs : List X) → count_by p (x ∷ xs) ≡ one_if (p x) + count_by p xs
-count-cons p x xs = sum_by-cons (λ x. if p x then 1 else 0) x xs
 
 one : (b : Bool) → b ≡ true → one_if b ≡ 1
 one true h = refl
@@ -178,17 +149,17 @@ nothing : (b : Bool) → b ≡ false → one_if b ≡ 0
 nothing true h = cc
 nothing false h = refl
 
-pub count_here : {X : Type 0} (p : X → Bool) (x : X) (xs : List X) → p x ≡ true → count_by p (x ∷ xs) ≡ 1 + count_by p xs
-count_here p x xs h = count-cons p x xs ∙ ap (λ n. n + count_by p xs) (one (p x) h)
+count_here : {X : Type 0} (p : X → Bool) (x : X) (xs : List X) → p x ≡ true → count_by p (x ∷ xs) ≡ 1 + count_by p xs
+count_here p x xs h = count_by-cons p x xs ∙ ap (λ n. n + count_by p xs) (one (p x) h)
 
-pub count_past : {X : Type 0} (p : X → Bool) (x : X) (xs : List X) → p x ≡ false → count_by p (x ∷ xs) ≡ count_by p xs
-count_past p x xs h = let all = count-cons p x xs in let none : one_if (p x) ≡ 0 = nothing (p x) h in omega arith
+count_past : {X : Type 0} (p : X → Bool) (x : X) (xs : List X) → p x ≡ false → count_by p (x ∷ xs) ≡ count_by p xs
+count_past p x xs h = let all = count_by-cons p x xs in let none : one_if (p x) ≡ 0 = nothing (p x) h in omega arith
 
 later : {X : Type 0} (p : X → Bool) (x y : X) (ys zs : List X) → count_by p zs ≡ count_by p (x ∷ ys) → count_by p (y ∷ zs) ≡ count_by p (x ∷ y ∷ ys)
 later p x y ys zs h =
-    let a = count-cons p y zs in let b = count-cons p x (y ∷ ys) in let c = count-cons p y ys in let d = count-cons p x ys in omega arith
+    let a = count_by-cons p y zs in let b = count_by-cons p x (y ∷ ys) in let c = count_by-cons p y ys in let d = count_by-cons p x ys in omega arith
 
-pub count_put : {X : Type 0} (p : X → Bool) (cmp : X → X → Ordering) (x : X) (xs : List X) → count_by p (put_by cmp x xs) ≡ count_by p (x ∷ xs)
+count_put : {X : Type 0} (p : X → Bool) (cmp : X → X → Ordering) (x : X) (xs : List X) → count_by p (put_by cmp x xs) ≡ count_by p (x ∷ xs)
 count_put p cmp x [] = refl
 count_put p cmp x (y ∷ ys) = elim (is_lt (cmp x y)) as (λ b. count_by p (if b then x ∷ y ∷ ys else y ∷ put_by cmp x ys) ≡ count_by p (x ∷ y ∷ ys)) [ true ↦ refl | false ↦ later p x y ys (put_by cmp x ys) (count_put p cmp x ys) ]
 
@@ -218,8 +189,8 @@ count_left p q [] = omega arith
 count_left p q (x ∷ xs) = split (q x) refl (count_left p q xs)
   where
     split : (b : Bool) → q x ≡ b → count_by p (filter q xs) ≤ count_by p xs → count_by p (filter q (x ∷ xs)) ≤ count_by p (x ∷ xs)
-    split true is rest = subst (λ b. count_by p (if b then x ∷ filter q xs else filter q xs) ≤ count_by p (x ∷ xs)) (sym is) (let a = count-cons p x (filter q xs) in let b = count-cons p x xs in omega (arith, a, b, rest))
-    split false is rest = subst (λ b. count_by p (if b then x ∷ filter q xs else filter q xs) ≤ count_by p (x ∷ xs)) (sym is) (let b = count-cons p x xs in omega (arith, b, rest))
+    split true is rest = subst (λ b. count_by p (if b then x ∷ filter q xs else filter q xs) ≤ count_by p (x ∷ xs)) (sym is) (let a = count_by-cons p x (filter q xs) in let b = count_by-cons p x xs in omega (arith, a, b, rest))
+    split false is rest = subst (λ b. count_by p (if b then x ∷ filter q xs else filter q xs) ≤ count_by p (x ∷ xs)) (sym is) (let b = count_by-cons p x xs in omega (arith, b, rest))
 
 -- as many, where none that counts is taken out
 pub count_kept : {X : Type 0} (p q : X → Bool) (xs : List X) → ((x : X) → p x ≡ true → q x ≡ true) → count_by p (filter q xs) ≡ count_by p xs
@@ -227,8 +198,8 @@ count_kept p q [] stays = refl
 count_kept p q (x ∷ xs) stays = split (q x) refl (count_kept p q xs stays)
   where
     split : (b : Bool) → q x ≡ b → count_by p (filter q xs) ≡ count_by p xs → count_by p (filter q (x ∷ xs)) ≡ count_by p (x ∷ xs)
-    split true is rest = ap (λ b. count_by p (if b then x ∷ filter q xs else filter q xs)) is ∙ (count-cons p x (filter q xs) ∙ (ap (λ n. one_if (p x) + n) rest ∙ sym (count-cons p x xs)))
-    split false is rest = ap (λ b. count_by p (if b then x ∷ filter q xs else filter q xs)) is ∙ (rest ∙ sym (count_past p x xs (no (p x) (λ h. never (q x) (stays x h) is))))
+    split true is rest = ap (λ b. count_by p (if b then x ∷ filter q xs else filter q xs)) is ∙ (count_by-cons p x (filter q xs) ∙ (ap (λ n. one_if (p x) + n) rest ∙ sym (count_by-cons p x xs)))
+    split false is rest = ap (λ b. count_by p (if b then x ∷ filter q xs else filter q xs)) is ∙ (rest ∙ sym (count_past p x xs (false_from_ne_true (p x) (λ h. never (q x) (stays x h) is))))
 
 pub at_most : (a b limit : ℕ) → a ≤ b → b ≤ limit → a ≤ limit
 at_most a b limit h k = omega arith

@@ -1,5 +1,6 @@
 -- What nothing refuses leaves a sound state.
 use Rattle.std.proofs.Common.{◌≡◌, ℕ, ◌+◌, ◌≤◌, ◌&&◌, ◌||◌, Bool, true, false, not, List, [], ◌∷◌, ◌++◌, length, map, Option, Some, None, refl, sym, ap, ◌∙◌, subst, arith}
+use Rattle.std.proofs.lemmas.Bool.{ltb-false, not-false, or_parts}
 use Rattle.std.specs.Prelude.{suc, nat_lt, Ok}
 use Rattle.std.specs.List.{list_all}
 use Rattle.std.specs.Option.{option_map_or}
@@ -34,24 +35,20 @@ use Rattle.hub_core.proofs.Grown.{directory_kept}
 use Rattle.hub_core.proofs.Named.{own, counted_is}
 use Rattle.hub_core.proofs.Posted.{IsFit, posted}
 use Rattle.hub_core.proofs.Redistributed.{redistribute_kept}
-use Rattle.hub_core.proofs.Keeping.{yes, within, all_each}
-
-or_first : (a b : Bool) → (a || b) ≡ false → a ≡ false
-or_first true b h = h
-or_first false b h = refl
+use Rattle.hub_core.proofs.Keeping.{all_each}
 
 post_kept : (s : State) (a : Person) (level : ℕ) (group : Option ℕ) (gates : List WantedGate) (body : Bytes) → IsSound s → IsOrg s.directory.orgs a.org → refusal_of s a (ask.Post level group gates body) ≡ None → IsSound (changed s a (ask.Post level group gates body))
 post_kept s a level group gates body h known fine =
     let docs = documents_in body in
     let p = passed (grounds s a (ask.Post level group gates body)) fine in
     let next : next_incident s ≡ length s.incidents + 1 = next_number incident_number 1000000 s.incidents h.incidents.numbered in
-    let room : length s.incidents + length docs ≤ 1000000 = within 1000000 _ p.1.1.1.1.1.1.1.1.1.1.0 in
-    let classes : stand_at_classes gates docs ≡ true = yes (stand_at_classes gates docs) p.1.1.1.1.1.1.1.1.0 in
-    let own : are_own_groups s a group gates ≡ true = yes (are_own_groups s a group gates) p.1.1.1.1.1.1.1.0 in
-    let good : are_bad_gates gates ≡ false = or_first (are_bad_gates gates) (has_several docs && has_some gates) p.1.1.1.0 in
+    let room : length s.incidents + length docs ≤ 1000000 = ltb-false 1000000 _ p.1.1.1.1.1.1.1.1.1.1.0 in
+    let classes : stand_at_classes gates docs ≡ true = not-false (stand_at_classes gates docs) p.1.1.1.1.1.1.1.1.0 in
+    let own : are_own_groups s a group gates ≡ true = not-false (are_own_groups s a group gates) p.1.1.1.1.1.1.1.0 in
+    let good : are_bad_gates gates ≡ false = (or_parts (are_bad_gates gates) (has_several docs && has_some gates) p.1.1.1.0).0 in
     posted docs s a.org (next_incident s) level group gates h next room known
     (fit body docs gates (body_read body p.1.1.1.1.0) p.1.1.1.1.1.1.0 classes) p.1.1.1.1.1.0 (not_posted s a.org docs p.1.1.1.1.1.1.1.1.1.0)
-    (wishes s a group gates h.directory good own (within 16 _ p.1.1.1.1.1.1.1.1.1.1.1.0))
+    (wishes s a group gates h.directory good own (ltb-false 16 _ p.1.1.1.1.1.1.1.1.1.1.1.0))
 
 -- ---- another document
 
@@ -85,11 +82,11 @@ replace_own s a i revision level group gates body h found fine =
     let p = passed (grounds s a (ask.Replace n revision level group gates body)) fine in
     let read : reading body ≡ Ok docs = body_read body p.1.1.1.1.0 in
     let one = one_of docs p.1.1.1.1.1.0 (reported body docs read).some in
-    let classes : stand_at_classes gates docs ≡ true = yes (stand_at_classes gates docs) p.1.1.1.1.1.1.1.1.1.0 in
-    let own : are_own_groups s a group gates ≡ true = yes (are_own_groups s a group gates) p.1.1.1.1.1.1.1.1.0 in
-    let kept : keep_ident s n docs ≡ true = yes (keep_ident s n docs) p.1.1.1.1.1.1.1.1.1.1.0 in
-    let few : number_of gates ≤ 16 = subst (λ m. m ≤ 16) (counted_is s n i (λ m. number_of gates) found) (within 16 _ p.1.1.1.1.1.1.1.1.1.1.1.1.1.0) in
-    let room : next_revision s n ≤ 1000000 = within 1000000 _ p.1.1.1.1.1.1.1.1.1.1.1.1.0 in
+    let classes : stand_at_classes gates docs ≡ true = not-false (stand_at_classes gates docs) p.1.1.1.1.1.1.1.1.1.0 in
+    let own : are_own_groups s a group gates ≡ true = not-false (are_own_groups s a group gates) p.1.1.1.1.1.1.1.1.0 in
+    let kept : keep_ident s n docs ≡ true = not-false (keep_ident s n docs) p.1.1.1.1.1.1.1.1.1.1.0 in
+    let few : number_of gates ≤ 16 = subst (λ m. m ≤ 16) (counted_is s n i (λ m. number_of gates) found) (ltb-false 16 _ p.1.1.1.1.1.1.1.1.1.1.1.1.1.0) in
+    let room : next_revision s n ≤ 1000000 = ltb-false 1000000 _ p.1.1.1.1.1.1.1.1.1.1.1.1.0 in
     let fits : IsFit gates one.0 = (subst (Each (IsFit gates)) one.1 (fit body docs gates read p.1.1.1.1.1.1.0 classes)).0 in
     let same : list_all (λ (doc : Lines). bytes_eq (ident_of doc) i.ident) (one.0 ∷ []) ≡ true =
     ap (list_all (λ (doc : Lines). bytes_eq (ident_of doc) i.ident)) (sym one.1) ∙ (sym (ap (λ o. option_map_or (λ (x : Incident). list_all (λ (doc : Lines). bytes_eq (ident_of doc) x.ident) docs) o false) found) ∙ kept) in

@@ -35,10 +35,10 @@ permission_total =
 
 -- ---- a path is known by its pointer
 
-pub one_path : (p q : Tokens) → pointer_text p ≡ pointer_text q → p ≡ q
+one_path : (p q : Tokens) → pointer_text p ≡ pointer_text q → p ≡ q
 one_path p q h = let same : Some p ≡ Some q = sym (pointer_tokens-pointer_text p) ∙ (ap pointer_tokens h ∙ pointer_tokens-pointer_text q) in cc
 
-pub path_of_text : (p q : Tokens) → bytes_eq (pointer_text q) (pointer_text p) ≡ true → same_path q p ≡ true
+path_of_text : (p q : Tokens) → bytes_eq (pointer_text q) (pointer_text p) ≡ true → same_path q p ≡ true
 path_of_text p q h = ap (same_path q) (sym (one_path q p (bytes_eq-true (pointer_text q) (pointer_text p) h))) ∙ same_path-refl q
 
 -- ---- rows of different keys don't tie

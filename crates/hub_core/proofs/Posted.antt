@@ -1,5 +1,6 @@
 -- One incident more, with its gates, leaves a sound state.
 use Rattle.std.proofs.Common.{◌≡◌, ◌≢◌, ℕ, ◌+◌, ◌≤◌, ◌<◌, ◌==◌, ◌&&◌, ◌||◌, Bool, true, false, not, List, [], ◌∷◌, ◌++◌, length, map, Option, Some, None, IsTrue, refl, sym, ap, ◌∙◌, subst, arith}
+use Rattle.std.proofs.lemmas.Bool.{and_right, eq-eqb, ne_eqb, or_parts}
 use Rattle.std.specs.Prelude.{count_by, is_some}
 use Rattle.std.specs.List.{list_any}
 use Rattle.std.specs.Option.{option_map_or}
@@ -25,7 +26,7 @@ use Rattle.hub_core.specs.declared.state.Recipient.{Recipient}
 use Rattle.hub_core.specs.declared.state.Permission.{Permission}
 use Rattle.hub_core.proofs.Gated.{IsWanted, IsBeside, put_all, after_append, after_gates, given}
 use Rattle.hub_core.proofs.Named.{some_is}
-use Rattle.hub_core.proofs.Keeping.{never, other_number, turned, is_itself, found_any, found_passing, find_put, find_new, count_none, at_most}
+use Rattle.hub_core.proofs.Keeping.{never, turned, found_any, found_passing, find_put, find_new, count_none, at_most}
 
 -- ---- what is asked for every incident alike
 
@@ -67,7 +68,7 @@ numbers_low k (x ∷ xs) h =
     (omega arith, each_weaker (λ (i : Incident). i.number ≤ k + 1 + length xs) (λ (i : Incident). i.number ≤ k + length (x ∷ xs)) xs (λ i e. omega arith) (numbers_low (k + 1) xs h.1))
 
 above : (m n l : ℕ) → m ≤ 0 + l → n ≡ l + 1 → (m == n) ≡ false
-above m n l h is = other_number m n (λ e. absurd (omega arith))
+above m n l h is = ne_eqb m n (λ e. absurd (omega arith))
 
 -- an incident that is there has another number
 pub not_new : (s : State) (n m : ℕ) → IsSound s → n ≡ length s.incidents + 1 → IsIncident s.incidents m → (m == n) ≡ false
@@ -119,8 +120,8 @@ beside s source n doc h next =
       places = each_weaker _ _ s.gates (λ g e. let test = λ (i : Incident). is_root g.path || is_class_in i.document g.path in stays test g.incident row s.incidents (not_new_of s n g.incident test h next e) e) h.gates.places;
       ends = h.gates.ends;
       others = each_weaker _ _ s.gates (λ g e. not_new_of s n g.incident (λ (i : Incident). is_root g.path || is_class_in i.document g.path) h next e) h.gates.places;
-      roots = each_put (λ (i : Incident). (n == i.number) ≡ false → root_gates i.number s.gates ≡ 1) (by_number incident_number) row s.incidents (λ e. never (n == n) (is_itself n) e) (each_weaker _ _ s.incidents (λ i e _. e) h.gates.roots);
-      limit = each_put (λ (i : Incident). (n == i.number) ≡ false → class_gates i.number s.gates ≤ 16) (by_number incident_number) row s.incidents (λ e. never (n == n) (is_itself n) e) (each_weaker _ _ s.incidents (λ i e _. e) h.gates.limit);
+      roots = each_put (λ (i : Incident). (n == i.number) ≡ false → root_gates i.number s.gates ≡ 1) (by_number incident_number) row s.incidents (λ e. never (n == n) (eq-eqb n n refl) e) (each_weaker _ _ s.incidents (λ i e _. e) h.gates.roots);
+      limit = each_put (λ (i : Incident). (n == i.number) ≡ false → class_gates i.number s.gates ≤ 16) (by_number incident_number) row s.incidents (λ e. never (n == n) (eq-eqb n n refl) e) (each_weaker _ _ s.incidents (λ i e _. e) h.gates.limit);
     }
 
 zero_low : (n limit : ℕ) → n ≡ 0 → n ≤ limit
@@ -163,7 +164,7 @@ posted_one : (s : State) (source n level : ℕ) (group : Option ℕ) (wanted : L
 posted_one s source n level group wanted doc h next room known fit new wishes =
     let row : Incident = new_row source n doc in
     let incidents : List Incident = put_row source n doc s.incidents in
-    let found : incident_in n incidents ≡ Some row = find_new (λ (i : Incident). i.number == n) (by_number incident_number) row s.incidents (is_itself n) (no_number s n h next) in
+    let found : incident_in n incidents ≡ Some row = find_new (λ (i : Incident). i.number == n) (by_number incident_number) row s.incidents (eq-eqb n n refl) (no_number s n h next) in
     record {
       directory = h.directory;
       incidents = incidents_put s source n wanted doc h next room known fit new;
@@ -174,20 +175,12 @@ posted_one s source n level group wanted doc h next room known fit new wishes =
 
 -- ---- one document after another
 
-or_parts : (a b : Bool) → (a || b) ≡ false → (a ≡ false) × (b ≡ false)
-or_parts true b h = cc
-or_parts false b h = (refl, h)
-
-and_false : (a b : Bool) → b ≡ false → (a && b) ≡ false
-and_false true b h = h
-and_false false b h = refl
-
 -- a document behind one of another ident is new there too
 still_new : (source n : ℕ) (doc : Lines) (incidents : List Incident) (docs : List Lines) → list_any (bytes_eq (ident_of doc)) (map ident_of docs) ≡ false → Each (IsNew source incidents) docs → Each (IsNew source (put_row source n doc incidents)) docs
 still_new source n doc incidents [] differ new = tt
 still_new source n doc incidents (d ∷ ds) differ new =
     let parts = or_parts (bytes_eq (ident_of doc) (ident_of d)) (list_any (bytes_eq (ident_of doc)) (map ident_of ds)) differ in
-    (each_put (λ (i : Incident). (i.source == source && bytes_eq i.ident (ident_of d)) ≡ false) (by_number incident_number) (new_row source n doc) incidents (and_false (source == source) (bytes_eq (ident_of doc) (ident_of d)) parts.0) new.0, still_new source n doc incidents ds parts.1 new.1)
+    (each_put (λ (i : Incident). (i.source == source && bytes_eq i.ident (ident_of d)) ≡ false) (by_number incident_number) (new_row source n doc) incidents (and_right (source == source) (bytes_eq (ident_of doc) (ident_of d)) parts.0) new.0, still_new source n doc incidents ds parts.1 new.1)
 
 pub posted : (docs : List Lines) (s : State) (source n level : ℕ) (group : Option ℕ) (wanted : List WantedGate) → IsSound s → n ≡ length s.incidents + 1 → length s.incidents + length docs ≤ 1000000 → IsOrg s.directory.orgs source →
     Each (IsFit wanted) docs → stands_twice (map ident_of docs) ≡ false → Each (IsNew source s.incidents) docs → Wishes s.directory.groups group wanted → IsSound (after (put_incidents source n level group wanted docs) s)

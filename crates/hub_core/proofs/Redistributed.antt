@@ -1,5 +1,6 @@
 -- Another gate at a place leaves a sound state.
 use Rattle.std.proofs.Common.{◌≡◌, ℕ, ◌+◌, ◌≤◌, ◌==◌, ◌&&◌, ◌||◌, Bool, true, false, not, List, [], ◌∷◌, filter, Option, Some, None, refl, sym, ap, ◌∙◌, subst, arith}
+use Rattle.std.proofs.lemmas.Bool.{and_parts, eq-eqb, eqb-true, false_from_ne_true, ltb-false, not-false, not-true, not_from_false}
 use Rattle.std.specs.Prelude.{count_by}
 use Rattle.std.specs.Option.{option_map_or}
 use Rattle.iodef_tree.specs.Text.{Bytes, Tokens, is_root, same_path}
@@ -21,16 +22,8 @@ use Rattle.hub_core.specs.declared.request.Request.TheVariants as ask
 use Rattle.hub_core.specs.declared.state.Gate.{Gate}
 use Rattle.hub_core.specs.declared.state.Incident.{Incident}
 use Rattle.hub_core.proofs.Keys.{gate_total, apart_gate}
-use Rattle.hub_core.proofs.Named.{own, counted_is, group_if_any, both}
-use Rattle.hub_core.proofs.Keeping.{yes, no, never, within, at_most, same_number, is_itself, each_passes, count_more, count_same, count_none, count_kept, count_left}
-
-is_not : (b : Bool) → not b ≡ true → b ≡ false
-is_not true h = cc
-is_not false h = refl
-
-not_is : (b : Bool) → b ≡ false → not b ≡ true
-not_is true h = cc
-not_is false h = refl
+use Rattle.hub_core.proofs.Named.{own, counted_is, group_if_any}
+use Rattle.hub_core.proofs.Keeping.{never, at_most, each_passes, count_more, count_same, count_none, count_kept, count_left}
 
 root_is : (p : Tokens) → is_root p ≡ true → p ≡ []
 root_is [] h = refl
@@ -39,7 +32,7 @@ root_is (x ∷ p) h = cc
 -- ---- a test of where a gate stands, with the gate at one place exchanged
 
 at_place : (n : ℕ) (p : Tokens) (g : Gate) → is_gate_at n p g ≡ true → (g.incident ≡ n) × (g.path ≡ p)
-at_place n p g h = let parts = both (g.incident == n) (same_path g.path p) h in (same_number g.incident n parts.0, same_path-true g.path p parts.1)
+at_place n p g h = let parts = and_parts (g.incident == n) (same_path g.path p) h in (eqb-true g.incident n parts.0, same_path-true g.path p parts.1)
 
 abbrev other : ℕ → Tokens → Gate → Bool
 other n p g = not (is_gate_at n p g)
@@ -50,7 +43,7 @@ count_elsewhere : (test : ℕ → Tokens → Bool) (row : Gate) (gates : List Ga
 count_elsewhere test row gates out =
     count_same (λ (g : Gate). test g.incident g.path) gate_cmp row (filter (other row.incident row.path) gates) out
     ∙ count_kept (λ (g : Gate). test g.incident g.path) (other row.incident row.path) gates
-    (λ g h. not_is (is_gate_at row.incident row.path g) (no (is_gate_at row.incident row.path g) (λ at.
+    (λ g h. not_from_false (is_gate_at row.incident row.path g) (false_from_ne_true (is_gate_at row.incident row.path g) (λ at.
     let where_it_is = at_place row.incident row.path g at in
     never (test g.incident g.path) h (ap (λ m. test m g.path) where_it_is.0 ∙ (ap (test row.incident) where_it_is.1 ∙ out)))))
 
@@ -59,11 +52,11 @@ root_test m n p = n == m && is_root p
 
 is_gate_there : (n m : ℕ) (p q : Tokens) (i : ℕ) → root_test m n p ≡ true → root_test m i q ≡ true → (i == n && same_path q p) ≡ true
 is_gate_there n m p q i here there =
-    let a = both (n == m) (is_root p) here in
-    let b = both (i == m) (is_root q) there in
-    let same : i ≡ n = same_number i m b.0 ∙ sym (same_number n m a.0) in
+    let a = and_parts (n == m) (is_root p) here in
+    let b = and_parts (i == m) (is_root q) there in
+    let same : i ≡ n = eqb-true i m b.0 ∙ sym (eqb-true n m a.0) in
     let root : q ≡ p = root_is q b.1 ∙ sym (root_is p a.1) in
-    subst (λ k. (k == n && same_path q p) ≡ true) (sym same) (subst (λ r. (n == n && same_path r p) ≡ true) (sym root) (ap (λ b. b && same_path p p) (is_itself n) ∙ same_path-refl p))
+    subst (λ k. (k == n && same_path q p) ≡ true) (sym same) (subst (λ r. (n == n && same_path r p) ≡ true) (sym root) (ap (λ b. b && same_path p p) (eq-eqb n n refl) ∙ same_path-refl p))
 
 -- the root keeps one gate
 one_root : (row : Gate) (gates : List Gate) (m : ℕ) → root_gates m gates ≡ 1 → root_gates m (put_by gate_cmp row (filter (other row.incident row.path) gates)) ≡ 1
@@ -74,7 +67,7 @@ one_root row gates m was = split (root_test m row.incident row.path) refl
     split true is =
         count_more (λ (g : Gate). root_test m g.incident g.path) gate_cmp row (filter (other row.incident row.path) gates) is
         ∙ ap (λ n. 1 + n) (count_none (λ (g : Gate). root_test m g.incident g.path) (filter (other row.incident row.path) gates)
-        (each_weaker _ _ (filter (other row.incident row.path) gates) (λ g h. no (root_test m g.incident g.path) (λ there. never (is_gate_at row.incident row.path g) (is_gate_there row.incident m row.path g.path g.incident is there) (is_not (is_gate_at row.incident row.path g) h)))
+        (each_weaker _ _ (filter (other row.incident row.path) gates) (λ g h. false_from_ne_true (root_test m g.incident g.path) (λ there. never (is_gate_at row.incident row.path g) (is_gate_there row.incident m row.path g.path g.incident is there) (not-true (is_gate_at row.incident row.path g) h)))
         (each_passes (other row.incident row.path) gates)))
 
 abbrev class_test : ℕ → ℕ → Tokens → Bool
@@ -85,7 +78,7 @@ still_few : (row : Gate) (gates : List Gate) (m : ℕ) → class_gates row.incid
 still_few row gates m here there = split (row.incident == m) refl
   where
     split : (b : Bool) → (row.incident == m) ≡ b → class_gates m (put_by gate_cmp row (filter (other row.incident row.path) gates)) ≤ 16
-    split true is = subst (λ k. class_gates k (put_by gate_cmp row (filter (other row.incident row.path) gates)) ≤ 16) (same_number row.incident m is) here
+    split true is = subst (λ k. class_gates k (put_by gate_cmp row (filter (other row.incident row.path) gates)) ≤ 16) (eqb-true row.incident m is) here
     split false is = subst (λ k. k ≤ 16) (sym (count_elsewhere (class_test m) row gates (ap (λ b. b && not (is_root row.path)) is))) there
 
 -- ---- the request
@@ -102,7 +95,7 @@ redistributed_at s n (Some p) level group h place known few =
     let row : Gate = record { incident = n; path = p; level = level; group = group } in
     let left : List Gate = filter (other n p) s.gates in
     with_gates s _ h (record {
-      rising = order_put gate_cmp row left gate_total (each_weaker _ _ left (λ g e. apart_gate n p g (is_not (is_gate_at n p g) e)) (each_passes (other n p) s.gates)) (pairs_left _ _ s.gates h.gates.rising);
+      rising = order_put gate_cmp row left gate_total (each_weaker _ _ left (λ g e. apart_gate n p g (not-true (is_gate_at n p g) e)) (each_passes (other n p) s.gates)) (pairs_left _ _ s.gates h.gates.rising);
       places = each_put _ gate_cmp row left place (each_left _ _ s.gates h.gates.places);
       ends = each_put _ gate_cmp row left known (each_left _ _ s.gates h.gates.ends);
       roots = each_weaker _ _ s.incidents (λ i e. one_root row s.gates i.number e) h.gates.roots;
@@ -113,6 +106,6 @@ pub redistribute_kept : (s : State) (a : Person) (n revision : ℕ) (path : Byte
 redistribute_kept s a n revision path level group h fine =
     let p = passed (grounds s a (ask.Redistribute n revision path level group)) fine in
     let it = own s a n p.1.1.1.1.0 in
-    let few : gates_then s a (ask.Redistribute n revision path level group) ≤ 16 = within 16 _ p.1.1.1.1.1.1.1.1.1.0 in
-    redistributed_at s n (pointer_tokens path) level group h (yes (at_pointer (is_place_of s.incidents n) path) p.1.1.1.1.1.1.0) (group_if_any s a group h.directory (yes (is_own_group s a group) p.1.1.1.1.1.0))
+    let few : gates_then s a (ask.Redistribute n revision path level group) ≤ 16 = ltb-false 16 _ p.1.1.1.1.1.1.1.1.1.0 in
+    redistributed_at s n (pointer_tokens path) level group h (not-false (at_pointer (is_place_of s.incidents n) path) p.1.1.1.1.1.1.0) (group_if_any s a group h.directory (not-false (is_own_group s a group) p.1.1.1.1.1.0))
     (subst (λ m. m ≤ 16) (counted_is s n it.incident (λ m. class_gates m (changed s a (ask.Redistribute n revision path level group)).gates) it.found) few)
