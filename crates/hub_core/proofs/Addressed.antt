@@ -1,18 +1,16 @@
 -- A recipient more or less leaves a sound state.
-use Rattle.std.proofs.Common.{◌≡◌, ℕ, ◌≤◌, ◌==◌, not, List, filter, Option, Some, None, refl, sym, ap, ◌∙◌, subst}
+use Rattle.std.proofs.Common.{◌≡◌, ℕ, ◌≤◌, ◌==◌, not, List, None, subst}
 use Rattle.std.proofs.lemmas.Bool.{ltb-false, not-false}
 use Rattle.circle.specs.Ordered.{put_by}
-use Rattle.circle.specs.Sound.{Each}
 use Rattle.circle.specs.declared.directory.Person.{Person}
 use Rattle.circle.proofs.Judged.{passed}
 use Rattle.circle.proofs.Keeping.{each_put, each_left, each_weaker, pairs_left, order_put, none_of}
 use Rattle.hub_core.specs.Aftermath.{changed}
 use Rattle.hub_core.specs.Refusals.{grounds, refusal_of, is_target, recipients_then}
 use Rattle.hub_core.specs.Sound.{IsSound, SoundRecipients}
-use Rattle.hub_core.specs.State.{State, recipient_cmp, recipients_of, is_recipient_being, has_recipient}
+use Rattle.hub_core.specs.State.{State, recipient_cmp, recipients_of, is_recipient_being}
 use Rattle.hub_core.specs.declared.request.Request.TheVariants as ask
 use Rattle.hub_core.specs.declared.request.Target.{Target}
-use Rattle.hub_core.specs.declared.state.Incident.{Incident}
 use Rattle.hub_core.specs.declared.state.Recipient.{Recipient}
 use Rattle.hub_core.proofs.Keys.{recipient_total, apart_recipient}
 use Rattle.hub_core.proofs.Named.{own, is_incident, counted_is, target_is}

@@ -1,34 +1,31 @@
 -- What a request leaves of the incidents that it doesn't name.
 use Rattle.std.proofs.Common.{◌≡◌, ◌≢◌, ℕ, ◌+◌, ◌≤◌, ◌==◌, ◌&&◌, Bool, true, false, not, List, [], ◌∷◌, ◌++◌, length, map, filter, Option, Some, None, refl, sym, ap, ◌∙◌, subst, arith}
 use Rattle.std.proofs.lemmas.Bool.{and_left, eqb-true, false_from_ne_true, ne_eqb, not-true, not_from_false}
-use Rattle.std.specs.Prelude.{find}
 use Rattle.std.specs.List.{flat_map}
 use Rattle.std.specs.Option.{option_map_or}
-use Rattle.iodef_tree.specs.Text.{Bytes, Tokens, same_path}
+use Rattle.iodef_tree.specs.Text.{Tokens, same_path}
 use Rattle.iodef_tree.specs.Pointer.{pointer_tokens}
-use Rattle.policy.specs.declared.permission.Grantee.{Grantee}
 use Rattle.circle.specs.Aftermath as circle
 use Rattle.circle.specs.Aftermath.{rows_of}
-use Rattle.circle.specs.Ordered.{put_by, by_number}
+use Rattle.circle.specs.Ordered.{by_number}
 use Rattle.circle.specs.Sound.{Each}
 use Rattle.circle.specs.declared.command.RowEdit.{RowEdit}
 use Rattle.circle.specs.declared.directory.Person.{Person}
 use Rattle.circle.specs.declared.refusal.Refusal.{Refusal}
 use Rattle.circle.proofs.Judged.{passed, next_number}
 use Rattle.circle.proofs.Keeping.{names_within}
-use Rattle.hub_core.specs.Aftermath.{changed, edits_of, next_incident, put_gate, put_gates, put_incident, put_incidents, put_next, put_revision}
-use Rattle.hub_core.specs.Documents.{Lines, documents_in, made_at, ident_of}
+use Rattle.hub_core.specs.Aftermath.{changed, edits_of, next_incident, put_gate, put_gates, put_incident, put_incidents, put_next}
+use Rattle.hub_core.specs.Documents.{Lines, documents_in, made_at}
 use Rattle.hub_core.specs.Edits.{after, edited}
 use Rattle.hub_core.specs.Laws.{OthersStay, ExchangesEndPermissions}
-use Rattle.hub_core.specs.Others.{LeavesIncident, EndsPermissions, gates_at, recipients_at, permissions_at}
+use Rattle.hub_core.specs.Others.{LeavesIncident, EndsPermissions, recipients_at, permissions_at}
 use Rattle.hub_core.specs.Refusals.{grounds, refusal_of, is_own, unless_refused}
 use Rattle.hub_core.specs.Sound.{IsSound}
-use Rattle.hub_core.specs.State.{State, incident_number, incident_in, incident_of, gate_cmp, recipient_cmp, permission_cmp, is_gate_at, is_recipient_being, is_permission_being, same_target, same_grantee}
+use Rattle.hub_core.specs.State.{State, incident_number, incident_of, gate_cmp, recipient_cmp, permission_cmp, is_gate_at, is_recipient_being, is_permission_being, same_target, same_grantee}
 use Rattle.hub_core.specs.declared.edit.Edit.{Edit}
 use Rattle.hub_core.specs.declared.edit.Edit.TheVariants.{Directory, PutIncident, TakeIncident, TakePolicy, PutGate, TakeGate, PutRecipient, TakeRecipient, PutPermission, TakePermission}
 use Rattle.hub_core.specs.declared.request.Request.{Request}
 use Rattle.hub_core.specs.declared.request.Request.TheVariants as ask
-use Rattle.hub_core.specs.declared.request.Target.{Target}
 use Rattle.hub_core.specs.declared.request.WantedGate.{WantedGate}
 use Rattle.hub_core.specs.declared.state.Gate.{Gate}
 use Rattle.hub_core.specs.declared.state.Incident.{Incident}
@@ -36,8 +33,7 @@ use Rattle.hub_core.specs.declared.state.Permission.{Permission}
 use Rattle.hub_core.specs.declared.state.Recipient.{Recipient}
 use Rattle.hub_core.proofs.Gated.{after_append}
 use Rattle.hub_core.proofs.Named.{own, is_incident}
-use Rattle.hub_core.proofs.Posted.{not_new}
-use Rattle.hub_core.proofs.Keeping.{never, not_both, turned, find_put, find_left, filter_put, filter_left, filter_none}
+use Rattle.hub_core.proofs.Keeping.{not_both, turned, find_put, find_left, filter_put, filter_left, filter_none}
 
 -- ---- one edit
 

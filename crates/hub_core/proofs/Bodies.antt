@@ -1,7 +1,7 @@
 -- What the grounds say of a body and of the gates asked for, where none holds.
-use Rattle.std.proofs.Common.{◌≡◌, ℕ, suc, ◌+◌, ◌≤◌, ◌<◌, ◌==◌, ◌&&◌, ◌||◌, Bool, true, false, not, if◌then◌else◌, List, [], ◌∷◌, length, map, Option, Some, None, refl, sym, ap, ◌∙◌, subst, arith}
+use Rattle.std.proofs.Common.{◌≡◌, ℕ, suc, ◌≤◌, ◌==◌, ◌&&◌, ◌||◌, Bool, true, false, if◌then◌else◌, List, [], ◌∷◌, map, Option, Some, None, refl, sym, ap, ◌∙◌, arith}
 use Rattle.std.proofs.lemmas.Bool.{or_parts}
-use Rattle.std.specs.Prelude.{is_some, find, option_map, unwrap_or, Result, Ok, Err, Contains, decimal, min}
+use Rattle.std.specs.Prelude.{is_some, find, option_map, unwrap_or, Result, Ok, Err, Contains, decimal}
 use Rattle.std.specs.List.{list_any, list_all, filter_map, cons_option}
 use Rattle.std.specs.Option.{option_or}
 use Rattle.std.specs.Str.{bytes_eq}
@@ -11,7 +11,7 @@ use Rattle.iodef_tree.specs.Json.{incident_id}
 use Rattle.iodef_tree.specs.Paths.{located}
 use Rattle.iodef_tree.specs.Reading.{reading}
 use Rattle.iodef_tree.specs.declared.fault.ReadFault.{ReadFault}
-use Rattle.iodef_tree.proofs.Identified.{IsReported, IsIdentified, reported}
+use Rattle.iodef_tree.proofs.Identified.{IsIdentified, reported}
 use Rattle.marking.specs.Marks.{first_bad_marking}
 use Rattle.circle.specs.Sound as circle
 use Rattle.circle.specs.Sound.{Each}
@@ -19,7 +19,6 @@ use Rattle.circle.specs.declared.directory.Person.{Person}
 use Rattle.circle.proofs.Keeping.{each_weaker, none_of}
 use Rattle.hub_core.specs.Documents.{Lines, documents_of, documents_in, fault_of, fault_in, ident_of, is_class_in, at_pointer, bad_marking, bad_marking_from, marking_told}
 use Rattle.hub_core.specs.Refusals.{are_own_groups, is_bad_gate, is_bad_pointer, is_bad_level, is_bad_group, are_bad_gates, stands_twice, stand_at_classes, first_number, posted_in, number_of}
-use Rattle.hub_core.specs.Sound.{IsAccepted}
 use Rattle.hub_core.specs.State.{State, incident_named}
 use Rattle.hub_core.specs.declared.request.WantedGate.{WantedGate}
 use Rattle.hub_core.specs.declared.state.Incident.{Incident}

@@ -1,10 +1,9 @@
 -- Another document for an incident, with other gates, leaves a sound state.
-use Rattle.std.proofs.Common.{◌≡◌, ◌≢◌, ℕ, ◌+◌, ◌≤◌, ◌<◌, ◌==◌, ◌&&◌, ◌||◌, Bool, true, false, not, if◌then◌else◌, List, [], ◌∷◌, ◌++◌, length, map, filter, Option, Some, None, IsTrue, refl, sym, ap, ◌∙◌, subst, arith}
+use Rattle.std.proofs.Common.{◌≡◌, ℕ, ◌+◌, ◌≤◌, ◌<◌, ◌==◌, ◌&&◌, ◌||◌, Bool, true, false, not, if◌then◌else◌, List, [], ◌∷◌, map, filter, Option, Some, None, refl, sym, ap, ◌∙◌, subst, arith}
 use Rattle.std.proofs.lemmas.Bool.{and_parts, eq-eqb, eqb-true, not-true, not_from_false}
-use Rattle.std.specs.Prelude.{count_by, find, is_some}
+use Rattle.std.specs.Prelude.{count_by, find}
 use Rattle.std.specs.Option.{option_map_or}
 use Rattle.std.specs.Ordering.{is_lt, nat_cmp}
-use Rattle.std.specs.declared.cmp.Ordering.{Ordering}
 use Rattle.std.proofs.lemmas.Bool.Decides.{nat_tests}
 use Rattle.iodef_tree.specs.Text.{Bytes, Tokens, is_root}
 use Rattle.iodef_tree.specs.Json.{incident_id}
@@ -13,13 +12,12 @@ use Rattle.circle.specs.Sound.{Each, CountsFrom, IsOrg}
 use Rattle.circle.specs.declared.directory.Org.{Org}
 use Rattle.circle.proofs.Keeping.{each_put, each_left, each_weaker, each_map, pairs_left, numbered_map, differ_map, names_map}
 use Rattle.circle.proofs.Kept.{same_when}
-use Rattle.hub_core.specs.Documents.{Lines, ident_of, is_class_in}
-use Rattle.hub_core.specs.Sound.{IsSound, SoundIncidents, SoundGates, SoundRecipients, SoundPermissions, IsAccepted, IsIncident}
-use Rattle.hub_core.specs.State.{State, incident_number, incident_in, incident_of, is_class_of, is_place_of, root_gates, class_gates, recipients_of, permissions_of}
+use Rattle.hub_core.specs.Documents.{Lines, is_class_in}
+use Rattle.hub_core.specs.Sound.{IsSound, SoundIncidents, SoundRecipients, SoundPermissions, IsAccepted, IsIncident}
+use Rattle.hub_core.specs.State.{State, incident_number, incident_in, incident_of, root_gates, class_gates, recipients_of, permissions_of}
 use Rattle.hub_core.specs.declared.request.WantedGate.{WantedGate}
 use Rattle.hub_core.specs.declared.state.Incident.{Incident}
 use Rattle.hub_core.specs.declared.state.Gate.{Gate}
-use Rattle.hub_core.specs.declared.state.Recipient.{Recipient}
 use Rattle.hub_core.specs.declared.state.Permission.{Permission}
 use Rattle.hub_core.proofs.Gated.{IsBeside, put_all, given}
 use Rattle.hub_core.proofs.Posted.{Wishes, StandAtClasses, wanted_at}

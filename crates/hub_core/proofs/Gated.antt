@@ -1,7 +1,6 @@
 -- The gates that an incident is given: at its root, and those asked for.
-use Rattle.std.proofs.Common.{◌≡◌, ◌≢◌, ℕ, ◌+◌, ◌≤◌, ◌==◌, ◌&&◌, ◌||◌, Bool, true, false, not, List, [], ◌∷◌, ◌++◌, length, map, filter, Option, Some, None, refl, sym, ap, ◌∙◌, subst, arith}
+use Rattle.std.proofs.Common.{◌≡◌, ℕ, ◌+◌, ◌≤◌, ◌==◌, ◌&&◌, ◌||◌, Bool, true, false, not, List, [], ◌∷◌, ◌++◌, length, map, Option, Some, None, refl, sym, ap, ◌∙◌, subst, arith}
 use Rattle.std.proofs.lemmas.Bool.{and_from, and_left, and_right, eqb-true, or_parts}
-use Rattle.std.specs.Prelude.{count_by}
 use Rattle.std.specs.List.{list_any, flat_map}
 use Rattle.std.specs.Option.{option_map_or}
 use Rattle.std.specs.Str.{bytes_eq}
@@ -12,13 +11,13 @@ use Rattle.iodef_tree.proofs.Inverse.{pointer_text-pointer_tokens}
 use Rattle.circle.specs.Ordered.{put_by}
 use Rattle.circle.specs.Sound.{Each, Pairwise}
 use Rattle.circle.specs.declared.directory.Group.{Group}
-use Rattle.circle.proofs.Keeping.{each_put, each_weaker, order_put, none_of}
+use Rattle.circle.proofs.Keeping.{each_put, each_weaker, order_put}
 use Rattle.hub_core.specs.Aftermath.{put_gate, put_gates}
 use Rattle.hub_core.specs.Documents.{at_pointer, made_at, is_class_in}
 use Rattle.hub_core.specs.Edits.{after}
 use Rattle.hub_core.specs.Refusals.{stands_twice}
 use Rattle.hub_core.specs.Sound.{SoundGates, IsGroupIfAny}
-use Rattle.hub_core.specs.State.{State, gate_cmp, incident_in, is_gate_at, is_class_of, is_place_of, root_gates, class_gates}
+use Rattle.hub_core.specs.State.{State, gate_cmp, incident_in, is_class_of, is_place_of, root_gates, class_gates}
 use Rattle.hub_core.specs.declared.edit.Edit.{Edit}
 use Rattle.hub_core.specs.declared.request.WantedGate.{WantedGate}
 use Rattle.hub_core.specs.declared.state.Gate.{Gate}

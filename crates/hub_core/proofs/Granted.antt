@@ -1,29 +1,26 @@
 -- A permission more or less leaves a sound state.
-use Rattle.std.proofs.Common.{◌≡◌, ℕ, ◌≤◌, ◌==◌, not, List, [], ◌∷◌, filter, Option, Some, None, true, false, refl, sym, ap, ◌∙◌, subst}
+use Rattle.std.proofs.Common.{◌≡◌, ℕ, ◌≤◌, ◌==◌, not, List, [], ◌∷◌, Option, Some, None, true, false, subst}
 use Rattle.std.proofs.lemmas.Bool.{ltb-false, not-false}
 use Rattle.std.specs.Option.{option_map_or}
 use Rattle.iodef_tree.specs.Text.{Bytes, Tokens}
 use Rattle.iodef_tree.specs.Pointer.{pointer_tokens}
 use Rattle.policy.specs.declared.permission.Grantee.{Grantee}
-use Rattle.circle.specs.Ordered.{put_by}
-use Rattle.circle.specs.Sound.{Each}
 use Rattle.circle.specs.declared.directory.Person.{Person}
 use Rattle.circle.proofs.Judged.{passed}
 use Rattle.circle.proofs.Keeping.{each_put, each_left, each_weaker, pairs_left, order_put, none_of}
 use Rattle.hub_core.specs.Aftermath.{changed}
-use Rattle.hub_core.specs.Documents.{at_pointer, made_at}
+use Rattle.hub_core.specs.Documents.{at_pointer}
 use Rattle.hub_core.specs.Edits.{after}
-use Rattle.hub_core.specs.Refusals.{grounds, refusal_of, is_grantee, counted, permissions_then}
+use Rattle.hub_core.specs.Refusals.{grounds, refusal_of, is_grantee, permissions_then}
 use Rattle.hub_core.specs.Sound.{IsSound, SoundPermissions, IsGrantee}
 use Rattle.hub_core.specs.State.{State, permission_cmp, permissions_of, is_permission_being, has_permission, is_class_of}
 use Rattle.hub_core.specs.declared.edit.Edit.TheVariants.{PutPermission, TakePermission}
 use Rattle.hub_core.specs.declared.request.Request.TheVariants as ask
-use Rattle.hub_core.specs.declared.state.Incident.{Incident}
 use Rattle.hub_core.specs.declared.state.Permission.{Permission}
 use Rattle.hub_core.proofs.Keys.{permission_total, apart_permission}
 use Rattle.hub_core.proofs.Named.{own, counted_is, grantee_is}
 use Rattle.hub_core.proofs.Limits.{limit_put}
-use Rattle.hub_core.proofs.Keeping.{never, count_left, at_most}
+use Rattle.hub_core.proofs.Keeping.{count_left, at_most}
 
 with_permissions : (s : State) (rows : List Permission) → IsSound s → SoundPermissions s.directory s.incidents rows → IsSound (record s { permissions = rows })
 with_permissions s rows h new = record { directory = h.directory; incidents = h.incidents; gates = h.gates; recipients = h.recipients; permissions = new }

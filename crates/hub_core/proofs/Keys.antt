@@ -1,5 +1,5 @@
 -- The order of each key is total, and only rows of one key tie.
-use Rattle.std.proofs.Common.{◌≡◌, ◌≢◌, ℕ, ◌==◌, ◌&&◌, Bool, true, false, List, [], ◌∷◌, Option, Some, None, refl, sym, ap, ◌∙◌, arith}
+use Rattle.std.proofs.Common.{◌≡◌, ◌≢◌, ℕ, ◌==◌, ◌&&◌, Bool, true, false, Some, refl, sym, ap, ◌∙◌, arith}
 use Rattle.std.specs.Ordering.{is_eq, nat_cmp, ordering_then}
 use Rattle.std.specs.declared.cmp.Ordering.{Ordering}
 use Rattle.std.specs.declared.cmp.Ordering.TheVariants.{Less, Equal, Greater}
@@ -13,11 +13,9 @@ use Rattle.iodef_tree.specs.Text.{Bytes, Tokens, same_path}
 use Rattle.iodef_tree.specs.Pointer.{pointer_text, pointer_tokens}
 use Rattle.iodef_tree.proofs.Order.{bytes_eq-refl, bytes_eq-true, same_path-refl}
 use Rattle.iodef_tree.proofs.Inverse.{pointer_tokens-pointer_text}
-use Rattle.policy.specs.declared.permission.Grantee.{Grantee}
 use Rattle.circle.specs.Ordered.{pair_cmp}
 use Rattle.circle.proofs.Keeping.{pair_total}
 use Rattle.hub_core.specs.State.{path_cmp, gate_cmp, recipient_cmp, permission_cmp, target_key, grantee_key, same_pair, is_gate_at, is_recipient_being, is_permission_being}
-use Rattle.hub_core.specs.declared.request.Target.{Target}
 use Rattle.hub_core.specs.declared.state.Gate.{Gate}
 use Rattle.hub_core.specs.declared.state.Recipient.{Recipient}
 use Rattle.hub_core.specs.declared.state.Permission.{Permission}

@@ -1,9 +1,8 @@
 -- What the grounds say of what is named, where none holds.
-use Rattle.std.proofs.Common.{◌≡◌, ℕ, ◌≤◌, ◌==◌, ◌&&◌, Bool, true, false, not, if◌then◌else◌, List, [], ◌∷◌, Option, Some, None, refl, sym, ap, ◌∙◌, subst, arith}
+use Rattle.std.proofs.Common.{◌≡◌, ℕ, ◌==◌, true, false, not, if◌then◌else◌, List, Option, Some, None, ap, subst}
 use Rattle.std.proofs.lemmas.Bool.{and_parts, eqb-true, not-false}
 use Rattle.std.specs.Prelude.{is_some}
 use Rattle.std.specs.List.{list_all}
-use Rattle.std.proofs.lemmas.Bool.Decides.{nat_tests}
 use Rattle.policy.specs.declared.permission.Grantee.{Grantee}
 use Rattle.policy.specs.declared.permission.Grantee.TheVariants as grantee
 use Rattle.circle.specs.Directory.{Directory, has_group_member}

@@ -1,7 +1,6 @@
 -- One incident more, with its gates, leaves a sound state.
-use Rattle.std.proofs.Common.{◌≡◌, ◌≢◌, ℕ, ◌+◌, ◌≤◌, ◌<◌, ◌==◌, ◌&&◌, ◌||◌, Bool, true, false, not, List, [], ◌∷◌, ◌++◌, length, map, Option, Some, None, IsTrue, refl, sym, ap, ◌∙◌, subst, arith}
+use Rattle.std.proofs.Common.{◌≡◌, ℕ, ◌+◌, ◌≤◌, ◌<◌, ◌==◌, ◌&&◌, ◌||◌, Bool, true, false, List, [], ◌∷◌, length, map, Option, Some, None, refl, sym, ap, ◌∙◌, subst, arith}
 use Rattle.std.proofs.lemmas.Bool.{and_right, eq-eqb, ne_eqb, or_parts}
-use Rattle.std.specs.Prelude.{count_by, is_some}
 use Rattle.std.specs.List.{list_any}
 use Rattle.std.specs.Option.{option_map_or}
 use Rattle.std.specs.Str.{bytes_eq}
@@ -11,22 +10,20 @@ use Rattle.iodef_tree.specs.Pointer.{pointer_tokens}
 use Rattle.circle.specs.Ordered.{put_by, by_number}
 use Rattle.circle.specs.Sound.{Each, CountsFrom, IsOrg}
 use Rattle.circle.specs.declared.directory.Group.{Group}
-use Rattle.circle.specs.declared.directory.Org.{Org}
 use Rattle.circle.proofs.Keeping.{each_put, each_weaker, pairs_put, numbered_put, length_put, any_put, names_within, pair_apart}
-use Rattle.hub_core.specs.Aftermath.{put_gates, put_incident, put_incidents}
+use Rattle.hub_core.specs.Aftermath.{put_incident, put_incidents}
 use Rattle.hub_core.specs.Documents.{Lines, ident_of, at_pointer, is_class_in}
 use Rattle.hub_core.specs.Edits.{after}
 use Rattle.hub_core.specs.Refusals.{stands_twice}
-use Rattle.hub_core.specs.Sound.{IsSound, SoundIncidents, SoundGates, SoundRecipients, SoundPermissions, IsAccepted, IsIncident, IsGroupIfAny}
-use Rattle.hub_core.specs.State.{State, incident_number, incident_in, is_class_of, is_place_of, root_gates, class_gates, recipients_of, permissions_of}
+use Rattle.hub_core.specs.Sound.{IsSound, SoundIncidents, SoundRecipients, SoundPermissions, IsAccepted, IsIncident, IsGroupIfAny}
+use Rattle.hub_core.specs.State.{State, incident_number, incident_in, root_gates, class_gates, recipients_of, permissions_of}
 use Rattle.hub_core.specs.declared.request.WantedGate.{WantedGate}
 use Rattle.hub_core.specs.declared.state.Incident.{Incident}
-use Rattle.hub_core.specs.declared.state.Gate.{Gate}
 use Rattle.hub_core.specs.declared.state.Recipient.{Recipient}
 use Rattle.hub_core.specs.declared.state.Permission.{Permission}
 use Rattle.hub_core.proofs.Gated.{IsWanted, IsBeside, put_all, after_append, after_gates, given}
 use Rattle.hub_core.proofs.Named.{some_is}
-use Rattle.hub_core.proofs.Keeping.{never, turned, found_any, found_passing, find_put, find_new, count_none, at_most}
+use Rattle.hub_core.proofs.Keeping.{never, turned, found_any, found_passing, find_put, find_new, count_none}
 
 -- ---- what is asked for every incident alike
 

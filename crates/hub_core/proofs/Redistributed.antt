@@ -1,5 +1,5 @@
 -- Another gate at a place leaves a sound state.
-use Rattle.std.proofs.Common.{◌≡◌, ℕ, ◌+◌, ◌≤◌, ◌==◌, ◌&&◌, ◌||◌, Bool, true, false, not, List, [], ◌∷◌, filter, Option, Some, None, refl, sym, ap, ◌∙◌, subst, arith}
+use Rattle.std.proofs.Common.{◌≡◌, ℕ, ◌+◌, ◌≤◌, ◌==◌, ◌&&◌, Bool, true, false, not, List, [], ◌∷◌, filter, Option, Some, None, refl, sym, ap, ◌∙◌, subst}
 use Rattle.std.proofs.lemmas.Bool.{and_parts, eq-eqb, eqb-true, false_from_ne_true, ltb-false, not-false, not-true, not_from_false}
 use Rattle.std.specs.Prelude.{count_by}
 use Rattle.std.specs.Option.{option_map_or}
@@ -7,7 +7,6 @@ use Rattle.iodef_tree.specs.Text.{Bytes, Tokens, is_root, same_path}
 use Rattle.iodef_tree.specs.Pointer.{pointer_tokens}
 use Rattle.iodef_tree.proofs.Order.{same_path-true, same_path-refl}
 use Rattle.circle.specs.Ordered.{put_by}
-use Rattle.circle.specs.Sound.{Each}
 use Rattle.circle.specs.declared.directory.Person.{Person}
 use Rattle.circle.proofs.Judged.{passed}
 use Rattle.circle.proofs.Keeping.{each_put, each_left, each_weaker, pairs_left, order_put}
@@ -20,10 +19,9 @@ use Rattle.hub_core.specs.State.{State, gate_cmp, is_gate_at, is_place_of, root_
 use Rattle.hub_core.specs.declared.edit.Edit.TheVariants.{TakeGate}
 use Rattle.hub_core.specs.declared.request.Request.TheVariants as ask
 use Rattle.hub_core.specs.declared.state.Gate.{Gate}
-use Rattle.hub_core.specs.declared.state.Incident.{Incident}
 use Rattle.hub_core.proofs.Keys.{gate_total, apart_gate}
 use Rattle.hub_core.proofs.Named.{own, counted_is, group_if_any}
-use Rattle.hub_core.proofs.Keeping.{never, at_most, each_passes, count_more, count_same, count_none, count_kept, count_left}
+use Rattle.hub_core.proofs.Keeping.{never, each_passes, count_more, count_same, count_none, count_kept}
 
 root_is : (p : Tokens) → is_root p ≡ true → p ≡ []
 root_is [] h = refl

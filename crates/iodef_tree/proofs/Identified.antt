@@ -1,10 +1,10 @@
 -- A body that can be read has a document, and each of its documents has an IncidentID.
-use Rattle.std.proofs.Common.{◌≡◌, ℕ, suc, Bool, true, false, ◌&&◌, if◌then◌else◌, List, [], ◌∷◌, map, Option, Some, None, option_map, option_and_then, Ordering, Less, Equal, Greater, refl, sym, ap, ◌∙◌, subst}
+use Rattle.std.proofs.Common.{◌≡◌, ℕ, suc, Bool, true, false, ◌&&◌, if◌then◌else◌, List, [], ◌∷◌, Option, Some, None, option_map, option_and_then, Ordering, Less, Equal, Greater, refl, sym, ap, ◌∙◌, subst}
 use Rattle.std.specs.Prelude.{is_some, is_none, nat_lt, nat_le, Result, Ok, Err, codes}
 use Rattle.std.specs.List.{AllByRecursion}
 use Rattle.std.specs.Ordering.{is_lt, nat_cmp, match_ordering}
 use Rattle.std.specs.Cmp.Lexicographic.{slice_cmp}
-use Rattle.std.specs.Str.{bytes_eq, is_utf8}
+use Rattle.std.specs.Str.{is_utf8}
 use Rattle.std.proofs.lemmas.Cmp.{nat_list_cmp_total}
 use Rattle.std.proofs.lemmas.Map.Text.{is_eq-slice_cmp}
 use Rattle.json.specs.Json as text
@@ -18,12 +18,12 @@ use Rattle.serde_json.specs.Written.{compact_text}
 use Rattle.serde_json.proofs.Views.{get_member-put}
 use Rattle.iodef_tree.specs.Built.{is_filled}
 use Rattle.iodef_tree.specs.Fit.{IsBodyOrdered, AreBodiesOrdered}
-use Rattle.iodef_tree.specs.Json.{data_of, zeroth, id_in, incident_id}
-use Rattle.iodef_tree.specs.Reading.{reading, parsed, or_fault, unless, ◌>>=◌, incidents_of, if_incidents, are_incidents, all_objects, all_complete, plain, lacking, lacks, required_name, incident_at, with_incident, document_of, documents, if_short}
+use Rattle.iodef_tree.specs.Json.{zeroth, id_in, incident_id}
+use Rattle.iodef_tree.specs.Reading.{reading, parsed, or_fault, unless, ◌>>=◌, incidents_of, if_incidents, are_incidents, all_objects, all_complete, plain, lacking, lacks, incident_at, with_incident, document_of, documents, if_short}
 use Rattle.iodef_tree.specs.Sound.{IsOrdered}
 use Rattle.iodef_tree.specs.Text.{Bytes, bytes_lt}
-use Rattle.iodef_tree.specs.Tree.{Forest, Body, holds, says, Bodies, one, many, lines}
-use Rattle.iodef_tree.specs.Values.{forest_of_data, body_of_data, elements_of_data, items_of_data, bodies_of_data, one_or_many}
+use Rattle.iodef_tree.specs.Tree.{Forest, Bodies, lines}
+use Rattle.iodef_tree.specs.Values.{forest_of_data, body_of_data, items_of_data, bodies_of_data}
 use Rattle.iodef_tree.specs.View.{forest_of_members}
 use Rattle.iodef_tree.specs.Written.{members_of, items_of, bodies_data}
 use Rattle.iodef_tree.specs.declared.TheConstants.{INCIDENT_LIMIT}
@@ -34,7 +34,7 @@ use Rattle.iodef_tree.specs.declared.fault.Required.TheVariants as required
 use Rattle.iodef_tree.specs.declared.line.Line.{Line}
 use Rattle.iodef_tree.proofs.Data.{no-items, member-data}
 use Rattle.iodef_tree.proofs.Meaning.{data-ordered}
-use Rattle.iodef_tree.proofs.Order.{bytes_eq-true, bytes_eq-refl, bytes_lt-trans}
+use Rattle.iodef_tree.proofs.Order.{bytes_eq-true, bytes_lt-trans}
 use Rattle.iodef_tree.proofs.Ordered.{AreAbove, Ascend, ordered_members}
 
 -- ---- what went before a result
