@@ -39,3 +39,4 @@ pub mod Exchanged
 pub mod Loop
 pub mod Bodies
 mod Found
+pub mod Identified

@@ -1,0 +1,43 @@
+-- A recipient more or less leaves a sound state.
+use Rattle.std.proofs.Common.{◌≡◌, ℕ, ◌≤◌, ◌==◌, not, List, None, subst}
+use Rattle.std.proofs.lemmas.Bool.{ltb-false, not-false}
+use Rattle.circle.specs.Ordered.{put_by}
+use Rattle.circle.specs.declared.directory.Person.{Person}
+use Rattle.circle.proofs.Judged.{passed}
+use Rattle.circle.proofs.Keeping.{each_put, each_left, each_weaker, pairs_left, order_put, none_of}
+use Rattle.hub_core.specs.Aftermath.{changed}
+use Rattle.hub_core.specs.Refusals.{grounds, refusal_of, is_target, recipients_then}
+use Rattle.hub_core.specs.Sound.{IsSound, SoundRecipients}
+use Rattle.hub_core.specs.State.{State, recipient_cmp, recipients_of, is_recipient_being}
+use Rattle.hub_core.specs.declared.request.Request.TheVariants as ask
+use Rattle.hub_core.specs.declared.request.Target.{Target}
+use Rattle.hub_core.specs.declared.state.Recipient.{Recipient}
+use Rattle.hub_core.proofs.Keys.{recipient_total, apart_recipient}
+use Rattle.hub_core.proofs.Named.{own, is_incident, counted_is, target_is}
+use Rattle.hub_core.proofs.Limits.{limit_put}
+use Rattle.hub_core.proofs.Keeping.{count_left, at_most}
+
+with_recipients : (s : State) (rows : List Recipient) → IsSound s → SoundRecipients s.directory s.incidents rows → IsSound (record s { recipients = rows })
+with_recipients s rows h new = record { directory = h.directory; incidents = h.incidents; gates = h.gates; recipients = new; permissions = h.permissions }
+
+pub address_kept : (s : State) (a : Person) (n : ℕ) (target : Target) → IsSound s → refusal_of s a (ask.Address n target) ≡ None → IsSound (changed s a (ask.Address n target))
+address_kept s a n target h fine =
+    let p = passed (grounds s a (ask.Address n target)) fine in
+    let row : Recipient = record { incident = n; target = target } in
+    let it = own s a n p.1.0 in
+    let few : recipients_then s a (ask.Address n target) ≤ 64 = ltb-false 64 _ p.1.1.1.1.0 in
+    let here : recipients_of n (put_by recipient_cmp row s.recipients) ≤ 64 = subst (λ m. m ≤ 64) (counted_is s n it.incident (λ m. recipients_of m (changed s a (ask.Address n target)).recipients) it.found) few in
+    with_recipients s _ h (record {
+      rising = order_put recipient_cmp row s.recipients recipient_total (each_weaker _ _ s.recipients (λ r e. apart_recipient row r e) (none_of (is_recipient_being n target) s.recipients p.1.1.1.0)) h.recipients.rising;
+      ends = each_put _ recipient_cmp row s.recipients (is_incident s n it.incident it.found) h.recipients.ends;
+      targets = each_put _ recipient_cmp row s.recipients (target_is s.directory target (not-false (is_target s.directory target) p.1.1.0)) h.recipients.targets;
+      limit = limit_put (λ (r : Recipient). r.incident) recipient_cmp 64 row s.recipients s.incidents here h.recipients.limit;
+    })
+
+pub unaddress_kept : (s : State) (a : Person) (n : ℕ) (target : Target) → IsSound s → IsSound (changed s a (ask.Unaddress n target))
+unaddress_kept s a n target h = with_recipients s _ h (record {
+  rising = pairs_left _ _ s.recipients h.recipients.rising;
+  ends = each_left _ _ s.recipients h.recipients.ends;
+  targets = each_left _ _ s.recipients h.recipients.targets;
+  limit = each_weaker _ _ s.incidents (λ i e. at_most _ _ 64 (count_left (λ (r : Recipient). r.incident == i.number) (λ (r : Recipient). not (is_recipient_being n target r)) s.recipients) e) h.recipients.limit;
+})

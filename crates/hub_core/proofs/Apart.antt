@@ -1,0 +1,243 @@
+-- What a request leaves of the incidents that it doesn't name.
+use Rattle.std.proofs.Common.{◌≡◌, ◌≢◌, ℕ, ◌+◌, ◌≤◌, ◌==◌, ◌&&◌, Bool, true, false, not, List, [], ◌∷◌, ◌++◌, length, map, filter, Option, Some, None, refl, sym, ap, ◌∙◌, subst, arith}
+use Rattle.std.proofs.lemmas.Bool.{and_left, eqb-true, false_from_ne_true, ne_eqb, not-true, not_from_false}
+use Rattle.std.specs.List.{flat_map}
+use Rattle.std.specs.Option.{option_map_or}
+use Rattle.iodef_tree.specs.Text.{Tokens, same_path}
+use Rattle.iodef_tree.specs.Pointer.{pointer_tokens}
+use Rattle.circle.specs.Aftermath as circle
+use Rattle.circle.specs.Aftermath.{rows_of}
+use Rattle.circle.specs.Ordered.{by_number}
+use Rattle.circle.specs.Sound.{Each}
+use Rattle.circle.specs.declared.command.RowEdit.{RowEdit}
+use Rattle.circle.specs.declared.directory.Person.{Person}
+use Rattle.circle.specs.declared.refusal.Refusal.{Refusal}
+use Rattle.circle.proofs.Judged.{passed, next_number}
+use Rattle.circle.proofs.Keeping.{names_within}
+use Rattle.hub_core.specs.Aftermath.{changed, edits_of, next_incident, put_gate, put_gates, put_incident, put_incidents, put_next}
+use Rattle.hub_core.specs.Documents.{Lines, documents_in, made_at}
+use Rattle.hub_core.specs.Edits.{after, edited}
+use Rattle.hub_core.specs.Laws.{OthersStay, ExchangesEndPermissions}
+use Rattle.hub_core.specs.Others.{LeavesIncident, EndsPermissions, recipients_at, permissions_at}
+use Rattle.hub_core.specs.Refusals.{grounds, refusal_of, is_own, unless_refused}
+use Rattle.hub_core.specs.Sound.{IsSound}
+use Rattle.hub_core.specs.State.{State, incident_number, incident_of, gate_cmp, recipient_cmp, permission_cmp, is_gate_at, is_recipient_being, is_permission_being, same_target, same_grantee}
+use Rattle.hub_core.specs.declared.edit.Edit.{Edit}
+use Rattle.hub_core.specs.declared.edit.Edit.TheVariants.{Directory, PutIncident, TakeIncident, TakePolicy, PutGate, TakeGate, PutRecipient, TakeRecipient, PutPermission, TakePermission}
+use Rattle.hub_core.specs.declared.request.Request.{Request}
+use Rattle.hub_core.specs.declared.request.Request.TheVariants as ask
+use Rattle.hub_core.specs.declared.request.WantedGate.{WantedGate}
+use Rattle.hub_core.specs.declared.state.Gate.{Gate}
+use Rattle.hub_core.specs.declared.state.Incident.{Incident}
+use Rattle.hub_core.specs.declared.state.Permission.{Permission}
+use Rattle.hub_core.specs.declared.state.Recipient.{Recipient}
+use Rattle.hub_core.proofs.Gated.{after_append}
+use Rattle.hub_core.proofs.Named.{own, is_incident}
+use Rattle.hub_core.proofs.Keeping.{not_both, turned, find_put, find_left, filter_put, filter_left, filter_none}
+
+-- ---- one edit
+
+-- the edit is of another incident, or of the directory
+abbrev Spares : ℕ → Edit → Type 0
+Spares n (Directory edit) = Unit {0}
+Spares n (PutIncident i) = (i.number == n) ≡ false
+Spares n (TakeIncident m) = (m == n) ≡ false
+Spares n (TakePolicy m) = (m == n) ≡ false
+Spares n (PutGate g) = (g.incident == n) ≡ false
+Spares n (TakeGate m p) = (m == n) ≡ false
+Spares n (PutRecipient r) = (r.incident == n) ≡ false
+Spares n (TakeRecipient r) = (r.incident == n) ≡ false
+Spares n (PutPermission x) = (x.incident == n) ≡ false
+Spares n (TakePermission m p grantee) = (m == n) ≡ false
+
+-- a row of the one isn't a row of the other
+is_other : (m n k : ℕ) → (m == n) ≡ false → (k == n) ≡ true → not (k == m) ≡ true
+is_other m n k h e = not_from_false (k == m) (not_both k n m (turned m n h) e)
+
+is_no_such : (m n k : ℕ) (b : Bool) → (m == n) ≡ false → (k == n) ≡ true → not (k == m && b) ≡ true
+is_no_such m n k b h e = not_from_false (k == m && b) (and_left (k == m) b (not_both k n m (turned m n h) e))
+
+spared_by : (n : ℕ) (edit : Edit) (s : State) → Spares n edit → LeavesIncident n s (edited edit s)
+spared_by n (Directory edit) s h = record { row = refl; gates = refl; recipients = refl; permissions = refl }
+spared_by n (PutIncident i) s h = record { row = find_put (λ (x : Incident). x.number == n) (by_number incident_number) i s.incidents h; gates = refl; recipients = refl; permissions = refl }
+spared_by n (TakeIncident m) s h = record { row = find_left (λ (x : Incident). x.number == n) (λ (x : Incident). not (x.number == m)) s.incidents (λ x e. is_other m n x.number h e); gates = refl; recipients = refl; permissions = refl }
+spared_by n (TakePolicy m) s h = record {
+  row = refl;
+  gates = filter_left (λ (g : Gate). g.incident == n) (λ (g : Gate). not (g.incident == m)) s.gates (λ g e. is_other m n g.incident h e);
+  recipients = refl;
+  permissions = filter_left (λ (x : Permission). x.incident == n) (λ (x : Permission). not (x.incident == m)) s.permissions (λ x e. is_other m n x.incident h e);
+}
+spared_by n (PutGate g) s h = record { row = refl; gates = filter_put (λ (x : Gate). x.incident == n) gate_cmp g s.gates h; recipients = refl; permissions = refl }
+spared_by n (TakeGate m p) s h = record { row = refl; gates = filter_left (λ (g : Gate). g.incident == n) (λ (g : Gate). not (is_gate_at m p g)) s.gates (λ g e. is_no_such m n g.incident (same_path g.path p) h e); recipients = refl; permissions = refl }
+spared_by n (PutRecipient r) s h = record { row = refl; gates = refl; recipients = filter_put (λ (x : Recipient). x.incident == n) recipient_cmp r s.recipients h; permissions = refl }
+spared_by n (TakeRecipient r) s h = record { row = refl; gates = refl; recipients = filter_left (λ (x : Recipient). x.incident == n) (λ (x : Recipient). not (is_recipient_being r.incident r.target x)) s.recipients (λ x e. is_no_such r.incident n x.incident (same_target x.target r.target) h e); permissions = refl }
+spared_by n (PutPermission x) s h = record { row = refl; gates = refl; recipients = refl; permissions = filter_put (λ (y : Permission). y.incident == n) permission_cmp x s.permissions h }
+spared_by n (TakePermission m p grantee) s h = record { row = refl; gates = refl; recipients = refl; permissions = filter_left (λ (x : Permission). x.incident == n) (λ (x : Permission). not (is_permission_being m p grantee x)) s.permissions (λ x e. is_no_such m n x.incident (same_path x.path p && same_grantee x.grantee grantee) h e) }
+
+-- ---- all edits
+
+spared : (n : ℕ) (edits : List Edit) (s : State) → Each (Spares n) edits → LeavesIncident n s (after edits s)
+spared n [] s h = record { row = refl; gates = refl; recipients = refl; permissions = refl }
+spared n (edit ∷ edits) s h =
+    let first = spared_by n edit s h.0 in
+    let rest = spared n edits (edited edit s) h.1 in
+    record { row = rest.row ∙ first.row; gates = rest.gates ∙ first.gates; recipients = rest.recipients ∙ first.recipients; permissions = rest.permissions ∙ first.permissions }
+
+each_append : (n : ℕ) (xs ys : List Edit) → Each (Spares n) xs → Each (Spares n) ys → Each (Spares n) (xs ++ ys)
+each_append n [] ys h k = k
+each_append n (x ∷ xs) ys h k = (h.0, each_append n xs ys h.1 k)
+
+-- made at a pointer's path, if there is one
+made_spares : (n : ℕ) (make : Tokens → List Edit) (o : Option Tokens) → ((p : Tokens) → Each (Spares n) (make p)) → Each (Spares n) (option_map_or make o [])
+made_spares n make None h = tt
+made_spares n make (Some p) h = h p
+
+wanted_spare : (n m : ℕ) (gates : List WantedGate) → (m == n) ≡ false → Each (Spares n) (flat_map (λ (g : WantedGate). made_at (put_gate m g.level g.group) g.path) gates)
+wanted_spare n m [] h = tt
+wanted_spare n m (g ∷ gs) h =
+    each_append n (made_at (put_gate m g.level g.group) g.path) (flat_map (λ (g : WantedGate). made_at (put_gate m g.level g.group) g.path) gs)
+    (made_spares n (put_gate m g.level g.group) (pointer_tokens g.path) (λ p. (h, tt))) (wanted_spare n m gs h)
+
+gates_spare : (n m level : ℕ) (group : Option ℕ) (gates : List WantedGate) → (m == n) ≡ false → Each (Spares n) (put_gates m level group gates)
+gates_spare n m level group gates h = (h, wanted_spare n m gates h)
+
+next_spares : (n : ℕ) (o : Option Incident) (docs : List Lines) → ((i : Incident) → o ≡ Some i → (i.number == n) ≡ false) → Each (Spares n) (put_next o docs)
+next_spares n None docs h = tt
+next_spares n (Some i) [] h = tt
+next_spares n (Some i) (doc ∷ docs) h = (h i refl, (h i refl, tt))
+
+-- numbers from one on that is above it
+incidents_spare : (n source m level : ℕ) (group : Option ℕ) (gates : List WantedGate) (docs : List Lines) → n + 1 ≤ m → Each (Spares n) (put_incidents source m level group gates docs)
+incidents_spare n source m level group gates [] h = tt
+incidents_spare n source m level group gates (doc ∷ docs) h =
+    let other : (m == n) ≡ false = ne_eqb m n (λ e. absurd (omega arith)) in
+    each_append n (put_incident source m level group gates doc) (put_incidents source (m + 1) level group gates docs) (other, gates_spare n m level group gates other) (incidents_spare n source (m + 1) level group gates docs (omega arith))
+
+rows_spare : (n : ℕ) (rows : List RowEdit) → Each (Spares n) (map Directory rows)
+rows_spare n [] = tt
+rows_spare n (row ∷ rows) = (tt, rows_spare n rows)
+
+-- ---- every request
+
+-- whose incident it is isn't another's
+not_theirs : (s : State) (a : Person) (n : ℕ) (i : Incident) → incident_of i.number s ≡ Some i → i.source ≢ a.org → not (is_own s a n) ≡ false → (n == i.number) ≡ false
+not_theirs s a n i found other h =
+    let it = own s a n h in
+    false_from_ne_true (n == i.number) (λ e. other (sym (ap (λ (x : Incident). x.source) (same it.incident i (sym it.found ∙ (ap (λ m. incident_of m s) (eqb-true n i.number e) ∙ found)))) ∙ it.source))
+  where
+    same : (x y : Incident) → Some x ≡ Some y → x ≡ y
+    same x y e = cc
+
+all_spared : (s : State) (a : Person) (r : Request) (i : Incident) → IsSound s → incident_of i.number s ≡ Some i → i.source ≢ a.org → refusal_of s a r ≡ None → Each (Spares i.number) (edits_of s a r)
+all_spared s a (ask.Circle command) i h found other fine = rows_spare i.number (rows_of (circle.edit_of (circle.next_in s.directory command) a command))
+all_spared s a (ask.Post level group gates body) i h found other fine =
+    let next : next_incident s ≡ length s.incidents + 1 = next_number incident_number 1000000 s.incidents h.incidents.numbered in
+    let low : i.number ≤ 0 + length s.incidents = names_within incident_number 0 i.number s.incidents h.incidents.numbered.0 (is_incident s i.number i found) in
+    incidents_spare i.number a.org (next_incident s) level group gates (documents_in body) (omega (arith, next, low))
+all_spared s a (ask.Replace n revision level group gates body) i h found other fine =
+    let p = passed (grounds s a (ask.Replace n revision level group gates body)) fine in
+    let apart : (n == i.number) ≡ false = not_theirs s a n i found other p.1.1.1.1.1.1.1.0 in
+    let it = own s a n p.1.1.1.1.1.1.1.0 in
+    each_append i.number (put_next (incident_of n s) (documents_in body)) (TakePolicy n ∷ put_gates n level group gates)
+    (next_spares i.number (incident_of n s) (documents_in body) (λ x e. subst (λ m. (m == i.number) ≡ false) (sym (ap (λ (y : Incident). y.number) (same x it.incident (sym e ∙ it.found)) ∙ it.number)) apart))
+    (apart, gates_spare i.number n level group gates apart)
+  where
+    same : (x y : Incident) → Some x ≡ Some y → x ≡ y
+    same x y e = cc
+all_spared s a (ask.Redistribute n revision path level group) i h found other fine =
+    let p = passed (grounds s a (ask.Redistribute n revision path level group)) fine in
+    let apart : (n == i.number) ≡ false = not_theirs s a n i found other p.1.1.1.1.0 in
+    made_spares i.number (λ p. TakeGate n p ∷ put_gate n level group p) (pointer_tokens path) (λ q. (apart, (apart, tt)))
+all_spared s a (ask.Address n target) i h found other fine =
+    let p = passed (grounds s a (ask.Address n target)) fine in (not_theirs s a n i found other p.1.0, tt)
+all_spared s a (ask.Unaddress n target) i h found other fine =
+    let p = passed (grounds s a (ask.Unaddress n target)) fine in (not_theirs s a n i found other p.1.0, tt)
+all_spared s a (ask.Grant n revision path grantee) i h found other fine =
+    let p = passed (grounds s a (ask.Grant n revision path grantee)) fine in
+    let apart : (n == i.number) ≡ false = not_theirs s a n i found other p.1.1.0 in
+    made_spares i.number (λ p. PutPermission (record { incident = n; path = p; grantee = grantee }) ∷ []) (pointer_tokens path) (λ q. (apart, tt))
+all_spared s a (ask.Withdraw n path grantee) i h found other fine =
+    let p = passed (grounds s a (ask.Withdraw n path grantee)) fine in
+    let apart : (n == i.number) ≡ false = not_theirs s a n i found other p.1.1.0 in
+    made_spares i.number (λ p. TakePermission n p grantee ∷ []) (pointer_tokens path) (λ q. (apart, tt))
+all_spared s a (ask.View n) i h found other fine = tt
+all_spared s a (ask.List after) i h found other fine = tt
+all_spared s a (ask.Search needle class after) i h found other fine = tt
+all_spared s a (ask.Addressed after) i h found other fine = tt
+all_spared s a ask.MyGroups i h found other fine = tt
+all_spared s a ask.WhoAmI i h found other fine = tt
+
+pub others_stay : OthersStay
+others_stay s a r i h found other = split (refusal_of s a r) refl
+  where
+    split : (o : Option Refusal) → refusal_of s a r ≡ o → LeavesIncident i.number s (unless_refused o s (changed s a r))
+    split None is = spared i.number (edits_of s a r) s (all_spared s a r i h found other is)
+    split (Some why) is = record { row = refl; gates = refl; recipients = refl; permissions = refl }
+
+-- ---- another document ends the permissions
+
+-- the edit is of an incident or of a gate
+abbrev IsPlain : Edit → Type 0
+IsPlain (PutIncident i) = Unit {0}
+IsPlain (TakeIncident m) = Unit {0}
+IsPlain (PutGate g) = Unit {0}
+IsPlain _ = ⊥
+
+record Keeps (before after : State) : Type 0 where
+  recipients : after.recipients ≡ before.recipients
+  permissions : after.permissions ≡ before.permissions
+
+keeps_by : (edit : Edit) (s : State) → IsPlain edit → Keeps s (edited edit s)
+keeps_by (Directory edit) s h = absurd h
+keeps_by (PutIncident i) s h = record { recipients = refl; permissions = refl }
+keeps_by (TakeIncident m) s h = record { recipients = refl; permissions = refl }
+keeps_by (TakePolicy m) s h = absurd h
+keeps_by (PutGate g) s h = record { recipients = refl; permissions = refl }
+keeps_by (TakeGate m p) s h = absurd h
+keeps_by (PutRecipient r) s h = absurd h
+keeps_by (TakeRecipient r) s h = absurd h
+keeps_by (PutPermission x) s h = absurd h
+keeps_by (TakePermission m p grantee) s h = absurd h
+
+keeps : (edits : List Edit) (s : State) → Each IsPlain edits → Keeps s (after edits s)
+keeps [] s h = record { recipients = refl; permissions = refl }
+keeps (edit ∷ edits) s h =
+    let first = keeps_by edit s h.0 in
+    let rest = keeps edits (edited edit s) h.1 in
+    record { recipients = rest.recipients ∙ first.recipients; permissions = rest.permissions ∙ first.permissions }
+
+plain_append : (xs ys : List Edit) → Each IsPlain xs → Each IsPlain ys → Each IsPlain (xs ++ ys)
+plain_append [] ys h k = k
+plain_append (x ∷ xs) ys h k = (h.0, plain_append xs ys h.1 k)
+
+made_plain : (make : Tokens → List Edit) (o : Option Tokens) → ((p : Tokens) → Each IsPlain (make p)) → Each IsPlain (option_map_or make o [])
+made_plain make None h = tt
+made_plain make (Some p) h = h p
+
+wanted_plain : (m : ℕ) (gates : List WantedGate) → Each IsPlain (flat_map (λ (g : WantedGate). made_at (put_gate m g.level g.group) g.path) gates)
+wanted_plain m [] = tt
+wanted_plain m (g ∷ gs) =
+    plain_append (made_at (put_gate m g.level g.group) g.path) (flat_map (λ (g : WantedGate). made_at (put_gate m g.level g.group) g.path) gs)
+    (made_plain (put_gate m g.level g.group) (pointer_tokens g.path) (λ p. (tt, tt))) (wanted_plain m gs)
+
+next_plain : (o : Option Incident) (docs : List Lines) → Each IsPlain (put_next o docs)
+next_plain None docs = tt
+next_plain (Some i) [] = tt
+next_plain (Some i) (doc ∷ docs) = (tt, (tt, tt))
+
+replaced : (s : State) (n level : ℕ) (group : Option ℕ) (gates : List WantedGate) (o : Option Incident) (docs : List Lines) → EndsPermissions n s (after (put_next o docs ++ TakePolicy n ∷ put_gates n level group gates) s)
+replaced s n level group gates o docs =
+    let first = put_next o docs in
+    let t : State = after first s in
+    let u : State = edited (TakePolicy n) t in
+    let one = keeps first s (next_plain o docs) in
+    let two = keeps (put_gates n level group gates) u (tt, wanted_plain n gates) in
+    let all : after (first ++ TakePolicy n ∷ put_gates n level group gates) s ≡ after (put_gates n level group gates) u = after_append first (TakePolicy n ∷ put_gates n level group gates) s in
+    record {
+      permissions = ap (permissions_at n) all ∙ (ap (filter (λ (x : Permission). x.incident == n)) two.permissions ∙ filter_none (λ (x : Permission). x.incident == n) (λ (x : Permission). not (x.incident == n)) t.permissions (λ x h. not-true (x.incident == n) h));
+      recipients = ap (recipients_at n) all ∙ ap (filter (λ (r : Recipient). r.incident == n)) (two.recipients ∙ one.recipients);
+    }
+
+pub exchanges_end_permissions : ExchangesEndPermissions
+exchanges_end_permissions s a n revision level group gates body fine =
+    subst (λ o. EndsPermissions n s (unless_refused o s (changed s a (ask.Replace n revision level group gates body)))) (sym fine) (replaced s n level group gates (incident_of n s) (documents_in body))

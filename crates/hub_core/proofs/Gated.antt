@@ -1,0 +1,190 @@
+-- The gates that an incident is given: at its root, and those asked for.
+use Rattle.std.proofs.Common.{◌≡◌, ℕ, ◌+◌, ◌≤◌, ◌==◌, ◌&&◌, ◌||◌, Bool, true, false, not, List, [], ◌∷◌, ◌++◌, length, map, Option, Some, None, refl, sym, ap, ◌∙◌, subst, arith}
+use Rattle.std.proofs.lemmas.Bool.{and_from, and_left, and_right, eqb-true, or_parts}
+use Rattle.std.specs.List.{list_any, flat_map}
+use Rattle.std.specs.Option.{option_map_or}
+use Rattle.std.specs.Str.{bytes_eq}
+use Rattle.std.specs.declared.cmp.Ordering.TheVariants.{Less}
+use Rattle.iodef_tree.specs.Text.{Bytes, Tokens, is_root, same_path}
+use Rattle.iodef_tree.specs.Pointer.{pointer_text, pointer_tokens}
+use Rattle.iodef_tree.proofs.Inverse.{pointer_text-pointer_tokens}
+use Rattle.circle.specs.Ordered.{put_by}
+use Rattle.circle.specs.Sound.{Each, Pairwise}
+use Rattle.circle.specs.declared.directory.Group.{Group}
+use Rattle.circle.proofs.Keeping.{each_put, each_weaker, order_put}
+use Rattle.hub_core.specs.Aftermath.{put_gate, put_gates}
+use Rattle.hub_core.specs.Documents.{at_pointer, made_at, is_class_in}
+use Rattle.hub_core.specs.Edits.{after}
+use Rattle.hub_core.specs.Refusals.{stands_twice}
+use Rattle.hub_core.specs.Sound.{SoundGates, IsGroupIfAny}
+use Rattle.hub_core.specs.State.{State, gate_cmp, incident_in, is_class_of, is_place_of, root_gates, class_gates}
+use Rattle.hub_core.specs.declared.edit.Edit.{Edit}
+use Rattle.hub_core.specs.declared.request.WantedGate.{WantedGate}
+use Rattle.hub_core.specs.declared.state.Gate.{Gate}
+use Rattle.hub_core.specs.declared.state.Incident.{Incident}
+use Rattle.hub_core.proofs.Keys.{gate_total, apart_gate, apart_text}
+use Rattle.hub_core.proofs.Keeping.{never, count_more, count_same, count_none, count_next, each_both}
+
+-- ---- what the edits make of the gates
+
+abbrev pub put_wanted : ℕ → List WantedGate → List Gate → List Gate
+put_wanted n [] gates = gates
+put_wanted n (w ∷ ws) gates = put_wanted n ws (option_map_or (λ p. put_by gate_cmp (record { incident = n; path = p; level = w.level; group = w.group }) gates) (pointer_tokens w.path) gates)
+
+abbrev pub put_all : ℕ → ℕ → Option ℕ → List WantedGate → List Gate → List Gate
+put_all n level group wanted gates = put_wanted n wanted (put_by gate_cmp (record { incident = n; path = []; level = level; group = group }) gates)
+
+pub after_append : (xs ys : List Edit) (s : State) → after (xs ++ ys) s ≡ after ys (after xs s)
+after_append [] ys s = refl
+after_append (x ∷ xs) ys s = after_append xs ys (after (x ∷ []) s)
+
+after_wanted : (n : ℕ) (wanted : List WantedGate) (s : State) → after (flat_map (λ (g : WantedGate). made_at (put_gate n g.level g.group) g.path) wanted) s ≡ record s { gates = put_wanted n wanted s.gates }
+after_wanted n [] s = refl
+after_wanted n (w ∷ ws) s =
+    after_append (made_at (put_gate n w.level w.group) w.path) (flat_map (λ (g : WantedGate). made_at (put_gate n g.level g.group) g.path) ws) s
+    ∙ split (pointer_tokens w.path) (after_wanted n ws)
+  where
+    split : (o : Option Tokens) → ((t : State) → after (flat_map (λ (g : WantedGate). made_at (put_gate n g.level g.group) g.path) ws) t ≡ record t { gates = put_wanted n ws t.gates })
+        → after (flat_map (λ (g : WantedGate). made_at (put_gate n g.level g.group) g.path) ws) (after (option_map_or (put_gate n w.level w.group) o []) s)
+        ≡ record s { gates = put_wanted n ws (option_map_or (λ p. put_by gate_cmp (record { incident = n; path = p; level = w.level; group = w.group }) s.gates) o s.gates) }
+    split None rest = rest s
+    split (Some p) rest = rest (after (put_gate n w.level w.group p) s)
+
+pub after_gates : (n level : ℕ) (group : Option ℕ) (wanted : List WantedGate) (s : State) → after (put_gates n level group wanted) s ≡ record s { gates = put_all n level group wanted s.gates }
+after_gates n level group wanted s = after_wanted n wanted (after (put_gate n level group []) s)
+
+-- ---- the gates asked for, one after another
+
+-- a gate that is asked for stands at a class of the incident, and its group is there
+pub record IsWanted (groups : List Group) (incidents : List Incident) (n : ℕ) (w : WantedGate) : Type 0 where
+  pub group : IsGroupIfAny groups w.group
+  pub place : at_pointer (is_class_of incidents n) w.path ≡ true
+  pub below : at_pointer is_root w.path ≡ false
+
+abbrev is_at : ℕ → Bytes → Gate → Bool
+is_at n text g = g.incident == n && bytes_eq (pointer_text g.path) text
+
+-- none of the gates stands where another is asked for
+record Ready (groups : List Group) (incidents : List Incident) (n : ℕ) (wanted : List WantedGate) (gates : List Gate) : Type 0 where
+  rising : Pairwise (λ a b. gate_cmp a b ≡ Less) gates
+  places : Each (λ (g : Gate). is_place_of incidents g.incident g.path ≡ true) gates
+  ends : Each (λ (g : Gate). IsGroupIfAny groups g.group) gates
+  fresh : Each (λ (w : WantedGate). Each (λ (g : Gate). is_at n w.path g ≡ false) gates) wanted
+
+-- the same rows with at most so many more gates of classes of the incident
+record Gains (groups : List Group) (incidents : List Incident) (n : ℕ) (most : ℕ) (before gates : List Gate) : Type 0 where
+  rising : Pairwise (λ a b. gate_cmp a b ≡ Less) gates
+  places : Each (λ (g : Gate). is_place_of incidents g.incident g.path ≡ true) gates
+  ends : Each (λ (g : Gate). IsGroupIfAny groups g.group) gates
+  roots : (m : ℕ) → root_gates m gates ≡ root_gates m before
+  others : (m : ℕ) → (n == m) ≡ false → class_gates m gates ≡ class_gates m before
+  own : class_gates n gates ≤ most + class_gates n before
+
+-- a class is a place
+class_place : (o : Option Incident) (p : Tokens) → option_map_or (λ (i : Incident). is_class_in i.document p) o false ≡ true → option_map_or (λ (i : Incident). is_root p || is_class_in i.document p) o false ≡ true
+class_place None p h = h
+class_place (Some i) p h = right (is_root p) (is_class_in i.document p) h
+  where
+    right : (a b : Bool) → b ≡ true → (a || b) ≡ true
+    right true b h = refl
+    right false b h = h
+
+none_map : (text : Bytes) (ws : List WantedGate) → list_any (bytes_eq text) (map (λ (g : WantedGate). g.path) ws) ≡ false → Each (λ (w : WantedGate). bytes_eq text w.path ≡ false) ws
+none_map text [] h = tt
+none_map text (w ∷ ws) h = let parts = or_parts (bytes_eq text w.path) (list_any (bytes_eq text) (map (λ (g : WantedGate). g.path) ws)) h in (parts.0, none_map text ws parts.1)
+
+wanted_put : (groups : List Group) (incidents : List Incident) (n : ℕ) (wanted : List WantedGate) (gates : List Gate) → Each (IsWanted groups incidents n) wanted → stands_twice (map (λ (g : WantedGate). g.path) wanted) ≡ false →
+    Ready groups incidents n wanted gates → Gains groups incidents n (length wanted) gates (put_wanted n wanted gates)
+wanted_put groups incidents n [] gates fit once h = record { rising = h.rising; places = h.places; ends = h.ends; roots = λ m. refl; others = λ m e. refl; own = omega arith }
+wanted_put groups incidents n (w ∷ ws) gates fit once h =
+    let parts = or_parts (list_any (bytes_eq w.path) (map (λ (g : WantedGate). g.path) ws)) (stands_twice (map (λ (g : WantedGate). g.path) ws)) once in
+    split (pointer_tokens w.path) refl (none_map w.path ws parts.0) (λ more ready. wanted_put groups incidents n ws more fit.1 parts.1 ready)
+  where
+    split : (o : Option Tokens) → pointer_tokens w.path ≡ o → Each (λ (v : WantedGate). bytes_eq w.path v.path ≡ false) ws
+        → ((more : List Gate) → Ready groups incidents n ws more → Gains groups incidents n (length ws) more (put_wanted n ws more))
+        → Gains groups incidents n (length (w ∷ ws)) gates (put_wanted n ws (option_map_or (λ p. put_by gate_cmp (record { incident = n; path = p; level = w.level; group = w.group }) gates) o gates))
+    split None is differ rest = never false (sym (ap (λ o. option_map_or (is_class_of incidents n) o false) is) ∙ fit.0.place) refl
+    split (Some p) is differ rest =
+        let row : Gate = record { incident = n; path = p; level = w.level; group = w.group } in
+        let text : pointer_text p ≡ w.path = pointer_text-pointer_tokens w.path p is in
+        let class : is_class_of incidents n p ≡ true = sym (ap (λ o. option_map_or (is_class_of incidents n) o false) is) ∙ fit.0.place in
+        let below : is_root p ≡ false = sym (ap (λ o. option_map_or is_root o false) is) ∙ fit.0.below in
+        let all = rest (put_by gate_cmp row gates) (record {
+          rising = order_put gate_cmp row gates gate_total (each_weaker _ _ gates (λ g e. apart_text n g.incident (pointer_text p) (pointer_text g.path) (subst (λ t. (g.incident == n && bytes_eq (pointer_text g.path) t) ≡ false) (sym text) e)) h.fresh.0) h.rising;
+          places = each_put (λ (g : Gate). is_place_of incidents g.incident g.path ≡ true) gate_cmp row gates (class_place (incident_in n incidents) p class) h.places;
+          ends = each_put (λ (g : Gate). IsGroupIfAny groups g.group) gate_cmp row gates fit.0.group h.ends;
+          fresh = each_weaker _ _ ws (λ v e. each_put (λ (g : Gate). is_at n v.path g ≡ false) gate_cmp row gates (and_right (n == n) (bytes_eq (pointer_text p) v.path) (subst (λ t. bytes_eq t v.path ≡ false) (sym text) e.0)) e.1) (each_both _ _ ws differ h.fresh.1);
+        }) in
+        record {
+          rising = all.rising;
+          places = all.places;
+          ends = all.ends;
+          roots = λ m. all.roots m ∙ count_same (λ (g : Gate). g.incident == m && is_root g.path) gate_cmp row gates (and_right (n == m) (is_root p) below);
+          others = λ m e. all.others m e ∙ count_same (λ (g : Gate). g.incident == m && not (is_root g.path)) gate_cmp row gates (and_left (n == m) (not (is_root p)) e);
+          own = let more = all.own in let next = count_next (λ (g : Gate). g.incident == n && not (is_root g.path)) gate_cmp row gates in omega (arith, more, next);
+        }
+
+-- ---- all gates of an incident that had none
+
+-- what stands beside the incident
+pub record IsBeside (groups : List Group) (incidents : List Incident) (n : ℕ) (gates : List Gate) : Type 0 where
+  pub rising : Pairwise (λ a b. gate_cmp a b ≡ Less) gates
+  pub places : Each (λ (g : Gate). is_place_of incidents g.incident g.path ≡ true) gates
+  pub ends : Each (λ (g : Gate). IsGroupIfAny groups g.group) gates
+  pub others : Each (λ (g : Gate). (g.incident == n) ≡ false) gates
+  pub roots : Each (λ (i : Incident). (n == i.number) ≡ false → root_gates i.number gates ≡ 1) incidents
+  pub limit : Each (λ (i : Incident). (n == i.number) ≡ false → class_gates i.number gates ≤ 16) incidents
+
+not_empty : (text : Bytes) → at_pointer is_root text ≡ false → bytes_eq [] text ≡ false
+not_empty [] h = cc
+not_empty (c ∷ cs) h = refl
+
+pub given : (groups : List Group) (incidents : List Incident) (n level : ℕ) (group : Option ℕ) (wanted : List WantedGate) (gates : List Gate) (i : Incident) → incident_in n incidents ≡ Some i → IsGroupIfAny groups group →
+    Each (IsWanted groups incidents n) wanted → stands_twice (map (λ (g : WantedGate). g.path) wanted) ≡ false → length wanted ≤ 16 → IsBeside groups incidents n gates → SoundGates groups incidents (put_all n level group wanted gates)
+given groups incidents n level group wanted gates i found known fit once few h =
+    let row : Gate = record { incident = n; path = []; level = level; group = group } in
+    let first : List Gate = put_by gate_cmp row gates in
+    let root : is_place_of incidents n [] ≡ true = ap (λ o. option_map_or (λ (i : Incident). true) o false) found in
+    let all = wanted_put groups incidents n wanted first fit once (record {
+      rising = order_put gate_cmp row gates gate_total (each_weaker _ _ gates (λ g e. apart_gate n [] g (and_left (g.incident == n) (same_path g.path []) e)) h.others) h.rising;
+      places = each_put (λ (g : Gate). is_place_of incidents g.incident g.path ≡ true) gate_cmp row gates root h.places;
+      ends = each_put (λ (g : Gate). IsGroupIfAny groups g.group) gate_cmp row gates known h.ends;
+      fresh = each_weaker _ _ wanted (λ w e. each_put (λ (g : Gate). is_at n w.path g ≡ false) gate_cmp row gates (and_right (n == n) (bytes_eq [] w.path) (not_empty w.path e.below)) (each_weaker _ _ gates (λ g o. and_left (g.incident == n) (bytes_eq (pointer_text g.path) w.path) o) h.others)) fit;
+    }) in
+    record {
+      rising = all.rising;
+      places = all.places;
+      ends = all.ends;
+      roots = each_weaker _ _ incidents (λ x e. all.roots x.number ∙ roots_at x.number e) h.roots;
+      limit = each_weaker _ _ incidents (λ x e. limit_at all.own all.others x.number e) h.limit;
+    }
+  where
+    no_root : root_gates n gates ≡ 0
+    no_root = count_none (λ (g : Gate). g.incident == n && is_root g.path) gates (each_weaker _ _ gates (λ g e. and_left (g.incident == n) (is_root g.path) e) h.others)
+
+    no_class : class_gates n gates ≡ 0
+    no_class = count_none (λ (g : Gate). g.incident == n && not (is_root g.path)) gates (each_weaker _ _ gates (λ g e. and_left (g.incident == n) (not (is_root g.path)) e) h.others)
+
+    roots_at : (m : ℕ) → ((n == m) ≡ false → root_gates m gates ≡ 1) → root_gates m (put_by gate_cmp (record { incident = n; path = []; level = level; group = group }) gates) ≡ 1
+    roots_at m was = at (n == m) refl
+      where
+        at : (b : Bool) → (n == m) ≡ b → root_gates m (put_by gate_cmp (record { incident = n; path = []; level = level; group = group }) gates) ≡ 1
+        at true is =
+            count_more (λ (g : Gate). g.incident == m && is_root g.path) gate_cmp (record { incident = n; path = []; level = level; group = group }) gates (and_from (n == m) true is refl)
+            ∙ ap (λ k. 1 + k) (subst (λ k. root_gates k gates ≡ 0) (eqb-true n m is) no_root)
+        at false is = count_same (λ (g : Gate). g.incident == m && is_root g.path) gate_cmp (record { incident = n; path = []; level = level; group = group }) gates (and_left (n == m) true is) ∙ was is
+
+    first_same : (m : ℕ) → class_gates m (put_by gate_cmp (record { incident = n; path = []; level = level; group = group }) gates) ≡ class_gates m gates
+    first_same m = count_same (λ (g : Gate). g.incident == m && not (is_root g.path)) gate_cmp (record { incident = n; path = []; level = level; group = group }) gates (and_right (n == m) false refl)
+
+    at_most_16 : (all own had : ℕ) → all ≤ length wanted + own → own ≡ had → had ≡ 0 → all ≤ 16
+    at_most_16 all own had h k none = omega (arith, few)
+
+    limit_at : class_gates n (put_all n level group wanted gates) ≤ length wanted + class_gates n (put_by gate_cmp (record { incident = n; path = []; level = level; group = group }) gates)
+        → ((m : ℕ) → (n == m) ≡ false → class_gates m (put_all n level group wanted gates) ≡ class_gates m (put_by gate_cmp (record { incident = n; path = []; level = level; group = group }) gates))
+        → (m : ℕ) → ((n == m) ≡ false → class_gates m gates ≤ 16) → class_gates m (put_all n level group wanted gates) ≤ 16
+    limit_at own others m was = at (n == m) refl
+      where
+        at : (b : Bool) → (n == m) ≡ b → class_gates m (put_all n level group wanted gates) ≤ 16
+        at true is = subst (λ k. class_gates k (put_all n level group wanted gates) ≤ 16) (eqb-true n m is) (at_most_16 _ _ _ own (first_same n) no_class)
+        at false is = subst (λ k. k ≤ 16) (sym (others m is ∙ first_same m)) (was is)

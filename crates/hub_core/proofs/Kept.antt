@@ -1,0 +1,130 @@
+-- What nothing refuses leaves a sound state.
+use Rattle.std.proofs.Common.{◌≡◌, ℕ, ◌+◌, ◌≤◌, ◌&&◌, true, false, List, [], ◌∷◌, ◌++◌, length, Option, Some, None, refl, sym, ap, ◌∙◌, subst, arith}
+use Rattle.std.proofs.lemmas.Bool.{ltb-false, not-false, or_parts}
+use Rattle.std.specs.Prelude.{suc, nat_lt, Ok}
+use Rattle.std.specs.List.{list_all}
+use Rattle.std.specs.Option.{option_map_or}
+use Rattle.std.specs.Str.{bytes_eq}
+use Rattle.std.proofs.lemmas.Bool.Decides.{nat_tests}
+use Rattle.iodef_tree.specs.Text.{Bytes}
+use Rattle.iodef_tree.specs.Reading.{reading}
+use Rattle.iodef_tree.proofs.Identified.{has_one, reported}
+use Rattle.iodef_tree.proofs.Order.{bytes_eq-true}
+use Rattle.circle.specs.Sound.{Each, IsOrg}
+use Rattle.circle.specs.declared.refusal.Refusal.{Refusal}
+use Rattle.circle.specs.declared.directory.Person.{Person}
+use Rattle.circle.proofs.Judged.{passed, next_number}
+use Rattle.hub_core.specs.Aftermath.{changed, next_incident, put_gates, put_next, put_revision}
+use Rattle.hub_core.specs.Documents.{Lines, documents_in, ident_of}
+use Rattle.hub_core.specs.Edits.{after}
+use Rattle.hub_core.specs.Refusals.{grounds, refusal_of, are_own_groups, are_bad_gates, has_several, has_some, stand_at_classes, keep_ident, next_revision, number_of, unless_refused}
+use Rattle.hub_core.specs.Laws.{StaysSound}
+use Rattle.hub_core.specs.Sound.{IsSound}
+use Rattle.hub_core.specs.State.{State, incident_number, incident_of}
+use Rattle.hub_core.specs.declared.edit.Edit.TheVariants.{TakePolicy}
+use Rattle.hub_core.specs.declared.request.Request.{Request}
+use Rattle.hub_core.specs.declared.request.Request.TheVariants as ask
+use Rattle.hub_core.specs.declared.request.WantedGate.{WantedGate}
+use Rattle.hub_core.specs.declared.state.Incident.{Incident}
+use Rattle.hub_core.proofs.Addressed.{address_kept, unaddress_kept}
+use Rattle.hub_core.proofs.Bodies.{body_read, fit, not_posted, wishes}
+use Rattle.hub_core.proofs.Exchanged.{with_document, exchanged}
+use Rattle.hub_core.proofs.Gated.{after_gates}
+use Rattle.hub_core.proofs.Granted.{grant_kept, withdraw_kept}
+use Rattle.hub_core.proofs.Grown.{directory_kept}
+use Rattle.hub_core.proofs.Named.{own, counted_is}
+use Rattle.hub_core.proofs.Posted.{IsFit, posted}
+use Rattle.hub_core.proofs.Redistributed.{redistribute_kept}
+use Rattle.hub_core.proofs.Keeping.{all_each}
+
+post_kept : (s : State) (a : Person) (level : ℕ) (group : Option ℕ) (gates : List WantedGate) (body : Bytes) → IsSound s → IsOrg s.directory.orgs a.org → refusal_of s a (ask.Post level group gates body) ≡ None → IsSound (changed s a (ask.Post level group gates body))
+post_kept s a level group gates body h known fine =
+    let docs = documents_in body in
+    let p = passed (grounds s a (ask.Post level group gates body)) fine in
+    let next : next_incident s ≡ length s.incidents + 1 = next_number incident_number 1000000 s.incidents h.incidents.numbered in
+    let room : length s.incidents + length docs ≤ 1000000 = ltb-false 1000000 _ p.1.1.1.1.1.1.1.1.1.1.0 in
+    let classes : stand_at_classes gates docs ≡ true = not-false (stand_at_classes gates docs) p.1.1.1.1.1.1.1.1.0 in
+    let own : are_own_groups s a group gates ≡ true = not-false (are_own_groups s a group gates) p.1.1.1.1.1.1.1.0 in
+    let good : are_bad_gates gates ≡ false = (or_parts (are_bad_gates gates) (has_several docs && has_some gates) p.1.1.1.0).0 in
+    posted docs s a.org (next_incident s) level group gates h next room known
+    (fit body docs gates (body_read body p.1.1.1.1.0) p.1.1.1.1.1.1.0 classes) p.1.1.1.1.1.0 (not_posted s a.org docs p.1.1.1.1.1.1.1.1.1.0)
+    (wishes s a group gates h.directory good own (ltb-false 16 _ p.1.1.1.1.1.1.1.1.1.1.1.0))
+
+-- ---- another document
+
+one_of : (docs : List Lines) → has_several docs ≡ false → has_one docs ≡ true → (doc : Lines) × (docs ≡ doc ∷ [])
+one_of [] h k = absurd (never_one k)
+  where
+    never_one : false ≡ true → ⊥
+    never_one e = cc
+one_of (doc ∷ []) h k = (doc, refl)
+one_of (doc ∷ other ∷ docs) h k = absurd (never_two (sym h ∙ two (length docs)))
+  where
+    never_two : false ≡ true → ⊥
+    never_two e = cc
+
+    two : (n : ℕ) → nat_lt 1 (suc (suc n)) ≡ true
+    two n = grind (arith, nat_tests)
+
+-- what the edits of the incident, of its gates and of its permissions make
+after_replace : (s : State) (i : Incident) (level : ℕ) (group : Option ℕ) (gates : List WantedGate) (docs : List Lines) (doc : Lines) → incident_of i.number s ≡ Some i → docs ≡ doc ∷ [] →
+    after (put_next (incident_of i.number s) docs ++ TakePolicy i.number ∷ put_gates i.number level group gates) s ≡ with_document s i level group gates doc
+after_replace s i level group gates docs doc found one =
+    ap (λ o. after (put_next o docs ++ TakePolicy i.number ∷ put_gates i.number level group gates) s) found
+    ∙ (ap (λ ds. after (put_revision i ds ++ TakePolicy i.number ∷ put_gates i.number level group gates) s) one
+    ∙ after_gates i.number level group gates (after (put_revision i (doc ∷ []) ++ TakePolicy i.number ∷ []) s))
+
+replace_own : (s : State) (a : Person) (i : Incident) (revision level : ℕ) (group : Option ℕ) (gates : List WantedGate) (body : Bytes) → IsSound s → incident_of i.number s ≡ Some i → refusal_of s a (ask.Replace i.number revision level group gates body) ≡ None →
+    IsSound (changed s a (ask.Replace i.number revision level group gates body))
+replace_own s a i revision level group gates body h found fine =
+    let docs = documents_in body in
+    let n = i.number in
+    let p = passed (grounds s a (ask.Replace n revision level group gates body)) fine in
+    let read : reading body ≡ Ok docs = body_read body p.1.1.1.1.0 in
+    let one = one_of docs p.1.1.1.1.1.0 (reported body docs read).some in
+    let classes : stand_at_classes gates docs ≡ true = not-false (stand_at_classes gates docs) p.1.1.1.1.1.1.1.1.1.0 in
+    let own : are_own_groups s a group gates ≡ true = not-false (are_own_groups s a group gates) p.1.1.1.1.1.1.1.1.0 in
+    let kept : keep_ident s n docs ≡ true = not-false (keep_ident s n docs) p.1.1.1.1.1.1.1.1.1.1.0 in
+    let few : number_of gates ≤ 16 = subst (λ m. m ≤ 16) (counted_is s n i (λ m. number_of gates) found) (ltb-false 16 _ p.1.1.1.1.1.1.1.1.1.1.1.1.1.0) in
+    let room : next_revision s n ≤ 1000000 = ltb-false 1000000 _ p.1.1.1.1.1.1.1.1.1.1.1.1.0 in
+    let fits : IsFit gates one.0 = (subst (Each (IsFit gates)) one.1 (fit body docs gates read p.1.1.1.1.1.1.0 classes)).0 in
+    let same : list_all (λ (doc : Lines). bytes_eq (ident_of doc) i.ident) (one.0 ∷ []) ≡ true =
+    ap (list_all (λ (doc : Lines). bytes_eq (ident_of doc) i.ident)) (sym one.1) ∙ (sym (ap (λ o. option_map_or (λ (x : Incident). list_all (λ (doc : Lines). bytes_eq (ident_of doc) x.ident) docs) o false) found) ∙ kept) in
+    let ident : ident_of one.0 ≡ i.ident = bytes_eq-true (ident_of one.0) i.ident (all_each (λ (doc : Lines). bytes_eq (ident_of doc) i.ident) (one.0 ∷ []) same).0 in
+    subst IsSound (sym (after_replace s i level group gates docs one.0 found one.1))
+    (exchanged s i level group gates one.0 h found
+    (record { accepted = fits.accepted; named = fits.named ∙ ap Some ident; room = subst (λ o. option_map_or (λ (x : Incident). x.revision) o 0 + 1 ≤ 1000000) found room })
+    fits.classes (wishes s a group gates h.directory p.1.1.1.0 own few))
+
+replace_kept : (s : State) (a : Person) (n revision level : ℕ) (group : Option ℕ) (gates : List WantedGate) (body : Bytes) → IsSound s → refusal_of s a (ask.Replace n revision level group gates body) ≡ None →
+    IsSound (changed s a (ask.Replace n revision level group gates body))
+replace_kept s a n revision level group gates body h fine =
+    let p = passed (grounds s a (ask.Replace n revision level group gates body)) fine in
+    let it = own s a n p.1.1.1.1.1.1.1.0 in
+    let P : ℕ → Type 0 = λ m. incident_of m s ≡ Some it.incident → refusal_of s a (ask.Replace m revision level group gates body) ≡ None → IsSound (changed s a (ask.Replace m revision level group gates body)) in
+    subst P it.number (replace_own s a it.incident revision level group gates body h) it.found fine
+
+-- ---- every request
+
+pub kept : (s : State) (a : Person) (r : Request) → IsSound s → IsOrg s.directory.orgs a.org → refusal_of s a r ≡ None → IsSound (changed s a r)
+kept s a (ask.Circle command) h known fine = directory_kept s a command h known fine
+kept s a (ask.Post level group gates body) h known fine = post_kept s a level group gates body h known fine
+kept s a (ask.Replace n revision level group gates body) h known fine = replace_kept s a n revision level group gates body h fine
+kept s a (ask.Redistribute n revision path level group) h known fine = redistribute_kept s a n revision path level group h fine
+kept s a (ask.Address n target) h known fine = address_kept s a n target h fine
+kept s a (ask.Unaddress n target) h known fine = unaddress_kept s a n target h
+kept s a (ask.Grant n revision path grantee) h known fine = grant_kept s a n revision path grantee h fine
+kept s a (ask.Withdraw n path grantee) h known fine = withdraw_kept s a n path grantee h
+kept s a (ask.View n) h known fine = h
+kept s a (ask.List after) h known fine = h
+kept s a (ask.Search needle class after) h known fine = h
+kept s a (ask.Addressed after) h known fine = h
+kept s a ask.MyGroups h known fine = h
+kept s a ask.WhoAmI h known fine = h
+
+pub stays_sound : StaysSound
+stays_sound s a r h known = split (refusal_of s a r) refl
+  where
+    split : (o : Option Refusal) → refusal_of s a r ≡ o → IsSound (unless_refused o s (changed s a r))
+    split None is = kept s a r h known is
+    split (Some why) is = h

@@ -1,0 +1,25 @@
+-- How many rows of each incident there are, with one more.
+use Rattle.std.proofs.Common.{◌≡◌, ℕ, ◌≤◌, ◌==◌, Bool, true, false, List, refl, sym, subst}
+use Rattle.std.proofs.lemmas.Bool.{eqb-true}
+use Rattle.std.specs.Prelude.{count_by}
+use Rattle.std.specs.declared.cmp.Ordering.{Ordering}
+use Rattle.circle.specs.Ordered.{put_by}
+use Rattle.circle.specs.Sound.{Each}
+use Rattle.circle.proofs.Keeping.{each_weaker}
+use Rattle.hub_core.specs.declared.state.Incident.{Incident}
+use Rattle.hub_core.proofs.Keeping.{count_same}
+
+still_within : {X : Type 0} (number : X → ℕ) (cmp : X → X → Ordering) (limit : ℕ) (x : X) (xs : List X) (n : ℕ) →
+    count_by (λ y. number y == number x) (put_by cmp x xs) ≤ limit → count_by (λ y. number y == n) xs ≤ limit → count_by (λ y. number y == n) (put_by cmp x xs) ≤ limit
+still_within number cmp limit x xs n here there = split (number x == n) refl
+  where
+    split : (b : Bool) → (number x == n) ≡ b → count_by (λ y. number y == n) (put_by cmp x xs) ≤ limit
+    split true is = subst (λ m. count_by (λ y. number y == m) (put_by cmp x xs) ≤ limit) (eqb-true (number x) n is) here
+    split false is = subst (λ m. m ≤ limit) (sym (count_same (λ y. number y == n) cmp x xs is)) there
+
+-- those of each incident stay within the limit, if those of the row's own do
+pub limit_put : {X : Type 0} (number : X → ℕ) (cmp : X → X → Ordering) (limit : ℕ) (x : X) (xs : List X) (incidents : List Incident) →
+    count_by (λ y. number y == number x) (put_by cmp x xs) ≤ limit →
+    Each (λ (i : Incident). count_by (λ y. number y == i.number) xs ≤ limit) incidents →
+    Each (λ (i : Incident). count_by (λ y. number y == i.number) (put_by cmp x xs) ≤ limit) incidents
+limit_put number cmp limit x xs incidents here all = each_weaker _ _ incidents (λ i e. still_within number cmp limit x xs i.number here e) all

@@ -1,0 +1,67 @@
+-- What the grounds say of what is named, where none holds.
+use Rattle.std.proofs.Common.{◌≡◌, ℕ, ◌==◌, true, false, not, if◌then◌else◌, List, Option, Some, None, ap, subst}
+use Rattle.std.proofs.lemmas.Bool.{and_parts, eqb-true, not-false}
+use Rattle.std.specs.Prelude.{is_some}
+use Rattle.std.specs.List.{list_all}
+use Rattle.policy.specs.declared.permission.Grantee.{Grantee}
+use Rattle.policy.specs.declared.permission.Grantee.TheVariants as grantee
+use Rattle.circle.specs.Directory.{Directory, has_group_member}
+use Rattle.circle.specs.Sound as circle
+use Rattle.circle.specs.Sound.{Each, IsGroup}
+use Rattle.circle.specs.declared.directory.Person.{Person}
+use Rattle.circle.proofs.Keeping.{found_then, each_weaker}
+use Rattle.hub_core.specs.Refusals.{is_own, is_own_group, are_own_groups, is_target, is_grantee, counted}
+use Rattle.hub_core.specs.Sound.{IsIncident, IsTarget, IsGrantee, IsGroupIfAny}
+use Rattle.hub_core.specs.State.{State, incident_of}
+use Rattle.hub_core.specs.declared.request.Target.{Target}
+use Rattle.hub_core.specs.declared.request.Target.TheVariants as target
+use Rattle.hub_core.specs.declared.request.WantedGate.{WantedGate}
+use Rattle.hub_core.specs.declared.state.Incident.{Incident}
+use Rattle.hub_core.proofs.Keeping.{all_each, found_any, found_is, found_passing}
+
+-- the incident that the source named
+pub record Own (s : State) (a : Person) (n : ℕ) : Type 0 where
+  pub incident : Incident
+  pub found : incident_of n s ≡ Some incident
+  pub source : incident.source ≡ a.org
+  pub number : incident.number ≡ n
+
+pub own : (s : State) (a : Person) (n : ℕ) → not (is_own s a n) ≡ false → Own s a n
+own s a n h =
+    let f = found_passing (λ (i : Incident). i.source == a.org) (incident_of n s) (not-false (is_own s a n) h) in
+    record { incident = f.0; found = f.1; source = eqb-true f.0.source a.org f.2; number = eqb-true f.0.number n (found_is (λ (i : Incident). i.number == n) s.incidents f.0 f.1) }
+
+pub some_is : {X : Type 0} (o : Option X) (x : X) → o ≡ Some x → is_some o ≡ true
+some_is o x h = ap is_some h
+
+pub is_incident : (s : State) (n : ℕ) (i : Incident) → incident_of n s ≡ Some i → IsIncident s.incidents n
+is_incident s n i h = found_any (λ (x : Incident). x.number == n) s.incidents (some_is (incident_of n s) i h)
+
+-- what is counted where the incident is there
+pub counted_is : (s : State) (n : ℕ) (i : Incident) (count : ℕ → ℕ) → incident_of n s ≡ Some i → counted s (Some n) count ≡ count n
+counted_is s n i count h = ap (λ b. if b then count n else 0) (some_is (incident_of n s) i h)
+
+pub target_is : (d : Directory) (t : Target) → is_target d t ≡ true → IsTarget d t
+target_is d (target.Person n) h = h
+target_is d (target.Org n) h = h
+
+-- a group with a member is there
+group_is : (d : Directory) (n org : ℕ) → circle.IsSound d → has_group_member n org d ≡ true → IsGroup d.groups n
+group_is d n org h member = found_then _ _ (IsGroup d.groups n) d.group_members (λ m is e. subst (IsGroup d.groups) (eqb-true m.group n (and_parts (m.group == n) (m.org == org) is).0) e.0) member h.group_members.ends
+
+pub grantee_is : (d : Directory) (org : ℕ) (g : Grantee) → circle.IsSound d → is_grantee d org g ≡ true → IsGrantee d g
+grantee_is d org (grantee.Person n) h k = k
+grantee_is d org (grantee.Org n) h k = k
+grantee_is d org (grantee.Community n) h k = k
+grantee_is d org (grantee.Group n) h k = group_is d n org h k
+
+pub group_if_any : (s : State) (a : Person) (g : Option ℕ) → circle.IsSound s.directory → is_own_group s a g ≡ true → IsGroupIfAny s.directory.groups g
+group_if_any s a None h k = tt
+group_if_any s a (Some n) h k = group_is s.directory n a.org h k
+
+-- the groups of an incident's gates are there
+pub groups_are : (s : State) (a : Person) (group : Option ℕ) (gates : List WantedGate) → circle.IsSound s.directory → are_own_groups s a group gates ≡ true →
+    IsGroupIfAny s.directory.groups group × Each (λ (g : WantedGate). IsGroupIfAny s.directory.groups g.group) gates
+groups_are s a group gates h k =
+    let parts = and_parts (is_own_group s a group) (list_all (λ (g : WantedGate). is_own_group s a g.group) gates) k in
+    (group_if_any s a group h parts.0, each_weaker _ _ gates (λ g e. group_if_any s a g.group h e) (all_each (λ (g : WantedGate). is_own_group s a g.group) gates parts.1))

@@ -1,0 +1,5 @@
+use Rattle.hub_core.proofs.Apart.{others_stay}
+use Rattle.hub_core.proofs.laws.others_stay.Goals as goal
+
+pub returns : goal.returns
+returns c = others_stay
