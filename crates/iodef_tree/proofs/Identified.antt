@@ -16,10 +16,10 @@ use Rattle.serde_json.specs.Find.{get, get_member, as_array, as_object}
 use Rattle.serde_json.specs.Read.{read, max_depth, number_of, of_json, of_items, of_members}
 use Rattle.serde_json.specs.Written.{compact_text}
 use Rattle.serde_json.proofs.Views.{get_member-put}
-use Rattle.iodef_tree.specs.Built.{is_filled}
+use Rattle.iodef_tree.proofs.Filled.{has_elements}
 use Rattle.iodef_tree.specs.Fit.{IsBodyOrdered, AreBodiesOrdered}
 use Rattle.iodef_tree.specs.Json.{zeroth, id_in, incident_id}
-use Rattle.iodef_tree.specs.Reading.{reading, parsed, or_fault, unless, ◌>>=◌, incidents_of, if_incidents, are_incidents, all_objects, all_complete, plain, lacking, lacks, incident_at, with_incident, document_of, documents, if_short}
+use Rattle.iodef_tree.specs.Reading.{reading, parsed, or_fault, unless, ◌>>=◌, incidents_of, if_incidents, are_incidents, all_objects, all_complete, all_fit, lacking, lacks, incident_at, with_incident, document_of, documents, if_short}
 use Rattle.iodef_tree.specs.Sound.{IsOrdered}
 use Rattle.iodef_tree.specs.Text.{Bytes, bytes_lt}
 use Rattle.iodef_tree.specs.Tree.{Forest, Bodies, lines}
@@ -162,7 +162,7 @@ mutual
 abbrev kept : Data → Data
 kept d = bodies_data (bodies_of_data d)
 
-filled : (d : Data) → is_filled (bodies_of_data d) ≡ true
+filled : (d : Data) → has_elements (bodies_of_data d) ≡ true
 filled json.null = refl
 filled (json.boolean b) = refl
 filled (json.number n) = refl
@@ -361,10 +361,10 @@ reported_in root ds docs order h complete read_as = record {
 pub reported : (body : Bytes) (docs : List (List Line)) → reading body ≡ Ok docs → IsReported docs
 unfolding reading
 reported body docs h =
-    let a = bound (parsed body) (λ d. or_fault NotDocument (as_object d) >>= λ root. or_fault NotDocument (incidents_of root) >>= λ incidents. all_complete 0 incidents >>= λ complete. plain d >>= λ fine. documents root incidents) docs h in
-    let b = bound (or_fault NotDocument (as_object a.0)) (λ root. or_fault NotDocument (incidents_of root) >>= λ incidents. all_complete 0 incidents >>= λ complete. plain a.0 >>= λ fine. documents root incidents) docs a.2 in
-    let c = bound (or_fault NotDocument (incidents_of b.0)) (λ incidents. all_complete 0 incidents >>= λ complete. plain a.0 >>= λ fine. documents b.0 incidents) docs b.2 in
-    let e = bound (all_complete 0 c.0) (λ complete. plain a.0 >>= λ fine. documents b.0 c.0) docs c.2 in
-    let f = bound (plain a.0) (λ fine. documents b.0 c.0) docs e.2 in
+    let a = bound (parsed body) (λ d. or_fault NotDocument (as_object d) >>= λ root. or_fault NotDocument (incidents_of root) >>= λ incidents. all_complete 0 incidents >>= λ complete. all_fit d >>= λ fine. documents root incidents) docs h in
+    let b = bound (or_fault NotDocument (as_object a.0)) (λ root. or_fault NotDocument (incidents_of root) >>= λ incidents. all_complete 0 incidents >>= λ complete. all_fit a.0 >>= λ fine. documents root incidents) docs a.2 in
+    let c = bound (or_fault NotDocument (incidents_of b.0)) (λ incidents. all_complete 0 incidents >>= λ complete. all_fit a.0 >>= λ fine. documents b.0 incidents) docs b.2 in
+    let e = bound (all_complete 0 c.0) (λ complete. all_fit a.0 >>= λ fine. documents b.0 c.0) docs c.2 in
+    let f = bound (all_fit a.0) (λ fine. documents b.0 c.0) docs e.2 in
     let order : HasOrder b.0 = root_order body a.0 b.0 (when (is_utf8 body) (read body) a.0 (given_some NotJson (if is_utf8 body then read body else None) a.0 a.1)) (given_some NotDocument (as_object a.0) b.0 b.1) in
     reported_in b.0 c.0 docs order (has_incidents b.0 c.0 order (given_some NotDocument (incidents_of b.0) c.0 c.1)) e.1 f.2
