@@ -1,11 +1,9 @@
 -- What is there stays there.
-use Rattle.std.proofs.Common.{◌≡◌, ℕ, ◌==◌, true, false, if◌then◌else◌, Option, Some, None, refl}
+use Rattle.std.proofs.Common.{◌==◌, false, if◌then◌else◌, Option, Some, None, refl}
 use Rattle.circle.specs.declared.directory.Org.{Org}
-use Rattle.circle.specs.declared.directory.Person.{Person}
 use Rattle.circle.specs.declared.directory.Account.{Account}
 use Rattle.circle.specs.declared.directory.Community.{Community}
 use Rattle.circle.specs.declared.directory.Group.{Group}
-use Rattle.circle.specs.declared.command.CircleCommand.{CircleCommand}
 use Rattle.circle.specs.declared.command.Edit.{Edit}
 use Rattle.circle.specs.declared.command.Edit.TheVariants.{Row, Found}
 use Rattle.circle.specs.declared.command.RowEdit.{RowEdit}

@@ -1,15 +1,15 @@
 -- Each edit leaves each set in the order of its key.
-use Rattle.std.proofs.Common.{◌≡◌, ℕ, ◌==◌, ◌&&◌, not, Bool, true, false, List, [], ◌∷◌, filter, map, if◌then◌else◌, refl, sym, ap, ◌∙◌, subst, arith}
+use Rattle.std.proofs.Common.{◌≡◌, ℕ, ◌==◌, Bool, true, false, List, [], ◌∷◌, filter, map, if◌then◌else◌, refl, sym, ap, ◌∙◌, subst, arith}
 use Rattle.std.specs.Ordering.{is_lt}
 use Rattle.std.proofs.lemmas.Bool.Decides.{nat_tests}
 use Rattle.circle.specs.declared.directory.Account.{Account}
 use Rattle.circle.specs.declared.directory.Group.{Group}
 use Rattle.circle.specs.declared.command.RowEdit.{RowEdit}
 use Rattle.circle.specs.declared.command.RowEdit.TheVariants.{PutOrg, PutAccount, Suspend, PutClient, TakeClient, PutCommunity, PutMembership, TakeMembership, PutConnection, TakeConnection, PutGroup, PutGroupMember, TakeGroupMember, SetGroupActive, PutArrangement, TakeArrangement, SetNominated}
-use Rattle.circle.specs.Ordered.{put_by, pair_cmp, by_number, by_pair}
+use Rattle.circle.specs.Ordered.{put_by, pair_cmp, by_pair}
 use Rattle.circle.specs.Directory.{Directory, org_number, account_number, community_number, group_number, client_key, membership_key, connection_key, group_member_key, arrangement_key}
 use Rattle.circle.specs.Aftermath.{edited_row}
-use Rattle.circle.specs.Sound.{Each, Pairwise}
+use Rattle.circle.specs.Sound.{Each}
 use Rattle.circle.specs.Stretches.{Ascend, numbered}
 use Rattle.circle.specs.Rows.{IsInOrder}
 use Rattle.circle.proofs.Keeping.{each_put, each_weaker, pairs_left}

@@ -5,7 +5,8 @@ use Rattle.circle.specs.declared.command.CircleCommand.{CircleCommand}
 use Rattle.circle.specs.declared.refusal.Refusal.{Refusal}
 use Rattle.circle.specs.Directory.{Directory, empty, has_suspended}
 use Rattle.circle.specs.Refusals.{refusal_of}
-use Rattle.circle.specs.Aftermath.{state_after}
+use Rattle.circle.specs.declared.command.Edit.{Edit}
+use Rattle.circle.specs.Aftermath.{edited, edited_rows, rows_of, state_after}
 use Rattle.circle.specs.Sound.{IsSound, IsOrg, OwnersExtend}
 use Rattle.circle.specs.Others.{LeavesTheirs}
 use Rattle.circle.specs.Growth.{Grows}
@@ -37,3 +38,7 @@ SuspendedStays = (d : Directory) (actor : Person) (command : CircleCommand) (per
 -- no organisation, person, community or group goes away
 abbrev pub NothingVanishes : Type 0
 NothingVanishes = (d : Directory) (actor : Person) (command : CircleCommand) → Grows d (state_after d actor command)
+
+-- an edit is the edits of its rows one after another
+abbrev pub EditsAreRows : Type 0
+EditsAreRows = (edit : Edit) (d : Directory) → edited_rows (rows_of edit) d ≡ edited edit d

@@ -3,7 +3,7 @@ ghost use Rattle.std.specs.Prelude.{◌≡◌, ◌==◌, true, false, not, codes
 ghost use Rattle.circle.specs.declared.command.Edit.TheVariants.{Row, Found};
 ghost use Rattle.circle.specs.declared.command.RowEdit.TheVariants.{PutOrg, PutAccount, PutCommunity};
 ghost use Rattle.circle.specs.Texts.{is_name, is_releasability};
-ghost use Rattle.circle.specs.Aftermath.{edit_of};
+ghost use Rattle.circle.specs.Aftermath.{edit_of, rows_of};
 ghost use Rattle.circle.specs.Judgement.{bad_field, field_if};
 ghost use Rattle.circle.specs.Unfit.{Explains};
 
@@ -15,7 +15,7 @@ use crate::directory::{
 use crate::name::Name;
 use crate::releasability::Releasability;
 use crate::text::Text;
-use std::alloc::Global;
+use std::alloc::{AllocError, Global};
 
 /// Why there is no edit: the first bad field, or want of memory.
 #[derive(Clone, Copy, Debug)]
@@ -249,4 +249,26 @@ fn new_group(
         releasability,
         active: true,
     }))
+}
+
+impl Edit {
+    /// The change as edits of rows, to be made one after another.
+    pub fn into_rows(self, alloc: Global) -> Result<Vec<RowEdit>, AllocError>
+        ensures { IfOk result (λ rows. rows.items ≡ rows_of self) }
+    {
+        let mut rows = Vec::new(alloc);
+        match self {
+            Edit::Row(edit) => rows.push(edit)?,
+            Edit::Found(group) => {
+                let founder = GroupMember {
+                    group: group.number,
+                    org: group.owner,
+                    extend: true,
+                };
+                rows.push(RowEdit::PutGroup(group))?;
+                rows.push(RowEdit::PutGroupMember(founder))?;
+            }
+        }
+        Ok(rows)
+    }
 }

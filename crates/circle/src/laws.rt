@@ -1,5 +1,5 @@
 //! Laws of the definitions, each the contract of a function that does nothing.
-ghost use Rattle.circle.specs.Laws.{EmptyIsSound, NothingVanishes, OrganisationsKeepApart, OwnersStay, RefusalsLeaveAll, StaysSound, SuspendedStays};
+ghost use Rattle.circle.specs.Laws.{EditsAreRows, EmptyIsSound, NothingVanishes, OrganisationsKeepApart, OwnersStay, RefusalsLeaveAll, StaysSound, SuspendedStays};
 ghost use Rattle.circle.specs.Order.{IsInOrder};
 
 /// What a person of a sound directory changes leaves it sound.
@@ -41,4 +41,9 @@ pub fn suspended_stays()
 /// No organisation, person, community or group goes away.
 pub fn nothing_vanishes()
     ensures { NothingVanishes }
+{}
+
+/// An edit is the edits of its rows, one after another.
+pub fn edits_are_rows()
+    ensures { EditsAreRows }
 {}

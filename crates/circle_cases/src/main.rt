@@ -1,9 +1,12 @@
-//! Answers the cases on standard input, one a line: a command to judge, or a text, a refusal or a code to show.
+//! Answers the cases on standard input, one a line: a command to judge, a question to a small directory in memory, or
+//! a text, a refusal or a code to show.
 #![tactic(auto)]
 
+mod asked;
 mod commands;
 mod judged;
 mod parts;
+mod world;
 mod written;
 
 use std::alloc::{AllocError, Global};
@@ -22,6 +25,9 @@ fn main(rt: HostRuntime) -> io::Result<()> {
 }
 
 fn answer(alloc: Global, line: &str) -> Result<String, AllocError> {
+    if let Some(question) = line.strip_prefix("ask|") {
+        return asked::answer(alloc, question);
+    }
     match parts::answer(alloc, line)? {
         Some(answer) => Ok(answer),
         None => judged::answer(alloc, line),

@@ -1,6 +1,6 @@
-//! How a command changes the rows: by the edit that was judged, and as the command says it.
+//! How a command changes the rows of the plain program.
 use crate::rows::World;
-use circle::command::{CircleCommand, Edit, RowEdit};
+use circle::command::CircleCommand;
 use circle::directory::{
     Account, Arrangement, Client, Community, Connection, Group, GroupMember, Membership, Org,
     Person, Role,
@@ -9,51 +9,6 @@ use circle::name::Name;
 use circle::releasability::Releasability;
 use circle::text::Text;
 use std::alloc::{AllocError, Global};
-
-/// Makes the edit, as a store would.
-pub fn make(world: &mut World, edit: Edit) -> Result<(), AllocError> {
-    match edit {
-        Edit::Row(edit) => make_row(world, edit),
-        Edit::Found(group) => {
-            world.members.push(GroupMember {
-                group: group.number,
-                org: group.owner,
-                extend: true,
-            })?;
-            world.groups.push(group)?;
-            Ok(())
-        }
-    }
-}
-
-fn make_row(world: &mut World, edit: RowEdit) -> Result<(), AllocError> {
-    match edit {
-        RowEdit::PutOrg(org) => world.orgs.push(org)?,
-        RowEdit::PutAccount(account) => world.accounts.push(account)?,
-        RowEdit::Suspend(person) => suspend(world, person),
-        RowEdit::PutClient(client) => world.clients.push(client)?,
-        RowEdit::TakeClient(client) => world.clients.retain(|c| *c != client),
-        RowEdit::PutCommunity(community) => world.communities.push(community)?,
-        RowEdit::PutMembership(row) => world.memberships.push(row)?,
-        RowEdit::TakeMembership(row) => world.memberships.retain(|m| *m != row),
-        RowEdit::PutConnection(row) => world.connections.push(row)?,
-        RowEdit::TakeConnection(row) => world.connections.retain(|c| *c != row),
-        RowEdit::PutGroup(group) => world.groups.push(group)?,
-        RowEdit::PutGroupMember(row) => world.members.push(row)?,
-        RowEdit::TakeGroupMember { group, org } => {
-            world.members.retain(|m| m.group != group || m.org != org)
-        }
-        RowEdit::SetGroupActive { group, active } => switch(world, group, active),
-        RowEdit::PutArrangement(row) => world.arrangements.push(row)?,
-        RowEdit::TakeArrangement { source, org } => {
-            world
-                .arrangements
-                .retain(|a| a.source != source || a.org != org)
-        }
-        RowEdit::SetNominated { person, nominated } => nominate(world, person, nominated),
-    }
-    Ok(())
-}
 
 fn suspend(world: &mut World, person: u32) {
     for account in world.accounts.iter_mut() {

@@ -1,7 +1,7 @@
 //! The last numbered row of each kind, and the one behind it.
-use crate::changes::make;
+use crate::changes::obey;
 use crate::rows::World;
-use circle::command::CircleCommand;
+use circle::command::{CircleCommand, Edit, RowEdit};
 use circle::directory::{Account, Community, Group, Org, Person, Role};
 use circle::judge::judge;
 use circle::name::Name;
@@ -65,6 +65,17 @@ fn nearly_full(alloc: Global) -> Result<World, AllocError> {
     Ok(world)
 }
 
+/// Whether the edit puts the last row that there is now.
+fn is_last(world: &World, edit: &Edit) -> bool {
+    match edit {
+        Edit::Row(RowEdit::PutOrg(org)) => world.orgs.last() == Some(org),
+        Edit::Row(RowEdit::PutAccount(account)) => world.accounts.last() == Some(account),
+        Edit::Row(RowEdit::PutCommunity(community)) => world.communities.last() == Some(community),
+        Edit::Row(_) => false,
+        Edit::Found(group) => world.groups.last() == Some(group),
+    }
+}
+
 /// Whether the command is done so, or refused.
 fn is_outcome(
     alloc: Global,
@@ -87,8 +98,8 @@ fn is_outcome(
     let plain = world.refusal(&actor, command).map(|told| told.0);
     match judge(alloc, &actor, &world.facts(&actor, command), command) {
         Ok(edit) => {
-            make(world, edit)?;
-            Ok(wanted.is_none() && plain.is_none())
+            obey(world, alloc, actor.org, command)?;
+            Ok(wanted.is_none() && plain.is_none() && is_last(world, &edit))
         }
         Err(refusal) => Ok(wanted == Some(refusal.code) && plain == wanted),
     }

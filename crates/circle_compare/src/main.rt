@@ -1,6 +1,6 @@
-//! `circle_compare SEEDS`: compares `judge` and its edits with a plain, slow program that asks the rows themselves, over
-//! so many directories of 200 generated commands each. A difference is told by its seed, with status 1. Behind each
-//! kind of command stand the outcomes that were met at least 20 times.
+//! `circle_compare SEEDS`: compares a directory in memory, `judge` and its edits with a plain, slow program that asks the
+//! rows themselves, over so many directories of 200 generated commands each. A difference is told by its seed, with
+//! status 1. Behind each kind of command stand the outcomes that were met at least 20 times.
 #![tactic(auto)]
 
 mod changes;
@@ -9,6 +9,7 @@ mod dice;
 mod facts;
 mod generated;
 mod limits;
+mod reads;
 mod refusals;
 mod rows;
 mod tally;
@@ -17,7 +18,7 @@ use std::process::ExitCode;
 use std::{env, io};
 
 /// How many directories, where the words name no number.
-const SEEDS: u64 = 256;
+const SEEDS: u64 = 192;
 
 fn main(rt: HostRuntime) -> io::Result<ExitCode> {
     let alloc = rt.alloc();

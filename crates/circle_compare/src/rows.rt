@@ -1,7 +1,8 @@
-//! A plain program's directory: rows in the order in which they came, each question answered by going over them all.
+//! A plain program's directory: rows in the order in which they came, each question answered by going over all.
 use circle::directory::{
     Account, Arrangement, Client, Community, Connection, Group, GroupMember, Membership, Org,
 };
+use circle::rows::DirectoryRows;
 use circle::text::Text;
 use std::alloc::Global;
 
@@ -38,17 +39,17 @@ impl World {
         }
     }
 
-    /// Whether both have the same rows.
-    pub fn is_same(&self, other: &World) -> bool {
-        same_rows(self.orgs.as_slice(), other.orgs.as_slice())
-            && same_rows(self.accounts.as_slice(), other.accounts.as_slice())
-            && same_rows(self.clients.as_slice(), other.clients.as_slice())
-            && same_rows(self.communities.as_slice(), other.communities.as_slice())
-            && same_rows(self.memberships.as_slice(), other.memberships.as_slice())
-            && same_rows(self.connections.as_slice(), other.connections.as_slice())
-            && same_rows(self.groups.as_slice(), other.groups.as_slice())
-            && same_rows(self.members.as_slice(), other.members.as_slice())
-            && same_rows(self.arrangements.as_slice(), other.arrangements.as_slice())
+    /// Whether the directory in memory has the same rows.
+    pub fn is_same(&self, other: &DirectoryRows) -> bool {
+        same_rows(self.orgs.as_slice(), other.orgs())
+            && same_rows(self.accounts.as_slice(), other.accounts())
+            && same_rows(self.clients.as_slice(), other.clients())
+            && same_rows(self.communities.as_slice(), other.communities())
+            && same_rows(self.memberships.as_slice(), other.memberships())
+            && same_rows(self.connections.as_slice(), other.connections())
+            && same_rows(self.groups.as_slice(), other.groups())
+            && same_rows(self.members.as_slice(), other.group_members())
+            && same_rows(self.arrangements.as_slice(), other.arrangements())
     }
 
     // ---- is there such a row?

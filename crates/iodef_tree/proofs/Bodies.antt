@@ -73,7 +73,7 @@ chosen ds es = step (are_incidents ds)
     step true e = cc
     step false e = cc
 
-found_array : (o : Option Data) (ds : json.Items) → option_and_then if_incidents (option_and_then as_array o) ≡ Some ds → o ≡ Some (json.array ds)
+pub found_array : (o : Option Data) (ds : json.Items) → option_and_then if_incidents (option_and_then as_array o) ≡ Some ds → o ≡ Some (json.array ds)
 found_array None ds e = cc
 found_array (Some x) ds e = step (as_array x) refl e
   where
@@ -81,7 +81,7 @@ found_array (Some x) ds e = step (as_array x) refl e
     step None is e = cc
     step (Some es) is e = let same : es ≡ ds = chosen es ds e in ap Some (array_of x ds (is ∙ ap Some same))
 
-fit_object : (ms : json.Members) (ds : json.Items) → IsPlain (json.object ms) → get_member (codes "Incident") ms ≡ Some (json.array ds) → AreFit ms ds
+pub fit_object : (ms : json.Members) (ds : json.Items) → IsPlain (json.object ms) → get_member (codes "Incident") ms ≡ Some (json.array ds) → AreFit ms ds
 fit_object ms ds p at =
     let free = whole (json.object ms) 0 0 p.whole in
     let low : 1 + height (forest_of_data ms) ≤ 33 = low_members ms 1 (omega arith) (head is_too_deep (node 0 0 (json.object ms)) (member_nodes 1 ms) p.shallow).1 in

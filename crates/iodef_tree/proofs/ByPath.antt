@@ -93,7 +93,7 @@ leaf_plain : (c : Content) → is_class_kind (kind_of c) ≡ false
 leaf_plain (text s) = refl
 leaf_plain (value s) = refl
 
-has_class-walk : (f : Forest) (d : ℕ) (q p : Tokens) → HasApart f → has_class (walk d q f) (q ++ p) ≡ is_some (class_at f p)
+pub has_class-walk : (f : Forest) (d : ℕ) (q p : Tokens) → HasApart f → has_class (walk d q f) (q ++ p) ≡ is_some (class_at f p)
 has_class-walk end d q p apart = refl
 has_class-walk (leaf i rest) d q p apart =
     let st = steps i.name i.place in

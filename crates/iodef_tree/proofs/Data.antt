@@ -34,7 +34,7 @@ front-members : (n : Bytes) (p : Option ℕ) (b : Body) (rest : Forest) → memb
 front-members n p (holds f) rest = refl
 front-members n p (says c) rest = refl
 
-front-items : (n : Bytes) (p : Option ℕ) (b : Body) (rest : Forest) → items_of (in_front n p b rest) ≡ placed_item p (body_data b) (items_of rest)
+pub front-items : (n : Bytes) (p : Option ℕ) (b : Body) (rest : Forest) → items_of (in_front n p b rest) ≡ placed_item p (body_data b) (items_of rest)
 front-items n p (holds f) rest = refl
 front-items n p (says c) rest = refl
 
@@ -87,11 +87,11 @@ members-ordered ((n, many bs) ∷ ms) o h = let parts = elements-ordered o n 0 b
 
 -- ---- names that ascend
 
-abbrev AreAfter : Bytes → json.Members → Type 0
+abbrev pub AreAfter : Bytes → json.Members → Type 0
 AreAfter n json.no_members = Unit {0}
 AreAfter n (json.member l d ms) = (bytes_lt n l ≡ true) × AreAfter n ms
 
-abbrev Ascend : json.Members → Type 0
+abbrev pub Ascend : json.Members → Type 0
 Ascend json.no_members = Unit {0}
 Ascend (json.member l d ms) = AreAfter l ms × Ascend ms
 
@@ -107,7 +107,7 @@ abbrev joined : json.Members → json.Members → json.Members
 joined json.no_members others = others
 joined (json.member n d ms) others = json.member n d (joined ms others)
 
-after-trans : (n m : Bytes) (ms : json.Members) → bytes_lt n m ≡ true → AreAfter m ms → AreAfter n ms
+pub after-trans : (n m : Bytes) (ms : json.Members) → bytes_lt n m ≡ true → AreAfter m ms → AreAfter n ms
 after-trans n m json.no_members h k = tt
 after-trans n m (json.member l d ms) h k = (bytes_lt-trans n m l h k.0, after-trans n m ms h k.1)
 
@@ -170,8 +170,11 @@ none-below : (ms : json.Members) → AreBelow json.no_members ms
 none-below json.no_members = tt
 none-below (json.member n d ms) = (tt, none-below ms)
 
+pub put-ascending : (ms : json.Members) → Ascend ms → put_all ms json.no_members ≡ ms
+put-ascending ms h = put-joined ms json.no_members h (none-below ms)
+
 put-ordered : (f : Forest) → IsOrdered f → put_all (members_of f) json.no_members ≡ members_of f
-put-ordered f h = put-joined (members_of f) json.no_members (ascend f None h) (none-below (members_of f))
+put-ordered f h = put-ascending (members_of f) (ascend f None h)
 
 -- ---- one member after another
 

@@ -49,7 +49,7 @@ mutual
   whole_members (json.member name d ms) o e =
       let h = split is_not_whole name (nodes o 0 d) (member_nodes o ms) e in neither (has_float d) (members_have_float ms) (whole d o 0 h.0) (whole_members ms o h.1)
 
-none_if_ok : {A : Type 0} (f : A → ReadFault) (o : Option A) → unless f o ≡ Ok tt → o ≡ None
+pub none_if_ok : {A : Type 0} (f : A → ReadFault) (o : Option A) → unless f o ≡ Ok tt → o ≡ None
 none_if_ok f None e = refl
 none_if_ok f (Some x) e = cc
 

@@ -20,6 +20,9 @@ pub mod Located
 pub mod Siblings
 pub mod Blocks
 pub mod Distinct
+pub mod Nearest
+pub mod Normal
+pub mod ReadBack
 pub mod OneToOne
 pub mod ByPath
 pub mod Members

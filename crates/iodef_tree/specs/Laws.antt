@@ -1,9 +1,15 @@
 -- The laws of sound trees, as later definitions stand on them.
-use Rattle.std.specs.Prelude.{◌≡◌, ℕ, [], ◌++◌, map, true, false, Option}
-use Rattle.std.specs.List.{IsDistinct}
-use Rattle.iodef_tree.specs.Text.{Bytes, Tokens, same_path, is_prefix}
+use Rattle.std.specs.Prelude.{◌≡◌, ℕ, List, [], ◌∷◌, Ok, ◌++◌, map, true, false, ◌||◌, Option}
+use Rattle.std.specs.List.{AllByRecursion, IsDistinct}
+use Rattle.std.specs.Str.{is_utf8}
+use Rattle.serde_json.specs.Data.{object}
+use Rattle.serde_json.specs.Written.{compact_text}
+use Rattle.iodef_tree.specs.Json.{data_of}
+use Rattle.iodef_tree.specs.Reading.{reading}
+use Rattle.iodef_tree.specs.declared.line.Line.{Line}
+use Rattle.iodef_tree.specs.Text.{Bytes, Tokens, same_path, is_root, is_prefix, is_under}
 use Rattle.iodef_tree.specs.Tree.{Forest, end, leaf, branch, steps, lines}
-use Rattle.iodef_tree.specs.Paths.{located, classes_of}
+use Rattle.iodef_tree.specs.Paths.{LocatedLine, located, classes_of, has_class}
 use Rattle.iodef_tree.specs.Outline.{is_outline}
 use Rattle.iodef_tree.specs.Sound.{IsSound}
 use Rattle.iodef_tree.specs.Walk.{walk, AreBlocks}
@@ -49,3 +55,19 @@ OutlineIsOneToOne = (f g : Forest) → IsSound f → IsSound g → lines 1 f ≡
 -- the lines of a document are an outline
 abbrev pub LinesAreAnOutline : Type 0
 LinesAreAnOutline = (f : Forest) → IsSound f → is_outline (lines 1 f) ≡ true
+
+-- of these lines, q is the path of the longest class that is a proper prefix of p, or the root where there is none
+pub record IsNearestClass (es : List LocatedLine) (p q : Tokens) : Type 0 where
+  pub stands : (is_root q || has_class es q) ≡ true
+  pub proper : is_under q p ≡ true
+  pub longest : (r : Tokens) → has_class es r ≡ true → is_under r p ≡ true → is_prefix r q ≡ true
+
+-- the parent of each line is the nearest class above its path
+abbrev pub ParentsAreNearestClasses : Type 0
+ParentsAreNearestClasses = (f : Forest) → IsSound f → AllByRecursion (λ e. IsNearestClass (located (lines 1 f)) e.path e.parent) (located (lines 1 f))
+
+-- the text of each document of a body that is read, which is UTF-8 as every text, is read as that one document
+abbrev pub TextsReadBack : Type 0
+TextsReadBack =
+    (bytes : Bytes) (ds : List (List Line)) → reading bytes ≡ Ok ds →
+    AllByRecursion (λ d. is_utf8 (compact_text (object (data_of d))) ≡ true → reading (compact_text (object (data_of d))) ≡ Ok (d ∷ [])) ds

@@ -11,6 +11,8 @@ ghost use Rattle.iodef_tree.specs.Laws.{
   ClassPathsAreDistinct,
   OutlineIsOneToOne,
   LinesAreAnOutline,
+  ParentsAreNearestClasses,
+  TextsReadBack,
 };
 ghost use Rattle.iodef_tree.specs.Pointer.{PointerIsRead, ReadIsPrinted};
 
@@ -45,6 +47,11 @@ pub fn outline_is_one_to_one()
     ensures { OutlineIsOneToOne }
 {}
 
+/// A line's parent is the longest class whose path is a proper prefix of the line's, else the root.
+pub fn parents_are_nearest_classes()
+    ensures { ParentsAreNearestClasses }
+{}
+
 /// The lines of a document are an outline.
 pub fn lines_are_an_outline()
     ensures { LinesAreAnOutline }
@@ -58,6 +65,11 @@ pub fn pointer_is_read()
 /// A text that is read as a path is the path's pointer.
 pub fn read_is_printed()
     ensures { ReadIsPrinted }
+{}
+
+/// The text of each document of a body that is read is read as that one document.
+pub fn texts_read_back()
+    ensures { TextsReadBack }
 {}
 
 /// The limits of what is read: 32 classes one below the other, 4,096 lines of a document, 16 Incidents of a body.

@@ -135,7 +135,8 @@ fn granting<'a>(
     Ok(granting)
 }
 
-/// What is left behind the token, if it comes first.
+/// What is left behind the token, if it comes first. Each step of a pass asks this of all that lies ahead.
+#[inline(always)]
 fn behind<'a>(rest: &'a [Text], token: &str) -> Option<&'a [Text]>
     ensures { (z : Tokens) → option_map_or (λ r. same_path r.now z) result false ≡ same_path rest.now (token.now ∷ z) }
 {

@@ -14,8 +14,3 @@ mod trail;
 pub use given::excerpt;
 pub use kept::Excerpt;
 pub use search::finds;
-
-#[cfg(test)]
-mod tests;
-#[cfg(test)]
-mod tests_search;

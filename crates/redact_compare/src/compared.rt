@@ -12,6 +12,7 @@ use crate::judged::{
 };
 use crate::readers::{any_case, any_standing};
 use crate::shown::{note_classes, note_places, note_reader, note_withheld};
+use crate::stations::note_stations;
 use crate::tally::Tally;
 use crate::world::World;
 use iodef_tree::{Document, Kind, Line, Path};
@@ -69,6 +70,7 @@ fn slow_answer(
     note_classes(tally, world, list)?;
     note_places(tally, world, list, &outline, &pairs)?;
     note_withheld(tally, count, &withheld);
+    note_stations(tally, world)?;
     Ok(Expected {
         outline,
         classes: count_seen(list),

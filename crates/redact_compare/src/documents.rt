@@ -6,6 +6,13 @@ use std::alloc::{AllocError, Global};
 /// A text of this many bytes takes no further classes but such without members.
 const ROOM: usize = 600;
 
+/// A name that differs from the other long one in its last letter alone.
+const LONG: &str =
+    "a-name-as-long-as-a-line-of-a-report-may-have-it-which-agrees-with-another-one-up-to-its-last-letter-a";
+
+const LONG_TOO: &str =
+    "a-name-as-long-as-a-line-of-a-report-may-have-it-which-agrees-with-another-one-up-to-its-last-letter-b";
+
 fn marking(dice: &mut Dice) -> &'static str {
     match dice.roll(26) {
         0 => "\"restriction\":\"public\"",
@@ -61,7 +68,7 @@ fn plain_value(dice: &mut Dice) -> &'static str {
 }
 
 fn class_name(dice: &mut Dice) -> &'static str {
-    match dice.roll(8) {
+    match dice.roll(10) {
         0 => "EventData",
         1 => "Flow",
         2 => "System",
@@ -69,6 +76,8 @@ fn class_name(dice: &mut Dice) -> &'static str {
         4 => "restrict",
         5 => "restrictions",
         6 => "a/b~c",
+        7 => LONG,
+        8 => LONG_TOO,
         _ => "Node",
     }
 }
@@ -169,6 +178,41 @@ fn level(alloc: Global, dice: &mut Dice, classes: &[String]) -> Result<Vec<Strin
     Ok(made)
 }
 
+/// A class at the end of a chain of classes in one another, each alone in an array, some with a label.
+fn chain_text(alloc: Global, dice: &mut Dice, last: &str) -> Result<String, AllocError> {
+    let mut text = String::from_str(alloc, last)?;
+    for _ in 0..dice.roll(12) {
+        let mut outer = String::from_str(alloc, "{")?;
+        if dice.once_in(4) {
+            push_marking(&mut outer, marking(dice))?;
+        }
+        let mut array = String::from_str(alloc, "[")?;
+        array.push_str(text.as_str())?;
+        array.push(']')?;
+        push_member(&mut outer, class_name(dice), array.as_str())?;
+        outer.push('}')?;
+        text = outer;
+    }
+    Ok(text)
+}
+
+/// These classes, of which the first may stand at the end of a chain.
+fn with_chain(
+    alloc: Global,
+    dice: &mut Dice,
+    classes: Vec<String>,
+) -> Result<Vec<String>, AllocError> {
+    let mut made = Vec::new(alloc);
+    for (i, class) in classes.iter().enumerate() {
+        if i == 0 && dice.once_in(3) {
+            made.push(chain_text(alloc, dice, class.as_str())?)?;
+        } else {
+            made.push(class.clone()?)?;
+        }
+    }
+    Ok(made)
+}
+
 fn incident_text(alloc: Global, dice: &mut Dice, classes: &[String]) -> Result<String, AllocError> {
     let mut text = String::from_str(alloc, "{\"GenerationTime\":\"g\",\"purpose\":\"reporting\"")?;
     push_member(&mut text, "IncidentID", any_class(dice, classes, 0))?;
@@ -187,6 +231,7 @@ pub fn report_text(alloc: Global, dice: &mut Dice) -> Result<String, AllocError>
     for _ in 0..dice.roll(4) {
         classes = level(alloc, dice, &classes)?;
     }
+    let classes = with_chain(alloc, dice, classes)?;
     let mut text = String::from_str(alloc, "{\"version\":\"2.0\"")?;
     push_plain(&mut text, dice)?;
     if dice.once_in(4) {

@@ -12,6 +12,7 @@ mod limits;
 mod policy_tables;
 mod readers;
 mod shown;
+mod stations;
 mod tally;
 mod world;
 

@@ -6,20 +6,26 @@ use marking::Handling;
 use policy::{Case, Gate, Gates, Grantee, Numbers, Permission, Permissions, Standing};
 use std::alloc::{AllocError, Global};
 
-/// The root, the path of a class, what stands above it (an array or a class), or a path of nothing.
+/// What stands above a path.
+fn above(path: Path) -> Path {
+    let mut tokens: Vec<Text> = path.into_tokens();
+    tokens.pop();
+    Path::new(tokens)
+}
+
+/// The path of a class, what stands above it (an array or a class), an element beside it or a member in it, or a path of
+/// nothing.
 fn any_path(alloc: Global, dice: &mut Dice, classes: &[Path]) -> Result<Path, AllocError> {
     let place = dice.place(classes.len().saturating_add(2));
     let Some(class) = classes.get(place) else {
         return Path::root(alloc).member(alloc, "Incident");
     };
     let path = class.clone()?;
-    match dice.roll(6) {
-        0 => {
-            let mut tokens: Vec<Text> = path.into_tokens();
-            tokens.pop();
-            Ok(Path::new(tokens))
-        }
-        1 if dice.once_in(3) => path.member(alloc, "nothing"),
+    match dice.roll(8) {
+        0 => Ok(above(path)),
+        1 => above(path).index(alloc, dice.place(3)),
+        2 => path.member(alloc, "note"),
+        3 if dice.once_in(3) => path.member(alloc, "nothing"),
         _ => Ok(path),
     }
 }
@@ -89,6 +95,12 @@ fn any_permissions(
     let mut permissions = Vec::new(alloc);
     for _ in 0..dice.roll(6) {
         let path = any_path(alloc, dice, classes)?;
+        if dice.once_in(3) {
+            permissions.push(Permission {
+                path: path.clone()?,
+                grantee: any_grantee(dice),
+            })?;
+        }
         permissions.push(Permission {
             path,
             grantee: any_grantee(dice),

@@ -3,7 +3,7 @@
 use std::alloc::{AllocError, Global};
 
 /// What is to be shown, each at least `FLOOR` times.
-const WANTED: [&str; 30] = [
+const WANTED: [&str; 38] = [
     "readers of the source",
     "readers cleared for CLEAR",
     "readers cleared for GREEN",
@@ -34,6 +34,14 @@ const WANTED: [&str; 30] = [
     "repeated pairs",
     "needles found",
     "needles hidden",
+    "long names",
+    "deep chains",
+    "gates or permissions at arrays",
+    "gates or permissions at elements",
+    "gates or permissions at siblings",
+    "gates or permissions at plain members",
+    "gates or permissions at nothing",
+    "several at one path",
 ];
 
 const FLOOR: u32 = 50;

@@ -1,7 +1,6 @@
-use Rattle.std.proofs.Common.{◌==◌, ap, ◌∙◌, not}
+use Rattle.std.proofs.Common.{ap, ◌∙◌}
 use Rattle.circle.specs.declared.directory.GroupMember.{GroupMember}
-use Rattle.circle.specs.Directory.{Directory, has_extender, group_member_key, same_flag}
-use Rattle.circle.specs.Stretches.{numbered}
+use Rattle.circle.specs.Directory.{Directory, has_extender, group_member_key}
 use Rattle.circle.proofs.Lookup.{found_with}
 use Rattle.circle.proofs.rows.DirectoryRows.has_extender.Goals as goal
 

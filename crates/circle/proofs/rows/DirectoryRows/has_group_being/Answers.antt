@@ -1,4 +1,4 @@
-use Rattle.std.proofs.Common.{◌==◌, ap, ◌∙◌, not}
+use Rattle.std.proofs.Common.{ap, ◌∙◌}
 use Rattle.circle.specs.declared.directory.Group.{Group}
 use Rattle.circle.specs.Directory.{Directory, has_group_being, group_number, same_flag}
 use Rattle.circle.specs.Stretches.{numbered}

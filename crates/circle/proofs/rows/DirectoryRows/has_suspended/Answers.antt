@@ -1,6 +1,6 @@
-use Rattle.std.proofs.Common.{◌==◌, ap, ◌∙◌, not}
+use Rattle.std.proofs.Common.{ap, ◌∙◌, not}
 use Rattle.circle.specs.declared.directory.Account.{Account}
-use Rattle.circle.specs.Directory.{Directory, has_suspended, account_number, same_flag}
+use Rattle.circle.specs.Directory.{Directory, has_suspended, account_number}
 use Rattle.circle.specs.Stretches.{numbered}
 use Rattle.circle.proofs.Lookup.{found_with}
 use Rattle.circle.proofs.rows.DirectoryRows.has_suspended.Goals as goal

@@ -1,0 +1,147 @@
+//! A small directory in memory, and what is asked of it.
+use circle::command::RowEdit;
+use circle::directory::{
+    Account, Arrangement, Client, Community, Connection, Group, GroupMember, Handling, Membership,
+    Org, Person, Role,
+};
+use circle::name::Name;
+use circle::releasability::Releasability;
+use circle::rows::DirectoryRows;
+use std::alloc::{AllocError, Global};
+
+/// A name; where the text is none, an edit that changes nothing stands in its place.
+fn put_org(alloc: Global, number: u32, name: &str) -> Result<RowEdit, AllocError> {
+    match Name::of(alloc, name)? {
+        Some(name) => Ok(RowEdit::PutOrg(Org { number, name })),
+        None => Ok(RowEdit::Suspend(0)),
+    }
+}
+
+fn put_person(alloc: Global, number: u32, org: u32, role: Role) -> Result<RowEdit, AllocError> {
+    match Name::of(alloc, "p")? {
+        Some(name) => {
+            let person = Person {
+                number,
+                org,
+                name,
+                role,
+                active: true,
+                nominated: false,
+            };
+            let key = [u8::try_from(number).unwrap_or(0); 32];
+            Ok(RowEdit::PutAccount(Account { person, key }))
+        }
+        None => Ok(RowEdit::Suspend(0)),
+    }
+}
+
+fn put_community(alloc: Global, number: u32, name: &str) -> Result<RowEdit, AllocError> {
+    match Name::of(alloc, name)? {
+        Some(name) => Ok(RowEdit::PutCommunity(Community { number, name })),
+        None => Ok(RowEdit::Suspend(0)),
+    }
+}
+
+fn put_group(alloc: Global, number: u32, owner: u32, name: &str) -> Result<RowEdit, AllocError> {
+    match (Name::of(alloc, name)?, Releasability::of(alloc, "all")?) {
+        (Some(name), Some(releasability)) => Ok(RowEdit::PutGroup(Group {
+            number,
+            owner,
+            name,
+            releasability,
+            active: true,
+        })),
+        _ => Ok(RowEdit::Suspend(0)),
+    }
+}
+
+/// The numbered rows, not in their order.
+fn numbered(alloc: Global) -> Result<Vec<RowEdit>, AllocError> {
+    let mut edits = Vec::new(alloc);
+    for (number, name) in [(3, "Mem"), (1, "Hub"), (5, "Cli"), (2, "Src"), (4, "Far")] {
+        edits.push(put_org(alloc, number, name)?)?;
+    }
+    edits.push(put_person(alloc, 2, 2, Role::Coordinator)?)?;
+    edits.push(put_person(alloc, 3, 3, Role::Reader)?)?;
+    edits.push(put_person(alloc, 1, 1, Role::Administrator)?)?;
+    for (number, name) in [(2, "south"), (3, "east"), (1, "north")] {
+        edits.push(put_community(alloc, number, name)?)?;
+    }
+    edits.push(put_group(alloc, 2, 3, "h")?)?;
+    edits.push(put_group(alloc, 1, 2, "g")?)?;
+    edits.push(RowEdit::Suspend(3))?;
+    edits.push(RowEdit::SetNominated {
+        person: 2,
+        nominated: true,
+    })?;
+    edits.push(RowEdit::SetGroupActive {
+        group: 2,
+        active: false,
+    })?;
+    Ok(edits)
+}
+
+/// The pairs, not in their order.
+fn pairs(alloc: Global) -> Result<Vec<RowEdit>, AllocError> {
+    let mut edits = Vec::new(alloc);
+    for (org, client) in [(3, 5), (4, 5), (2, 5), (2, 4)] {
+        edits.push(RowEdit::PutClient(Client { org, client }))?;
+    }
+    for (community, org) in [(2, 4), (1, 3), (3, 5), (1, 2)] {
+        edits.push(RowEdit::PutMembership(Membership { community, org }))?;
+    }
+    for (low, high) in [(2, 3), (1, 2), (1, 3)] {
+        edits.push(RowEdit::PutConnection(Connection { low, high }))?;
+    }
+    Ok(edits)
+}
+
+/// The rows with a value beside the pair, not in their order.
+fn valued(alloc: Global) -> Result<Vec<RowEdit>, AllocError> {
+    let mut edits = Vec::new(alloc);
+    for (group, org, extend) in [
+        (2, 4, false),
+        (1, 3, false),
+        (2, 3, true),
+        (1, 2, true),
+        (1, 4, true),
+    ] {
+        edits.push(RowEdit::PutGroupMember(GroupMember { group, org, extend }))?;
+    }
+    for (source, org, handling) in [
+        (3, 2, Handling::Red),
+        (2, 3, Handling::Green),
+        (2, 4, Handling::Strict),
+    ] {
+        edits.push(RowEdit::PutArrangement(Arrangement {
+            source,
+            org,
+            handling,
+        }))?;
+    }
+    Ok(edits)
+}
+
+/// A row of each set of pairs is taken out again.
+fn taken(alloc: Global) -> Result<Vec<RowEdit>, AllocError> {
+    let mut edits = Vec::new(alloc);
+    edits.push(RowEdit::TakeClient(Client { org: 4, client: 5 }))?;
+    edits.push(RowEdit::TakeMembership(Membership {
+        community: 3,
+        org: 5,
+    }))?;
+    edits.push(RowEdit::TakeConnection(Connection { low: 2, high: 3 }))?;
+    edits.push(RowEdit::TakeGroupMember { group: 1, org: 4 })?;
+    edits.push(RowEdit::TakeArrangement { source: 2, org: 4 })?;
+    Ok(edits)
+}
+
+/// The small directory.
+pub fn world(alloc: Global) -> Result<DirectoryRows, AllocError> {
+    let mut rows = DirectoryRows::new(alloc);
+    rows.apply(numbered(alloc)?)?;
+    rows.apply(pairs(alloc)?)?;
+    rows.apply(valued(alloc)?)?;
+    rows.apply(taken(alloc)?)?;
+    Ok(rows)
+}

@@ -1,0 +1,173 @@
+-- The parent of a line is the longest class above its path.
+use Rattle.std.proofs.Common.{◌≡◌, ℕ, suc, List, [], ◌∷◌, ◌++◌, Bool, true, false, cond, ◌&&◌, ◌||◌, refl, sym, ◌∙◌, ap, subst, append-nil, true≢false, ◌⊎◌, inl, inr, decimal}
+use Rattle.std.specs.Prelude.{Option, Some, None, is_some}
+use Rattle.std.specs.Option.{option_map_or}
+use Rattle.std.specs.List.{AllByRecursion}
+use Rattle.std.specs.Str.{bytes_eq}
+use Rattle.std.proofs.lemmas.Bool.{and_parts, and_left, and_right, cond-true, cond-false}
+use Rattle.std.proofs.lemmas.List.Folds.{list_any-append}
+use Rattle.iodef_tree.specs.Text.{Bytes, Tokens, same_path, is_root, is_prefix, is_under}
+use Rattle.iodef_tree.specs.Tree.{Forest, end, leaf, branch, steps, lines}
+use Rattle.iodef_tree.specs.Paths.{LocatedLine, is_class, located, has_class, below}
+use Rattle.iodef_tree.specs.Lookup.{past, class_at}
+use Rattle.iodef_tree.specs.Sound.{IsSound}
+use Rattle.iodef_tree.specs.Walk.{walk, AreBlocks, class_entry, leaf_entry}
+use Rattle.iodef_tree.specs.Laws.{AllSiblings, AreApart, HasApart, IsNearestClass}
+use Rattle.iodef_tree.proofs.Apart.{sound-apart}
+use Rattle.iodef_tree.proofs.Blocks.{blocks, all-below}
+use Rattle.iodef_tree.proofs.ByPath.{has_class-walk}
+use Rattle.iodef_tree.proofs.Located.{located-lines}
+use Rattle.iodef_tree.proofs.Order.{is_false, bytes_eq-true, bytes_eq-refl, same_path-refl, same_path-true, is_under-steps}
+use Rattle.iodef_tree.proofs.Siblings.{all-append, siblings-map}
+
+-- ---- what stands above a line's path
+
+-- a proper prefix of a line's path is one of its parent's, or the path of the array in which the line stands
+above-steps : (r p : Tokens) (n : Bytes) (o : Option ℕ) → is_under r (p ++ steps n o) ≡ true → (is_prefix r p ≡ true) ⊎ ((is_some o ≡ true) × (r ≡ p ++ n ∷ []))
+above-steps [] p n o h = inl refl
+above-steps (x ∷ []) [] n None h = absurd (true≢false (sym h ∙ and_right (bytes_eq x n) false refl))
+above-steps (x ∷ y ∷ r) [] n None h = absurd (true≢false (sym h ∙ and_right (bytes_eq x n) false refl))
+above-steps (x ∷ []) [] n (Some k) h = inr (refl, ap (λ z. z ∷ []) (bytes_eq-true x n (and_parts (bytes_eq x n) true h).0))
+above-steps (x ∷ y ∷ []) [] n (Some k) h = absurd (true≢false (sym h ∙ and_right (bytes_eq x n) _ (and_right (bytes_eq y (decimal k)) false refl)))
+above-steps (x ∷ y ∷ z ∷ r) [] n (Some k) h = absurd (true≢false (sym h ∙ and_right (bytes_eq x n) _ (and_right (bytes_eq y (decimal k)) false refl)))
+above-steps (x ∷ r) (y ∷ p) n o h =
+    let parts = and_parts (bytes_eq x y) (is_under r (p ++ steps n o)) h in
+    elim (above-steps r p n o parts.1) [
+      | inl k ↦ inl (ap (λ b. b && is_prefix r p) parts.0 ∙ k)
+      | inr k ↦ let same : x ≡ y = bytes_eq-true x y parts.0 in let rest : r ≡ p ++ n ∷ [] = k.1 in inr (k.0, cc)
+    ]
+
+-- ---- an array's own path is no class
+
+abbrev Differs : Bytes → Option ℕ → Bytes → Option ℕ → Type 0
+Differs n o n' o' = is_some o ≡ true → o' ≡ None → bytes_eq n' n ≡ false
+
+differs-self : (n : Bytes) (o : Option ℕ) → Differs n o n o
+differs-self n None h e = absurd (true≢false (sym h))
+differs-self n (Some k) h e = absurd (cc)
+
+and-true : (b c : Bool) → (b && c) ≡ false → c ≡ true → b ≡ false
+and-true true c h k = absurd (true≢false (sym k ∙ h))
+and-true false c h k = refl
+
+differs-left : (n : Bytes) (o : Option ℕ) (n' : Bytes) (o' : Option ℕ) → AreApart n o n' o' → Differs n o n' o'
+differs-left n None n' o' a h e = absurd (true≢false (sym h))
+differs-left n (Some k) n' None a h e = and-true (bytes_eq n' n) true (a.right []) refl
+differs-left n (Some k) n' (Some j) a h e = absurd (cc)
+
+differs-right : (n : Bytes) (o : Option ℕ) (n' : Bytes) (o' : Option ℕ) → AreApart n o n' o' → Differs n' o' n o
+differs-right n o n' None a h e = absurd (true≢false (sym h))
+differs-right n None n' (Some k) a h e = and-true (bytes_eq n n') true (a.left []) refl
+differs-right n (Some j) n' (Some k) a h e = absurd (cc)
+
+siblings-both : (P Q R : Bytes → Option ℕ → Type 0) (f : Forest) → ((n : Bytes) (o : Option ℕ) → P n o → Q n o → R n o) → AllSiblings P f → AllSiblings Q f → AllSiblings R f
+siblings-both P Q R end h a b = tt
+siblings-both P Q R (leaf i rest) h a b = (h i.name i.place a.0 b.0, siblings-both P Q R rest h a.1 b.1)
+siblings-both P Q R (branch n o kids rest) h a b = (h n o a.0 b.0, siblings-both P Q R rest h a.1 b.1)
+
+-- no array has the name of another sibling
+all-differ : (f : Forest) → HasApart f → AllSiblings (λ n o. AllSiblings (Differs n o) f) f
+all-differ end apart = tt
+all-differ (leaf i rest) apart = (
+  (differs-self i.name i.place, siblings-map (AreApart i.name i.place) (Differs i.name i.place) rest (differs-left i.name i.place) apart.0),
+  siblings-both (AreApart i.name i.place) (λ n o. AllSiblings (Differs n o) rest) (λ n o. AllSiblings (Differs n o) (leaf i rest)) rest
+      (λ n o a b. (differs-right i.name i.place n o a, b)) apart.0 (all-differ rest apart.1),
+)
+all-differ (branch m p kids rest) apart = (
+  (differs-self m p, siblings-map (AreApart m p) (Differs m p) rest (differs-left m p) apart.0),
+  siblings-both (AreApart m p) (λ n o. AllSiblings (Differs n o) rest) (λ n o. AllSiblings (Differs n o) (branch m p kids rest)) rest
+      (λ n o a b. (differs-right m p n o a, b)) apart.0 (all-differ rest apart.2),
+)
+
+past-bare : (n' : Bytes) (o' : Option ℕ) (n : Bytes) → (o' ≡ None → bytes_eq n' n ≡ false) → past (steps n' o') (n ∷ []) ≡ None
+past-bare n' None n h = cond-false (bytes_eq n' n) _ _ (h refl)
+past-bare n' (Some k) n h = either (bytes_eq n' n)
+  where
+    either : (b : Bool) → cond b (past (decimal k ∷ []) []) None ≡ None
+    either true = refl
+    either false = refl
+
+none-bare : (f : Forest) (n : Bytes) (o : Option ℕ) → is_some o ≡ true → AllSiblings (Differs n o) f → class_at f (n ∷ []) ≡ None
+none-bare end n o some h = refl
+none-bare (leaf i rest) n o some h =
+    ap (λ z. option_map_or {T = Tokens} {U = Option Forest} (λ r. None) z (class_at rest (n ∷ []))) (past-bare i.name i.place n (h.0 some)) ∙ none-bare rest n o some h.1
+none-bare (branch m p kids rest) n o some h =
+    ap (λ z. option_map_or (λ r. cond (is_root r) (Some kids) (class_at kids r)) z (class_at rest (n ∷ []))) (past-bare m p n (h.0 some)) ∙ none-bare rest n o some h.1
+
+-- ---- a class below a path is one of those below it
+
+class-below : (es : List LocatedLine) (p : Tokens) (n : Bytes) → has_class es (p ++ n ∷ []) ≡ has_class (below p es) (p ++ n ∷ [])
+class-below [] p n = refl
+class-below (e ∷ es) p n = step (is_under p e.path) refl (class-below es p n)
+  where
+    step : (b : Bool) → is_under p e.path ≡ b → has_class es (p ++ n ∷ []) ≡ has_class (below p es) (p ++ n ∷ []) →
+        ((is_class e && same_path e.path (p ++ n ∷ [])) || has_class es (p ++ n ∷ [])) ≡ has_class (cond (is_under p e.path) (e ∷ below p es) (below p es)) (p ++ n ∷ [])
+    step true u ih =
+        ap (λ b. (is_class e && same_path e.path (p ++ n ∷ [])) || b) ih
+        ∙ sym (ap (λ xs. has_class xs (p ++ n ∷ [])) (cond-true (is_under p e.path) (e ∷ below p es) (below p es) u))
+    step false u ih =
+        ap (λ b. b || has_class es (p ++ n ∷ []))
+        (and_right (is_class e) _ (is_false (same_path e.path (p ++ n ∷ [])) (λ same.
+        true≢false (sym (is_under-steps p n None []) ∙ ap (is_under p) (sym (same_path-true e.path (p ++ n ∷ []) same)) ∙ u))))
+        ∙ ih
+        ∙ sym (ap (λ xs. has_class xs (p ++ n ∷ [])) (cond-false (is_under p e.path) (e ∷ below p es) (below p es) u))
+
+-- ---- down the tree
+
+abbrev IsBare : List LocatedLine → Tokens → Bytes → Option ℕ → Type 0
+IsBare es p n o = is_some o ≡ true → has_class es (p ++ n ∷ []) ≡ false
+
+bare-siblings : (es : List LocatedLine) (d : ℕ) (p : Tokens) (f : Forest) → HasApart f → below p es ≡ walk d p f → AllSiblings (IsBare es p) f
+bare-siblings es d p f apart block =
+    siblings-map (λ n o. AllSiblings (Differs n o) f) (IsBare es p) f
+    (λ n o h some.
+    class-below es p n ∙ ap (λ xs. has_class xs (p ++ n ∷ [])) block ∙ has_class-walk f d p (n ∷ []) apart ∙ ap (λ z. is_some z) (none-bare f n o some h))
+    (all-differ f apart)
+
+nearest-entry : (es : List LocatedLine) (p : Tokens) (n : Bytes) (o : Option ℕ) → (is_root p || has_class es p) ≡ true → IsBare es p n o → IsNearestClass es (p ++ steps n o) p
+nearest-entry es p n o stands bare = record {
+  stands = stands;
+  proper = ap (λ z. is_under p (p ++ z)) (sym (append-nil (steps n o))) ∙ is_under-steps p n o [];
+  longest = λ r is under. elim (above-steps r p n o under) [
+    | inl h ↦ h
+    | inr h ↦ absurd (true≢false (sym is ∙ ap (has_class es) h.1 ∙ bare h.0))
+  ];
+}
+
+or-left : (a b : Bool) → a ≡ true → (a || b) ≡ true
+or-left true b h = refl
+or-left false b h = absurd (true≢false (sym h))
+
+or-right : (a b : Bool) → b ≡ true → (a || b) ≡ true
+or-right true b h = refl
+or-right false b h = h
+
+abbrev Nearest : List LocatedLine → List LocatedLine → Type 0
+Nearest es xs = AllByRecursion (λ e. IsNearestClass es e.path e.parent) xs
+
+nearest-walk : (es : List LocatedLine) (f : Forest) (d : ℕ) (p : Tokens) → AreBlocks es d p f → HasApart f → (is_root p || has_class es p) ≡ true → AllSiblings (IsBare es p) f →
+    ((r : Tokens) → has_class (walk d p f) r ≡ true → has_class es r ≡ true) → Nearest es (walk d p f)
+nearest-walk es end d p blocks apart stands bare among = tt
+nearest-walk es (leaf i rest) d p blocks apart stands bare among = (
+  nearest-entry es p i.name i.place stands bare.0,
+  nearest-walk es rest d p blocks apart.1 stands bare.1 (λ r h. among r (or-right (is_class (leaf_entry d p i) && same_path (p ++ steps i.name i.place) r) _ h)),
+)
+nearest-walk es (branch n o kids rest) d p blocks apart stands bare among =
+    let q = p ++ steps n o in
+    let K = walk (suc d) q kids in
+    let R = walk d p rest in
+    let here : has_class es q ≡ true = among q (or-left (same_path q q) (has_class (K ++ R) q) (same_path-refl q)) in
+    let parts = λ (r : Tokens). list_any-append (λ (e : LocatedLine). is_class e && same_path e.path r) K R in (
+      nearest-entry es p n o stands bare.0,
+      all-append (λ e. IsNearestClass es e.path e.parent) K R
+          (nearest-walk es kids (suc d) q blocks.1 apart.1 (or-right (is_root q) (has_class es q) here) (bare-siblings es (suc d) q kids apart.1 blocks.0)
+          (λ r h. among r (or-right (same_path q r) _ (parts r ∙ or-left (has_class K r) (has_class R r) h))))
+          (nearest-walk es rest d p blocks.2 apart.2 stands bare.1 (λ r h. among r (or-right (same_path q r) _ (parts r ∙ or-right (has_class K r) (has_class R r) h)))),
+    )
+
+pub nearest-located : (f : Forest) → IsSound f → Nearest (located (lines 1 f)) (located (lines 1 f))
+nearest-located f sound =
+    let es = walk 1 [] f in
+    let apart = sound-apart f sound in
+    subst (λ xs. Nearest xs xs) (sym (located-lines f sound))
+    (nearest-walk es f 1 [] (blocks f sound) apart refl (bare-siblings es 1 [] f apart (all-below f 1 [])) (λ r h. h))

@@ -1,0 +1,248 @@
+-- What is read of a text has its names in order and its numbers in range, and its own text is read as the same.
+use Rattle.std.proofs.Common.{◌≡◌, ℕ, zero, suc, ◌+◌, ◌^◌, ◌<◌, ◌≤◌, ℤ, List, [], ◌∷◌, ◌++◌, Bool, true, false, cond, ◌&&◌, ◌||◌, nat_lt, nat_le, drop, refl, sym, ◌∙◌, ap, subst, arith, append-nil, Ordering, Less, Equal, Greater, Ok}
+use Rattle.std.specs.Prelude.{Option, Some, None, option_map, option_and_then, pos, negsuc, decimal}
+use Rattle.std.specs.Fmt.{signed_decimal}
+use Rattle.std.specs.Ordering.{nat_cmp, match_ordering, is_lt, ordering_reverse}
+use Rattle.std.specs.Cmp.Lexicographic.{slice_cmp}
+use Rattle.std.proofs.lemmas.Bool.{and_parts, ltb-true, leb-true}
+use Rattle.std.proofs.lemmas.Cmp.{nat_list_cmp_total}
+use Rattle.fast_float.specs.Text.{Parts, scan, digits_of, with_sign}
+use Rattle.json.specs.Token.{Token}
+use Rattle.json.specs.Lex.{tokens}
+use Rattle.json.specs.Print.{print, IsNumber}
+use Rattle.json.specs.Json as tree
+use Rattle.json.specs.Tree as sized
+use Rattle.json.specs.Tree.{json_tokens, HasNumbers, ItemsHaveNumbers, MembersHaveNumbers}
+use Rattle.json.proofs.Printed.Decimals.{IsNumber-decimal, IsNumber-signed_decimal}
+use Rattle.json.proofs.Printed.Tokens.{tokens-print}
+use Rattle.json.proofs.Printed.Trees.{value-json_tokens, ArePrintable-json_tokens}
+use Rattle.serde_json.specs.Data as json
+use Rattle.serde_json.specs.Data.{Data, Num, put, depth, items_depth, members_depth}
+use Rattle.serde_json.specs.Find.{is_float}
+use Rattle.serde_json.specs.Read.{is_integer, float_of, number_from, number_of, of_json, of_items, of_members, read, max_depth}
+use Rattle.serde_json.specs.Written.{number_text, outline, items_outline, members_outline, has_float, items_have_float, members_have_float, compact_text}
+use Rattle.serde_json.proofs.Numbers.{number_of-decimal, number_of-negative}
+use Rattle.serde_json.proofs.Texts.{print-outline}
+use Rattle.iodef_tree.specs.Text.{Bytes, bytes_lt}
+use Rattle.iodef_tree.specs.Written.{put_all}
+use Rattle.iodef_tree.proofs.Data.{AreAfter, Ascend, after-trans, put-ascending}
+
+-- ---- numbers
+
+-- an i64 or a u64, or a float
+abbrev pub IsInRange : Num → Type 0
+IsInRange (json.unsigned n) = n < 2 ^ 64
+IsInRange (json.negative z) = (n : ℕ) × (n < 2 ^ 63) × (z ≡ negsuc n)
+IsInRange (json.float x) = Unit {0}
+
+abbrev mutual
+  pub IsNormal : Data → Type 0
+  IsNormal json.null = Unit {0}
+  IsNormal (json.boolean b) = Unit {0}
+  IsNormal (json.number n) = IsInRange n
+  IsNormal (json.string s) = Unit {0}
+  IsNormal (json.array ds) = AreNormal ds
+  IsNormal (json.object ms) = Ascend ms × AreMembersNormal ms
+
+  pub AreNormal : json.Items → Type 0
+  AreNormal json.no_items = Unit {0}
+  AreNormal (json.item d ds) = IsNormal d × AreNormal ds
+
+  pub AreMembersNormal : json.Members → Type 0
+  AreMembersNormal json.no_members = Unit {0}
+  AreMembersNormal (json.member k d ms) = IsNormal d × AreMembersNormal ms
+
+below-zero : (d : ℕ) → 0 < d → d ≤ 2 ^ 63 → (n : ℕ) × (n < 2 ^ 63) × (with_sign true d ≡ negsuc n)
+below-zero zero h k = absurd (omega (arith, h))
+below-zero (suc n) h k = (n, omega (arith, k), refl)
+
+-- a float is none
+some-float : (b : Bool) (x : json.Num) (n : Num) → IsInRange x → cond b (Some x) None ≡ Some n → IsInRange n
+some-float true x n k h = let same : x ≡ n = cc in subst IsInRange same k
+some-float false x n k h = absurd (cc)
+
+float-in_range : (sign : Bool) (p : Parts) (n : Num) → float_of sign p ≡ Some n → IsInRange n
+float-in_range sign p n h = some-float _ _ n tt h
+
+from-in_range : (sign : Bool) (p : Parts) (n : Num) → number_from sign p ≡ Some n → IsInRange n
+from-in_range false p n h = step (is_integer p && nat_lt (digits_of p) (2 ^ 64)) refl h
+  where
+    step : (b : Bool) → (is_integer p && nat_lt (digits_of p) (2 ^ 64)) ≡ b → cond b (Some (json.unsigned (digits_of p))) (float_of false p) ≡ Some n → IsInRange n
+    step true is e =
+        let same : json.unsigned (digits_of p) ≡ n = cc in
+        subst IsInRange same (ltb-true (digits_of p) (2 ^ 64) (and_parts (is_integer p) _ is).1)
+    step false is e = float-in_range false p n e
+from-in_range true p n h = step ((is_integer p && nat_lt 0 (digits_of p)) && nat_le (digits_of p) (2 ^ 63)) refl h
+  where
+    step : (b : Bool) → ((is_integer p && nat_lt 0 (digits_of p)) && nat_le (digits_of p) (2 ^ 63)) ≡ b → cond b (Some (json.negative (with_sign true (digits_of p)))) (float_of true p) ≡ Some n → IsInRange n
+    step true is e =
+        let same : json.negative (with_sign true (digits_of p)) ≡ n = cc in
+        let tests = and_parts (is_integer p && nat_lt 0 (digits_of p)) _ is in
+        subst IsInRange same (below-zero (digits_of p) (ltb-true 0 (digits_of p) (and_parts (is_integer p) _ tests.0).1) (leb-true (digits_of p) (2 ^ 63) tests.1))
+    step false is e = float-in_range true p n e
+
+pub number-in_range : (s : Bytes) (n : Num) → number_of s ≡ Some n → IsInRange n
+unfolding number_of
+number-in_range s n h = step _ h
+  where
+    step : (b : Bool) → cond b (number_from true (scan (drop 1 s))) (number_from false (scan s)) ≡ Some n → IsInRange n
+    step true e = from-in_range true (scan (drop 1 s)) n e
+    step false e = from-in_range false (scan s) n e
+
+-- ---- members put in
+
+put-after : (l k : Bytes) (d : Data) (ms : json.Members) → AreAfter l ms → bytes_lt l k ≡ true → AreAfter l (put k d ms)
+put-after l k d json.no_members h lt = (lt, tt)
+put-after l k d (json.member m e ms) h lt = step (slice_cmp nat_cmp k m) (put-after l k d ms h.1 lt)
+  where
+    step : (o : Ordering) → AreAfter l (put k d ms) → AreAfter l (match_ordering o (json.member k d (json.member m e ms)) (json.member m d ms) (json.member m e (put k d ms)))
+    step Less later = (lt, h)
+    step Equal later = h
+    step Greater later = (h.0, later)
+
+put-ascend : (k : Bytes) (d : Data) (ms : json.Members) → Ascend ms → Ascend (put k d ms)
+put-ascend k d json.no_members h = (tt, tt)
+put-ascend k d (json.member m e ms) h = step (slice_cmp nat_cmp k m) refl (put-ascend k d ms h.1)
+  where
+    step : (o : Ordering) → slice_cmp nat_cmp k m ≡ o → Ascend (put k d ms) → Ascend (match_ordering o (json.member k d (json.member m e ms)) (json.member m d ms) (json.member m e (put k d ms)))
+    step Less is later = let lt : bytes_lt k m ≡ true = ap is_lt is in ((lt, after-trans k m ms lt h.0), h)
+    step Equal is later = h
+    step Greater is later = (put-after m k d ms h.0 (ap is_lt (nat_list_cmp_total.antisymm m k ∙ ap ordering_reverse is)), later)
+
+put-all_normal : (k : Bytes) (d : Data) (ms : json.Members) → AreMembersNormal ms → IsNormal d → AreMembersNormal (put k d ms)
+put-all_normal k d json.no_members h n = (n, tt)
+put-all_normal k d (json.member m e ms) h n = step (slice_cmp nat_cmp k m) (put-all_normal k d ms h.1 n)
+  where
+    step : (o : Ordering) → AreMembersNormal (put k d ms) → AreMembersNormal (match_ordering o (json.member k d (json.member m e ms)) (json.member m d ms) (json.member m e (put k d ms)))
+    step Less later = (n, h)
+    step Equal later = (n, h.1)
+    step Greater later = (h.0, later)
+
+pub put-normal : (k : Bytes) (d : Data) (ms : json.Members) → IsNormal (json.object ms) → IsNormal d → IsNormal (json.object (put k d ms))
+put-normal k d ms h n = (put-ascend k d ms h.0, put-all_normal k d ms h.1 n)
+
+-- ---- what is read
+
+number-step : (o : Option Num) (d : Data) → ((n : Num) → o ≡ Some n → IsInRange n) → option_map json.number o ≡ Some d → IsNormal d
+number-step None d f e = absurd (cc)
+number-step (Some n) d f e = let same : json.number n ≡ d = cc in subst IsNormal same (f n refl)
+
+array-step : (o : Option json.Items) (d : Data) → ((ds : json.Items) → o ≡ Some ds → AreNormal ds) → option_map json.array o ≡ Some d → IsNormal d
+array-step None d f e = absurd (cc)
+array-step (Some ds) d f e = let same : json.array ds ≡ d = cc in subst IsNormal same (f ds refl)
+
+object-step : (o : Option json.Members) (d : Data) → ((ms : json.Members) → o ≡ Some ms → IsNormal (json.object ms)) → option_map json.object o ≡ Some d → IsNormal d
+object-step None d f e = absurd (cc)
+object-step (Some ms) d f e = let same : json.object ms ≡ d = cc in subst IsNormal same (f ms refl)
+
+item-step : (o : Option Data) (r : Option json.Items) (ds : json.Items) → ((d : Data) → o ≡ Some d → IsNormal d) → ((es : json.Items) → r ≡ Some es → AreNormal es) → option_and_then (λ d. option_map (json.item d) r) o ≡ Some ds → AreNormal ds
+item-step None r ds f g e = absurd (cc)
+item-step (Some d) None ds f g e = absurd (cc)
+item-step (Some d) (Some es) ds f g e = let same : json.item d es ≡ ds = cc in subst AreNormal same (f d refl, g es refl)
+
+member-step : (o : Option Data) (next : Data → Option json.Members) (all : json.Members) (P : Type 0) → ((d : Data) → o ≡ Some d → next d ≡ Some all → P) → option_and_then next o ≡ Some all → P
+member-step None next all P f e = absurd (cc)
+member-step (Some d) next all P f e = f d refl e
+
+mutual
+  normal-json : (j : tree.Json) (d : Data) → of_json j ≡ Some d → IsNormal d
+  normal-json tree.null d h = let same : json.null ≡ d = cc in subst IsNormal same tt
+  normal-json (tree.boolean b) d h = let same : json.boolean b ≡ d = cc in subst IsNormal same tt
+  normal-json (tree.number s) d h = number-step (number_of s) d (number-in_range s) h
+  normal-json (tree.string s) d h = let same : json.string s ≡ d = cc in subst IsNormal same tt
+  normal-json (tree.array js) d h = array-step (of_items js) d (normal-items js) h
+  normal-json (tree.object ms) d h = object-step (of_members ms json.no_members) d (λ found is. normal-members ms json.no_members found (tt, tt) is) h
+
+  normal-items : (js : tree.Items) (ds : json.Items) → of_items js ≡ Some ds → AreNormal ds
+  normal-items tree.no_items ds h = let same : json.no_items ≡ ds = cc in subst AreNormal same tt
+  normal-items (tree.item j js) ds h = item-step (of_json j) (of_items js) ds (normal-json j) (normal-items js) h
+
+  normal-members : (ms : tree.Members) (found all : json.Members) → IsNormal (json.object found) → of_members ms found ≡ Some all → IsNormal (json.object all)
+  normal-members tree.no_members found all n h = let same : found ≡ all = cc in subst (λ xs. IsNormal (json.object xs)) same n
+  normal-members (tree.member k j ms) found all n h =
+      member-step (of_json j) (λ d. of_members ms (put k d found)) all (IsNormal (json.object all)) (λ d is e. normal-members ms (put k d found) all (put-normal k d found n (normal-json j d is)) e) h
+
+pub read-normal : (text : Bytes) (d : Data) → read text ≡ Some d → IsNormal d
+read-normal text d h = step (option_and_then (λ p. tree.if_last p.0 p.1) (tree.value max_depth (tokens text))) h
+  where
+    step : (o : Option tree.Json) → option_and_then of_json o ≡ Some d → IsNormal d
+    step None e = absurd (cc)
+    step (Some j) e = normal-json j d e
+
+-- ---- printed, and read again
+
+or_false : (a b : Bool) → (a || b) ≡ false → (a ≡ false) × (b ≡ false)
+or_false true b h = absurd (cc)
+or_false false b h = (refl, h)
+
+number-printed : (n : Num) → IsInRange n → is_float n ≡ false → (number_of (number_text n) ≡ Some n) × IsNumber (number_text n)
+number-printed (json.unsigned n) h w = (number_of-decimal n h, IsNumber-decimal n h)
+number-printed (json.negative z) h w =
+    subst (λ y. (number_of (signed_decimal y) ≡ Some (json.negative y)) × IsNumber (signed_decimal y)) (sym h.2)
+    (number_of-negative h.0 h.1, IsNumber-signed_decimal (negsuc h.0) (omega (arith, h.1)))
+number-printed (json.float x) h w = absurd (cc)
+
+mutual
+  back : (d : Data) → IsNormal d → has_float d ≡ false → of_json (outline d) ≡ Some d
+  back json.null n w = refl
+  back (json.boolean b) n w = refl
+  back (json.number x) n w = ap (option_map json.number) (number-printed x n w).0
+  back (json.string s) n w = refl
+  back (json.array ds) n w = ap (option_map json.array) (back-items ds n w)
+  back (json.object ms) n w = ap (option_map json.object) (back-members ms json.no_members n.1 w ∙ ap Some (put-ascending ms n.0))
+
+  back-items : (ds : json.Items) → AreNormal ds → items_have_float ds ≡ false → of_items (items_outline ds) ≡ Some ds
+  back-items json.no_items n w = refl
+  back-items (json.item d ds) n w =
+      let whole = or_false (has_float d) (items_have_float ds) w in
+      ap (option_and_then (λ x. option_map (json.item x) (of_items (items_outline ds)))) (back d n.0 whole.0) ∙ ap (option_map (json.item d)) (back-items ds n.1 whole.1)
+
+  back-members : (ms found : json.Members) → AreMembersNormal ms → members_have_float ms ≡ false → of_members (members_outline ms) found ≡ Some (put_all ms found)
+  back-members json.no_members found n w = refl
+  back-members (json.member k d ms) found n w =
+      let whole = or_false (has_float d) (members_have_float ms) w in
+      ap (option_and_then (λ x. of_members (members_outline ms) (put k x found))) (back d n.0 whole.0) ∙ back-members ms (put k d found) n.1 whole.1
+
+mutual
+  numbers : (d : Data) → IsNormal d → has_float d ≡ false → HasNumbers (outline d)
+  numbers json.null n w = tt
+  numbers (json.boolean b) n w = tt
+  numbers (json.number x) n w = (number-printed x n w).1
+  numbers (json.string s) n w = tt
+  numbers (json.array ds) n w = items-numbers ds n w
+  numbers (json.object ms) n w = members-numbers ms n.1 w
+
+  items-numbers : (ds : json.Items) → AreNormal ds → items_have_float ds ≡ false → ItemsHaveNumbers (items_outline ds)
+  items-numbers json.no_items n w = tt
+  items-numbers (json.item d ds) n w = let whole = or_false (has_float d) (items_have_float ds) w in (numbers d n.0 whole.0, items-numbers ds n.1 whole.1)
+
+  members-numbers : (ms : json.Members) → AreMembersNormal ms → members_have_float ms ≡ false → MembersHaveNumbers (members_outline ms)
+  members-numbers json.no_members n w = tt
+  members-numbers (json.member k d ms) n w = let whole = or_false (has_float d) (members_have_float ms) w in (numbers d n.0 whole.0, members-numbers ms n.1 whole.1)
+
+mutual
+  as-deep : (d : Data) → sized.depth (outline d) ≡ depth d
+  as-deep json.null = refl
+  as-deep (json.boolean b) = refl
+  as-deep (json.number x) = refl
+  as-deep (json.string s) = refl
+  as-deep (json.array ds) = ap suc (items-as-deep ds)
+  as-deep (json.object ms) = ap suc (members-as-deep ms)
+
+  items-as-deep : (ds : json.Items) → sized.items_depth (items_outline ds) ≡ items_depth ds
+  items-as-deep json.no_items = refl
+  items-as-deep (json.item d ds) = rw (as-deep d, items-as-deep ds) refl
+
+  members-as-deep : (ms : json.Members) → sized.members_depth (members_outline ms) ≡ members_depth ms
+  members-as-deep json.no_members = refl
+  members-as-deep (json.member k d ms) = rw (as-deep d, members-as-deep ms) refl
+
+abbrev whole : Option (tree.Json × List Token) → Option Data
+whole o = option_and_then of_json (option_and_then (λ p. tree.if_last p.0 p.1) o)
+
+-- the compact text of such a value is read as the value
+pub read-compact : (d : Data) → IsNormal d → has_float d ≡ false → depth d ≤ max_depth → read (compact_text d) ≡ Some d
+read-compact d n w shallow =
+    let j = outline d in
+    let lexed : tokens (compact_text d) ≡ json_tokens j = ap tokens (sym (print-outline d)) ∙ tokens-print (json_tokens j) (ArePrintable-json_tokens j (numbers d n w)) in
+    ap whole (ap (tree.value max_depth) (lexed ∙ sym (append-nil (json_tokens j))) ∙ value-json_tokens j max_depth [] (omega (arith, as-deep d, shallow))) ∙ back d n w

@@ -1,0 +1,177 @@
+//! Reports that keep every limit and are dear to redact: 27 classes in one another, each in an array and under a long
+//! name, and what is asked of them.
+
+use iodef_tree::{Path, Text};
+use policy::{Case, Gate, Gates, Grantee, Numbers, Permission, Permissions, Standing};
+use std::alloc::{AllocError, Global};
+
+/// How many classes stand in one another, below the Incident.
+const CHAIN: u32 = 27;
+
+/// How many bytes each of their names has.
+const NAME_BYTES: u32 = 8_000;
+
+/// The member in which the many classes below the last stand.
+const LAST: &str = "e";
+
+/// The reports.
+#[derive(Clone, Copy, PartialEq, Eq)]
+pub enum Report {
+    /// 3,900 classes below the last; 16 gates and 64 permissions at 80 of them.
+    Gated,
+    /// The same with no gate and no permission.
+    Ungated,
+    /// 1,950 RED classes below the last, which the reader sees.
+    Hidden,
+    /// The same for a reader of the source, who sees them all.
+    Shown,
+    /// 1,300 frames below the last.
+    Frames,
+}
+
+impl Report {
+    /// The report of this word.
+    pub fn of(word: &str) -> Option<Report> {
+        match word {
+            "gated" => Some(Report::Gated),
+            "ungated" => Some(Report::Ungated),
+            "hidden" => Some(Report::Hidden),
+            "shown" => Some(Report::Shown),
+            "frames" => Some(Report::Frames),
+            _ => None,
+        }
+    }
+
+    /// The Incident's label, one of the classes below the last, and how many of these there are.
+    fn parts(self) -> (&'static str, &'static str, u32) {
+        match self {
+            Report::Gated | Report::Ungated => ("public", "{}", 3_900),
+            Report::Hidden | Report::Shown => ("public", "{\"restriction\":\"red\"}", 1_950),
+            Report::Frames => ("red", "{\"a\":{\"restriction\":\"public\"}}", 1_300),
+        }
+    }
+
+    /// Its JSON text.
+    pub fn text(self, alloc: Global) -> Result<String, AllocError> {
+        let (label, class, count) = self.parts();
+        let mut text = String::from_str(
+            alloc,
+            "{\"Incident\":[{\"Contact\":[],\"GenerationTime\":\"g\",\"IncidentID\":\"1\",",
+        )?;
+        let name = name(alloc)?;
+        for _ in 0..CHAIN {
+            text.push_str("\"")?;
+            text.push_str(name.as_str())?;
+            text.push_str("\":[{")?;
+        }
+        push_classes(&mut text, class, count)?;
+        for _ in 0..CHAIN {
+            text.push_str("}]")?;
+        }
+        text.push_str(",\"purpose\":\"p\",\"restriction\":\"")?;
+        text.push_str(label)?;
+        text.push_str("\"}]}")?;
+        Ok(text)
+    }
+
+    /// What it is judged by.
+    pub fn case(self, alloc: Global) -> Result<Case, AllocError> {
+        let (gates, permissions) = if self == Report::Gated {
+            (16, 64)
+        } else {
+            (0, 0)
+        };
+        Ok(Case {
+            source: 1,
+            gates: Gates::new(gates_at(alloc, gates)?),
+            permissions: Permissions::new(permissions_at(alloc, gates, permissions)?),
+        })
+    }
+
+    /// Who reads it: nothing holds of the reader but, where all is shown, that it is of the source.
+    pub fn reader(self, alloc: Global) -> Standing {
+        Standing {
+            source: self == Report::Shown,
+            person: false,
+            nominated: false,
+            addressed: false,
+            client: false,
+            community: false,
+            connected: false,
+            arrangement: None,
+            who: 2,
+            org: 2,
+            groups: Numbers::new(Vec::new(alloc)),
+            active_groups: Numbers::new(Vec::new(alloc)),
+            communities: Numbers::new(Vec::new(alloc)),
+        }
+    }
+}
+
+/// The long name.
+fn name(alloc: Global) -> Result<String, AllocError> {
+    let mut name = String::new(alloc);
+    for _ in 0..NAME_BYTES {
+        name.push_str("n")?;
+    }
+    Ok(name)
+}
+
+fn push_classes(text: &mut String, class: &str, count: u32) -> Result<(), AllocError> {
+    text.push_str("\"")?;
+    text.push_str(LAST)?;
+    text.push_str("\":[")?;
+    for i in 0..count {
+        if i > 0 {
+            text.push_str(",")?;
+        }
+        text.push_str(class)?;
+    }
+    text.push_str("]")
+}
+
+fn push(tokens: &mut Vec<Text>, alloc: Global, token: &str) -> Result<(), AllocError> {
+    tokens.push(Text::new(String::from_str(alloc, token)?))?;
+    Ok(())
+}
+
+/// The path of a class below the last.
+fn path_of(alloc: Global, place: u32) -> Result<Path, AllocError> {
+    let name = name(alloc)?;
+    let mut tokens = Vec::new(alloc);
+    push(&mut tokens, alloc, "Incident")?;
+    push(&mut tokens, alloc, "0")?;
+    for _ in 0..CHAIN {
+        push(&mut tokens, alloc, name.as_str())?;
+        push(&mut tokens, alloc, "0")?;
+    }
+    push(&mut tokens, alloc, LAST)?;
+    let digits = format!(in alloc; "{place}")?;
+    push(&mut tokens, alloc, digits.as_str())?;
+    Ok(Path::new(tokens))
+}
+
+/// Gates for the source alone, at the first classes below the last.
+fn gates_at(alloc: Global, count: u32) -> Result<Vec<Gate>, AllocError> {
+    let mut gates = Vec::new(alloc);
+    for i in 0..count {
+        gates.push(Gate {
+            path: path_of(alloc, i)?,
+            level: 0,
+            group: None,
+        })?;
+    }
+    Ok(gates)
+}
+
+/// Permissions for the reader, at the classes behind those.
+fn permissions_at(alloc: Global, first: u32, count: u32) -> Result<Vec<Permission>, AllocError> {
+    let mut permissions = Vec::new(alloc);
+    for i in 0..count {
+        permissions.push(Permission {
+            path: path_of(alloc, first.saturating_add(i))?,
+            grantee: Grantee::Org(2),
+        })?;
+    }
+    Ok(permissions)
+}

@@ -1,0 +1,76 @@
+//! The answer to a line of the table.
+
+ghost use Rattle.std.specs.Prelude.{◌≡◌, None};
+ghost use Rattle.iodef_tree.specs.Paths.{located};
+ghost use Rattle.marking.specs.Marks.{first_bad_marking};
+
+use crate::cases::{Line, case_of, line_of, reader_of};
+use iodef_tree::Document;
+use marking::check;
+use policy::{Case, Standing};
+use redact::{Excerpt, excerpt, finds};
+use std::alloc::{AllocError, Global};
+
+/// How many classes are visible, the document, and each withheld pair; `none` where there is no excerpt.
+fn push_excerpt(alloc: Global, out: &mut String, told: &Excerpt) -> Result<(), AllocError> {
+    let classes = told.classes;
+    let count = format!(in alloc; "{classes} ")?;
+    out.push_str(count.as_str())?;
+    let document = told.document.text(alloc)?;
+    out.push_str(document.as_str())?;
+    for (place, rule) in &told.withheld {
+        let pointer = place.print(alloc)?;
+        out.push_str(" ")?;
+        out.push_str(pointer.as_str())?;
+        out.push_str(":")?;
+        out.push_str(rule.name())?;
+    }
+    Ok(())
+}
+
+/// What the call answers. A search is `find NEEDLE` or `find NEEDLE CLASS`.
+fn called(
+    alloc: Global,
+    document: &Document,
+    case: &Case,
+    reader: &Standing,
+    call: &str,
+) -> Result<String, AllocError>
+    requires { first_bad_marking (located document.now) ≡ None }
+{
+    let mut words = call.split(' ');
+    if words.next() == Some("find") {
+        let needle = words.next().unwrap_or("");
+        let found = finds(alloc, document, case, reader, needle, words.next())?;
+        return String::from_str(alloc, if found { "found" } else { "not found" });
+    }
+    let mut out = String::new(alloc);
+    match excerpt(alloc, document, case, reader)? {
+        None => out.push_str("none")?,
+        Some(told) => push_excerpt(alloc, &mut out, &told)?,
+    }
+    Ok(out)
+}
+
+fn of_line(alloc: Global, line: &Line<'_>) -> Result<String, AllocError> {
+    let Ok(mut documents) = Document::read(alloc, line.document.as_bytes()) else {
+        return String::from_str(alloc, "not read");
+    };
+    let Some(document) = documents.pop() else {
+        return String::from_str(alloc, "not read");
+    };
+    let Ok(()) = check(alloc, &document) else {
+        return String::from_str(alloc, "bad marking");
+    };
+    let case = case_of(alloc, line)?;
+    let reader = reader_of(alloc, line.reader)?;
+    called(alloc, &document, &case, &reader, line.call)
+}
+
+/// The answer to a line of the table.
+pub fn answer(alloc: Global, text: &str) -> Result<String, AllocError> {
+    match line_of(text) {
+        Some(line) => of_line(alloc, &line),
+        None => String::from_str(alloc, "no line"),
+    }
+}

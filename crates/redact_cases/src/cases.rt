@@ -1,0 +1,147 @@
+//! A line of the table: READER GATES PERMISSIONS CALL DOCUMENT, each behind a bar.
+//!
+//! READER is a list of words with commas: `source`, `person`, `nominated`, `addressed`, `client`, `community`,
+//! `connected`, `org=N`, `who=N`, `member=N` and `active=N` for a group, `in=N` for a community. GATES is a list of
+//! `POINTER:LEVEL` or `POINTER:LEVEL:GROUP`, PERMISSIONS one of `POINTER:person:N`, `POINTER:org:N`,
+//! `POINTER:community:N` or `POINTER:group:N`, with `;` between. CALL is `excerpt`, `find NEEDLE` or `find NEEDLE CLASS`.
+
+use iodef_tree::Path;
+use policy::{Case, Gate, Gates, Grantee, Numbers, Permission, Permissions, Standing};
+use std::alloc::{AllocError, Global};
+
+/// The parts of a line.
+#[derive(Clone, Copy)]
+pub struct Line<'a> {
+    pub reader: &'a str,
+    pub gates: &'a str,
+    pub permissions: &'a str,
+    pub call: &'a str,
+    pub document: &'a str,
+}
+
+pub fn line_of(text: &str) -> Option<Line<'_>> {
+    let mut parts = text.split('|');
+    Some(Line {
+        reader: parts.next()?,
+        gates: parts.next()?,
+        permissions: parts.next()?,
+        call: parts.next()?,
+        document: parts.next()?,
+    })
+}
+
+fn number_of(word: &str) -> u32 {
+    word.parse::<u32>().unwrap_or(0)
+}
+
+/// A reader of no organisation, of whom nothing holds.
+fn nobody(alloc: Global) -> Standing {
+    Standing {
+        source: false,
+        person: false,
+        nominated: false,
+        addressed: false,
+        client: false,
+        community: false,
+        connected: false,
+        arrangement: None,
+        who: 0,
+        org: 0,
+        groups: Numbers::new(Vec::new(alloc)),
+        active_groups: Numbers::new(Vec::new(alloc)),
+        communities: Numbers::new(Vec::new(alloc)),
+    }
+}
+
+/// What the words of this name number.
+fn numbers(alloc: Global, words: &str, name: &str) -> Result<Numbers, AllocError> {
+    let mut list = Vec::new(alloc);
+    for word in words.split(',') {
+        let mut parts = word.split('=');
+        if parts.next() == Some(name) {
+            list.push(number_of(parts.next().unwrap_or("")))?;
+        }
+    }
+    Ok(Numbers::new(list))
+}
+
+pub fn reader_of(alloc: Global, words: &str) -> Result<Standing, AllocError> {
+    let mut standing = nobody(alloc);
+    standing.groups = numbers(alloc, words, "member")?;
+    standing.active_groups = numbers(alloc, words, "active")?;
+    standing.communities = numbers(alloc, words, "in")?;
+    for word in words.split(',') {
+        let mut parts = word.split('=');
+        let name = parts.next().unwrap_or("");
+        let number = number_of(parts.next().unwrap_or(""));
+        match name {
+            "source" => standing.source = true,
+            "person" => standing.person = true,
+            "nominated" => standing.nominated = true,
+            "addressed" => standing.addressed = true,
+            "client" => standing.client = true,
+            "community" => standing.community = true,
+            "connected" => standing.connected = true,
+            "org" => standing.org = number,
+            "who" => standing.who = number,
+            _ => {}
+        }
+    }
+    Ok(standing)
+}
+
+fn path_of(alloc: Global, pointer: &str) -> Result<Path, AllocError> {
+    match Path::parse(alloc, pointer) {
+        Ok(path) => Ok(path),
+        Err(_) => Path::root(alloc).member(alloc, pointer),
+    }
+}
+
+fn gates_of(alloc: Global, words: &str) -> Result<Gates, AllocError> {
+    let mut gates = Vec::new(alloc);
+    for word in words.split(';') {
+        let mut parts = word.split(':');
+        let pointer = parts.next().unwrap_or("");
+        if let Some(level) = parts.next() {
+            gates.push(Gate {
+                path: path_of(alloc, pointer)?,
+                level: level.parse::<u8>().unwrap_or(0),
+                group: parts.next().map(|number| number_of(number)),
+            })?;
+        }
+    }
+    Ok(Gates::new(gates))
+}
+
+fn grantee_of(kind: &str, number: u32) -> Grantee {
+    match kind {
+        "person" => Grantee::Person(number),
+        "org" => Grantee::Org(number),
+        "community" => Grantee::Community(number),
+        _ => Grantee::Group(number),
+    }
+}
+
+fn permissions_of(alloc: Global, words: &str) -> Result<Permissions, AllocError> {
+    let mut permissions = Vec::new(alloc);
+    for word in words.split(';') {
+        let mut parts = word.split(':');
+        let pointer = parts.next().unwrap_or("");
+        if let Some(kind) = parts.next() {
+            permissions.push(Permission {
+                path: path_of(alloc, pointer)?,
+                grantee: grantee_of(kind, number_of(parts.next().unwrap_or(""))),
+            })?;
+        }
+    }
+    Ok(Permissions::new(permissions))
+}
+
+/// The case of a line: its gates and permissions.
+pub fn case_of(alloc: Global, line: &Line<'_>) -> Result<Case, AllocError> {
+    Ok(Case {
+        source: 2,
+        gates: gates_of(alloc, line.gates)?,
+        permissions: permissions_of(alloc, line.permissions)?,
+    })
+}

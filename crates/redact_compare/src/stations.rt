@@ -1,0 +1,76 @@
+//! Where the gates and permissions of a generated case stand.
+
+use crate::tally::Tally;
+use crate::world::World;
+use iodef_tree::{Kind, Path, Text};
+use std::alloc::AllocError;
+
+/// A name of so many bytes is long.
+const LONG: usize = 100;
+
+/// A path of so many tokens is deep.
+const DEEP: usize = 12;
+
+/// The paths of the gates, and behind them those of the permissions.
+fn stations<'r>(world: &World<'_, 'r>) -> Result<Vec<&'r Path>, AllocError> {
+    let mut paths = Vec::new(world.alloc);
+    for gate in world.case.gates.as_slice() {
+        paths.push(&gate.path)?;
+    }
+    for permission in world.case.permissions.as_slice() {
+        paths.push(&permission.path)?;
+    }
+    Ok(paths)
+}
+
+/// Whether they are elements of one array, or members of one class.
+fn are_siblings(one: &[Text], other: &[Text]) -> bool {
+    match (one.split_last(), other.split_last()) {
+        (Some((last, above)), Some((last_too, above_too))) => above == above_too
+            && last != last_too,
+        _ => false,
+    }
+}
+
+/// What stands at the path.
+fn note_kind(tally: &mut Tally, world: &World<'_, '_>, path: &Path) {
+    let mut nothing = !path.tokens().is_empty();
+    for entry in &world.entries {
+        let here = entry.path == *path;
+        let class = entry.line.kind == Kind::Class;
+        let inside = entry.line.in_array
+            && entry
+                .path
+                .tokens()
+                .split_last()
+                .is_some_and(|(_, above)| above == path.tokens());
+        tally.note(
+            "gates or permissions at elements",
+            here && class && entry.line.in_array,
+        );
+        tally.note("gates or permissions at plain members", here && !class);
+        tally.note("gates or permissions at arrays", inside);
+        nothing = nothing && !here && !inside;
+    }
+    tally.note("gates or permissions at nothing", nothing);
+}
+
+/// Notes where they stand, and what names and depths the case has.
+pub fn note_stations(tally: &mut Tally, world: &World<'_, '_>) -> Result<(), AllocError> {
+    let paths = stations(world)?;
+    for (i, path) in paths.iter().enumerate() {
+        note_kind(tally, world, path);
+        for other in &paths[..i] {
+            tally.note(
+                "gates or permissions at siblings",
+                are_siblings(path.tokens(), other.tokens()),
+            );
+            tally.note("several at one path", **path == **other);
+        }
+    }
+    for entry in &world.entries {
+        tally.note("long names", entry.line.name.as_str().len() > LONG);
+        tally.note("deep chains", entry.path.tokens().len() > DEEP);
+    }
+    Ok(())
+}
