@@ -1,0 +1,57 @@
+//! From a line of the table to its answer.
+
+use crate::facts::facts_of;
+use crate::fields::{number_of, written_out};
+use crate::requests::request_of;
+use crate::told;
+use circle::directory::{Person, Role};
+use circle::name::Name;
+use hub_core::{Facts, Request, judge};
+use std::alloc::{AllocError, Global};
+
+fn role_of(word: &str) -> Role {
+    match word {
+        "administrator" => Role::Administrator,
+        "coordinator" => Role::Coordinator,
+        "poster" => Role::Poster,
+        _ => Role::Reader,
+    }
+}
+
+fn actor_of(alloc: Global, words: &str) -> Result<Option<Person>, AllocError> {
+    let (role, org) = words.split_once(' ').unwrap_or((words, ""));
+    match Name::of(alloc, "anna")? {
+        Some(name) => Ok(Some(Person {
+            number: 2,
+            org: number_of(org),
+            name,
+            role: role_of(role),
+            active: true,
+            nominated: false,
+        })),
+        None => Ok(None),
+    }
+}
+
+fn judged(
+    alloc: Global,
+    actor: &Person,
+    facts: &Facts,
+    request: &Request,
+) -> Result<String, AllocError> {
+    match judge(alloc, actor, facts, request) {
+        Ok(edits) => told::edits(alloc, &edits),
+        Err(refusal) => told::refusal(alloc, &refusal),
+    }
+}
+
+pub fn answer(alloc: Global, line: &str) -> Result<String, AllocError> {
+    let line = written_out(alloc, line)?;
+    let mut fields = line.as_str().split('|');
+    let Some(actor) = actor_of(alloc, fields.next().unwrap_or(""))? else {
+        return String::from_str(alloc, "no actor");
+    };
+    let facts = facts_of(alloc, fields.next().unwrap_or(""))?;
+    let request = request_of(alloc, &mut fields)?;
+    judged(alloc, &actor, &facts, &request)
+}
