@@ -16,7 +16,7 @@ use Rattle.serde_json.specs.Written.{comma_if, compact_text, items_text, members
 use Rattle.iodef_tree.specs.Text.{Bytes, bytes_lt}
 use Rattle.iodef_tree.specs.Texts.{may_be_value, may_be_text, HasTexts}
 use Rattle.iodef_tree.specs.Tree.{Content, text, value, Forest, end, leaf, branch, kind_of, text_of, leaf_line, class_line, lines}
-use Rattle.iodef_tree.specs.Sound.{Standing, may_stand, IsOrderedBehind, IsOrdered, IsSound}
+use Rattle.iodef_tree.specs.Sound.{Standing, may_stand, IsOrderedBehind, IsSound}
 use Rattle.iodef_tree.specs.Outline.{sibling}
 use Rattle.iodef_tree.specs.Json.{continues, datum, members_from, items_from, data_of}
 use Rattle.iodef_tree.specs.Written.{content_text, front_text, is_later_place, goes_on, close_text, written, content_data, placed_member, placed_item, members_of, items_of}
@@ -269,7 +269,7 @@ tells (branch n p kids rest) d o X h k =
     (ap (members_from d (Some (sibling l))) joined ∙ skip-members kids (suc d) d (Some (sibling l)) Y (omega arith) ∙ r.members)
     (ap (items_from d (Some (sibling l))) joined ∙ skip-items kids (suc d) d (Some (sibling l)) Y (omega arith) ∙ r.items)
 
-pub data-ordered : (f : Forest) → IsOrdered f → data_of (lines 1 f) ≡ members_of f
+pub data-ordered : (f : Forest) → IsOrderedBehind None f → data_of (lines 1 f) ≡ members_of f
 data-ordered f h = ap (members_from 1 None) (sym (append-nil (lines 1 f))) ∙ (tells f 1 None [] h tt).members
 
 pub data-is : (f : Forest) → IsSound f → data_of (lines 1 f) ≡ members_of f
