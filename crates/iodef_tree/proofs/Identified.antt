@@ -16,13 +16,12 @@ use Rattle.serde_json.specs.Find.{get, get_member, as_array, as_object}
 use Rattle.serde_json.specs.Read.{read, max_depth, number_of, of_json, of_items, of_members}
 use Rattle.serde_json.specs.Written.{compact_text}
 use Rattle.serde_json.proofs.Views.{get_member-put}
-use Rattle.iodef_tree.proofs.Filled.{has_elements}
 use Rattle.iodef_tree.specs.Fit.{IsBodyOrdered, AreBodiesOrdered}
 use Rattle.iodef_tree.specs.Json.{zeroth, id_in, incident_id}
 use Rattle.iodef_tree.specs.Reading.{reading, parsed, or_fault, unless, ◌>>=◌, incidents_of, if_incidents, are_incidents, all_objects, all_complete, all_fit, lacking, lacks, incident_at, with_incident, document_of, documents, if_short}
 use Rattle.iodef_tree.specs.Sound.{IsOrdered}
 use Rattle.iodef_tree.specs.Text.{Bytes, bytes_lt}
-use Rattle.iodef_tree.specs.Tree.{Forest, Bodies, lines}
+use Rattle.iodef_tree.specs.Tree.{Forest, Bodies, member_front, lines}
 use Rattle.iodef_tree.specs.Values.{forest_of_data, body_of_data, items_of_data, bodies_of_data}
 use Rattle.iodef_tree.specs.View.{forest_of_members}
 use Rattle.iodef_tree.specs.Written.{members_of, items_of, bodies_data}
@@ -162,17 +161,18 @@ mutual
 abbrev kept : Data → Data
 kept d = bodies_data (bodies_of_data d)
 
-filled : (d : Data) → has_elements (bodies_of_data d) ≡ true
-filled json.null = refl
-filled (json.boolean b) = refl
-filled (json.number n) = refl
-filled (json.string s) = refl
-filled (json.array json.no_items) = refl
-filled (json.array (json.item d ds)) = refl
-filled (json.object ms) = refl
-
 no_elements : (ms : json.Members) → items_of (forest_of_data ms) ≡ json.no_items
 no_elements ms = ap items_of (forest_is ms) ∙ no-items (named_of ms)
+
+-- an array without elements is a plain value
+one_member : (n : Bytes) (d : Data) (rest : Forest) → items_of rest ≡ json.no_items → members_of (member_front n (bodies_of_data d) rest) ≡ json.member n (kept d) (members_of rest)
+one_member n json.null rest fresh = member-data n (bodies_of_data json.null) rest fresh refl
+one_member n (json.boolean b) rest fresh = member-data n (bodies_of_data (json.boolean b)) rest fresh refl
+one_member n (json.number x) rest fresh = member-data n (bodies_of_data (json.number x)) rest fresh refl
+one_member n (json.string s) rest fresh = member-data n (bodies_of_data (json.string s)) rest fresh refl
+one_member n (json.array json.no_items) rest fresh = member-data n (bodies_of_data (json.array json.no_items)) rest fresh refl
+one_member n (json.array (json.item d ds)) rest fresh = member-data n (bodies_of_data (json.array (json.item d ds))) rest fresh refl
+one_member n (json.object ms) rest fresh = member-data n (bodies_of_data (json.object ms)) rest fresh refl
 
 chosen : (o : Ordering) (a : Option Data) (d : Data) → match_ordering o (option_map kept a) (Some (kept d)) (option_map kept a) ≡ option_map kept (match_ordering o a (Some d) a)
 chosen Less a d = refl
@@ -182,7 +182,7 @@ chosen Greater a d = refl
 member_kept : (k : Bytes) (ms : json.Members) → get_member k (members_of (forest_of_data ms)) ≡ option_map kept (get_member k ms)
 member_kept k json.no_members = refl
 member_kept k (json.member n d ms) =
-    ap (get_member k) (member-data n (bodies_of_data d) (forest_of_data ms) (no_elements ms) (filled d))
+    ap (get_member k) (one_member n d (forest_of_data ms) (no_elements ms))
     ∙ (ap (λ o. match_ordering (slice_cmp nat_cmp k n) o (Some (kept d)) o) (member_kept k ms) ∙ chosen (slice_cmp nat_cmp k n) (get_member k ms) d)
 
 -- ---- one document
@@ -361,10 +361,10 @@ reported_in root ds docs order h complete read_as = record {
 pub reported : (body : Bytes) (docs : List (List Line)) → reading body ≡ Ok docs → IsReported docs
 unfolding reading
 reported body docs h =
-    let a = bound (parsed body) (λ d. or_fault NotDocument (as_object d) >>= λ root. or_fault NotDocument (incidents_of root) >>= λ incidents. all_complete 0 incidents >>= λ complete. all_fit d >>= λ fine. documents root incidents) docs h in
-    let b = bound (or_fault NotDocument (as_object a.0)) (λ root. or_fault NotDocument (incidents_of root) >>= λ incidents. all_complete 0 incidents >>= λ complete. all_fit a.0 >>= λ fine. documents root incidents) docs a.2 in
-    let c = bound (or_fault NotDocument (incidents_of b.0)) (λ incidents. all_complete 0 incidents >>= λ complete. all_fit a.0 >>= λ fine. documents b.0 incidents) docs b.2 in
-    let e = bound (all_complete 0 c.0) (λ complete. all_fit a.0 >>= λ fine. documents b.0 c.0) docs c.2 in
-    let f = bound (all_fit a.0) (λ fine. documents b.0 c.0) docs e.2 in
+    let a = bound (parsed body) _ docs h in
+    let b = bound (or_fault NotDocument (as_object a.0)) _ docs a.2 in
+    let c = bound (or_fault NotDocument (incidents_of b.0)) _ docs b.2 in
+    let e = bound (all_complete 0 c.0) _ docs c.2 in
+    let f = bound (all_fit a.0) _ docs e.2 in
     let order : HasOrder b.0 = root_order body a.0 b.0 (when (is_utf8 body) (read body) a.0 (given_some NotJson (if is_utf8 body then read body else None) a.0 a.1)) (given_some NotDocument (as_object a.0) b.0 b.1) in
     reported_in b.0 c.0 docs order (has_incidents b.0 c.0 order (given_some NotDocument (incidents_of b.0) c.0 c.1)) e.1 f.2

@@ -269,7 +269,7 @@ tells (branch n p kids rest) d o X h k =
     (ap (members_from d (Some (sibling l))) joined ∙ skip-members kids (suc d) d (Some (sibling l)) Y (omega arith) ∙ r.members)
     (ap (items_from d (Some (sibling l))) joined ∙ skip-items kids (suc d) d (Some (sibling l)) Y (omega arith) ∙ r.items)
 
-pub data-ordered : (f : Forest) → IsOrdered f → data_of (lines 1 f) ≡ members_of f
+pub data-ordered : (f : Forest) → IsOrderedBehind None f → data_of (lines 1 f) ≡ members_of f
 data-ordered f h = ap (members_from 1 None) (sym (append-nil (lines 1 f))) ∙ (tells f 1 None [] h tt).members
 
 pub data-is : (f : Forest) → IsSound f → data_of (lines 1 f) ≡ members_of f
