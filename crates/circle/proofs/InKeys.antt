@@ -11,7 +11,7 @@ use Rattle.circle.specs.Directory.{Directory, org_number, account_number, commun
 use Rattle.circle.specs.Aftermath.{edited_row}
 use Rattle.circle.specs.Sound.{Each}
 use Rattle.circle.specs.Stretches.{Ascend, numbered}
-use Rattle.circle.specs.Rows.{IsInOrder}
+use Rattle.circle.specs.Rows.{IsAscending}
 use Rattle.circle.proofs.Keeping.{each_put, each_weaker, pairs_left}
 use Rattle.circle.proofs.Kept.{same_when}
 
@@ -43,7 +43,7 @@ ascend_map key f (x ∷ xs) same up = (behind xs up.0, ascend_map key f xs same 
 ascend_left : {X : Type 0} (key : X → ℕ × ℕ) (p : X → Bool) (xs : List X) → Ascend key xs → Ascend key (filter p xs)
 ascend_left key p xs up = pairs_left (λ a b. is_lt (by_pair key b a) ≡ false) p xs up
 
-pub order_after : (edit : RowEdit) (d : Directory) → IsInOrder d → IsInOrder (edited_row edit d)
+pub order_after : (edit : RowEdit) (d : Directory) → IsAscending d → IsAscending (edited_row edit d)
 order_after (PutOrg x) d h = record { orgs = ascend_put (numbered org_number) x d.orgs h.orgs; accounts = h.accounts; clients = h.clients; communities = h.communities; memberships = h.memberships; connections = h.connections; groups = h.groups; group_members = h.group_members; arrangements = h.arrangements }
 order_after (PutAccount x) d h = record { orgs = h.orgs; accounts = ascend_put (numbered account_number) x d.accounts h.accounts; clients = h.clients; communities = h.communities; memberships = h.memberships; connections = h.connections; groups = h.groups; group_members = h.group_members; arrangements = h.arrangements }
 order_after (Suspend n) d h = record { orgs = h.orgs; accounts = ascend_map (numbered account_number) (λ (a : Account). if a.person.number == n then record a { person = record (a.person) { active = false } } else a) d.accounts (λ a. same_when (numbered account_number) (a.person.number == n) (record a { person = record (a.person) { active = false } }) a refl) h.accounts; clients = h.clients; communities = h.communities; memberships = h.memberships; connections = h.connections; groups = h.groups; group_members = h.group_members; arrangements = h.arrangements }

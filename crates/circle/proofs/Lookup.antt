@@ -1,6 +1,7 @@
 -- Looking rows up: a number's row by its place where the numbers have no gap, and the rows of a key by halving.
 use Rattle.std.proofs.Common.{◌≡◌, ℕ, zero, suc, ◌+◌, ◌-◌, ◌≤◌, ◌<◌, ◌==◌, ◌&&◌, ◌||◌, not, Bool, true, false, List, [], ◌∷◌, filter, length, take, drop, get_or, Some, if◌then◌else◌, refl, sym, ap, ◌∙◌, subst, arith}
 use Rattle.std.specs.Prelude.{find, slice_get}
+use Rattle.std.specs.Option.{option_map_or}
 use Rattle.std.specs.List.{list_any, AllWithin, insert}
 use Rattle.std.specs.List.Sorted.{IsPartitionedBy}
 use Rattle.std.specs.Ordering.{is_lt}
@@ -19,6 +20,9 @@ is_number a b e = grind (arith, nat_tests)
 other_number : (a b : ℕ) → a < b → (a == b) ≡ false
 other_number a b h = grind (arith, nat_tests)
 
+higher_number : (a b : ℕ) → b < a → (a == b) ≡ false
+higher_number a b h = grind (arith, nat_tests)
+
 -- the row of number n + k + 1 stands at place k where the numbers count from n
 find_counted : {X : Type 0} (number : X → ℕ) (n k m : ℕ) (rows : List X) → m ≡ n + k + 1 → CountsFrom number n rows → find (λ x. number x == m) rows ≡ slice_get rows k
 find_counted number n k m [] e h = refl
@@ -32,6 +36,31 @@ find_counted number n (suc k) m (x ∷ xs) e h =
 -- the row of number n + 1 stands at place n
 pub find_numbered : {X : Type 0} (number : X → ℕ) (limit : ℕ) (rows : List X) (n : ℕ) → IsNumbered number limit rows → find (λ x. number x == n + 1) rows ≡ slice_get rows n
 find_numbered number limit rows n h = find_counted number 0 n (n + 1) rows (omega arith) h.0
+
+or_false : (b : Bool) → (b || false) ≡ b
+or_false true = refl
+or_false false = refl
+
+-- no number that is counted is as low as where the count begins
+none_counted : {X : Type 0} (number : X → ℕ) (test : X → Bool) (n m : ℕ) (rows : List X) → m ≤ n → CountsFrom number n rows → list_any (λ x. number x == m && test x) rows ≡ false
+none_counted number test n m [] low h = refl
+none_counted number test n m (x ∷ xs) low h =
+    let first : number x ≡ n + 1 = h.0 in
+    ap (λ b. (b && test x) || list_any (λ y. number y == m && test y) xs) (higher_number (number x) m (omega arith)) ∙ none_counted number test (n + 1) m xs (omega arith) h.1
+
+any_counted : {X : Type 0} (number : X → ℕ) (test : X → Bool) (n k m : ℕ) (rows : List X) → m ≡ n + k + 1 → CountsFrom number n rows → list_any (λ x. number x == m && test x) rows ≡ option_map_or test (slice_get rows k) false
+any_counted number test n k m [] e h = refl
+any_counted number test n zero m (x ∷ xs) e h =
+    let first : number x ≡ n + 1 = h.0 in
+    ap (λ b. (b && test x) || list_any (λ y. number y == m && test y) xs) (is_number (number x) m (omega arith))
+    ∙ (ap (λ b. test x || b) (none_counted number test (n + 1) m xs (omega arith) h.1) ∙ or_false (test x))
+any_counted number test n (suc k) m (x ∷ xs) e h =
+    let first : number x ≡ n + 1 = h.0 in
+    ap (λ b. (b && test x) || list_any (λ y. number y == m && test y) xs) (other_number (number x) m (omega arith)) ∙ any_counted number test (n + 1) k m xs (omega arith) h.1
+
+-- a test of the row of number n + 1 is one of the row at place n
+pub any_numbered : {X : Type 0} (number : X → ℕ) (limit : ℕ) (test : X → Bool) (rows : List X) (n : ℕ) → IsNumbered number limit rows → list_any (λ x. number x == n + 1 && test x) rows ≡ option_map_or test (slice_get rows n) false
+any_numbered number limit test rows n h = any_counted number test 0 n (n + 1) rows (omega arith) h.0
 
 -- ---- pairs
 

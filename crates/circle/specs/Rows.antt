@@ -19,7 +19,7 @@ directory_of s = record {
 }
 
 -- each set is in the order of its key
-pub record IsInOrder (d : Directory) : Type 0 where
+pub record IsAscending (d : Directory) : Type 0 where
   pub orgs : Ascend (numbered org_number) d.orgs
   pub accounts : Ascend (numbered account_number) d.accounts
   pub clients : Ascend client_key d.clients

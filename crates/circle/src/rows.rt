@@ -19,11 +19,11 @@ impl Model for DirectoryRows {
 
     ghost Value = { Directory };
 
-    ghost use Rattle.circle.specs.Rows.{directory_of, IsInOrder};
+    ghost use Rattle.circle.specs.Rows.{directory_of, IsAscending};
 
     ghost view = { λ r. directory_of r.sets };
 
-    ghost invariant = { λ r. IsInOrder (directory_of r.sets) };
+    ghost invariant = { λ r. IsAscending (directory_of r.sets) };
 }
 
 impl DirectoryRows {

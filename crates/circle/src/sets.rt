@@ -25,7 +25,7 @@ pub(crate) struct Sets {
 }
 
 impl Sets {
-    ghost use Rattle.circle.specs.Rows.{directory_of, IsInOrder, HasRoom};
+    ghost use Rattle.circle.specs.Rows.{directory_of, IsAscending, HasRoom};
 
     pub fn new(alloc: Global) -> Sets
         ensures { directory_of result ≡ empty }
@@ -62,7 +62,7 @@ impl Sets {
     /// Makes the edit, where there is room for a row.
     pub fn edit(&mut self, edit: RowEdit)
         requires room { HasRoom 1 self.old }
-        requires order { IsInOrder (directory_of self.old) }
+        requires order { IsAscending (directory_of self.old) }
         ensures value { directory_of self.new ≡ edited_row edit (directory_of self.old) }
         ensures left { (n : ℕ) → HasRoom (n + 1) self.old → HasRoom n self.new }
     {
@@ -98,14 +98,14 @@ impl Sets {
 
 impl Sets {
     ghost use Rattle.circle.specs.Aftermath.{edited_rows};
-    ghost use Rattle.circle.specs.Rows.{directory_of, IsInOrder, HasRoom};
+    ghost use Rattle.circle.specs.Rows.{directory_of, IsAscending, HasRoom};
 
     /// Makes the edits one after another, where there is room for a row for each.
     pub fn edit_all(&mut self, edits: Vec<RowEdit>)
         requires room { HasRoom (length edits.items) self.old }
-        requires order { IsInOrder (directory_of self.old) }
+        requires order { IsAscending (directory_of self.old) }
         ensures value { directory_of self.new ≡ edited_rows edits.items (directory_of self.old) }
-        ensures kept { IsInOrder (directory_of self.new) }
+        ensures kept { IsAscending (directory_of self.new) }
     {
         for edit in edits {
             self.edit(edit);

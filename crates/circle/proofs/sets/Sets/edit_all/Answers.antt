@@ -1,7 +1,7 @@
 use Rattle.std.proofs.Common.{◌≡◌, ◌+◌, ◌∷◌, length, sym, ap, subst, ◌∙◌, arith}
 use Rattle.std.specs.Vec.Iter.{into_iter_items}
 use Rattle.circle.specs.Aftermath.{edited_rows}
-use Rattle.circle.specs.Rows.{directory_of, IsInOrder, HasRoom}
+use Rattle.circle.specs.Rows.{directory_of, IsAscending, HasRoom}
 use Rattle.circle.proofs.InKeys.{order_after}
 use Rattle.circle.proofs.sets.Sets.edit_all.Goals as goal
 
@@ -15,7 +15,7 @@ loop-edit-preserved c =
     let one_more : length (into_iter_items at.edit-iterator) ≡ length rest + 1 = omega arith in (
       ap (λ d. edited_rows rest d) c.edit.ensures.value ∙ (ap (λ l. edited_rows l (directory_of at.self)) (sym steps) ∙ at.invariant.0),
       c.edit.ensures.left (length rest) (subst (λ n. HasRoom n at.self) one_more at.invariant.1),
-      subst IsInOrder (sym c.edit.ensures.value) (order_after edit (directory_of at.self) at.invariant.2),
+      subst IsAscending (sym c.edit.ensures.value) (order_after edit (directory_of at.self) at.invariant.2),
       let was = at.invariant.3 in
           let gone = c.in-Some.ensures.steps.1 in
           omega arith,
