@@ -1,4 +1,4 @@
-use Rattle.hub_core.proofs.Apart.{others_stay}
+use Rattle.hub_core.proofs.Others.{others_stay}
 use Rattle.hub_core.proofs.laws.others_stay.Goals as goal
 
 pub returns : goal.returns
