@@ -27,6 +27,7 @@ fn one(alloc: Global, edit: Edit) -> Result<Vec<Edit>, AllocFailed<Edit>>
     Ok(edits)
 }
 
+/// A person or an organisation as a recipient of an incident.
 pub fn address(
     alloc: Global,
     actor: &Person,
@@ -45,6 +46,7 @@ pub fn address(
     Ok(one(alloc, Edit::PutRecipient(Recipient { incident, target }))?)
 }
 
+/// A recipient taken back; whom it names isn't looked up.
 pub fn unaddress(
     alloc: Global,
     actor: &Person,
@@ -61,6 +63,7 @@ pub fn unaddress(
     Ok(one(alloc, Edit::TakeRecipient(Recipient { incident, target }))?)
 }
 
+/// A permission at a class, for the revision that the source has seen.
 pub fn grant(
     alloc: Global,
     actor: &Person,
@@ -91,6 +94,7 @@ pub fn grant(
     )?)
 }
 
+/// A permission taken back; whom it names isn't looked up.
 pub fn withdraw(
     alloc: Global,
     actor: &Person,
@@ -116,7 +120,7 @@ pub fn withdraw(
     )?)
 }
 
-/// Another gate, in place of one at that path.
+/// Another gate at the root or at a class, in place of one at that path.
 pub fn redistribute(
     alloc: Global,
     actor: &Person,

@@ -20,6 +20,7 @@ use circle::directory::Person;
 use circle::refusal::Code;
 use std::alloc::{AllocError, Global};
 
+/// An incident for each Incident of the body, or a refusal and none.
 pub fn post(
     alloc: Global,
     actor: &Person,
@@ -60,6 +61,7 @@ fn arguments(
     Ok((gates, documents))
 }
 
+/// Asks what there is: groups, classes, incidents of the same ident, room.
 fn allowed(
     alloc: Global,
     facts: &Facts,

@@ -22,6 +22,7 @@ use circle::refusal::Code;
 use circle::text::Text;
 use std::alloc::{AllocError, Global};
 
+/// The incident in its next revision, with the gates given; its permissions end and its recipients stay.
 pub fn replace(
     alloc: Global,
     actor: &Person,
@@ -64,6 +65,7 @@ fn arguments(
     Ok((gates, documents))
 }
 
+/// Asks what there is: the incident as the actor's own, groups, classes, its ident, its revision, room.
 fn allowed<'a>(
     alloc: Global,
     actor: &Person,

@@ -14,7 +14,7 @@ use circle::text::Text;
 use iodef_tree::{Path, PathFault};
 use std::alloc::{AllocError, AllocFailed, Global};
 
-/// Why there are no edits.
+/// Why there are no edits: the refusal that is due, or want of memory, which the caller answers as a refusal too.
 #[derive(Drop)]
 pub enum Stop {
     Refused(Refusal),
