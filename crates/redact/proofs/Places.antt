@@ -1,5 +1,6 @@
 -- Where the kept classes of a document stand in its excerpt.
 use Rattle.std.proofs.Common.{◌≡◌, ℕ, suc, Bool, true, false, not, List, [], ◌∷◌, ◌++◌, refl, sym, ◌∙◌, ap, subst, map, filter, if◌then◌else◌, ◌&&◌, ◌||◌}
+use Rattle.std.specs.Prelude.{Some}
 use Rattle.std.specs.List.{zip, AllByRecursion, IsDistinct}
 use Rattle.std.proofs.lemmas.Bool.{false≢true, cond-true, cond-false}
 use Rattle.std.proofs.lemmas.List.{map-append, append-nil}
@@ -211,23 +212,23 @@ zip-both [] = refl
 zip-both (x ∷ xs) = ap (λ ys. (x.0, x.1) ∷ ys) (zip-both xs)
 
 -- in pairs of distinct paths each path has its own place
-beside-own : (xs : List (Tokens × Tokens)) → IsDistinct same_path (map here xs) → AllByRecursion (λ x. beside xs (here x) ≡ there x) xs
+beside-own : (xs : List (Tokens × Tokens)) → IsDistinct same_path (map here xs) → AllByRecursion (λ x. beside xs (here x) ≡ Some (there x)) xs
 unfolding IsDistinct
 beside-own [] h = tt
 beside-own (x ∷ xs) h = (
-  cond-true (same_path x.0 x.0) x.1 (beside xs x.0) (same_path-refl x.0),
+  cond-true (same_path x.0 x.0) (Some x.1) (beside xs x.0) (same_path-refl x.0),
   past xs h.0 (beside-own xs h.1),
 )
   where
-    past : (ys : List (Tokens × Tokens)) → AllByRecursion (λ p. same_path x.0 p ≡ false) (map here ys) → AllByRecursion (λ y. beside xs (here y) ≡ there y) ys →
-        AllByRecursion (λ y. beside (x ∷ xs) (here y) ≡ there y) ys
+    past : (ys : List (Tokens × Tokens)) → AllByRecursion (λ p. same_path x.0 p ≡ false) (map here ys) → AllByRecursion (λ y. beside xs (here y) ≡ Some (there y)) ys →
+        AllByRecursion (λ y. beside (x ∷ xs) (here y) ≡ Some (there y)) ys
     past [] fresh all = tt
-    past (y ∷ ys) fresh all = (cond-false (same_path x.0 y.0) x.1 (beside xs y.0) fresh.0 ∙ all.0, past ys fresh.1 all.1)
+    past (y ∷ ys) fresh all = (cond-false (same_path x.0 y.0) (Some x.1) (beside xs y.0) fresh.0 ∙ all.0, past ys fresh.1 all.1)
 
-place-own : (all xs : List (Tokens × Tokens)) → AllByRecursion (λ x. is_root (here x) ≡ false) xs → AllByRecursion (λ x. beside all (here x) ≡ there x) xs →
-    AllByRecursion (λ x. place_by all (here x) ≡ there x) xs
+place-own : (all xs : List (Tokens × Tokens)) → AllByRecursion (λ x. is_root (here x) ≡ false) xs → AllByRecursion (λ x. beside all (here x) ≡ Some (there x)) xs →
+    AllByRecursion (λ x. place_by all (here x) ≡ Some (there x)) xs
 place-own all [] deep own = tt
-place-own all (x ∷ xs) deep own = (cond-false (is_root x.0) [] (beside all x.0) deep.0 ∙ own.0, place-own all xs deep.1 own.1)
+place-own all (x ∷ xs) deep own = (cond-false (is_root x.0) (Some []) (beside all x.0) deep.0 ∙ own.0, place-own all xs deep.1 own.1)
 
 module _ (v : Verdicts) (f : Forest) (sound : IsSound f) (says : SaysBelow v 1 [] f) (left_sound : IsSound (cut root 0 (judge v [] f))) where
   abbrev all_places : List (Tokens × Tokens)
@@ -246,9 +247,9 @@ module _ (v : Verdicts) (f : Forest) (sound : IsSound f) (says : SaysBelow v 1 [
       ∙ ap (zip (map here all_places)) (paths-cut (judge v [] f) root 1 [] [] 0)
       ∙ zip-both all_places
 
-  pub placed : AllByRecursion (λ x. place_by (class_places v (walk 1 [] f)) (here x) ≡ there x) all_places
+  pub placed : AllByRecursion (λ x. place_by (class_places v (walk 1 [] f)) (here x) ≡ Some (there x)) all_places
   placed =
-      subst (λ ps. AllByRecursion (λ x. place_by ps (here x) ≡ there x) all_places) (sym class_places-pass)
+      subst (λ ps. AllByRecursion (λ x. place_by ps (here x) ≡ Some (there x)) all_places) (sym class_places-pass)
       (place-own all_places all_places (places-deep (judge v [] f) root [] [] 0)
       (beside-own all_places (subst (IsDistinct same_path) (paths-kept v f 1 [] [] 0 says)
       (distinct-filter is_class (filter (is_kept v) (walk 1 [] f)) (distinct-filter (is_kept v) (walk 1 [] f)

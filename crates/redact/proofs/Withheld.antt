@@ -1,5 +1,6 @@
 -- What the pass tells as withheld is what the definitions say.
 use Rattle.std.proofs.Common.{◌≡◌, ℕ, suc, Bool, true, false, not, List, [], ◌∷◌, ◌++◌, refl, sym, ◌∙◌, ap, subst, if◌then◌else◌, ◌&&◌}
+use Rattle.std.specs.Prelude.{Option, Some}
 use Rattle.std.specs.List.{AllByRecursion}
 use Rattle.std.proofs.lemmas.Bool.{and_right, or_parts, cond-true, cond-false}
 use Rattle.std.proofs.lemmas.List.Concat.{flat_map-append}
@@ -10,14 +11,14 @@ use Rattle.iodef_tree.specs.Tree.{Leaf, Forest, end, leaf, branch, steps}
 use Rattle.iodef_tree.specs.Walk.{walk, leaf_entry}
 use Rattle.policy.specs.declared.rule.Rule.{Rule}
 use Rattle.redact.specs.Kept.{Verdicts, is_frame, is_wholly_hidden}
-use Rattle.redact.specs.Withheld.{Withheld, withheld_at, withheld_among}
+use Rattle.redact.specs.Withheld.{Withheld, told_at_place, withheld_at, withheld_among}
 use Rattle.redact.specs.Judged.{judge, inside, keeps_plain, home_at, left_before, new_place, left_with, is_end, cut, told, places}
 use Rattle.redact.proofs.Keeping.{plain_kind, deep_path, home-class, is_seen, any_seen, SaysBelow, ends}
 
-module _ (v : Verdicts) (place : Tokens → Tokens) where
+module _ (v : Verdicts) (place : Tokens → Option Tokens) where
   -- a place by the pass is the place by the definitions
   abbrev pub IsRight : Tokens × Tokens → Type 0
-  IsRight x = place x.0 ≡ x.1
+  IsRight x = place x.0 ≡ Some x.1
 
   abbrev tells : List LocatedLine → List Withheld
   tells es = withheld_among v place es
@@ -51,9 +52,9 @@ module _ (v : Verdicts) (place : Tokens → Tokens) where
       (TK : Bool → List Withheld) (behind gone : List Withheld) (PK : Bool → List (Tokens × Tokens)) (PB PG : List (Tokens × Tokens)) →
       hidden ≡ (not visible && not holds) → (visible ≡ false → ended ≡ not holds) →
       AllByRecursion IsRight (if visible then (p', r) ∷ (PK true ++ PB) else (if ended then PG else (p', r) ∷ (PK false ++ PB))) →
-      (place p' ≡ r → AllByRecursion IsRight (PK visible) → hidden ≡ false → K ≡ TK visible) → (visible ≡ false → holds ≡ false → K ≡ []) →
+      (place p' ≡ Some r → AllByRecursion IsRight (PK visible) → hidden ≡ false → K ≡ TK visible) → (visible ≡ false → holds ≡ false → K ≡ []) →
       (AllByRecursion IsRight PB → R ≡ behind) → (AllByRecursion IsRight PG → R ≡ gone) →
-      (if not visible && holds then (place p', rule) ∷ [] else (if hidden && true then (q, rule) ∷ [] else [])) ++ (K ++ R) ≡
+      (if not visible && holds then told_at_place (place p') rule else (if hidden && true then (q, rule) ∷ [] else [])) ++ (K ++ R) ≡
       (if visible then TK true ++ behind else (if ended then (q, rule) ∷ gone else (r, rule) ∷ (TK false ++ behind)))
   choose_told true holds hidden ended p' q r rule K R TK behind gone PK PB PG bare bottom right kids quiet next past =
       ap (λ b. (if b && true then (q, rule) ∷ [] else []) ++ (K ++ R)) bare
@@ -69,7 +70,7 @@ module _ (v : Verdicts) (place : Tokens → Tokens) where
       all_back (x ∷ xs) ys h = all_back xs ys h.1
   choose_told false true hidden ended p' q r rule K R TK behind gone PK PB PG bare bottom right kids quiet next past =
       let all : AllByRecursion IsRight ((p', r) ∷ (PK false ++ PB)) = subst (AllByRecursion IsRight) (cond-false ended PG ((p', r) ∷ (PK false ++ PB)) (bottom refl)) right in
-      ap (λ x. (x, rule) ∷ (K ++ R)) all.0
+      ap (λ x. told_at_place x rule ++ (K ++ R)) all.0
       ∙ ap (λ ts. (r, rule) ∷ ts) (ap (λ k. k ++ R) (kids all.0 (all_front (PK false) PB all.1) bare) ∙ ap (λ ts. TK false ++ ts) (next (all_back (PK false) PB all.1)))
       ∙ sym (cond-false ended ((q, rule) ∷ gone) ((r, rule) ∷ (TK false ++ behind)) (bottom refl))
     where
@@ -87,7 +88,7 @@ module _ (v : Verdicts) (place : Tokens → Tokens) where
       ∙ sym (cond-true ended ((q, rule) ∷ gone) ((r, rule) ∷ (TK false ++ behind)) (bottom refl))
 
   pub withheld-walk : (f : Forest) (d : ℕ) (p q : Tokens) (n : ℕ) → SaysBelow v d p f → AllByRecursion IsRight (places (home_at v p) p q n (judge v p f)) →
-      place p ≡ q → is_wholly_hidden v p ≡ false → tells (walk d p f) ≡ told (home_at v p) q n (judge v p f)
+      place p ≡ Some q → is_wholly_hidden v p ≡ false → tells (walk d p f) ≡ told (home_at v p) q n (judge v p f)
   withheld-walk end d p q n says right here shown = refl
   withheld-walk (leaf i rest) d p q n says right here shown =
       tells-plain d p i (walk d p rest)
@@ -102,10 +103,10 @@ module _ (v : Verdicts) (place : Tokens → Tokens) where
       let rule = v.rule p' in
       let bare : is_wholly_hidden v p' ≡ (not (v.visible p') && not (v.holds_visible p')) =
       ap (λ b. not b && (not (v.visible p') && not (v.holds_visible p'))) (deep_path p name pl) in
-      let W = λ (x : Tokens) (o : Bool). (if is_frame v p' then (place p', rule) ∷ [] else (if is_wholly_hidden v p' && o then (x, rule) ∷ [] else [])) ++ tells (K ++ R) in
+      let W = λ (x : Option Tokens) (o : Bool). (if is_frame v p' then told_at_place (place p') rule else (if is_wholly_hidden v p' && o then told_at_place x rule else [])) ++ tells (K ++ R) in
       ap (λ o. W (place p) (not o)) shown
       ∙ ap (λ x. W x true) here
-      ∙ ap (λ ts. (if is_frame v p' then (place p', rule) ∷ [] else (if is_wholly_hidden v p' && true then (q, rule) ∷ [] else [])) ++ ts) (flat_map-append (withheld_at v place) K R)
+      ∙ ap (λ ts. (if is_frame v p' then told_at_place (place p') rule else (if is_wholly_hidden v p' && true then (q, rule) ∷ [] else [])) ++ ts) (flat_map-append (withheld_at v place) K R)
       ∙ choose_told (v.visible p') (v.holds_visible p') (is_wholly_hidden v p') (is_end (cut (inside false) 0 J)) p' q r rule (tells K) (tells R)
       (λ b. told (inside b) r 0 J) (told h q (left_with n pl) (judge v p rest)) (told h q (left_before n pl) (judge v p rest))
       (λ b. places (inside b) p' r 0 J) (places h p q (left_with n pl) (judge v p rest)) (places h p q (left_before n pl) (judge v p rest))

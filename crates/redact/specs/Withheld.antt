@@ -1,5 +1,5 @@
 -- What is withheld: at which place of the excerpt, and by which rule.
-use Rattle.std.specs.Prelude.{Bool, ◌&&◌, not, List, [], ◌∷◌, filter, map, if◌then◌else◌, Contains}
+use Rattle.std.specs.Prelude.{Bool, ◌&&◌, not, List, [], ◌∷◌, Option, Some, None, filter, map, if◌then◌else◌, Contains}
 use Rattle.std.specs.List.{flat_map, list_any, zip}
 use Rattle.std.specs.List.Sorted.{IsStrictlySortedBy}
 use Rattle.std.specs.declared.cmp.Ordering.{Ordering}
@@ -17,10 +17,10 @@ use Rattle.redact.specs.Kept.{Verdicts, is_frame, is_wholly_hidden, is_kept, kep
 abbrev pub Withheld : Type 0
 Withheld = Tokens × Rule
 
--- what stands beside a path in a list of pairs
-abbrev pub beside : List (Tokens × Tokens) → Tokens → Tokens
-beside [] p = []
-beside (x ∷ xs) p = if same_path x.0 p then x.1 else beside xs p
+-- what stands beside a path in a list of pairs: nothing where no pair has it
+abbrev pub beside : List (Tokens × Tokens) → Tokens → Option Tokens
+beside [] p = None
+beside (x ∷ xs) p = if same_path x.0 p then Some x.1 else beside xs p
 
 module _ (v : Verdicts) where
   -- The paths of the kept classes, each beside the path of its line in the kept outline: that has a line for each of them,
@@ -28,17 +28,22 @@ module _ (v : Verdicts) where
   abbrev pub class_places : List LocatedLine → List (Tokens × Tokens)
   class_places es = zip (class_paths (filter (is_kept v) es)) (classes_of (kept v es))
 
--- the place of a kept class in the excerpt; the root's is the root's path
-abbrev pub place_by : List (Tokens × Tokens) → Tokens → Tokens
-place_by ps p = if is_root p then [] else beside ps p
+-- the place of a kept class in the excerpt; the root's is the root's path, and what is not kept has none
+abbrev pub place_by : List (Tokens × Tokens) → Tokens → Option Tokens
+place_by ps p = if is_root p then Some [] else beside ps p
 
-module _ (v : Verdicts) (place : Tokens → Tokens) where
+-- a rule told at a place: nothing is told where there is no place
+abbrev pub told_at_place : Option Tokens → Rule → List Withheld
+told_at_place None rule = []
+told_at_place (Some q) rule = (q, rule) ∷ []
+
+module _ (v : Verdicts) (place : Tokens → Option Tokens) where
   -- a frame is told at its place, and a wholly hidden class at that of its parent, unless that is wholly hidden too
   abbrev pub withheld_at : LocatedLine → List Withheld
   withheld_at e =
       if not (is_class e) then []
-      else if is_frame v e.path then (place e.path, v.rule e.path) ∷ []
-      else if is_wholly_hidden v e.path && not (is_wholly_hidden v e.parent) then (place e.parent, v.rule e.path) ∷ []
+      else if is_frame v e.path then told_at_place (place e.path) (v.rule e.path)
+      else if is_wholly_hidden v e.path && not (is_wholly_hidden v e.parent) then told_at_place (place e.parent) (v.rule e.path)
       else []
 
   -- of each class, in stored order, and with repeats
