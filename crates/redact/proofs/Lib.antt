@@ -20,3 +20,4 @@ pub mod Searched
 pub mod Searching
 pub mod Texts
 pub mod Stepping
+pub mod Promised

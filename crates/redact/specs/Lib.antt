@@ -9,3 +9,4 @@ pub mod Filled
 pub mod Excerpts
 pub mod Search
 pub mod Ties
+pub mod Laws

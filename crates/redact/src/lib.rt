@@ -4,6 +4,7 @@
 mod attributes;
 mod given;
 mod kept;
+pub mod laws;
 mod listed;
 mod note;
 mod pass;

@@ -1,0 +1,76 @@
+-- The laws of excerpts and searches.
+use Rattle.std.proofs.Common.{◌≡◌, ◌==◌, ℕ, suc, ◌+◌, Bool, true, false, not, ◌&&◌, ◌||◌, List, [], ◌∷◌, map, cond, if◌then◌else◌, refl, sym, ◌∙◌, ap, arith}
+use Rattle.std.specs.Prelude.{Option, filter, count_by}
+use Rattle.std.specs.List.{list_any}
+use Rattle.std.proofs.lemmas.Bool.{false_from_ne_true, eqb-true}
+use Rattle.iodef_tree.specs.Text.{Bytes}
+use Rattle.iodef_tree.specs.Paths.{LocatedLine, is_class, is_class_kind, located}
+use Rattle.iodef_tree.specs.declared.line.Line.{Line}
+use Rattle.policy.specs.declared.standing.Standing.{Standing}
+use Rattle.policy.specs.declared.case.Case.{Case}
+use Rattle.redact.proofs.Counts.{count_by-cons}
+use Rattle.redact.specs.Kept.{Attribute, Verdicts, comes_after, put, put_all, attribute_line, attribute_lines, is_kept, says_label, added, labelled, kept}
+use Rattle.redact.specs.Told.{is_seen_class, is_named, holds_needle, visible_count, is_listed, finds}
+
+-- ---- listed, served, found
+
+any-count : {X : Type 0} (P : X → Bool) (xs : List X) → list_any P xs ≡ not (count_by P xs == 0)
+any-count P [] = refl
+any-count P (x ∷ xs) = by_test (P x) (any-count P xs) ∙ ap (λ n. not (n == 0)) (sym (count_by-cons P x xs))
+  where
+    by_test : (b : Bool) → list_any P xs ≡ not (count_by P xs == 0) → (b || list_any P xs) ≡ not ((cond b 1 0 + count_by P xs) == 0)
+    by_test true h = sym (ap not (false_from_ne_true ((1 + count_by P xs) == 0) (λ e. let k = eqb-true (1 + count_by P xs) 0 e in omega (arith, k))))
+    by_test false h = h ∙ ap (λ n. not (n == 0)) (let e : count_by P xs ≡ 0 + count_by P xs = omega arith in e)
+
+any-less : {X : Type 0} (P Q : X → Bool) (xs : List X) → list_any (λ x. P x && Q x) xs ≡ true → list_any P xs ≡ true
+any-less P Q [] h = h
+any-less P Q (x ∷ xs) h = by_tests (P x) (Q x) h (any-less P Q xs)
+  where
+    by_tests : (p q : Bool) → ((p && q) || list_any (λ y. P y && Q y) xs) ≡ true → (list_any (λ y. P y && Q y) xs ≡ true → list_any P xs ≡ true) → (p || list_any P xs) ≡ true
+    by_tests true q h later = refl
+    by_tests false q h later = later h
+
+pub listed-served : (ls : List Line) (c : Case) (s : Standing) → is_listed ls c s ≡ not (visible_count ls c s == 0)
+listed-served ls c s = any-count (is_seen_class ls c s) (located ls)
+
+pub found-listed : (ls : List Line) (c : Case) (s : Standing) (needle : Bytes) (name : Option Bytes) → finds ls c s needle name ≡ true → is_listed ls c s ≡ true
+found-listed ls c s needle name h =
+    any-less (is_seen_class ls c s) (λ e. is_named name e.line.name && holds_needle (located ls) needle e.path) (located ls) h
+
+-- ---- class lines
+
+abbrev class_lines : List Line → List Line
+class_lines ls = filter (λ l. is_class_kind l.kind) ls
+
+put-plain : (x : Line) (ls : List Line) → is_class_kind x.kind ≡ false → class_lines (put x ls) ≡ class_lines ls
+put-plain x [] plain = ap (λ b. if b then x ∷ [] else []) plain
+put-plain x (l ∷ ls) plain = by_place (comes_after x l) (put-plain x ls plain)
+  where
+    by_place : (b : Bool) → class_lines (put x ls) ≡ class_lines ls → class_lines (if b then x ∷ l ∷ ls else l ∷ put x ls) ≡ class_lines (l ∷ ls)
+    by_place true h = ap (λ k. if k then x ∷ class_lines (l ∷ ls) else class_lines (l ∷ ls)) plain
+    by_place false h = ap (λ ys. if is_class_kind l.kind then l ∷ ys else ys) h
+
+attributes-plain : (d : ℕ) (xs : List Attribute) (ls : List Line) → class_lines (put_all (attribute_lines d xs) ls) ≡ class_lines ls
+attributes-plain d [] ls = refl
+attributes-plain d (x ∷ xs) ls = put-plain (attribute_line d x) (put_all (attribute_lines d xs) ls) refl ∙ attributes-plain d xs ls
+
+module _ (v : Verdicts) where
+  added-plain : (e : LocatedLine) (ls : List Line) → class_lines (put_all (added v e) ls) ≡ class_lines ls
+  added-plain e ls = by_saying (says_label v e)
+    where
+      by_saying : (b : Bool) → class_lines (put_all (if b then attribute_lines (suc e.line.depth) (v.label e.path) else []) ls) ≡ class_lines ls
+      by_saying true = attributes-plain (suc e.line.depth) (v.label e.path) ls
+      by_saying false = refl
+
+  labelled-classes : (es : List LocatedLine) → class_lines (labelled v es) ≡ map (λ e. e.line) (filter is_class es)
+  labelled-classes [] = refl
+  labelled-classes (e ∷ es) = by_kind (is_class e) (added-plain e (labelled v es) ∙ labelled-classes es)
+    where
+      by_kind : (b : Bool) → class_lines (put_all (added v e) (labelled v es)) ≡ map (λ e. e.line) (filter is_class es) →
+          (if b then e.line ∷ class_lines (put_all (added v e) (labelled v es)) else class_lines (put_all (added v e) (labelled v es)))
+          ≡ map (λ e. e.line) (if b then e ∷ filter is_class es else filter is_class es)
+      by_kind true h = ap (λ ls. e.line ∷ ls) h
+      by_kind false h = h
+
+pub classes-stay : (v : Verdicts) (es : List LocatedLine) → class_lines (kept v es) ≡ map (λ e. e.line) (filter is_class (filter (is_kept v) es))
+classes-stay v es = labelled-classes v (filter (is_kept v) es)
