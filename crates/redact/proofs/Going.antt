@@ -4,16 +4,16 @@ use Rattle.std.specs.Prelude.{Option, Some, None, is_some, option_map}
 use Rattle.std.specs.List.{cons_option, list_any}
 use Rattle.std.proofs.lemmas.List.Folds.{list_any-append}
 use Rattle.std.proofs.lemmas.List.{map-append}
-use Rattle.policy.specs.Inherited.{carried, Inherited, enter_array}
+use Rattle.policy.specs.Inherited.{carried, Inherited}
 use Rattle.iodef_tree.specs.Text.{Bytes, Tokens}
-use Rattle.iodef_tree.specs.Tree.{Body, Bodies, one, many}
+use Rattle.iodef_tree.specs.Tree.{Body, Bodies}
 use Rattle.policy.specs.declared.rule.Rule.{Rule}
 use Rattle.policy.specs.declared.standing.Standing.{Standing}
 use Rattle.policy.specs.declared.case.Case.{Case}
 use Rattle.redact.specs.Withheld.{Withheld, same_withheld, is_among, at_rule, at_place}
 use Rattle.redact.specs.Judged.{Home}
 use Rattle.redact.specs.Tokens.{token_of, path_of}
-use Rattle.redact.specs.Left.{left_at, told_at, count_at, left_items, told_items, count_items, left_member, left_members, many_or_none, told_member, count_member, told_members, count_members, tells, Goes}
+use Rattle.redact.specs.Left.{left_at, told_at, count_at, left_items, told_items, count_items, left_member, left_members, told_member, count_member, told_members, count_members, tells, Goes}
 use Rattle.redact.specs.declared.trail.Token.{Token}
 use Rattle.policy.specs.declared.inherited.Carried.{Carried}
 use Rattle.redact.specs.declared.pass.State.{State}
