@@ -117,3 +117,17 @@ pub member-elements : (m : Member) → IsMemberFilled m → has_elements (bodies
 member-elements m h =
     ap has_elements (fold_out-Member Body Bodies Forest item_step member_step object_step m)
     ∙ elements-seen (out-Member m) (sym (fold_out-Member Bool Bool Bool item_filled member_filled object_filled m) ∙ h)
+
+-- ---- what stands in what is filled
+
+pub class-kept : (x : Item) (o : Object) → IsItemFilled x → x ≡ Class o → IsFilled o
+class-kept x o h is = sym (filled-Class o) ∙ ap is_item_filled (sym is) ∙ h
+
+pub one-kept : (m : Member) (x : Item) → IsMemberFilled m → m ≡ One x → IsItemFilled x
+one-kept m x h is = sym (filled-One x) ∙ ap is_member_filled (sym is) ∙ h
+
+pub elements-kept : (m : Member) (v : Vec Item Global) → IsMemberFilled m → m ≡ Many v → AllByRecursion IsItemFilled v.items
+elements-kept m v h is = (many-kept v (subst IsMemberFilled is h)).1
+
+pub element-at : (m : Member) (v : Vec Item Global) (xs : List Item) (i : ℕ) (x : Item) → IsMemberFilled m → m ≡ Many v → xs ≡ v.items → i < length xs → x ≡ get_or xs i x → IsItemFilled x
+element-at m v xs i x h is same low at = item-at xs i x (subst (AllByRecursion IsItemFilled) (sym same) (elements-kept m v h is)) low at

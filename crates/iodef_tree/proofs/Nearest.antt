@@ -4,20 +4,20 @@ use Rattle.std.specs.Prelude.{Option, Some, None, is_some}
 use Rattle.std.specs.Option.{option_map_or}
 use Rattle.std.specs.List.{AllByRecursion}
 use Rattle.std.specs.Str.{bytes_eq}
-use Rattle.std.proofs.lemmas.Bool.{and_parts, and_left, and_right, cond-true, cond-false}
+use Rattle.std.proofs.lemmas.Bool.{and_parts, and_right, cond-true, cond-false}
 use Rattle.std.proofs.lemmas.List.Folds.{list_any-append}
 use Rattle.iodef_tree.specs.Text.{Bytes, Tokens, same_path, is_root, is_prefix, is_under}
 use Rattle.iodef_tree.specs.Tree.{Forest, end, leaf, branch, steps, lines}
 use Rattle.iodef_tree.specs.Paths.{LocatedLine, is_class, located, has_class, below}
 use Rattle.iodef_tree.specs.Lookup.{past, class_at}
 use Rattle.iodef_tree.specs.Sound.{IsSound}
-use Rattle.iodef_tree.specs.Walk.{walk, AreBlocks, class_entry, leaf_entry}
+use Rattle.iodef_tree.specs.Walk.{walk, AreBlocks, leaf_entry}
 use Rattle.iodef_tree.specs.Laws.{AllSiblings, AreApart, HasApart, IsNearestClass}
 use Rattle.iodef_tree.proofs.Apart.{sound-apart}
 use Rattle.iodef_tree.proofs.Blocks.{blocks, all-below}
 use Rattle.iodef_tree.proofs.ByPath.{has_class-walk}
 use Rattle.iodef_tree.proofs.Located.{located-lines}
-use Rattle.iodef_tree.proofs.Order.{is_false, bytes_eq-true, bytes_eq-refl, same_path-refl, same_path-true, is_under-steps}
+use Rattle.iodef_tree.proofs.Order.{is_false, bytes_eq-true, same_path-refl, same_path-true, is_under-steps}
 use Rattle.iodef_tree.proofs.Siblings.{all-append, siblings-map}
 
 -- ---- what stands above a line's path

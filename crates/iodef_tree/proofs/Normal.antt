@@ -1,6 +1,6 @@
 -- What is read of a text has its names in order and its numbers in range, and its own text is read as the same.
-use Rattle.std.proofs.Common.{◌≡◌, ℕ, zero, suc, ◌+◌, ◌^◌, ◌<◌, ◌≤◌, ℤ, List, [], ◌∷◌, ◌++◌, Bool, true, false, cond, ◌&&◌, ◌||◌, nat_lt, nat_le, drop, refl, sym, ◌∙◌, ap, subst, arith, append-nil, Ordering, Less, Equal, Greater, Ok}
-use Rattle.std.specs.Prelude.{Option, Some, None, option_map, option_and_then, pos, negsuc, decimal}
+use Rattle.std.proofs.Common.{◌≡◌, ℕ, zero, suc, ◌^◌, ◌<◌, ◌≤◌, List, [], Bool, true, false, cond, ◌&&◌, ◌||◌, nat_lt, nat_le, drop, refl, sym, ◌∙◌, ap, subst, arith, append-nil, Ordering, Less, Equal, Greater}
+use Rattle.std.specs.Prelude.{Option, Some, None, option_map, option_and_then, negsuc}
 use Rattle.std.specs.Fmt.{signed_decimal}
 use Rattle.std.specs.Ordering.{nat_cmp, match_ordering, is_lt, ordering_reverse}
 use Rattle.std.specs.Cmp.Lexicographic.{slice_cmp}
@@ -9,7 +9,7 @@ use Rattle.std.proofs.lemmas.Cmp.{nat_list_cmp_total}
 use Rattle.fast_float.specs.Text.{Parts, scan, digits_of, with_sign}
 use Rattle.json.specs.Token.{Token}
 use Rattle.json.specs.Lex.{tokens}
-use Rattle.json.specs.Print.{print, IsNumber}
+use Rattle.json.specs.Print.{IsNumber}
 use Rattle.json.specs.Json as tree
 use Rattle.json.specs.Tree as sized
 use Rattle.json.specs.Tree.{json_tokens, HasNumbers, ItemsHaveNumbers, MembersHaveNumbers}

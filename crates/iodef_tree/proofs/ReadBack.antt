@@ -1,5 +1,5 @@
 -- The text of a document that was read is read as that one document.
-use Rattle.std.proofs.Common.{◌≡◌, ℕ, zero, suc, ◌+◌, ◌<◌, ◌≤◌, max, List, [], ◌∷◌, ◌++◌, Bool, true, false, cond, ◌&&◌, ◌||◌, map, nat_lt, nat_le, length, refl, sym, ◌∙◌, ap, subst, arith, Ordering, Less, Equal, Greater}
+use Rattle.std.proofs.Common.{◌≡◌, ℕ, suc, ◌≤◌, List, [], ◌∷◌, ◌++◌, Bool, true, false, cond, ◌&&◌, ◌||◌, map, nat_lt, nat_le, length, refl, sym, ◌∙◌, ap, subst, arith, Ordering, Less, Equal, Greater}
 use Rattle.std.specs.Prelude.{Option, Some, None, Result, Ok, Err, is_some, option_and_then, unwrap_or, codes, decimal}
 use Rattle.std.specs.List.{AllByRecursion}
 use Rattle.std.specs.Ordering.{nat_cmp, match_ordering}
@@ -21,13 +21,12 @@ use Rattle.iodef_tree.specs.Reading.{◌>>=◌, or_fault, unless, parsed, all_ob
 use Rattle.iodef_tree.specs.Sound.{IsOrdered}
 use Rattle.iodef_tree.specs.Text.{Bytes}
 use Rattle.iodef_tree.specs.Tree.{Forest, Body, Bodies, one, many, member_front, lines}
-use Rattle.iodef_tree.specs.Values.{Surrounded, Node, node, beneath, nodes, item_nodes, member_nodes, first_at, is_not_whole, is_nested_class, is_too_deep, one_or_many, forest_of_data, body_of_data, elements_of_data, items_of_data, bodies_of_data}
+use Rattle.iodef_tree.specs.Values.{Node, node, beneath, nodes, item_nodes, member_nodes, first_at, is_not_whole, is_nested_class, is_too_deep, one_or_many, forest_of_data, body_of_data, elements_of_data, items_of_data, bodies_of_data}
 use Rattle.iodef_tree.specs.View.{forest_of_members}
 use Rattle.iodef_tree.specs.Written.{members_of, items_of, body_data, bodies_data}
 use Rattle.iodef_tree.specs.declared.line.Line.{Line}
 use Rattle.iodef_tree.specs.declared.fault.ReadFault.{ReadFault}
 use Rattle.iodef_tree.specs.declared.fault.ReadFault.TheVariants.{NotJson, NotDocument, Missing, TooManyLines}
-use Rattle.iodef_tree.specs.declared.fault.Required.{Required}
 use Rattle.iodef_tree.specs.declared.TheConstants.{LINE_LIMIT, INCIDENT_LIMIT}
 use Rattle.iodef_tree.proofs.Bodies.{found_array, fit_object}
 use Rattle.iodef_tree.proofs.Data.{AreAfter, Ascend, front-items, member-data}

@@ -4,20 +4,17 @@ use Rattle.std.specs.Prelude.{Option, Some, None, option_map}
 use Rattle.std.specs.Option.{option_or}
 use Rattle.std.specs.List.{flat_map}
 use Rattle.std.specs.Str.{bytes_eq}
+use Rattle.std.proofs.lemmas.Bool.{true≢false}
 use Rattle.std.proofs.lemmas.List.Concat.{flat_map-append}
+use Rattle.iodef_tree.specs.Filled.{has_some}
+use Rattle.iodef_tree.proofs.Filled.{has_elements}
 use Rattle.iodef_tree.specs.Text.{Bytes, Tokens}
 use Rattle.iodef_tree.specs.Tree.{Forest, end, Body, holds, says, Bodies, one, many, text, value, in_front, elements, member_front, steps}
-use Rattle.marking.specs.Marks.{Held, absent, plain, other, Marked}
+use Rattle.marking.specs.Marks.{other, Marked}
 use Rattle.marking.specs.Members.{held_by_bodies, held_in}
 use Rattle.marking.specs.Pass.{bad_below, bad_in_body, enter, marked_below}
 
 -- ---- what is held under a name
-
--- what a member holds, unless it holds nothing
-abbrev pub or_behind : Held → Held → Held
-or_behind absent h = h
-or_behind (plain s) h = plain s
-or_behind other h = other
 
 plain_front : (n name : Bytes) (b : Body) (rest : Forest) → held_in name (in_front n None b rest) ≡ cond (bytes_eq n name) (held_by_bodies (one b)) (held_in name rest)
 plain_front n name (holds kids) rest = refl
@@ -40,17 +37,16 @@ pub held-skip : (n name : Bytes) (m : Bodies) (rest : Forest) → bytes_eq n nam
 held-skip n name (one b) rest h = plain_front n name b rest ∙ ap (λ t. cond t (held_by_bodies (one b)) (held_in name rest)) h
 held-skip n name (many bs) rest h = elements-skip n name 0 bs rest h
 
-one-or_behind : (b : Body) (h : Held) → held_by_bodies (one b) ≡ or_behind (held_by_bodies (one b)) h
-one-or_behind (holds kids) h = refl
-one-or_behind (says (text s)) h = refl
-one-or_behind (says (value s)) h = refl
-
-pub held-here : (n name : Bytes) (m : Bodies) (rest : Forest) → bytes_eq n name ≡ true → held_in name (member_front n m rest) ≡ or_behind (held_by_bodies m) (held_in name rest)
-held-here n name (one b) rest h =
-    plain_front n name b rest ∙ ap (λ t. cond t (held_by_bodies (one b)) (held_in name rest)) h ∙ one-or_behind b (held_in name rest)
-held-here n name (many []) rest h = refl
-held-here n name (many (b ∷ bs)) rest h =
+pub held-here : (n name : Bytes) (m : Bodies) (rest : Forest) → has_elements m ≡ true → bytes_eq n name ≡ true → held_in name (member_front n m rest) ≡ held_by_bodies m
+held-here n name (one b) rest some h = plain_front n name b rest ∙ ap (λ t. cond t (held_by_bodies (one b)) (held_in name rest)) h
+held-here n name (many []) rest some h = absurd (true≢false (sym some))
+held-here n name (many (b ∷ bs)) rest some h =
     element_front n name 0 b (elements n 1 bs rest) ∙ ap (λ t. cond t other (held_in name (elements n 1 bs rest))) h
+
+-- an array that has elements is no text
+pub array-other : (bs : List Body) → has_some bs ≡ true → held_by_bodies (many bs) ≡ other
+array-other [] some = absurd (true≢false (sym some))
+array-other (b ∷ bs) some = refl
 
 -- ---- the first that breaks the marking rule
 
@@ -115,8 +111,6 @@ pub written-member : (line : Marked → Bytes) (a : Marked) (n : Bytes) (m : Bod
     flat_map line (marked_below a (member_front n m rest)) ≡ flat_map line (marked_below a (member_front n m end)) ++ flat_map line (marked_below a rest)
 written-member line a n m rest =
     ap (flat_map line) (marked-member a n m rest) ∙ flat_map-append line (marked_below a (member_front n m end)) (marked_below a rest)
-
-pub ruleset held_steps = (held-skip, held-here)
 
 pub ruleset bad_steps = (bad-one, bad-member)
 

@@ -1,6 +1,7 @@
 //! What the members of one class spell.
 
 ghost use Rattle.std.specs.Prelude.{◌≡◌, option_map};
+ghost use Rattle.iodef_tree.specs.Filled.{IsFilled, IsMemberFilled};
 ghost use Rattle.iodef_tree.specs.View.{forest, bodies};
 ghost use Rattle.marking.specs.Label.{marking_of};
 ghost use Rattle.marking.specs.Members.{held_of, held_by_bodies, held_in, spelled_in, is_rule_kept_in};
@@ -18,33 +19,25 @@ pub(crate) enum Found<'a> {
 }
 
 fn held_by(member: &Member) -> Found<'_>
+    requires { IsMemberFilled member.now }
     ensures { held_of result ≡ held_by_bodies (bodies member.now) }
 {
     match member {
         Member::One(Item::Text(text)) => Found::Text(text.as_str()),
         Member::One(Item::Class(_)) => Found::Other,
         Member::One(Item::Value(_)) => Found::Other,
-        Member::Many(items) => {
-            if items.as_slice().is_empty() {
-                Found::Absent
-            } else {
-                Found::Other
-            }
-        }
+        Member::Many(_) => Found::Other,
     }
 }
 
-#[tactic(auto, using(crate::proofs::Fronts::held_steps))]
+/// What the first member of this name holds.
 fn held<'a>(object: &'a Object, name: &str) -> Found<'a>
+    requires { IsFilled object.now }
     ensures { held_of result ≡ held_in name.now (forest object.now) }
 {
     for (key, member) in &object.members {
         if key.as_str() == name {
-            match held_by(member) {
-                Found::Absent => {}
-                Found::Text(text) => return Found::Text(text),
-                Found::Other => return Found::Other,
-            }
+            return held_by(member);
         }
     }
     Found::Absent
@@ -52,6 +45,7 @@ fn held<'a>(object: &'a Object, name: &str) -> Found<'a>
 
 /// The label that the members spell, if they do.
 pub fn written(object: &Object) -> Option<Label<'_>>
+    requires { IsFilled object.now }
     ensures { option_map marking_of result ≡ spelled_in (forest object.now) }
 {
     let Found::Text(restriction) = held(object, "restriction") else {
@@ -66,6 +60,7 @@ pub fn written(object: &Object) -> Option<Label<'_>>
 
 /// Whether the members keep the marking rule.
 pub(crate) fn is_well_marked(object: &Object) -> bool
+    requires { IsFilled object.now }
     ensures { result ≡ is_rule_kept_in (forest object.now) }
 {
     match held(object, "restriction") {

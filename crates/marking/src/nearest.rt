@@ -2,6 +2,7 @@
 
 ghost use Rattle.std.specs.Prelude.{◌≡◌, ◌-◌, ◌∷◌, [], false, None, Some, option_map, take, length};
 ghost use Rattle.iodef_tree.specs.Text.{same_path, is_root};
+ghost use Rattle.iodef_tree.specs.Filled.{IsFilled};
 ghost use Rattle.iodef_tree.specs.Paths.{located};
 ghost use Rattle.iodef_tree.specs.View.{forest};
 ghost use Rattle.marking.specs.Label.{marking_of};
@@ -74,6 +75,7 @@ fn without_last(path: Path) -> Path
 }
 
 fn own_of<'a>(tokens: &[Text], object: &'a Object) -> Option<Label<'a>>
+    requires { IsFilled object.now }
     ensures { option_map marking_of result ≡ own_in tokens.now (forest object.now) }
 {
     if tokens.is_empty() {

@@ -3,6 +3,7 @@
 ghost use Rattle.std.specs.Prelude.{◌≡◌, ◌++◌, map, Some, None, option_map, IfOk, OnOk, string_bytes};
 ghost use Rattle.std.specs.List.{flat_map};
 ghost use Rattle.iodef_tree.specs.Text.{Bytes};
+ghost use Rattle.iodef_tree.specs.Filled.{IsFilled, IsMemberFilled, IsItemFilled};
 ghost use Rattle.iodef_tree.specs.Tree.{end, in_front, member_front, steps};
 ghost use Rattle.iodef_tree.specs.View.{forest, bodies, body};
 ghost use Rattle.iodef_tree.specs.Paths.{located, class_paths};
@@ -69,6 +70,7 @@ fn write_members<W: MarkWriter>(
     above: Mark<'_>,
     object: &Object,
 ) -> Result<(), AllocError>
+    requires filled { IsFilled object.now }
     ensures { OnOk result (W.text writer.new
         ≡ W.text writer.old ++ flat_map W.line (marked_below (marked_by above.entry) (forest object.now))) }
 {
@@ -87,6 +89,7 @@ fn write_member<W: MarkWriter>(
     name: &str,
     member: &Member,
 ) -> Result<(), AllocError>
+    requires filled { IsMemberFilled member.now }
     ensures { OnOk result (W.text writer.new
         ≡ W.text writer.old ++ flat_map W.line (marked_below (marked_by above.entry) (member_front name.now (bodies member.now) end))) }
 {
@@ -111,6 +114,7 @@ fn write_item<W: MarkWriter>(
     index: Option<usize>,
     item: &Item,
 ) -> Result<(), AllocError>
+    requires filled { IsItemFilled item.now }
     ensures { OnOk result (W.text writer.new
         ≡ W.text writer.old ++ flat_map W.line (marked_below (marked_by above.entry) (in_front name.now index (body item.now) end))) }
 {
@@ -148,6 +152,7 @@ fn path_below(
 
 /// The own label of a class: what is written in it, or the Incident's default.
 fn own_below<'a>(path: &str, object: &'a Object) -> Option<Label<'a>>
+    requires { IsFilled object.now }
     ensures { option_map marking_of result ≡ own_label_below path.now (forest object.now) }
 {
     match written(object) {

@@ -1,6 +1,7 @@
 //! The marking rule over a whole document.
 
 ghost use Rattle.std.specs.Prelude.{◌≡◌, ◌∷◌, ◌++◌, Option, Some, None, option_map, IfOk, unwrap_or};
+ghost use Rattle.iodef_tree.specs.Filled.{IsFilled, IsMemberFilled, IsItemFilled};
 ghost use Rattle.iodef_tree.specs.Tree.{end, in_front, member_front};
 ghost use Rattle.iodef_tree.specs.View.{forest, bodies, body};
 ghost use Rattle.iodef_tree.specs.Paths.{located};
@@ -32,6 +33,7 @@ pub fn check(alloc: Global, document: &Document) -> Result<(), MarkingFault>
 #[cycle(check)]
 #[tactic(auto, using(crate::proofs::Fronts::bad_steps))]
 fn bad_below(alloc: Global, object: &Object) -> Result<Option<Vec<Text>>, AllocError>
+    requires filled { IsFilled object.now }
     ensures { IfOk result (λ o. option_map tokens_of o ≡ bad_below (forest object.now)) }
 {
     for (name, member) in &object.members {
@@ -49,6 +51,7 @@ fn bad_in_member(
     name: &Text,
     member: &Member,
 ) -> Result<Option<Vec<Text>>, AllocError>
+    requires filled { IsMemberFilled member.now }
     ensures { IfOk result (λ o. option_map tokens_of o ≡ bad_below (member_front name.now (bodies member.now) end)) }
 {
     match member {
@@ -75,6 +78,7 @@ fn bad_in_member(
 #[cycle(check)]
 #[tactic(auto, using(crate::proofs::Fronts::bad_steps))]
 fn bad_in_item(alloc: Global, item: &Item) -> Result<Option<Vec<Text>>, AllocError>
+    requires filled { IsItemFilled item.now }
     ensures { IfOk result (λ o. option_map tokens_of o ≡ bad_in_body (body item.now)) }
 {
     match item {

@@ -7,6 +7,7 @@ ghost use Rattle.marking.specs.Members.{spelled_in};
 ghost use Rattle.redact.specs.Judged.{inside, is_end, with_label, keeps_plain as keeps, shows_label, cut as what_is_left, told, visible_classes};
 ghost use Rattle.redact.specs.Pass.{pass, judgment_by};
 ghost use Rattle.iodef_tree.specs.Text.{Tokens};
+ghost use Rattle.iodef_tree.specs.Tree.{many};
 ghost use Rattle.policy.specs.Ahead.{ahead_of, met_by};
 ghost use Rattle.policy.specs.Inherited.{carried, hides};
 ghost use Rattle.std.specs.List.{AllByRecursion};
@@ -63,6 +64,7 @@ fn shows(home: Home) -> bool
 
 /// Whether a visible class has to say its label itself.
 fn needs_label(home: Home, object: &Object) -> bool
+    requires { IsFilled object.now }
     ensures { result ≡ (is_none (spelled_in (forest object.now)) && not (shows_label (home_of home))) }
 {
     written(object).is_none() && !shows(home)
@@ -90,6 +92,7 @@ impl<'a> Reader<'a> {
         above: Carried<'a>,
         object: &'a Object,
     ) -> Result<Object, AllocError>
+        requires filled { IsFilled object.now }
         requires ahead { met_by ahead.now ≡ ahead_of self.now.case.now self.now.standing.now (path_of state.old.path.items) }
         ensures left { IfOk result (λ o. forest o ≡ what_is_left (home_of home) 0
             (pass self.now.case.now self.now.standing.now (carried (path_of state.old.path.items) above.entry) (forest object.now))) }
@@ -118,6 +121,7 @@ impl<'a> Reader<'a> {
         name: &'a str,
         member: &'a Member,
     ) -> Result<Option<Member>, AllocError>
+        requires filled { IsMemberFilled member.now }
         requires ahead { met_by ahead.now ≡ ahead_of self.now.case.now self.now.standing.now (path_of state.old.path.items) }
         ensures left { IfOk result (λ r. option_map bodies r ≡ left_member self.now.case.now self.now.standing.now (home_of home)
             (carried (path_of state.old.path.items) above.entry) name.now (bodies member.now)) }
@@ -127,34 +131,59 @@ impl<'a> Reader<'a> {
             (count_member self.now.case.now self.now.standing.now (carried (path_of state.old.path.items) above.entry) name.now (bodies member.now)) 0) }
         ensures quiet { IfOk result (λ r. r ≡ None → state.new.withheld.items ≡ state.old.withheld.items) }
     {
-        let base = state.place.len();
         match member {
-            Member::One(item) => match self.cut_item(
-                state,
-                home,
-                ahead,
-                above,
-                base,
-                Token::Name(name),
-                Token::Name(name),
-                item,
-            )? {
-                Some(kept) => Ok(Some(Member::One(kept))),
-                None => Ok(None),
-            },
-            Member::Many(items) => {
-                let inside = self.step(state.alloc, &mut state.path, ahead, Token::Name(name))?;
-                state.place.push(Token::Name(name))?;
-                let array = self.at_array(state.path.as_slice(), &inside, above);
-                let kept = self.cut_items(state, home, &inside, array, base, items)?;
-                state.path.pop();
-                state.place.pop();
-                if kept.is_empty() {
-                    Ok(None)
-                } else {
-                    Ok(Some(Member::Many(kept)))
+            Member::One(item) => {
+                let base = state.place.len();
+                match self.cut_item(
+                    state,
+                    home,
+                    ahead,
+                    above,
+                    base,
+                    Token::Name(name),
+                    Token::Name(name),
+                    item,
+                )? {
+                    Some(kept) => Ok(Some(Member::One(kept))),
+                    None => Ok(None),
                 }
             }
+            Member::Many(items) => self.cut_array(state, home, ahead, above, name, items),
+        }
+    }
+
+    /// What is left of an array, if any of its elements is.
+    #[cycle(cut)]
+    fn cut_array(
+        &self,
+        state: &mut State<'a>,
+        home: Home,
+        ahead: &Ahead<'a>,
+        above: Carried<'a>,
+        name: &'a str,
+        items: &'a Vec<Item>,
+    ) -> Result<Option<Member>, AllocError>
+        requires filled { AllByRecursion IsItemFilled items.now.items }
+        requires ahead { met_by ahead.now ≡ ahead_of self.now.case.now self.now.standing.now (path_of state.old.path.items) }
+        ensures left { IfOk result (λ r. option_map bodies r ≡ left_member self.now.case.now self.now.standing.now (home_of home)
+            (carried (path_of state.old.path.items) above.entry) name.now (many (map body items.now.items))) }
+        ensures filled { IfOk result (λ r. IfSome r (λ m. IsMemberFilled m)) }
+        ensures goes { IfOk result (λ r. Goes (path_of state.old.place.items) state.old state.new
+            (told_member self.now.case.now self.now.standing.now (home_of home) (carried (path_of state.old.path.items) above.entry) (path_of state.old.place.items) name.now (many (map body items.now.items))) []
+            (count_member self.now.case.now self.now.standing.now (carried (path_of state.old.path.items) above.entry) name.now (many (map body items.now.items))) 0) }
+        ensures quiet { IfOk result (λ r. r ≡ None → state.new.withheld.items ≡ state.old.withheld.items) }
+    {
+        let base = state.place.len();
+        let inside = self.step(state.alloc, &mut state.path, ahead, Token::Name(name))?;
+        state.place.push(Token::Name(name))?;
+        let array = self.at_array(state.path.as_slice(), &inside, above);
+        let kept = self.cut_items(state, home, &inside, array, base, items)?;
+        state.path.pop();
+        state.place.pop();
+        if kept.is_empty() {
+            Ok(None)
+        } else {
+            Ok(Some(Member::Many(kept)))
         }
     }
 
@@ -169,6 +198,7 @@ impl<'a> Reader<'a> {
         items: &'a Vec<Item>,
     ) -> Result<Vec<Item>, AllocError>
         requires base { base ≤ length state.old.place.items }
+        requires filled { AllByRecursion IsItemFilled items.now.items }
         requires ahead { met_by ahead.now ≡ ahead_of self.now.case.now self.now.standing.now (path_of state.old.path.items) }
         ensures left { IfOk result (λ v. map body v.items ≡ left_items self.now.case.now self.now.standing.now (home_of home)
             (carried (path_of state.old.path.items) array.entry) 0 (map body items.now.items)) }
@@ -212,6 +242,7 @@ impl<'a> Reader<'a> {
         item: &'a Item,
     ) -> Result<Option<Item>, AllocError>
         requires base { base ≤ length state.old.place.items }
+        requires filled { IsItemFilled item.now }
         requires ahead { met_by ahead.now ≡ ahead_of self.now.case.now self.now.standing.now (path_of state.old.path.items) }
         ensures left { IfOk result (λ r. option_map body r ≡ left_at self.now.case.now self.now.standing.now (home_of home)
             (carried (path_of state.old.path.items) door.entry) (token_of token.entry) (body item.now)) }
@@ -264,6 +295,7 @@ impl<'a> Reader<'a> {
         object: &'a Object,
     ) -> Result<Option<Object>, AllocError>
         requires base { base ≤ length state.old.place.items }
+        requires filled { IsFilled object.now }
         requires ahead { met_by ahead.now ≡ ahead_of self.now.case.now self.now.standing.now (path_of state.old.path.items) }
         ensures left { IfOk result (λ r. option_map forest r ≡ (
             let k = carried (path_of state.old.path.items) at.entry in
@@ -296,6 +328,7 @@ impl<'a> Reader<'a> {
         at: Carried<'a>,
         object: &'a Object,
     ) -> Result<Object, AllocError>
+        requires filled { IsFilled object.now }
         requires ahead { met_by ahead.now ≡ ahead_of self.now.case.now self.now.standing.now (path_of state.old.path.items) }
         ensures left { IfOk result (λ o. forest o ≡ (
             let k = carried (path_of state.old.path.items) at.entry in
@@ -331,6 +364,7 @@ impl<'a> Reader<'a> {
         object: &'a Object,
     ) -> Result<Option<Object>, AllocError>
         requires base { base ≤ length state.old.place.items }
+        requires filled { IsFilled object.now }
         requires ahead { met_by ahead.now ≡ ahead_of self.now.case.now self.now.standing.now (path_of state.old.path.items) }
         ensures left { IfOk result (λ r. option_map forest r ≡ (
             let inner = what_is_left (inside false) 0 (pass self.now.case.now self.now.standing.now (carried (path_of state.old.path.items) at.entry) (forest object.now)) in

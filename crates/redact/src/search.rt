@@ -1,6 +1,8 @@
 //! A search of the texts that a reader may see.
 
 ghost use Rattle.std.specs.Prelude.{◌≡◌, ◌||◌, IfOk, option_map, map};
+ghost use Rattle.std.specs.List.{AllByRecursion};
+ghost use Rattle.iodef_tree.specs.Filled.{IsFilled, IsMemberFilled, IsItemFilled};
 ghost use Rattle.iodef_tree.specs.View.{forest, bodies, body};
 ghost use Rattle.policy.specs.Ahead.{ahead_of, met_by};
 ghost use Rattle.policy.specs.Inherited.{carried};
@@ -117,7 +119,8 @@ impl<'a> Search<'a> {
         above: Carried<'a>,
         object: &'a Object,
     ) -> Result<bool, AllocError>
-        requires { met_by ahead.now ≡ ahead_of self.now.reader.case.now self.now.reader.standing.now (path_of trail.old.items) }
+        requires filled { IsFilled object.now }
+        requires ahead { met_by ahead.now ≡ ahead_of self.now.reader.case.now self.now.reader.standing.now (path_of trail.old.items) }
         ensures found { IfOk result (λ b. b ≡ found self.now.reader.case.now self.now.reader.standing.now self.now.finder (option_map (λ n. n.now) self.now.class)
             (carried (path_of trail.old.items) above.entry) (forest object.now)) }
         ensures trail { IfOk result (λ b. trail.new.items ≡ trail.old.items) }
@@ -139,7 +142,8 @@ impl<'a> Search<'a> {
         name: &'a str,
         member: &'a Member,
     ) -> Result<bool, AllocError>
-        requires { met_by ahead.now ≡ ahead_of self.now.reader.case.now self.now.reader.standing.now (path_of trail.old.items) }
+        requires filled { IsMemberFilled member.now }
+        requires ahead { met_by ahead.now ≡ ahead_of self.now.reader.case.now self.now.reader.standing.now (path_of trail.old.items) }
         ensures found { IfOk result (λ b. b ≡ found_member self.now.reader.case.now self.now.reader.standing.now self.now.finder (option_map (λ n. n.now) self.now.class)
             (carried (path_of trail.old.items) above.entry) name.now (bodies member.now)) }
         ensures trail { IfOk result (λ b. trail.new.items ≡ trail.old.items) }
@@ -170,7 +174,8 @@ impl<'a> Search<'a> {
         name: &'a str,
         items: &'a Vec<Item>,
     ) -> Result<bool, AllocError>
-        requires { met_by ahead.now ≡ ahead_of self.now.reader.case.now self.now.reader.standing.now (path_of trail.old.items) }
+        requires filled { AllByRecursion IsItemFilled items.now.items }
+        requires ahead { met_by ahead.now ≡ ahead_of self.now.reader.case.now self.now.reader.standing.now (path_of trail.old.items) }
         ensures found { IfOk result (λ b. b ≡ found_items self.now.reader.case.now self.now.reader.standing.now self.now.finder (option_map (λ n. n.now) self.now.class)
             (carried (path_of trail.old.items) array.entry) name.now 0 (map body items.now.items)) }
         ensures trail { IfOk result (λ b. trail.new.items ≡ trail.old.items) }
@@ -194,7 +199,8 @@ impl<'a> Search<'a> {
         name: &'a str,
         item: &'a Item,
     ) -> Result<bool, AllocError>
-        requires { met_by ahead.now ≡ ahead_of self.now.reader.case.now self.now.reader.standing.now (path_of trail.old.items) }
+        requires filled { IsItemFilled item.now }
+        requires ahead { met_by ahead.now ≡ ahead_of self.now.reader.case.now self.now.reader.standing.now (path_of trail.old.items) }
         ensures found { IfOk result (λ b. b ≡ found_at self.now.reader.case.now self.now.reader.standing.now self.now.finder (option_map (λ n. n.now) self.now.class)
             (carried (path_of trail.old.items) door.entry) (token_of token.entry) name.now (body item.now)) }
         ensures trail { IfOk result (λ b. trail.new.items ≡ trail.old.items) }
@@ -224,7 +230,8 @@ impl<'a> Search<'a> {
         name: &'a str,
         object: &'a Object,
     ) -> Result<bool, AllocError>
-        requires { met_by ahead.now ≡ ahead_of self.now.reader.case.now self.now.reader.standing.now (path_of trail.old.items) }
+        requires filled { IsFilled object.now }
+        requires ahead { met_by ahead.now ≡ ahead_of self.now.reader.case.now self.now.reader.standing.now (path_of trail.old.items) }
         ensures found { IfOk result (λ b.
             let k = carried (path_of trail.old.items) at.entry in
             b ≡ (class_hits self.now.reader.case.now self.now.reader.standing.now self.now.finder (option_map (λ n. n.now) self.now.class) k name.now (forest object.now)

@@ -1,16 +1,25 @@
 use Rattle.std.proofs.Common.{◌+◌, drop, arith}
 use Rattle.std.proofs.lemmas.Grind.{common_steps}
 use Rattle.iodef_tree.specs.View.{bodies, members_forest}
+use Rattle.iodef_tree.proofs.Filled.{member-at, member-elements}
 use Rattle.marking.proofs.Fronts.{held-here, held-skip}
 use Rattle.marking.proofs.class.held.Goals as goal
-use Rattle.marking.proofs.class.held.Goals.{then-eq+in-Absent, else-eq}
+
+pub returns-then-eq : goal.returns-then-eq
+returns-then-eq c =
+    let key = c.loop-key-item.result.0 in
+    let member = c.loop-key-item.result.1 in
+    let rest = members_forest (drop (c.loop-key.key-index + 1) c.deref-key-items.result.now) in
+    let filled = member-at c.args.object.now c.deref-key-items.result.now c.loop-key.key-index c.loop-key-item.result c.requires c.deref-key-items.ensures.value c.loop-key-test.true c.loop-key-item.is in
+    grind (arith, common_steps, held-here key c.args.name.now (bodies member) rest (member-elements member filled))
 
 pub loop-key-preserved : goal.loop-key-preserved
 loop-key-preserved c =
     let key = c.loop-key-item.result.0 in
     let member = bodies c.loop-key-item.result.1 in
     let rest = members_forest (drop (c.loop-key.key-index + 1) c.deref-key-items.result.now) in
-    elim c.if-eq.branch [
-      | then-eq+in-Absent w ↦ grind (arith, common_steps, held-here key c.args.name.now member rest)
-      | else-eq w ↦ grind (arith, common_steps, held-skip key c.args.name.now member rest)
-    ]
+    grind (arith, common_steps, held-skip key c.args.name.now member rest)
+
+pub held_by-requires : goal.held_by-requires
+held_by-requires c =
+    member-at c.args.object.now c.deref-key-items.result.now c.loop-key.key-index c.loop-key-item.result c.requires c.deref-key-items.ensures.value c.loop-key-test.true c.loop-key-item.is

@@ -1,8 +1,10 @@
-use Rattle.std.proofs.Common.{◌+◌, drop, arith, append_assoc}
+use Rattle.std.proofs.Common.{◌+◌, drop, arith, append_assoc, rules}
 use Rattle.std.specs.List.{flat_map}
 use Rattle.std.proofs.lemmas.Grind.{common_steps}
 use Rattle.iodef_tree.specs.Tree.{end, member_front}
 use Rattle.iodef_tree.specs.View.{bodies, members_forest}
+use Rattle.iodef_tree.specs.declared.object.Object.{the_lemmas}
+use Rattle.iodef_tree.proofs.Filled.{member-at, element-at}
 use Rattle.marking.specs.Marks.{marked_by}
 use Rattle.marking.specs.Pass.{marked_below}
 use Rattle.marking.proofs.Fronts.{written-member}
@@ -21,3 +23,21 @@ write_members-loop-name-preserved g t c =
       written-member line above name member rest,
       append_assoc (g.W.MarkWriter.text c.loop-name.writer) (flat_map line (marked_below above (member_front name member end))) (flat_map line (marked_below above rest)),
     )
+
+pub write_members-write_member-requires : goal.write_members-write_member-requires
+write_members-write_member-requires g t c = λ k s. (
+  search (rules, the_lemmas),
+  (
+    s,
+    member-at c.args.object.now c.deref-name-items.result.now c.loop-name.name-index c.loop-name-item.result c.requires.filled c.deref-name-items.ensures.value c.loop-name-test.true c.loop-name-item.is,
+  ),
+)
+
+pub write_member-write_item-requires-in-loop-index : goal.write_member-write_item-requires-in-loop-index
+write_member-write_item-requires-in-loop-index g t c = λ k s. (
+  search (rules, the_lemmas),
+  (
+    s,
+    element-at c.args.member.now c.in-Many.items c.deref-item-items.result.now c.loop-index.index c.item-item.result c.requires.1.1.1 c.in-Many.is c.deref-item-items.ensures.value c.loop-index-test.true c.item-item.is,
+  ),
+)

@@ -1,8 +1,13 @@
-use Rattle.std.proofs.Common.{◌+◌, drop, arith}
+use Rattle.std.proofs.Common.{◌+◌, drop, arith, rules}
 use Rattle.std.proofs.lemmas.Grind.{common_steps}
-use Rattle.iodef_tree.specs.View.{bodies, members_forest}
+use Rattle.std.specs.Prelude.{None}
+use Rattle.iodef_tree.specs.Tree.{end}
+use Rattle.iodef_tree.specs.View.{body, bodies, members_forest}
+use Rattle.iodef_tree.proofs.Views.{bodies-One}
+use Rattle.iodef_tree.specs.declared.object.Object.{the_lemmas}
+use Rattle.iodef_tree.proofs.Filled.{member-at, element-at}
 use Rattle.marking.specs.Pass.{tokens_of}
-use Rattle.marking.proofs.Fronts.{bad-none, bad-some}
+use Rattle.marking.proofs.Fronts.{bad-one, bad-none, bad-some}
 use Rattle.marking.proofs.rule.+check.Goals as goal
 
 pub bad_below-returns-in-Some : goal.bad_below-returns-in-Some
@@ -18,3 +23,18 @@ bad_below-loop-name-preserved t c =
     let member = bodies c.loop-name-item.result.1 in
     let rest = members_forest (drop (c.loop-name.name-index + 1) c.deref-name-items.result.now) in
     grind (arith, common_steps, bad-none name member rest)
+
+pub bad_below-bad_in_member-requires : goal.bad_below-bad_in_member-requires
+bad_below-bad_in_member-requires t c = (
+  search (rules, the_lemmas),
+  member-at c.args.object.now c.deref-name-items.result.now c.loop-name.name-index c.loop-name-item.result c.requires.filled c.deref-name-items.ensures.value c.loop-name-test.true c.loop-name-item.is,
+)
+
+pub bad_in_member-bad_in_item-requires-in-loop-index : goal.bad_in_member-bad_in_item-requires-in-loop-index
+bad_in_member-bad_in_item-requires-in-loop-index t c = (
+  search (rules, the_lemmas),
+  element-at c.args.member.now c.in-Many.items c.deref-item-items.result.now c.loop-index.index-counter c.item-item.result c.requires.filled c.in-Many.is c.deref-item-items.ensures.value c.loop-index-test.true c.item-item.is,
+)
+
+pub bad_in_member-returns-in_ok-push-in-Some : goal.bad_in_member-returns-in_ok-push-in-Some
+bad_in_member-returns-in_ok-push-in-Some t c = grind (arith, common_steps, bodies-One c.in-One.item, bad-one c.args.name.now None (body c.in-One.item) end)

@@ -1,16 +1,19 @@
-use Rattle.std.proofs.Common.{Vec, Global, List, Bool, ◌||◌, ◌≡◌, ℕ, suc, ◌+◌, ◌<◌, [], ◌∷◌, ◌++◌, map, length, get_or, drop, take, length-append, refl, sym, ◌∙◌, ap, subst, arith, add-one, decimal, true, false, if◌then◌else◌}
+use Rattle.std.proofs.Common.{Vec, Global, List, Bool, ◌||◌, ◌≡◌, ℕ, suc, ◌+◌, ◌<◌, [], ◌∷◌, ◌++◌, map, length, get_or, drop, take, length-append, refl, sym, ◌∙◌, ap, subst, arith, add-one, decimal, true, false, rules, if◌then◌else◌}
 use Rattle.std.specs.Prelude.{Option, Some, None, option_map, is_some, IfSome}
 use Rattle.std.proofs.lemmas.List.{drop_all, append-nil, map-append, at_drop_more}
 use Rattle.iodef_tree.specs.Tree.{Bodies}
 use Rattle.iodef_tree.specs.declared.text.Text.{Text}
 use Rattle.iodef_tree.specs.declared.object.Member.{Member}
+use Rattle.iodef_tree.specs.declared.object.Object.{the_lemmas}
+use Rattle.policy.specs.Ahead.{ahead_of}
+use Rattle.redact.specs.declared.trail.Token.{Token}
 use Rattle.std.proofs.lemmas.Bool.{eqb-false, eqb-true, cond-false, cond-true}
 use Rattle.iodef_tree.specs.Text.{Bytes}
 use Rattle.iodef_tree.specs.View.{forest, body, bodies, named, members_forest, forest_of_members}
 use Rattle.std.specs.List.{AllByRecursion}
 use Rattle.iodef_tree.specs.Filled.{has_some, IsItemFilled, IsMemberFilled}
 use Rattle.iodef_tree.specs.declared.object.Item.{Item}
-use Rattle.iodef_tree.proofs.Filled.{made-filled, many-filled, members-filled}
+use Rattle.iodef_tree.proofs.Filled.{made-filled, many-filled, members-filled, member-at, elements-kept}
 use Rattle.iodef_tree.proofs.Siblings.{all-append}
 use Rattle.iodef_tree.proofs.Views.{forest-members, forest-made}
 use Rattle.policy.specs.Inherited.{carried, hides}
@@ -72,10 +75,24 @@ some-kept : (xs : List Item) → (length xs ≡ 0 → ⊥) → has_some xs ≡ t
 some-kept [] h = absurd (h refl)
 some-kept (x ∷ xs) h = refl
 
-pub cut_member-returns-clause-filled : goal.cut_member-returns-clause-filled
-cut_member-returns-clause-filled t c =
-    let v = c.in_ok-kept-in-Many.kept in
-    many-filled v (some-kept v.items (λ e. eqb-false _ 0 (sym c.if-is_empty.ensures) (v.ok.0 ∙ e))) c.in_ok-kept-in-Many.ensures.filled
+pub cut_array-returns-clause-filled : goal.cut_array-returns-clause-filled
+cut_array-returns-clause-filled t c =
+    let v = c.in_ok-kept.kept in
+    many-filled v (some-kept v.items (λ e. eqb-false _ 0 (sym c.if-is_empty.ensures) (v.ok.0 ∙ e))) c.in_ok-kept.ensures.filled
+
+pub cut-cut_member-requires : goal.cut-cut_member-requires
+cut-cut_member-requires t c =
+    let C = c.args.self.now.case.now in
+    let S = c.args.self.now.standing.now in (
+      search (rules, the_lemmas),
+      (
+        member-at c.args.object.now c.deref-name-items.result.now c.loop-name.name-index c.loop-name-item.result c.requires.filled c.deref-name-items.ensures.value c.loop-name-test.true c.loop-name-item.is,
+        c.requires.ahead ∙ ap (λ (ts : List Token). ahead_of C S (path_of ts)) (sym c.loop-name.invariant.goes.path),
+      ),
+    )
+
+pub cut_member-cut_array-requires : goal.cut_member-cut_array-requires
+cut_member-cut_array-requires t c = (search (rules, the_lemmas), (elements-kept c.args.member.now c.in-Many.items c.requires.1.1.0 c.in-Many.is, c.requires.1.1.1))
 
 pub cut_seen-returns-clause-goes : goal.cut_seen-returns-clause-goes
 cut_seen-returns-clause-goes t c = λ q.

@@ -1,13 +1,18 @@
-use Rattle.std.proofs.Common.{◌≡◌, ◌+◌, ◌||◌, List, Bool, drop, true, false, sym, ◌∙◌, ap, arith}
+use Rattle.std.proofs.Common.{◌≡◌, ◌+◌, ◌||◌, List, Bool, map, drop, true, false, sym, ◌∙◌, ap, arith, rules}
 use Rattle.std.specs.Prelude.{option_map}
 use Rattle.std.proofs.lemmas.Bool.{or_left}
 use Rattle.iodef_tree.specs.Text.{Bytes}
-use Rattle.iodef_tree.specs.View.{bodies, members_forest}
+use Rattle.iodef_tree.specs.View.{body, bodies, members_forest}
+use Rattle.iodef_tree.specs.declared.object.Object.{the_lemmas}
+use Rattle.iodef_tree.proofs.Filled.{member-at, elements-kept}
+use Rattle.iodef_tree.proofs.Views.{bodies-Many}
+use Rattle.policy.specs.Ahead.{ahead_of}
 use Rattle.policy.specs.Inherited.{carried}
 use Rattle.redact.specs.Tokens.{path_of}
-use Rattle.redact.specs.Search.{found, found_member}
+use Rattle.redact.specs.Search.{found, found_items, found_member}
 use Rattle.redact.specs.declared.trail.Token.{Token}
 use Rattle.redact.proofs.Searching.{found_next}
+use Rattle.redact.proofs.Stepping.{array-door}
 use Rattle.redact.proofs.search.Search.+search.Goals as goal
 
 pub among-returns-then-branch-clause-found : goal.among-returns-then-branch-clause-found
@@ -52,3 +57,34 @@ among-loop-name-preserved t c =
           ∙ c.loop-name.invariant.found;
       trail = c.in_ok-in_member.ensures.trail ∙ c.loop-name.invariant.trail;
     }
+
+pub among-in_member-requires : goal.among-in_member-requires
+among-in_member-requires t c =
+    let C = c.args.self.now.reader.case.now in
+    let S = c.args.self.now.reader.standing.now in (
+      search (rules, the_lemmas),
+      (
+        member-at c.args.object.now c.deref-name-items.result.now c.loop-name.name-index c.loop-name-item.result c.requires.filled c.deref-name-items.ensures.value c.loop-name-test.true c.loop-name-item.is,
+        c.requires.ahead ∙ ap (λ (ts : List Token). ahead_of C S (path_of ts)) (sym c.loop-name.invariant.trail),
+      ),
+    )
+
+pub in_member-in_array-requires : goal.in_member-in_array-requires
+in_member-in_array-requires t c = (
+  search (rules, the_lemmas),
+  (elements-kept c.args.member.now c.in-Many.items c.requires.1.1.0 c.in-Many.is, c.in_ok-inside-in-Many.ensures.ahead),
+)
+
+pub in_member-returns-in_ok-found-in-Many-clause-found : goal.in_member-returns-in_ok-found-in-Many-clause-found
+in_member-returns-in_ok-found-in-Many-clause-found t c =
+    let C = c.args.self.now.reader.case.now in
+    let S = c.args.self.now.reader.standing.now in
+    let N = c.args.self.now.finder in
+    let K = option_map (λ n. n.now) c.args.self.now.class in
+    let A = carried (path_of c.args.trail.now.items) c.args.above in
+    let name = c.args.name.now in
+    let items = c.in-Many.items in
+    c.in_ok-found-in-Many.ensures.found
+    ∙ ap (λ h. found_items C S N K h name 0 (map body items.items))
+    (array-door C S c.args.above c.at_array-array.result c.args.trail.now.items _ _ _ c.as_slice.ensures.value c.in_ok-inside-in-Many.ensures.trail c.at_array-array.ensures)
+    ∙ ap (found_member C S N K A name) (sym (ap bodies c.in-Many.is ∙ bodies-Many items))
