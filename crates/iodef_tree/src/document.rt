@@ -8,6 +8,7 @@ ghost use Rattle.iodef_tree.specs.Walk.{IsBlock};
 
 use crate::builder::Builder;
 use crate::classes::classes_of;
+use crate::copy::copy_object;
 use crate::fault::{OutlineFault, ReadFault};
 use crate::line::Line;
 use crate::lookup::object_at;
@@ -142,6 +143,15 @@ impl Document {
         ensures filled { IfSome result (λ o. IsFilled o.now) }
     {
         object_at(&self.root, path.tokens())
+    }
+
+    /// The same document once more.
+    pub fn copy(&self, alloc: Global) -> Result<Document, AllocError>
+        ensures { IfOk result (λ d. d ≡ self.now) }
+    {
+        Ok(Document {
+            root: copy_object(alloc, &self.root)?,
+        })
     }
 
     /// The tree whose lines are the outline. Each array in it, at any depth, has at least one element.

@@ -4,6 +4,7 @@
 mod builder;
 mod classes;
 mod convert;
+mod copy;
 mod document;
 pub mod examples;
 mod fault;
