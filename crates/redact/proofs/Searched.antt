@@ -3,6 +3,7 @@ use Rattle.std.proofs.Common.{◌≡◌, ℕ, suc, Bool, true, false, ◌&&◌, 
 use Rattle.std.specs.Prelude.{Option}
 use Rattle.std.specs.List.{list_any}
 use Rattle.std.proofs.lemmas.Bool.{cond-true, cond-false, and_left, and_right, true≢false}
+use Rattle.std.proofs.Math.Bool.{and-true}
 use Rattle.std.proofs.lemmas.List.Folds.{list_any-append}
 use Rattle.iodef_tree.specs.Text.{Bytes, Tokens, same_path, is_under}
 use Rattle.iodef_tree.specs.Tree.{Content, text, value, Forest, end, leaf, branch, steps, lines, leaf_line}
@@ -21,8 +22,8 @@ use Rattle.policy.specs.Verdict.{is_visible}
 use Rattle.policy.proofs.Steps.{at_root-is}
 use Rattle.policy.specs.declared.standing.Standing.{Standing}
 use Rattle.policy.specs.declared.case.Case.{Case}
-use Rattle.redact.specs.Told.{is_named, is_hit, holds_needle, finds}
-use Rattle.redact.specs.Search.{content_hits, members_hit, class_hits, found}
+use Rattle.redact.specs.Told.{is_named, is_hit, holds_needle, finds, is_listed}
+use Rattle.redact.specs.Search.{content_hits, members_hit, holds_text, any_class, class_hits, found}
 use Rattle.redact.proofs.Keeping.{plain_kind}
 use Rattle.redact.proofs.Passed.{enter-at}
 use Rattle.redact.proofs.Whole.{root-bare}
@@ -99,7 +100,7 @@ module _ (c : Case) (s : Standing) (needle : Bytes) (class : Option Bytes) where
   answers es e = (is_class e && is_visible es c s e.path) && (is_named class e.line.name && holds_needle es needle e.path)
 
   found-walk : (es : List LocatedLine) (under : AreUnderParents es) (f : Forest) (d : ℕ) (p : Tokens) → AreBlocks es d p f → ArePlaced es p f →
-      list_any (answers es) (walk d p f) ≡ found c s needle class (inherited_at es c s p) f
+      list_any (answers es) (walk d p f) ≡ found c s (holds_text needle class) (inherited_at es c s p) f
   found-walk es under end d p blocks there = refl
   found-walk es under (leaf i rest) d p blocks there =
       ap (λ b. ((b && is_visible es c s (leaf_entry d p i).path) && (is_named class i.name && holds_needle es needle (leaf_entry d p i).path)) || list_any (answers es) (walk d p rest)) (plain_kind i.content)
@@ -109,19 +110,53 @@ module _ (c : Case) (s : Standing) (needle : Bytes) (class : Option Bytes) where
       let w = spelled_in kids in
       let K = walk (suc d) q kids in
       let R = walk d p rest in
-      let C = class_hits c s needle class (inherited_at es c s q) name kids in
+      let C = class_hits c s (holds_text needle class) (inherited_at es c s q) name kids in
       let written : written_label es q ≡ w = written-block es (suc d) q kids under blocks.0 there.0 in
       ap (λ b. (is_visible es c s q && (is_named class name && b)) || list_any (answers es) (K ++ R)) (held-block es (suc d) q kids needle under blocks.0)
       ∙ ap (λ b. C || b) (list_any-append (answers es) K R)
       ∙ ap (λ b. C || (b || list_any (answers es) R)) (found-walk es under kids (suc d) q blocks.1 there.2)
-      ∙ ap (λ b. C || (found c s needle class (inherited_at es c s q) kids || b)) (found-walk es under rest d p blocks.2 there.3)
-      ∙ ap (λ k. class_hits c s needle class k name kids || (found c s needle class k kids || found c s needle class (inherited_at es c s p) rest))
+      ∙ ap (λ b. C || (found c s (holds_text needle class) (inherited_at es c s q) kids || b)) (found-walk es under rest d p blocks.2 there.3)
+      ∙ ap (λ k. class_hits c s (holds_text needle class) k name kids || (found c s (holds_text needle class) k kids || found c s (holds_text needle class) (inherited_at es c s p) rest))
       (sym (enter-at es c s under p name place w there.0 there.1 written))
 
   -- in a whole document
-  pub found_all : (f : Forest) → IsSound f → finds (lines 1 f) c s needle class ≡ found c s needle class (at_root c s) f
+  pub found_all : (f : Forest) → IsSound f → finds (lines 1 f) c s needle class ≡ found c s (holds_text needle class) (at_root c s) f
   found_all f sound =
       let es = located (lines 1 f) in
       ap (list_any (answers es)) (located-lines f sound)
       ∙ found-walk es (below-parents (lines 1 f)) f 1 [] (blocks-located f sound) (placed f sound)
-      ∙ ap (λ h. found c s needle class h f) (sym (at_root-is es c s (root-bare f sound)))
+      ∙ ap (λ h. found c s (holds_text needle class) h f) (sym (at_root-is es c s (root-bare f sound)))
+
+-- ---- whether any class is visible
+
+module _ (c : Case) (s : Standing) where
+  abbrev is_seen_at : List LocatedLine → LocatedLine → Bool
+  is_seen_at es e = is_class e && is_visible es c s e.path
+
+  seen-walk : (es : List LocatedLine) (under : AreUnderParents es) (f : Forest) (d : ℕ) (p : Tokens) → AreBlocks es d p f → ArePlaced es p f →
+      list_any (is_seen_at es) (walk d p f) ≡ found c s any_class (inherited_at es c s p) f
+  seen-walk es under end d p blocks there = refl
+  seen-walk es under (leaf i rest) d p blocks there =
+      ap (λ b. (b && is_visible es c s (leaf_entry d p i).path) || list_any (is_seen_at es) (walk d p rest)) (plain_kind i.content)
+      ∙ seen-walk es under rest d p blocks there
+  seen-walk es under (branch name place kids rest) d p blocks there =
+      let q = p ++ steps name place in
+      let w = spelled_in kids in
+      let K = walk (suc d) q kids in
+      let R = walk d p rest in
+      let C = class_hits c s any_class (inherited_at es c s q) name kids in
+      let written : written_label es q ≡ w = written-block es (suc d) q kids under blocks.0 there.0 in
+      ap (λ b. b || list_any (is_seen_at es) (K ++ R)) (sym (and-true (is_visible es c s q)))
+      ∙ ap (λ b. C || b) (list_any-append (is_seen_at es) K R)
+      ∙ ap (λ b. C || (b || list_any (is_seen_at es) R)) (seen-walk es under kids (suc d) q blocks.1 there.2)
+      ∙ ap (λ b. C || (found c s any_class (inherited_at es c s q) kids || b)) (seen-walk es under rest d p blocks.2 there.3)
+      ∙ ap (λ k. class_hits c s any_class k name kids || (found c s any_class k kids || found c s any_class (inherited_at es c s p) rest))
+      (sym (enter-at es c s under p name place w there.0 there.1 written))
+
+  -- in a whole document
+  pub listed_all : (f : Forest) → IsSound f → is_listed (lines 1 f) c s ≡ found c s any_class (at_root c s) f
+  listed_all f sound =
+      let es = located (lines 1 f) in
+      ap (list_any (is_seen_at es)) (located-lines f sound)
+      ∙ seen-walk es (below-parents (lines 1 f)) f 1 [] (blocks-located f sound) (placed f sound)
+      ∙ ap (λ h. found c s any_class h f) (sym (at_root-is es c s (root-bare f sound)))

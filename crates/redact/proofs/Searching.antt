@@ -42,43 +42,43 @@ module _ (needle : Bytes) where
       members_hit needle (members_forest (drop i ms)) ≡ (bodies_hit needle (bodies m.1) || members_hit needle (members_forest (drop (i + 1) ms)))
   hit_next ms i m h is = ap (members_hit needle) (members-next ms i m h is) ∙ hit-member m.0 (bodies m.1) (members_forest (drop (i + 1) ms))
 
-module _ (c : Case) (s : Standing) (needle : Bytes) (class : Option Bytes) (a : Inherited) where
+module _ (c : Case) (s : Standing) (asked : Bytes → Forest → Bool) (a : Inherited) where
   found-one : (name : Bytes) (b : Body) (rest : Forest) →
-      found c s needle class a (in_front name None b rest) ≡ (found_at c s needle class a name name b || found c s needle class a rest)
+      found c s asked a (in_front name None b rest) ≡ (found_at c s asked a name name b || found c s asked a rest)
   found-one name (says content) rest = refl
   found-one name (holds kids) rest =
       let k = enter_class c s a name (spelled_in kids) in
-      sym (or_assoc (class_hits c s needle class k name kids) (found c s needle class k kids) (found c s needle class a rest))
+      sym (or_assoc (class_hits c s asked k name kids) (found c s asked k kids) (found c s asked a rest))
 
   found-element : (name : Bytes) (j : ℕ) (b : Body) (rest : Forest) →
-      found c s needle class a (in_front name (Some j) b rest) ≡ (found_at c s needle class (enter_array c s a name) (decimal j) name b || found c s needle class a rest)
+      found c s asked a (in_front name (Some j) b rest) ≡ (found_at c s asked (enter_array c s a name) (decimal j) name b || found c s asked a rest)
   found-element name j (says content) rest = refl
   found-element name j (holds kids) rest =
       let k = enter_class c s (enter_array c s a name) (decimal j) (spelled_in kids) in
-      sym (or_assoc (class_hits c s needle class k name kids) (found c s needle class k kids) (found c s needle class a rest))
+      sym (or_assoc (class_hits c s asked k name kids) (found c s asked k kids) (found c s asked a rest))
 
   found-elements : (name : Bytes) (j : ℕ) (bs : List Body) (rest : Forest) →
-      found c s needle class a (elements name j bs rest) ≡ (found_items c s needle class (enter_array c s a name) name j bs || found c s needle class a rest)
+      found c s asked a (elements name j bs rest) ≡ (found_items c s asked (enter_array c s a name) name j bs || found c s asked a rest)
   found-elements name j [] rest = refl
   found-elements name j (b ∷ bs) rest =
       let D = enter_array c s a name in
       found-element name j b (elements name (suc j) bs rest)
-      ∙ ap (λ o. found_at c s needle class D (decimal j) name b || o) (found-elements name (suc j) bs rest)
-      ∙ sym (or_assoc (found_at c s needle class D (decimal j) name b) (found_items c s needle class D name (suc j) bs) (found c s needle class a rest))
+      ∙ ap (λ o. found_at c s asked D (decimal j) name b || o) (found-elements name (suc j) bs rest)
+      ∙ sym (or_assoc (found_at c s asked D (decimal j) name b) (found_items c s asked D name (suc j) bs) (found c s asked a rest))
 
   found-front : (name : Bytes) (m : Bodies) (rest : Forest) →
-      found c s needle class a (member_front name m rest) ≡ (found_member c s needle class a name m || found c s needle class a rest)
+      found c s asked a (member_front name m rest) ≡ (found_member c s asked a name m || found c s asked a rest)
   found-front name (one b) rest = found-one name b rest
   found-front name (many bs) rest = found-elements name 0 bs rest
 
   -- one more member
   pub found_next : (ms : List (Text × Member)) (i : ℕ) (m : Text × Member) → i < length ms → m ≡ get_or ms i m →
-      found c s needle class a (members_forest (drop i ms)) ≡ (found_member c s needle class a m.0 (bodies m.1) || found c s needle class a (members_forest (drop (i + 1) ms)))
-  found_next ms i m h is = ap (found c s needle class a) (members-next ms i m h is) ∙ found-front m.0 (bodies m.1) (members_forest (drop (i + 1) ms))
+      found c s asked a (members_forest (drop i ms)) ≡ (found_member c s asked a m.0 (bodies m.1) || found c s asked a (members_forest (drop (i + 1) ms)))
+  found_next ms i m h is = ap (found c s asked a) (members-next ms i m h is) ∙ found-front m.0 (bodies m.1) (members_forest (drop (i + 1) ms))
 
   -- one more element of the array at a
   pub items_next : (name : Bytes) (xs : List Item) (i : ℕ) (x : Item) → i < length xs → x ≡ get_or xs i x →
-      found_items c s needle class a name i (map body (drop i xs)) ≡ (found_at c s needle class a (decimal i) name (body x) || found_items c s needle class a name (suc i) (map body (drop (i + 1) xs)))
+      found_items c s asked a name i (map body (drop i xs)) ≡ (found_at c s asked a (decimal i) name (body x) || found_items c s asked a name (suc i) (map body (drop (i + 1) xs)))
   items_next name xs i x h is =
-      at_drop_more (λ ys. found_items c s needle class a name i (map body ys)) xs i x h
-      ∙ ap (λ (y : Item). found_items c s needle class a name i (map body (y ∷ drop (i + 1) xs))) (sym is)
+      at_drop_more (λ ys. found_items c s asked a name i (map body ys)) xs i x h
+      ∙ ap (λ (y : Item). found_items c s asked a name i (map body (y ∷ drop (i + 1) xs))) (sym is)

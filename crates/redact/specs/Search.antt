@@ -1,5 +1,5 @@
 -- A search by one pass down a document, each class judged by what it inherits from above.
-use Rattle.std.specs.Prelude.{ℕ, suc, Bool, false, ◌&&◌, ◌||◌, List, [], ◌∷◌, Option, decimal}
+use Rattle.std.specs.Prelude.{ℕ, suc, Bool, true, false, ◌&&◌, ◌||◌, List, [], ◌∷◌, Option, option_map, decimal}
 use Rattle.std.specs.List.{list_any}
 use Rattle.iodef_tree.specs.Text.{Bytes}
 use Rattle.iodef_tree.specs.Tree.{Content, text, value, Forest, end, leaf, branch, Body, holds, says, Bodies, one, many}
@@ -9,6 +9,8 @@ use Rattle.policy.specs.declared.standing.Standing.{Standing}
 use Rattle.policy.specs.declared.case.Case.{Case}
 use Rattle.redact.specs.Told.{has_needle, is_named}
 use Rattle.redact.specs.Pass.{enter}
+use Rattle.redact.specs.declared.search.Asked.{Asked}
+use Rattle.redact.specs.declared.search.Asked.TheVariants.{Anything, Holding}
 
 -- ---- texts that contain the needle
 
@@ -31,12 +33,25 @@ module _ (needle : Bytes) where
   members_hit (leaf i rest) = content_hits i.content || members_hit rest
   members_hit (branch name place kids rest) = members_hit rest
 
--- ---- visible classes that hold one
+-- a class of this name, where one is given, that directly holds such a text
+abbrev pub holds_text : Bytes → Option Bytes → Bytes → Forest → Bool
+holds_text needle class name kids = is_named class name && members_hit needle kids
 
-module _ (c : Case) (s : Standing) (needle : Bytes) (class : Option Bytes) where
+-- whatever class
+abbrev pub any_class : Bytes → Forest → Bool
+any_class name kids = true
+
+-- what a pass asks of a class's name and members
+abbrev pub asked_of : Asked → Bytes → Forest → Bool
+asked_of Anything = any_class
+asked_of (Holding finder class) = holds_text finder (option_map (λ name. name.now) class)
+
+-- ---- visible classes of which something is asked
+
+module _ (c : Case) (s : Standing) (asked : Bytes → Forest → Bool) where
   -- the class of this name itself
   abbrev pub class_hits : Inherited → Bytes → Forest → Bool
-  class_hits k name kids = is_seen s k && (is_named class name && members_hit needle kids)
+  class_hits k name kids = is_seen s k && asked name kids
 
   -- some class among these members or below them
   abbrev pub found : Inherited → Forest → Bool

@@ -14,4 +14,4 @@ mod trail;
 
 pub use given::excerpt;
 pub use kept::Excerpt;
-pub use search::finds;
+pub use search::{finds, is_listed};

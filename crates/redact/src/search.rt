@@ -6,9 +6,9 @@ ghost use Rattle.iodef_tree.specs.Filled.{IsFilled, IsMemberFilled, IsItemFilled
 ghost use Rattle.iodef_tree.specs.View.{forest, bodies, body};
 ghost use Rattle.policy.specs.Ahead.{ahead_of, met_by};
 ghost use Rattle.policy.specs.Inherited.{carried};
-ghost use Rattle.redact.specs.Told.{finds as is_found, is_named};
+ghost use Rattle.redact.specs.Told.{finds as is_found, is_listed as is_shown, is_named};
 ghost use Rattle.redact.specs.Tokens.{token_of, path_of};
-ghost use Rattle.redact.specs.Search.{body_hits, bodies_hit, members_hit, class_hits, found, found_at, found_items, found_member};
+ghost use Rattle.redact.specs.Search.{asked_of, body_hits, bodies_hit, members_hit, class_hits, found, found_at, found_items, found_member};
 
 use crate::reader::Reader;
 use crate::trail::Token;
@@ -18,13 +18,58 @@ use memchr::memmem::Finder;
 use policy::{Ahead, Carried, Case, Standing};
 use std::alloc::{AllocError, Global};
 
-/// What a reader asks for: a needle, and in classes of which name if one is given.
+/// What is asked of a class that the reader may see.
+#[derive(Drop)]
+enum Asked<'a> {
+    /// Nothing more.
+    Anything,
+    /// That it directly holds a text with the needle, and has this name if one is given.
+    Holding {
+        finder: Finder<'a>,
+        class: Option<&'a str>,
+    },
+}
+
+/// For whom, and for what, a document is searched.
 #[derive(Drop)]
 struct Search<'a> {
     alloc: Global,
     reader: Reader<'a>,
-    finder: Finder<'a>,
-    class: Option<&'a str>,
+    asked: Asked<'a>,
+}
+
+/// Whether the reader may see some class of the document, and so whether `excerpt` would serve one. No text is copied, and
+/// no excerpt is made.
+pub fn is_listed(
+    alloc: Global,
+    document: &Document,
+    case: &Case,
+    standing: &Standing,
+) -> Result<bool, AllocError>
+    ensures { IfOk result (λ b. b ≡ is_shown document.now case.now standing.now) }
+{
+    let shown = shows_some(alloc, document, case, standing)?;
+    Ok(shown)
+}
+
+fn shows_some<'a>(
+    alloc: Global,
+    document: &'a Document,
+    case: &'a Case,
+    standing: &'a Standing,
+) -> Result<bool, AllocError>
+    ensures { IfOk result (λ b. b ≡ is_shown document.now case.now standing.now) }
+{
+    let search = Search {
+        alloc,
+        reader: Reader { case, standing },
+        asked: Asked::Anything,
+    };
+    let mut trail = Vec::new(alloc);
+    let ahead = search.reader.ahead(alloc)?;
+    let above = search.reader.at_root(&ahead);
+    let shown = search.among(&mut trail, &ahead, above, document.root())?;
+    Ok(shown)
 }
 
 /// Whether a class that the reader may see directly holds a text that contains `needle`, byte for byte; of the classes of
@@ -57,8 +102,10 @@ fn found<'a>(
     let search = Search {
         alloc,
         reader: Reader { case, standing },
-        finder: Finder::new(needle.as_bytes()),
-        class,
+        asked: Asked::Holding {
+            finder: Finder::new(needle.as_bytes()),
+            class,
+        },
     };
     let mut trail = Vec::new(alloc);
     let ahead = search.reader.ahead(alloc)?;
@@ -100,16 +147,28 @@ fn holds(object: &Object, finder: &Finder<'_>) -> bool
     false
 }
 
-impl<'a> Search<'a> {
-    fn names(&self, name: &str) -> bool
-        ensures { result ≡ is_named (option_map (λ n. n.now) self.now.class) name.now }
+/// Whether the name is the one that is asked for, if one is.
+fn is_name(class: Option<&str>, name: &str) -> bool
+    ensures { result ≡ is_named (option_map (λ n. n.now) class.entry) name.now }
+{
+    match class {
+        None => true,
+        Some(class) => class == name,
+    }
+}
+
+impl<'a> Asked<'a> {
+    fn is_met(&self, name: &str, object: &Object) -> bool
+        ensures { result ≡ asked_of self.now name.now (forest object.now) }
     {
-        match self.class {
-            None => true,
-            Some(class) => class == name,
+        match self {
+            Asked::Anything => true,
+            Asked::Holding { finder, class } => is_name(*class, name) && holds(object, finder),
         }
     }
+}
 
+impl<'a> Search<'a> {
     /// Whether something is found among the members of the class at `above`, or below them.
     #[cycle(search)]
     fn among(
@@ -121,7 +180,7 @@ impl<'a> Search<'a> {
     ) -> Result<bool, AllocError>
         requires filled { IsFilled object.now }
         requires ahead { met_by ahead.now ≡ ahead_of self.now.reader.case.now self.now.reader.standing.now (path_of trail.old.items) }
-        ensures found { IfOk result (λ b. b ≡ found self.now.reader.case.now self.now.reader.standing.now self.now.finder (option_map (λ n. n.now) self.now.class)
+        ensures found { IfOk result (λ b. b ≡ found self.now.reader.case.now self.now.reader.standing.now (asked_of self.now.asked)
             (carried (path_of trail.old.items) above.entry) (forest object.now)) }
         ensures trail { IfOk result (λ b. trail.new.items ≡ trail.old.items) }
     {
@@ -144,7 +203,7 @@ impl<'a> Search<'a> {
     ) -> Result<bool, AllocError>
         requires filled { IsMemberFilled member.now }
         requires ahead { met_by ahead.now ≡ ahead_of self.now.reader.case.now self.now.reader.standing.now (path_of trail.old.items) }
-        ensures found { IfOk result (λ b. b ≡ found_member self.now.reader.case.now self.now.reader.standing.now self.now.finder (option_map (λ n. n.now) self.now.class)
+        ensures found { IfOk result (λ b. b ≡ found_member self.now.reader.case.now self.now.reader.standing.now (asked_of self.now.asked)
             (carried (path_of trail.old.items) above.entry) name.now (bodies member.now)) }
         ensures trail { IfOk result (λ b. trail.new.items ≡ trail.old.items) }
     {
@@ -176,7 +235,7 @@ impl<'a> Search<'a> {
     ) -> Result<bool, AllocError>
         requires filled { AllByRecursion IsItemFilled items.now.items }
         requires ahead { met_by ahead.now ≡ ahead_of self.now.reader.case.now self.now.reader.standing.now (path_of trail.old.items) }
-        ensures found { IfOk result (λ b. b ≡ found_items self.now.reader.case.now self.now.reader.standing.now self.now.finder (option_map (λ n. n.now) self.now.class)
+        ensures found { IfOk result (λ b. b ≡ found_items self.now.reader.case.now self.now.reader.standing.now (asked_of self.now.asked)
             (carried (path_of trail.old.items) array.entry) name.now 0 (map body items.now.items)) }
         ensures trail { IfOk result (λ b. trail.new.items ≡ trail.old.items) }
     {
@@ -201,7 +260,7 @@ impl<'a> Search<'a> {
     ) -> Result<bool, AllocError>
         requires filled { IsItemFilled item.now }
         requires ahead { met_by ahead.now ≡ ahead_of self.now.reader.case.now self.now.reader.standing.now (path_of trail.old.items) }
-        ensures found { IfOk result (λ b. b ≡ found_at self.now.reader.case.now self.now.reader.standing.now self.now.finder (option_map (λ n. n.now) self.now.class)
+        ensures found { IfOk result (λ b. b ≡ found_at self.now.reader.case.now self.now.reader.standing.now (asked_of self.now.asked)
             (carried (path_of trail.old.items) door.entry) (token_of token.entry) name.now (body item.now)) }
         ensures trail { IfOk result (λ b. trail.new.items ≡ trail.old.items) }
     {
@@ -234,11 +293,11 @@ impl<'a> Search<'a> {
         requires ahead { met_by ahead.now ≡ ahead_of self.now.reader.case.now self.now.reader.standing.now (path_of trail.old.items) }
         ensures found { IfOk result (λ b.
             let k = carried (path_of trail.old.items) at.entry in
-            b ≡ (class_hits self.now.reader.case.now self.now.reader.standing.now self.now.finder (option_map (λ n. n.now) self.now.class) k name.now (forest object.now)
-            || found self.now.reader.case.now self.now.reader.standing.now self.now.finder (option_map (λ n. n.now) self.now.class) k (forest object.now))) }
+            b ≡ (class_hits self.now.reader.case.now self.now.reader.standing.now (asked_of self.now.asked) k name.now (forest object.now)
+            || found self.now.reader.case.now self.now.reader.standing.now (asked_of self.now.asked) k (forest object.now))) }
         ensures trail { IfOk result (λ b. trail.new.items ≡ trail.old.items) }
     {
-        if self.reader.sees(at) && self.names(name) && holds(object, &self.finder) {
+        if self.reader.sees(at) && self.asked.is_met(name, object) {
             return Ok(true);
         }
         let found = self.among(trail, ahead, at, object)?;

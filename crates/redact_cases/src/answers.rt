@@ -8,7 +8,7 @@ use crate::cases::{Line, case_of, line_of, reader_of};
 use iodef_tree::Document;
 use marking::check;
 use policy::{Case, Standing};
-use redact::{Excerpt, excerpt, finds};
+use redact::{Excerpt, excerpt, finds, is_listed};
 use std::alloc::{AllocError, Global};
 
 /// How many classes are visible, the document, and each withheld pair; `none` where there is no excerpt.
@@ -28,7 +28,36 @@ fn push_excerpt(alloc: Global, out: &mut String, told: &Excerpt) -> Result<(), A
     Ok(())
 }
 
-/// What the call answers. A search is `find NEEDLE` or `find NEEDLE CLASS`.
+/// What a search answers, for the words behind `find`: NEEDLE, or NEEDLE and CLASS.
+fn searched(
+    alloc: Global,
+    document: &Document,
+    case: &Case,
+    reader: &Standing,
+    needle: &str,
+    class: Option<&str>,
+) -> Result<String, AllocError> {
+    let found = finds(alloc, document, case, reader, needle, class)?;
+    String::from_str(alloc, if found { "found" } else { "not found" })
+}
+
+fn served(
+    alloc: Global,
+    document: &Document,
+    case: &Case,
+    reader: &Standing,
+) -> Result<String, AllocError>
+    requires { first_bad_marking (located document.now) ≡ None }
+{
+    let mut out = String::new(alloc);
+    match excerpt(alloc, document, case, reader)? {
+        None => out.push_str("none")?,
+        Some(told) => push_excerpt(alloc, &mut out, &told)?,
+    }
+    Ok(out)
+}
+
+/// What the call answers.
 fn called(
     alloc: Global,
     document: &Document,
@@ -39,17 +68,17 @@ fn called(
     requires { first_bad_marking (located document.now) ≡ None }
 {
     let mut words = call.split(' ');
-    if words.next() == Some("find") {
-        let needle = words.next().unwrap_or("");
-        let found = finds(alloc, document, case, reader, needle, words.next())?;
-        return String::from_str(alloc, if found { "found" } else { "not found" });
+    match words.next() {
+        Some("find") => {
+            let needle = words.next().unwrap_or("");
+            searched(alloc, document, case, reader, needle, words.next())
+        }
+        Some("listed") => {
+            let listed = is_listed(alloc, document, case, reader)?;
+            String::from_str(alloc, if listed { "listed" } else { "not listed" })
+        }
+        _ => served(alloc, document, case, reader),
     }
-    let mut out = String::new(alloc);
-    match excerpt(alloc, document, case, reader)? {
-        None => out.push_str("none")?,
-        Some(told) => push_excerpt(alloc, &mut out, &told)?,
-    }
-    Ok(out)
 }
 
 fn of_line(alloc: Global, line: &Line<'_>) -> Result<String, AllocError> {

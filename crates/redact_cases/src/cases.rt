@@ -3,7 +3,8 @@
 //! READER is a list of words with commas: `source`, `person`, `nominated`, `addressed`, `client`, `community`,
 //! `connected`, `org=N`, `who=N`, `member=N` and `active=N` for a group, `in=N` for a community. GATES is a list of
 //! `POINTER:LEVEL` or `POINTER:LEVEL:GROUP`, PERMISSIONS one of `POINTER:person:N`, `POINTER:org:N`,
-//! `POINTER:community:N` or `POINTER:group:N`, with `;` between. CALL is `excerpt`, `find NEEDLE` or `find NEEDLE CLASS`.
+//! `POINTER:community:N` or `POINTER:group:N`, with `;` between. CALL is `excerpt`, `listed`, `find NEEDLE` or
+//! `find NEEDLE CLASS`.
 
 use iodef_tree::Path;
 use policy::{Case, Gate, Gates, Grantee, Numbers, Permission, Permissions, Standing};

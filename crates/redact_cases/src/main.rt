@@ -1,5 +1,5 @@
-//! Redacts or searches the incidents on standard input, one a line, and prints each answer on a line of its own. What a
-//! line says stands in `cases`; an empty line and one that begins with `#` are passed over.
+//! Redacts, lists or searches the incidents on standard input, one a line, and prints each answer on a line of its own. What
+//! a line says stands in `cases`; an empty line and one that begins with `#` are passed over.
 #![tactic(auto)]
 
 mod answers;

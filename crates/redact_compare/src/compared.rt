@@ -1,4 +1,4 @@
-//! One case: what `excerpt` and `finds` answer, against the slow program.
+//! One case: what `excerpt`, `is_listed` and `finds` answer, against the slow program.
 
 ghost use Rattle.std.specs.Prelude.{◌≡◌, None};
 ghost use Rattle.iodef_tree.specs.Paths.{located as entries_of};
@@ -18,7 +18,7 @@ use crate::world::World;
 use iodef_tree::{Document, Kind, Line, Path};
 use marking::check;
 use policy::{Case, Rule, Standing};
-use redact::{Excerpt, excerpt, finds};
+use redact::{Excerpt, excerpt, finds, is_listed};
 use std::alloc::{AllocError, Global};
 
 pub fn same_line(one: &Line, other: &Line) -> bool {
@@ -150,7 +150,8 @@ pub fn agrees(
     let list = judge(&world)?;
     let expected = slow_answer(tally, &world, &list)?;
     let answer = excerpt(alloc, document, case, standing)?;
-    if !is_expected(alloc, &answer, &expected)? {
+    let listed = is_listed(alloc, document, case, standing)?;
+    if listed != (expected.classes > 0) || !is_expected(alloc, &answer, &expected)? {
         return Ok(false);
     }
     agrees_on_searches(tally, &world, &list, document)

@@ -1,5 +1,5 @@
-//! `redact_compare CASES`: compares `excerpt` and `finds` with a plain, slow program, over so many generated reports, gates,
-//! permissions and readers. That program judges each path alone over the flat outline. A difference is told by its seed,
+//! `redact_compare CASES`: compares `excerpt`, `is_listed` and `finds` with a plain, slow program, over so many generated
+//! reports, gates, permissions and readers. That program judges each path alone over the flat outline. A difference is told by its seed,
 //! with status 1.
 #![tactic(auto)]
 

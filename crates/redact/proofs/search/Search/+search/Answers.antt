@@ -1,5 +1,4 @@
 use Rattle.std.proofs.Common.{◌≡◌, ◌+◌, ◌||◌, List, Bool, map, drop, true, false, sym, ◌∙◌, ap, arith, rules}
-use Rattle.std.specs.Prelude.{option_map}
 use Rattle.std.proofs.lemmas.Bool.{or_left}
 use Rattle.iodef_tree.specs.Text.{Bytes}
 use Rattle.iodef_tree.specs.View.{body, bodies, members_forest}
@@ -9,7 +8,7 @@ use Rattle.iodef_tree.proofs.Views.{bodies-Many}
 use Rattle.policy.specs.Ahead.{ahead_of}
 use Rattle.policy.specs.Inherited.{carried}
 use Rattle.redact.specs.Tokens.{path_of}
-use Rattle.redact.specs.Search.{found, found_items, found_member}
+use Rattle.redact.specs.Search.{asked_of, found, found_items, found_member}
 use Rattle.redact.specs.declared.trail.Token.{Token}
 use Rattle.redact.proofs.Searching.{found_next}
 use Rattle.redact.proofs.Stepping.{array-door}
@@ -19,41 +18,39 @@ pub among-returns-then-branch-clause-found : goal.among-returns-then-branch-clau
 among-returns-then-branch-clause-found t c =
     let C = c.args.self.now.reader.case.now in
     let S = c.args.self.now.reader.standing.now in
-    let N = c.args.self.now.finder in
-    let K = option_map (λ n. n.now) c.args.self.now.class in
+    let T = asked_of c.args.self.now.asked in
     let A = λ (ts : List Token). carried (path_of ts) c.args.above in
     let D = c.deref-name-items.result.now in
     let i = c.loop-name.name-index in
     let m = c.loop-name-item.result in
     let before = c.args.trail.now.items in
-    let behind = found C S N K (A before) (members_forest (drop (i + 1) D)) in
-    let here : found_member C S N K (A before) m.0 (bodies m.1) ≡ true =
-    ap (λ (name : Bytes). found_member C S N K (A before) name (bodies m.1)) (sym c.as_str.ensures)
-    ∙ ap (λ (ts : List Token). found_member C S N K (A ts) c.as_str.result.now (bodies m.1)) (sym c.loop-name.invariant.trail)
+    let behind = found C S T (A before) (members_forest (drop (i + 1) D)) in
+    let here : found_member C S T (A before) m.0 (bodies m.1) ≡ true =
+    ap (λ (name : Bytes). found_member C S T (A before) name (bodies m.1)) (sym c.as_str.ensures)
+    ∙ ap (λ (ts : List Token). found_member C S T (A ts) c.as_str.result.now (bodies m.1)) (sym c.loop-name.invariant.trail)
     ∙ sym c.in_ok-in_member.ensures.found ∙ c.if-branch.true in
-    sym (or_left (found_member C S N K (A before) m.0 (bodies m.1)) behind here)
-    ∙ sym (found_next C S N K (A before) D i m (omega arith) c.loop-name-item.is)
+    sym (or_left (found_member C S T (A before) m.0 (bodies m.1)) behind here)
+    ∙ sym (found_next C S T (A before) D i m (omega arith) c.loop-name-item.is)
     ∙ c.loop-name.invariant.found
 
 pub among-loop-name-preserved : goal.among-loop-name-preserved
 among-loop-name-preserved t c =
     let C = c.args.self.now.reader.case.now in
     let S = c.args.self.now.reader.standing.now in
-    let N = c.args.self.now.finder in
-    let K = option_map (λ n. n.now) c.args.self.now.class in
+    let T = asked_of c.args.self.now.asked in
     let A = λ (ts : List Token). carried (path_of ts) c.args.above in
     let D = c.deref-name-items.result.now in
     let i = c.loop-name.name-index in
     let m = c.loop-name-item.result in
     let before = c.args.trail.now.items in
-    let behind = found C S N K (A before) (members_forest (drop (i + 1) D)) in
-    let here : found_member C S N K (A before) m.0 (bodies m.1) ≡ false =
-    ap (λ (name : Bytes). found_member C S N K (A before) name (bodies m.1)) (sym c.as_str.ensures)
-    ∙ ap (λ (ts : List Token). found_member C S N K (A ts) c.as_str.result.now (bodies m.1)) (sym c.loop-name.invariant.trail)
+    let behind = found C S T (A before) (members_forest (drop (i + 1) D)) in
+    let here : found_member C S T (A before) m.0 (bodies m.1) ≡ false =
+    ap (λ (name : Bytes). found_member C S T (A before) name (bodies m.1)) (sym c.as_str.ensures)
+    ∙ ap (λ (ts : List Token). found_member C S T (A ts) c.as_str.result.now (bodies m.1)) (sym c.loop-name.invariant.trail)
     ∙ sym c.in_ok-in_member.ensures.found ∙ c.if-branch.false in
     record {
       found = ap (λ (b : Bool). b || behind) (sym here)
-          ∙ sym (found_next C S N K (A before) D i m (omega arith) c.loop-name-item.is)
+          ∙ sym (found_next C S T (A before) D i m (omega arith) c.loop-name-item.is)
           ∙ c.loop-name.invariant.found;
       trail = c.in_ok-in_member.ensures.trail ∙ c.loop-name.invariant.trail;
     }
@@ -79,12 +76,11 @@ pub in_member-returns-in_ok-found-in-Many-clause-found : goal.in_member-returns-
 in_member-returns-in_ok-found-in-Many-clause-found t c =
     let C = c.args.self.now.reader.case.now in
     let S = c.args.self.now.reader.standing.now in
-    let N = c.args.self.now.finder in
-    let K = option_map (λ n. n.now) c.args.self.now.class in
+    let T = asked_of c.args.self.now.asked in
     let A = carried (path_of c.args.trail.now.items) c.args.above in
     let name = c.args.name.now in
     let items = c.in-Many.items in
     c.in_ok-found-in-Many.ensures.found
-    ∙ ap (λ h. found_items C S N K h name 0 (map body items.items))
+    ∙ ap (λ h. found_items C S T h name 0 (map body items.items))
     (array-door C S c.args.above c.at_array-array.result c.args.trail.now.items _ _ _ c.as_slice.ensures.value c.in_ok-inside-in-Many.ensures.trail c.at_array-array.ensures)
-    ∙ ap (found_member C S N K A name) (sym (ap bodies c.in-Many.is ∙ bodies-Many items))
+    ∙ ap (found_member C S T A name) (sym (ap bodies c.in-Many.is ∙ bodies-Many items))

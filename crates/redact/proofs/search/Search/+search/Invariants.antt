@@ -1,14 +1,13 @@
 use Rattle.std.proofs.Common.{◌≡◌, drop, map}
-use Rattle.std.specs.Prelude.{option_map}
 use Rattle.iodef_tree.specs.View.{forest, body, members_forest}
 use Rattle.policy.specs.Inherited.{carried}
 use Rattle.redact.specs.Tokens.{path_of}
-use Rattle.redact.specs.Search.{found, found_items}
+use Rattle.redact.specs.Search.{asked_of, found, found_items}
 use Rattle.redact.proofs.search.Search.+search.Given as goal
 
 abbrev pub invariant-among-loop-name : goal.invariant-among-loop-name
 invariant-among-loop-name l =
-    let search = found l.self.reader.case.now l.self.reader.standing.now l.self.finder (option_map (λ n. n.now) l.self.class)
+    let search = found l.self.reader.case.now l.self.reader.standing.now (asked_of l.self.asked)
     (carried (path_of l.initial.trail.items) l.above) in
     record {
       found : search (members_forest (drop l.name-index l.name-items)) ≡ search (forest l.object);
@@ -17,7 +16,7 @@ invariant-among-loop-name l =
 
 abbrev pub invariant-in_array-loop-i : goal.invariant-in_array-loop-i
 invariant-in_array-loop-i l =
-    let search = found_items l.self.reader.case.now l.self.reader.standing.now l.self.finder (option_map (λ n. n.now) l.self.class)
+    let search = found_items l.self.reader.case.now l.self.reader.standing.now (asked_of l.self.asked)
     (carried (path_of l.initial.trail.items) l.array) l.name in
     record {
       found : search l.i (map body (drop l.i l.items.items)) ≡ search 0 (map body l.items.items);
