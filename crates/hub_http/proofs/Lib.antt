@@ -1,0 +1,5 @@
+pub mod Numbers
+pub mod Pairs
+pub mod OneAnswer
+pub mod Heads
+pub mod Gates

@@ -1,0 +1,10 @@
+pub mod Outcome
+pub mod Texts
+pub mod Spelling
+pub mod Parameters
+pub mod Fields
+pub mod Routes
+pub mod Requests
+pub mod Wire
+pub mod Arrivals
+pub mod Laws
