@@ -11,4 +11,4 @@ loop-text-preserved c =
     rw grown (gates_step c.args.found.now c.loop-text.gates.items _ c.loop-text.text-index _ c.in-Ok.gate c.loop-text-test.true c.in-Ok.ensures c.loop-text.invariant)
 
 pub returns : goal.returns
-returns c = gates_end c.args.found.now c.loop-text.gates.items _ c.loop-text.text-index c.loop-text-test.false c.loop-text.invariant
+returns c = rw c.new.ensures (gates_end c.args.found.now c.loop-text.gates.items _ c.loop-text.text-index c.loop-text-test.false c.loop-text.invariant)
