@@ -98,10 +98,13 @@ room_left f c h =
 none_by : (f : CircleFacts) (a : Person) (c : CircleCommand) → is_allowed c a.role ≡ true → bad_field c a ≡ None → objection_of f c ≡ None → refusal_by f a c ≡ None
 none_by f a c allowed good fine = rw allowed (rw good fine)
 
+-- where the facts have nothing against a command, its number is one more than what they count
+pub counted_edit : (a : Person) (c : CircleCommand) (f : CircleFacts) (n : ℕ) (edit : Edit) → objection_of f c ≡ None → (f.count < 10000 → n ≡ f.count + 1) → edit ≡ edit_of n a c → edit ≡ edit_of (f.count + 1) a c
+counted_edit a c f n edit fine next made = made ∙ ap (λ (m : ℕ). edit_of m a c) (next (room_left f c fine))
+
 -- the edit by the facts makes the aftermath
 pub makes : (d : Directory) (a : Person) (c : CircleCommand) (f : CircleFacts) (n : ℕ) (edit : Edit) → IsSound d → f ≡ facts_of d a c → is_allowed c a.role ≡ true → bad_field c a ≡ None → objection_of f c ≡ None → (f.count < 10000 → n ≡ f.count + 1) → edit ≡ edit_of n a c → edited edit d ≡ state_after d a c
 makes d a c f n edit sound is allowed good fine next made =
     let none : refusal_of d a c ≡ None = sym (agrees d a c) ∙ (ap (λ (g : CircleFacts). refusal_by g a c) (sym is) ∙ none_by f a c allowed good fine) in
-    let counted : n ≡ f.count + 1 = next (room_left f c fine) in
-    let by_next : edit ≡ edit_of (next_in d c) a c = made ∙ (ap (λ (m : ℕ). edit_of m a c) counted ∙ (ap (λ (g : CircleFacts). edit_of (g.count + 1) a c) is ∙ same_edit d a c sound)) in
+    let by_next : edit ≡ edit_of (next_in d c) a c = counted_edit a c f n edit fine next made ∙ (ap (λ (g : CircleFacts). edit_of (g.count + 1) a c) is ∙ same_edit d a c sound) in
     ap (λ (e : Edit). edited e d) by_next ∙ sym (ap (λ (r : Option Refusal). unless_refused r d (changed d a c)) none)

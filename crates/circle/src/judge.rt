@@ -1,9 +1,9 @@
-ghost use Rattle.std.specs.Prelude.{◌≡◌, List, ℕ, None, IfOk, IfErr, OnOk, option_map};
+ghost use Rattle.std.specs.Prelude.{◌≡◌, ◌+◌, List, ℕ, None, IfOk, IfErr, OnOk, option_map};
 ghost use Rattle.circle.specs.Outcomes.{RefusedAs, bare};
 ghost use Rattle.circle.specs.Directory.{Directory};
 ghost use Rattle.circle.specs.Facts.{facts_of};
 ghost use Rattle.circle.specs.Refusals.{refusal_of};
-ghost use Rattle.circle.specs.Aftermath.{edited, state_after};
+ghost use Rattle.circle.specs.Aftermath.{edit_of, edited, state_after};
 ghost use Rattle.circle.specs.Judgement.{objection_of, is_allowed, lacks_right, is_strange, is_removal, limit_of};
 ghost use Rattle.circle.specs.Sound.{IsSound};
 
@@ -24,6 +24,7 @@ pub fn judge(
 ) -> Result<Edit, Refusal>
     ensures refused { (d : Directory) → facts.now ≡ facts_of d actor.now command.now → IfErr result (RefusedAs (refusal_of d actor.now command.now)) }
     ensures allowed { (d : Directory) → facts.now ≡ facts_of d actor.now command.now → OnOk result (refusal_of d actor.now command.now ≡ None) }
+    ensures edit { IfOk result (λ edit. edit ≡ edit_of (facts.now.count + 1) actor.now command.now) }
     ensures made { (d : Directory) → IsSound d → facts.now ≡ facts_of d actor.now command.now → IfOk result (λ edit. edited edit d ≡ state_after d actor.now command.now) }
 {
     if !command.is_allowed(actor.role) {

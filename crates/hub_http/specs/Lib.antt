@@ -1,2 +1,12 @@
+pub mod Outcome
+pub mod Texts
+pub mod Spelling
+pub mod Parameters
+pub mod Fields
+pub mod Routes
+pub mod Requests
+pub mod Wire
+pub mod Arrivals
+pub mod Laws
 pub mod Bodies
 pub mod Replies

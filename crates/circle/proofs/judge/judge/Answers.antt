@@ -1,6 +1,9 @@
 use Rattle.std.proofs.Common.{rules, arith}
-use Rattle.circle.proofs.Judged.{makes}
+use Rattle.circle.proofs.Judged.{counted_edit, makes}
 use Rattle.circle.proofs.judge.judge.Goals as goal
+
+pub returns-in-None-clause-edit : goal.returns-in-None-clause-edit
+returns-in-None-clause-edit c = counted_edit c.args.actor.now c.args.command.now c.args.facts.now c.saturating_add.result c.in-Ok.edit (search rules) (λ low. omega (arith, c.saturating_add.ensures, low)) c.in-Ok.ensures.value
 
 pub returns-in-None-clause-made : goal.returns-in-None-clause-made
 returns-in-None-clause-made c = λ d sound is. makes d c.args.actor.now c.args.command.now c.args.facts.now c.saturating_add.result c.in-Ok.edit sound is (search rules) c.in-Ok.ensures.good (search rules) (λ low. omega (arith, c.saturating_add.ensures, low)) c.in-Ok.ensures.value

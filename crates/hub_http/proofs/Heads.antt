@@ -1,0 +1,105 @@
+-- What the parser of heads answers, and what the bytes ask.
+use Rattle.std.proofs.Common.{◌≡◌, ◌≢◌, ℕ, ◌+◌, ◌<◌, ◌≤◌, List, [], ◌∷◌, ◌++◌, length, map, take, drop, Bor, Option, Some, None, Result, Ok, Err, refl, ap, ◌∙◌, subst, inl, inr, arith, rules, append-nil, length-append, length-drop, length-take, nat_le, false, sym, option_copied}
+use Rattle.std.specs.List.{flat_map}
+use Rattle.std.proofs.lemmas.List.{length-map}
+use Rattle.std.proofs.lemmas.Bool.Decides.{nat_tests}
+use Rattle.std.proofs.lemmas.Grind.{common_steps}
+use Rattle.httparse.specs.Ascii.{colon}
+use Rattle.httparse.specs.Grammar.{RequestHead, Field, LineEnd, lf, print_end, print_field, print_section, print_request, print_blank, print_version, ReadsRequest, HasNoRequest, NeverHasRequest, MayBecomeRequest}
+use Rattle.httparse.specs.Borrowed.{HoldsRequest, HoldsSomeRequest, header_parts}
+use Rattle.httparse.specs.Spans.{RequestOverflows, RequestExceeds}
+use Rattle.httparse.specs.declared.borrowed.Request.{Request}
+use Rattle.hub_http.specs.declared.wire_fault.WireFault.{WireFault}
+use Rattle.hub_http.specs.declared.wire_fault.WireFault.TheVariants as fault
+use Rattle.hub_http.specs.declared.wire.Arrival.{Arrival}
+use Rattle.hub_http.specs.declared.wire.Arrival.TheVariants.{Wants, Asks, Refused}
+use Rattle.hub_http.specs.Wire.{Asked, Wire, AsksByHead, IsHeadless, asked_by, window, fields_of}
+use Rattle.hub_http.specs.Arrivals.{Stands, Arrives, FailsWith}
+
+-- what the parts that the parser holds ask is what the head asks
+asks_same : (bytes : List ℕ) (len : ℕ) (r : Request) (h : RequestHead) (method target : Bor (List ℕ))
+    → HoldsRequest (window bytes) len r h → r.method ≡ Some method → r.path ≡ Some target
+    → asked_by method.now target.now (map header_parts r.headers.now) (drop len bytes)
+    ≡ asked_by h.method h.target (fields_of h) (drop (length (print_request h)) bytes)
+asks_same bytes len r h method target holds m t =
+    let a : method.now ≡ h.method = grind (arith, ap option_copied m, holds.method) in
+    let b : target.now ≡ h.target = grind (arith, ap option_copied t, holds.path) in
+    rw (a, b, holds.fields, holds.len_is) refl
+
+module _ (bytes : List ℕ) (asked : Asked) (by_head : AsksByHead bytes asked) where
+  is_wire : (other : Asked) → asked ≡ other → Wire bytes other
+  is_wire other e = inl (subst (AsksByHead bytes) e by_head)
+
+  pub arrives : (here : ℕ) → length bytes ≤ here → (a : Arrival) → Stands asked here a → Arrives bytes a
+  arrives here le (Wants n) s = (is_wire _ s.0, omega (arith, le, s.1), s.2)
+  arrives here le (Asks key request) s = is_wire _ s
+  arrives here le (Refused fault.HeadTooLong) s = is_wire _ s
+  arrives here le (Refused fault.BadHead) s = is_wire _ s
+  arrives here le (Refused fault.Chunked) s = is_wire _ s
+  arrives here le (Refused fault.NoLength) s = is_wire _ s
+  arrives here le (Refused fault.TooLarge) s = is_wire _ s
+  arrives here le (Refused fault.Truncated) s = absurd s
+  arrives here le (Refused fault.NoRoute) s = is_wire _ s
+  arrives here le (Refused fault.BadBody) s = is_wire _ s
+  arrives here le (Refused fault.NoMemory) s = tt
+
+-- a whole head that the parser holds
+pub head_arrives : (bytes : List ℕ) (len : ℕ) (r : Request) (method target : Bor (List ℕ))
+    → HoldsSomeRequest (window bytes) r len → r.method ≡ Some method → r.path ≡ Some target → (a : Arrival)
+    → Stands (asked_by method.now target.now (map header_parts r.headers.now) (drop len bytes)) (len + length (drop len bytes)) a
+    → Arrives bytes a
+head_arrives bytes len r method target holds m t a s =
+    let same = asks_same bytes len r holds.0 method target holds.1 m t in
+    arrives bytes _ (holds.0, _, holds.1.reads, same) (len + length (drop len bytes)) (omega (arith, length-drop len bytes)) a s
+
+-- the head lies in the window
+pub head_within : (bytes : List ℕ) (len : ℕ) (r : Request) → HoldsSomeRequest (window bytes) r len → (len ≤ 8192) × (len ≤ length bytes)
+head_within bytes len r (h, holds) =
+    let e : length (window bytes) ≡ length (print_request h) + length (drop len (window bytes)) =
+    ap length holds.reads.1 ∙ length-append (print_request h) (drop len (window bytes)) in
+    (omega (arith, e, holds.len_is, length-take {A = ℕ}), omega (arith, e, holds.len_is, length-take {A = ℕ}))
+
+not_leb : {n : ℕ} → 64 < n → nat_le n 64 ≡ false
+not_leb h = grind (arith, nat_tests)
+
+-- a whole head has too many fields
+pub too_many_fields : (bytes : List ℕ) (h : RequestHead) (rest : List ℕ) → ReadsRequest (window bytes) h rest
+    → 64 < length h.fields → Wire bytes (Err fault.HeadTooLong)
+unfolding asked_by
+too_many_fields bytes h rest reads many =
+    let few : nat_le (length (fields_of h)) 64 ≡ false = rw length-map (not_leb many) in
+    inl (h, rest, reads, rw few refl)
+
+-- the same of what the parser holds
+pub many_fields : (bytes front : List ℕ) (r : Request) (len : ℕ) → front ≡ window bytes → RequestOverflows 64 (window bytes)
+    → HoldsSomeRequest front r len → Wire bytes (Err fault.HeadTooLong)
+many_fields bytes front r len same over (h, holds) =
+    let reads : ReadsRequest (window bytes) h (drop len front) = subst (λ l. ReadsRequest l h (drop len front)) same holds.reads in
+    let more : ReadsRequest (window bytes ++ []) h (drop len front) = subst (λ l. ReadsRequest l h (drop len front)) (sym (append-nil (window bytes))) reads in
+    too_many_fields bytes h (drop len front) reads (over [] h (drop len front) more)
+
+-- there are no more fields than bytes
+field_long : (f : Field) → 1 ≤ length (print_field f)
+field_long f = simp length-append (omega arith)
+
+fields_short : (fields : List Field) → length fields ≤ length (flat_map print_field fields)
+fields_short [] = omega arith
+fields_short (f ∷ fields) =
+    rw length-append (omega (arith, fields_short fields, field_long f))
+
+head_long : (h : RequestHead) → length h.fields + 2 ≤ length (print_request h)
+unfolding print_request
+head_long h = simp length-append (omega (arith, fields_short h.fields))
+
+pub never_exceeds : (bytes : List ℕ) (room : ℕ) → 8192 ≤ room → ¬ (RequestExceeds room (window bytes))
+never_exceeds bytes room big (front, rest, whole, h, reads, many) =
+    let a : length (front ++ print_end lf) ≡ length (print_request h ++ []) = ap length reads.1 in
+    let b : length (window bytes) ≡ length (front ++ rest) = ap length whole in
+    omega (arith, big, head_long h, many, simp (length-append, append-nil) at a, simp length-append at b, length-take {A = ℕ} 8192 bytes)
+
+pub exceeds_none : (bytes front : List ℕ) (room : ℕ) → front ≡ window bytes → 8192 ≤ room → RequestExceeds room front → ⊥
+exceeds_none bytes front room same full h =
+    never_exceeds bytes room full (subst (λ l. RequestExceeds room l) same h)
+
+pub within : (bytes front : List ℕ) (len : ℕ) (r : Request) → front ≡ window bytes → HoldsSomeRequest front r len → (len ≤ 8192) × (len ≤ length bytes)
+within bytes front len r same h = head_within bytes len r (subst (λ l. HoldsSomeRequest l r len) same h)

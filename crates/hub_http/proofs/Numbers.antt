@@ -1,0 +1,52 @@
+-- Reading a number.
+use Rattle.std.proofs.Common.{◌+◌, ◌-◌, ◌*◌, ◌≤◌, min, take, ◌≡◌, ℕ, ◌<◌, ◌^◌, List, [], ◌∷◌, length, Bool, true, false, ◌&&◌, ◌||◌, Result, Ok, Err, refl, rules, arith, nat_lt, get_or, sym, if◌then◌else◌}
+use Rattle.std.specs.List.{list_all}
+use Rattle.std.specs.Char.{is_ascii_digit, digit_value}
+use Rattle.std.specs.Result.{OkIff}
+use Rattle.std.specs.Str.Parse.{digits_value, ParsesUnsigned}
+use Rattle.std.proofs.lemmas.Bool.Decides.{nat_tests}
+use Rattle.std.proofs.lemmas.Int.Digits.{digits_value_more}
+use Rattle.std.proofs.lemmas.Str.Parse.{digit_at, IsNumeralModel, IsDigitsTest, numerals_by_value, parse_digits}
+use Rattle.std.proofs.lemmas.Grind.{common_steps}
+use Rattle.hub_http.specs.Spelling.{is_plain, number}
+use borrow.Author.Tests.{ltb-true}
+use Rattle.hub_http.specs.declared.request_fault.RequestFault.{RequestFault}
+use Rattle.hub_http.specs.declared.request_fault.RequestFault.TheVariants.{BadBody}
+
+own : IsNumeralModel (λ ds. list_all is_ascii_digit ds ≡ true) (digits_value 10)
+own = numerals_by_value _ (search rules)
+
+plain_digits : (text : List ℕ) → is_plain text ≡ true → list_all is_ascii_digit text ≡ true
+plain_digits text plain = grind (arith, common_steps)
+
+plain_length : (text : List ℕ) → is_plain text ≡ true → 0 < length text
+plain_length text plain = grind (arith, common_steps)
+
+-- what parse gives where the digits are plain
+pub plain_parses : {E : Type 0} (text : List ℕ) (r : Result ℕ E) → is_plain text ≡ true → ParsesUnsigned 32 10 text r
+    → OkIff r ((0 < length text) × (digits_value 10 text < 2 ^ 32)) (digits_value 10 text)
+plain_parses text r plain h =
+    parse_digits own 32 text r h (plain_digits text plain)
+
+pub too_large : {E : Type 0} (text : List ℕ) (e : E) → is_plain text ≡ true → ParsesUnsigned 32 10 text (Err e)
+    → number text ≡ Err BadBody
+unfolding number
+too_large text e plain h =
+    let no = plain_parses text (Err e) plain h in
+    elim (nat_lt (digits_value 10 text) (2 ^ 32)) as (λ b. b ≡ nat_lt (digits_value 10 text) (2 ^ 32) → ◌≡◌ {A = Result ℕ RequestFault} (if is_plain text && b then Ok (digits_value 10 text) else Err BadBody) (Err BadBody)) [
+      | true ↦ λ e. absurd (no (plain_length text plain, ltb-true _ _ (sym e)))
+      | false ↦ λ e. rw plain refl
+    ] refl
+
+digit_is : (c : ℕ) → 48 ≤ c → c ≤ 57 → digit_value c ≡ c - 48
+digit_is c low high = grind (arith, nat_tests)
+
+-- one more digit of a length
+pub capped_step : (text : List ℕ) (i n m : ℕ) → i < length text → list_all is_ascii_digit text ≡ true
+    → n ≡ min (digits_value 10 (take i text)) 262145 → m ≡ min (n * 10 + (get_or text i 0 - 48)) 262145
+    → m ≡ min (digits_value 10 (take (i + 1) text)) 262145
+capped_step text i n m h digits e f =
+    let d = digit_at text i (own.to text digits) h in
+    let v : digit_value (get_or text i 0) ≡ get_or text i 0 - 48 = digit_is (get_or text i 0) d.0 d.1 in
+    let more = digits_value_more 10 text i h in
+    omega (arith, more, v, e, f)

@@ -1,0 +1,10 @@
+use Rattle.std.proofs.Common.{◌≡◌, ◌++◌, drop, map}
+use Rattle.httparse.specs.Borrowed.{header_parts}
+use Rattle.hub_http.specs.Fields.{field_values}
+use Rattle.hub_http.specs.Texts.{IsSole}
+use Rattle.hub_http.proofs.Pairs.{IsFront}
+use Rattle.hub_http.proofs.fields.field_of.Given as goal
+
+abbrev pub invariant-loop-field : goal.invariant-loop-field
+invariant-loop-field l =
+    IsFront (field_values l.name (map header_parts l.fields)) l.found (field_values l.name (map header_parts (drop l.field-index l.fields)))

@@ -1,0 +1,10 @@
+use Rattle.std.proofs.Common.{◌≡◌, drop}
+use Rattle.std.specs.List.{list_all}
+use Rattle.hub_http.specs.Parameters.{is_one_of}
+use Rattle.hub_http.specs.Texts.{pair_views, texts}
+use Rattle.hub_http.proofs.parameters.Parameters.only.Given as goal
+
+abbrev pub invariant-loop-pair : goal.invariant-loop-pair
+invariant-loop-pair l =
+    list_all (λ pair. is_one_of (texts l.names) pair.0) (pair_views (drop l.pair-index l.pair-items))
+    ≡ list_all (λ pair. is_one_of (texts l.names) pair.0) (pair_views l.pair-items)

@@ -1,0 +1,9 @@
+use Rattle.std.proofs.Common.{◌≡◌, ◌++◌, drop}
+use Rattle.hub_http.specs.Parameters.{sole, values}
+use Rattle.hub_http.specs.Texts.{pair_views}
+use Rattle.hub_http.proofs.Pairs.{held}
+use Rattle.hub_http.proofs.parameters.Parameters.optional.Given as goal
+
+abbrev pub invariant-loop-pair : goal.invariant-loop-pair
+invariant-loop-pair l =
+    sole (held l.found ++ values l.name (pair_views (drop l.pair-index l.pair-items))) ≡ sole (values l.name (pair_views l.pair-items))

@@ -1,0 +1,9 @@
+use Rattle.std.proofs.Common.{◌≡◌, ◌++◌, map}
+use Rattle.hub_http.specs.Parameters.{pairs_of, decoded_pair}
+use Rattle.hub_http.specs.Texts.{pair_views}
+use Rattle.form_urlencoded.specs.Parse.{pairs_left}
+use Rattle.hub_http.proofs.parameters.read_parameters.Given as goal
+
+abbrev pub invariant-loop-pair : goal.invariant-loop-pair
+invariant-loop-pair l =
+    pair_views l.pairs.items ++ map decoded_pair (pairs_left l.pair-iterator) ≡ pairs_of l.form

@@ -1,0 +1,72 @@
+-- What the fields of a head say: how long the body is, and who asks.
+use Rattle.std.specs.Prelude.{◌≡◌, ℕ, ◌+◌, ◌-◌, ◌<◌, List, [], ◌∷◌, ◌++◌, length, map, take, drop, Bool, true, false, ◌&&◌, ◌||◌, not, ◌==◌, nat_lt, nat_le, if◌then◌else◌, Option, Some, None, is_some, Result, Ok, Err, codes}
+use Rattle.std.specs.List.{list_all}
+use Rattle.std.specs.Char.{is_ascii_digit, to_ascii_lowercase}
+use Rattle.std.specs.Str.{bytes_eq}
+use Rattle.std.specs.Str.Parse.{digits_value}
+use Rattle.sha2.specs.Sha256.{sha256}
+use Rattle.hub_http.specs.declared.key.Key.{Key}
+use Rattle.hub_http.specs.declared.key.Key.TheVariants.{Absent, Digest}
+use Rattle.hub_http.specs.declared.wire_fault.WireFault.{WireFault}
+use Rattle.hub_http.specs.declared.wire_fault.WireFault.TheVariants.{BadHead, Chunked, NoLength, TooLarge}
+use Rattle.hub_http.specs.Outcome.{◌>>=◌, when}
+use Rattle.hub_http.specs.Parameters.{Pair}
+
+-- two names are the same, without ASCII case
+abbrev pub same_name : List ℕ → List ℕ → Bool
+same_name a b = bytes_eq (map to_ascii_lowercase a) (map to_ascii_lowercase b)
+
+-- the values of the fields of a name, in order
+abbrev pub field_values : List ℕ → List Pair → List (List ℕ)
+field_values name [] = []
+field_values name (field ∷ fields) = if same_name field.0 name then field.1 ∷ field_values name fields else field_values name fields
+
+-- one digit or more, and nothing else
+abbrev pub is_digits : List ℕ → Bool
+is_digits text = nat_lt 0 (length text) && list_all is_ascii_digit text
+
+-- the text of the one Content-Length, if there is any
+unfoldable pub length_text : List (List ℕ) → Result (Option (List ℕ)) WireFault
+length_text [] = Ok None
+length_text (text ∷ []) = if is_digits text then Ok (Some text) else Err BadHead
+length_text (text ∷ other ∷ rest) = Err BadHead
+
+-- how long a body may be
+abbrev pub body_limit : ℕ
+body_limit = 262144
+
+-- the length that the head wants, where GET needs none
+unfoldable pub wanted_length : Bool → Option (List ℕ) → Result ℕ WireFault
+wanted_length is_get None = if is_get then Ok 0 else Err NoLength
+wanted_length is_get (Some text) =
+    if nat_lt body_limit (digits_value 10 text) then Err TooLarge else Ok (digits_value 10 text)
+
+-- no field of this name
+abbrev pub lacks : List ℕ → List Pair → Bool
+lacks name fields = length (field_values name fields) == 0
+
+-- how long the body is
+unfoldable pub body_length : Bool → List Pair → Result ℕ WireFault
+body_length is_get fields = do
+  text ← length_text (field_values (codes "content-length") fields)
+  _ ← when (lacks (codes "transfer-encoding") fields) Chunked
+  wanted_length is_get text
+
+-- a byte that stands for itself in a key
+abbrev pub is_visible : ℕ → Bool
+is_visible b = nat_le 33 b && nat_le b 126
+
+-- `Bearer`, a space, and 1 to 128 visible bytes
+abbrev pub is_bearer : List ℕ → Bool
+is_bearer value =
+    nat_le 8 (length value) && nat_le (length value) 135
+    && same_name (take 7 value) (codes "Bearer ") && list_all is_visible (drop 7 value)
+
+-- who asks: the digest of the key in the one Authorization field
+unfoldable pub key_in : List (List ℕ) → Key
+key_in [] = Absent
+key_in (value ∷ []) = if is_bearer value then Digest (sha256 (drop 7 value)) else Absent
+key_in (value ∷ other ∷ rest) = Absent
+
+abbrev pub key_of : List Pair → Key
+key_of fields = key_in (field_values (codes "authorization") fields)

@@ -1,0 +1,12 @@
+-- Laws of the definitions, for all values.
+use Rattle.std.specs.Prelude.{◌≡◌, ℕ, ◌⊎◌, List}
+use Rattle.httparse.specs.Grammar.{NeverHasRequest, EndsInTarget}
+use Rattle.hub_http.specs.Wire.{Asked, Wire, window}
+
+-- the window ends inside the target, and nothing that follows could make a head
+abbrev pub IsOpenTarget : List ℕ → Type 0
+IsOpenTarget bytes = EndsInTarget (window bytes) × NeverHasRequest (window bytes)
+
+-- Bytes ask one thing, or have one fault first, but for that case.
+abbrev pub HasOneAnswer : Type 0
+HasOneAnswer = (bytes : List ℕ) (a b : Asked) → Wire bytes a → Wire bytes b → (a ≡ b) ⊎ IsOpenTarget bytes

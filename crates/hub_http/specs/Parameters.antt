@@ -1,0 +1,109 @@
+-- Parameters of a request: names and values, and how many there are of each name.
+use Rattle.std.specs.Prelude.{◌≡◌, ℕ, List, [], ◌∷◌, map, if◌then◌else◌, Bool, Option, Some, None, Result, Ok, Err, codes}
+use Rattle.std.specs.List.{list_all, list_any}
+use Rattle.std.specs.Str.{bytes_eq}
+use Rattle.std.specs.Str.Lossy.{utf8_lossy}
+use Rattle.form_urlencoded.specs.Form.{raw_pairs, decode}
+use Rattle.policy.specs.declared.permission.Grantee.{Grantee}
+use Rattle.policy.specs.declared.permission.Grantee.TheVariants as grantee
+use Rattle.hub_core.specs.declared.request.Target.{Target}
+use Rattle.hub_core.specs.declared.request.Target.TheVariants as target
+use Rattle.hub_http.specs.declared.request_fault.RequestFault.TheVariants.{BadBody}
+use Rattle.hub_http.specs.Outcome.{Read, ◌>>=◌, or_fault, when}
+use Rattle.hub_http.specs.Spelling.{number}
+
+-- a name and a value
+abbrev pub Pair : Type 0
+Pair = List ℕ × List ℕ
+
+-- the text of encoded bytes, with U+FFFD for what is no UTF-8
+abbrev pub decoded : List ℕ → List ℕ
+decoded bytes = utf8_lossy (decode bytes)
+
+abbrev pub decoded_pair : Pair → Pair
+decoded_pair pair = (decoded pair.0, decoded pair.1)
+
+-- the parameters that a form spells (application/x-www-form-urlencoded)
+abbrev pub pairs_of : List ℕ → List Pair
+pairs_of form = map decoded_pair (raw_pairs form)
+
+-- the values under a name, in order
+abbrev pub values : List ℕ → List Pair → List (List ℕ)
+values name [] = []
+values name (pair ∷ pairs) = if bytes_eq pair.0 name then pair.1 ∷ values name pairs else values name pairs
+
+-- a name is one of these
+abbrev pub is_one_of : List (List ℕ) → List ℕ → Bool
+is_one_of names name = list_any (λ known. bytes_eq known name) names
+
+-- no name but these
+abbrev pub only : List (List ℕ) → List Pair → Read (Unit {0})
+only names pairs = when (list_all (λ pair. is_one_of names pair.0) pairs) BadBody
+
+-- the one value, if there is any; more are a fault
+abbrev pub sole : List (List ℕ) → Read (Option (List ℕ))
+sole [] = Ok None
+sole (value ∷ []) = Ok (Some value)
+sole (value ∷ other ∷ rest) = Err BadBody
+
+-- the one value
+unfoldable pub needed : List ℕ → List Pair → Read (List ℕ)
+needed name pairs = sole (values name pairs) >>= or_fault BadBody
+
+-- the one value, if there is any
+unfoldable pub optional : List ℕ → List Pair → Read (Option (List ℕ))
+optional name pairs = sole (values name pairs)
+
+unfoldable pub needed_number : List ℕ → List Pair → Read ℕ
+needed_number name pairs = needed name pairs >>= number
+
+-- the number, or 0 where there is none
+abbrev pub or_zero : Option (List ℕ) → Read ℕ
+or_zero None = Ok 0
+or_zero (Some text) = number text
+
+unfoldable pub number_or_zero : List ℕ → List Pair → Read ℕ
+number_or_zero name pairs = optional name pairs >>= or_zero
+
+abbrev pub optional_read : {A : Type 0} → (List ℕ → Read A) → Option (List ℕ) → Read (Option A)
+optional_read read None = Ok None
+optional_read read (Some text) = read text >>= λ x. Ok (Some x)
+
+unfoldable pub optional_number : List ℕ → List Pair → Read (Option ℕ)
+optional_number name pairs = optional name pairs >>= optional_read number
+
+-- one number, and nothing beside it
+unfoldable pub number_alone : List ℕ → List Pair → Read ℕ
+number_alone name pairs = do
+  _ ← only (name ∷ []) pairs
+  needed_number name pairs
+
+-- exactly one of the four
+unfoldable pub one_grantee : Option ℕ → Option ℕ → Option ℕ → Option ℕ → Read Grantee
+one_grantee (Some n) None None None = Ok (grantee.Person n)
+one_grantee None (Some n) None None = Ok (grantee.Org n)
+one_grantee None None (Some n) None = Ok (grantee.Community n)
+one_grantee None None None (Some n) = Ok (grantee.Group n)
+one_grantee _ _ _ _ = Err BadBody
+
+unfoldable pub grantee_in : List Pair → Read Grantee
+grantee_in pairs = do
+  person ← optional_number (codes "person") pairs
+  org ← optional_number (codes "org") pairs
+  community ← optional_number (codes "community") pairs
+  group ← optional_number (codes "group") pairs
+  one_grantee person org community group
+
+-- exactly one of the two
+unfoldable pub one_target : Option ℕ → Option ℕ → Read Target
+one_target (Some n) None = Ok (target.Person n)
+one_target None (Some n) = Ok (target.Org n)
+one_target _ _ = Err BadBody
+
+-- a person or an organisation, and nothing beside it
+unfoldable pub target_alone : List Pair → Read Target
+target_alone pairs = do
+  _ ← only (codes "person" ∷ codes "org" ∷ []) pairs
+  person ← optional_number (codes "person") pairs
+  org ← optional_number (codes "org") pairs
+  one_target person org

@@ -1,0 +1,201 @@
+-- The request of a route, from its parameters and its body.
+use Rattle.std.specs.Prelude.{◌≡◌, ℕ, List, [], ◌∷◌, length, ◌==◌, if◌then◌else◌, Option, Some, None, unwrap_or, Result, Ok, Err, codes}
+use Rattle.circle.specs.declared.command.CircleCommand.{CircleCommand}
+use Rattle.circle.specs.declared.command.CircleCommand.TheVariants as command
+use Rattle.hub_core.specs.declared.request.Request.{Request}
+use Rattle.hub_core.specs.declared.request.Request.TheVariants as request
+use Rattle.hub_http.specs.declared.request_fault.RequestFault.TheVariants.{BadBody}
+use Rattle.hub_http.specs.declared.routes.CircleChange.{CircleChange}
+use Rattle.hub_http.specs.declared.routes.CircleChange.TheVariants as circle
+use Rattle.hub_http.specs.declared.routes.PartChange.{PartChange}
+use Rattle.hub_http.specs.declared.routes.PartChange.TheVariants as part
+use Rattle.hub_http.specs.declared.routes.IncidentChange.{IncidentChange}
+use Rattle.hub_http.specs.declared.routes.IncidentChange.TheVariants as incident
+use Rattle.hub_http.specs.declared.routes.Route.{Route}
+use Rattle.hub_http.specs.declared.routes.Route.TheVariants as route
+use Rattle.hub_http.specs.declared.requests.Place.{Place}
+use Rattle.hub_http.specs.declared.requests.Place.TheVariants as place
+use Rattle.hub_http.specs.Outcome.{Read, ◌>>=◌}
+use Rattle.hub_http.specs.Spelling.{flag, role_named, handling_named, digest, gates}
+use Rattle.hub_http.specs.Parameters.{Pair, pairs_of, values, only, needed, optional, needed_number, number_or_zero, optional_number, number_alone, grantee_in, target_alone}
+use Rattle.hub_http.specs.Routes.{verb_of, path_of, query_of, resource_at, route_at}
+
+-- ---- where the parameters stand
+
+unfoldable pub place_of : Route → Place
+place_of route.Post = place.QueryBesideDocument
+place_of (route.Replace n) = place.QueryBesideDocument
+place_of (route.OfCircle change) = place.Body
+place_of (route.OfPart change n) = place.Body
+place_of (route.OfIncident change n) = place.Body
+place_of _ = place.Query
+
+-- the form that they are read from: the query where there may be no body, or where the body is the document;
+-- or the body where there may be no query
+unfoldable pub form_at : Place → Option (List ℕ) → List ℕ → Read (List ℕ)
+form_at place.Query query body = if length body == 0 then Ok (unwrap_or query []) else Err BadBody
+form_at place.QueryBesideDocument query body = Ok (unwrap_or query [])
+form_at place.Body None body = Ok body
+form_at place.Body (Some query) body = Err BadBody
+
+-- ---- what is read
+
+-- no parameter but the number after which a page begins, which is 0 where it is missing
+unfoldable pub after_alone : List Pair → Read ℕ
+after_alone pairs = do
+  _ ← only (codes "after" ∷ []) pairs
+  number_or_zero (codes "after") pairs
+
+unfoldable pub search_in : List Pair → Read Request
+search_in pairs = do
+  _ ← only (codes "needle" ∷ codes "class" ∷ codes "after" ∷ []) pairs
+  needle ← needed (codes "needle") pairs
+  class ← optional (codes "class") pairs
+  after ← number_or_zero (codes "after") pairs
+  Ok (request.Search needle class after)
+
+-- ---- incidents
+
+unfoldable pub post_in : List Pair → List ℕ → Read Request
+post_in pairs body = do
+  _ ← only (codes "level" ∷ codes "group" ∷ codes "gate" ∷ []) pairs
+  level ← needed_number (codes "level") pairs
+  group ← optional_number (codes "group") pairs
+  wanted ← gates (values (codes "gate") pairs)
+  Ok (request.Post level group wanted body)
+
+unfoldable pub replace_in : ℕ → List Pair → List ℕ → Read Request
+replace_in n pairs body = do
+  _ ← only (codes "revision" ∷ codes "level" ∷ codes "group" ∷ codes "gate" ∷ []) pairs
+  revision ← needed_number (codes "revision") pairs
+  level ← needed_number (codes "level") pairs
+  group ← optional_number (codes "group") pairs
+  wanted ← gates (values (codes "gate") pairs)
+  Ok (request.Replace n revision level group wanted body)
+
+unfoldable pub redistribute_in : ℕ → List Pair → Read Request
+redistribute_in n pairs = do
+  _ ← only (codes "revision" ∷ codes "path" ∷ codes "level" ∷ codes "group" ∷ []) pairs
+  revision ← needed_number (codes "revision") pairs
+  path ← needed (codes "path") pairs
+  level ← needed_number (codes "level") pairs
+  group ← optional_number (codes "group") pairs
+  Ok (request.Redistribute n revision path level group)
+
+unfoldable pub grant_in : ℕ → List Pair → Read Request
+grant_in n pairs = do
+  _ ← only (codes "revision" ∷ codes "path" ∷ codes "person" ∷ codes "org" ∷ codes "community" ∷ codes "group" ∷ []) pairs
+  revision ← needed_number (codes "revision") pairs
+  path ← needed (codes "path") pairs
+  to ← grantee_in pairs
+  Ok (request.Grant n revision path to)
+
+unfoldable pub withdraw_in : ℕ → List Pair → Read Request
+withdraw_in n pairs = do
+  _ ← only (codes "path" ∷ codes "person" ∷ codes "org" ∷ codes "community" ∷ codes "group" ∷ []) pairs
+  path ← needed (codes "path") pairs
+  from ← grantee_in pairs
+  Ok (request.Withdraw n path from)
+
+-- what is posted to the incident of this number
+unfoldable pub incident_request : IncidentChange → ℕ → List Pair → Read Request
+incident_request incident.Redistribute n pairs = redistribute_in n pairs
+incident_request incident.Address n pairs = target_alone pairs >>= λ to. Ok (request.Address n to)
+incident_request incident.Unaddress n pairs = target_alone pairs >>= λ to. Ok (request.Unaddress n to)
+incident_request incident.Grant n pairs = grant_in n pairs
+incident_request incident.Withdraw n pairs = withdraw_in n pairs
+
+-- ---- the circle
+
+-- a name, and nothing beside it
+unfoldable pub name_alone : List Pair → Read (List ℕ)
+name_alone pairs = do
+  _ ← only (codes "name" ∷ []) pairs
+  needed (codes "name") pairs
+
+unfoldable pub person_in : List Pair → Read CircleCommand
+person_in pairs = do
+  _ ← only (codes "org" ∷ codes "name" ∷ codes "role" ∷ codes "key" ∷ []) pairs
+  org ← needed_number (codes "org") pairs
+  name ← needed (codes "name") pairs
+  role ← needed (codes "role") pairs >>= role_named
+  key ← needed (codes "key") pairs >>= digest
+  Ok (command.AddPerson org name role key)
+
+unfoldable pub group_in : List Pair → Read CircleCommand
+group_in pairs = do
+  _ ← only (codes "name" ∷ codes "releasability" ∷ []) pairs
+  name ← needed (codes "name") pairs
+  releasability ← needed (codes "releasability") pairs
+  Ok (command.NewGroup name releasability)
+
+unfoldable pub arrangement_in : List Pair → Read CircleCommand
+arrangement_in pairs = do
+  _ ← only (codes "org" ∷ codes "handling" ∷ []) pairs
+  org ← needed_number (codes "org") pairs
+  handling ← needed (codes "handling") pairs >>= handling_named
+  Ok (command.Arrange org handling)
+
+-- what is posted to a collection
+unfoldable pub circle_command : CircleChange → List Pair → Read CircleCommand
+circle_command circle.AddOrg pairs = name_alone pairs >>= λ name. Ok (command.AddOrg name)
+circle_command circle.AddPerson pairs = person_in pairs
+circle_command circle.AddCommunity pairs = name_alone pairs >>= λ name. Ok (command.AddCommunity name)
+circle_command circle.NewGroup pairs = group_in pairs
+circle_command circle.Arrange pairs = arrangement_in pairs
+circle_command circle.CancelArrange pairs = number_alone (codes "org") pairs >>= λ org. Ok (command.CancelArrange org)
+
+unfoldable pub member_in : ℕ → List Pair → Read CircleCommand
+member_in n pairs = do
+  _ ← only (codes "org" ∷ codes "extend" ∷ []) pairs
+  org ← needed_number (codes "org") pairs
+  extend ← needed (codes "extend") pairs >>= flag
+  Ok (command.GroupAdd n org extend)
+
+unfoldable pub active_in : ℕ → List Pair → Read CircleCommand
+active_in n pairs = do
+  _ ← only (codes "active" ∷ []) pairs
+  active ← needed (codes "active") pairs >>= flag
+  Ok (command.GroupActive n active)
+
+-- no parameter
+abbrev pub nothing_beside : {A : Type 0} → List Pair → A → Read A
+nothing_beside pairs x = only [] pairs >>= λ _. Ok x
+
+-- what is posted to the organisation, person, community or group of this number
+unfoldable pub part_command : PartChange → ℕ → List Pair → Read CircleCommand
+part_command part.AddClient n pairs = number_alone (codes "client") pairs >>= λ client. Ok (command.AddClient n client)
+part_command part.RemoveClient n pairs = number_alone (codes "client") pairs >>= λ client. Ok (command.RemoveClient n client)
+part_command part.SuspendPerson n pairs = nothing_beside pairs (command.SuspendPerson n)
+part_command part.Nominate n pairs = nothing_beside pairs (command.Nominate n)
+part_command part.Unnominate n pairs = nothing_beside pairs (command.Unnominate n)
+part_command part.Join n pairs = number_alone (codes "org") pairs >>= λ org. Ok (command.Join n org)
+part_command part.Leave n pairs = number_alone (codes "org") pairs >>= λ org. Ok (command.Leave n org)
+part_command part.Link n pairs = number_alone (codes "other") pairs >>= λ other. Ok (command.Link n other)
+part_command part.Unlink n pairs = number_alone (codes "other") pairs >>= λ other. Ok (command.Unlink n other)
+part_command part.GroupAdd n pairs = member_in n pairs
+part_command part.GroupRemove n pairs = number_alone (codes "org") pairs >>= λ org. Ok (command.GroupRemove n org)
+part_command part.GroupActive n pairs = active_in n pairs
+
+-- ---- all
+
+-- the request of a route, with its parameters and its body
+unfoldable pub request_in : Route → List Pair → List ℕ → Read Request
+request_in route.WhoAmI pairs body = nothing_beside pairs request.WhoAmI
+request_in route.MyGroups pairs body = nothing_beside pairs request.MyGroups
+request_in route.Addressed pairs body = after_alone pairs >>= λ after. Ok (request.Addressed after)
+request_in route.List pairs body = after_alone pairs >>= λ after. Ok (request.List after)
+request_in (route.View n) pairs body = nothing_beside pairs (request.View n)
+request_in route.Search pairs body = search_in pairs
+request_in route.Post pairs body = post_in pairs body
+request_in (route.Replace n) pairs body = replace_in n pairs body
+request_in (route.OfCircle change) pairs body = circle_command change pairs >>= λ asked. Ok (request.Circle asked)
+request_in (route.OfPart change n) pairs body = part_command change n pairs >>= λ asked. Ok (request.Circle asked)
+request_in (route.OfIncident change n) pairs body = incident_request change n pairs
+
+-- the request that a method, a target and a body ask
+unfoldable pub request_by : List ℕ → List ℕ → List ℕ → Read Request
+request_by method target body = do
+  route ← route_at (verb_of method) (resource_at (path_of target)) (path_of target)
+  form ← form_at (place_of route) (query_of target) body
+  request_in route (pairs_of form) body

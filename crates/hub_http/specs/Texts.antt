@@ -1,0 +1,36 @@
+-- Texts without where they lie in memory.
+use Rattle.std.specs.Prelude.{◌≡◌, ℕ, ◌<◌, List, [], ◌∷◌, length, map, Option, Result, Ok, Err, option_copied}
+use Rattle.std.specs.Borrow.{Bor}
+use Rattle.std.specs.Cow.{cow_str_bytes}
+use Rattle.std.specs.declared.borrow.CowStr.{CowStr}
+use Rattle.std.specs.declared.alloc.Global.{Global}
+use Rattle.hub_http.specs.declared.wire_fault.WireFault.{WireFault}
+use Rattle.hub_http.specs.declared.fields.Sole.{Sole}
+use Rattle.hub_http.specs.declared.fields.Sole.TheVariants.{Missing, One, Several}
+use Rattle.hub_http.specs.declared.routes.Resource.{Resource}
+
+abbrev pub pair_view : CowStr Global × CowStr Global → List ℕ × List ℕ
+pair_view pair = (cow_str_bytes pair.0, cow_str_bytes pair.1)
+
+abbrev pub pair_views : List (CowStr Global × CowStr Global) → List (List ℕ × List ℕ)
+pair_views pairs = map pair_view pairs
+
+-- how many values there are, and which is the only one
+abbrev pub IsSole : List (List ℕ) → Sole → Type 0
+IsSole values Missing = values ≡ []
+IsSole values (One value) = values ≡ value.now ∷ []
+IsSole values Several = 1 < length values
+
+abbrev pub entry_view : Bor (List ℕ) × Resource → List ℕ × Resource
+entry_view entry = (entry.0.now, entry.1)
+
+abbrev pub text_view : Bor (List ℕ) → List ℕ
+text_view text = text.now
+
+abbrev pub texts : List (Bor (List ℕ)) → List (List ℕ)
+texts names = map text_view names
+
+-- the text, without where it lies in memory
+abbrev pub IsText : Result (Option (Bor (List ℕ))) WireFault → Result (Option (List ℕ)) WireFault → Type 0
+IsText (Ok text) wanted = wanted ≡ Ok (option_copied text)
+IsText (Err e) wanted = wanted ≡ Err e

@@ -1,0 +1,160 @@
+//! What the fields of a head say: how long the body is, and who asks.
+ghost use Rattle.std.specs.Prelude.{◌≡◌, ◌↔◌, ℕ, ◌+◌, ◌<◌, ◌≤◌, List, [], ◌∷◌, length, map, min, drop, IsTrue, Ok, Some, codes, option_copied, IfOk, IfSome, IfErr, ◌≢◌};
+ghost use Rattle.std.specs.List.{list_all};
+ghost use Rattle.std.specs.Option.{ForSome};
+ghost use Rattle.std.specs.Char.{is_ascii_digit, to_ascii_lowercase};
+ghost use Rattle.std.specs.Str.Parse.{digits_value};
+ghost use Rattle.httparse.specs.Borrowed.{header_parts};
+ghost use Rattle.hub_http.specs.Texts.{IsText};
+ghost use Rattle.hub_http.specs.Fields.{same_name, field_values, is_digits, length_text, wanted_length, body_length, is_visible, is_bearer, key_in, key_of, lacks};
+ghost use Rattle.hub_http.specs.Texts.{IsSole};
+
+use crate::key::Key;
+use crate::spelling::has_digits_alone;
+use crate::wire_fault::WireFault;
+use httparse::Header;
+use sha2::{Digest, Sha256};
+
+const BODY_LIMIT: u32 = 262_144;
+
+/// The value of the fields of a name: none, one, or several.
+#[derive(Clone, Copy, Drop)]
+pub(crate) enum Sole<'a> {
+    Missing,
+    One(&'a [u8]),
+    Several,
+}
+
+fn is_same_name(a: &[u8], b: &[u8]) -> bool
+    ensures { result ≡ same_name a.now b.now }
+{
+    a.eq_ignore_ascii_case(b)
+}
+
+/// The value of the fields of a name.
+fn field_of<'a>(fields: &[Header<'a>], name: &str) -> Sole<'a>
+    ensures { IsSole (field_values name.now (map header_parts fields.now)) result }
+{
+    let mut found = Sole::Missing;
+    for field in fields {
+        if is_same_name(field.name.as_bytes(), name.as_bytes()) {
+            if let Sole::One(_) = found {
+                return Sole::Several;
+            }
+            found = Sole::One(field.value);
+        }
+    }
+    found
+}
+
+fn has_digits(text: &[u8]) -> bool
+    ensures { result ≡ is_digits text.now }
+{
+    !text.is_empty() && has_digits_alone(text)
+}
+
+/// The number that digits write, or one more than a body may have bytes.
+fn capped_value(text: &[u8]) -> u32
+    requires { IsTrue (is_digits text.now) }
+    ensures { result ≡ min (digits_value 10 text.now) 262145 }
+{
+    let mut n: u32 = 0;
+    for b in text {
+        let digit = u32::from(*b - b'0');
+        n = (n * 10 + digit).min(BODY_LIMIT + 1);
+    }
+    n
+}
+
+/// The text of the one Content-Length, if there is any.
+#[tactic(auto, unfolding(crate::specs::Fields::length_text))]
+fn read_length_text<'a>(fields: &[Header<'a>]) -> Result<Option<&'a [u8]>, WireFault>
+    ensures value { IsText result (length_text (field_values (codes "content-length") (map header_parts fields.now))) }
+    ensures whole { IfErr result (λ e. e ≢ WireFault.Truncated) }
+    ensures digits { IfOk result (λ o. IfSome o (λ t. IsTrue (is_digits t.now))) }
+{
+    match field_of(fields, "content-length") {
+        Sole::Missing => Ok(None),
+        Sole::One(text) => {
+            if has_digits(text) {
+                Ok(Some(text))
+            } else {
+                Err(WireFault::BadHead)
+            }
+        }
+        Sole::Several => Err(WireFault::BadHead),
+    }
+}
+
+fn has_none(fields: &[Header<'_>], name: &str) -> bool
+    ensures { result ≡ lacks name.now (map header_parts fields.now) }
+{
+    matches!(field_of(fields, name), Sole::Missing)
+}
+
+/// How long the body is.
+#[tactic(auto, unfolding(crate::specs::Fields::body_length, crate::specs::Fields::wanted_length))]
+pub(crate) fn read_body_length(is_get: bool, fields: &[Header<'_>]) -> Result<u32, WireFault>
+    ensures value { result ≡ body_length is_get (map header_parts fields.now) }
+    ensures whole { IfErr result (λ e. e ≢ WireFault.Truncated) }
+    ensures bound { IfOk result (λ n. n ≤ 262144) }
+{
+    let text = read_length_text(fields)?;
+    if !has_none(fields, "transfer-encoding") {
+        return Err(WireFault::Chunked);
+    }
+    wanted(is_get, text)
+}
+
+#[tactic(auto, unfolding(crate::specs::Fields::wanted_length))]
+fn wanted(is_get: bool, text: Option<&[u8]>) -> Result<u32, WireFault>
+    requires { ForSome text (λ t. IsTrue (is_digits t.now)) }
+    ensures value { result ≡ wanted_length is_get (option_copied text.entry) }
+    ensures whole { IfErr result (λ e. e ≢ WireFault.Truncated) }
+    ensures bound { IfOk result (λ n. n ≤ 262144) }
+{
+    let Some(text) = text else {
+        return if is_get {
+            Ok(0)
+        } else {
+            Err(WireFault::NoLength)
+        };
+    };
+    let n = capped_value(text);
+    if n > BODY_LIMIT {
+        return Err(WireFault::TooLarge);
+    }
+    Ok(n)
+}
+
+fn is_bearer_value(value: &[u8]) -> bool
+    ensures { result ≡ is_bearer value.now }
+{
+    if value.len() < 8 || value.len() > 135 {
+        return false;
+    }
+    is_same_name(&value[..7], b"Bearer ") && has_visible_alone(&value[7..])
+}
+
+fn has_visible_alone(text: &[u8]) -> bool
+    ensures { result ≡ list_all is_visible text.now }
+{
+    text.iter().all(|b| 33 <= *b && *b <= 126)
+}
+
+/// Who asks.
+#[tactic(auto, unfolding(crate::specs::Fields::key_in))]
+pub(crate) fn read_key(fields: &[Header<'_>]) -> Key
+    ensures { result ≡ key_of (map header_parts fields.now) }
+{
+    match field_of(fields, "authorization") {
+        Sole::One(value) => {
+            if is_bearer_value(value) {
+                Key::Digest(Sha256::digest(&value[7..]))
+            } else {
+                Key::Absent
+            }
+        }
+        _ => Key::Absent,
+    }
+}

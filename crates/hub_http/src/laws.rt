@@ -1,0 +1,8 @@
+//! Laws of the definitions, each the contract of a function that does nothing.
+ghost use Rattle.hub_http.specs.Laws.{HasOneAnswer};
+
+/// Bytes ask one thing, or have one fault first; but where they end inside a target that nothing could make whole,
+/// two are right.
+pub fn one_answer()
+    ensures { HasOneAnswer }
+{}

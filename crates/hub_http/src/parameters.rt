@@ -1,0 +1,231 @@
+//! Parameters of a request: names and values, and how many there are of each name.
+ghost use Rattle.std.specs.Prelude.{◌≡◌, ◌++◌, ◌<◌, ℕ, List, length, Ok, codes, option_copied};
+ghost use Rattle.hub_http.specs.Outcome.{Gives, GivesAs};
+ghost use Rattle.hub_http.specs.Spelling.{gates};
+ghost use Rattle.hub_http.specs.Parameters as spec;
+ghost use Rattle.hub_http.specs.Texts.{texts};
+
+use crate::request_fault::RequestFault;
+use crate::spelling::{read_gates, read_number, text_of};
+use circle::text::Text;
+use hub_core::{Target, WantedGates};
+use policy::Grantee;
+use std::alloc::Global;
+use std::borrow::CowStr;
+use std::marker::Model;
+
+/// The parameters of a request, in order.
+#[derive(Drop)]
+pub(crate) struct Parameters<'a> {
+    pairs: Vec<(CowStr<'a>, CowStr<'a>)>,
+}
+
+impl<'a> Model for Parameters<'a> {
+    ghost use Rattle.hub_http.specs.Texts.{pair_views};
+    ghost use Rattle.hub_http.specs.Parameters.{Pair};
+    ghost use Rattle.std.specs.Prelude.{List};
+
+    ghost Value = { List Pair };
+
+    ghost view = { λ p. pair_views p.pairs.items };
+}
+
+/// The parameters that a form spells.
+pub(crate) fn read_parameters(alloc: Global, form: &[u8]) -> Result<Parameters<'_>, RequestFault>
+    ensures { GivesAs (λ p. p) result (Ok (spec.pairs_of form.now)) }
+{
+    let mut pairs = Vec::new(alloc);
+    for pair in form_urlencoded::parse(alloc, form) {
+        pairs.push(pair?)?;
+    }
+    Ok(Parameters { pairs })
+}
+
+fn is_one_of(names: &[&str], name: &str) -> bool
+    ensures { result ≡ spec.is_one_of (texts names.now) name.now }
+{
+    for known in names {
+        if *known == name {
+            return true;
+        }
+    }
+    false
+}
+
+impl<'a> Parameters<'a> {
+    /// The one value under a name, if there is any.
+    #[tactic(auto, unfolding(crate::specs::Parameters::optional))]
+    pub(crate) fn optional(&self, name: &str) -> Result<Option<&str>, RequestFault>
+        ensures { GivesAs option_copied result (spec.optional name.now self.now) }
+    {
+        let mut found: Option<&str> = None;
+        for pair in &self.pairs {
+            if pair.0.as_str() == name {
+                if found.is_some() {
+                    return Err(RequestFault::BadBody);
+                }
+                found = Some(pair.1.as_str());
+            }
+        }
+        Ok(found)
+    }
+
+    /// The one value under a name.
+    #[tactic(auto, unfolding(crate::specs::Parameters::needed, crate::specs::Parameters::optional))]
+    pub(crate) fn needed(&self, name: &str) -> Result<&str, RequestFault>
+        ensures { GivesAs (λ v. v.now) result (spec.needed name.now self.now) }
+    {
+        match self.optional(name)? {
+            Some(value) => Ok(value),
+            None => Err(RequestFault::BadBody),
+        }
+    }
+
+    /// The one value under a name, kept.
+    pub(crate) fn needed_text(&self, alloc: Global, name: &str) -> Result<Text, RequestFault>
+        ensures { Gives result (spec.needed name.now self.now) }
+    {
+        let value = self.needed(name)?;
+        text_of(alloc, value)
+    }
+
+    /// The one value under a name, kept, if there is any.
+    pub(crate) fn optional_text(
+        &self,
+        alloc: Global,
+        name: &str,
+    ) -> Result<Option<Text>, RequestFault>
+        ensures { Gives result (spec.optional name.now self.now) }
+    {
+        match self.optional(name)? {
+            Some(text) => Ok(Some(text_of(alloc, text)?)),
+            None => Ok(None),
+        }
+    }
+
+    /// The one number under a name.
+    #[tactic(auto, unfolding(crate::specs::Parameters::needed_number))]
+    pub(crate) fn needed_number(&self, name: &str) -> Result<u32, RequestFault>
+        ensures { Gives result (spec.needed_number name.now self.now) }
+    {
+        read_number(self.needed(name)?)
+    }
+
+    /// The number under a name, or 0.
+    #[tactic(auto, unfolding(crate::specs::Parameters::number_or_zero))]
+    pub(crate) fn number_or_zero(&self, name: &str) -> Result<u32, RequestFault>
+        ensures { Gives result (spec.number_or_zero name.now self.now) }
+    {
+        match self.optional(name)? {
+            Some(text) => read_number(text),
+            None => Ok(0),
+        }
+    }
+
+    /// The one number under a name, if there is any.
+    #[tactic(auto, unfolding(crate::specs::Parameters::optional_number))]
+    pub(crate) fn optional_number(&self, name: &str) -> Result<Option<u32>, RequestFault>
+        ensures { Gives result (spec.optional_number name.now self.now) }
+    {
+        match self.optional(name)? {
+            Some(text) => Ok(Some(read_number(text)?)),
+            None => Ok(None),
+        }
+    }
+
+    /// A fault where there is a name beside these.
+    pub(crate) fn only(&self, names: &[&str]) -> Result<(), RequestFault>
+        ensures { Gives result (spec.only (texts names.now) self.now) }
+    {
+        for pair in &self.pairs {
+            if !is_one_of(names, pair.0.as_str()) {
+                return Err(RequestFault::BadBody);
+            }
+        }
+        Ok(())
+    }
+
+    /// The one number under a name, with no parameter beside it.
+    #[tactic(auto, unfolding(crate::specs::Parameters::number_alone))]
+    pub(crate) fn number_alone(&self, name: &str) -> Result<u32, RequestFault>
+        ensures { Gives result (spec.number_alone name.now self.now) }
+    {
+        self.only(&[name])?;
+        self.needed_number(name)
+    }
+
+    /// The values under a name, in order.
+    fn all(&self, alloc: Global, name: &str) -> Result<Vec<&str>, RequestFault>
+        ensures { GivesAs (λ v. texts v.items) result (Ok (spec.values name.now self.now)) }
+    {
+        let mut found: Vec<&str> = Vec::new(alloc);
+        for pair in &self.pairs {
+            if pair.0.as_str() == name {
+                found.push(pair.1.as_str())?;
+            }
+        }
+        Ok(found)
+    }
+
+    /// The gates under `gate`, in order.
+    pub(crate) fn gates(&self, alloc: Global) -> Result<WantedGates, RequestFault>
+        ensures { Gives result (gates (spec.values (codes "gate") self.now)) }
+    {
+        let found = self.all(alloc, "gate")?;
+        read_gates(alloc, &found)
+    }
+
+    /// To whom a permission is given, under `person`, `org`, `community` or `group`.
+    #[tactic(auto, unfolding(crate::specs::Parameters::grantee_in))]
+    pub(crate) fn grantee(&self) -> Result<Grantee, RequestFault>
+        ensures { Gives result (spec.grantee_in self.now) }
+    {
+        let person = self.optional_number("person")?;
+        let org = self.optional_number("org")?;
+        let community = self.optional_number("community")?;
+        let group = self.optional_number("group")?;
+        sole_grantee(person, org, community, group)
+    }
+
+    /// Who is addressed, under `person` or `org`, with no parameter beside it.
+    #[tactic(auto, unfolding(crate::specs::Parameters::target_alone))]
+    pub(crate) fn target_alone(&self) -> Result<Target, RequestFault>
+        ensures { Gives result (spec.target_alone self.now) }
+    {
+        self.only(&["person", "org"])?;
+        let person = self.optional_number("person")?;
+        let org = self.optional_number("org")?;
+        sole_target(person, org)
+    }
+}
+
+/// Exactly one of the four.
+#[tactic(auto, unfolding(crate::specs::Parameters::one_grantee))]
+fn sole_grantee(
+    person: Option<u32>,
+    org: Option<u32>,
+    community: Option<u32>,
+    group: Option<u32>,
+) -> Result<Grantee, RequestFault>
+    ensures { Gives result (spec.one_grantee person org community group) }
+{
+    match (person, org, community, group) {
+        (Some(n), None, None, None) => Ok(Grantee::Person(n)),
+        (None, Some(n), None, None) => Ok(Grantee::Org(n)),
+        (None, None, Some(n), None) => Ok(Grantee::Community(n)),
+        (None, None, None, Some(n)) => Ok(Grantee::Group(n)),
+        _ => Err(RequestFault::BadBody),
+    }
+}
+
+/// Exactly one of the two.
+#[tactic(auto, unfolding(crate::specs::Parameters::one_target))]
+fn sole_target(person: Option<u32>, org: Option<u32>) -> Result<Target, RequestFault>
+    ensures { Gives result (spec.one_target person org) }
+{
+    match (person, org) {
+        (Some(n), None) => Ok(Target::Person(n)),
+        (None, Some(n)) => Ok(Target::Org(n)),
+        _ => Err(RequestFault::BadBody),
+    }
+}

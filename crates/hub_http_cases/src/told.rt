@@ -1,0 +1,192 @@
+//! What is asked, in words.
+
+use hub_core::{Bytes, Request, Target, WantedGates};
+use hub_http::Key;
+use policy::Grantee;
+use std::alloc::{AllocError, Global};
+
+/// The longest document that is printed whole, in bytes.
+const SHORT: usize = 100;
+
+fn group(alloc: Global, group: Option<u32>) -> Result<String, AllocError> {
+    match group {
+        Some(n) => format!(in alloc; "{n}"),
+        None => String::from_str(alloc, "-"),
+    }
+}
+
+fn gates(alloc: Global, gates: &WantedGates) -> Result<String, AllocError> {
+    let mut all = String::new(alloc);
+    for gate in gates.as_slice() {
+        let group = group(alloc, gate.group)?;
+        let level = gate.level;
+        let path = gate.path.as_str();
+        let one = format!(in alloc; " {level}:{group}:{path:?}")?;
+        all.push_str(one.as_str())?;
+    }
+    Ok(all)
+}
+
+fn document(alloc: Global, document: &Bytes) -> Result<String, AllocError> {
+    let bytes = document.as_slice();
+    let count = bytes.len();
+    match str::from_utf8(bytes) {
+        Ok(text) if count <= SHORT => format!(in alloc; "{text:?}"),
+        _ => format!(in alloc; "{count} bytes"),
+    }
+}
+
+fn grantee(grantee: Grantee) -> (&'static str, u32) {
+    match grantee {
+        Grantee::Person(n) => ("person", n),
+        Grantee::Org(n) => ("org", n),
+        Grantee::Community(n) => ("community", n),
+        Grantee::Group(n) => ("group", n),
+    }
+}
+
+fn target(target: Target) -> (&'static str, u32) {
+    match target {
+        Target::Person(n) => ("person", n),
+        Target::Org(n) => ("org", n),
+    }
+}
+
+/// A request that reads.
+fn reading(alloc: Global, request: &Request) -> Result<Option<String>, AllocError> {
+    let told = match request {
+        Request::View { incident } => format!(in alloc; "View {incident}")?,
+        Request::List { after } => format!(in alloc; "List after {after}")?,
+        Request::Search {
+            needle,
+            class,
+            after,
+        } => {
+            let needle = needle.as_str();
+            match class {
+                Some(class) => {
+                    let class = class.as_str();
+                    format!(in alloc; "Search {needle:?} in {class:?} after {after}")?
+                }
+                None => format!(in alloc; "Search {needle:?} after {after}")?,
+            }
+        }
+        Request::Addressed { after } => format!(in alloc; "Addressed after {after}")?,
+        Request::MyGroups => String::from_str(alloc, "MyGroups")?,
+        Request::WhoAmI => String::from_str(alloc, "WhoAmI")?,
+        _ => return Ok(None),
+    };
+    Ok(Some(told))
+}
+
+/// A request with a document.
+fn posting(alloc: Global, request: &Request) -> Result<Option<String>, AllocError> {
+    let told = match request {
+        Request::Post {
+            level,
+            group: wanted,
+            gates: listed,
+            document: body,
+        } => {
+            let group = group(alloc, *wanted)?;
+            let gates = gates(alloc, listed)?;
+            let document = document(alloc, body)?;
+            format!(in alloc; "Post level {level} group {group} gates{gates} document {document}")?
+        }
+        Request::Replace {
+            incident,
+            revision,
+            level,
+            group: wanted,
+            gates: listed,
+            document: body,
+        } => {
+            let group = group(alloc, *wanted)?;
+            let gates = gates(alloc, listed)?;
+            let document = document(alloc, body)?;
+            format!(in alloc;
+                "Replace {incident} revision {revision} level {level} group {group} gates{gates} document {document}"
+            )?
+        }
+        _ => return Ok(None),
+    };
+    Ok(Some(told))
+}
+
+/// A request that changes who sees an incident.
+fn widening(alloc: Global, request: &Request) -> Result<Option<String>, AllocError> {
+    let told = match request {
+        Request::Redistribute {
+            incident,
+            revision,
+            path,
+            level,
+            group: wanted,
+        } => {
+            let path = path.as_str();
+            let group = group(alloc, *wanted)?;
+            format!(in alloc;
+                "Redistribute {incident} revision {revision} {path:?} level {level} group {group}"
+            )?
+        }
+        Request::Address {
+            incident,
+            target: to,
+        } => {
+            let (kind, number) = target(*to);
+            format!(in alloc; "Address {incident} {kind} {number}")?
+        }
+        Request::Unaddress {
+            incident,
+            target: to,
+        } => {
+            let (kind, number) = target(*to);
+            format!(in alloc; "Unaddress {incident} {kind} {number}")?
+        }
+        Request::Grant {
+            incident,
+            revision,
+            path,
+            grantee: to,
+        } => {
+            let path = path.as_str();
+            let (kind, number) = grantee(*to);
+            format!(in alloc; "Grant {incident} revision {revision} {path:?} {kind} {number}")?
+        }
+        Request::Withdraw {
+            incident,
+            path,
+            grantee: from,
+        } => {
+            let path = path.as_str();
+            let (kind, number) = grantee(*from);
+            format!(in alloc; "Withdraw {incident} {path:?} {kind} {number}")?
+        }
+        Request::Circle(command) => format!(in alloc; "{command:?}")?,
+        _ => return Ok(None),
+    };
+    Ok(Some(told))
+}
+
+fn request(alloc: Global, request: &Request) -> Result<String, AllocError> {
+    if let Some(told) = reading(alloc, request)? {
+        return Ok(told);
+    }
+    if let Some(told) = posting(alloc, request)? {
+        return Ok(told);
+    }
+    match widening(alloc, request)? {
+        Some(told) => Ok(told),
+        None => String::from_str(alloc, "?"),
+    }
+}
+
+/// The key's digest, or `absent`, and the request.
+pub fn asked(alloc: Global, key: &Key, wanted: &Request) -> Result<String, AllocError> {
+    let key = match key {
+        Key::Absent => String::from_str(alloc, "absent")?,
+        Key::Digest(bytes) => hex::encode(alloc, bytes.as_slice())?,
+    };
+    let told = request(alloc, wanted)?;
+    format!(in alloc; "{key} {told}")
+}
