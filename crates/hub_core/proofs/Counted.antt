@@ -1,10 +1,10 @@
 -- How many rows of an incident there are, and how many there are after a change.
-use Rattle.std.proofs.Common.{◌≡◌, ℕ, ◌+◌, ◌==◌, ◌&&◌, Bool, true, false, not, List, [], ◌∷◌, filter, if◌then◌else◌, refl, sym, ap, ◌∙◌, arith}
+use Rattle.std.proofs.Common.{◌≡◌, ℕ, ◌+◌, ◌==◌, ◌&&◌, Bool, true, false, not, List, [], ◌∷◌, filter, length, if◌then◌else◌, refl, sym, ap, ◌∙◌, arith}
 use Rattle.std.specs.Prelude.{count_by}
 use Rattle.std.specs.declared.cmp.Ordering.{Ordering}
 use Rattle.std.specs.Ordering.{is_lt}
 use Rattle.std.proofs.lemmas.Bool.Decides.{nat_tests}
-use Rattle.std.proofs.lemmas.List.Sums.{sum_by-cons}
+use Rattle.std.proofs.lemmas.List.Sums.{sum_by-cons, length-filter}
 use Rattle.iodef_tree.specs.Text.{same_path, is_root}
 use Rattle.circle.specs.Ordered.{put_by}
 use Rattle.hub_core.specs.State.{gate_cmp, is_gate_at, class_gates}
@@ -47,7 +47,7 @@ count_put p cmp x (y ∷ ys) = split (is_lt (cmp x y)) (count_put p cmp x ys)
 pub gates_counted : (n : ℕ) (xs ys : List Gate) → ys ≡ filter (λ (g : Gate). g.incident == n) xs → count_by (λ (g : Gate). not (is_root g.path)) ys ≡ class_gates n xs
 gates_counted n xs ys is = ap (count_by (λ (g : Gate). not (is_root g.path))) is ∙ count_left (λ (g : Gate). not (is_root g.path)) (λ (g : Gate). g.incident == n) xs
 
-itself : (n : ℕ) → (n == n) ≡ true
+pub itself : (n : ℕ) → (n == n) ≡ true
 itself n = grind (arith, nat_tests)
 
 turned : (a b c : Bool) → (a && (not b && c)) ≡ (not (a && b) && (a && c))
@@ -68,3 +68,24 @@ gates_exchanged g xs ys is =
     (λ x. sym (turned (x.incident == g.incident) (same_path x.path g.path) (not (is_root x.path))))
     ∙ (sym (count_left (λ (x : Gate). not (same_path x.path g.path) && not (is_root x.path)) (λ (x : Gate). x.incident == g.incident) xs)
     ∙ ap (count_by (λ (x : Gate). not (same_path x.path g.path) && not (is_root x.path))) (sym is))))))
+
+-- one more or none
+pub one_unless : (b : Bool) → (if b then 1 else 0) ≡ one_if b
+one_unless true = refl
+one_unless false = refl
+
+beside : (a b : Bool) → (a && not b) ≡ (not (a && b) && a)
+beside true true = refl
+beside true false = refl
+beside false b = refl
+
+-- of those that are mine, all but some
+pub counted_beside : {X : Type 0} (mine some : X → Bool) (xs ys : List X) → ys ≡ filter mine xs → count_by (λ x. not (some x)) ys ≡ count_by mine (filter (λ x. not (mine x && some x)) xs)
+counted_beside mine some xs ys is =
+    ap (count_by (λ x. not (some x))) is
+    ∙ (count_left (λ x. not (some x)) mine xs
+    ∙ (count_same (λ x. mine x && not (some x)) (λ x. not (mine x && some x) && mine x) xs (λ x. beside (mine x) (some x))
+    ∙ sym (count_left mine (λ x. not (mine x && some x)) xs)))
+
+pub counted_all : {X : Type 0} (mine : X → Bool) (xs ys : List X) → ys ≡ filter mine xs → length ys ≡ count_by mine xs
+counted_all mine xs ys is = ap length is ∙ length-filter mine xs

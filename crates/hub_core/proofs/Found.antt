@@ -27,9 +27,6 @@ use Rattle.hub_core.specs.Orders.{incident_cmp, named_cmp}
 use Rattle.hub_core.specs.State.{incident_number}
 use Rattle.hub_core.specs.declared.state.Incident.{Incident}
 use Rattle.hub_core.specs.declared.rows.Named.{Named}
-use Rattle.hub_core.specs.Handlings.{handling_in}
-use Rattle.circle.specs.declared.directory.Handling.{Handling as Arranged}
-use Rattle.circle.specs.declared.directory.Arrangement.{Arrangement}
 
 pub first_found : {X : Type 0} (p : X → Bool) (xs : List X) → slice_get (filter p xs) 0 ≡ find p xs
 first_found p [] = refl
@@ -154,9 +151,3 @@ pub all_above : (n : ℕ) (xs : List Incident) (from : ℕ) → IsInOrder incide
 all_above n xs from all h point =
     sym (gone_before (λ (i : Incident). nat_le i.number n) xs from h (point (partitioned (λ a b. is_lt (incident_cmp b a) ≡ false) (λ (i : Incident). nat_le i.number n) xs (λ a b. number_back a.number b.number n) all)))
     ∙ filter_same (λ (i : Incident). not (nat_le i.number n)) (λ (i : Incident). nat_lt n i.number) xs (λ i. above_or_not i.number n)
-
--- ---- an arrangement under the names of the labels
-
-pub arranged_as : (o : Option Arrangement) (h : Option Arranged) → h ≡ option_map (λ (a : Arrangement). a.handling) o → option_map handling_in h ≡ option_map (λ (a : Arrangement). handling_in a.handling) o
-arranged_as None h e = ap (option_map handling_in) e
-arranged_as (Some a) h e = ap (option_map handling_in) e

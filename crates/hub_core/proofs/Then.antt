@@ -1,5 +1,5 @@
 -- What a request leaves of the rows that are counted for it.
-use Rattle.std.proofs.Common.{◌≡◌, ℕ, ◌+◌, ◌==◌, ◌&&◌, Bool, true, false, not, List, [], ◌∷◌, ◌++◌, filter, Option, Some, None, refl, ap, ◌∙◌}
+use Rattle.std.proofs.Common.{◌≡◌, ℕ, ◌+◌, ◌==◌, ◌&&◌, Bool, true, false, not, List, [], ◌∷◌, ◌++◌, filter, if◌then◌else◌, Option, Some, None, refl, sym, ap, ◌∙◌}
 use Rattle.std.specs.Prelude.{count_by}
 use Rattle.std.specs.List.{flat_map}
 use Rattle.std.specs.Option.{option_map_or}
@@ -76,3 +76,7 @@ none_counted (x ∷ xs) = none_counted xs
 pub none_left : (n : ℕ) (xs : List Permission) → permissions_of n (filter (λ (x : Permission). not (x.incident == n)) xs) ≡ 0
 none_left n xs = count_left (λ (x : Permission). x.incident == n) (λ (x : Permission). not (x.incident == n)) xs
     ∙ (count_same (λ (x : Permission). not (x.incident == n) && (x.incident == n)) (λ x. false) xs (λ x. nowhere (x.incident == n)) ∙ none_counted xs)
+
+pub none_then : (b : Bool) (k : ℕ) → k ≡ 0 → 0 ≡ (if b then k else 0)
+none_then true k h = sym h
+none_then false k h = refl

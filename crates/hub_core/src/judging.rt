@@ -1,5 +1,5 @@
 //! Why a request is refused, or what it changes: by the facts alone.
-ghost use Rattle.std.specs.Prelude.{◌≡◌, List, IfErr, IfOk, None, OnOk};
+ghost use Rattle.std.specs.Prelude.{◌≡◌, ◌<◌, List, IfErr, IfOk, None, OnOk};
 ghost use Rattle.circle.specs.Outcomes.{RefusedAs};
 ghost use Rattle.circle.specs.Refusals.{Ground, first_of};
 ghost use Rattle.hub_core.specs.State.{State};
@@ -7,6 +7,7 @@ ghost use Rattle.hub_core.specs.Edits.{after as after_edits};
 ghost use Rattle.hub_core.specs.Sound.{IsSound};
 ghost use Rattle.hub_core.specs.Facts.{facts_of};
 ghost use Rattle.hub_core.specs.Refusals.{refusal_of, state_after};
+ghost use Rattle.hub_core.specs.Judgement.{edits_by};
 ghost use Rattle.hub_core.specs.Asked.{Asks};
 
 mod body;
@@ -44,6 +45,7 @@ pub fn judge(
 ) -> Result<Vec<Edit>, Refusal>
     ensures refused { (s : State) → facts.now ≡ facts_of s actor.now request.now → IfErr result (RefusedAs (refusal_of s actor.now request.now)) }
     ensures allowed { (s : State) → facts.now ≡ facts_of s actor.now request.now → OnOk result (refusal_of s actor.now request.now ≡ None) }
+    ensures edits { facts.now.circle.count < 4294967295 → IfOk result (λ edits. edits.items ≡ edits_by facts.now actor.now request.now) }
     ensures made { (s : State) → IsSound s → facts.now ≡ facts_of s actor.now request.now → IfOk result (λ edits. after_edits edits.items s ≡ state_after s actor.now request.now) }
 {
     match request {

@@ -3,19 +3,21 @@ ghost use Rattle.std.specs.Prelude.{◌≡◌, ◌==◌, ◌≤◌, IfOk, option
 ghost use Rattle.std.specs.List.{list_all};
 ghost use Rattle.iodef_tree.specs.Pointer.{pointer_tokens};
 ghost use Rattle.hub_core.specs.Documents.{at_pointer, documents_in, ident_of};
-ghost use Rattle.hub_core.specs.State.{incident_of, has_gate, has_permission};
+ghost use Rattle.hub_core.specs.State.{incident_of, incident_named, incident_number, has_gate, has_permission};
 ghost use Rattle.hub_core.specs.Sound.{IsSound};
 ghost use Rattle.hub_core.specs.Refusals.{is_own_group, are_own_groups, is_target, is_grantee, incident_asked as incident_named_by, posted_in};
-ghost use Rattle.hub_core.specs.Facts.{plain_facts, circle_facts_of, known, looked_up};
+ghost use Rattle.hub_core.specs.Facts.{plain_facts, circle_facts_of, known, looked_up, posted_of, facts_of};
 
-use crate::facts::Known;
+use crate::bytes::Bytes;
+use crate::facts::{Facts, Known};
 use crate::list_shelf::ListShelf;
 use crate::request::{Request, Target, WantedGate, WantedGates};
+use crate::rows::Named;
 use crate::state::Incident;
 use circle::command::CircleFacts;
 use circle::directory::Person;
 use circle::text::Text;
-use iodef_tree::{Document, Path, PathFault};
+use iodef_tree::{Document, Path, PathFault, ReadFault};
 use policy::Grantee;
 use std::alloc::{AllocError, Global};
 
@@ -210,6 +212,97 @@ impl ListShelf {
                 grantee,
             } => plain_facts(true, self.stands_permission(*incident, path, *grantee)?, 0),
             _ => plain_facts(true, false, 0),
+        })
+    }
+}
+
+impl ListShelf {
+    /// The number of the incident that the source has posted under the document's ident.
+    fn posted_as(&self, source: u32, document: &Document) -> Result<Option<u32>, AllocError>
+        ensures { IsSound self.now → IfOk result (λ number. number ≡ option_map incident_number (incident_named source (ident_of document.now) self.now)) }
+    {
+        let name = Named {
+            source,
+            ident: ident_in(self.alloc(), document)?,
+            number: 0,
+        };
+        Ok(self.number_of(&name))
+    }
+
+    /// The number of the first incident of the documents that the source has posted before.
+    fn posted_among(&self, source: u32, documents: &[Document]) -> Result<Option<u32>, AllocError>
+        ensures { IsSound self.now → IfOk result (λ number. number ≡ posted_in self.now source documents.now) }
+    {
+        for document in documents {
+            let posted = self.posted_as(source, document)?;
+            if posted.is_some() {
+                return Ok(posted);
+            }
+        }
+        Ok(None)
+    }
+
+    /// The number of the first incident of a body that the source has posted before.
+    fn posted_in(&self, source: u32, body: &Bytes) -> Result<Option<u32>, AllocError>
+        ensures { IsSound self.now → IfOk result (λ number. number ≡ posted_in self.now source (documents_in body.now)) }
+    {
+        match Document::read(self.alloc(), body.as_slice()) {
+            Ok(documents) => self.posted_among(source, &documents),
+            Err(ReadFault::NoMemory) => Err(AllocError),
+            Err(_) => Ok(None),
+        }
+    }
+
+    /// The number of the first incident of a Post's body that the actor's organisation has posted before.
+    fn posted(&self, actor: &Person, request: &Request) -> Result<Option<u32>, AllocError>
+        ensures { IsSound self.now → IfOk result (λ number. number ≡ posted_of self.now actor.now request.now) }
+    {
+        match request {
+            Request::Post { document, .. } => self.posted_in(actor.org, document),
+            _ => Ok(None),
+        }
+    }
+
+    fn known_asked(&self, incident: Option<u32>) -> Result<Option<Known>, AllocError>
+        ensures { IfOk result (λ found. found ≡ option_map known (looked_up self.now incident)) }
+    {
+        match incident {
+            None => Ok(None),
+            Some(number) => self.find_known(number),
+        }
+    }
+
+    fn find_known(&self, number: u32) -> Result<Option<Known>, AllocError>
+        ensures { IfOk result (λ found. found ≡ option_map known (incident_of number self.now)) }
+    {
+        match self.incident(number) {
+            None => Ok(None),
+            Some(incident) => Ok(Some(known_of(incident)?)),
+        }
+    }
+
+    fn document_asked(&self, incident: Option<u32>) -> Result<Option<Document>, AllocError>
+        ensures { IfOk result (λ found. found ≡ option_map (λ i. i.document) (looked_up self.now incident)) }
+    {
+        match incident {
+            None => Ok(None),
+            Some(number) => self.find_document(number),
+        }
+    }
+
+    /// What there is to know about a person's request.
+    pub(crate) fn find_facts(&self, actor: &Person, request: &Request) -> Result<Facts, AllocError>
+        ensures { IsSound self.now → IfOk result (λ facts. facts ≡ facts_of self.now actor.now request.now) }
+    {
+        let incident = incident_asked(request);
+        Ok(Facts {
+            circle: self.circle_facts(actor, request)?,
+            incident: self.known_asked(incident)?,
+            document: self.document_asked(incident)?,
+            posted: self.posted(actor, request)?,
+            gates: self.gates_then(request)?,
+            recipients: self.recipients_then(request),
+            permissions: self.permissions_then(request)?,
         })
     }
 }

@@ -1,19 +1,25 @@
 //! The hub's state in memory.
-ghost use Rattle.std.specs.Prelude.{◌≡◌, ◌==◌, OnOk, OnErr, IfOk, map, filter, length, min};
+ghost use Rattle.std.specs.Prelude.{◌≡◌, ◌==◌, ℕ, Option, OnOk, OnErr, IfOk, map, filter, length, min, option_map};
 ghost use Rattle.std.specs.Option.{option_copied};
-ghost use Rattle.hub_core.specs.State.{State, empty, incident_of, has_gate, has_recipient, has_permission};
+ghost use Rattle.hub_core.specs.State.{State, empty, incident_of, incident_named, incident_number, has_gate, has_recipient, has_permission, class_gates, recipients_of, permissions_of};
 ghost use Rattle.hub_core.specs.Reads.{case_gate, case_permission, entries_after};
-ghost use Rattle.hub_core.specs.Edits.{after as after_edits};
+ghost use Rattle.hub_core.specs.Edits.{edited, after as after_edits};
+ghost use Rattle.hub_core.specs.Sound.{IsSound};
+ghost use Rattle.hub_core.specs.declared.edit.Edit.TheVariants as edit;
 
 use crate::change::changes_of;
 use crate::edit::Edit;
+use crate::facts::Facts;
 use crate::lists::Lists;
-use crate::reply::Entry;
-use crate::request::Target;
+use crate::reply::{Entry, JoinedGroup};
+use crate::request::{Request, Target};
+use crate::rows::Named;
+use crate::shelf::{Shelf, ShelfFault};
 use crate::state::Incident;
+use circle::directory::Person;
 use circle::rows::DirectoryRows;
-use iodef_tree::Path;
-use policy::{Gates, Grantee, Permissions};
+use iodef_tree::{Document, Path};
+use policy::{Case, Gates, Grantee, Permissions, Standing};
 use std::alloc::{AllocError, Global};
 use std::marker::Model;
 
@@ -95,6 +101,55 @@ impl ListShelf {
         number_of(self.lists.incidents.as_slice().len())
     }
 
+    /// How many class gates the incident has.
+    pub(crate) fn class_gates(&self, incident: u32) -> usize
+        ensures { result ≡ class_gates incident self.now.gates }
+    {
+        self.lists.class_gates(incident)
+    }
+
+    /// How many class gates the incident would have with a gate at this path, in the place of the one that stands there.
+    pub(crate) fn class_gates_with(&self, incident: u32, path: &Path) -> usize
+        ensures { (level : ℕ) → (group : Option ℕ) → result ≡ class_gates incident (edited (edit.PutGate (record { incident = incident; path = path.now; level = level; group = group })) (edited (edit.TakeGate incident path.now) self.now)).gates }
+    {
+        self.lists.class_gates_with(incident, path)
+    }
+
+    /// How many recipients the incident has.
+    pub(crate) fn recipient_count(&self, incident: u32) -> usize
+        ensures { result ≡ recipients_of incident self.now.recipients }
+    {
+        self.lists.recipient_count(incident)
+    }
+
+    /// How many recipients the incident would have without this one.
+    pub(crate) fn recipients_without(&self, incident: u32, target: Target) -> usize
+        ensures { result ≡ recipients_of incident (edited (edit.TakeRecipient (record { incident = incident; target = target })) self.now).recipients }
+    {
+        self.lists.recipients_without(incident, target)
+    }
+
+    /// How many permissions the incident has.
+    pub(crate) fn permission_count(&self, incident: u32) -> usize
+        ensures { result ≡ permissions_of incident self.now.permissions }
+    {
+        self.lists.permission_count(incident)
+    }
+
+    /// How many permissions the incident would have without the one at this path for this grantee.
+    pub(crate) fn permissions_without(&self, incident: u32, path: &Path, grantee: Grantee) -> usize
+        ensures { result ≡ permissions_of incident (edited (edit.TakePermission incident path.now grantee) self.now).permissions }
+    {
+        self.lists.permissions_without(incident, path, grantee)
+    }
+
+    /// The number of the incident that a source has posted under an ident.
+    pub(crate) fn number_of(&self, name: &Named) -> Option<u32>
+        ensures { IsSound self.now → result ≡ option_map incident_number (incident_named name.now.source name.now.ident self.now) }
+    {
+        self.lists.number_of(name)
+    }
+
     pub(crate) fn case_gates(&self, incident: u32) -> Result<Gates, AllocError>
         ensures { IfOk result (λ v. v ≡ map case_gate (filter (λ g. g.incident == incident) self.now.gates)) }
     {
@@ -134,5 +189,65 @@ pub(crate) fn number_of(count: usize) -> u32
         count as u32
     } else {
         u32::MAX
+    }
+}
+
+impl From<AllocError> for ShelfFault {
+    ghost use Rattle.hub_core.specs.declared.shelf.ShelfFault.TheVariants.{NoMemory};
+    ghost use Rattle.std.specs.Prelude.{◌≡◌};
+
+    ghost from_gives = { λ _ fault. fault ≡ NoMemory };
+
+    fn from(_refused: AllocError) -> ShelfFault {
+        ShelfFault::NoMemory
+    }
+}
+
+impl Shelf for ListShelf {
+    ghost use Rattle.std.specs.Prelude.{◌≡◌};
+    ghost use Rattle.hub_core.specs.Sound.{IsSound};
+
+    ghost has = { λ shelf s. (shelf ≡ s) × IsSound s };
+
+    ghost doubts = { λ _. 0 };
+
+    ghost failed = { λ _. 0 };
+
+    ghost may_leave = { λ shelf left. left ≡ shelf };
+
+    fn failures(&self) -> u64 {
+        0
+    }
+
+    fn person_by_key(&mut self, key: &[u8; 32]) -> Result<Option<Person>, ShelfFault> {
+        Ok(self.find_person(key)?)
+    }
+
+    fn standing(&mut self, person: u32, incident: u32) -> Result<Option<Standing>, ShelfFault> {
+        Ok(self.find_standing(person, incident)?)
+    }
+
+    fn case(&mut self, incident: u32) -> Result<Option<Case>, ShelfFault> {
+        Ok(self.find_case(incident)?)
+    }
+
+    fn document(&mut self, incident: u32) -> Result<Option<Document>, ShelfFault> {
+        Ok(self.find_document(incident)?)
+    }
+
+    fn incidents_after(&mut self, number: u32, most: u32) -> Result<Vec<Entry>, ShelfFault> {
+        Ok(self.list_after(number, most)?)
+    }
+
+    fn groups_of(&mut self, person: &Person) -> Result<Vec<JoinedGroup>, ShelfFault> {
+        Ok(self.joined_groups(person)?)
+    }
+
+    fn facts(&mut self, actor: &Person, request: &Request) -> Result<Facts, ShelfFault> {
+        Ok(self.find_facts(actor, request)?)
+    }
+
+    fn apply(&mut self, edits: &[Edit]) -> Result<(), ShelfFault> {
+        Ok(self.make(edits)?)
     }
 }

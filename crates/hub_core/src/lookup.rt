@@ -1,13 +1,13 @@
 //! What the lists tell of an incident: its row by its number or its name, and its gates, recipients and permissions,
 //! which stand together.
-ghost use Rattle.std.specs.Prelude.{◌≡◌, ℕ, List, ◌==◌, ◌&&◌, not, filter, map, take, length, count_by, option_map, option_copied, IfOk, IfSome};
+ghost use Rattle.std.specs.Prelude.{◌≡◌, ℕ, List, ◌==◌, ◌&&◌, filter, map, take, option_map, option_copied, IfOk};
 ghost use Rattle.std.specs.List.{list_any};
 ghost use Rattle.circle.specs.Directory.{Directory};
-ghost use Rattle.iodef_tree.specs.Text.{is_root, same_path};
+ghost use Rattle.iodef_tree.specs.Text.{same_path};
 ghost use Rattle.hub_core.specs.InOrder.{is_alike};
 ghost use Rattle.hub_core.specs.Lists.{AreInOrder, with_directory};
 ghost use Rattle.circle.specs.Sound.{Differ};
-ghost use Rattle.hub_core.specs.State.{incident_in, incident_named, incident_number, has_gate, has_recipient, has_permission, class_gates, recipients_of, permissions_of, same_group, same_target, same_grantee};
+ghost use Rattle.hub_core.specs.State.{incident_in, incident_named, incident_number, has_gate, has_recipient, has_permission, same_group, same_target, same_grantee};
 ghost use Rattle.hub_core.specs.Orders.{named_cmp};
 ghost use Rattle.hub_core.specs.declared.state.Incident.{Incident};
 ghost use Rattle.hub_core.specs.Reads.{case_gate, case_permission, entries_after, entry_of, incidents_above};
@@ -240,7 +240,11 @@ pub(crate) fn is_same_target(one: Target, other: Target) -> bool
     }
 }
 
-fn is_same_permission(permission: &PlacedPermission, path: &Path, grantee: Grantee) -> bool
+pub(crate) fn is_same_permission(
+    permission: &PlacedPermission,
+    path: &Path,
+    grantee: Grantee,
+) -> bool
     ensures { result ≡ (same_path permission.now.path path.now && same_grantee permission.now.grantee grantee) }
 {
     let permission = permission.permission();
@@ -256,38 +260,5 @@ fn is_same_grantee(one: Grantee, other: Grantee) -> bool
         (Grantee::Community(one), Grantee::Community(other)) => one == other,
         (Grantee::Group(one), Grantee::Group(other)) => one == other,
         _ => false,
-    }
-}
-
-/// How many of the gates stand at a class.
-fn count_class_gates(gates: &[PlacedGate]) -> usize
-    ensures { result ≡ count_by (λ g. not (is_root g.path)) gates.now }
-{
-    gates.iter().filter(|gate| is_at_class(gate)).count()
-}
-
-fn is_at_class(gate: &PlacedGate) -> bool
-    ensures { result ≡ not (is_root gate.now.path) }
-{
-    !gate.gate().path.tokens().is_empty()
-}
-
-/// How many of the gates stand at a class, that at one path apart.
-fn count_class_gates_beside(gates: &[PlacedGate], path: &Path) -> usize
-    ensures { result ≡ count_by (λ g. not (same_path g.path path.now) && not (is_root g.path)) gates.now }
-{
-    gates
-        .iter()
-        .filter(|gate| gate.gate().path != *path && is_at_class(gate))
-        .count()
-}
-
-impl Lists {
-    /// How many class gates the incident has.
-    pub(crate) fn class_gates(&self, incident: u32) -> usize
-        requires { AreInOrder self.now }
-        ensures { result ≡ class_gates incident self.now.gates.items }
-    {
-        count_class_gates(self.gates_of(incident))
     }
 }

@@ -1,7 +1,7 @@
 //! Commands of the directory: circle judges them.
-ghost use Rattle.std.specs.Prelude.{◌≡◌, IfErr, IfOk, None, OnOk, map};
+ghost use Rattle.std.specs.Prelude.{◌≡◌, ◌+◌, IfErr, IfOk, None, OnOk, map};
 ghost use Rattle.circle.specs.Outcomes.{RefusedAs};
-ghost use Rattle.circle.specs.Aftermath.{rows_of, state_after};
+ghost use Rattle.circle.specs.Aftermath.{edit_of, rows_of, state_after};
 ghost use Rattle.circle.specs.Facts.{facts_of};
 ghost use Rattle.circle.specs.Refusals.{refusal_of};
 ghost use Rattle.circle.specs.Sound.{IsSound};
@@ -25,6 +25,7 @@ pub fn judge_command(
 ) -> Result<Vec<Edit>, Refusal>
     ensures refused { (s : State) → facts.now ≡ facts_of s.directory actor.now command.now → IfErr result (RefusedAs (refusal_of s.directory actor.now command.now)) }
     ensures allowed { (s : State) → facts.now ≡ facts_of s.directory actor.now command.now → OnOk result (refusal_of s.directory actor.now command.now ≡ None) }
+    ensures edits { IfOk result (λ edits. edits.items ≡ map edit.Directory (rows_of (edit_of (facts.now.count + 1) actor.now command.now))) }
     ensures made { (s : State) → IsSound s.directory → facts.now ≡ facts_of s.directory actor.now command.now → IfOk result (λ edits. after edits.items s ≡ record s { directory = state_after s.directory actor.now command.now }) }
 {
     let change = judge(alloc, actor, facts, command)?;

@@ -2,7 +2,8 @@ use Rattle.std.proofs.Common.{◌≡◌, ◌++◌, drop}
 use Rattle.std.specs.List.{filter_map}
 use Rattle.std.specs.Prelude.{option_map}
 use Rattle.circle.specs.declared.directory.GroupMember.{GroupMember}
-use Rattle.hub_core.specs.Reads.{joined, group_of, groups_of}
+use Rattle.circle.specs.Reads.{group_of}
+use Rattle.hub_core.specs.Reads.{joined, groups_of}
 use Rattle.hub_core.proofs.list_shelf.ListShelf.joined_groups.Given as goal
 
 abbrev pub invariant-loop-member : goal.invariant-loop-member

@@ -1,0 +1,188 @@
+-- What a change is answered, by its edits.
+use Rattle.std.proofs.Common.{◌≡◌, ℕ, ◌+◌, ◌<◌, ◌≤◌, ◌^◌, false, ◌==◌, List, [], ◌∷◌, ◌++◌, map, Option, Some, None, drop, get_or, length, refl, sym, ◌∙◌, ap, subst, arith, append_assoc}
+use Rattle.std.specs.Prelude.{ℤ, option_map}
+use Rattle.std.specs.List.{flat_map, cons_option}
+use Rattle.std.proofs.lemmas.List.{drop_more}
+use Rattle.std.specs.Option.{option_map_or}
+use Rattle.std.proofs.lemmas.Bool.{true≢false}
+use Rattle.std.proofs.lemmas.List.Elements.{filter_map-append}
+use Rattle.iodef_tree.specs.Text.{Tokens}
+use Rattle.iodef_tree.specs.Pointer.{pointer_tokens}
+use Rattle.circle.specs.Directory.{Directory}
+use Rattle.circle.specs.Aftermath.{next_in, edit_of, rows_of}
+use Rattle.circle.specs.declared.directory.Person.{Person}
+use Rattle.circle.specs.declared.command.CircleCommand.{CircleCommand}
+use Rattle.circle.specs.declared.command.CircleCommand.TheVariants.{AddOrg, AddPerson, SuspendPerson, AddClient, RemoveClient, AddCommunity, Join, Leave, Link, Unlink, NewGroup, GroupAdd, GroupRemove, GroupActive, Arrange, CancelArrange, Nominate, Unnominate}
+use Rattle.hub_core.specs.Documents.{Lines, documents_in, made_at}
+use Rattle.hub_core.specs.State.{State, incident_of}
+use Rattle.hub_core.specs.Aftermath.{next_incident, put_gate, put_incident, put_incidents, edits_of}
+use Rattle.hub_core.specs.Facts.{facts_of, looked_up, known}
+use Rattle.hub_core.specs.Refusals.{incident_asked, refusal_of}
+use Rattle.hub_core.specs.Judgement.{next_known, edits_by}
+use Rattle.hub_core.specs.Laws.{is_reading}
+use Rattle.hub_core.specs.Sound.{IsSound}
+use Rattle.hub_core.proofs.Agrees.{same_edits}
+use Rattle.hub_core.specs.declared.edit.Edit.{Edit}
+use Rattle.hub_core.specs.declared.edit.Edit.TheVariants.{Directory as Row}
+use Rattle.hub_core.specs.declared.facts.Facts.{Facts}
+use Rattle.hub_core.specs.declared.facts.Known.{Known}
+use Rattle.hub_core.specs.declared.state.Incident.{Incident}
+use Rattle.hub_core.specs.declared.reply.Reply.{Reply}
+use Rattle.hub_core.specs.declared.reply.Reply.TheVariants.{Numbers, Revision}
+use Rattle.hub_core.specs.declared.request.WantedGate.{WantedGate}
+use Rattle.hub_core.specs.declared.request.Request.{Request}
+use Rattle.hub_core.specs.declared.request.Request.TheVariants as ask
+use Rattle.hub.specs.Replies.{numbers_from, circle_reply, refused_or, answer_to}
+use Rattle.hub.specs.Serving.{due_to, number_put, numbers_put, made_reply}
+use Rattle.hub.proofs.Seeing.{found_each}
+
+-- ---- numbers
+
+no_number : (n level : ℕ) (group : Option ℕ) (o : Option Tokens) → numbers_put (option_map_or (put_gate n level group) o []) ≡ []
+no_number n level group None = refl
+no_number n level group (Some p) = refl
+
+no_numbers : (n : ℕ) (gates : List WantedGate) → numbers_put (flat_map (λ (g : WantedGate). made_at (put_gate n g.level g.group) g.path) gates) ≡ []
+no_numbers n [] = refl
+no_numbers n (g ∷ gs) =
+    let rest = flat_map (λ (g : WantedGate). made_at (put_gate n g.level g.group) g.path) gs in
+    filter_map-append number_put (made_at (put_gate n g.level g.group) g.path) rest
+    ∙ ap (λ ns. ns ++ numbers_put rest) (no_number n g.level g.group (pointer_tokens g.path))
+    ∙ no_numbers n gs
+
+numbers_of : (source n level : ℕ) (group : Option ℕ) (gates : List WantedGate) (docs : List Lines) → numbers_put (put_incidents source n level group gates docs) ≡ numbers_from n docs
+numbers_of source n level group gates [] = refl
+numbers_of source n level group gates (doc ∷ docs) =
+    let G = flat_map (λ (g : WantedGate). made_at (put_gate n g.level g.group) g.path) gates in
+    let rest = put_incidents source (n + 1) level group gates docs in
+    filter_map-append number_put (put_incident source n level group gates doc) rest
+    ∙ ap (λ ns. (n ∷ ns) ++ numbers_put rest) (no_numbers n gates)
+    ∙ ap (λ ns. n ∷ ns) (numbers_of source (n + 1) level group gates docs)
+
+circle_numbers : (d : Directory) (a : Person) (f : Facts) (c : CircleCommand) → made_reply f (ask.Circle c) (map Row (rows_of (edit_of (next_in d c) a c))) ≡ circle_reply d c
+circle_numbers d a f (AddOrg name) = refl
+circle_numbers d a f (AddPerson org name role key) = refl
+circle_numbers d a f (SuspendPerson person) = refl
+circle_numbers d a f (AddClient org client) = refl
+circle_numbers d a f (RemoveClient org client) = refl
+circle_numbers d a f (AddCommunity name) = refl
+circle_numbers d a f (Join community org) = refl
+circle_numbers d a f (Leave community org) = refl
+circle_numbers d a f (Link community other) = refl
+circle_numbers d a f (Unlink community other) = refl
+circle_numbers d a f (NewGroup name releasability) = refl
+circle_numbers d a f (GroupAdd group org extend) = refl
+circle_numbers d a f (GroupRemove group org) = refl
+circle_numbers d a f (GroupActive group active) = refl
+circle_numbers d a f (Arrange org handling) = refl
+circle_numbers d a f (CancelArrange org) = refl
+circle_numbers d a f (Nominate person) = refl
+circle_numbers d a f (Unnominate person) = refl
+
+-- ---- revisions
+
+same_revision : (o : Option Incident) → option_map_or (λ (k : Known). k.revision) (option_map known o) 0 ≡ option_map_or (λ (i : Incident). i.revision) o 0
+same_revision None = refl
+same_revision (Some i) = refl
+
+pub revision_fits : (s : State) (a : Person) (r : Request) → IsSound s → next_known (facts_of s a r) < 2 ^ 32
+revision_fits s a r sound = small (looked_up s (incident_asked r)) (there (incident_asked r))
+  where
+    there : (n : Option ℕ) (i : Incident) → looked_up s n ≡ Some i → i.revision ≤ 1000000
+    there None i h = cc
+    there (Some n) i h = found_each (λ (j : Incident). j.revision ≤ 1000000) (λ (j : Incident). j.number == n) s.incidents i sound.incidents.revisions h
+
+    small : (o : Option Incident) → ((i : Incident) → o ≡ Some i → i.revision ≤ 1000000) → option_map_or (λ (k : Known). k.revision) (option_map known o) 0 + 1 < 2 ^ 32
+    small None h = omega arith
+    small (Some i) h = let low = h i refl in omega (arith, low)
+
+-- ---- the reply
+
+pub reply_is : (s : State) (now : ℤ) (a : Person) (r : Request) → is_reading r ≡ false → made_reply (facts_of s a r) r (edits_of s a r) ≡ answer_to s now a r
+reply_is s now a (ask.Circle command) h = circle_numbers s.directory a (facts_of s a (ask.Circle command)) command
+reply_is s now a (ask.Post level group gates body) h = ap Numbers (numbers_of a.org (next_incident s) level group gates (documents_in body))
+reply_is s now a (ask.Replace n revision level group gates body) h = ap (λ k. Revision (k + 1)) (same_revision (incident_of n s))
+reply_is s now a (ask.Redistribute n revision path level group) h = refl
+reply_is s now a (ask.Address n target) h = refl
+reply_is s now a (ask.Unaddress n target) h = refl
+reply_is s now a (ask.Grant n revision path grantee) h = refl
+reply_is s now a (ask.Withdraw n path grantee) h = refl
+reply_is s now a (ask.View n) h = absurd (true≢false h)
+reply_is s now a (ask.List after) h = absurd (true≢false h)
+reply_is s now a (ask.Search needle class after) h = absurd (true≢false h)
+reply_is s now a (ask.Addressed after) h = absurd (true≢false h)
+reply_is s now a ask.MyGroups h = absurd (true≢false h)
+reply_is s now a ask.WhoAmI h = absurd (true≢false h)
+
+-- ---- one edit more
+
+module _ (edits : List Edit) (i : ℕ) (edit : Edit) (old new : List ℕ) where
+  pub number_more : i < length edits → edit ≡ get_or edits i edit → old ++ numbers_put (drop i edits) ≡ numbers_put edits → (n : ℕ) → number_put edit ≡ Some n → new ≡ old ++ n ∷ [] →
+      new ++ numbers_put (drop (i + 1) edits) ≡ numbers_put edits
+  number_more low is left n told grown =
+      let D = numbers_put (drop (i + 1) edits) in
+      let front : drop i edits ≡ edit ∷ drop (i + 1) edits = drop_more edits i edit low ∙ ap (λ x. x ∷ drop (i + 1) edits) (sym is) in
+      ap (λ xs. xs ++ D) grown ∙ append_assoc old (n ∷ []) D
+      ∙ ap (λ o. old ++ cons_option o D) (sym told)
+      ∙ ap (λ es. old ++ numbers_put es) (sym front) ∙ left
+
+  pub number_none : i < length edits → edit ≡ get_or edits i edit → old ++ numbers_put (drop i edits) ≡ numbers_put edits → number_put edit ≡ None → new ≡ old →
+      new ++ numbers_put (drop (i + 1) edits) ≡ numbers_put edits
+  number_none low is left told same =
+      let D = numbers_put (drop (i + 1) edits) in
+      let front : drop i edits ≡ edit ∷ drop (i + 1) edits = drop_more edits i edit low ∙ ap (λ x. x ∷ drop (i + 1) edits) (sym is) in
+      ap (λ xs. xs ++ D) same
+      ∙ ap (λ o. old ++ cons_option o D) (sym told)
+      ∙ ap (λ es. old ++ numbers_put es) (sym front) ∙ left
+
+-- ---- how many rows there are
+
+circle_count : (s : State) (a : Person) (c : CircleCommand) → IsSound s → (facts_of s a (ask.Circle c)).circle.count < 4294967295
+circle_count s a (AddOrg name) sound = let few = sound.directory.orgs.numbered.1 in omega (arith, few)
+circle_count s a (AddPerson org name role key) sound = let few = sound.directory.accounts.numbered.1 in omega (arith, few)
+circle_count s a (SuspendPerson person) sound = omega arith
+circle_count s a (AddClient org client) sound = omega arith
+circle_count s a (RemoveClient org client) sound = omega arith
+circle_count s a (AddCommunity name) sound = let few = sound.directory.communities.numbered.1 in omega (arith, few)
+circle_count s a (Join community org) sound = omega arith
+circle_count s a (Leave community org) sound = omega arith
+circle_count s a (Link community other) sound = omega arith
+circle_count s a (Unlink community other) sound = omega arith
+circle_count s a (NewGroup name releasability) sound = let few = sound.directory.groups.numbered.1 in omega (arith, few)
+circle_count s a (GroupAdd group org extend) sound = omega arith
+circle_count s a (GroupRemove group org) sound = omega arith
+circle_count s a (GroupActive group active) sound = omega arith
+circle_count s a (Arrange org handling) sound = omega arith
+circle_count s a (CancelArrange org) sound = omega arith
+circle_count s a (Nominate person) sound = omega arith
+circle_count s a (Unnominate person) sound = omega arith
+
+count_fits : (s : State) (a : Person) (r : Request) → IsSound s → (facts_of s a r).circle.count < 4294967295
+count_fits s a (ask.Circle command) sound = circle_count s a command sound
+count_fits s a (ask.Post level group gates body) sound = let few = sound.incidents.numbered.1 in omega (arith, few)
+count_fits s a (ask.Replace n revision level group gates body) sound = omega arith
+count_fits s a (ask.Redistribute n revision path level group) sound = omega arith
+count_fits s a (ask.Address n target) sound = omega arith
+count_fits s a (ask.Unaddress n target) sound = omega arith
+count_fits s a (ask.Grant n revision path grantee) sound = omega arith
+count_fits s a (ask.Withdraw n path grantee) sound = omega arith
+count_fits s a (ask.View n) sound = omega arith
+count_fits s a (ask.List after) sound = omega arith
+count_fits s a (ask.Search needle class after) sound = omega arith
+count_fits s a (ask.Addressed after) sound = omega arith
+count_fits s a ask.MyGroups sound = omega arith
+count_fits s a ask.WhoAmI sound = omega arith
+
+-- ---- what a change settles
+
+pub changed_reply : (s : State) (now : ℤ) (p : Person) (r : Request) (f : Facts) (edits : List Edit) (reply : Reply) → IsSound s → is_reading r ≡ false → f ≡ facts_of s p r → (f.circle.count < 4294967295 → edits ≡ edits_by f p r) →
+    refusal_of s p r ≡ None → (next_known f < 2 ^ 32 → reply ≡ made_reply f r edits) → reply ≡ due_to s now p r
+changed_reply s now p r f edits reply sound changes told is free made =
+    let fits : next_known f < 2 ^ 32 = subst (λ (g : Facts). next_known g < 2 ^ 32) (sym told) (revision_fits s p r sound) in
+    let few : f.circle.count < 4294967295 = subst (λ (g : Facts). g.circle.count < 4294967295) (sym told) (count_fits s p r sound) in
+    let all : edits ≡ edits_of s p r = is few ∙ ap (λ (g : Facts). edits_by g p r) told ∙ same_edits s p r sound in
+    made fits
+    ∙ ap (λ (g : Facts). made_reply g r edits) told
+    ∙ ap (made_reply (facts_of s p r) r) all
+    ∙ reply_is s now p r changes
+    ∙ ap (λ refusal. refused_or refusal (answer_to s now p r)) (sym free)

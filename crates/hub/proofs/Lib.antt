@@ -1,0 +1,9 @@
+pub mod Standings
+pub mod InOrder
+pub mod Keeping
+pub mod Numbered
+pub mod Paging
+pub mod Seeing
+pub mod Changing
+pub mod Served
+pub mod Runs

@@ -1,0 +1,230 @@
+-- A page, from the entries above a number.
+use Rattle.std.proofs.Common.{◌≡◌, ℕ, zero, suc, ◌+◌, ◌-◌, ◌<◌, ◌≤◌, Bool, true, false, List, [], ◌∷◌, ◌++◌, cond, Option, Some, None, length, take, drop, map, refl, sym, ◌∙◌, ap, subst, arith, filter, slice_get, get_or, not, ◌&&◌, ◌||◌, append_assoc}
+use Rattle.std.specs.Prelude.{option_map}
+use Rattle.std.specs.List.{AllByRecursion}
+use Rattle.std.specs.Option.{option_map_or}
+use Rattle.std.proofs.Math.Seq.{drop-nil, take-length}
+use Rattle.std.proofs.lemmas.Bool.{cond-true, cond-false, true≢false}
+use Rattle.std.proofs.lemmas.List.{take-append-drop, take-append-le, length-map, map-append, take-map, append-nil, drop_more, drop_all}
+use Rattle.std.proofs.lemmas.List.Elements.{filter-append}
+use Rattle.std.proofs.lemmas.Option.{slice_get_within}
+use Rattle.circle.specs.Sound.{CountsFrom}
+use Rattle.hub_core.specs.State.{State, incident_number, incident_of}
+use Rattle.hub_core.specs.Sound.{IsSound}
+use Rattle.hub_core.specs.Reads.{entry_of, incidents_above, entries_after}
+use Rattle.hub_core.specs.declared.state.Incident.{Incident}
+use Rattle.hub_core.specs.declared.reply.Entry.{Entry}
+use Rattle.policy.specs.declared.standing.Standing.{Standing}
+use Rattle.policy.specs.declared.case.Case.{Case}
+use Rattle.redact.specs.Told.{is_listed}
+use Rattle.hub_core.specs.Documents.{Lines}
+use Rattle.hub.specs.Wanted.{is_told, number_at_end, rules_out}
+use Rattle.hub.specs.declared.wanted.Wanted.{Wanted}
+use Rattle.hub.specs.declared.wanted.Wanted.TheVariants.{Shown, Found, Addressed}
+use Rattle.hub.proofs.Numbered.{above-numbered, counts-drop, counts-take, all_found}
+
+-- ---- the first so many
+
+pub take_take : {X : Type 0} (n : ℕ) (xs ys : List X) → take n (take n xs ++ ys) ≡ take n (xs ++ ys)
+take_take zero xs ys = refl
+take_take (suc n) [] ys = refl
+take_take (suc n) (x ∷ xs) ys = ap (λ zs. x ∷ zs) (take_take n xs ys)
+
+-- so many are there already
+pub take_full : {X : Type 0} (n : ℕ) (xs ys : List X) → n ≤ length xs → length xs ≤ n → take n (xs ++ ys) ≡ xs
+take_full n xs ys low high =
+    let same : n ≡ length xs = omega arith in
+    take-append-le n xs ys low ∙ ap (λ k. take k xs) same ∙ take-length xs
+
+-- no more than so many
+pub take_few : {X : Type 0} (n : ℕ) (xs : List X) → length xs ≤ n → take n xs ≡ xs
+take_few zero [] low = refl
+take_few zero (x ∷ xs) low = absurd (omega (arith, low))
+take_few (suc n) [] low = refl
+take_few (suc n) (x ∷ xs) low = ap (λ ys. x ∷ ys) (take_few n xs (omega (arith, low)))
+
+drop_drop : {X : Type 0} (a k : ℕ) (xs : List X) → drop (a + k) xs ≡ drop k (drop a xs)
+drop_drop zero k xs = let same : 0 + k ≡ k = omega arith in ap (λ n. drop n xs) same
+drop_drop (suc a) k [] = let same : suc a + k ≡ suc (a + k) = omega arith in ap (λ (n : ℕ). drop n []) same ∙ sym (drop-nil k)
+drop_drop (suc a) k (x ∷ xs) = let same : suc a + k ≡ suc (a + k) = omega arith in ap (λ (n : ℕ). drop n (x ∷ xs)) same ∙ drop_drop a k xs
+
+drop_as_taken : {X : Type 0} (n : ℕ) (xs : List X) → drop (length (take n xs)) xs ≡ drop n xs
+drop_as_taken zero xs = refl
+drop_as_taken (suc n) [] = refl
+drop_as_taken (suc n) (x ∷ xs) = drop_as_taken n xs
+
+at_end : (o : Option Entry) (n : ℕ) → option_map (λ (e : Entry). e.number) o ≡ Some n → (e : Entry) × (o ≡ Some e) × (e.number ≡ n)
+at_end None n h = cc
+at_end (Some e) n h = let same : e.number ≡ n = cc in (e, refl, same)
+
+-- ---- tests of an incident, by its number
+
+module _ (s : State) (test : Incident → Bool) where
+  abbrev pub test_at : ℕ → Bool
+  test_at n = option_map_or test (incident_of n s) false
+
+  filter_entries : (is : List Incident) → AllByRecursion (λ (i : Incident). incident_of i.number s ≡ Some i) is →
+      filter (λ (e : Entry). test_at e.number) (map entry_of is) ≡ map entry_of (filter test is)
+  filter_entries [] h = refl
+  filter_entries (i ∷ is) h =
+      let here : test_at i.number ≡ test i = ap (λ o. option_map_or test o false) h.0 in
+      ap (λ b. cond b (entry_of i ∷ filter (λ (e : Entry). test_at e.number) (map entry_of is)) (filter (λ (e : Entry). test_at e.number) (map entry_of is))) here
+      ∙ by_case (test i) _ _ (filter_entries is h.1)
+    where
+      by_case : (b : Bool) (es : List Entry) (js : List Incident) → es ≡ map entry_of js → cond b (entry_of i ∷ es) es ≡ map entry_of (cond b (i ∷ js) js)
+      by_case true es js same = ap (λ xs. entry_of i ∷ xs) same
+      by_case false es js same = same
+
+  all_taken : (P : Incident → Type 0) (n : ℕ) (is : List Incident) → AllByRecursion P is → AllByRecursion P (take n is)
+  all_taken P zero is h = tt
+  all_taken P (suc n) [] h = tt
+  all_taken P (suc n) (i ∷ is) h = (h.0, all_taken P n is h.1)
+
+  all_dropped : (P : Incident → Type 0) (n : ℕ) (is : List Incident) → AllByRecursion P is → AllByRecursion P (drop n is)
+  all_dropped P zero is h = h
+  all_dropped P (suc n) [] h = tt
+  all_dropped P (suc n) (i ∷ is) h = all_dropped P n is h.1
+
+  -- the entries of which the test holds, above a number
+  abbrev pub passing_above : ℕ → List Entry
+  passing_above a = map entry_of (filter test (incidents_above a s))
+
+  entries-drop : (a n : ℕ) → IsSound s → entries_after a n s ≡ map entry_of (take n (drop a s.incidents))
+  entries-drop a n sound =
+      ap (λ is. take n (map entry_of is)) (above-numbered incident_number a s.incidents sound.incidents.numbered.0) ∙ take-map entry_of n (drop a s.incidents)
+
+  entry-get : (is : List Incident) (m k : ℕ) (e : Entry) → CountsFrom incident_number m is → slice_get (map entry_of is) k ≡ Some e → e.number ≡ m + k + 1
+  entry-get [] m k e h is = cc
+  entry-get (i ∷ is) m zero e h at = let same : entry_of i ≡ e = cc in ap (λ (x : Entry). x.number) (sym same) ∙ omega (arith, h.0)
+  entry-get (i ∷ is) m (suc k) e h at = let later = entry-get is (m + 1) k e h.1 at in omega (arith, later)
+
+  last_of : (is : List Incident) (m : ℕ) (e : Entry) → CountsFrom incident_number m is → slice_get (map entry_of is) (length (map entry_of is) - 1) ≡ Some e → e.number ≡ m + length (map entry_of is)
+  last_of is m e h at =
+      let within = slice_get_within (map entry_of is) (length (map entry_of is) - 1) e at in
+      let there = entry-get is m (length (map entry_of is) - 1) e h at in
+      omega (arith, within, there)
+
+  last-number : (a n : ℕ) (e : Entry) → IsSound s → slice_get (entries_after a n s) (length (entries_after a n s) - 1) ≡ Some e → e.number ≡ a + length (entries_after a n s)
+  last-number a n e sound at =
+      let I = take n (drop a s.incidents) in
+      let same = entries-drop a n sound in
+      let counts = counts-take incident_number n (0 + a) (drop a s.incidents) (counts-drop incident_number a 0 s.incidents sound.incidents.numbered.0) in
+      let there : e.number ≡ (0 + a) + length (map entry_of I) = last_of I (0 + a) e counts (subst (λ es. slice_get es (length es - 1) ≡ Some e) same at) in
+      there ∙ omega arith ∙ ap (λ es. a + length es) (sym same)
+
+  -- what passes among the entries read, and then what passes above the last of them
+  passing-split : (a n : ℕ) (e : Entry) → IsSound s → slice_get (entries_after a n s) (length (entries_after a n s) - 1) ≡ Some e →
+      passing_above a ≡ filter (λ (x : Entry). test_at x.number) (entries_after a n s) ++ passing_above e.number
+  passing-split a n e sound at =
+      let D = drop a s.incidents in
+      let I = take n D in
+      let numbered = sound.incidents.numbered.0 in
+      let found = all_taken _ n D (all_dropped _ a s.incidents (all_found incident_number 0 s.incidents numbered)) in
+      let read : filter (λ (x : Entry). test_at x.number) (entries_after a n s) ≡ map entry_of (filter test I) =
+      ap (filter (λ (x : Entry). test_at x.number)) (entries-drop a n sound) ∙ filter_entries I found in
+      let up : e.number ≡ a + length I = last-number a n e sound at ∙ ap (λ es. a + length es) (entries-drop a n sound) ∙ ap (λ k. a + k) (length-map I entry_of) in
+      let behind : incidents_above e.number s ≡ drop n D =
+      above-numbered incident_number e.number s.incidents numbered ∙ ap (λ k. drop k s.incidents) up ∙ drop_drop a (length I) s.incidents ∙ drop_as_taken n D in
+      ap (λ is. map entry_of (filter test is)) (above-numbered incident_number a s.incidents numbered ∙ sym (take-append-drop n D))
+      ∙ ap (map entry_of) (filter-append test I (drop n D))
+      ∙ map-append entry_of (filter test I) (filter test (drop n D))
+      ∙ ap (λ es. es ++ map entry_of (filter test (drop n D))) (sym read)
+      ∙ ap (λ is. filter (λ (x : Entry). test_at x.number) (entries_after a n s) ++ map entry_of (filter test is)) (sym behind)
+
+  -- a page goes on with the entries read
+  page_by : (a : ℕ) (e : Entry) (old new : List Entry) → IsSound s → slice_get (entries_after a 100 s) (length (entries_after a 100 s) - 1) ≡ Some e →
+      new ≡ take 100 (old ++ filter (λ (x : Entry). test_at x.number) (entries_after a 100 s)) →
+      take 100 (new ++ passing_above e.number) ≡ take 100 (old ++ passing_above a)
+  page_by a e old new sound at is =
+      let F = filter (λ (x : Entry). test_at x.number) (entries_after a 100 s) in
+      ap (λ xs. take 100 (xs ++ passing_above e.number)) is
+      ∙ take_take 100 (old ++ F) (passing_above e.number)
+      ∙ ap (take 100) (append_assoc old F (passing_above e.number))
+      ∙ ap (λ xs. take 100 (old ++ xs)) (sym (passing-split a 100 e sound at))
+
+  pub page_on : (a b : ℕ) (old new : List Entry) → IsSound s → number_at_end (entries_after a 100 s) ≡ Some b →
+      new ≡ take 100 (old ++ filter (λ (x : Entry). test_at x.number) (entries_after a 100 s)) →
+      take 100 (new ++ passing_above b) ≡ take 100 (old ++ passing_above a)
+  page_on a b old new sound at is =
+      let last = at_end (slice_get (entries_after a 100 s) (length (entries_after a 100 s) - 1)) b at in
+      subst (λ n. take 100 (new ++ passing_above n) ≡ take 100 (old ++ passing_above a)) last.2 (page_by a last.0 old new sound last.1 is)
+
+  -- nothing is left where none is read
+  pub page_end : (a : ℕ) (old : List Entry) → IsSound s → entries_after a 100 s ≡ [] → length old ≤ 100 → take 100 (old ++ passing_above a) ≡ old
+  page_end a old sound none few =
+      let D = drop a s.incidents in
+      let empty : D ≡ [] = nothing D (sym (entries-drop a 100 sound) ∙ none) in
+      ap (λ is. take 100 (old ++ map entry_of (filter test is))) (above-numbered incident_number a s.incidents sound.incidents.numbered.0 ∙ empty)
+      ∙ ap (take 100) (append-nil old) ∙ take_few 100 old few
+    where
+      nothing : (is : List Incident) → map entry_of (take 100 is) ≡ [] → is ≡ []
+      nothing [] h = refl
+      nothing (i ∷ is) h = cc
+
+  -- where the last that is read isn't above the number, none is read
+  pub none_read : (a b : ℕ) → IsSound s → number_at_end (entries_after a 100 s) ≡ Some b → b ≤ a → ⊥
+  none_read a b sound end low =
+      let last = at_end (slice_get (entries_after a 100 s) (length (entries_after a 100 s) - 1)) b end in
+      let e = last.0 in
+      let at : slice_get (entries_after a 100 s) (length (entries_after a 100 s) - 1) ≡ Some e = last.1 in
+      let up = last-number a 100 e sound at in
+      let within = slice_get_within (entries_after a 100 s) (length (entries_after a 100 s) - 1) e at in
+      omega (arith, up, within, last.2, low)
+
+pub no_last : {X : Type 0} (xs : List X) → slice_get xs (length xs - 1) ≡ None → xs ≡ []
+no_last [] h = refl
+no_last (x ∷ xs) h = absurd (none_inside (x ∷ xs) (length (x ∷ xs) - 1) (omega arith) h)
+  where
+    none_inside : {X : Type 0} (ys : List X) (k : ℕ) → k < length ys → slice_get ys k ≡ None → ⊥
+    none_inside [] k low h = absurd (omega (arith, low))
+    none_inside (y ∷ ys) zero low h = cc
+    none_inside (y ∷ ys) (suc k) low h = none_inside ys k (omega (arith, low)) h
+
+pub no_end : (es : List Entry) → number_at_end es ≡ None → es ≡ []
+no_end es h = no_last es (none (slice_get es (length es - 1)) h)
+  where
+    none : (o : Option Entry) → option_map (λ (e : Entry). e.number) o ≡ None → o ≡ None
+    none None h = refl
+    none (Some e) h = cc
+
+-- ---- one entry more
+
+module _ (test : Entry → Bool) (entries : List Entry) (i : ℕ) (d : Entry) (old new : List Entry) where
+  pub picked : i < length entries → test (get_or entries i d) ≡ true → new ≡ old ++ get_or entries i d ∷ [] →
+      take 100 (new ++ filter test (drop (i + 1) entries)) ≡ take 100 (old ++ filter test (drop i entries))
+  picked low holds grown =
+      let e = get_or entries i d in
+      let D = drop (i + 1) entries in
+      ap (λ xs. take 100 (xs ++ filter test D)) grown
+      ∙ ap (take 100) (append_assoc old (e ∷ []) (filter test D))
+      ∙ ap (λ xs. take 100 (old ++ xs)) (sym (cond-true (test e) (e ∷ filter test D) (filter test D) holds))
+      ∙ ap (λ xs. take 100 (old ++ filter test xs)) (sym (drop_more entries i d low))
+
+  pub passed_over : i < length entries → test (get_or entries i d) ≡ false → new ≡ old →
+      take 100 (new ++ filter test (drop (i + 1) entries)) ≡ take 100 (old ++ filter test (drop i entries))
+  passed_over low fails same =
+      let e = get_or entries i d in
+      let D = drop (i + 1) entries in
+      ap (λ xs. take 100 (xs ++ filter test D)) same
+      ∙ ap (λ xs. take 100 (old ++ xs)) (sym (cond-false (test e) (e ∷ filter test D) (filter test D) fails))
+      ∙ ap (λ xs. take 100 (old ++ filter test xs)) (sym (drop_more entries i d low))
+
+pub no_more : (test : Entry → Bool) (entries : List Entry) (i : ℕ) (old : List Entry) → length entries ≤ i → length old ≤ 100 →
+    take 100 (old ++ filter test (drop i entries)) ≡ old
+no_more test entries i old past few =
+    ap (λ xs. take 100 (old ++ filter test xs)) (drop_all i entries past) ∙ ap (take 100) (append-nil old) ∙ take_few 100 old few
+
+-- ---- what a standing rules out
+
+pub ruled_out : (w : Wanted) (doc : Lines) (c : Case) (st : Standing) → rules_out w st ≡ true → is_told w doc c st ≡ false
+ruled_out Shown doc c st h = absurd (true≢false (sym h))
+ruled_out (Found needle class) doc c st h = absurd (true≢false (sym h))
+ruled_out Addressed doc c st h = by_case (st.person || st.addressed) h
+  where
+    by_case : (b : Bool) → not b ≡ true → (b && is_listed doc c st) ≡ false
+    by_case true k = absurd (true≢false (sym k))
+    by_case false k = refl
+
+pub none_told : (test : Incident → Bool) (o : Option Incident) → ((i : Incident) → test i ≡ false) → false ≡ option_map_or test o false
+none_told test None h = refl
+none_told test (Some i) h = sym (h i)

@@ -1,0 +1,303 @@
+-- Who asks is there; what is answered, and what is left.
+use Rattle.std.proofs.Common.{◌≡◌, inl, inr, ℕ, Bool, true, false, not, ◌&&◌, ◌==◌, List, [], ◌∷◌, cond, Option, Some, None, refl, sym, ◌∙◌, ap, subst, find}
+use Rattle.std.specs.Prelude.{ℤ, Result, Ok, Err, option_map}
+use Rattle.std.specs.List.{list_all, AllByRecursion}
+use Rattle.std.specs.Str.{bytes_eq}
+use Rattle.std.proofs.lemmas.Bool.{true≢false}
+use Rattle.circle.specs.Outcomes.{bare}
+use Rattle.circle.specs.Directory.{account_number}
+use Rattle.circle.specs.Refusals as circle
+use Rattle.circle.specs.Refusals.{Ground, first_of}
+use Rattle.circle.specs.Sound.{IsOrg}
+use Rattle.circle.specs.declared.directory.Account.{Account}
+use Rattle.circle.specs.declared.directory.Person.{Person}
+use Rattle.circle.specs.declared.command.CircleCommand.{CircleCommand}
+use Rattle.circle.specs.declared.command.CircleCommand.TheVariants.{AddOrg, AddPerson, SuspendPerson, AddClient, RemoveClient, AddCommunity, Join, Leave, Link, Unlink, NewGroup, GroupAdd, GroupRemove, GroupActive, Arrange, CancelArrange, Nominate, Unnominate}
+use Rattle.circle.specs.declared.refusal.Code.{Code}
+use Rattle.circle.specs.declared.refusal.Code.TheVariants.{K1, N1, F1, F2}
+use Rattle.circle.specs.declared.refusal.Refusal.{Refusal}
+use Rattle.hub_core.specs.State.{State, incident_of}
+use Rattle.hub_core.specs.Sound.{IsSound}
+use Rattle.hub_core.specs.Reads.{person_in}
+use Rattle.hub_core.specs.Refusals.{grounds, refusal_of, state_after, unless_refused}
+use Rattle.hub_core.specs.Laws.{is_reading}
+use Rattle.hub_core.specs.declared.state.Incident.{Incident}
+use Rattle.hub_core.specs.declared.reply.Reply.{Reply}
+use Rattle.hub_core.specs.declared.reply.Reply.TheVariants.{View, Refused}
+use Rattle.hub_core.specs.declared.request.Request.{Request}
+use Rattle.hub_core.specs.declared.request.Request.TheVariants as ask
+use Rattle.hub_core.specs.declared.shelf.ShelfFault.{ShelfFault}
+use Rattle.hub_core.specs.declared.shelf.ShelfFault.TheVariants.{NoMemory, Failed}
+use Rattle.hub.specs.Faults.{code_told}
+use Rattle.hub.specs.Told.{is_shown, view_of}
+use Rattle.hub.specs.Replies.{if_active, caller_of, viewed, circle_reply, refused_or, answer_to, reply_by, reply_of}
+use Rattle.hub.specs.Machine.{IsGivenUp}
+use Rattle.hub.specs.Asking.{IsThere, IsKept}
+use Rattle.hub.specs.Serving.{due_to, read_by, is_made, IsServed}
+use Rattle.hub.specs.declared.key.Key.{Key}
+use Rattle.hub.specs.declared.key.Key.TheVariants.{Absent, Digest}
+use Rattle.hub.proofs.Numbered.{all_found}
+use Rattle.hub.proofs.Seeing.{found_each}
+
+-- ---- the caller
+
+same_person : (a : Account) (p : Person) → if_active (Some a.person) ≡ Some p → a.person ≡ p
+same_person a p h = by_case a.person.active h
+  where
+    by_case : (b : Bool) → cond b (Some a.person) None ≡ Some p → a.person ≡ p
+    by_case true k = cc
+    by_case false k = cc
+
+called : (P : Person → Type 0) (s : State) (key : Key) (p : Person) → caller_of s key ≡ Some p → AllByRecursion (λ (a : Account). P a.person) s.directory.accounts → P p
+called P s Absent p h all = cc
+called P s (Digest key) p h all = by_case (find (λ (a : Account). bytes_eq a.key key) s.directory.accounts) refl h
+  where
+    by_case : (o : Option Account) → find (λ (a : Account). bytes_eq a.key key) s.directory.accounts ≡ o → if_active (option_map person_in o) ≡ Some p → P p
+    by_case None is k = cc
+    by_case (Some a) is k = subst P (same_person a p k) (found_each (λ (a : Account). P a.person) (λ (a : Account). bytes_eq a.key key) s.directory.accounts a all is)
+
+-- each person is the one that is found under its number
+all_there : (s : State) (rows : List Account) → AllByRecursion (λ (a : Account). find (λ (b : Account). b.person.number == a.person.number) s.directory.accounts ≡ Some a) rows → AllByRecursion (λ (a : Account). IsThere s a.person) rows
+all_there s [] h = tt
+all_there s (a ∷ rows) h = (ap (option_map person_in) h.0, all_there s rows h.1)
+
+pub caller_there : (s : State) (key : Key) (p : Person) → IsSound s → caller_of s key ≡ Some p → IsThere s p
+caller_there s key p sound h = called (IsThere s) s key p h (all_there s s.directory.accounts (all_found account_number 0 s.directory.accounts sound.directory.accounts.numbered.0))
+
+pub caller_org : (s : State) (key : Key) (p : Person) → IsSound s → caller_of s key ≡ Some p → IsOrg s.directory.orgs p.org
+caller_org s key p sound h = called (λ (p : Person). IsOrg s.directory.orgs p.org) s key p h sound.directory.accounts.ends
+
+-- ---- reading
+
+unless_same : (o : Option Refusal) (s : State) → unless_refused o s s ≡ s
+unless_same None s = refl
+unless_same (Some refusal) s = refl
+
+reads_leave : (s : State) (p : Person) (r : Request) → is_reading r ≡ true → state_after s p r ≡ s
+reads_leave s p (ask.View n) h = refl
+reads_leave s p (ask.List after) h = refl
+reads_leave s p (ask.Search needle class after) h = unless_same (refusal_of s p (ask.Search needle class after)) s
+reads_leave s p (ask.Addressed after) h = refl
+reads_leave s p ask.MyGroups h = refl
+reads_leave s p ask.WhoAmI h = refl
+reads_leave s p (ask.Circle command) h = absurd (true≢false (sym h))
+reads_leave s p (ask.Post level group gates body) h = absurd (true≢false (sym h))
+reads_leave s p (ask.Replace n revision level group gates body) h = absurd (true≢false (sym h))
+reads_leave s p (ask.Redistribute n revision path level group) h = absurd (true≢false (sym h))
+reads_leave s p (ask.Address n target) h = absurd (true≢false (sym h))
+reads_leave s p (ask.Unaddress n target) h = absurd (true≢false (sym h))
+reads_leave s p (ask.Grant n revision path grantee) h = absurd (true≢false (sym h))
+reads_leave s p (ask.Withdraw n path grantee) h = absurd (true≢false (sym h))
+
+view_unmade : (s : State) (now : ℤ) (p : Person) (o : Option Incident) → is_made (viewed s now p o) ≡ false
+view_unmade s now p None = refl
+view_unmade s now p (Some i) = by_case (is_shown s now p i)
+  where
+    by_case : (b : Bool) → is_made (cond b (View (view_of s now p i)) (Refused (bare N1))) ≡ false
+    by_case true = refl
+    by_case false = refl
+
+search_unmade : (o : Option Refusal) (r : Reply) → is_made r ≡ false → is_made (refused_or o r) ≡ false
+search_unmade None r h = h
+search_unmade (Some refusal) r h = refl
+
+reads_unmade : (s : State) (now : ℤ) (p : Person) (r : Request) → is_reading r ≡ true → is_made (due_to s now p r) ≡ false
+reads_unmade s now p (ask.View n) h = view_unmade s now p (incident_of n s)
+reads_unmade s now p (ask.List after) h = refl
+reads_unmade s now p (ask.Search needle class after) h = search_unmade (refusal_of s p (ask.Search needle class after)) _ refl
+reads_unmade s now p (ask.Addressed after) h = refl
+reads_unmade s now p ask.MyGroups h = refl
+reads_unmade s now p ask.WhoAmI h = refl
+reads_unmade s now p (ask.Circle command) h = absurd (true≢false (sym h))
+reads_unmade s now p (ask.Post level group gates body) h = absurd (true≢false (sym h))
+reads_unmade s now p (ask.Replace n revision level group gates body) h = absurd (true≢false (sym h))
+reads_unmade s now p (ask.Redistribute n revision path level group) h = absurd (true≢false (sym h))
+reads_unmade s now p (ask.Address n target) h = absurd (true≢false (sym h))
+reads_unmade s now p (ask.Unaddress n target) h = absurd (true≢false (sym h))
+reads_unmade s now p (ask.Grant n revision path grantee) h = absurd (true≢false (sym h))
+reads_unmade s now p (ask.Withdraw n path grantee) h = absurd (true≢false (sym h))
+
+read_is : (s : State) (now : ℤ) (p : Person) (r : Request) (reply : Reply) → Some reply ≡ read_by s now p r → (is_reading r ≡ true) × (reply ≡ due_to s now p r)
+read_is s now p r reply h = by_case (is_reading r) refl h
+  where
+    by_case : (b : Bool) → is_reading r ≡ b → Some reply ≡ cond b (Some (due_to s now p r)) None → (is_reading r ≡ true) × (reply ≡ due_to s now p r)
+    by_case true is k = let same : reply ≡ due_to s now p r = cc in (is, same)
+    by_case false is k = cc
+
+pub not_read : (s : State) (now : ℤ) (p : Person) (r : Request) → None ≡ read_by s now p r → is_reading r ≡ false
+not_read s now p r h = by_case (is_reading r) h
+  where
+    by_case : (b : Bool) → None ≡ cond b (Some (due_to s now p r)) None → b ≡ false
+    by_case true k = cc
+    by_case false k = refl
+
+-- ---- what is served
+
+module _ {D : Type 0} {has : D → State → Type 0} {doubts failed : D → ℕ} {may_leave : D → State → Type 0} {old new : D} where
+  pub served_reading : IsKept has doubts failed may_leave old new → doubts new ≡ 0 → (s : State) (now : ℤ) (p : Person) (r : Request) (reply : Reply) → has old s → Some reply ≡ read_by s now p r →
+      IsServed has may_leave old new s (due_to s now p r) (state_after s p r) (Ok reply)
+  served_reading kept clean s now p r reply here is =
+      let told = read_is s now p r reply is in
+      record {
+        settled = (told.1, subst (has new) (sym (reads_leave s p r told.0)) (kept.content clean s here));
+        durable = λ made. absurd (true≢false (sym made ∙ ap is_made told.1 ∙ reads_unmade s now p r told.0));
+        crash = λ left leaves. inl (kept.crash clean left leaves);
+      }
+
+  -- no answer, and nothing done
+  pub served_none : IsKept has doubts failed may_leave old new → doubts new ≡ 0 → (s : State) (due : Reply) (after : State) (fault : ShelfFault) → has old s → IsServed has may_leave old new s due after (Err fault)
+  served_none kept clean s due after fault here = record {
+    settled = kept.content clean s here;
+    durable = tt;
+    crash = λ left leaves. inl (kept.crash clean left leaves);
+  }
+
+  -- a refusal
+  pub served_refusal : IsKept has doubts failed may_leave old new → doubts new ≡ 0 → (s : State) (due : Reply) (after : State) (refusal : Refusal) → has old s → Refused refusal ≡ due → s ≡ after → IsServed has may_leave old new s due after (Ok (Refused refusal))
+  served_refusal kept clean s due after refusal here is same = record {
+    settled = (is, subst (has new) same (kept.content clean s here));
+    durable = λ made. absurd (true≢false (sym made));
+    crash = λ left leaves. inl (kept.crash clean left leaves);
+  }
+
+-- behind what was read before
+pub served_on : {D : Type 0} {has : D → State → Type 0} {doubts failed : D → ℕ} {may_leave : D → State → Type 0} {old mid new : D} → IsKept has doubts failed may_leave old mid → doubts mid ≡ 0 →
+    (s : State) (due : Reply) (after : State) (result : Result Reply ShelfFault) →
+    IsServed has may_leave mid new s due after result → IsServed has may_leave old new s due after result
+served_on kept clean s due after result served = record {
+  settled = served.settled;
+  durable = served.durable;
+  crash = λ left leaves. elim (served.crash left leaves) [ inl before ↦ inl (kept.crash clean left before) | inr made ↦ inr made ];
+}
+
+-- ---- no reply that is due tells of a failure
+
+abbrev is_failure : Code → Bool
+is_failure F1 = true
+is_failure _ = false
+
+abbrev tells_none : List Ground → Bool
+tells_none gs = list_all (λ (g : Ground). not (is_failure g.answer.code)) gs
+
+first_tells : (gs : List Ground) → tells_none gs ≡ true → first_of gs ≡ Some (bare F1) → ⊥
+first_tells [] h is = cc
+first_tells (g ∷ gs) h is = by_case g.holds (not (is_failure g.answer.code)) refl h is (first_tells gs)
+  where
+    by_case : (b t : Bool) → not (is_failure g.answer.code) ≡ t → (t && tells_none gs) ≡ true → cond b (Some g.answer) (first_of gs) ≡ Some (bare F1) → (tells_none gs ≡ true → first_of gs ≡ Some (bare F1) → ⊥) → ⊥
+    by_case b false t k is later = absurd (true≢false (sym k))
+    by_case true true t k is later = let same : g.answer ≡ bare F1 = cc in absurd (true≢false (sym t ∙ ap (λ (r : Refusal). not (is_failure r.code)) same))
+    by_case false true t k is later = later k is
+
+circle_tells : (s : State) (a : Person) (c : CircleCommand) → tells_none (circle.grounds s.directory a c) ≡ true
+circle_tells s a (AddOrg name) = refl
+circle_tells s a (AddPerson org name role key) = refl
+circle_tells s a (SuspendPerson person) = refl
+circle_tells s a (AddClient org client) = refl
+circle_tells s a (RemoveClient org client) = refl
+circle_tells s a (AddCommunity name) = refl
+circle_tells s a (Join community org) = refl
+circle_tells s a (Leave community org) = refl
+circle_tells s a (Link community other) = refl
+circle_tells s a (Unlink community other) = refl
+circle_tells s a (NewGroup name releasability) = refl
+circle_tells s a (GroupAdd group org extend) = refl
+circle_tells s a (GroupRemove group org) = refl
+circle_tells s a (GroupActive group active) = refl
+circle_tells s a (Arrange org handling) = refl
+circle_tells s a (CancelArrange org) = refl
+circle_tells s a (Nominate person) = refl
+circle_tells s a (Unnominate person) = refl
+
+grounds_tell : (s : State) (a : Person) (r : Request) → tells_none (grounds s a r) ≡ true
+grounds_tell s a (ask.Circle command) = circle_tells s a command
+grounds_tell s a (ask.Post level group gates body) = refl
+grounds_tell s a (ask.Replace n revision level group gates body) = refl
+grounds_tell s a (ask.Redistribute n revision path level group) = refl
+grounds_tell s a (ask.Address n target) = refl
+grounds_tell s a (ask.Unaddress n target) = refl
+grounds_tell s a (ask.Grant n revision path grantee) = refl
+grounds_tell s a (ask.Withdraw n path grantee) = refl
+grounds_tell s a (ask.View n) = refl
+grounds_tell s a (ask.List after) = refl
+grounds_tell s a (ask.Search needle class after) = refl
+grounds_tell s a (ask.Addressed after) = refl
+grounds_tell s a ask.MyGroups = refl
+grounds_tell s a ask.WhoAmI = refl
+
+apart : (a : Code) → Refused (bare a) ≡ Refused (bare F1) → a ≡ F1
+apart a h = let same : bare a ≡ bare F1 = cc in ap (λ (r : Refusal). r.code) same
+
+unseen_tells : Refused (bare N1) ≡ Refused (bare F1) → ⊥
+unseen_tells h = let same : N1 ≡ F1 = apart N1 h in cc
+
+stranger_tells : Refused (bare K1) ≡ Refused (bare F1) → ⊥
+stranger_tells h = let same : K1 ≡ F1 = apart K1 h in cc
+
+pub memory_tells : Refused (bare F2) ≡ Refused (bare F1) → ⊥
+memory_tells h = let same : F2 ≡ F1 = apart F2 h in cc
+
+view_tells : (s : State) (now : ℤ) (p : Person) (o : Option Incident) → viewed s now p o ≡ Refused (bare F1) → ⊥
+view_tells s now p None h = unseen_tells h
+view_tells s now p (Some i) h = by_case (is_shown s now p i) h
+  where
+    by_case : (b : Bool) → cond b (View (view_of s now p i)) (Refused (bare N1)) ≡ Refused (bare F1) → ⊥
+    by_case true k = cc
+    by_case false k = unseen_tells k
+
+command_tells : (s : State) (c : CircleCommand) → circle_reply s.directory c ≡ Refused (bare F1) → ⊥
+command_tells s (AddOrg name) h = cc
+command_tells s (AddPerson org name role key) h = cc
+command_tells s (SuspendPerson person) h = cc
+command_tells s (AddClient org client) h = cc
+command_tells s (RemoveClient org client) h = cc
+command_tells s (AddCommunity name) h = cc
+command_tells s (Join community org) h = cc
+command_tells s (Leave community org) h = cc
+command_tells s (Link community other) h = cc
+command_tells s (Unlink community other) h = cc
+command_tells s (NewGroup name releasability) h = cc
+command_tells s (GroupAdd group org extend) h = cc
+command_tells s (GroupRemove group org) h = cc
+command_tells s (GroupActive group active) h = cc
+command_tells s (Arrange org handling) h = cc
+command_tells s (CancelArrange org) h = cc
+command_tells s (Nominate person) h = cc
+command_tells s (Unnominate person) h = cc
+
+answer_tells : (s : State) (now : ℤ) (p : Person) (r : Request) → answer_to s now p r ≡ Refused (bare F1) → ⊥
+answer_tells s now p (ask.Circle command) h = command_tells s command h
+answer_tells s now p (ask.Post level group gates body) h = cc
+answer_tells s now p (ask.Replace n revision level group gates body) h = cc
+answer_tells s now p (ask.Redistribute n revision path level group) h = cc
+answer_tells s now p (ask.Address n target) h = cc
+answer_tells s now p (ask.Unaddress n target) h = cc
+answer_tells s now p (ask.Grant n revision path grantee) h = cc
+answer_tells s now p (ask.Withdraw n path grantee) h = cc
+answer_tells s now p (ask.View n) h = view_tells s now p (incident_of n s) h
+answer_tells s now p (ask.List after) h = cc
+answer_tells s now p (ask.Search needle class after) h = cc
+answer_tells s now p (ask.Addressed after) h = cc
+answer_tells s now p ask.MyGroups h = cc
+answer_tells s now p ask.WhoAmI h = cc
+
+pub due_tells : (s : State) (now : ℤ) (key : Key) (r : Request) → reply_of s now key r ≡ Refused (bare F1) → ⊥
+due_tells s now key r h = by_caller (caller_of s key) h
+  where
+    by_refusal : (p : Person) (o : Option Refusal) → refusal_of s p r ≡ o → refused_or o (answer_to s now p r) ≡ Refused (bare F1) → ⊥
+    by_refusal p None is k = answer_tells s now p r k
+    by_refusal p (Some refusal) is k = let same : refusal ≡ bare F1 = cc in first_tells (grounds s p r) (grounds_tell s p r) (is ∙ ap Some same)
+
+    by_caller : (o : Option Person) → reply_by s now o r ≡ Refused (bare F1) → ⊥
+    by_caller None k = stranger_tells k
+    by_caller (Some p) k = by_refusal p (refusal_of s p r) refl k
+
+-- ---- steps
+
+pub given_up : (fault : ShelfFault) (reply : Reply) → reply ≡ Refused (bare (code_told fault)) → IsGivenUp reply
+given_up NoMemory reply is = inr is
+given_up Failed reply is = inl is
+
+-- a failure is told where there was one
+pub failure_told : (cause : Type 0) (fault : ShelfFault) → (Failed ≡ fault → cause) → Refused (bare (code_told fault)) ≡ Refused (bare F1) → cause
+failure_told cause NoMemory had is = absurd (memory_tells is)
+failure_told cause Failed had is = had refl

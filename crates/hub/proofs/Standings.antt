@@ -1,0 +1,22 @@
+-- How a person of the state stands to an incident, at a moment.
+use Rattle.std.proofs.Common.{◌≡◌, ℕ, Option, Some, None, refl, sym, ◌∙◌, ap}
+use Rattle.std.specs.Prelude.{ℤ, option_map, option_and_then}
+use Rattle.circle.specs.declared.directory.Person.{Person}
+use Rattle.hub_core.specs.State.{State, incident_of}
+use Rattle.hub_core.specs.Reads.{standing_for, standing_of}
+use Rattle.hub_core.specs.declared.state.Incident.{Incident}
+use Rattle.hub.specs.Told.{standing_at}
+use Rattle.hub.specs.Asking.{IsThere}
+
+-- nothing in a standing depends on the moment
+pub standing_at-any : (s : State) (now : ℤ) (p : Person) (i : Incident) → standing_at s now p i ≡ standing_for s p i
+unfolding standing_at
+standing_at-any s now p i = refl
+
+map_standing : (s : State) (now : ℤ) (p : Person) (o : Option Incident) → option_map (standing_for s p) o ≡ option_map (λ (i : Incident). standing_at s now p i) o
+map_standing s now p None = refl
+map_standing s now p (Some i) = ap Some (sym (standing_at-any s now p i))
+
+pub standing_of-there : (s : State) (now : ℤ) (p : Person) (n : ℕ) → IsThere s p → standing_of p.number n s ≡ option_map (λ (i : Incident). standing_at s now p i) (incident_of n s)
+standing_of-there s now p n is =
+    ap (option_and_then (λ (q : Person). option_map (standing_for s q) (incident_of n s))) is ∙ map_standing s now p (incident_of n s)

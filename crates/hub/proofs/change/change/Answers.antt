@@ -1,0 +1,54 @@
+use Rattle.std.proofs.Common.{◌≡◌, inl, inr, sym, ap, subst, ◌∙◌, arith}
+use Rattle.hub_core.specs.Edits.{after}
+use Rattle.hub_core.specs.Sound.{IsSound}
+use Rattle.hub_core.specs.Refusals.{state_after}
+use Rattle.hub_core.proofs.Kept.{stays_sound}
+use Rattle.hub.specs.Serving.{made_reply}
+use Rattle.hub.proofs.Changing.{changed_reply}
+use Rattle.hub.proofs.change.change.Goals as goal
+
+pub returns-in-Ok-apply-clause-step : goal.returns-in-Ok-apply-clause-step
+returns-in-Ok-apply-clause-step g c = λ clean s has sound org changes.
+    let now = c.args.asker.now in
+    let p = c.args.asker.person.now in
+    let r = c.args.request.now in
+    let f = c.in_ok-facts.facts in
+    let es = c.in-Ok.edits.items in
+    let read = c.in_ok-facts.ensures in
+    let judged = c.in-Ok.ensures in
+    let made = c.in-Ok-apply.ensures in
+    let mid : g.Sh.Shelf.doubts c.facts.new.self ≡ 0 = omega (arith, made.doubt) in
+    let here = read.kept.content mid s has in
+    let told = read.value mid s has in
+    let same : after es s ≡ state_after s p r = judged.made s sound told in
+    let edits = c.as_slice-2.ensures.value in
+    let done : after c.as_slice-2.result.now s ≡ state_after s p r = ap (λ xs. after xs s) edits ∙ same in
+    let whole : IsSound (after c.as_slice-2.result.now s) = subst IsSound (sym done) (stays_sound s p r sound org) in
+    record {
+      settled = (
+        changed_reply s now p r f es c.in_ok-reply.reply sound changes told judged.edits (judged.allowed s told) (λ fits. c.in_ok-reply.ensures.reply fits ∙ ap (made_reply f r) c.as_slice.ensures.value),
+        subst (g.Sh.Shelf.has c.apply.new.self) done (made.made clean s here whole),
+      );
+      durable = λ is left leaves. made.durable clean s here whole left leaves ∙ done;
+      crash = λ left leaves. elim (made.crash clean s here whole left leaves) [ inl before ↦ inl (read.kept.crash mid left before) | inr is ↦ inr (is ∙ done) ];
+    }
+
+pub returns-clause-step : goal.returns-clause-step
+returns-clause-step g c = λ clean s has sound org changes.
+    let p = c.args.asker.person.now in
+    let r = c.args.request.now in
+    let es = c.in-Ok.edits.items in
+    let read = c.in_ok-facts.ensures in
+    let judged = c.in-Ok.ensures in
+    let made = c.in-Err-apply.ensures in
+    let mid : g.Sh.Shelf.doubts c.facts.new.self ≡ 0 = omega (arith, made.doubt) in
+    let here = read.kept.content mid s has in
+    let told = read.value mid s has in
+    let same : after es s ≡ state_after s p r = judged.made s sound told in
+    let done : after c.as_slice-2.result.now s ≡ state_after s p r = ap (λ xs. after xs s) c.as_slice-2.ensures.value ∙ same in
+    let whole : IsSound (after c.as_slice-2.result.now s) = subst IsSound (sym done) (stays_sound s p r sound org) in
+    record {
+      settled = made.none clean s here;
+      durable = tt;
+      crash = λ left leaves. elim (made.crash clean s here whole left leaves) [ inl before ↦ inl (read.kept.crash mid left before) | inr is ↦ inr (is ∙ done) ];
+    }

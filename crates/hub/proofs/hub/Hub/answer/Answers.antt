@@ -1,0 +1,39 @@
+use Rattle.std.proofs.Common.{inl, inr, Err, w64, sym, ap, subst, refl, ◌∙◌}
+use Rattle.std.specs.Prelude.{ℤ}
+use Rattle.std.proofs.lemmas.Int.{to_z-of_z}
+use Rattle.hub.specs.Replies.{reply_of}
+use Rattle.hub.specs.Asking.{HasFailed}
+use Rattle.hub.specs.Machine.{state_left}
+use Rattle.hub.proofs.Served.{due_tells, given_up, failure_told}
+use Rattle.hub.proofs.hub.Hub.answer.Goals as goal
+use Rattle.hub.proofs.hub.Hub.answer.Goals.{in-Ok, in-Err}
+
+pub returns-clause-step : goal.returns-clause-step
+returns-clause-step g c = λ clean s has sound.
+    let P : g.row.Sh.Denot → Type 0 = λ shelf. g.Sh.Shelf.has shelf s in
+    let moment = ap (λ (t : ℤ). reply_of s t c.args.key.now c.args.request.now) (to_z-of_z w64 c.args.now c.ranges.now) in
+    let here : g.Sh.Shelf.has c.self.inside.shelf s = subst P (sym c.self.view_is) has in
+    elim c.match-answered.branch [
+      | in-Ok w ↦
+          let served = w.in-Ok.ensures.step clean s here sound in
+          (state_left s c.args.key.now c.args.request.now, inl (record { due = w.result-is ∙ served.settled.0 ∙ moment; aftermath = refl }), served.settled.1)
+      | in-Err w ↦
+          let served = w.in-Err.ensures.step clean s here sound in
+          (s, inr (given_up w.in-Err.fault c.match-answered.result (w.result-is ∙ w.given_up.ensures), refl), served.settled)
+    ]
+
+pub returns-clause-cause : goal.returns-clause-cause
+returns-clause-cause g c = λ clean s has sound failed.
+    let P : g.row.Sh.Denot → Type 0 = λ shelf. g.Sh.Shelf.has shelf s in
+    let moment = ap (λ (t : ℤ). reply_of s t c.args.key.now c.args.request.now) (to_z-of_z w64 c.args.now c.ranges.now) in
+    let here : g.Sh.Shelf.has c.self.inside.shelf s = subst P (sym c.self.view_is) has in
+    let R : g.row.Sh.Denot → Type 0 = λ shelf. HasFailed (g.Sh.Shelf.failed shelf) (g.Sh.Shelf.failed c.answered.new.shelf) in
+    elim c.match-answered.branch [
+      | in-Ok w ↦
+          let served = w.in-Ok.ensures.step clean s here sound in
+          absurd (due_tells s c.args.now c.args.key.now c.args.request.now (sym (w.result-is ∙ served.settled.0 ∙ moment) ∙ failed))
+      | in-Err w ↦
+          failure_told (HasFailed (g.Sh.Shelf.failed c.args.self.now) (g.Sh.Shelf.failed c.answered.new.shelf)) w.in-Err.fault
+          (λ is. subst R c.self.view_is (w.in-Err.ensures.counted.cause (ap Err (sym is))))
+          (sym (w.result-is ∙ w.given_up.ensures) ∙ failed)
+    ]

@@ -1,0 +1,25 @@
+use Rattle.std.proofs.Common.{◌≡◌, ◌≤◌, take, length, vec_len}
+use Rattle.std.specs.Vec.{vec_capacity}
+use Rattle.std.specs.List.{Contains}
+use Rattle.circle.specs.Outcomes.{bare}
+use Rattle.circle.specs.declared.refusal.Code.TheVariants.{F1}
+use Rattle.hub_core.specs.State.{State}
+use Rattle.hub_core.specs.Sound.{IsSound}
+use Rattle.hub_core.specs.declared.reply.Reply.TheVariants.{Refused}
+use Rattle.hub.specs.Asking.{HasFailed}
+use Rattle.hub.specs.Machine.{IsRun}
+use Rattle.hub.proofs.hub.Hub.run.Given as goal
+
+abbrev pub invariant-loop-one : goal.invariant-loop-one
+invariant-loop-one g l =
+    let shelf = g.Sh.Shelf in
+    record {
+      room : length l.asked ≤ vec_capacity l.replies;
+      count : vec_len l.replies ≡ l.one-index;
+      later : shelf.failed l.fn.self ≤ shelf.failed l.self;
+      doubt : shelf.doubts l.fn.self ≤ shelf.doubts l.self;
+      told : shelf.doubts l.self ≡ 0 → (s : State) → shelf.has l.fn.self s → IsSound s
+          → (mid : State) × IsRun s (take l.one-index l.asked) l.replies.items mid × shelf.has l.self mid;
+      cause : shelf.doubts l.self ≡ 0 → (s : State) → shelf.has l.fn.self s → IsSound s → Contains l.replies.items (Refused (bare F1))
+          → HasFailed (shelf.failed l.fn.self) (shelf.failed l.self);
+    }

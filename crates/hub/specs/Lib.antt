@@ -1,0 +1,9 @@
+pub mod Told
+pub mod Replies
+pub mod Machine
+pub mod Faults
+pub mod Asking
+pub mod Wanted
+pub mod Viewing
+pub mod Serving
+pub mod Laws

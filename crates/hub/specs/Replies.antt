@@ -1,0 +1,96 @@
+-- What a request is answered.
+use Rattle.std.specs.Prelude.{ℕ, ◌+◌, ℤ, Bool, ◌&&◌, List, [], ◌∷◌, map, filter, take, Option, Some, None, if◌then◌else◌}
+use Rattle.circle.specs.Outcomes.{bare}
+use Rattle.circle.specs.Aftermath.{next_in}
+use Rattle.circle.specs.Directory.{Directory}
+use Rattle.circle.specs.declared.refusal.Code.TheVariants.{K1, N1}
+use Rattle.circle.specs.declared.refusal.Refusal.{Refusal}
+use Rattle.circle.specs.declared.directory.Person.{Person}
+use Rattle.circle.specs.declared.command.CircleCommand.{CircleCommand}
+use Rattle.circle.specs.declared.command.CircleCommand.TheVariants.{AddOrg, AddPerson, AddCommunity, NewGroup}
+use Rattle.hub_core.specs.Documents.{Lines, documents_in}
+use Rattle.hub_core.specs.State.{State, incident_of}
+use Rattle.hub_core.specs.Aftermath.{next_incident}
+use Rattle.hub_core.specs.Refusals.{refusal_of, next_revision}
+use Rattle.hub_core.specs.Reads.{person_by_key, entry_of, incidents_above, groups_of}
+use Rattle.hub_core.specs.declared.state.Incident.{Incident}
+use Rattle.hub_core.specs.declared.reply.Entry.{Entry}
+use Rattle.hub_core.specs.declared.reply.Reply.{Reply}
+use Rattle.hub_core.specs.declared.reply.Reply.TheVariants.{Done, Numbers, Revision, View, Incidents, Groups, Caller, Refused}
+use Rattle.hub_core.specs.declared.request.Request.{Request}
+use Rattle.hub_core.specs.declared.request.Request.TheVariants as ask
+use Rattle.hub.specs.Told.{is_shown, is_found, is_addressed, view_of}
+use Rattle.hub.specs.declared.key.Key.{Key}
+use Rattle.hub.specs.declared.key.Key.TheVariants.{Absent, Digest}
+
+-- ---- the caller
+
+abbrev pub if_active : Option Person → Option Person
+if_active None = None
+if_active (Some p) = if p.active then Some p else None
+
+-- the active person whose key it is
+abbrev pub caller_of : State → Key → Option Person
+caller_of s Absent = None
+caller_of s (Digest key) = if_active (person_by_key key s)
+
+-- ---- pages
+
+-- the first 100 incidents above a number of which something holds
+abbrev pub page_of : (Incident → Bool) → ℕ → State → List Entry
+page_of test after s = take 100 (map entry_of (filter test (incidents_above after s)))
+
+-- ---- a change that is made
+
+abbrev pub circle_reply : Directory → CircleCommand → Reply
+circle_reply d (AddOrg name) = Numbers (next_in d (AddOrg name) ∷ [])
+circle_reply d (AddPerson org name role key) = Numbers (next_in d (AddPerson org name role key) ∷ [])
+circle_reply d (AddCommunity name) = Numbers (next_in d (AddCommunity name) ∷ [])
+circle_reply d (NewGroup name releasability) = Numbers (next_in d (NewGroup name releasability) ∷ [])
+circle_reply d _ = Done
+
+-- a number for each document, from n on
+abbrev pub numbers_from : ℕ → List Lines → List ℕ
+numbers_from n [] = []
+numbers_from n (doc ∷ docs) = n ∷ numbers_from (n + 1) docs
+
+-- ---- a view
+
+abbrev pub nothing_for_you : Reply
+nothing_for_you = Refused (bare N1)
+
+-- an incident of which nothing is visible is answered as one that is missing
+abbrev pub viewed : State → ℤ → Person → Option Incident → Reply
+viewed s now p None = nothing_for_you
+viewed s now p (Some i) = if is_shown s now p i then View (view_of s now p i) else nothing_for_you
+
+-- ---- replies
+
+-- what a person's request is answered, where nothing refuses it
+abbrev pub answer_to : State → ℤ → Person → Request → Reply
+answer_to s now p (ask.Circle command) = circle_reply s.directory command
+answer_to s now p (ask.Post level group gates body) = Numbers (numbers_from (next_incident s) (documents_in body))
+answer_to s now p (ask.Replace n revision level group gates body) = Revision (next_revision s n)
+answer_to s now p (ask.Redistribute n revision path level group) = Done
+answer_to s now p (ask.Address n target) = Done
+answer_to s now p (ask.Unaddress n target) = Done
+answer_to s now p (ask.Grant n revision path grantee) = Done
+answer_to s now p (ask.Withdraw n path grantee) = Done
+answer_to s now p (ask.View n) = viewed s now p (incident_of n s)
+answer_to s now p (ask.List after) = Incidents (page_of (is_shown s now p) after s)
+answer_to s now p (ask.Search needle class after) = Incidents (page_of (λ (i : Incident). is_found s now p i needle class) after s)
+answer_to s now p (ask.Addressed after) = Incidents (page_of (λ (i : Incident). is_addressed s now p i && is_shown s now p i) after s)
+answer_to s now p ask.MyGroups = Groups (groups_of p s)
+answer_to s now p ask.WhoAmI = Caller p
+
+abbrev pub refused_or : Option Refusal → Reply → Reply
+refused_or (Some refusal) reply = Refused refusal
+refused_or None reply = reply
+
+abbrev pub reply_by : State → ℤ → Option Person → Request → Reply
+reply_by s now None request = Refused (bare K1)
+reply_by s now (Some p) request = refused_or (refusal_of s p request) (answer_to s now p request)
+
+-- what a request is answered in a state, at a moment, to whom the key makes known
+abbrev pub reply_of : State → ℤ → Key → Request → Reply
+reply_of s now key request = reply_by s now (caller_of s key) request

@@ -1,0 +1,89 @@
+-- How a person is served, in parts.
+use Rattle.std.specs.Prelude.{◌≡◌, ◌⊎◌, ◌≤◌, ℕ, ℤ, Bool, true, false, List, Option, Some, None, Result, Ok, Err, IsTrue, IfOk, IsErrOf, if◌then◌else◌}
+use Rattle.std.specs.List.{filter_map}
+use Rattle.circle.specs.declared.directory.Person.{Person}
+use Rattle.circle.specs.declared.command.CircleCommand.TheVariants.{AddOrg, AddPerson, AddCommunity, NewGroup}
+use Rattle.circle.specs.declared.command.RowEdit.TheVariants.{PutOrg, PutAccount, PutCommunity, PutGroup}
+use Rattle.hub_core.specs.State.{State}
+use Rattle.hub_core.specs.Refusals.{refusal_of}
+use Rattle.hub_core.specs.Judgement.{next_known}
+use Rattle.hub_core.specs.Laws.{is_reading}
+use Rattle.hub_core.specs.declared.edit.Edit.{Edit}
+use Rattle.hub_core.specs.declared.edit.Edit.TheVariants.{Directory, PutIncident}
+use Rattle.hub_core.specs.declared.facts.Facts.{Facts}
+use Rattle.hub_core.specs.declared.reply.Reply.{Reply}
+use Rattle.hub_core.specs.declared.reply.Reply.TheVariants.{Done, Numbers, Revision, Incidents}
+use Rattle.hub_core.specs.declared.request.Request.{Request}
+use Rattle.hub_core.specs.declared.request.Request.TheVariants as ask
+use Rattle.hub_core.specs.declared.shelf.ShelfFault.{ShelfFault}
+use Rattle.hub_core.specs.declared.shelf.ShelfFault.TheVariants.{Failed}
+use Rattle.hub.specs.Asking.{HasFailed}
+use Rattle.iodef_tree.specs.Text.{Bytes}
+use Rattle.circle.specs.declared.refusal.Refusal.{Refusal}
+use Rattle.hub_core.specs.declared.state.Incident.{Incident}
+use Rattle.hub.specs.Told.{is_found}
+use Rattle.hub.specs.Replies.{page_of, refused_or, answer_to}
+
+-- what a person's request is answered
+abbrev pub due_to : State → ℤ → Person → Request → Reply
+due_to s now p request = refused_or (refusal_of s p request) (answer_to s now p request)
+
+-- the same, of a request that only reads
+abbrev pub read_by : State → ℤ → Person → Request → Option Reply
+read_by s now p request = if◌then◌else◌ (is_reading request) (Some (due_to s now p request)) None
+
+-- the page of a search, unless it is refused
+abbrev pub searched : Option Refusal → State → ℤ → Person → Bytes → Option Bytes → ℕ → Reply
+searched refusal s now p needle class after = refused_or refusal (Incidents (page_of (λ (i : Incident). is_found s now p i needle class) after s))
+
+-- the number that a new row gets, of those whose numbers are told
+abbrev pub number_put : Edit → Option ℕ
+number_put (PutIncident i) = Some i.number
+number_put (Directory (PutOrg o)) = Some o.number
+number_put (Directory (PutAccount a)) = Some a.person.number
+number_put (Directory (PutCommunity c)) = Some c.number
+number_put (Directory (PutGroup g)) = Some g.number
+number_put _ = None
+
+abbrev pub numbers_put : List Edit → List ℕ
+numbers_put edits = filter_map number_put edits
+
+-- a new row is told by its number
+abbrev pub gives_numbers : Request → Bool
+gives_numbers (ask.Post level group gates body) = true
+gives_numbers (ask.Circle (AddOrg name)) = true
+gives_numbers (ask.Circle (AddPerson org name role key)) = true
+gives_numbers (ask.Circle (AddCommunity name)) = true
+gives_numbers (ask.Circle (NewGroup name releasability)) = true
+gives_numbers _ = false
+
+-- what a change is answered that these edits make
+abbrev pub made_reply : Facts → Request → List Edit → Reply
+made_reply f (ask.Replace n revision level group gates body) edits = Revision (next_known f)
+made_reply f request edits = if◌then◌else◌ (gives_numbers request) (Numbers (numbers_put edits)) Done
+
+-- a change that was made
+abbrev pub is_made : Reply → Bool
+is_made Done = true
+is_made (Numbers numbers) = true
+is_made (Revision revision) = true
+is_made _ = false
+
+-- what is answered and what is left, where a reply and a content are due: these, or no answer and the content that there was
+abbrev pub Settles : (State → Type 0) → State → Reply → State → Result Reply ShelfFault → Type 0
+Settles has s due after (Ok reply) = (reply ≡ due) × has after
+Settles has s due after (Err fault) = has s
+
+-- an answer, what it leaves, and what a crash at that moment may leave
+pub record IsServed {D : Type 0} (has may_leave : D → State → Type 0) (old new : D) (s : State) (due : Reply) (after : State) (result : Result Reply ShelfFault) : Type 0 where
+  pub settled : Settles (has new) s due after result
+  -- a change that is answered as made stays made
+  pub durable : IfOk result (λ reply. IsTrue (is_made reply) → (left : State) → may_leave new left → left ≡ after)
+  -- a crash leaves what it could have left before, or what the request leaves
+  pub crash : (left : State) → may_leave new left → may_leave old left ⊎ (left ≡ after)
+
+-- failures and doubts grow, and Failed has its cause
+pub record IsCounted {D T : Type 0} (doubts failed : D → ℕ) (old new : D) (result : Result T ShelfFault) : Type 0 where
+  pub later : failed old ≤ failed new
+  pub doubt : doubts old ≤ doubts new
+  pub cause : IsErrOf result Failed → HasFailed (failed old) (failed new)

@@ -1,0 +1,39 @@
+-- What a page lists.
+use Rattle.std.specs.Prelude.{ℕ, ℤ, Bool, false, not, ◌&&◌, ◌||◌, ◌-◌, List, length, slice_get, Option, option_map}
+use Rattle.std.specs.Option.{option_map_or}
+use Rattle.policy.specs.declared.standing.Standing.{Standing}
+use Rattle.policy.specs.declared.case.Case.{Case}
+use Rattle.redact.specs.Told.{is_listed, finds}
+use Rattle.circle.specs.declared.directory.Person.{Person}
+use Rattle.hub_core.specs.Documents.{Lines}
+use Rattle.hub_core.specs.State.{State, incident_of}
+use Rattle.hub_core.specs.Reads.{case_for}
+use Rattle.hub_core.specs.declared.state.Incident.{Incident}
+use Rattle.hub_core.specs.declared.reply.Entry.{Entry}
+use Rattle.hub.specs.Told.{standing_at}
+use Rattle.hub.specs.declared.wanted.Wanted.{Wanted}
+use Rattle.hub.specs.declared.wanted.Wanted.TheVariants.{Shown, Found, Addressed}
+
+-- whether a page lists what a person is told of so
+abbrev pub is_told : Wanted → Lines → Case → Standing → Bool
+is_told Shown doc c st = is_listed doc c st
+is_told (Found needle class) doc c st = finds doc c st needle.now (option_map (λ name. name.now) class)
+is_told Addressed doc c st = (st.person || st.addressed) && is_listed doc c st
+
+-- whether a standing alone keeps an incident off the page
+abbrev pub rules_out : Wanted → Standing → Bool
+rules_out Shown st = false
+rules_out (Found needle class) st = false
+rules_out Addressed st = not (st.person || st.addressed)
+
+-- whether a page lists the incident
+abbrev pub is_wanted : State → ℤ → Person → Wanted → Incident → Bool
+is_wanted s now p w i = is_told w i.document (case_for s i) (standing_at s now p i)
+
+-- whether it lists the incident of this number
+abbrev pub is_wanted_at : State → ℤ → Person → Wanted → ℕ → Bool
+is_wanted_at s now p w n = option_map_or (is_wanted s now p w) (incident_of n s) false
+
+-- the number of the last entry
+abbrev pub number_at_end : List Entry → Option ℕ
+number_at_end es = option_map (λ (e : Entry). e.number) (slice_get es (length es - 1))

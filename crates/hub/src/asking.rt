@@ -1,0 +1,71 @@
+//! Reading what a person's requests are answered by.
+ghost use Rattle.std.specs.Prelude.{◌≡◌, IfOk, IsErrOf, option_map, option_and_then};
+ghost use Rattle.hub_core.specs.State.{State, incident_of};
+ghost use Rattle.hub_core.specs.Reads.{case_for};
+ghost use Rattle.hub_core.specs.declared.state.Incident.{Incident};
+ghost use Rattle.hub.specs.Told.{standing_at};
+ghost use Rattle.hub.specs.Replies.{caller_of};
+ghost use Rattle.hub.specs.Asking.{HasFailed, IsKept, IsThere};
+
+use crate::key::Key;
+use circle::directory::Person;
+use hub_core::{Shelf, ShelfFault};
+use iodef_tree::Document;
+use policy::{Case, Standing};
+
+/// Who asks, and when.
+#[derive(Clone, Copy)]
+pub struct Asker<'a> {
+    pub person: &'a Person,
+    pub now: i64,
+}
+
+/// What an incident is judged by.
+#[derive(Drop)]
+pub struct Content {
+    pub case: Case,
+    pub document: Document,
+}
+
+/// The active person whose key it is.
+pub fn caller_by<Sh: Shelf>(shelf: &mut Sh, key: &Key) -> Result<Option<Person>, ShelfFault>
+    ensures value { Sh.doubts shelf.new ≡ 0 → (s : State) → Sh.has shelf.old s → IfOk result (λ found. found ≡ caller_of s key.now) }
+    ensures kept { IsKept Sh.has Sh.doubts Sh.failed Sh.may_leave shelf.old shelf.new }
+    ensures cause { IsErrOf result ShelfFault.Failed → HasFailed (Sh.failed shelf.old) (Sh.failed shelf.new) }
+{
+    let Key::Digest(digest) = key else {
+        return Ok(None);
+    };
+    match shelf.person_by_key(digest)? {
+        Some(person) if person.active => Ok(Some(person)),
+        _ => Ok(None),
+    }
+}
+
+/// How a person stands to an incident at a moment; none where either is missing.
+pub fn standing<Sh: Shelf>(
+    shelf: &mut Sh,
+    asker: Asker<'_>,
+    incident: u32,
+) -> Result<Option<Standing>, ShelfFault>
+    ensures value { Sh.doubts shelf.new ≡ 0 → (s : State) → Sh.has shelf.old s → IsThere s asker.entry.person.now → IfOk result (λ found. found ≡ option_map (λ (i : Incident). standing_at s asker.entry.now asker.entry.person.now i) (incident_of incident s)) }
+    ensures kept { IsKept Sh.has Sh.doubts Sh.failed Sh.may_leave shelf.old shelf.new }
+    ensures cause { IsErrOf result ShelfFault.Failed → HasFailed (Sh.failed shelf.old) (Sh.failed shelf.new) }
+{
+    shelf.standing(asker.person.number, incident)
+}
+
+/// What an incident is judged by; none where it is missing.
+pub fn content_of<Sh: Shelf>(shelf: &mut Sh, incident: u32) -> Result<Option<Content>, ShelfFault>
+    ensures value { Sh.doubts shelf.new ≡ 0 → (s : State) → Sh.has shelf.old s → IfOk result (λ found. found ≡ option_map (λ (i : Incident). record { case = case_for s i; document = i.document }) (incident_of incident s)) }
+    ensures kept { IsKept Sh.has Sh.doubts Sh.failed Sh.may_leave shelf.old shelf.new }
+    ensures cause { IsErrOf result ShelfFault.Failed → HasFailed (Sh.failed shelf.old) (Sh.failed shelf.new) }
+{
+    let Some(case) = shelf.case(incident)? else {
+        return Ok(None);
+    };
+    let Some(document) = shelf.document(incident)? else {
+        return Ok(None);
+    };
+    Ok(Some(Content { case, document }))
+}

@@ -1,0 +1,113 @@
+//! Requests that change something.
+ghost use Rattle.std.specs.Prelude.{◌≡◌, ◌<◌, ◌^◌, false, IfOk, IfErr};
+ghost use Rattle.circle.specs.Sound.{IsOrg};
+ghost use Rattle.hub_core.specs.State.{State};
+ghost use Rattle.hub_core.specs.Sound.{IsSound};
+ghost use Rattle.hub_core.specs.Refusals.{state_after};
+ghost use Rattle.hub_core.specs.Judgement.{next_known};
+ghost use Rattle.hub_core.specs.Laws.{is_reading};
+ghost use Rattle.hub.specs.Serving.{IsCounted, IsServed, due_to, gives_numbers, made_reply, number_put, numbers_put};
+
+use crate::asking::Asker;
+use crate::fault::ample;
+use crate::reading::told;
+use circle::command::{CircleCommand, RowEdit};
+use hub_core::{Edit, Facts, Reply, Request, Shelf, ShelfFault, judge};
+use policy::Numbers;
+use std::alloc::{AllocError, Global};
+
+/// The number of the new row that an edit puts, of those whose numbers are told.
+fn new_number(edit: &Edit) -> Option<u32>
+    ensures { result ≡ number_put edit.now }
+{
+    match edit {
+        Edit::PutIncident(incident) => Some(incident.number),
+        Edit::Directory(RowEdit::PutOrg(org)) => Some(org.number),
+        Edit::Directory(RowEdit::PutAccount(account)) => Some(account.person.number),
+        Edit::Directory(RowEdit::PutCommunity(community)) => Some(community.number),
+        Edit::Directory(RowEdit::PutGroup(group)) => Some(group.number),
+        _ => None,
+    }
+}
+
+fn new_numbers(alloc: Global, edits: &[Edit]) -> Result<Vec<u32>, AllocError>
+    ensures { IfOk result (λ numbers. numbers.items ≡ numbers_put edits.now) }
+{
+    let mut numbers = Vec::new(alloc);
+    for edit in edits {
+        if let Some(number) = new_number(edit) {
+            numbers.push(number)?;
+        }
+    }
+    Ok(numbers)
+}
+
+fn tells_numbers(request: &Request) -> bool
+    ensures { result ≡ gives_numbers request.now }
+{
+    match request {
+        Request::Post { .. } => true,
+        Request::Circle(command) => matches!(
+            command,
+            CircleCommand::AddOrg { .. }
+                | CircleCommand::AddPerson { .. }
+                | CircleCommand::AddCommunity { .. }
+                | CircleCommand::NewGroup { .. }
+        ),
+        _ => false,
+    }
+}
+
+fn next_revision(facts: &Facts) -> u32
+    ensures { next_known facts.now < 2 ^ 32 → result ≡ next_known facts.now }
+{
+    match &facts.incident {
+        None => 1,
+        Some(known) => known.revision.saturating_add(1),
+    }
+}
+
+/// What a change is answered.
+fn reply_to(
+    alloc: Global,
+    facts: &Facts,
+    request: &Request,
+    edits: &[Edit],
+) -> Result<Reply, ShelfFault>
+    ensures reply { next_known facts.now < 2 ^ 32 → IfOk result (λ reply. reply ≡ made_reply facts.now request.now edits.now) }
+    ensures fault { IfErr result (λ e. e ≡ ShelfFault.NoMemory) }
+{
+    if let Request::Replace { .. } = request {
+        return Ok(Reply::Revision(next_revision(facts)));
+    }
+    if tells_numbers(request) {
+        let numbers = ample(new_numbers(alloc, edits))?;
+        Ok(Reply::Numbers(Numbers::new(numbers)))
+    } else {
+        Ok(Reply::Done)
+    }
+}
+
+/// Makes the change that a person asks for, where nothing refuses it. The reply is made first, so that want of memory
+/// leaves everything as it was.
+pub fn change<Sh: Shelf>(
+    shelf: &mut Sh,
+    alloc: Global,
+    asker: Asker<'_>,
+    request: &Request,
+) -> Result<Reply, ShelfFault>
+    ensures step { Sh.doubts shelf.new ≡ 0 → (s : State) → Sh.has shelf.old s → IsSound s → IsOrg s.directory.orgs asker.entry.person.now.org → is_reading request.now ≡ false →
+        IsServed Sh.has Sh.may_leave shelf.old shelf.new s (due_to s asker.entry.now asker.entry.person.now request.now) (state_after s asker.entry.person.now request.now) result }
+    ensures counted { IsCounted Sh.doubts Sh.failed shelf.old shelf.new result }
+{
+    let facts = shelf.facts(asker.person, request)?;
+    let edits = match judge(alloc, asker.person, &facts, request) {
+        Ok(edits) => edits,
+        Err(refusal) => return told(refusal),
+    };
+    let reply = reply_to(alloc, &facts, request, edits.as_slice())?;
+    match shelf.apply(edits.as_slice()) {
+        Ok(()) => Ok(reply),
+        Err(fault) => Err(fault),
+    }
+}

@@ -1,0 +1,36 @@
+//! Why an answer is given up.
+ghost use Rattle.std.specs.Prelude.{◌≡◌, IfOk, IfErr, Ok};
+ghost use Rattle.circle.specs.Outcomes.{bare};
+ghost use Rattle.hub_core.specs.declared.reply.Reply.TheVariants.{Refused};
+ghost use Rattle.hub.specs.Faults.{code_told};
+
+use hub_core::{Code, Refusal, Reply, ShelfFault};
+use std::alloc::{AllocError, Global};
+
+/// Want of memory, as a shelf tells it.
+pub fn ample<T>(outcome: Result<T, AllocError>) -> Result<T, ShelfFault>
+    ensures value { IfOk result (λ x. outcome ≡ Ok x) }
+    ensures fault { IfErr result (λ e. e ≡ ShelfFault.NoMemory) }
+{
+    match outcome {
+        Ok(value) => Ok(value),
+        Err(_) => Err(ShelfFault::NoMemory),
+    }
+}
+
+/// The code of an answer that a shelf's fault stands in for.
+fn code_of(fault: ShelfFault) -> Code
+    ensures { result ≡ code_told fault }
+{
+    match fault {
+        ShelfFault::NoMemory => Code::F2,
+        ShelfFault::Failed => Code::F1,
+    }
+}
+
+/// What is answered in place of a reply.
+pub fn given_up(alloc: Global, fault: ShelfFault) -> Reply
+    ensures { result ≡ Refused (bare (code_told fault)) }
+{
+    Reply::Refused(Refusal::bare(alloc, code_of(fault)))
+}

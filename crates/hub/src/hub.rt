@@ -1,0 +1,98 @@
+//! The hub over a shelf: one request, and a list of them.
+ghost use Rattle.std.specs.Prelude.{◌≡◌, ◌⊎◌, ◌≤◌, ℕ, IsTrue, IfOk, OnErr};
+ghost use Rattle.std.specs.List.{Contains};
+ghost use Rattle.circle.specs.Outcomes.{bare};
+ghost use Rattle.circle.specs.declared.refusal.Code.TheVariants.{F1};
+ghost use Rattle.hub_core.specs.State.{State};
+ghost use Rattle.hub_core.specs.Sound.{IsSound};
+ghost use Rattle.hub_core.specs.declared.reply.Reply.TheVariants.{Refused};
+ghost use Rattle.hub.specs.Asking.{HasFailed};
+ghost use Rattle.hub.specs.Machine.{IsRun, IsStep, state_left};
+ghost use Rattle.hub.specs.Serving.{is_made};
+
+use crate::fault::given_up;
+use crate::key::Key;
+use crate::serving::answered;
+use hub_core::{Reply, Request, Shelf};
+use std::alloc::{AllocError, Global};
+use std::marker::Model;
+
+/// The hub over a shelf, which contracts see as the shelf.
+#[derive(Drop)]
+pub struct Hub<Sh: Shelf> {
+    shelf: Sh,
+}
+
+impl<Sh: Shelf> Model for Hub<Sh> {
+    ghost Value = { Sh };
+
+    ghost view = { λ h. h.shelf };
+}
+
+impl<Sh: Shelf> Hub<Sh> {
+    /// The hub over this shelf, which stays as it is; takes no memory.
+    pub fn new(shelf: Sh) -> Hub<Sh>
+        ensures { result ≡ shelf }
+    {
+        Hub { shelf }
+    }
+
+    /// Gives the shelf back, as it is; takes no memory.
+    pub fn into_shelf(self) -> Sh
+        ensures { result ≡ self }
+    {
+        self.shelf
+    }
+
+    /// Answers one request at a moment, in seconds since 1970: one step, from whatever sound state the shelf has.
+    ///
+    /// The reply is made before anything is changed, so `F2` means that nothing changed; so does `F1`, which is answered
+    /// only where the shelf failed. A change that is answered as made stays made if everything stops now; else a stop
+    /// leaves what it could have left before, or what the request leaves.
+    pub fn answer(&mut self, alloc: Global, now: i64, key: &Key, request: &Request) -> Reply
+        ensures step { Sh.doubts self.new ≡ 0 → (s : State) → Sh.has self.old s → IsSound s → (left : State) × IsStep s (now, key.now, request.now) result left × Sh.has self.new left }
+        ensures cause { Sh.doubts self.new ≡ 0 → (s : State) → Sh.has self.old s → IsSound s → result ≡ Refused (bare F1) → HasFailed (Sh.failed self.old) (Sh.failed self.new) }
+        ensures durable { Sh.doubts self.new ≡ 0 → (s : State) → Sh.has self.old s → IsSound s → IsTrue (is_made result) → (left : State) → Sh.may_leave self.new left → left ≡ state_left s key.now request.now }
+        ensures crash { Sh.doubts self.new ≡ 0 → (s : State) → Sh.has self.old s → IsSound s → (left : State) → Sh.may_leave self.new left → Sh.may_leave self.old left ⊎ (left ≡ state_left s key.now request.now) }
+        ensures later { Sh.failed self.old ≤ Sh.failed self.new }
+        ensures doubt { Sh.doubts self.old ≤ Sh.doubts self.new }
+    {
+        match answered(&mut self.shelf, alloc, now, key, request) {
+            Ok(reply) => reply,
+            Err(fault) => given_up(alloc, fault),
+        }
+    }
+
+    fn step(&mut self, alloc: Global, asked: &(i64, Key, Request)) -> Reply
+        ensures step { Sh.doubts self.new ≡ 0 → (s : State) → Sh.has self.old s → IsSound s → (left : State) × IsStep s asked.now result left × Sh.has self.new left }
+        ensures cause { Sh.doubts self.new ≡ 0 → (s : State) → Sh.has self.old s → IsSound s → result ≡ Refused (bare F1) → HasFailed (Sh.failed self.old) (Sh.failed self.new) }
+        ensures later { Sh.failed self.old ≤ Sh.failed self.new }
+        ensures doubt { Sh.doubts self.old ≤ Sh.doubts self.new }
+    {
+        self.answer(alloc, asked.0, &asked.1, &asked.2)
+    }
+
+    /// Answers a list of requests, one after another: a run, from whatever sound state the shelf has. `F1` is among the
+    /// replies only where the shelf failed. The memory for the list of replies is taken first, so want of memory is told
+    /// before the first request or never.
+    pub fn run(
+        &mut self,
+        alloc: Global,
+        asked: &[(i64, Key, Request)],
+    ) -> Result<Vec<Reply>, AllocError>
+        ensures run { Sh.doubts self.new ≡ 0 → (s : State) → Sh.has self.old s → IsSound s → IfOk result (λ replies. (end : State) × IsRun s asked.now replies.items end × Sh.has self.new end) }
+        ensures cause { Sh.doubts self.new ≡ 0 → (s : State) → Sh.has self.old s → IsSound s → IfOk result (λ replies. Contains replies.items (Refused (bare F1)) → HasFailed (Sh.failed self.old) (Sh.failed self.new)) }
+        ensures none { OnErr result (self.new ≡ self.old) }
+        ensures later { Sh.failed self.old ≤ Sh.failed self.new }
+        ensures doubt { Sh.doubts self.old ≤ Sh.doubts self.new }
+    {
+        let mut replies = Vec::with_capacity(alloc, asked.len())?;
+        for one in asked {
+            let reply = self.step(alloc, one);
+            if let Err(_) = replies.push(reply) {
+                unreachable!()
+            }
+        }
+        Ok(replies)
+    }
+}

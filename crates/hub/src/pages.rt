@@ -1,0 +1,166 @@
+//! Pages: the incidents of which something holds, by number.
+ghost use Rattle.std.specs.Prelude.{◌≡◌, ◌≤◌, ◌++◌, ℕ, false, IfOk, OnOk, IfErr, IsErrOf, filter, take, length};
+ghost use Rattle.std.specs.Option.{option_map_or};
+ghost use Rattle.hub_core.specs.State.{State, incident_of};
+ghost use Rattle.hub_core.specs.Sound.{IsSound};
+ghost use Rattle.hub_core.specs.Reads.{case_for};
+ghost use Rattle.hub_core.specs.declared.state.Incident.{Incident};
+ghost use Rattle.hub_core.specs.declared.reply.Entry.{Entry as Listed};
+ghost use Rattle.hub.specs.Replies.{page_of};
+ghost use Rattle.hub.specs.Wanted.{is_told, is_wanted, is_wanted_at, number_at_end, rules_out};
+ghost use Rattle.hub.specs.Asking.{HasFailed, IsKept, IsThere};
+
+use crate::asking::{Asker, content_of, standing};
+use crate::fault::ample;
+use crate::wanted::Wanted;
+use hub_core::{Entry, Shelf, ShelfFault};
+use iodef_tree::Document;
+use policy::{Case, Standing};
+use redact::{finds, is_listed};
+use std::alloc::Global;
+
+/// How many incidents a page lists at most.
+const PAGE: usize = 100;
+
+/// Whether what a person is told of an incident makes a page list it.
+fn is_told_so(
+    alloc: Global,
+    wanted: Wanted<'_>,
+    document: &Document,
+    case: &Case,
+    standing: &Standing,
+) -> Result<bool, ShelfFault>
+    ensures told { IfOk result (λ b. b ≡ is_told wanted.entry document.now case.now standing.now) }
+    ensures fault { IfErr result (λ e. e ≡ ShelfFault.NoMemory) }
+{
+    match wanted {
+        Wanted::Shown => ample(is_listed(alloc, document, case, standing)),
+        Wanted::Found { needle, class } => {
+            ample(finds(alloc, document, case, standing, needle, class))
+        }
+        Wanted::Addressed => {
+            if standing.person || standing.addressed {
+                ample(is_listed(alloc, document, case, standing))
+            } else {
+                Ok(false)
+            }
+        }
+    }
+}
+
+/// Whether a standing rules an incident out, whatever it holds.
+fn is_ruled_out(wanted: Wanted<'_>, standing: &Standing) -> bool
+    ensures { result ≡ rules_out wanted.entry standing.now }
+{
+    match wanted {
+        Wanted::Addressed => !(standing.person || standing.addressed),
+        _ => false,
+    }
+}
+
+/// Whether a page lists the incident, told by how the person stands to it. Where that rules it out, nothing more is read.
+fn is_wanted_by<Sh: Shelf>(
+    shelf: &mut Sh,
+    alloc: Global,
+    wanted: Wanted<'_>,
+    standing: &Standing,
+    incident: u32,
+) -> Result<bool, ShelfFault>
+    ensures value { Sh.doubts shelf.new ≡ 0 → (s : State) → Sh.has shelf.old s → IfOk result (λ b. b ≡ option_map_or (λ (i : Incident). is_told wanted.entry i.document (case_for s i) standing.now) (incident_of incident s) false) }
+    ensures kept { IsKept Sh.has Sh.doubts Sh.failed Sh.may_leave shelf.old shelf.new }
+    ensures cause { IsErrOf result ShelfFault.Failed → HasFailed (Sh.failed shelf.old) (Sh.failed shelf.new) }
+{
+    if is_ruled_out(wanted, standing) {
+        return Ok(false);
+    }
+    match content_of(shelf, incident)? {
+        None => Ok(false),
+        Some(content) => is_told_so(alloc, wanted, &content.document, &content.case, standing),
+    }
+}
+
+/// Whether a page lists the incident of this number for the person, at a moment.
+fn lists<Sh: Shelf>(
+    shelf: &mut Sh,
+    alloc: Global,
+    asker: Asker<'_>,
+    wanted: Wanted<'_>,
+    incident: u32,
+) -> Result<bool, ShelfFault>
+    ensures value { Sh.doubts shelf.new ≡ 0 → (s : State) → Sh.has shelf.old s → IsThere s asker.entry.person.now → IfOk result (λ b. b ≡ is_wanted_at s asker.entry.now asker.entry.person.now wanted.entry incident) }
+    ensures kept { IsKept Sh.has Sh.doubts Sh.failed Sh.may_leave shelf.old shelf.new }
+    ensures cause { IsErrOf result ShelfFault.Failed → HasFailed (Sh.failed shelf.old) (Sh.failed shelf.new) }
+{
+    match standing(shelf, asker, incident)? {
+        None => Ok(false),
+        Some(standing) => is_wanted_by(shelf, alloc, wanted, &standing, incident),
+    }
+}
+
+/// Adds those of the incidents that a page lists to it, until it is full.
+fn pick<Sh: Shelf>(
+    shelf: &mut Sh,
+    alloc: Global,
+    asker: Asker<'_>,
+    wanted: Wanted<'_>,
+    entries: &[Entry],
+    listed: &mut Vec<Entry>,
+) -> Result<(), ShelfFault>
+    requires { length listed.old.items ≤ 100 }
+    ensures room { OnOk result (length listed.new.items ≤ 100) }
+    ensures value { Sh.doubts shelf.new ≡ 0 → (s : State) → Sh.has shelf.old s → IsThere s asker.entry.person.now → OnOk result (listed.new.items ≡ take 100 (listed.old.items ++ filter (λ (e : Listed). is_wanted_at s asker.entry.now asker.entry.person.now wanted.entry e.number) entries.now)) }
+    ensures kept { IsKept Sh.has Sh.doubts Sh.failed Sh.may_leave shelf.old shelf.new }
+    ensures cause { IsErrOf result ShelfFault.Failed → HasFailed (Sh.failed shelf.old) (Sh.failed shelf.new) }
+{
+    for entry in entries {
+        if listed.len() == PAGE {
+            return Ok(());
+        }
+        if lists(shelf, alloc, asker, wanted, entry.number)? {
+            if listed.push(*entry).is_err() {
+                return Err(ShelfFault::NoMemory);
+            }
+        }
+    }
+    Ok(())
+}
+
+fn last_number(entries: &[Entry]) -> Option<u32>
+    ensures { result ≡ number_at_end entries.now }
+{
+    match entries.last() {
+        None => None,
+        Some(last) => Some(last.number),
+    }
+}
+
+/// The first incidents above a number that a page lists.
+pub fn page<Sh: Shelf>(
+    shelf: &mut Sh,
+    alloc: Global,
+    asker: Asker<'_>,
+    wanted: Wanted<'_>,
+    after: u32,
+) -> Result<Vec<Entry>, ShelfFault>
+    ensures value { Sh.doubts shelf.new ≡ 0 → (s : State) → Sh.has shelf.old s → IsSound s → IsThere s asker.entry.person.now → IfOk result (λ listed. listed.items ≡ page_of (is_wanted s asker.entry.now asker.entry.person.now wanted.entry) after s) }
+    ensures kept { IsKept Sh.has Sh.doubts Sh.failed Sh.may_leave shelf.old shelf.new }
+    ensures cause { IsErrOf result ShelfFault.Failed → HasFailed (Sh.failed shelf.old) (Sh.failed shelf.new) }
+{
+    let mut listed = Vec::new(alloc);
+    let mut above = after;
+    'pages: while listed.len() < PAGE {
+        let entries = shelf.incidents_after(above, PAGE as u32)?;
+        match last_number(entries.as_slice()) {
+            None => break,
+            Some(last) => {
+                // A shelf that tells no greater number isn't asked for ever.
+                if last <= above {
+                    break;
+                }
+                above = last;
+            }
+        }
+        pick(shelf, alloc, asker, wanted, entries.as_slice(), &mut listed)?;
+    }
+    Ok(listed)
+}

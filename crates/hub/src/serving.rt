@@ -1,0 +1,58 @@
+//! Who asks, and what is answered.
+ghost use Rattle.std.specs.Prelude.{◌≡◌};
+ghost use Rattle.circle.specs.Sound.{IsOrg};
+ghost use Rattle.hub_core.specs.State.{State};
+ghost use Rattle.hub_core.specs.Sound.{IsSound};
+ghost use Rattle.hub_core.specs.Refusals.{state_after};
+ghost use Rattle.hub.specs.Asking.{IsThere};
+ghost use Rattle.hub.specs.Replies.{reply_of};
+ghost use Rattle.hub.specs.Machine.{state_left};
+ghost use Rattle.hub.specs.Serving.{IsCounted, IsServed, due_to};
+
+use crate::asking::{Asker, caller_by};
+use crate::change::change;
+use crate::key::Key;
+use crate::reading::read;
+use hub_core::{Code, Refusal, Reply, Request, Shelf, ShelfFault};
+use std::alloc::Global;
+
+/// What a person's request is answered.
+fn served<Sh: Shelf>(
+    shelf: &mut Sh,
+    alloc: Global,
+    asker: Asker<'_>,
+    request: &Request,
+) -> Result<Reply, ShelfFault>
+    ensures step { Sh.doubts shelf.new ≡ 0 → (s : State) → Sh.has shelf.old s → IsSound s → IsThere s asker.entry.person.now → IsOrg s.directory.orgs asker.entry.person.now.org →
+        IsServed Sh.has Sh.may_leave shelf.old shelf.new s (due_to s asker.entry.now asker.entry.person.now request.now) (state_after s asker.entry.person.now request.now) result }
+    ensures counted { IsCounted Sh.doubts Sh.failed shelf.old shelf.new result }
+{
+    match read(shelf, alloc, asker, request)? {
+        Some(reply) => Ok(reply),
+        None => change(shelf, alloc, asker, request),
+    }
+}
+
+/// What a request is answered, to whom the key makes known.
+pub fn answered<Sh: Shelf>(
+    shelf: &mut Sh,
+    alloc: Global,
+    now: i64,
+    key: &Key,
+    request: &Request,
+) -> Result<Reply, ShelfFault>
+    ensures step { Sh.doubts shelf.new ≡ 0 → (s : State) → Sh.has shelf.old s → IsSound s →
+        IsServed Sh.has Sh.may_leave shelf.old shelf.new s (reply_of s now key.now request.now) (state_left s key.now request.now) result }
+    ensures counted { IsCounted Sh.doubts Sh.failed shelf.old shelf.new result }
+{
+    match caller_by(shelf, key)? {
+        None => Ok(Reply::Refused(Refusal::bare(alloc, Code::K1))),
+        Some(person) => {
+            let asker = Asker {
+                person: &person,
+                now,
+            };
+            served(shelf, alloc, asker, request)
+        }
+    }
+}

@@ -1,0 +1,94 @@
+//! The excerpt of one incident.
+ghost use Rattle.std.specs.Prelude.{◌≡◌, None, option_map, IfOk, IfErr, IsErrOf};
+ghost use Rattle.iodef_tree.specs.Paths.{located};
+ghost use Rattle.marking.specs.Marks.{first_bad_marking};
+ghost use Rattle.redact.specs.Excerpts.{Gives};
+ghost use Rattle.hub_core.specs.State.{State, incident_of};
+ghost use Rattle.hub_core.specs.Sound.{IsSound};
+ghost use Rattle.hub_core.specs.Reads.{entry_of};
+ghost use Rattle.hub.specs.Viewing.{first_being, seen_in, view_made};
+ghost use Rattle.hub.specs.Asking.{HasFailed, IsKept, IsThere};
+
+use crate::asking::{Asker, Content, content_of, standing};
+use crate::fault::ample;
+use hub_core::{Entry, Shelf, ShelfFault, View, Withheld};
+use marking::{MarkingFault, check};
+use policy::Standing;
+use redact::{Excerpt, excerpt};
+use std::alloc::Global;
+
+/// What a reader may see of an incident; none where no class is visible. A document whose markings weren't accepted shows
+/// nothing: a shelf has none, unless its disk returned what wasn't written.
+fn excerpt_of(
+    alloc: Global,
+    content: &Content,
+    standing: &Standing,
+) -> Result<Option<Excerpt>, ShelfFault>
+    ensures told { first_bad_marking (located content.now.document) ≡ None → IfOk result (λ r. Gives content.now.document content.now.case standing.now r) }
+    ensures fault { IfErr result (λ e. e ≡ ShelfFault.NoMemory) }
+{
+    match check(alloc, &content.document) {
+        Ok(()) => ample(excerpt(alloc, &content.document, &content.case, standing)),
+        Err(MarkingFault::BadMarking(_)) => Ok(None),
+        Err(MarkingFault::NoMemory) => Err(ShelfFault::NoMemory),
+    }
+}
+
+/// The first of the entries, if it is that of this incident.
+fn first_of(entries: &[Entry], incident: u32) -> Option<Entry>
+    ensures { result ≡ first_being incident entries.now }
+{
+    match entries.first() {
+        Some(entry) if entry.number == incident => Some(*entry),
+        _ => None,
+    }
+}
+
+/// The incident as it is listed; none where it is missing.
+fn entry<Sh: Shelf>(shelf: &mut Sh, incident: u32) -> Result<Option<Entry>, ShelfFault>
+    ensures value { Sh.doubts shelf.new ≡ 0 → (s : State) → Sh.has shelf.old s → IsSound s → IfOk result (λ found. found ≡ option_map entry_of (incident_of incident s)) }
+    ensures kept { IsKept Sh.has Sh.doubts Sh.failed Sh.may_leave shelf.old shelf.new }
+    ensures cause { IsErrOf result ShelfFault.Failed → HasFailed (Sh.failed shelf.old) (Sh.failed shelf.new) }
+{
+    let entries = shelf.incidents_after(incident.saturating_sub(1), 1)?;
+    Ok(first_of(entries.as_slice(), incident))
+}
+
+fn view_of(entry: Entry, excerpt: Excerpt) -> View
+    ensures { result ≡ view_made entry excerpt }
+{
+    View {
+        number: entry.number,
+        revision: entry.revision,
+        source: entry.source,
+        classes: excerpt.classes,
+        document: excerpt.document,
+        withheld: Withheld::new(excerpt.withheld),
+    }
+}
+
+/// What a person may see of an incident; none where that is nothing, or where it is missing.
+pub fn view<Sh: Shelf>(
+    shelf: &mut Sh,
+    alloc: Global,
+    asker: Asker<'_>,
+    incident: u32,
+) -> Result<Option<View>, ShelfFault>
+    ensures value { Sh.doubts shelf.new ≡ 0 → (s : State) → Sh.has shelf.old s → IsSound s → IsThere s asker.entry.person.now → IfOk result (λ view. view ≡ seen_in s asker.entry.now asker.entry.person.now (incident_of incident s)) }
+    ensures kept { IsKept Sh.has Sh.doubts Sh.failed Sh.may_leave shelf.old shelf.new }
+    ensures cause { IsErrOf result ShelfFault.Failed → HasFailed (Sh.failed shelf.old) (Sh.failed shelf.new) }
+{
+    let Some(standing) = standing(shelf, asker, incident)? else {
+        return Ok(None);
+    };
+    let Some(content) = content_of(shelf, incident)? else {
+        return Ok(None);
+    };
+    let Some(excerpt) = excerpt_of(alloc, &content, &standing)? else {
+        return Ok(None);
+    };
+    let Some(entry) = entry(shelf, incident)? else {
+        return Ok(None);
+    };
+    Ok(Some(view_of(entry, excerpt)))
+}
