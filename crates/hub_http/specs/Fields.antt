@@ -5,8 +5,8 @@ use Rattle.std.specs.Char.{is_ascii_digit, to_ascii_lowercase}
 use Rattle.std.specs.Str.{bytes_eq}
 use Rattle.std.specs.Str.Parse.{digits_value}
 use Rattle.sha2.specs.Sha256.{sha256}
-use Rattle.hub_http.specs.declared.key.Key.{Key}
-use Rattle.hub_http.specs.declared.key.Key.TheVariants.{Absent, Digest}
+use Rattle.hub.specs.declared.key.Key.{Key}
+use Rattle.hub.specs.declared.key.Key.TheVariants.{Absent, Digest}
 use Rattle.hub_http.specs.declared.wire_fault.WireFault.{WireFault}
 use Rattle.hub_http.specs.declared.wire_fault.WireFault.TheVariants.{BadHead, Chunked, NoLength, TooLarge}
 use Rattle.hub_http.specs.Outcome.{◌>>=◌, when}

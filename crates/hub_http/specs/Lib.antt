@@ -8,3 +8,6 @@ pub mod Requests
 pub mod Wire
 pub mod Arrivals
 pub mod Laws
+pub mod Bodies
+pub mod Replies
+pub mod Serving

@@ -9,10 +9,10 @@ ghost use Rattle.hub_http.specs.Texts.{IsText};
 ghost use Rattle.hub_http.specs.Fields.{same_name, field_values, is_digits, length_text, wanted_length, body_length, is_visible, is_bearer, key_in, key_of, lacks};
 ghost use Rattle.hub_http.specs.Texts.{IsSole};
 
-use crate::key::Key;
 use crate::spelling::has_digits_alone;
 use crate::wire_fault::WireFault;
 use httparse::Header;
+use hub::Key;
 use sha2::{Digest, Sha256};
 
 const BODY_LIMIT: u32 = 262_144;

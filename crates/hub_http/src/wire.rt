@@ -7,11 +7,11 @@ ghost use Rattle.hub_http.specs.Wire.{Wire, Answers, asked_by, window};
 ghost use Rattle.hub_http.specs.Arrivals.{Stands, Arrives};
 
 use crate::fields::{read_body_length, read_key};
-use crate::key::Key;
 use crate::request_fault::RequestFault;
 use crate::requests::read_request;
 use crate::wire_fault::WireFault;
 use httparse::{EMPTY_HEADER, Error, Header, Status};
+use hub::Key;
 use hub_core::Request;
 use std::alloc::Global;
 

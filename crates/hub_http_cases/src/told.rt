@@ -1,7 +1,7 @@
 //! What is asked, in words.
 
+use hub::Key;
 use hub_core::{Bytes, Request, Target, WantedGates};
-use hub_http::Key;
 use policy::Grantee;
 use std::alloc::{AllocError, Global};
 
