@@ -18,7 +18,7 @@ use Rattle.circle.specs.declared.refusal.Code.TheVariants.{K1, N1, F1, F2}
 use Rattle.circle.specs.declared.refusal.Refusal.{Refusal}
 use Rattle.hub_core.specs.State.{State, incident_of}
 use Rattle.hub_core.specs.Sound.{IsSound}
-use Rattle.hub_core.specs.Reads.{person_in}
+use Rattle.circle.specs.Reads.{person_in}
 use Rattle.hub_core.specs.Refusals.{grounds, refusal_of, state_after, unless_refused}
 use Rattle.hub_core.specs.Laws.{is_reading}
 use Rattle.hub_core.specs.declared.state.Incident.{Incident}

@@ -69,3 +69,47 @@ pub fn facts_of(alloc: Global, words: &str) -> Result<Facts, AllocError> {
         permissions: number(words, "permissions"),
     })
 }
+
+fn push_if(all: &mut String, holds: bool, word: &str) -> Result<(), AllocError> {
+    if holds {
+        all.push_str(word)?;
+    }
+    Ok(())
+}
+
+fn told_circle(alloc: Global, facts: &CircleFacts) -> Result<String, AllocError> {
+    let count = facts.count;
+    let mut all = format!(in alloc; "count={count}")?;
+    push_if(&mut all, facts.exists, " exists")?;
+    push_if(&mut all, facts.may_extend, " may_extend")?;
+    push_if(&mut all, facts.owner, " owner")?;
+    push_if(&mut all, facts.target_is_owner, " target_is_owner")?;
+    push_if(&mut all, facts.own_person, " own_person")?;
+    push_if(&mut all, facts.stands, " stands")?;
+    Ok(all)
+}
+
+/// The facts by the same words.
+pub fn told(alloc: Global, facts: &Facts) -> Result<String, AllocError> {
+    let mut all = told_circle(alloc, &facts.circle)?;
+    if let Some(known) = &facts.incident {
+        let (source, revision, ident) = (known.source, known.revision, known.ident.as_str());
+        let words = format!(in alloc; " known={source},{revision},{ident}")?;
+        all.push_str(words.as_str())?;
+    }
+    if let Some(document) = &facts.document {
+        let text = document.text(alloc)?;
+        all.push_str(" document=")?;
+        all.push_str(text.as_str())?;
+    }
+    if let Some(posted) = facts.posted {
+        all.push_str(format!(in alloc; " posted={posted}")?.as_str())?;
+    }
+    let (gates, recipients) = (facts.gates, facts.recipients);
+    let permissions = facts.permissions;
+    let words = format!(in alloc;
+        " gates={gates} recipients={recipients} permissions={permissions}"
+    )?;
+    all.push_str(words.as_str())?;
+    Ok(all)
+}

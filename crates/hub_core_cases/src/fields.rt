@@ -1,5 +1,6 @@
 //! What a field of a line says.
 
+use circle::directory::Role;
 use circle::text::Text;
 use std::alloc::{AllocError, Global};
 
@@ -43,4 +44,13 @@ pub fn number_if_any(word: &str) -> Option<u32> {
 
 pub fn text_of(alloc: Global, word: &str) -> Result<Text, AllocError> {
     Text::of(alloc, word)
+}
+
+pub fn role_of(word: &str) -> Role {
+    match word {
+        "administrator" => Role::Administrator,
+        "coordinator" => Role::Coordinator,
+        "poster" => Role::Poster,
+        _ => Role::Reader,
+    }
 }

@@ -1,22 +1,13 @@
 //! From a line of the table to its answer.
 
 use crate::facts::facts_of;
-use crate::fields::{number_of, written_out};
+use crate::fields::{number_of, role_of};
 use crate::requests::request_of;
 use crate::told;
-use circle::directory::{Person, Role};
+use circle::directory::Person;
 use circle::name::Name;
 use hub_core::{Facts, Request, judge};
 use std::alloc::{AllocError, Global};
-
-fn role_of(word: &str) -> Role {
-    match word {
-        "administrator" => Role::Administrator,
-        "coordinator" => Role::Coordinator,
-        "poster" => Role::Poster,
-        _ => Role::Reader,
-    }
-}
 
 fn actor_of(alloc: Global, words: &str) -> Result<Option<Person>, AllocError> {
     let (role, org) = words.split_once(' ').unwrap_or((words, ""));
@@ -46,8 +37,7 @@ fn judged(
 }
 
 pub fn answer(alloc: Global, line: &str) -> Result<String, AllocError> {
-    let line = written_out(alloc, line)?;
-    let mut fields = line.as_str().split('|');
+    let mut fields = line.split('|');
     let Some(actor) = actor_of(alloc, fields.next().unwrap_or(""))? else {
         return String::from_str(alloc, "no actor");
     };

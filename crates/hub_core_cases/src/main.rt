@@ -1,23 +1,38 @@
 //! Answers the cases on standard input, one a line, and prints each answer. A line that begins with `#` is printed as it is.
+//! `<3*0,>` stands for `0,0,0,` in a line.
 //!
 //! A case is ROLE ORG|FACTS|REQUEST|FIELD|FIELD.. with the fields of the request in their order: who asks (always person 2),
-//! what the shelf found out, and what is asked. `<3*0,>` stands for `0,0,0,` in it.
+//! what the shelf found out, and what is asked.
 //!
 //! - FACTS are words: `exists`, `stands` and the other flags where they hold, `count=4`, `posted=1`, `gates=17`, `recipients=65`,
 //!   `permissions=65`; `known=2,1,"2"` is an incident of organisation 2 in revision 1 with that IncidentID, `document=JSON` its
 //!   document. What isn't named is false, 0 or none.
 //! - A group is `-` for none. Gates are LEVEL:GROUP:POINTER with a space between them. Targets and grantees are `person 4`,
-//!   `org 3`, `community 1` or `group 1`. A class is `-` for none.
+//!   `org 3`, `community 1` or `group 1`. A class is `-` for none. `DOC1` and its kin are documents (`documents.rt`).
 //!
 //! The answer is the refusal, its code and perhaps its detail, or the edits with a semicolon between them.
+//!
+//! Or it is `world;` and steps with a semicolon between them, over a shelf in memory that holds the test world (`world.rt`):
+//!
+//! - PERSON REQUEST|FIELD..: a request by the person whose key is `abc` (person 1) or `key-2` and so on. The answer is the refusal, or
+//!   `nothing` of a request that only reads, the numbers of new incidents, the revision, or `done`; `nobody` where no person has the key.
+//! - `facts` before it: what the shelf finds out about it, in the words above.
+//! - `case 1`, `standing 4 1` (a person, an incident), `document 1`, `entries 0 100` (above a number, at most so many), `groups 4`
+//!   and `person 4` (persons by their keys), `failures`: what stands there.
 #![tactic(auto)]
 
+mod documents;
 mod facts;
 mod fields;
 mod judged;
 mod requests;
+mod seen;
+mod story;
 mod told;
+mod world;
 
+use crate::fields::written_out;
+use std::alloc::{AllocError, Global};
 use std::io;
 use std::io::Read;
 
@@ -29,9 +44,17 @@ fn main(rt: HostRuntime) -> io::Result<()> {
         if line.starts_with('#') {
             println!(rt; "{line}")?;
         } else {
-            let answer = judged::answer(alloc, line)?;
+            let answer = answer(alloc, line)?;
             println!(rt; "{answer}")?;
         }
     }
     Ok(())
+}
+
+fn answer(alloc: Global, line: &str) -> Result<String, AllocError> {
+    let line = written_out(alloc, line)?;
+    match line.as_str().strip_prefix("world;") {
+        Some(steps) => story::answer(alloc, steps),
+        None => judged::answer(alloc, line.as_str()),
+    }
 }

@@ -1,7 +1,10 @@
 //! The request that a line names.
 
-use crate::fields::{number_if_any, number_of, text_of};
+use crate::documents::document_text;
+use crate::fields::{number_if_any, number_of, role_of, text_of};
+use crate::world::key_of;
 use circle::command::CircleCommand;
+use circle::directory::Handling;
 use hub_core::{Bytes, Request, Target, WantedGate, WantedGates};
 use policy::Grantee;
 use std::alloc::{AllocError, Global};
@@ -54,7 +57,7 @@ fn gates_of(alloc: Global, words: &str) -> Result<WantedGates, AllocError> {
 }
 
 fn body_of(alloc: Global, text: &str) -> Result<Bytes, AllocError> {
-    Ok(Bytes::new(text.as_bytes().to_vec(alloc)?))
+    Ok(Bytes::new(document_text(text).as_bytes().to_vec(alloc)?))
 }
 
 fn post(alloc: Global, fields: &mut Split<'_, char>) -> Result<Request, AllocError> {
@@ -118,12 +121,65 @@ fn search(alloc: Global, fields: &mut Split<'_, char>) -> Result<Request, AllocE
     })
 }
 
-/// Some commands of the directory stand for all.
-fn command(alloc: Global, name: &str, fields: &mut Split<'_, char>) -> Result<Request, AllocError> {
-    Ok(Request::Circle(match name {
+fn handling_of(word: &str) -> Handling {
+    match word {
+        "CLEAR" => Handling::Clear,
+        "GREEN" => Handling::Green,
+        "AMBER" => Handling::Amber,
+        "STRICT" => Handling::Strict,
+        _ => Handling::Red,
+    }
+}
+
+fn add_person(alloc: Global, fields: &mut Split<'_, char>) -> Result<CircleCommand, AllocError> {
+    Ok(CircleCommand::AddPerson {
+        org: next_number(fields),
+        name: text_of(alloc, next(fields))?,
+        role: role_of(next(fields)),
+        key: key_of(next(fields)),
+    })
+}
+
+/// What an administrator asks of the directory; none where a coordinator does.
+fn kept(
+    alloc: Global,
+    name: &str,
+    fields: &mut Split<'_, char>,
+) -> Result<Option<CircleCommand>, AllocError> {
+    Ok(Some(match name {
         "AddOrg" => CircleCommand::AddOrg {
             name: text_of(alloc, next(fields))?,
         },
+        "AddPerson" => add_person(alloc, fields)?,
+        "SuspendPerson" => CircleCommand::SuspendPerson {
+            person: next_number(fields),
+        },
+        "AddClient" => CircleCommand::AddClient {
+            org: next_number(fields),
+            client: next_number(fields),
+        },
+        "AddCommunity" => CircleCommand::AddCommunity {
+            name: text_of(alloc, next(fields))?,
+        },
+        "Join" => CircleCommand::Join {
+            community: next_number(fields),
+            org: next_number(fields),
+        },
+        "Link" => CircleCommand::Link {
+            community: next_number(fields),
+            other: next_number(fields),
+        },
+        _ => return Ok(None),
+    }))
+}
+
+/// What a coordinator asks of the directory.
+fn coordinated(
+    alloc: Global,
+    name: &str,
+    fields: &mut Split<'_, char>,
+) -> Result<CircleCommand, AllocError> {
+    Ok(match name {
         "GroupAdd" => CircleCommand::GroupAdd {
             group: next_number(fields),
             org: next_number(fields),
@@ -133,11 +189,30 @@ fn command(alloc: Global, name: &str, fields: &mut Split<'_, char>) -> Result<Re
             group: next_number(fields),
             org: next_number(fields),
         },
+        "GroupActive" => CircleCommand::GroupActive {
+            group: next_number(fields),
+            active: next(fields) == "active",
+        },
+        "Arrange" => CircleCommand::Arrange {
+            org: next_number(fields),
+            handling: handling_of(next(fields)),
+        },
+        "Nominate" => CircleCommand::Nominate {
+            person: next_number(fields),
+        },
         _ => CircleCommand::NewGroup {
             name: text_of(alloc, next(fields))?,
             releasability: text_of(alloc, next(fields))?,
         },
-    }))
+    })
+}
+
+/// Most commands of the directory; some stand for their contraries too.
+fn command(alloc: Global, name: &str, fields: &mut Split<'_, char>) -> Result<Request, AllocError> {
+    match kept(alloc, name, fields)? {
+        Some(command) => Ok(Request::Circle(command)),
+        None => Ok(Request::Circle(coordinated(alloc, name, fields)?)),
+    }
 }
 
 fn reading(name: &str, fields: &mut Split<'_, char>) -> Request {
@@ -173,7 +248,7 @@ pub fn request_of(alloc: Global, fields: &mut Split<'_, char>) -> Result<Request
         "Grant" => grant(alloc, fields),
         "Withdraw" => withdraw(alloc, fields),
         "Search" => search(alloc, fields),
-        "AddOrg" | "NewGroup" | "GroupAdd" | "GroupRemove" => command(alloc, name, fields),
-        _ => Ok(reading(name, fields)),
+        "View" | "List" | "Addressed" | "MyGroups" | "WhoAmI" => Ok(reading(name, fields)),
+        _ => command(alloc, name, fields),
     }
 }

@@ -1,12 +1,12 @@
 //! Refusals and edits as text.
 
 use circle::refusal::Refusal;
-use hub_core::{Edit, Gate, Incident, Permission, Recipient, Target};
+use hub_core::{Edit, Gate, Incident, Permission, Recipient, ShelfFault, Target};
 use iodef_tree::Path;
 use policy::Grantee;
 use std::alloc::{AllocError, Global};
 
-fn grantee(alloc: Global, grantee: Grantee) -> Result<String, AllocError> {
+pub fn grantee_text(alloc: Global, grantee: Grantee) -> Result<String, AllocError> {
     match grantee {
         Grantee::Person(n) => format!(in alloc; "person {n}"),
         Grantee::Org(n) => format!(in alloc; "org {n}"),
@@ -47,7 +47,7 @@ fn permission(
     to: Grantee,
 ) -> Result<String, AllocError> {
     let path = path.print(alloc)?;
-    let to = grantee(alloc, to)?;
+    let to = grantee_text(alloc, to)?;
     format!(in alloc; "{verb} permission {incident} '{path}' {to}")
 }
 
@@ -104,4 +104,36 @@ pub fn refusal(alloc: Global, refusal: &Refusal) -> Result<String, AllocError> {
         return String::from_str(alloc, code);
     }
     format!(in alloc; "{code} {detail}")
+}
+
+fn numbers(alloc: Global, edits: &[Edit]) -> Result<String, AllocError> {
+    let mut all = String::from_str(alloc, "numbers")?;
+    for one in edits {
+        if let Edit::PutIncident(row) = one {
+            let number = row.number;
+            all.push_str(format!(in alloc; " {number}")?.as_str())?;
+        }
+    }
+    Ok(all)
+}
+
+/// In short what is answered where nothing refused the request: `nothing` of a reading one, the revision of an exchanged
+/// document, the numbers of new incidents, else `done`.
+pub fn outcome(alloc: Global, edits: &[Edit]) -> Result<String, AllocError> {
+    match edits {
+        [] => String::from_str(alloc, "nothing"),
+        [Edit::TakeIncident(_), Edit::PutIncident(row), ..] => {
+            let revision = row.revision;
+            format!(in alloc; "revision {revision}")
+        }
+        [Edit::PutIncident(_), ..] => numbers(alloc, edits),
+        _ => String::from_str(alloc, "done"),
+    }
+}
+
+pub fn fault(alloc: Global, fault: ShelfFault) -> Result<String, AllocError> {
+    match fault {
+        ShelfFault::NoMemory => Err(AllocError),
+        ShelfFault::Failed => String::from_str(alloc, "Failed"),
+    }
 }

@@ -70,7 +70,7 @@ other-block d p n o n' o' kids h =
     )
 
 -- a class of this name and place is among the siblings
-abbrev IsIn : Bytes → Option ℕ → Forest → Type 0
+abbrev pub IsIn : Bytes → Option ℕ → Forest → Type 0
 IsIn n o end = ⊥
 IsIn n o (leaf i rest) = IsIn n o rest
 IsIn n o (branch n' o' kids rest) = ((n' ≡ n) × (o' ≡ o)) ⊎ IsIn n o rest
@@ -83,7 +83,7 @@ apart-in (branch x px kids rest) n o n' o' h (inr i) = apart-in rest n o n' o' h
 
 -- ---- the blocks
 
-blocks-in : (f : Forest) (d : ℕ) (p : Tokens) (es : List LocatedLine) → HasApart f →
+pub blocks-in : (f : Forest) (d : ℕ) (p : Tokens) (es : List LocatedLine) → HasApart f →
     ((n : Bytes) (o : Option ℕ) → IsIn n o f → below (p ++ steps n o) es ≡ below (p ++ steps n o) (walk d p f)) → AreBlocks es d p f
 blocks-in end d p es apart h = tt
 blocks-in (leaf i rest) d p es apart h =

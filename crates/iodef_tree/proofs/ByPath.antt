@@ -43,7 +43,7 @@ past-none (x ∷ q) (y ∷ p) e = step (bytes_eq x y) e (past-none q p)
 
 -- ---- the block of what is found
 
-block-at : (f : Forest) (es : List LocatedLine) (d : ℕ) (q p : Tokens) (g : Forest) → AreBlocks es d q f → class_at f p ≡ Some g → IsBlock (q ++ p) es g
+pub block-at : (f : Forest) (es : List LocatedLine) (d : ℕ) (q p : Tokens) (g : Forest) → AreBlocks es d q f → class_at f p ≡ Some g → IsBlock (q ++ p) es g
 block-at end es d q p g blocks e = cc
 block-at (leaf i rest) es d q p g blocks e = step (past (steps i.name i.place) p) e (block-at rest es d q p g blocks)
   where

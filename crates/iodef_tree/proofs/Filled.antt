@@ -120,12 +120,6 @@ member-elements m h =
 
 -- ---- what stands in what is filled
 
-pub class-kept : (x : Item) (o : Object) → IsItemFilled x → x ≡ Class o → IsFilled o
-class-kept x o h is = sym (filled-Class o) ∙ ap is_item_filled (sym is) ∙ h
-
-pub one-kept : (m : Member) (x : Item) → IsMemberFilled m → m ≡ One x → IsItemFilled x
-one-kept m x h is = sym (filled-One x) ∙ ap is_member_filled (sym is) ∙ h
-
 pub elements-kept : (m : Member) (v : Vec Item Global) → IsMemberFilled m → m ≡ Many v → AllByRecursion IsItemFilled v.items
 elements-kept m v h is = (many-kept v (subst IsMemberFilled is h)).1
 

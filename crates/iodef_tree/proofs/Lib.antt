@@ -25,6 +25,7 @@ pub mod Normal
 pub mod ReadBack
 pub mod OneToOne
 pub mod ByPath
+pub mod Onward
 pub mod Members
 pub mod ClassesBelow
 pub mod Fronts

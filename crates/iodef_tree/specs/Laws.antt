@@ -12,7 +12,7 @@ use Rattle.iodef_tree.specs.Tree.{Forest, end, leaf, branch, steps, lines}
 use Rattle.iodef_tree.specs.Paths.{LocatedLine, located, classes_of, has_class}
 use Rattle.iodef_tree.specs.Outline.{is_outline}
 use Rattle.iodef_tree.specs.Sound.{IsSound}
-use Rattle.iodef_tree.specs.Walk.{walk, AreBlocks}
+use Rattle.iodef_tree.specs.Walk.{walk, IsBlock, AreBlocks}
 
 -- something holds of each sibling, by its name and its place
 abbrev pub AllSiblings : (Bytes → Option ℕ → Type 0) → Forest → Type 0
@@ -30,6 +30,12 @@ abbrev pub HasApart : Forest → Type 0
 HasApart end = Unit {0}
 HasApart (leaf i rest) = AllSiblings (AreApart i.name i.place) rest × HasApart rest
 HasApart (branch name place kids rest) = AllSiblings (AreApart name place) rest × HasApart kids × HasApart rest
+
+-- The class at a path of a document with these lines, or its root, has these members: the lines below the path are theirs,
+-- and no two of them are one.
+pub record StandsAt (es : List LocatedLine) (p : Tokens) (f : Forest) : Type 0 where
+  pub block : IsBlock p es f
+  pub apart : HasApart f
 
 abbrev pub EntriesAreTheWalk : Type 0
 EntriesAreTheWalk = (f : Forest) → IsSound f → located (lines 1 f) ≡ walk 1 [] f

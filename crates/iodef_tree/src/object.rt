@@ -1,3 +1,13 @@
+//! A document as a tree of JSON objects.
+
+ghost use Rattle.std.specs.Prelude.{◌≡◌, ◌||◌, ◌++◌, List, IfSome, is_some};
+ghost use Rattle.iodef_tree.specs.Filled.{IsFilled};
+ghost use Rattle.iodef_tree.specs.Laws.{StandsAt};
+ghost use Rattle.iodef_tree.specs.Paths.{LocatedLine, has_class};
+ghost use Rattle.iodef_tree.specs.Text.{Tokens, is_root};
+ghost use Rattle.iodef_tree.specs.View.{forest};
+
+use crate::lookup::object_at;
 use crate::text::Text;
 
 /// A JSON object: its members in the byte order of their names.
@@ -27,4 +37,17 @@ pub enum Item {
     Text(Text),
     /// The compact JSON of null, a truth value, a whole number, an empty array, or an array inside an array.
     Value(Text),
+}
+
+impl Object {
+    /// The class at a path from this object on, or the object itself at the empty path. `None` exactly where there is none
+    /// in the document in which the object stands. Takes no memory.
+    pub fn class(&self, path: &[Text]) -> Option<&Object>
+        requires { IsFilled self.now }
+        ensures found { (es : List LocatedLine) (p : Tokens) → StandsAt es p (forest self.now) → is_some result ≡ (is_root path.now || has_class es (p ++ path.now)) }
+        ensures class { (es : List LocatedLine) (p : Tokens) → StandsAt es p (forest self.now) → IfSome result (λ o. StandsAt es (p ++ path.now) (forest o.now)) }
+        ensures filled { IfSome result (λ o. IsFilled o.now) }
+    {
+        object_at(self, path)
+    }
 }

@@ -3,3 +3,4 @@ mod Clearances
 mod Refusals
 mod Sight
 mod Onwards
+pub mod Descents

@@ -9,3 +9,4 @@ pub mod Inherited
 pub mod Decided
 pub mod Laws
 pub mod Ahead
+pub mod Descent

@@ -7,6 +7,7 @@ mod ahead;
 mod case;
 mod cleared;
 mod deciding;
+mod descent;
 mod fault;
 mod gate;
 mod inherited;

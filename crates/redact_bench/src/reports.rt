@@ -2,7 +2,7 @@
 //! name, and what is asked of them.
 
 use iodef_tree::{Path, Text};
-use policy::{Case, Gate, Gates, Grantee, Numbers, Permission, Permissions, Standing};
+use policy::{Case, Gate, Gates, Grantee, Permission, Permissions, Standing};
 use std::alloc::{AllocError, Global};
 
 /// How many classes stand in one another, below the Incident.
@@ -90,21 +90,9 @@ impl Report {
 
     /// Who reads it: nothing holds of the reader but, where all is shown, that it is of the source.
     pub fn reader(self, alloc: Global) -> Standing {
-        Standing {
-            source: self == Report::Shown,
-            person: false,
-            nominated: false,
-            addressed: false,
-            client: false,
-            community: false,
-            connected: false,
-            arrangement: None,
-            who: 2,
-            org: 2,
-            groups: Numbers::new(Vec::new(alloc)),
-            active_groups: Numbers::new(Vec::new(alloc)),
-            communities: Numbers::new(Vec::new(alloc)),
-        }
+        let mut reader = Standing::stranger(alloc, 2, 2);
+        reader.source = self == Report::Shown;
+        reader
     }
 }
 

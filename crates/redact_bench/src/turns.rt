@@ -6,7 +6,7 @@ ghost use Rattle.marking.specs.Marks.{first_bad_marking};
 
 use iodef_tree::{Document, Path, ReadFault};
 use marking::{MarkingFault, check};
-use policy::{Case, Gate, Gates, Numbers, Permissions, Standing};
+use policy::{Case, Gate, Gates, Permissions, Standing};
 use redact::excerpt;
 use std::alloc::{AllocError, Global};
 
@@ -32,30 +32,12 @@ fn open_case(alloc: Global) -> Result<Case, AllocError> {
     })
 }
 
-/// A reader of whom nothing holds, and who is cleared for CLEAR by that.
-fn anybody(alloc: Global) -> Standing {
-    Standing {
-        source: false,
-        person: false,
-        nominated: false,
-        addressed: false,
-        client: false,
-        community: false,
-        connected: false,
-        arrangement: None,
-        who: 2,
-        org: 2,
-        groups: Numbers::new(Vec::new(alloc)),
-        active_groups: Numbers::new(Vec::new(alloc)),
-        communities: Numbers::new(Vec::new(alloc)),
-    }
-}
-
 fn in_turns(alloc: Global, document: &Document, turns: u32) -> Result<Excerpts, AllocError>
     requires { first_bad_marking (located document.now) ≡ None }
 {
     let case = open_case(alloc)?;
-    let reader = anybody(alloc);
+    // Nothing holds of the reader, who is cleared for CLEAR by that.
+    let reader = Standing::stranger(alloc, 2, 2);
     let mut text = String::new(alloc);
     let mut bytes: u64 = 0;
     for _ in 0..turns {

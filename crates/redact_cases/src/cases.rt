@@ -35,25 +35,6 @@ fn number_of(word: &str) -> u32 {
     word.parse::<u32>().unwrap_or(0)
 }
 
-/// A reader of no organisation, of whom nothing holds.
-fn nobody(alloc: Global) -> Standing {
-    Standing {
-        source: false,
-        person: false,
-        nominated: false,
-        addressed: false,
-        client: false,
-        community: false,
-        connected: false,
-        arrangement: None,
-        who: 0,
-        org: 0,
-        groups: Numbers::new(Vec::new(alloc)),
-        active_groups: Numbers::new(Vec::new(alloc)),
-        communities: Numbers::new(Vec::new(alloc)),
-    }
-}
-
 /// What the words of this name number.
 fn numbers(alloc: Global, words: &str, name: &str) -> Result<Numbers, AllocError> {
     let mut list = Vec::new(alloc);
@@ -67,7 +48,7 @@ fn numbers(alloc: Global, words: &str, name: &str) -> Result<Numbers, AllocError
 }
 
 pub fn reader_of(alloc: Global, words: &str) -> Result<Standing, AllocError> {
-    let mut standing = nobody(alloc);
+    let mut standing = Standing::stranger(alloc, 0, 0);
     standing.groups = numbers(alloc, words, "member")?;
     standing.active_groups = numbers(alloc, words, "active")?;
     standing.communities = numbers(alloc, words, "in")?;

@@ -8,7 +8,7 @@ ghost use Rattle.marking.specs.Marks.{first_bad_marking};
 use crate::compared::same_line;
 use iodef_tree::{Document, LINE_LIMIT, Line, Path};
 use marking::check;
-use policy::{Case, Gate, Gates, Grantee, Numbers, Permission, Permissions, Rule, Standing};
+use policy::{Case, Gate, Gates, Grantee, Permission, Permissions, Rule, Standing};
 use redact::excerpt;
 use std::alloc::{AllocError, Global};
 
@@ -86,21 +86,9 @@ fn full_case(alloc: Global) -> Result<Case, AllocError> {
 }
 
 fn reader(alloc: Global, org: u32, source: bool) -> Standing {
-    Standing {
-        source,
-        person: false,
-        nominated: false,
-        addressed: false,
-        client: false,
-        community: false,
-        connected: false,
-        arrangement: None,
-        who: 9,
-        org,
-        groups: Numbers::new(Vec::new(alloc)),
-        active_groups: Numbers::new(Vec::new(alloc)),
-        communities: Numbers::new(Vec::new(alloc)),
-    }
+    let mut reader = Standing::stranger(alloc, 9, org);
+    reader.source = source;
+    reader
 }
 
 /// The label that the Incident says, which has none written.

@@ -1,0 +1,159 @@
+//! What a shelf tells, as text.
+
+use crate::told::grantee_text;
+use circle::directory::{Person, Role};
+use hub_core::{Entry, JoinedGroup};
+use iodef_tree::Document;
+use policy::{Case, Gate, Permission, Standing};
+use std::alloc::{AllocError, Global};
+
+fn none(alloc: Global) -> Result<String, AllocError> {
+    String::from_str(alloc, "none")
+}
+
+fn gate(alloc: Global, gate: &Gate) -> Result<String, AllocError> {
+    let path = gate.path.print(alloc)?;
+    let level = gate.level;
+    match gate.group {
+        Some(group) => format!(in alloc; " gate '{path}' {level} {group}"),
+        None => format!(in alloc; " gate '{path}' {level} -"),
+    }
+}
+
+fn permission(alloc: Global, permission: &Permission) -> Result<String, AllocError> {
+    let path = permission.path.print(alloc)?;
+    let to = grantee_text(alloc, permission.grantee)?;
+    format!(in alloc; " permission '{path}' {to}")
+}
+
+fn case_found(alloc: Global, case: &Case) -> Result<String, AllocError> {
+    let source = case.source;
+    let mut all = format!(in alloc; "of {source}")?;
+    for row in case.gates.as_slice() {
+        all.push_str(gate(alloc, row)?.as_str())?;
+    }
+    for row in case.permissions.as_slice() {
+        all.push_str(permission(alloc, row)?.as_str())?;
+    }
+    Ok(all)
+}
+
+pub fn case(alloc: Global, case: Option<Case>) -> Result<String, AllocError> {
+    match case {
+        None => none(alloc),
+        Some(case) => case_found(alloc, &case),
+    }
+}
+
+fn push_if(all: &mut String, holds: bool, word: &str) -> Result<(), AllocError> {
+    if holds {
+        all.push_str(word)?;
+    }
+    Ok(())
+}
+
+fn push_numbers(
+    alloc: Global,
+    all: &mut String,
+    name: &str,
+    numbers: &[u32],
+) -> Result<(), AllocError> {
+    all.push_str(name)?;
+    for number in numbers {
+        all.push_str(format!(in alloc; " {number}")?.as_str())?;
+    }
+    Ok(())
+}
+
+fn standing_found(alloc: Global, standing: &Standing) -> Result<String, AllocError> {
+    let (who, org) = (standing.who, standing.org);
+    let mut all = format!(in alloc; "{who} of {org}")?;
+    push_if(&mut all, standing.source, " source")?;
+    push_if(&mut all, standing.person, " person")?;
+    push_if(&mut all, standing.nominated, " nominated")?;
+    push_if(&mut all, standing.addressed, " addressed")?;
+    push_if(&mut all, standing.client, " client")?;
+    push_if(&mut all, standing.community, " community")?;
+    push_if(&mut all, standing.connected, " connected")?;
+    if let Some(handling) = standing.arrangement {
+        all.push_str(" arranged ")?;
+        all.push_str(handling.name())?;
+    }
+    push_numbers(alloc, &mut all, ", groups", standing.groups.as_slice())?;
+    push_numbers(
+        alloc,
+        &mut all,
+        ", active",
+        standing.active_groups.as_slice(),
+    )?;
+    push_numbers(
+        alloc,
+        &mut all,
+        ", communities",
+        standing.communities.as_slice(),
+    )?;
+    Ok(all)
+}
+
+pub fn standing(alloc: Global, standing: Option<Standing>) -> Result<String, AllocError> {
+    match standing {
+        None => none(alloc),
+        Some(standing) => standing_found(alloc, &standing),
+    }
+}
+
+pub fn document(alloc: Global, document: Option<Document>) -> Result<String, AllocError> {
+    match document {
+        None => none(alloc),
+        Some(document) => document.text(alloc),
+    }
+}
+
+pub fn entries(alloc: Global, entries: &[Entry]) -> Result<String, AllocError> {
+    let mut all = String::from_str(alloc, "listed")?;
+    for entry in entries {
+        let (number, source, revision) = (entry.number, entry.source, entry.revision);
+        let words = format!(in alloc; " {number} of {source} revision {revision}")?;
+        all.push_str(words.as_str())?;
+    }
+    Ok(all)
+}
+
+fn group(alloc: Global, group: &JoinedGroup) -> Result<String, AllocError> {
+    let (number, owner) = (group.number, group.owner);
+    let name = group.name.as_str();
+    let releasability = group.releasability.as_str();
+    let mut all = format!(in alloc; " {number} of {owner} '{name}' '{releasability}'")?;
+    push_if(&mut all, group.active, " active")?;
+    push_if(&mut all, group.extend, " extend")?;
+    Ok(all)
+}
+
+pub fn groups(alloc: Global, groups: &[JoinedGroup]) -> Result<String, AllocError> {
+    let mut all = String::from_str(alloc, "joined")?;
+    for row in groups {
+        all.push_str(group(alloc, row)?.as_str())?;
+    }
+    Ok(all)
+}
+
+fn role_name(role: Role) -> &'static str {
+    match role {
+        Role::Administrator => "administrator",
+        Role::Coordinator => "coordinator",
+        Role::Poster => "poster",
+        Role::Reader => "reader",
+    }
+}
+
+pub fn person(alloc: Global, person: Option<Person>) -> Result<String, AllocError> {
+    let Some(person) = person else {
+        return none(alloc);
+    };
+    let (number, org) = (person.number, person.org);
+    let (name, role) = (person.name.as_str(), role_name(person.role));
+    let mut all = format!(in alloc; "{number} of {org} {name} {role}")?;
+    push_if(&mut all, person.active, " active")?;
+    push_if(&mut all, person.nominated, " nominated")?;
+    Ok(all)
+}

@@ -1,0 +1,135 @@
+//! Requests one after another over a shelf in memory, from the test world on.
+
+use crate::facts::told as told_facts;
+use crate::fields::number_of;
+use crate::requests::request_of;
+use crate::world::{key_of, key_text, world};
+use crate::{seen, told};
+use circle::directory::Person;
+use hub_core::{Edit, ListShelf, Request, Shelf, ShelfFault, judge};
+use std::alloc::{AllocError, Global};
+
+fn person<S: Shelf>(
+    alloc: Global,
+    shelf: &mut S,
+    number: u32,
+) -> Result<Option<Person>, ShelfFault> {
+    let text = key_text(alloc, number)?;
+    let key = key_of(text.as_str());
+    shelf.person_by_key(&key)
+}
+
+/// What the person's request is answered, and is made where nothing refuses it.
+fn asked<S: Shelf>(
+    alloc: Global,
+    shelf: &mut S,
+    actor: &Person,
+    request: &Request,
+) -> Result<String, ShelfFault> {
+    let facts = shelf.facts(actor, request)?;
+    match judge(alloc, actor, &facts, request) {
+        Err(refusal) => Ok(told::refusal(alloc, &refusal)?),
+        Ok(edits) => {
+            shelf.apply(&edits)?;
+            Ok(told::outcome(alloc, &edits)?)
+        }
+    }
+}
+
+fn found<S: Shelf>(
+    alloc: Global,
+    shelf: &mut S,
+    actor: &Person,
+    request: &Request,
+) -> Result<String, ShelfFault> {
+    let facts = shelf.facts(actor, request)?;
+    Ok(told_facts(alloc, &facts)?)
+}
+
+/// A request of a person: the facts alone, or all that follows.
+fn request<S: Shelf>(
+    alloc: Global,
+    shelf: &mut S,
+    words: &str,
+    facts_alone: bool,
+) -> Result<String, ShelfFault> {
+    let (number, rest) = words.split_once(' ').unwrap_or((words, ""));
+    let Some(actor) = person(alloc, shelf, number_of(number))? else {
+        return Ok(String::from_str(alloc, "nobody")?);
+    };
+    let mut fields = rest.split('|');
+    let request = request_of(alloc, &mut fields)?;
+    if facts_alone {
+        found(alloc, shelf, &actor, &request)
+    } else {
+        asked(alloc, shelf, &actor, &request)
+    }
+}
+
+fn joined_groups<S: Shelf>(
+    alloc: Global,
+    shelf: &mut S,
+    number: u32,
+) -> Result<String, ShelfFault> {
+    match person(alloc, shelf, number)? {
+        None => Ok(String::from_str(alloc, "nobody")?),
+        Some(person) => {
+            let groups = shelf.groups_of(&person)?;
+            Ok(seen::groups(alloc, &groups)?)
+        }
+    }
+}
+
+/// What stands of an incident or of a person.
+fn read<S: Shelf>(
+    alloc: Global,
+    shelf: &mut S,
+    what: &str,
+    words: &str,
+) -> Result<Option<String>, ShelfFault> {
+    let (first, second) = words.split_once(' ').unwrap_or((words, ""));
+    let (number, other) = (number_of(first), number_of(second));
+    Ok(Some(match what {
+        "case" => seen::case(alloc, shelf.case(number)?)?,
+        "standing" => seen::standing(alloc, shelf.standing(number, other)?)?,
+        "document" => seen::document(alloc, shelf.document(number)?)?,
+        "entries" => seen::entries(alloc, &shelf.incidents_after(number, other)?)?,
+        "groups" => joined_groups(alloc, shelf, number)?,
+        "person" => seen::person(alloc, person(alloc, shelf, number)?)?,
+        "failures" => format!(in alloc; "{}", shelf.failures())?,
+        _ => return Ok(None),
+    }))
+}
+
+fn step<S: Shelf>(alloc: Global, shelf: &mut S, words: &str) -> Result<String, ShelfFault> {
+    let (what, rest) = words.split_once(' ').unwrap_or((words, ""));
+    match read(alloc, shelf, what, rest)? {
+        Some(answer) => Ok(answer),
+        None if what == "facts" => request(alloc, shelf, rest, true),
+        None => request(alloc, shelf, words, false),
+    }
+}
+
+fn founded<S: Shelf>(shelf: &mut S, edits: &[Edit]) -> Result<(), ShelfFault> {
+    shelf.apply(edits)
+}
+
+/// The answer to each step, the steps and the answers with a semicolon between them.
+pub fn answer(alloc: Global, steps: &str) -> Result<String, AllocError> {
+    let mut shelf = ListShelf::new(alloc);
+    let edits = world(alloc)?;
+    let mut all = String::new(alloc);
+    if let Err(fault) = founded(&mut shelf, &edits) {
+        return told::fault(alloc, fault);
+    }
+    for words in steps.split(';') {
+        if !all.is_empty() {
+            all.push_str(" ; ")?;
+        }
+        match step(alloc, &mut shelf, words.trim()) {
+            Ok(answer) => all.push_str(answer.as_str())?,
+            Err(fault) => all.push_str(told::fault(alloc, fault)?.as_str())?,
+        }
+    }
+    Ok(all)
+}

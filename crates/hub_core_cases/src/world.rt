@@ -1,0 +1,113 @@
+//! The test world: five organisations, six persons, two communities and a group.
+
+use circle::command::RowEdit;
+use circle::directory::{Account, Community, Group, GroupMember, Membership, Org, Person, Role};
+use circle::name::Name;
+use circle::releasability::Releasability;
+use hub_core::Edit;
+use sha2::{Digest, Sha256};
+use std::alloc::{AllocError, Global};
+
+/// The key of a person of the test world: `abc` of the first, `key-2` and so on of the others.
+pub fn key_text(alloc: Global, person: u32) -> Result<String, AllocError> {
+    if person == 1 {
+        String::from_str(alloc, "abc")
+    } else {
+        format!(in alloc; "key-{person}")
+    }
+}
+
+/// The SHA-256 of a key.
+pub fn key_of(text: &str) -> [u8; 32] {
+    Sha256::digest(text.as_bytes())
+}
+
+/// A row with a name; where the text is none, an edit that changes nothing stands in its place.
+fn put_org(alloc: Global, number: u32, name: &str) -> Result<Edit, AllocError> {
+    Ok(Edit::Directory(match Name::of(alloc, name)? {
+        Some(name) => RowEdit::PutOrg(Org { number, name }),
+        None => RowEdit::Suspend(0),
+    }))
+}
+
+fn put_person(
+    alloc: Global,
+    number: u32,
+    org: u32,
+    name: &str,
+    role: Role,
+) -> Result<Edit, AllocError> {
+    let text = key_text(alloc, number)?;
+    let key = key_of(text.as_str());
+    Ok(Edit::Directory(match Name::of(alloc, name)? {
+        Some(name) => {
+            let person = Person {
+                number,
+                org,
+                name,
+                role,
+                active: true,
+                nominated: false,
+            };
+            RowEdit::PutAccount(Account { person, key })
+        }
+        None => RowEdit::Suspend(0),
+    }))
+}
+
+fn put_community(alloc: Global, number: u32, name: &str) -> Result<Edit, AllocError> {
+    Ok(Edit::Directory(match Name::of(alloc, name)? {
+        Some(name) => RowEdit::PutCommunity(Community { number, name }),
+        None => RowEdit::Suspend(0),
+    }))
+}
+
+fn put_group(alloc: Global, number: u32, owner: u32, name: &str) -> Result<Edit, AllocError> {
+    Ok(Edit::Directory(
+        match (Name::of(alloc, name)?, Releasability::of(alloc, "")?) {
+            (Some(name), Some(releasability)) => RowEdit::PutGroup(Group {
+                number,
+                owner,
+                name,
+                releasability,
+                active: true,
+            }),
+            _ => RowEdit::Suspend(0),
+        },
+    ))
+}
+
+fn put_persons(alloc: Global, edits: &mut Vec<Edit>) -> Result<(), AllocError> {
+    edits.push(put_person(alloc, 1, 1, "p1", Role::Administrator)?)?;
+    edits.push(put_person(alloc, 2, 2, "p2", Role::Coordinator)?)?;
+    edits.push(put_person(alloc, 3, 3, "p3", Role::Coordinator)?)?;
+    edits.push(put_person(alloc, 4, 4, "p4", Role::Reader)?)?;
+    edits.push(put_person(alloc, 5, 5, "p5", Role::Coordinator)?)?;
+    edits.push(put_person(alloc, 6, 3, "p6", Role::Reader)?)?;
+    Ok(())
+}
+
+/// The rows of the test world, as edits of a state without a row.
+pub fn world(alloc: Global) -> Result<Vec<Edit>, AllocError> {
+    let mut edits = Vec::new(alloc);
+    for (number, name) in [(1, "Hub"), (2, "Src"), (3, "Mem"), (4, "Far"), (5, "Cli")] {
+        edits.push(put_org(alloc, number, name)?)?;
+    }
+    put_persons(alloc, &mut edits)?;
+    edits.push(put_community(alloc, 1, "east")?)?;
+    edits.push(put_community(alloc, 2, "west")?)?;
+    for (community, org) in [(1, 2), (1, 3), (2, 4)] {
+        let row = RowEdit::PutMembership(Membership { community, org });
+        edits.push(Edit::Directory(row))?;
+    }
+    edits.push(put_group(alloc, 1, 2, "g")?)?;
+    for (org, extend) in [(2, true), (3, false)] {
+        let row = RowEdit::PutGroupMember(GroupMember {
+            group: 1,
+            org,
+            extend,
+        });
+        edits.push(Edit::Directory(row))?;
+    }
+    Ok(edits)
+}

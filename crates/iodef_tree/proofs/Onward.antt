@@ -1,0 +1,87 @@
+-- The look-up from a class, or from the root, finds the class whose lines stand below the whole path.
+use Rattle.std.proofs.Common.{◌≡◌, ℕ, suc, List, [], ◌∷◌, ◌++◌, Bool, true, false, cond, filter, ◌&&◌, ◌||◌, refl, sym, ◌∙◌, ap, subst, append-nil, true≢false, Bor}
+use Rattle.std.specs.Prelude.{Option, Some, None, is_some, option_map, IfSome}
+use Rattle.std.specs.Option.{option_map_or}
+use Rattle.std.proofs.lemmas.Bool.{and_right, cond-true, cond-false}
+use Rattle.iodef_tree.specs.Text.{Bytes, Tokens, same_path, is_root, is_under}
+use Rattle.iodef_tree.specs.Tree.{Forest, end, leaf, branch, steps, lines}
+use Rattle.iodef_tree.specs.Paths.{LocatedLine, is_class, located, has_class, below}
+use Rattle.iodef_tree.specs.Sound.{IsSound}
+use Rattle.iodef_tree.specs.View.{forest}
+use Rattle.iodef_tree.specs.Walk.{walk, AreBlocks}
+use Rattle.iodef_tree.specs.Laws.{HasApart, StandsAt}
+use Rattle.iodef_tree.specs.Lookup.{past, class_at, object_at}
+use Rattle.iodef_tree.specs.declared.object.Object.{Object}
+use Rattle.iodef_tree.proofs.Apart.{sound-apart}
+use Rattle.iodef_tree.proofs.Blocks.{below-weaker, blocks-in, root-block}
+use Rattle.iodef_tree.proofs.ByPath.{block-at, has_class-walk}
+use Rattle.iodef_tree.proofs.Order.{is_false, is_under-steps, same_path-true}
+
+-- the class at a longer path is among what stands below the shorter one
+has_class-below : (es : List LocatedLine) (p : Tokens) (x : Bytes) (z : Tokens) → has_class es (p ++ x ∷ z) ≡ has_class (below p es) (p ++ x ∷ z)
+has_class-below [] p x z = refl
+has_class-below (e ∷ es) p x z = by_cases (is_under p e.path) refl (has_class-below es p x z)
+  where
+    by_cases : (b : Bool) → is_under p e.path ≡ b → has_class es (p ++ x ∷ z) ≡ has_class (below p es) (p ++ x ∷ z) →
+        ((is_class e && same_path e.path (p ++ x ∷ z)) || has_class es (p ++ x ∷ z)) ≡ has_class (cond (is_under p e.path) (e ∷ below p es) (below p es)) (p ++ x ∷ z)
+    by_cases true u ih =
+        ap (λ b. (is_class e && same_path e.path (p ++ x ∷ z)) || b) ih
+        ∙ ap (λ l. has_class l (p ++ x ∷ z)) (sym (cond-true (is_under p e.path) (e ∷ below p es) (below p es) u))
+    by_cases false u ih =
+        let elsewhere : same_path e.path (p ++ x ∷ z) ≡ false =
+        is_false (same_path e.path (p ++ x ∷ z)) (λ same. true≢false (sym (is_under-steps p x None z) ∙ ap (is_under p) (sym (same_path-true e.path (p ++ x ∷ z) same)) ∙ u)) in
+        ap (λ b. b || has_class es (p ++ x ∷ z)) (and_right (is_class e) (same_path e.path (p ++ x ∷ z)) elsewhere)
+        ∙ ih
+        ∙ ap (λ l. has_class l (p ++ x ∷ z)) (sym (cond-false (is_under p e.path) (e ∷ below p es) (below p es) u))
+
+found-at : (es : List LocatedLine) (p : Tokens) (f : Forest) (z : Tokens) → StandsAt es p f → is_some (object_at f z) ≡ (is_root z || has_class es (p ++ z))
+found-at es p f [] at = refl
+found-at es p f (x ∷ z) at =
+    sym (has_class-walk f at.block.0 p (x ∷ z) at.apart)
+    ∙ ap (λ l. has_class l (p ++ x ∷ z)) (sym at.block.1)
+    ∙ sym (has_class-below es p x z)
+
+-- each sibling stands apart from the others in what is found too
+apart-at : (f : Forest) (p : Tokens) (g : Forest) → HasApart f → class_at f p ≡ Some g → HasApart g
+apart-at end p g apart e = cc
+apart-at (leaf i rest) p g apart e = step (past (steps i.name i.place) p) e (apart-at rest p g apart.1)
+  where
+    step : (o : Option Tokens) → option_map_or (λ r. None) o (class_at rest p) ≡ Some g → (class_at rest p ≡ Some g → HasApart g) → HasApart g
+    step None h later = later h
+    step (Some r) h later = cc
+apart-at (branch n o kids rest) p g apart e =
+    step (past (steps n o) p) e (λ r h. apart-at kids r g apart.1 h) (apart-at rest p g apart.2)
+  where
+    step : (o' : Option Tokens) → option_map_or (λ r. cond (is_root r) (Some kids) (class_at kids r)) o' (class_at rest p) ≡ Some g →
+        ((r : Tokens) → class_at kids r ≡ Some g → HasApart g) → (class_at rest p ≡ Some g → HasApart g) → HasApart g
+    step None h inner later = later h
+    step (Some []) h inner later = let same : kids ≡ g = cc in subst HasApart same apart.1
+    step (Some (x ∷ r)) h inner later = inner (x ∷ r) h
+
+stands-at : (es : List LocatedLine) (p : Tokens) (f : Forest) (z : Tokens) (g : Forest) → StandsAt es p f → object_at f z ≡ Some g → StandsAt es (p ++ z) g
+stands-at es p f [] g at e =
+    let same : f ≡ g = cc in
+    subst (λ q. StandsAt es q g) (sym (append-nil p)) (subst (StandsAt es p) same at)
+stands-at es p f (x ∷ z) g at e =
+    let d = at.block.0 in
+    let blocks : AreBlocks es d p f = blocks-in f d p es at.apart (λ n o is. below-weaker p (steps n o) es ∙ ap (below (p ++ steps n o)) at.block.1) in
+    record { block = block-at f es d p (x ∷ z) g blocks e; apart = apart-at f (x ∷ z) g at.apart e }
+
+-- ---- as it is found
+
+is_some-map : (r : Option (Bor Object)) → is_some r ≡ is_some (option_map (λ o. forest o.now) r)
+is_some-map None = refl
+is_some-map (Some o) = refl
+
+pub found-onward : (f : Forest) (z : Tokens) (r : Option (Bor Object)) → option_map (λ o. forest o.now) r ≡ object_at f z →
+    (es : List LocatedLine) (p : Tokens) → StandsAt es p f → is_some r ≡ (is_root z || has_class es (p ++ z))
+found-onward f z r is es p at = is_some-map r ∙ ap is_some is ∙ found-at es p f z at
+
+pub stands-onward : (f : Forest) (z : Tokens) (r : Option (Bor Object)) → option_map (λ o. forest o.now) r ≡ object_at f z →
+    (es : List LocatedLine) (p : Tokens) → StandsAt es p f → IfSome r (λ o. StandsAt es (p ++ z) (forest o.now))
+stands-onward f z None is es p at = tt
+stands-onward f z (Some o) is es p at = stands-at es p f z (forest o.now) at (sym is)
+
+-- the root of a document
+pub root-stands : (f : Forest) → IsSound f → StandsAt (located (lines 1 f)) [] f
+root-stands f sound = record { block = root-block f sound; apart = sound-apart f sound }
