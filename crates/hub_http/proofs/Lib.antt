@@ -6,3 +6,4 @@ pub mod Gates
 pub mod NoFloats
 pub mod Whole
 pub mod Readings
+pub mod Standing

@@ -1,6 +1,7 @@
 -- Laws of the definitions, for all values.
-use Rattle.std.specs.Prelude.{◌≡◌, ℕ, ◌⊎◌, List}
+use Rattle.std.specs.Prelude.{◌≡◌, ◌≢◌, ℕ, ◌⊎◌, List, ◌++◌, Err}
 use Rattle.httparse.specs.Grammar.{NeverHasRequest, EndsInTarget}
+use Rattle.hub_http.specs.declared.wire_fault.WireFault.TheVariants.{Truncated}
 use Rattle.hub_http.specs.Wire.{Asked, Wire, window}
 
 -- the window ends inside the target, and nothing that follows could make a head
@@ -10,3 +11,7 @@ IsOpenTarget bytes = EndsInTarget (window bytes) × NeverHasRequest (window byte
 -- Bytes ask one thing, or have one fault first, but for that case.
 abbrev pub HasOneAnswer : Type 0
 HasOneAnswer = (bytes : List ℕ) (a b : Asked) → Wire bytes a → Wire bytes b → (a ≡ b) ⊎ IsOpenTarget bytes
+
+-- What bytes ask, or a fault of theirs that isn't Truncated, stays so whatever bytes follow.
+abbrev pub AnswersStand : Type 0
+AnswersStand = (bytes more : List ℕ) (a : Asked) → a ≢ Err Truncated → Wire bytes a → Wire (bytes ++ more) a
