@@ -60,7 +60,8 @@ pub record Steps {D : Type 0} (has : D → State → Type 0) (doubts failed : D 
 
 -- ---- one connection
 
--- by the hub before, the reply and the hub after: Does asked reply, where the hub answered, and Same, where nothing was asked of it
+-- Over what the hub does: Does asked reply says that it answered what is asked with this reply, and Same that nothing was asked
+-- of it and it is as it was.
 module _ (Does : Key × Request → Reply → Type 0) (Same : Type 0) where
   -- what was read was answered so
   abbrev pub IsAnswer : Option (List ℕ) → Option (List ℕ) → Reply → Type 0
