@@ -1,0 +1,117 @@
+//! A shelf of which one call fails.
+
+ghost use Rattle.std.specs.Prelude.{◌≡◌, ◌⊎◌, ◌<◌, ◌+◌, IfErr, IsErrOf, OnOk, OnErr};
+ghost use Rattle.hub_core.specs.Shelves.{HasCause, last_count};
+
+use circle::directory::Person;
+use hub_core::{Edit, Entry, Facts, JoinedGroup, Request, Shelf, ShelfFault};
+use iodef_tree::Document;
+use policy::{Case, Standing};
+
+/// A shelf whose calls are answered by another one, but for one of them: behind so many calls, one fails and does nothing.
+#[derive(Drop)]
+pub struct Failing<Sh: Shelf> {
+    pub shelf: Sh,
+    /// How many calls are to be answered before the one that fails.
+    pub calls: u64,
+    pub failures: u64,
+}
+
+impl<Sh: Shelf> Failing<Sh> {
+    /// Whether this call is answered. At the last value of the count none is.
+    fn ask(&mut self) -> Result<(), ShelfFault>
+        ensures shelf { self.new.shelf ≡ self.old.shelf }
+        ensures cause { HasCause self.old.failures self.new.failures result }
+        ensures answered { OnOk result (self.new.failures ≡ self.old.failures) }
+        ensures below { OnOk result (self.old.failures < last_count) }
+        ensures fault { IfErr result (λ e. e ≡ ShelfFault.Failed) }
+    {
+        if self.failures == u64::MAX {
+            return Err(ShelfFault::Failed);
+        }
+        if self.calls > 0 {
+            self.calls = self.calls - 1;
+            return Ok(());
+        }
+        self.calls = u64::MAX;
+        self.failures = self.failures + 1;
+        Err(ShelfFault::Failed)
+    }
+
+    /// What the other shelf answered; a failure of its is counted.
+    fn told<T>(&mut self, outcome: Result<T, ShelfFault>) -> Result<T, ShelfFault>
+        requires { self.old.failures < last_count }
+        ensures same { result ≡ outcome }
+        ensures shelf { self.new.shelf ≡ self.old.shelf }
+        ensures cause { HasCause self.old.failures self.new.failures result }
+    {
+        if let Err(ShelfFault::Failed) = outcome {
+            self.failures = self.failures + 1;
+        }
+        outcome
+    }
+}
+
+impl<Sh: Shelf> Shelf for Failing<Sh> {
+    ghost use Rattle.std.specs.Prelude.{◌≡◌};
+
+    ghost has = { λ f s. Sh.has f.shelf s };
+
+    ghost doubts = { λ f. Sh.doubts f.shelf };
+
+    ghost failed = { λ f. f.failures };
+
+    ghost may_leave = { λ f s. Sh.may_leave f.shelf s };
+
+    fn failures(&self) -> u64 {
+        self.failures
+    }
+
+    fn person_by_key(&mut self, key: &[u8; 32]) -> Result<Option<Person>, ShelfFault> {
+        self.ask()?;
+        let found = self.shelf.person_by_key(key);
+        self.told(found)
+    }
+
+    fn standing(&mut self, person: u32, incident: u32) -> Result<Option<Standing>, ShelfFault> {
+        self.ask()?;
+        let found = self.shelf.standing(person, incident);
+        self.told(found)
+    }
+
+    fn case(&mut self, incident: u32) -> Result<Option<Case>, ShelfFault> {
+        self.ask()?;
+        let found = self.shelf.case(incident);
+        self.told(found)
+    }
+
+    fn document(&mut self, incident: u32) -> Result<Option<Document>, ShelfFault> {
+        self.ask()?;
+        let found = self.shelf.document(incident);
+        self.told(found)
+    }
+
+    fn incidents_after(&mut self, number: u32, most: u32) -> Result<Vec<Entry>, ShelfFault> {
+        self.ask()?;
+        let found = self.shelf.incidents_after(number, most);
+        self.told(found)
+    }
+
+    fn groups_of(&mut self, person: &Person) -> Result<Vec<JoinedGroup>, ShelfFault> {
+        self.ask()?;
+        let found = self.shelf.groups_of(person);
+        self.told(found)
+    }
+
+    fn facts(&mut self, actor: &Person, request: &Request) -> Result<Facts, ShelfFault> {
+        self.ask()?;
+        let found = self.shelf.facts(actor, request);
+        self.told(found)
+    }
+
+    fn apply(&mut self, edits: &[Edit]) -> Result<(), ShelfFault> {
+        self.ask()?;
+        let made = self.shelf.apply(edits);
+        self.told(made)
+    }
+}

@@ -1,0 +1,179 @@
+//! Runs the requests of a block.
+
+use crate::block::Block;
+use crate::commands::key_of;
+use crate::failing::Failing;
+use crate::requests::asked_of;
+use crate::told;
+use circle::command::RowEdit;
+use circle::directory::{Account, Org, Person, Role};
+use circle::name::Name;
+use hub::{Hub, Key};
+use hub_core::{Edit, ListShelf, Request, Shelf};
+use std::alloc::{AllocError, Global};
+
+/// The moment of the first request, in seconds since 1970; each comes a second behind the one before.
+const FIRST_MOMENT: i64 = 1_700_000_000;
+
+/// More calls of the shelf than a case makes.
+const MOST_CALLS: u64 = 10_000;
+
+/// Organisation 1 and its administrator, person 1.
+fn first_rows(alloc: Global) -> Result<Vec<Edit>, AllocError> {
+    let mut edits = Vec::new(alloc);
+    if let (Some(hub), Some(admin)) = (Name::of(alloc, "Hub")?, Name::of(alloc, "admin")?) {
+        edits.push(Edit::Directory(RowEdit::PutOrg(Org {
+            number: 1,
+            name: hub,
+        })))?;
+        edits.push(Edit::Directory(RowEdit::PutAccount(Account {
+            person: Person {
+                number: 1,
+                org: 1,
+                name: admin,
+                role: Role::Administrator,
+                active: true,
+                nominated: false,
+            },
+            key: key_of(1),
+        })))?;
+    }
+    Ok(edits)
+}
+
+/// The shelf that each case begins with; none where it wasn't made.
+fn first_shelf(alloc: Global) -> Result<Option<ListShelf>, AllocError> {
+    let edits = first_rows(alloc)?;
+    let mut shelf = ListShelf::new(alloc);
+    match shelf.apply(&edits) {
+        Ok(()) => Ok(Some(shelf)),
+        Err(_) => Ok(None),
+    }
+}
+
+/// The requests of these lines, but for one.
+fn requests(
+    alloc: Global,
+    lines: &[&str],
+    but: Option<usize>,
+) -> Result<Vec<(i64, Key, Request)>, AllocError> {
+    let mut asked = Vec::new(alloc);
+    let mut now = FIRST_MOMENT;
+    for (i, line) in lines.iter().enumerate() {
+        if but != Some(i) {
+            let (key, request) = asked_of(alloc, line)?;
+            asked.push((now, key, request))?;
+        }
+        now = now.saturating_add(1);
+    }
+    Ok(asked)
+}
+
+/// What the requests are answered, but for one that isn't made; none where the memory doesn't suffice.
+fn replies(
+    alloc: Global,
+    lines: &[&str],
+    but: Option<usize>,
+) -> Result<Option<Vec<String>>, AllocError> {
+    let Some(shelf) = first_shelf(alloc)? else {
+        return Ok(None);
+    };
+    let asked = requests(alloc, lines, but)?;
+    match Hub::new(shelf).run(alloc, &asked) {
+        Ok(list) => Ok(Some(told::replies(alloc, &list)?)),
+        Err(_) => Ok(None),
+    }
+}
+
+/// What the requests are answered where one call of the shelf fails, behind so many others; none where none failed.
+fn replies_failing(
+    alloc: Global,
+    lines: &[&str],
+    calls: u64,
+) -> Result<Option<Vec<String>>, AllocError> {
+    let Some(shelf) = first_shelf(alloc)? else {
+        return Ok(None);
+    };
+    let asked = requests(alloc, lines, None)?;
+    let mut hub = Hub::new(Failing {
+        shelf,
+        calls,
+        failures: 0,
+    });
+    let outcome = hub.run(alloc, &asked);
+    if hub.into_shelf().failures() == 0 {
+        return Ok(None);
+    }
+    match outcome {
+        Ok(list) => Ok(Some(told::replies(alloc, &list)?)),
+        Err(_) => Ok(None),
+    }
+}
+
+/// Whether all but one are the same.
+fn same_but_one(told: &[String], others: &[String], place: usize) -> bool {
+    let (before, behind) = told.split_at(place.min(told.len()));
+    behind.len() > 0 && others.iter().eq(before.iter().chain(behind.iter().skip(1)))
+}
+
+/// Whether exactly one request is answered F1, and the others as if it hadn't been made.
+fn is_as_if_not_made(alloc: Global, lines: &[&str], told: &[String]) -> Result<bool, AllocError> {
+    let Some(place) = told.iter().position(|reply| reply.as_str() == "F1") else {
+        return Ok(false);
+    };
+    match replies(alloc, lines, Some(place))? {
+        Some(others) => Ok(same_but_one(told, &others, place)),
+        None => Ok(false),
+    }
+}
+
+/// Fails each call of the shelf in turn.
+fn failed_in_turn(alloc: Global, lines: &[&str]) -> Result<&'static str, AllocError> {
+    for calls in 0..MOST_CALLS {
+        match replies_failing(alloc, lines, calls)? {
+            None => {
+                return Ok(if calls > 0 {
+                    "F1 for each failure, and all else as if it hadn't been asked"
+                } else {
+                    "no call failed"
+                });
+            }
+            Some(told) => {
+                if !is_as_if_not_made(alloc, lines, &told)? {
+                    return Ok("a failure changed more than its own answer");
+                }
+            }
+        }
+    }
+    Ok("more calls than expected")
+}
+
+fn lines_of<'a>(
+    alloc: Global,
+    world: &'a Block,
+    block: &'a Block,
+) -> Result<Vec<&'a str>, AllocError> {
+    let mut lines = Vec::new(alloc);
+    for line in world.lines.iter().chain(block.lines.iter()) {
+        lines.push(line.as_str())?;
+    }
+    Ok(lines)
+}
+
+/// What is printed for a block: the answer to each of its requests.
+pub fn answers(alloc: Global, world: &Block, block: &Block) -> Result<Vec<String>, AllocError> {
+    let lines = lines_of(alloc, world, block)?;
+    let mut answers = Vec::new(alloc);
+    match replies(alloc, &lines, None)? {
+        Some(told) => {
+            for reply in told.into_iter().skip(world.lines.len()) {
+                answers.push(reply)?;
+            }
+        }
+        None => answers.push(String::from_str(alloc, "no memory")?)?,
+    }
+    if block.fails {
+        answers.push(String::from_str(alloc, failed_in_turn(alloc, &lines)?)?)?;
+    }
+    Ok(answers)
+}
