@@ -5,5 +5,4 @@ pub mod Heads
 pub mod Gates
 pub mod NoFloats
 pub mod Whole
-pub mod Readings
 pub mod Standing

@@ -10,4 +10,3 @@ pub mod Arrivals
 pub mod Laws
 pub mod Bodies
 pub mod Replies
-pub mod Serving
