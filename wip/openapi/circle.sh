@@ -1,0 +1,68 @@
+#!/usr/bin/env bash
+# From nothing to two teams that share: a store, organisations, persons, a community and a group, the report phishing.json,
+# and what its source, a partner and a stranger are served of it.
+#
+#     docs/examples/circle.sh [PORT]
+#
+# Wanted: curl and jq. The store is made in a folder of its own, which goes when the script ends.
+set -eu
+top=$(cd "$(dirname "$0")/../.." && pwd)
+port=${1:-18080}
+folder=$(mktemp -d)
+hub=http://127.0.0.1:$port
+trap 'kill %1 2>/dev/null || true; rm -rf "$folder"' EXIT
+
+digest() { printf %s "$1" | sha256sum | cut -d' ' -f1; }
+
+# ask KEY METHOD PATH [curl's words]: one request by the person with this key; the hub's answer, whatever its status is
+ask() {
+    local key=$1 method=$2 path=$3
+    shift 3
+    curl -sS -X "$method" -H "Authorization: Bearer $key" "$@" "$hub$path"
+    echo
+}
+
+say() { printf '\n# %s\n' "$*"; }
+
+say "The store, with the hub's own organisation and its administrator"
+"$top/iodef-hub" init "$folder/hub.db" Hub "$(digest admin-key)"
+"$top/iodef-hub" serve "$folder/hub.db" "$port" 1000 >"$folder/listening" &
+while ! grep -q listening "$folder/listening"; do sleep 0.1; done
+
+say "Three organisations: 2 posts, 3 is its partner, 4 is a stranger"
+for name in Bank Telco University; do ask admin-key POST /orgs -d "name=$name"; done
+
+say "A person in each"
+ask admin-key POST /persons -d "org=2&name=Ada&role=coordinator&key=$(digest bank-key)"
+ask admin-key POST /persons -d "org=3&name=Ben&role=coordinator&key=$(digest telco-key)"
+ask admin-key POST /persons -d "org=4&name=Cleo&role=reader&key=$(digest university-key)"
+
+say "A community of the bank and the telco"
+ask admin-key POST /communities -d "name=payments"
+ask admin-key POST /communities/1/join -d "org=2"
+ask admin-key POST /communities/1/join -d "org=3"
+
+say "A sharing group of the bank's, with the telco in it"
+ask bank-key POST /groups --data-urlencode "name=phishing" --data-urlencode "releasability=members only"
+ask bank-key POST /groups/1/add -d "org=3&extend=0"
+
+say "The bank posts its report to all communities (level 3), the second EventData to the group alone (level 4)"
+ask bank-key POST '/incidents?level=3&gate=4:1:/Incident/0/EventData/1' --data-binary "@$top/docs/examples/phishing.json"
+
+say "What the bank is served: all of it"
+ask bank-key GET /incidents/1 | jq -c '{classes, withheld}'
+
+say "What the telco is served: what is GREEN or CLEAR; each part that is withheld is told with its rule"
+ask telco-key GET /incidents/1 | jq '{classes, withheld}'
+
+say "What the university is served: the same answer as for a report that isn't there"
+ask university-key GET /incidents/1
+ask university-key GET /incidents/999
+
+say "The bank permits the telco to read the mailboxes that were opened"
+ask bank-key POST /incidents/1/grant --data-urlencode "revision=1" --data-urlencode "path=/Incident/0/EventData/1" -d "org=3"
+ask telco-key GET /incidents/1 | jq -c '.document.Incident[0].EventData[1]'
+
+say "The group is switched off: what was for it is withheld as G4X"
+ask bank-key POST /groups/1/active -d "active=0"
+ask telco-key GET /incidents/1 | jq -c '.withheld'
