@@ -3,7 +3,7 @@
 /// What is wrong with a request's bytes: the first of these that holds, in this order.
 #[derive(Clone, Copy, Debug, PartialEq, Eq, Drop)]
 pub enum WireFault {
-    /// No head ends in the first 8,192 bytes, or one has over 64 fields.
+    /// The first 8,192 bytes are there, hold no whole head and may still begin one; or a whole head has over 64 fields.
     HeadTooLong,
     /// The bytes begin no head of HTTP/1.0 or HTTP/1.1, or Content-Length stands there twice or isn't digits.
     BadHead,
