@@ -3,6 +3,7 @@ pub mod Withheld
 pub mod Judged
 pub mod Told
 pub mod Pass
+pub mod Here
 pub mod Tokens
 pub mod Left
 pub mod Filled

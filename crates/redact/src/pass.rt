@@ -5,11 +5,11 @@ ghost use Rattle.std.specs.Prelude.{◌≡◌, ◌≤◌, ◌∷◌, ◌++◌, [
 ghost use Rattle.iodef_tree.specs.View.{forest, bodies, body, named};
 ghost use Rattle.marking.specs.Members.{spelled_in};
 ghost use Rattle.redact.specs.Judged.{inside, is_end, with_label, keeps_plain as keeps, shows_label, cut as what_is_left, told, visible_classes};
-ghost use Rattle.redact.specs.Pass.{pass, judgment_by};
+ghost use Rattle.redact.specs.Pass.{judgment_by};
+ghost use Rattle.redact.specs.Here.{carries, judged_for, LiesAhead};
 ghost use Rattle.iodef_tree.specs.Text.{Tokens};
 ghost use Rattle.iodef_tree.specs.Tree.{many};
-ghost use Rattle.policy.specs.Ahead.{ahead_of, met_by};
-ghost use Rattle.policy.specs.Inherited.{carried, hides};
+ghost use Rattle.policy.specs.Inherited.{hides};
 ghost use Rattle.std.specs.List.{AllByRecursion};
 ghost use Rattle.iodef_tree.specs.Filled.{IsFilled, IsMemberFilled, IsItemFilled};
 ghost use Rattle.redact.specs.Tokens.{token_of, path_of};
@@ -93,12 +93,12 @@ impl<'a> Reader<'a> {
         object: &'a Object,
     ) -> Result<Object, AllocError>
         requires filled { IsFilled object.now }
-        requires ahead { met_by ahead.now ≡ ahead_of self.now.case.now self.now.standing.now (path_of state.old.path.items) }
+        requires ahead { LiesAhead self.now state.old.path.items ahead.now }
         ensures left { IfOk result (λ o. forest o ≡ what_is_left (home_of home) 0
-            (pass self.now.case.now self.now.standing.now (carried (path_of state.old.path.items) above.entry) (forest object.now))) }
+            (judged_for self.now state.old.path.items above.entry (forest object.now))) }
         ensures filled { IfOk result (λ o. IsFilled o) }
         ensures goes { IfOk result (λ o.
-            let judged = pass self.now.case.now self.now.standing.now (carried (path_of state.old.path.items) above.entry) (forest object.now) in
+            let judged = judged_for self.now state.old.path.items above.entry (forest object.now) in
             Goes (path_of state.old.place.items) state.old state.new (told (home_of home) (path_of state.old.place.items) 0 judged) [] (visible_classes judged) 0) }
         ensures quiet { IfOk result (λ o. length o.members.items ≡ 0 → state.new.withheld.items ≡ state.old.withheld.items) }
     {
@@ -122,13 +122,13 @@ impl<'a> Reader<'a> {
         member: &'a Member,
     ) -> Result<Option<Member>, AllocError>
         requires filled { IsMemberFilled member.now }
-        requires ahead { met_by ahead.now ≡ ahead_of self.now.case.now self.now.standing.now (path_of state.old.path.items) }
+        requires ahead { LiesAhead self.now state.old.path.items ahead.now }
         ensures left { IfOk result (λ r. option_map bodies r ≡ left_member self.now.case.now self.now.standing.now (home_of home)
-            (carried (path_of state.old.path.items) above.entry) name.now (bodies member.now)) }
+            (carries state.old.path.items above.entry) name.now (bodies member.now)) }
         ensures filled { IfOk result (λ r. IfSome r (λ m. IsMemberFilled m)) }
         ensures goes { IfOk result (λ r. Goes (path_of state.old.place.items) state.old state.new
-            (told_member self.now.case.now self.now.standing.now (home_of home) (carried (path_of state.old.path.items) above.entry) (path_of state.old.place.items) name.now (bodies member.now)) []
-            (count_member self.now.case.now self.now.standing.now (carried (path_of state.old.path.items) above.entry) name.now (bodies member.now)) 0) }
+            (told_member self.now.case.now self.now.standing.now (home_of home) (carries state.old.path.items above.entry) (path_of state.old.place.items) name.now (bodies member.now)) []
+            (count_member self.now.case.now self.now.standing.now (carries state.old.path.items above.entry) name.now (bodies member.now)) 0) }
         ensures quiet { IfOk result (λ r. r ≡ None → state.new.withheld.items ≡ state.old.withheld.items) }
     {
         match member {
@@ -164,13 +164,13 @@ impl<'a> Reader<'a> {
         items: &'a Vec<Item>,
     ) -> Result<Option<Member>, AllocError>
         requires filled { AllByRecursion IsItemFilled items.now.items }
-        requires ahead { met_by ahead.now ≡ ahead_of self.now.case.now self.now.standing.now (path_of state.old.path.items) }
+        requires ahead { LiesAhead self.now state.old.path.items ahead.now }
         ensures left { IfOk result (λ r. option_map bodies r ≡ left_member self.now.case.now self.now.standing.now (home_of home)
-            (carried (path_of state.old.path.items) above.entry) name.now (many (map body items.now.items))) }
+            (carries state.old.path.items above.entry) name.now (many (map body items.now.items))) }
         ensures filled { IfOk result (λ r. IfSome r (λ m. IsMemberFilled m)) }
         ensures goes { IfOk result (λ r. Goes (path_of state.old.place.items) state.old state.new
-            (told_member self.now.case.now self.now.standing.now (home_of home) (carried (path_of state.old.path.items) above.entry) (path_of state.old.place.items) name.now (many (map body items.now.items))) []
-            (count_member self.now.case.now self.now.standing.now (carried (path_of state.old.path.items) above.entry) name.now (many (map body items.now.items))) 0) }
+            (told_member self.now.case.now self.now.standing.now (home_of home) (carries state.old.path.items above.entry) (path_of state.old.place.items) name.now (many (map body items.now.items))) []
+            (count_member self.now.case.now self.now.standing.now (carries state.old.path.items above.entry) name.now (many (map body items.now.items))) 0) }
         ensures quiet { IfOk result (λ r. r ≡ None → state.new.withheld.items ≡ state.old.withheld.items) }
     {
         let base = state.place.len();
@@ -199,14 +199,14 @@ impl<'a> Reader<'a> {
     ) -> Result<Vec<Item>, AllocError>
         requires base { base ≤ length state.old.place.items }
         requires filled { AllByRecursion IsItemFilled items.now.items }
-        requires ahead { met_by ahead.now ≡ ahead_of self.now.case.now self.now.standing.now (path_of state.old.path.items) }
+        requires ahead { LiesAhead self.now state.old.path.items ahead.now }
         ensures left { IfOk result (λ v. map body v.items ≡ left_items self.now.case.now self.now.standing.now (home_of home)
-            (carried (path_of state.old.path.items) array.entry) 0 (map body items.now.items)) }
+            (carries state.old.path.items array.entry) 0 (map body items.now.items)) }
         ensures filled { IfOk result (λ v. AllByRecursion IsItemFilled v.items) }
         ensures goes { IfOk result (λ v. Goes (path_of (take base state.old.place.items)) state.old state.new
-            (told_items self.now.case.now self.now.standing.now (home_of home) (carried (path_of state.old.path.items) array.entry)
+            (told_items self.now.case.now self.now.standing.now (home_of home) (carries state.old.path.items array.entry)
             (path_of (take base state.old.place.items)) (path_of state.old.place.items) 0 0 (map body items.now.items)) []
-            (count_items self.now.case.now self.now.standing.now (carried (path_of state.old.path.items) array.entry) 0 (map body items.now.items)) 0) }
+            (count_items self.now.case.now self.now.standing.now (carries state.old.path.items array.entry) 0 (map body items.now.items)) 0) }
         ensures quiet { IfOk result (λ v. length v.items ≡ 0 → state.new.withheld.items ≡ state.old.withheld.items) }
     {
         let mut kept = Vec::new(state.alloc);
@@ -243,14 +243,14 @@ impl<'a> Reader<'a> {
     ) -> Result<Option<Item>, AllocError>
         requires base { base ≤ length state.old.place.items }
         requires filled { IsItemFilled item.now }
-        requires ahead { met_by ahead.now ≡ ahead_of self.now.case.now self.now.standing.now (path_of state.old.path.items) }
+        requires ahead { LiesAhead self.now state.old.path.items ahead.now }
         ensures left { IfOk result (λ r. option_map body r ≡ left_at self.now.case.now self.now.standing.now (home_of home)
-            (carried (path_of state.old.path.items) door.entry) (token_of token.entry) (body item.now)) }
+            (carries state.old.path.items door.entry) (token_of token.entry) (body item.now)) }
         ensures filled { IfOk result (λ r. IfSome r (λ i. IsItemFilled i)) }
         ensures goes { IfOk result (λ r. Goes (path_of (take base state.old.place.items)) state.old state.new
-            (told_at self.now.case.now self.now.standing.now (carried (path_of state.old.path.items) door.entry)
+            (told_at self.now.case.now self.now.standing.now (carries state.old.path.items door.entry)
             (path_of (take base state.old.place.items)) (path_of (state.old.place.items ++ place.entry ∷ [])) (token_of token.entry) (body item.now)) []
-            (count_at self.now.case.now self.now.standing.now (carried (path_of state.old.path.items) door.entry) (token_of token.entry) (body item.now)) 0) }
+            (count_at self.now.case.now self.now.standing.now (carries state.old.path.items door.entry) (token_of token.entry) (body item.now)) 0) }
         ensures quiet { IfOk result (λ r. r ≡ None → state.new.withheld.items ≡ state.old.withheld.items) }
     {
         match item {
@@ -296,14 +296,14 @@ impl<'a> Reader<'a> {
     ) -> Result<Option<Object>, AllocError>
         requires base { base ≤ length state.old.place.items }
         requires filled { IsFilled object.now }
-        requires ahead { met_by ahead.now ≡ ahead_of self.now.case.now self.now.standing.now (path_of state.old.path.items) }
+        requires ahead { LiesAhead self.now state.old.path.items ahead.now }
         ensures left { IfOk result (λ r. option_map forest r ≡ (
-            let k = carried (path_of state.old.path.items) at.entry in
-            class_left self.now.case.now self.now.standing.now (home_of home) (judgment_by self.now.case.now self.now.standing.now k (spelled_in (forest object.now))) (pass self.now.case.now self.now.standing.now k (forest object.now)))) }
+            let k = carries state.old.path.items at.entry in
+            class_left self.now.case.now self.now.standing.now (home_of home) (judgment_by self.now.case.now self.now.standing.now k (spelled_in (forest object.now))) (judged_for self.now state.old.path.items at.entry (forest object.now)))) }
         ensures filled { IfOk result (λ r. IfSome r (λ o. IsFilled o)) }
         ensures goes { IfOk result (λ r.
-            let k = carried (path_of state.old.path.items) at.entry in
-            let judged = pass self.now.case.now self.now.standing.now k (forest object.now) in
+            let k = carries state.old.path.items at.entry in
+            let judged = judged_for self.now state.old.path.items at.entry (forest object.now) in
             let j = judgment_by self.now.case.now self.now.standing.now k (spelled_in (forest object.now)) in
             Goes (path_of (take base state.old.place.items)) state.old state.new (class_told self.now.case.now self.now.standing.now (path_of (take base state.old.place.items)) (path_of state.old.place.items) j judged) []
             (class_count self.now.case.now self.now.standing.now j judged) 0) }
@@ -329,15 +329,15 @@ impl<'a> Reader<'a> {
         object: &'a Object,
     ) -> Result<Object, AllocError>
         requires filled { IsFilled object.now }
-        requires ahead { met_by ahead.now ≡ ahead_of self.now.case.now self.now.standing.now (path_of state.old.path.items) }
+        requires ahead { LiesAhead self.now state.old.path.items ahead.now }
         ensures left { IfOk result (λ o. forest o ≡ (
-            let k = carried (path_of state.old.path.items) at.entry in
+            let k = carries state.old.path.items at.entry in
             with_label (home_of home) (judgment_by self.now.case.now self.now.standing.now k (spelled_in (forest object.now)))
-            (what_is_left (inside true) 0 (pass self.now.case.now self.now.standing.now k (forest object.now))))) }
+            (what_is_left (inside true) 0 (judged_for self.now state.old.path.items at.entry (forest object.now))))) }
         ensures filled { IfOk result (λ o. IsFilled o) }
         ensures goes { IfOk result (λ o.
-            let k = carried (path_of state.old.path.items) at.entry in
-            let judged = pass self.now.case.now self.now.standing.now k (forest object.now) in
+            let k = carries state.old.path.items at.entry in
+            let judged = judged_for self.now state.old.path.items at.entry (forest object.now) in
             (q : Tokens) → Goes q state.old state.new (told (inside true) (path_of state.old.place.items) 0 judged) [] (1 + visible_classes judged) 0) }
     {
         state.classes = state.classes.saturating_add(1);
@@ -365,14 +365,14 @@ impl<'a> Reader<'a> {
     ) -> Result<Option<Object>, AllocError>
         requires base { base ≤ length state.old.place.items }
         requires filled { IsFilled object.now }
-        requires ahead { met_by ahead.now ≡ ahead_of self.now.case.now self.now.standing.now (path_of state.old.path.items) }
+        requires ahead { LiesAhead self.now state.old.path.items ahead.now }
         ensures left { IfOk result (λ r. option_map forest r ≡ (
-            let inner = what_is_left (inside false) 0 (pass self.now.case.now self.now.standing.now (carried (path_of state.old.path.items) at.entry) (forest object.now)) in
+            let inner = what_is_left (inside false) 0 (judged_for self.now state.old.path.items at.entry (forest object.now)) in
             if is_end inner then None else Some inner)) }
         ensures filled { IfOk result (λ r. IfSome r (λ o. IsFilled o)) }
         ensures goes { IfOk result (λ r.
-            let k = carried (path_of state.old.path.items) at.entry in
-            let judged = pass self.now.case.now self.now.standing.now k (forest object.now) in
+            let k = carries state.old.path.items at.entry in
+            let judged = judged_for self.now state.old.path.items at.entry (forest object.now) in
             Goes (path_of (take base state.old.place.items)) state.old state.new (if is_end (what_is_left (inside false) 0 judged) then (path_of (take base state.old.place.items), hides self.now.standing.now k) ∷ []
             else (path_of state.old.place.items, hides self.now.standing.now k) ∷ told (inside false) (path_of state.old.place.items) 0 judged) []
             (visible_classes judged) 0) }

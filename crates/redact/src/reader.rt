@@ -7,6 +7,7 @@ ghost use Rattle.policy.specs.Inherited.{carried, at_root as at_the_root, array_
 ghost use Rattle.iodef_tree.specs.Text.{Tokens};
 ghost use Rattle.policy.specs.declared.standing.Standing.{Standing as Asking};
 ghost use Rattle.policy.specs.declared.case.Case.{Case as Judged};
+ghost use Rattle.redact.specs.Here.{carries, LiesAhead};
 ghost use Rattle.redact.specs.Tokens.{token_of, path_of};
 
 use crate::trail::{Token, Trail};
@@ -37,9 +38,9 @@ impl<'a> Reader<'a> {
         ahead: &Ahead<'a>,
         token: Token<'a>,
     ) -> Result<Ahead<'a>, AllocError>
-        requires { met_by ahead.now ≡ ahead_of self.now.case.now self.now.standing.now (path_of trail.old.items) }
+        requires { LiesAhead self.now trail.old.items ahead.now }
         ensures trail { OnOk result (trail.new.items ≡ trail.old.items ++ token.entry ∷ []) }
-        ensures ahead { IfOk result (λ a. met_by a ≡ ahead_of self.now.case.now self.now.standing.now (path_of trail.new.items)) }
+        ensures ahead { IfOk result (λ a. LiesAhead self.now trail.new.items a) }
     {
         trail.push(token)?;
         let inside = further(alloc, ahead, token)?;
@@ -61,9 +62,9 @@ impl<'a> Reader<'a> {
         ahead: &Ahead<'a>,
         above: Carried<'a>,
     ) -> Carried<'a>
-        requires { met_by ahead.now ≡ ahead_of self.now.case.now self.now.standing.now (path_of trail.now) }
-        ensures { carried (path_of trail.now) result
-            ≡ array_step self.now.case.now self.now.standing.now (carried (path_of trail.now) above.entry) (path_of trail.now) }
+        requires { LiesAhead self.now trail.now ahead.now }
+        ensures { carries trail.now result
+            ≡ array_step self.now.case.now self.now.standing.now (carries trail.now above.entry) (path_of trail.now) }
     {
         let _ = trail;
         above.in_array(ahead)
@@ -77,9 +78,9 @@ impl<'a> Reader<'a> {
         above: Carried<'a>,
         written: Option<Label<'a>>,
     ) -> Carried<'a>
-        requires { met_by ahead.now ≡ ahead_of self.now.case.now self.now.standing.now (path_of trail.now) }
-        ensures { carried (path_of trail.now) result
-            ≡ class_step self.now.case.now self.now.standing.now (carried (path_of trail.now) above.entry) (path_of trail.now) (option_map marking_of written.entry) }
+        requires { LiesAhead self.now trail.now ahead.now }
+        ensures { carries trail.now result
+            ≡ class_step self.now.case.now self.now.standing.now (carries trail.now above.entry) (path_of trail.now) (option_map marking_of written.entry) }
     {
         above.in_class(ahead, &Trail { tokens: trail }, written)
     }

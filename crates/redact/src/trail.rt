@@ -1,7 +1,7 @@
 //! Where a pass is: the tokens of a path, without memory of their own.
 
-ghost use Rattle.std.specs.Prelude.{◌≡◌, ◌++◌, ◌∷◌, IfOk, OnOk, string_bytes};
-ghost use Rattle.std.specs.Str.{byte, bytes_eq};
+ghost use Rattle.std.specs.Prelude.{◌≡◌, ◌++◌, ◌∷◌, [], IfOk, OnOk, string_bytes};
+ghost use Rattle.std.specs.Str.{byte};
 ghost use Rattle.iodef_tree.specs.Pointer.{escaped, pointer_text};
 ghost use Rattle.iodef_tree.specs.Text.{same_path};
 ghost use Rattle.marking.specs.Marks.{incident_path};
@@ -32,25 +32,36 @@ impl<'t, 'a> Spot for Trail<'t, 'a> {
     }
 }
 
-/// Whether the token is written so.
-fn is_written(token: Token<'_>, text: &str) -> bool
-    ensures { result ≡ bytes_eq (token_of token.entry) text.now }
-{
-    match token {
-        Token::Name(name) => name == text,
-        Token::Index(place) => {
-            let mut digits = itoa::Buffer::new();
-            digits.format(place) == text
-        }
-    }
-}
-
 fn is_incident(trail: &[Token<'_>]) -> bool
     ensures { result ≡ same_path (path_of trail.now) incident_path }
 {
     match trail {
-        [first, second] => is_written(*first, "Incident") && is_written(*second, "0"),
+        [first, second] => lead_to_incident(*first, *second),
         _ => false,
+    }
+}
+
+fn lead_to_incident(first: Token<'_>, second: Token<'_>) -> bool
+    ensures { result ≡ same_path (token_of first.entry ∷ token_of second.entry ∷ []) incident_path }
+{
+    match first {
+        Token::Name(name) => leads_to_incident(name, second),
+        Token::Index(place) => {
+            let mut digits = itoa::Buffer::new();
+            leads_to_incident(digits.format(place), second)
+        }
+    }
+}
+
+fn leads_to_incident(first: &str, second: Token<'_>) -> bool
+    ensures { result ≡ same_path (first.now ∷ token_of second.entry ∷ []) incident_path }
+{
+    match second {
+        Token::Name(name) => marking::is_incident(first, name),
+        Token::Index(place) => {
+            let mut digits = itoa::Buffer::new();
+            marking::is_incident(first, digits.format(place))
+        }
     }
 }
 
