@@ -41,6 +41,18 @@ impl<'a> Entry<'a> {
         Ok(Entry { printed, note })
     }
 
+    /// The next note, behind this one. What is noted at one place is printed once.
+    fn next(&self, alloc: Global, note: Note<'a>) -> Result<Entry<'a>, AllocError>
+        ensures { IfOk result (λ e. e ≡ note.entry) }
+    {
+        if note.is_beside(&self.note) {
+            let printed = self.printed.clone()?;
+            Ok(Entry { printed, note })
+        } else {
+            Entry::new(alloc, note)
+        }
+    }
+
     fn into_pair(self, alloc: Global) -> Result<(Path, Rule), AllocError>
         ensures { IfOk result (λ p. p ≡ self.entry) }
     {
@@ -103,9 +115,13 @@ impl<'a> PartialOrd for Entry<'a> {
 fn entries_of<'a>(alloc: Global, notes: Vec<Note<'a>>) -> Result<Vec<Entry<'a>>, AllocError>
     ensures { IfOk result (λ v. v.items ≡ notes.entry.items) }
 {
-    let mut entries = Vec::with_capacity(alloc, notes.len())?;
+    let mut entries: Vec<Entry<'a>> = Vec::with_capacity(alloc, notes.len())?;
     for note in notes {
-        entries.push(Entry::new(alloc, note)?)?;
+        let entry = match entries.last() {
+            Some(last) => last.next(alloc, note)?,
+            None => Entry::new(alloc, note)?,
+        };
+        entries.push(entry)?;
     }
     Ok(entries)
 }

@@ -1,6 +1,6 @@
 //! What is withheld, as a pass notes it on its way.
 
-ghost use Rattle.std.specs.Prelude.{◌≡◌, ◌||◌, Bool, IfOk, OnOk, string_bytes};
+ghost use Rattle.std.specs.Prelude.{◌≡◌, ◌||◌, true, Bool, IfOk, OnOk, string_bytes};
 ghost use Rattle.std.specs.List.{list_any};
 ghost use Rattle.std.specs.Str.{bytes_eq};
 ghost use Rattle.policy.specs.Rule.{name_of};
@@ -8,7 +8,7 @@ ghost use Rattle.iodef_tree.specs.Pointer.{pointer_text};
 ghost use Rattle.policy.specs.declared.rule.Rule.{Rule as Named};
 ghost use Rattle.redact.specs.Tokens.{path_of};
 
-use crate::trail::{Token, path_at, print};
+use crate::trail::{Token, are_same, path_at, print};
 use iodef_tree::Path;
 use policy::Rule;
 use std::alloc::{AllocError, Global};
@@ -50,6 +50,13 @@ impl<'a> Note<'a> {
         ensures { IfOk result (λ s. string_bytes s ≡ pointer_text self.now.0) }
     {
         print(alloc, self.place.as_slice())
+    }
+
+    /// Whether both are noted at one place, told by their tokens.
+    pub fn is_beside(&self, other: &Note<'_>) -> bool
+        ensures { result ≡ true → self.now.0 ≡ other.now.0 }
+    {
+        are_same(self.place.as_slice(), other.place.as_slice())
     }
 
     pub fn into_pair(self, alloc: Global) -> Result<(Path, Rule), AllocError>

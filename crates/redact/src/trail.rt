@@ -1,6 +1,6 @@
 //! Where a pass is: the tokens of a path, without memory of their own.
 
-ghost use Rattle.std.specs.Prelude.{◌≡◌, ◌++◌, ◌∷◌, [], IfOk, OnOk, string_bytes};
+ghost use Rattle.std.specs.Prelude.{◌≡◌, ◌++◌, ◌∷◌, [], true, IfOk, OnOk, string_bytes};
 ghost use Rattle.std.specs.Str.{byte};
 ghost use Rattle.iodef_tree.specs.Pointer.{escaped, pointer_text};
 ghost use Rattle.iodef_tree.specs.Text.{same_path};
@@ -62,6 +62,29 @@ fn leads_to_incident(first: &str, second: Token<'_>) -> bool
             let mut digits = itoa::Buffer::new();
             marking::is_incident(first, digits.format(place))
         }
+    }
+}
+
+/// Whether both are the same tokens, each of the same kind.
+pub fn are_same(one: &[Token<'_>], other: &[Token<'_>]) -> bool
+    ensures { result ≡ true → path_of one.now ≡ path_of other.now }
+{
+    match (one.split_first(), other.split_first()) {
+        (None, None) => true,
+        (Some((first, behind)), Some((second, rest))) => {
+            is_same(*first, *second) && are_same(behind, rest)
+        }
+        _ => false,
+    }
+}
+
+fn is_same(one: Token<'_>, other: Token<'_>) -> bool
+    ensures { result ≡ true → token_of one.entry ≡ token_of other.entry }
+{
+    match (one, other) {
+        (Token::Name(one), Token::Name(other)) => one == other,
+        (Token::Index(one), Token::Index(other)) => one == other,
+        _ => false,
     }
 }
 
