@@ -4,3 +4,4 @@ mod Refusals
 mod Sight
 mod Onwards
 pub mod Descents
+mod Reaches

@@ -118,7 +118,7 @@ not_some None = refl
 not_some (Some l) = refl
 
 -- a permission covers a class that it covers the parent of, unless a label is written there, or where it stands there itself
-covers-push : (es : List LocatedLine) (s : Standing) (p : Tokens) (x : Bytes) (y : Permission) →
+pub covers-push : (es : List LocatedLine) (s : Standing) (p : Tokens) (x : Bytes) (y : Permission) →
     covers es s (p ++ x ∷ []) y
     ≡ ((covers es s p y && is_none (written_label es (p ++ x ∷ []))) || (holds_for s y && same_path y.path (p ++ x ∷ [])))
 covers-push es s p x y =
@@ -208,7 +208,7 @@ pub any_same : {X : Type 0} (f g : X → Bool) → ((x : X) → f x ≡ g x) →
 any_same f g same [] = refl
 any_same f g same (x ∷ xs) = ap (λ b. b || list_any f xs) (same x) ∙ ap (λ b. g x || b) (any_same f g same xs)
 
-covers-root : (es : List LocatedLine) (s : Standing) (y : Permission) → (holds_for s y && same_path y.path []) ≡ covers es s [] y
+pub covers-root : (es : List LocatedLine) (s : Standing) (y : Permission) → (holds_for s y && same_path y.path []) ≡ covers es s [] y
 covers-root es s y = by_path y.path
   where
     by_path : (r : Tokens) → (holds_for s y && same_path r []) ≡ (holds_for s y && (is_prefix r [] && list_all (is_unmarked_below es r) (prefixes [])))

@@ -6,6 +6,7 @@
 mod ahead;
 mod case;
 mod cleared;
+mod covering;
 mod deciding;
 mod descent;
 mod fault;
@@ -23,6 +24,7 @@ mod verdict;
 pub use ahead::Ahead;
 pub use case::Case;
 pub use cleared::clearance;
+pub use covering::covers;
 pub use deciding::decide;
 pub use fault::DecideFault;
 pub use gate::{Gate, Gates, passes};

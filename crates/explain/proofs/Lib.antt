@@ -1,0 +1,3 @@
+mod Passages
+mod Parts
+mod Placing

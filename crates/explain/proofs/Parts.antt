@@ -1,0 +1,83 @@
+-- An explanation by its parts.
+use Rattle.std.proofs.Common.{◌≡◌, Bool, true, false, ◌||◌, List, sym, ap, subst, if◌then◌else◌}
+use Rattle.std.specs.Prelude.{Some, None, is_some, unwrap_or, Result, Ok, Err}
+use Rattle.std.specs.Result.{IsErrAnd}
+use Rattle.std.proofs.lemmas.Bool.{false≢true}
+use Rattle.iodef_tree.specs.Text.{Tokens, is_root}
+use Rattle.iodef_tree.specs.Paths.{LocatedLine, has_class}
+use Rattle.marking.specs.Label.{text_of}
+use Rattle.marking.specs.Marks.{site_of, label_at}
+use Rattle.marking.specs.Sited.{Sites}
+use Rattle.marking.specs.declared.fault.SiteFault.{SiteFault}
+use Rattle.marking.specs.declared.fault.SiteFault.TheVariants as site
+use Rattle.policy.specs.Clearance.{clearance_of}
+use Rattle.policy.specs.Verdict.{handling_for, verdict_of}
+use Rattle.policy.specs.Decided.{decided_at, Decides}
+use Rattle.policy.specs.declared.fault.DecideFault.{DecideFault}
+use Rattle.policy.specs.declared.fault.DecideFault.TheVariants as decide
+use Rattle.policy.specs.declared.standing.Standing.{Standing}
+use Rattle.policy.specs.declared.case.Case.{Case}
+use Rattle.explain.specs.Explanation.{Explanation, explanation_of, passages_on, covering}
+use Rattle.explain.specs.Explained.{explained_at, Explains, undecided, unsited}
+use Rattle.explain.specs.declared.trace.Trace.{Trace}
+use Rattle.explain.specs.declared.fault.ExplainFault.{ExplainFault}
+
+-- each part beside the verdict is what the policy and the markings say of the path
+pub record HasParts (es : List LocatedLine) (c : Case) (s : Standing) (p : Tokens) (x : Explanation) : Type 0 where
+  pub path : x.path ≡ p
+  pub gates : x.gates ≡ passages_on c s p
+  pub site : x.site ≡ site_of es p
+  pub label : x.label ≡ text_of (label_at es p)
+  pub handling : x.handling ≡ handling_for s (label_at es p)
+  pub clearance : x.clearance ≡ clearance_of s
+  pub permissions : x.permissions ≡ covering es c s p
+
+pub explained-decided : (es : List LocatedLine) (c : Case) (s : Standing) (p : Tokens) (x : Explanation) →
+    decided_at es c s p ≡ Some x.verdict → HasParts es c s p x → explained_at es c s p ≡ Some x
+explained-decided es c s p x decided parts = by_class (has_class es p) decided
+  where
+    by_class : (b : Bool) → (if b then Some (verdict_of es c s p) else None) ≡ Some x.verdict → (if b then Some (explanation_of es c s p) else None) ≡ Some x
+    by_class true d =
+        let same : verdict_of es c s p ≡ x.verdict = ap (λ o. unwrap_or o (verdict_of es c s p)) d in
+        λ i. Some (record {
+          verdict = same i;
+          path = sym parts.path i;
+          gates = sym parts.gates i;
+          site = sym parts.site i;
+          label = sym parts.label i;
+          handling = sym parts.handling i;
+          clearance = sym parts.clearance i;
+          permissions = sym parts.permissions i;
+        })
+    by_class false d = absurd (false≢true (ap is_some d))
+
+-- where there is no verdict, there is no explanation
+pub explained-undecided : (es : List LocatedLine) (c : Case) (s : Standing) (p : Tokens) →
+    decided_at es c s p ≡ None → explained_at es c s p ≡ None
+explained-undecided es c s p undecided = by_class (has_class es p) undecided
+  where
+    by_class : (b : Bool) → (if b then Some (verdict_of es c s p) else None) ≡ None → (if b then Some (explanation_of es c s p) else None) ≡ None
+    by_class true d = absurd (false≢true (sym (ap is_some d)))
+    by_class false d = λ i. None
+
+pub explained-nothing : (es : List LocatedLine) (c : Case) (s : Standing) (p : Tokens) → has_class es p ≡ false → explained_at es c s p ≡ None
+explained-nothing es c s p none = ap (λ b. if b then Some (explanation_of es c s p) else None) none
+
+-- a fault of the verdict, told as one of the explanation
+pub explains-undecided : (r : Result Trace ExplainFault) (f : DecideFault) (es : List LocatedLine) (c : Case) (s : Standing) (p : Tokens) →
+    IsErrAnd r (λ e. e ≡ undecided f) → Decides (Err f) es c s p → Explains r es c s p
+explains-undecided (Ok t) f es c s p h d = absurd h
+explains-undecided (Err e) decide.NoClass es c s p h d = subst (λ g. Explains (Err g) es c s p) (sym h) (explained-undecided es c s p d)
+explains-undecided (Err e) decide.NoMemory es c s p h d = subst (λ g. Explains (Err g) es c s p) (sym h) tt
+
+or_right : (a b : Bool) → (a || b) ≡ false → b ≡ false
+or_right true b h = absurd (false≢true (sym h))
+or_right false b h = h
+
+-- and one of the site
+pub explains-unsited : (r : Result Trace ExplainFault) (f : SiteFault) (es : List LocatedLine) (c : Case) (s : Standing) (p : Tokens) →
+    IsErrAnd r (λ e. e ≡ unsited f) → Sites (Err f) es p → Explains r es c s p
+explains-unsited (Ok t) f es c s p h d = absurd h
+explains-unsited (Err e) site.NoClass es c s p h d =
+    subst (λ g. Explains (Err g) es c s p) (sym h) (explained-nothing es c s p (or_right (is_root p) (has_class es p) d))
+explains-unsited (Err e) site.NoMemory es c s p h d = subst (λ g. Explains (Err g) es c s p) (sym h) tt

@@ -1,0 +1,10 @@
+use Rattle.std.proofs.Common.{◌≡◌, ◌++◌, drop}
+use Rattle.std.specs.Prelude.{filter}
+use Rattle.iodef_tree.specs.Paths.{located}
+use Rattle.policy.specs.Permissions.{covers}
+use Rattle.explain.proofs.explaining.covering.Given as goal
+
+abbrev pub invariant-loop-permission : goal.invariant-loop-permission
+invariant-loop-permission l =
+    l.covering.items ++ filter (covers (located l.document) l.standing l.path) (drop l.permission-index l.permission-items)
+    ≡ filter (covers (located l.document) l.standing l.path) l.permission-items

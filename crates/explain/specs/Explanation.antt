@@ -1,0 +1,70 @@
+-- Why a reader sees a class or doesn't: what the policy and the markings say of its path.
+use Rattle.std.specs.Prelude.{List, map, filter, Option, string_bytes}
+use Rattle.std.specs.List.{flat_map}
+use Rattle.iodef_tree.specs.Text.{Bytes, Tokens, same_path, prefixes}
+use Rattle.iodef_tree.specs.Paths.{LocatedLine}
+use Rattle.marking.specs.Label.{text_of}
+use Rattle.marking.specs.Marks.{site_of, label_at}
+use Rattle.marking.specs.declared.label.Handling.{Handling}
+use Rattle.policy.specs.Clearance.{clearance_of}
+use Rattle.policy.specs.Gates.{passage_of}
+use Rattle.policy.specs.Permissions.{covers}
+use Rattle.policy.specs.Verdict.{handling_for, verdict_of}
+use Rattle.policy.specs.declared.rule.Rule.{Rule}
+use Rattle.policy.specs.declared.standing.Standing.{Standing}
+use Rattle.policy.specs.declared.gate.Gate.{Gate}
+use Rattle.policy.specs.declared.permission.Permission.{Permission}
+use Rattle.policy.specs.declared.case.Case.{Case}
+use Rattle.policy.specs.declared.verdict.Verdict.{Verdict}
+use Rattle.explain.specs.declared.trace.Trace.{Trace}
+
+-- a gate, and the rule by which it refuses the reader, if it does
+abbrev pub passage : Standing → Gate → Gate × Option Rule
+passage s g = (g, passage_of s g)
+
+-- of each gate at this very path, in the order of the case
+abbrev pub passages_at : Case → Standing → Tokens → List (Gate × Option Rule)
+passages_at c s q = map (passage s) (filter (λ g. same_path g.path q) c.gates)
+
+-- of each gate at a prefix of the path, the shortest first
+abbrev pub passages_on : Case → Standing → Tokens → List (Gate × Option Rule)
+passages_on c s p = flat_map (passages_at c s) (prefixes p)
+
+-- the permissions that cover the class for the reader, in the order of the case
+abbrev pub covering : List LocatedLine → Case → Standing → Tokens → List Permission
+covering es c s p = filter (covers es s p) c.permissions
+
+pub record Explanation : Type 0 where
+  pub verdict : Verdict
+  pub path : Tokens
+  pub gates : List (Gate × Option Rule)
+  pub site : Tokens
+  pub label : Bytes
+  pub handling : Handling
+  pub clearance : Handling × Rule
+  pub permissions : List Permission
+
+abbrev pub explanation_of : List LocatedLine → Case → Standing → Tokens → Explanation
+explanation_of es c s p = record {
+  verdict = verdict_of es c s p;
+  path = p;
+  gates = passages_on c s p;
+  site = site_of es p;
+  label = text_of (label_at es p);
+  handling = handling_for s (label_at es p);
+  clearance = clearance_of s;
+  permissions = covering es c s p;
+}
+
+-- what a trace tells
+abbrev pub explanation : Trace → Explanation
+explanation t = record {
+  verdict = t.verdict;
+  path = t.path;
+  gates = t.gates.items;
+  site = t.site;
+  label = string_bytes t.label;
+  handling = t.handling;
+  clearance = t.clearance;
+  permissions = t.permissions.items;
+}

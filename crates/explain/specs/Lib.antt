@@ -1,0 +1,4 @@
+pub mod Explanation
+pub mod Explained
+pub mod Listing
+pub mod Lines

@@ -1,0 +1,55 @@
+-- In which order the permissions of a trace are written.
+use Rattle.std.specs.Prelude.{ℕ, Bool, List, [], ◌∷◌, if◌then◌else◌, codes}
+use Rattle.std.specs.declared.cmp.Ordering.{Ordering}
+use Rattle.std.specs.Ordering.{nat_cmp, is_lt, on, then_cmp}
+use Rattle.std.specs.Cmp.Lexicographic.{slice_cmp}
+use Rattle.iodef_tree.specs.Text.{Bytes}
+use Rattle.iodef_tree.specs.Pointer.{pointer_text}
+use Rattle.policy.specs.declared.permission.Grantee.{Grantee}
+use Rattle.policy.specs.declared.permission.Grantee.TheVariants.{Person, Org, Community, Group}
+use Rattle.policy.specs.declared.permission.Permission.{Permission}
+use Rattle.explain.specs.declared.listing.Entry.{Entry}
+
+-- a permission, with its path as it is printed
+abbrev pub entry_of : Permission → Entry
+entry_of x = record { pointer = pointer_text x.path; grantee = x.grantee }
+
+-- the kinds of grantee: persons, organisations, communities, groups
+abbrev pub kind_place : Grantee → ℕ
+kind_place (Person n) = 0
+kind_place (Org n) = 1
+kind_place (Community n) = 2
+kind_place (Group n) = 3
+
+abbrev pub kind_name : Grantee → Bytes
+kind_name (Person n) = codes "person"
+kind_name (Org n) = codes "org"
+kind_name (Community n) = codes "community"
+kind_name (Group n) = codes "group"
+
+abbrev pub number_of : Grantee → ℕ
+number_of (Person n) = n
+number_of (Org n) = n
+number_of (Community n) = n
+number_of (Group n) = n
+
+-- by the bytes of the printed path, then by kind, then by number
+abbrev pub entry_cmp : Entry → Entry → Ordering
+entry_cmp = then_cmp (on (λ e. e.pointer) (slice_cmp nat_cmp)) (then_cmp (on (λ e. kind_place e.grantee) nat_cmp) (on (λ e. number_of e.grantee) nat_cmp))
+
+abbrev pub comes_before : Entry → Entry → Bool
+comes_before e f = is_lt (entry_cmp e f)
+
+-- e among these: before the first that comes after it
+abbrev pub put : Entry → List Entry → List Entry
+put e [] = e ∷ []
+put e (f ∷ fs) = if comes_before e f then e ∷ f ∷ fs else f ∷ put e fs
+
+-- one after the other put among these
+abbrev pub put_all : List Entry → List Entry → List Entry
+put_all fs [] = fs
+put_all fs (e ∷ es) = put_all (put e fs) es
+
+-- in this order; those of which none comes before the other stay in theirs
+abbrev pub in_order : List Entry → List Entry
+in_order es = put_all [] es

@@ -1,0 +1,220 @@
+//! A trace as lines of text.
+
+ghost use Rattle.std.specs.Prelude.{◌≡◌, ◌++◌, IfOk, OnOk, decimal, string_bytes};
+ghost use Rattle.std.specs.List.{flat_map};
+ghost use Rattle.json.specs.Print.{quoted as in_quotes};
+ghost use Rattle.explain.specs.Explanation.{explanation};
+ghost use Rattle.explain.specs.Listing.{number_of as number_in, kind_name as kind_of};
+ghost use Rattle.explain.specs.Lines.{space, newline, path_text, result_text, side_text, rule_in, verdict_line, path_line, gate_line, site_line, clearance_line, permission_line, permission_lines, trace_text};
+
+use crate::listing::{Entry, in_order, kind_name, number_of};
+use crate::trace::Trace;
+use iodef_tree::{Path, push_quoted};
+use marking::Handling;
+use policy::{Gate, Grantee, Permission, Rule, Verdict};
+use std::alloc::{AllocError, Global};
+
+impl Trace {
+    /// The trace as lines, each ended by a newline: the verdict, the path, each gate, the site with its label and handling,
+    /// the clearance, and each permission by the bytes of its path, then by kind and number. Paths, as JSON pointers, and the
+    /// label are JSON strings.
+    pub fn text(&self, alloc: Global) -> Result<String, AllocError>
+        ensures { IfOk result (λ s. string_bytes s ≡ trace_text (explanation self.now)) }
+    {
+        let mut out = String::new(alloc);
+        push_verdict(&mut out, self.verdict)?;
+        push_path(alloc, &mut out, &self.path)?;
+        push_gates(alloc, &mut out, self.gates.as_slice())?;
+        push_site(
+            alloc,
+            &mut out,
+            &self.site,
+            self.label.as_str(),
+            self.handling,
+        )?;
+        push_clearance(&mut out, self.clearance)?;
+        push_permissions(alloc, &mut out, self.permissions.as_slice())?;
+        Ok(out)
+    }
+}
+
+/// What stands before a text, and the text as a JSON string, behind `out`.
+fn push_text(alloc: Global, out: &mut String, before: &str, text: &str) -> Result<(), AllocError>
+    ensures { OnOk result (string_bytes out.new ≡ string_bytes out.old ++ (before.now ++ in_quotes text.now)) }
+{
+    out.push_str(before)?;
+    push_quoted(alloc, out, text)
+}
+
+/// The same of the JSON pointer of a path.
+fn push_pointer(
+    alloc: Global,
+    out: &mut String,
+    before: &str,
+    path: &Path,
+) -> Result<(), AllocError>
+    ensures { OnOk result (string_bytes out.new ≡ string_bytes out.old ++ (before.now ++ path_text path.now)) }
+{
+    let pointer = path.print(alloc)?;
+    push_text(alloc, out, before, pointer.as_str())
+}
+
+/// A space and a word, behind `out`.
+fn push_word(out: &mut String, word: &str) -> Result<(), AllocError>
+    ensures { OnOk result (string_bytes out.new ≡ string_bytes out.old ++ (space ++ word.now)) }
+{
+    out.push_str(" ")?;
+    out.push_str(word)
+}
+
+/// A space and a number in decimal digits, behind `out`.
+fn push_number(out: &mut String, number: u32) -> Result<(), AllocError>
+    ensures { OnOk result (string_bytes out.new ≡ string_bytes out.old ++ (space ++ decimal number)) }
+{
+    out.push_str(" ")?;
+    write!(out, "{number}")
+}
+
+/// On which side a verdict is.
+fn side_of(verdict: Verdict) -> &'static str
+    ensures { result.now ≡ side_text verdict }
+{
+    match verdict {
+        Verdict::Shown(_) => "Shown",
+        Verdict::Hidden(_) => "Hidden",
+    }
+}
+
+fn rule_of(verdict: Verdict) -> Rule
+    ensures { result ≡ rule_in verdict }
+{
+    match verdict {
+        Verdict::Shown(rule) => rule,
+        Verdict::Hidden(rule) => rule,
+    }
+}
+
+fn push_verdict(out: &mut String, verdict: Verdict) -> Result<(), AllocError>
+    ensures { OnOk result (string_bytes out.new ≡ string_bytes out.old ++ verdict_line verdict) }
+{
+    out.push_str("verdict")?;
+    push_word(out, side_of(verdict))?;
+    push_word(out, rule_of(verdict).name())?;
+    out.push_str("\n")
+}
+
+fn push_path(alloc: Global, out: &mut String, path: &Path) -> Result<(), AllocError>
+    ensures { OnOk result (string_bytes out.new ≡ string_bytes out.old ++ path_line path.now) }
+{
+    push_pointer(alloc, out, "path ", path)?;
+    out.push_str("\n")
+}
+
+/// What became of a gate.
+fn result_name(refusal: Option<Rule>) -> &'static str
+    ensures { result.now ≡ result_text refusal }
+{
+    match refusal {
+        None => "pass",
+        Some(rule) => rule.name(),
+    }
+}
+
+fn push_gate(
+    alloc: Global,
+    out: &mut String,
+    passage: &(Gate, Option<Rule>),
+) -> Result<(), AllocError>
+    ensures { OnOk result (string_bytes out.new ≡ string_bytes out.old ++ gate_line passage.now) }
+{
+    push_pointer(alloc, out, "gate ", &passage.0.path)?;
+    push_number(out, passage.0.level as u32)?;
+    push_number(out, passage.0.group.unwrap_or(0))?;
+    push_word(out, result_name(passage.1))?;
+    out.push_str("\n")
+}
+
+fn push_gates(
+    alloc: Global,
+    out: &mut String,
+    passages: &[(Gate, Option<Rule>)],
+) -> Result<(), AllocError>
+    ensures { OnOk result (string_bytes out.new ≡ string_bytes out.old ++ flat_map gate_line passages.now) }
+{
+    for passage in passages {
+        push_gate(alloc, out, passage)?;
+    }
+    Ok(())
+}
+
+fn push_site(
+    alloc: Global,
+    out: &mut String,
+    site: &Path,
+    label: &str,
+    handling: Handling,
+) -> Result<(), AllocError>
+    ensures { OnOk result (string_bytes out.new ≡ string_bytes out.old ++ site_line site.now label.now handling) }
+{
+    push_pointer(alloc, out, "site ", site)?;
+    push_text(alloc, out, " ", label)?;
+    push_word(out, handling.name())?;
+    out.push_str("\n")
+}
+
+fn push_clearance(out: &mut String, clearance: (Handling, Rule)) -> Result<(), AllocError>
+    ensures { OnOk result (string_bytes out.new ≡ string_bytes out.old ++ clearance_line clearance) }
+{
+    out.push_str("clearance")?;
+    push_word(out, clearance.0.name())?;
+    push_word(out, clearance.1.name())?;
+    out.push_str("\n")
+}
+
+/// For whom a permission is: the kind and the number.
+fn push_grantee(out: &mut String, grantee: Grantee) -> Result<(), AllocError>
+    ensures { OnOk result (string_bytes out.new ≡ string_bytes out.old ++ (space ++ kind_of grantee ++ space ++ decimal (number_in grantee) ++ newline)) }
+{
+    push_word(out, kind_name(grantee))?;
+    push_number(out, number_of(grantee))?;
+    out.push_str("\n")
+}
+
+/// What stands before a permission, and the permission.
+fn push_entry(
+    alloc: Global,
+    out: &mut String,
+    before: &str,
+    entry: &Entry,
+) -> Result<(), AllocError>
+    ensures { OnOk result (string_bytes out.new ≡ string_bytes out.old ++ (before.now ++ in_quotes entry.now.pointer ++ space ++ kind_of entry.now.grantee ++ space ++ decimal (number_in entry.now.grantee) ++ newline)) }
+{
+    push_text(alloc, out, before, entry.pointer.as_str())?;
+    push_grantee(out, entry.grantee)
+}
+
+fn push_permission(alloc: Global, out: &mut String, entry: &Entry) -> Result<(), AllocError>
+    ensures { OnOk result (string_bytes out.new ≡ string_bytes out.old ++ permission_line entry.now) }
+{
+    push_entry(alloc, out, "permission ", entry)
+}
+
+fn push_entries(alloc: Global, out: &mut String, entries: &[Entry]) -> Result<(), AllocError>
+    ensures { OnOk result (string_bytes out.new ≡ string_bytes out.old ++ flat_map permission_line entries.now) }
+{
+    for entry in entries {
+        push_permission(alloc, out, entry)?;
+    }
+    Ok(())
+}
+
+fn push_permissions(
+    alloc: Global,
+    out: &mut String,
+    permissions: &[Permission],
+) -> Result<(), AllocError>
+    ensures { OnOk result (string_bytes out.new ≡ string_bytes out.old ++ permission_lines permissions.now) }
+{
+    let entries = in_order(alloc, permissions)?;
+    push_entries(alloc, out, entries.as_slice())
+}

@@ -1,0 +1,104 @@
+//! The permissions of a trace, in the order in which they are written.
+
+ghost use Rattle.std.specs.Prelude.{◌≡◌, ◌≤◌, length, map, IfOk, OnOk};
+ghost use Rattle.std.specs.List.{insert};
+ghost use Rattle.explain.specs.Listing.{kind_place as place_of_kind, kind_name as name_of_kind, number_of as number_in, comes_before as is_before, put as put_in, in_order as in_this_order, entry_of as entry_for};
+
+use iodef_tree::Text;
+use policy::{Grantee, Permission};
+use std::alloc::{AllocError, Global};
+
+/// A permission as a line tells it.
+#[derive(Drop)]
+pub(crate) struct Entry {
+    pub(crate) pointer: Text,
+    pub(crate) grantee: Grantee,
+}
+
+/// Where its kind stands in the order.
+fn kind_place(grantee: Grantee) -> u8
+    ensures { result ≡ place_of_kind grantee }
+{
+    match grantee {
+        Grantee::Person(_) => 0,
+        Grantee::Org(_) => 1,
+        Grantee::Community(_) => 2,
+        Grantee::Group(_) => 3,
+    }
+}
+
+/// What its kind is called.
+pub(crate) fn kind_name(grantee: Grantee) -> &'static str
+    ensures { result.now ≡ name_of_kind grantee }
+{
+    match grantee {
+        Grantee::Person(_) => "person",
+        Grantee::Org(_) => "org",
+        Grantee::Community(_) => "community",
+        Grantee::Group(_) => "group",
+    }
+}
+
+pub(crate) fn number_of(grantee: Grantee) -> u32
+    ensures { result ≡ number_in grantee }
+{
+    match grantee {
+        Grantee::Person(number) => number,
+        Grantee::Org(number) => number,
+        Grantee::Community(number) => number,
+        Grantee::Group(number) => number,
+    }
+}
+
+fn comes_before(entry: &Entry, other: &Entry) -> bool
+    ensures { result ≡ is_before entry.now other.now }
+{
+    let kinds = kind_place(entry.grantee).cmp(&kind_place(other.grantee));
+    let numbers = number_of(entry.grantee).cmp(&number_of(other.grantee));
+    entry
+        .pointer
+        .as_str()
+        .cmp(other.pointer.as_str())
+        .then(kinds.then(numbers))
+        .is_lt()
+}
+
+/// Where the entry goes: before the first that comes after it.
+fn place_for(entries: &[Entry], entry: &Entry) -> usize
+    ensures within { result ≤ length entries.now }
+    ensures is { insert entries.now result entry.now ≡ put_in entry.now entries.now }
+{
+    for (place, other) in entries.iter().enumerate() {
+        if comes_before(entry, other) {
+            return place;
+        }
+    }
+    entries.len()
+}
+
+fn put(entries: &mut Vec<Entry>, entry: Entry) -> Result<(), AllocError>
+    ensures { OnOk result (entries.new.items ≡ put_in entry entries.old.items) }
+{
+    let place = place_for(entries.as_slice(), &entry);
+    entries.insert(place, entry)?;
+    Ok(())
+}
+
+fn entry_of(alloc: Global, permission: &Permission) -> Result<Entry, AllocError>
+    ensures { IfOk result (λ e. e ≡ entry_for permission.now) }
+{
+    let pointer = Text::new(permission.path.print(alloc)?);
+    let grantee = permission.grantee;
+    Ok(Entry { pointer, grantee })
+}
+
+/// The permissions by the bytes of the printed path, then by kind and number; those alike in their order.
+pub(crate) fn in_order(alloc: Global, permissions: &[Permission]) -> Result<Vec<Entry>, AllocError>
+    ensures { IfOk result (λ v. v.items ≡ in_this_order (map entry_for permissions.now)) }
+{
+    let mut entries = Vec::new(alloc);
+    for permission in permissions {
+        put(&mut entries, entry_of(alloc, permission)?)?;
+    }
+    Ok(entries)
+}

@@ -1,0 +1,31 @@
+//! The traces of the cases on standard input, one a line; each answer is the lines of the trace, or a word. What a line may
+//! say stands in `cases`.
+#![tactic(auto)]
+
+mod cases;
+mod unfit;
+mod words;
+
+use cases::Table;
+use std::io;
+use std::io::Read;
+
+fn main(rt: HostRuntime) -> io::Result<()> {
+    let alloc = rt.alloc();
+    let mut lines = String::new(alloc);
+    rt.reader().read_to_string(&mut lines)?;
+    let mut table = Table::new();
+    for line in lines.lines() {
+        if line.is_empty() || line.starts_with('#') {
+            continue;
+        }
+        match table.answer(alloc, line) {
+            Ok(answer) => print!(rt; "{answer}")?,
+            Err(unfit) => {
+                let name = unfit.name();
+                println!(rt; "{name}")?;
+            }
+        }
+    }
+    Ok(())
+}

@@ -1,0 +1,43 @@
+use iodef_tree::PathFault;
+use std::alloc::{AllocError, AllocFailed};
+
+/// Why a line has no answer.
+#[derive(Clone, Copy)]
+pub enum Unfit {
+    /// The line is no case, or asks of a report where none was accepted.
+    NoCase,
+    /// There is no class at the path.
+    NoClass,
+    NoMemory,
+}
+
+impl Unfit {
+    pub fn name(self) -> &'static str {
+        match self {
+            Unfit::NoCase => "no case",
+            Unfit::NoClass => "NoClass",
+            Unfit::NoMemory => "NoMemory",
+        }
+    }
+}
+
+impl From<AllocError> for Unfit {
+    fn from(_refused: AllocError) -> Unfit {
+        Unfit::NoMemory
+    }
+}
+
+impl<T: Drop> From<AllocFailed<T>> for Unfit {
+    fn from(_refused: AllocFailed<T>) -> Unfit {
+        Unfit::NoMemory
+    }
+}
+
+impl From<PathFault> for Unfit {
+    fn from(fault: PathFault) -> Unfit {
+        match fault {
+            PathFault::BadPath => Unfit::NoCase,
+            PathFault::NoMemory => Unfit::NoMemory,
+        }
+    }
+}

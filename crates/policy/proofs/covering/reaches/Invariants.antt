@@ -1,0 +1,10 @@
+use Rattle.std.proofs.Common.{◌≡◌, take}
+use Rattle.iodef_tree.specs.Paths.{located}
+use Rattle.policy.specs.Permissions.{reaches}
+use Rattle.policy.proofs.covering.reaches.Given as goal
+
+abbrev pub invariant-loop-token : goal.invariant-loop-token
+invariant-loop-token l = record {
+  here : l.here ≡ take l.token-index l.token-items;
+  reached : l.reached ≡ reaches (located l.document) l.from l.here;
+}
