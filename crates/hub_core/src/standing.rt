@@ -77,6 +77,24 @@ fn find_ties<L: LookUps>(rows: &mut L, org: u32, source: u32) -> Result<Ties, Sh
     })
 }
 
+/// Whether an organisation is the source, or a recipient of the incident.
+fn is_reached<L: LookUps>(
+    rows: &mut L,
+    incident: u32,
+    source: u32,
+    org: u32,
+) -> Result<bool, ShelfFault>
+    ensures value { L.doubts rows.new ≡ 0 → (s : State) → L.has rows.old s → IfOk result (λ b. b ≡ (org == source || has_recipient incident (target.Org org) s)) }
+    ensures kept { IsKept L.has L.doubts L.failed L.may_leave rows.old rows.new }
+    ensures cause { IsErrOf result ShelfFault.Failed → HasFailed (L.failed rows.old) (L.failed rows.new) }
+{
+    if org == source {
+        Ok(true)
+    } else {
+        rows.has_recipient(incident, Target::Org(org))
+    }
+}
+
 /// Whether one of the organisations is the source, or a recipient of the incident.
 fn is_among<L: LookUps>(
     rows: &mut L,
@@ -89,7 +107,7 @@ fn is_among<L: LookUps>(
     ensures cause { IsErrOf result ShelfFault.Failed → HasFailed (L.failed rows.old) (L.failed rows.new) }
 {
     for org in orgs {
-        if *org == source || rows.has_recipient(incident, Target::Org(*org))? {
+        if is_reached(rows, incident, source, *org)? {
             return Ok(true);
         }
     }
