@@ -1,0 +1,30 @@
+-- What several look-ups leave.
+use Rattle.std.proofs.Common.{◌≡◌, ◌≤◌, inl, inr, ℕ, arith}
+use Rattle.std.specs.Prelude.{Result}
+use Rattle.std.proofs.lemmas.Bool.Decides.{leb_tells}
+use Rattle.hub_core.specs.State.{State}
+use Rattle.hub_core.specs.Shelves.{IsRead, IsKept, HasFailed, last_count}
+use Rattle.hub_core.specs.declared.shelf.ShelfFault.{ShelfFault}
+
+pub kept_on : {D : Type 0} {has : D → State → Type 0} {doubts failed : D → ℕ} {may_leave : D → State → Type 0} {old mid new : D} →
+    IsKept has doubts failed may_leave old mid → IsKept has doubts failed may_leave mid new → IsKept has doubts failed may_leave old new
+kept_on {doubts = doubts} {old = old} {mid = mid} {new = new} first then = record {
+  later = omega (arith, first.later, then.later);
+  doubt = omega (arith, first.doubt, then.doubt);
+  content = λ clean s has. let before : doubts mid ≡ 0 = omega (arith, then.doubt) in then.content clean s (first.content before s has);
+  crash = λ clean s leaves. let before : doubts mid ≡ 0 = omega (arith, then.doubt) in first.crash before s (then.crash clean s leaves);
+}
+
+-- one look-up
+pub kept_read : {D T : Type 0} {has : D → State → Type 0} {doubts failed : D → ℕ} {may_leave : D → State → Type 0} {old new : D} {result : Result T ShelfFault} →
+    IsRead has doubts failed may_leave old new result → IsKept has doubts failed may_leave old new
+kept_read read = record { later = read.cause.later; doubt = read.doubt; content = read.content; crash = read.crash }
+
+-- a failure stands whatever came before it, and whatever comes behind it
+pub failed_before : (a b c : ℕ) → a ≤ b → HasFailed b c → HasFailed a c
+failed_before a b c low (inl rose) = inl (omega (arith, low, rose))
+failed_before a b c low (inr last) = inr last
+
+pub failed_later : (a b c : ℕ) → a ≤ b → HasFailed a b → b ≤ c → HasFailed a c
+failed_later a b c low (inl rose) more = inl (omega (arith, rose, more))
+failed_later a b c low (inr last) more = elim (leb_tells c last_count) [ inl tells ↦ inr (omega (arith, last, more, tells.1)) | inr tells ↦ inl (omega (arith, low, last, more, tells.1)) ]

@@ -1,0 +1,201 @@
+//! How many class gates, recipients and permissions of an incident would stand after a request, by a shelf's look-ups.
+ghost use Rattle.std.specs.Prelude.{◌≡◌, ◌∷◌, [], true, false, ℕ, Some, Option, is_some, min, IfOk, IsErrOf, if◌then◌else◌, length};
+ghost use Rattle.circle.specs.declared.directory.Person.{Person as Actor};
+ghost use Rattle.hub_core.specs.Aftermath.{put_gate};
+ghost use Rattle.hub_core.specs.Documents.{made_at};
+ghost use Rattle.hub_core.specs.Edits.{after};
+ghost use Rattle.hub_core.specs.Facts.{looked_up};
+ghost use Rattle.hub_core.specs.Refusals.{counted, incident_asked, gates_then, recipients_then, permissions_then};
+ghost use Rattle.hub_core.specs.Shelves.{HasFailed, IsKept};
+ghost use Rattle.hub_core.specs.State.{State, incident_of, class_gates, recipients_of, permissions_of};
+ghost use Rattle.hub_core.specs.declared.edit.Edit.TheVariants as edit;
+ghost use Rattle.hub_core.specs.declared.request.Target.{Target as Addressed};
+ghost use Rattle.iodef_tree.specs.Text.{Tokens};
+ghost use Rattle.policy.specs.declared.permission.Grantee.{Grantee as Granted};
+
+use crate::list_shelf::number_of;
+use crate::look_ups::LookUps;
+use crate::named_there::path_of;
+use crate::request::{Request, Target};
+use crate::shelf::ShelfFault;
+use circle::text::Text;
+use policy::Grantee;
+use std::alloc::Global;
+
+/// How many of an incident's rows would stand.
+#[derive(Drop)]
+pub(crate) struct Counts {
+    pub(crate) gates: u32,
+    pub(crate) recipients: u32,
+    pub(crate) permissions: u32,
+}
+
+fn recipients_with<L: LookUps>(rows: &mut L, incident: u32) -> Result<u32, ShelfFault>
+    ensures value { L.doubts rows.new ≡ 0 → (s : State) → L.has rows.old s → is_some (incident_of incident s) ≡ true → IfOk result (λ n. (target : Addressed) → n ≡ recipients_of incident (after (edit.PutRecipient (record { incident = incident; target = target }) ∷ []) s).recipients) }
+    ensures kept { IsKept L.has L.doubts L.failed L.may_leave rows.old rows.new }
+    ensures cause { IsErrOf result ShelfFault.Failed → HasFailed (L.failed rows.old) (L.failed rows.new) }
+{
+    Ok(rows.recipient_count(incident)?.saturating_add(1))
+}
+
+fn permissions_with<L: LookUps>(rows: &mut L, incident: u32) -> Result<u32, ShelfFault>
+    ensures value { L.doubts rows.new ≡ 0 → (s : State) → L.has rows.old s → is_some (incident_of incident s) ≡ true → IfOk result (λ n. (path : Tokens) → (grantee : Granted) → n ≡ permissions_of incident (after (edit.PutPermission (record { incident = incident; path = path; grantee = grantee }) ∷ []) s).permissions) }
+    ensures kept { IsKept L.has L.doubts L.failed L.may_leave rows.old rows.new }
+    ensures cause { IsErrOf result ShelfFault.Failed → HasFailed (L.failed rows.old) (L.failed rows.new) }
+{
+    Ok(rows.permission_count(incident)?.saturating_add(1))
+}
+
+fn gates_redistributed<L: LookUps>(
+    rows: &mut L,
+    alloc: Global,
+    incident: u32,
+    path: &Text,
+) -> Result<u32, ShelfFault>
+    ensures value { L.doubts rows.new ≡ 0 → (s : State) → L.has rows.old s → IfOk result (λ k. (level : ℕ) → (group : Option ℕ) → k ≡ class_gates incident (after (made_at (λ p. edit.TakeGate incident p ∷ put_gate incident level group p) path.now) s).gates) }
+    ensures kept { IsKept L.has L.doubts L.failed L.may_leave rows.old rows.new }
+    ensures cause { IsErrOf result ShelfFault.Failed → HasFailed (L.failed rows.old) (L.failed rows.new) }
+{
+    match path_of(alloc, path)? {
+        None => rows.class_gates(incident),
+        Some(path) => rows.class_gates_with(incident, &path),
+    }
+}
+
+fn permissions_granted<L: LookUps>(
+    rows: &mut L,
+    alloc: Global,
+    incident: u32,
+    path: &Text,
+) -> Result<u32, ShelfFault>
+    ensures value { L.doubts rows.new ≡ 0 → (s : State) → L.has rows.old s → is_some (incident_of incident s) ≡ true → IfOk result (λ k. (grantee : Granted) → k ≡ permissions_of incident (after (made_at (λ p. edit.PutPermission (record { incident = incident; path = p; grantee = grantee }) ∷ []) path.now) s).permissions) }
+    ensures kept { IsKept L.has L.doubts L.failed L.may_leave rows.old rows.new }
+    ensures cause { IsErrOf result ShelfFault.Failed → HasFailed (L.failed rows.old) (L.failed rows.new) }
+{
+    match path_of(alloc, path)? {
+        None => rows.permission_count(incident),
+        Some(_) => permissions_with(rows, incident),
+    }
+}
+
+fn permissions_withdrawn<L: LookUps>(
+    rows: &mut L,
+    alloc: Global,
+    incident: u32,
+    path: &Text,
+    grantee: Grantee,
+) -> Result<u32, ShelfFault>
+    ensures value { L.doubts rows.new ≡ 0 → (s : State) → L.has rows.old s → IfOk result (λ k. k ≡ permissions_of incident (after (made_at (λ p. edit.TakePermission incident p grantee ∷ []) path.now) s).permissions) }
+    ensures kept { IsKept L.has L.doubts L.failed L.may_leave rows.old rows.new }
+    ensures cause { IsErrOf result ShelfFault.Failed → HasFailed (L.failed rows.old) (L.failed rows.new) }
+{
+    match path_of(alloc, path)? {
+        None => rows.permission_count(incident),
+        Some(path) => rows.permissions_without(incident, &path, grantee),
+    }
+}
+
+/// How many class gates the incident, which is there, would have.
+fn find_gates<L: LookUps>(rows: &mut L, alloc: Global, request: &Request) -> Result<u32, ShelfFault>
+    ensures value { L.doubts rows.new ≡ 0 → (s : State) → L.has rows.old s → is_some (looked_up s (incident_asked request.now)) ≡ true → (actor : Actor) → IfOk result (λ n. n ≡ gates_then s actor request.now) }
+    ensures kept { IsKept L.has L.doubts L.failed L.may_leave rows.old rows.new }
+    ensures cause { IsErrOf result ShelfFault.Failed → HasFailed (L.failed rows.old) (L.failed rows.new) }
+{
+    match request {
+        Request::Replace { gates, .. } => Ok(number_of(gates.as_slice().len())),
+        Request::Redistribute { incident, path, .. } => {
+            gates_redistributed(rows, alloc, *incident, path)
+        }
+        Request::Address { incident, .. }
+        | Request::Unaddress { incident, .. }
+        | Request::Grant { incident, .. }
+        | Request::Withdraw { incident, .. }
+        | Request::View { incident } => rows.class_gates(*incident),
+        _ => Ok(0),
+    }
+}
+
+/// How many recipients the incident, which is there, would have.
+fn find_recipients<L: LookUps>(rows: &mut L, request: &Request) -> Result<u32, ShelfFault>
+    ensures value { L.doubts rows.new ≡ 0 → (s : State) → L.has rows.old s → is_some (looked_up s (incident_asked request.now)) ≡ true → (actor : Actor) → IfOk result (λ n. n ≡ recipients_then s actor request.now) }
+    ensures kept { IsKept L.has L.doubts L.failed L.may_leave rows.old rows.new }
+    ensures cause { IsErrOf result ShelfFault.Failed → HasFailed (L.failed rows.old) (L.failed rows.new) }
+{
+    match request {
+        Request::Address { incident, .. } => recipients_with(rows, *incident),
+        Request::Unaddress { incident, target } => rows.recipients_without(*incident, *target),
+        Request::Replace { incident, .. } => rows.recipient_count(*incident),
+        Request::Redistribute { incident, .. }
+        | Request::Grant { incident, .. }
+        | Request::Withdraw { incident, .. }
+        | Request::View { incident } => rows.recipient_count(*incident),
+        _ => Ok(0),
+    }
+}
+
+/// How many permissions the incident, which is there, would have.
+fn find_permissions<L: LookUps>(
+    rows: &mut L,
+    alloc: Global,
+    request: &Request,
+) -> Result<u32, ShelfFault>
+    ensures value { L.doubts rows.new ≡ 0 → (s : State) → L.has rows.old s → is_some (looked_up s (incident_asked request.now)) ≡ true → (actor : Actor) → IfOk result (λ n. n ≡ permissions_then s actor request.now) }
+    ensures kept { IsKept L.has L.doubts L.failed L.may_leave rows.old rows.new }
+    ensures cause { IsErrOf result ShelfFault.Failed → HasFailed (L.failed rows.old) (L.failed rows.new) }
+{
+    match request {
+        Request::Grant { incident, path, .. } => {
+            permissions_granted(rows, alloc, *incident, path)
+        }
+        Request::Withdraw {
+            incident,
+            path,
+            grantee,
+        } => permissions_withdrawn(rows, alloc, *incident, path, *grantee),
+        Request::Redistribute { incident, .. }
+        | Request::Address { incident, .. }
+        | Request::Unaddress { incident, .. }
+        | Request::View { incident } => rows.permission_count(*incident),
+        // an exchanged document ends them
+        _ => Ok(0),
+    }
+}
+
+/// How many class gates each incident of a Post would have.
+fn gates_posted(request: &Request) -> u32
+    ensures { (s : State) → (actor : Actor) → is_some (looked_up s (incident_asked request.now)) ≡ false → result ≡ gates_then s actor request.now }
+{
+    match request {
+        Request::Post { gates, .. } => number_of(gates.as_slice().len()),
+        _ => 0,
+    }
+}
+
+/// What would stand of the incident that the request names; whether it is there is known.
+pub(crate) fn find_counts<L: LookUps>(
+    rows: &mut L,
+    alloc: Global,
+    request: &Request,
+    is_there: bool,
+) -> Result<Counts, ShelfFault>
+    ensures value { L.doubts rows.new ≡ 0 → (s : State) → L.has rows.old s → is_there ≡ is_some (looked_up s (incident_asked request.now)) → (actor : Actor) → IfOk result (λ found. found ≡ record { gates = gates_then s actor request.now; recipients = recipients_then s actor request.now; permissions = permissions_then s actor request.now }) }
+    ensures kept { IsKept L.has L.doubts L.failed L.may_leave rows.old rows.new }
+    ensures cause { IsErrOf result ShelfFault.Failed → HasFailed (L.failed rows.old) (L.failed rows.new) }
+{
+    if is_there {
+        let gates = find_gates(rows, alloc, request)?;
+        let recipients = find_recipients(rows, request)?;
+        let permissions = find_permissions(rows, alloc, request)?;
+        Ok(Counts {
+            gates,
+            recipients,
+            permissions,
+        })
+    } else {
+        Ok(Counts {
+            gates: gates_posted(request),
+            recipients: 0,
+            permissions: 0,
+        })
+    }
+}

@@ -1,0 +1,267 @@
+//! What there is to know about a request, made of what a shelf looks up.
+ghost use Rattle.std.specs.Prelude.{◌≡◌, true, false, IfOk, IsErrOf, option_map, length};
+ghost use Rattle.hub_core.specs.Documents.{at_pointer};
+ghost use Rattle.hub_core.specs.Facts.{plain_facts, circle_facts_of, known, looked_up, facts_of};
+ghost use Rattle.hub_core.specs.Refusals.{is_own_group, are_own_groups, is_target, is_grantee, incident_asked as incident_named_by};
+ghost use Rattle.hub_core.specs.Shelves.{HasFailed, IsKept, IsRead};
+ghost use Rattle.hub_core.specs.State.{State, has_gate, has_recipient, has_permission};
+ghost use Rattle.hub_core.specs.declared.state.Incident.{Incident};
+
+use crate::counts_then::find_counts;
+use crate::facts::{Facts, Known};
+use crate::look_ups::LookUps;
+use crate::named_there::{
+    are_own_groups, is_grantee, is_own_group, is_target, stands_gate, stands_permission,
+};
+use crate::posted_earlier::find_posted;
+use crate::request::{Request, Target, WantedGates};
+use crate::shelf::ShelfFault;
+use circle::command::CircleFacts;
+use circle::directory::Person;
+use circle::text::Text;
+use iodef_tree::Document;
+use policy::Grantee;
+use std::alloc::Global;
+
+/// The incident that a request names.
+fn incident_asked(request: &Request) -> Option<u32>
+    ensures { result ≡ incident_named_by request.now }
+{
+    match request {
+        Request::Replace { incident, .. }
+        | Request::Redistribute { incident, .. }
+        | Request::Address { incident, .. }
+        | Request::Unaddress { incident, .. }
+        | Request::Grant { incident, .. }
+        | Request::Withdraw { incident, .. }
+        | Request::View { incident } => Some(*incident),
+        _ => None,
+    }
+}
+
+fn plain_facts(exists: bool, stands: bool, count: u32) -> CircleFacts
+    ensures { result ≡ plain_facts exists stands count }
+{
+    CircleFacts {
+        exists,
+        may_extend: false,
+        owner: false,
+        target_is_owner: false,
+        own_person: false,
+        stands,
+        count,
+    }
+}
+
+fn post_facts<L: LookUps>(
+    rows: &mut L,
+    actor: &Person,
+    group: Option<u32>,
+    gates: &WantedGates,
+) -> Result<CircleFacts, ShelfFault>
+    ensures value { L.doubts rows.new ≡ 0 → (s : State) → L.has rows.old s → IfOk result (λ facts. facts ≡ plain_facts (are_own_groups s actor.now group gates.now) false (length s.incidents)) }
+    ensures kept { IsKept L.has L.doubts L.failed L.may_leave rows.old rows.new }
+    ensures cause { IsErrOf result ShelfFault.Failed → HasFailed (L.failed rows.old) (L.failed rows.new) }
+{
+    let own = are_own_groups(rows, actor, group, gates)?;
+    let incidents = rows.incident_count()?;
+    Ok(plain_facts(own, false, incidents))
+}
+
+fn replace_facts<L: LookUps>(
+    rows: &mut L,
+    actor: &Person,
+    group: Option<u32>,
+    gates: &WantedGates,
+) -> Result<CircleFacts, ShelfFault>
+    ensures value { L.doubts rows.new ≡ 0 → (s : State) → L.has rows.old s → IfOk result (λ facts. facts ≡ plain_facts (are_own_groups s actor.now group gates.now) false 0) }
+    ensures kept { IsKept L.has L.doubts L.failed L.may_leave rows.old rows.new }
+    ensures cause { IsErrOf result ShelfFault.Failed → HasFailed (L.failed rows.old) (L.failed rows.new) }
+{
+    let own = are_own_groups(rows, actor, group, gates)?;
+    Ok(plain_facts(own, false, 0))
+}
+
+fn redistribute_facts<L: LookUps>(
+    rows: &mut L,
+    alloc: Global,
+    actor: &Person,
+    incident: u32,
+    path: &Text,
+    level: u32,
+    group: Option<u32>,
+) -> Result<CircleFacts, ShelfFault>
+    ensures value { L.doubts rows.new ≡ 0 → (s : State) → L.has rows.old s → IfOk result (λ facts. facts ≡ plain_facts (is_own_group s actor.now group) (at_pointer (λ p. has_gate incident p level group s) path.now) 0) }
+    ensures kept { IsKept L.has L.doubts L.failed L.may_leave rows.old rows.new }
+    ensures cause { IsErrOf result ShelfFault.Failed → HasFailed (L.failed rows.old) (L.failed rows.new) }
+{
+    let own = is_own_group(rows, actor, group)?;
+    let stands = stands_gate(rows, alloc, incident, path, level, group)?;
+    Ok(plain_facts(own, stands, 0))
+}
+
+fn address_facts<L: LookUps>(
+    rows: &mut L,
+    incident: u32,
+    target: Target,
+) -> Result<CircleFacts, ShelfFault>
+    ensures value { L.doubts rows.new ≡ 0 → (s : State) → L.has rows.old s → IfOk result (λ facts. facts ≡ plain_facts (is_target s.directory target) (has_recipient incident target s) 0) }
+    ensures kept { IsKept L.has L.doubts L.failed L.may_leave rows.old rows.new }
+    ensures cause { IsErrOf result ShelfFault.Failed → HasFailed (L.failed rows.old) (L.failed rows.new) }
+{
+    let exists = is_target(rows, target)?;
+    let stands = rows.has_recipient(incident, target)?;
+    Ok(plain_facts(exists, stands, 0))
+}
+
+fn unaddress_facts<L: LookUps>(
+    rows: &mut L,
+    incident: u32,
+    target: Target,
+) -> Result<CircleFacts, ShelfFault>
+    ensures value { L.doubts rows.new ≡ 0 → (s : State) → L.has rows.old s → IfOk result (λ facts. facts ≡ plain_facts true (has_recipient incident target s) 0) }
+    ensures kept { IsKept L.has L.doubts L.failed L.may_leave rows.old rows.new }
+    ensures cause { IsErrOf result ShelfFault.Failed → HasFailed (L.failed rows.old) (L.failed rows.new) }
+{
+    let stands = rows.has_recipient(incident, target)?;
+    Ok(plain_facts(true, stands, 0))
+}
+
+fn grant_facts<L: LookUps>(
+    rows: &mut L,
+    alloc: Global,
+    org: u32,
+    incident: u32,
+    path: &Text,
+    grantee: Grantee,
+) -> Result<CircleFacts, ShelfFault>
+    ensures value { L.doubts rows.new ≡ 0 → (s : State) → L.has rows.old s → IfOk result (λ facts. facts ≡ plain_facts (is_grantee s.directory org grantee) (at_pointer (λ p. has_permission incident p grantee s) path.now) 0) }
+    ensures kept { IsKept L.has L.doubts L.failed L.may_leave rows.old rows.new }
+    ensures cause { IsErrOf result ShelfFault.Failed → HasFailed (L.failed rows.old) (L.failed rows.new) }
+{
+    let exists = is_grantee(rows, org, grantee)?;
+    let stands = stands_permission(rows, alloc, incident, path, grantee)?;
+    Ok(plain_facts(exists, stands, 0))
+}
+
+fn withdraw_facts<L: LookUps>(
+    rows: &mut L,
+    alloc: Global,
+    incident: u32,
+    path: &Text,
+    grantee: Grantee,
+) -> Result<CircleFacts, ShelfFault>
+    ensures value { L.doubts rows.new ≡ 0 → (s : State) → L.has rows.old s → IfOk result (λ facts. facts ≡ plain_facts true (at_pointer (λ p. has_permission incident p grantee s) path.now) 0) }
+    ensures kept { IsKept L.has L.doubts L.failed L.may_leave rows.old rows.new }
+    ensures cause { IsErrOf result ShelfFault.Failed → HasFailed (L.failed rows.old) (L.failed rows.new) }
+{
+    let stands = stands_permission(rows, alloc, incident, path, grantee)?;
+    Ok(plain_facts(true, stands, 0))
+}
+
+/// The facts that the directory has of a request.
+fn find_circle_facts<L: LookUps>(
+    rows: &mut L,
+    alloc: Global,
+    actor: &Person,
+    request: &Request,
+) -> Result<CircleFacts, ShelfFault>
+    ensures value { L.doubts rows.new ≡ 0 → (s : State) → L.has rows.old s → IfOk result (λ facts. facts ≡ circle_facts_of s actor.now request.now) }
+    ensures kept { IsKept L.has L.doubts L.failed L.may_leave rows.old rows.new }
+    ensures cause { IsErrOf result ShelfFault.Failed → HasFailed (L.failed rows.old) (L.failed rows.new) }
+{
+    match request {
+        Request::Circle(command) => rows.circle_facts(actor, command),
+        Request::Post { group, gates, .. } => post_facts(rows, actor, *group, gates),
+        Request::Replace { group, gates, .. } => replace_facts(rows, actor, *group, gates),
+        Request::Redistribute {
+            incident,
+            path,
+            level,
+            group,
+            ..
+        } => redistribute_facts(rows, alloc, actor, *incident, path, *level, *group),
+        Request::Address { incident, target } => address_facts(rows, *incident, *target),
+        Request::Unaddress { incident, target } => unaddress_facts(rows, *incident, *target),
+        Request::Grant {
+            incident,
+            path,
+            grantee,
+            ..
+        } => grant_facts(rows, alloc, actor.org, *incident, path, *grantee),
+        Request::Withdraw {
+            incident,
+            path,
+            grantee,
+        } => withdraw_facts(rows, alloc, *incident, path, *grantee),
+        _ => Ok(plain_facts(true, false, 0)),
+    }
+}
+
+fn known_asked<L: LookUps>(rows: &mut L, incident: Option<u32>) -> Result<Option<Known>, ShelfFault>
+    ensures value { L.doubts rows.new ≡ 0 → (s : State) → L.has rows.old s → IfOk result (λ found. found ≡ option_map known (looked_up s incident)) }
+    ensures kept { IsKept L.has L.doubts L.failed L.may_leave rows.old rows.new }
+    ensures cause { IsErrOf result ShelfFault.Failed → HasFailed (L.failed rows.old) (L.failed rows.new) }
+{
+    match incident {
+        None => Ok(None),
+        Some(number) => rows.known(number),
+    }
+}
+
+fn document_asked<L: LookUps>(
+    rows: &mut L,
+    incident: Option<u32>,
+) -> Result<Option<Document>, ShelfFault>
+    ensures value { L.doubts rows.new ≡ 0 → (s : State) → L.has rows.old s → IfOk result (λ found. found ≡ option_map (λ (i : Incident). i.document) (looked_up s incident)) }
+    ensures kept { IsKept L.has L.doubts L.failed L.may_leave rows.old rows.new }
+    ensures cause { IsErrOf result ShelfFault.Failed → HasFailed (L.failed rows.old) (L.failed rows.new) }
+{
+    match incident {
+        None => Ok(None),
+        Some(number) => rows.stored_document(number),
+    }
+}
+
+fn find_facts<L: LookUps>(
+    rows: &mut L,
+    alloc: Global,
+    actor: &Person,
+    request: &Request,
+) -> Result<Facts, ShelfFault>
+    ensures value { L.doubts rows.new ≡ 0 → (s : State) → L.has rows.old s → IfOk result (λ facts. facts ≡ facts_of s actor.now request.now) }
+    ensures kept { IsKept L.has L.doubts L.failed L.may_leave rows.old rows.new }
+    ensures cause { IsErrOf result ShelfFault.Failed → HasFailed (L.failed rows.old) (L.failed rows.new) }
+{
+    let asked = incident_asked(request);
+    let circle = find_circle_facts(rows, alloc, actor, request)?;
+    let incident = known_asked(rows, asked)?;
+    let document = document_asked(rows, asked)?;
+    let posted = find_posted(rows, alloc, actor, request)?;
+    let counts = find_counts(rows, alloc, request, incident.is_some())?;
+    Ok(Facts {
+        circle,
+        incident,
+        document,
+        posted,
+        gates: counts.gates,
+        recipients: counts.recipients,
+        permissions: counts.permissions,
+    })
+}
+
+/// What there is to know about a person's request, by a shelf's look-ups.
+pub fn facts_by<L: LookUps>(
+    rows: &mut L,
+    alloc: Global,
+    actor: &Person,
+    request: &Request,
+) -> Result<Facts, ShelfFault>
+    ensures value { L.doubts rows.new ≡ 0 → (s : State) → L.has rows.old s → IfOk result (λ facts. facts ≡ facts_of s actor.now request.now) }
+    ensures kept { IsRead L.has L.doubts L.failed L.may_leave rows.old rows.new result }
+{
+    if rows.has_ended() {
+        return Err(ShelfFault::Failed);
+    }
+    find_facts(rows, alloc, actor, request)
+}

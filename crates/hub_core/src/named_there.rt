@@ -1,0 +1,140 @@
+//! Whether what a request names is there, by a shelf's look-ups.
+ghost use Rattle.std.specs.Prelude.{◌≡◌, IfOk, IsErrOf};
+ghost use Rattle.std.specs.List.{list_all};
+ghost use Rattle.iodef_tree.specs.Pointer.{pointer_tokens};
+ghost use Rattle.hub_core.specs.Documents.{at_pointer};
+ghost use Rattle.hub_core.specs.Refusals.{is_own_group, are_own_groups, is_target, is_grantee};
+ghost use Rattle.hub_core.specs.Shelves.{HasFailed, IsKept};
+ghost use Rattle.hub_core.specs.State.{State, has_gate, has_permission};
+
+use crate::look_ups::LookUps;
+use crate::request::{Target, WantedGate, WantedGates};
+use crate::shelf::ShelfFault;
+use circle::directory::Person;
+use circle::text::Text;
+use iodef_tree::{Path, PathFault};
+use policy::Grantee;
+use std::alloc::{AllocError, Global};
+
+/// The path that the text is the pointer of.
+pub(crate) fn path_of(alloc: Global, text: &Text) -> Result<Option<Path>, AllocError>
+    ensures { IfOk result (λ path. path ≡ pointer_tokens text.now) }
+{
+    match Path::parse(alloc, text.as_str()) {
+        Ok(path) => Ok(Some(path)),
+        Err(PathFault::BadPath) => Ok(None),
+        Err(PathFault::NoMemory) => Err(AllocError),
+    }
+}
+
+pub(crate) fn is_own_group<L: LookUps>(
+    rows: &mut L,
+    actor: &Person,
+    group: Option<u32>,
+) -> Result<bool, ShelfFault>
+    ensures value { L.doubts rows.new ≡ 0 → (s : State) → L.has rows.old s → IfOk result (λ b. b ≡ is_own_group s actor.now group) }
+    ensures kept { IsKept L.has L.doubts L.failed L.may_leave rows.old rows.new }
+    ensures cause { IsErrOf result ShelfFault.Failed → HasFailed (L.failed rows.old) (L.failed rows.new) }
+{
+    match group {
+        None => Ok(true),
+        Some(group) => rows.has_group_member(group, actor.org),
+    }
+}
+
+fn are_all_own<L: LookUps>(
+    rows: &mut L,
+    actor: &Person,
+    gates: &[WantedGate],
+) -> Result<bool, ShelfFault>
+    ensures value { L.doubts rows.new ≡ 0 → (s : State) → L.has rows.old s → IfOk result (λ b. b ≡ list_all (λ g. is_own_group s actor.now g.group) gates.now) }
+    ensures kept { IsKept L.has L.doubts L.failed L.may_leave rows.old rows.new }
+    ensures cause { IsErrOf result ShelfFault.Failed → HasFailed (L.failed rows.old) (L.failed rows.new) }
+{
+    for gate in gates {
+        if !is_own_group(rows, actor, gate.group)? {
+            return Ok(false);
+        }
+    }
+    Ok(true)
+}
+
+pub(crate) fn are_own_groups<L: LookUps>(
+    rows: &mut L,
+    actor: &Person,
+    group: Option<u32>,
+    gates: &WantedGates,
+) -> Result<bool, ShelfFault>
+    ensures value { L.doubts rows.new ≡ 0 → (s : State) → L.has rows.old s → IfOk result (λ b. b ≡ are_own_groups s actor.now group gates.now) }
+    ensures kept { IsKept L.has L.doubts L.failed L.may_leave rows.old rows.new }
+    ensures cause { IsErrOf result ShelfFault.Failed → HasFailed (L.failed rows.old) (L.failed rows.new) }
+{
+    if is_own_group(rows, actor, group)? {
+        are_all_own(rows, actor, gates.as_slice())
+    } else {
+        Ok(false)
+    }
+}
+
+pub(crate) fn is_target<L: LookUps>(rows: &mut L, target: Target) -> Result<bool, ShelfFault>
+    ensures value { L.doubts rows.new ≡ 0 → (s : State) → L.has rows.old s → IfOk result (λ b. b ≡ is_target s.directory target) }
+    ensures kept { IsKept L.has L.doubts L.failed L.may_leave rows.old rows.new }
+    ensures cause { IsErrOf result ShelfFault.Failed → HasFailed (L.failed rows.old) (L.failed rows.new) }
+{
+    match target {
+        Target::Person(number) => rows.has_person(number),
+        Target::Org(number) => rows.has_org(number),
+    }
+}
+
+pub(crate) fn is_grantee<L: LookUps>(
+    rows: &mut L,
+    org: u32,
+    grantee: Grantee,
+) -> Result<bool, ShelfFault>
+    ensures value { L.doubts rows.new ≡ 0 → (s : State) → L.has rows.old s → IfOk result (λ b. b ≡ is_grantee s.directory org grantee) }
+    ensures kept { IsKept L.has L.doubts L.failed L.may_leave rows.old rows.new }
+    ensures cause { IsErrOf result ShelfFault.Failed → HasFailed (L.failed rows.old) (L.failed rows.new) }
+{
+    match grantee {
+        Grantee::Person(number) => rows.has_person(number),
+        Grantee::Org(number) => rows.has_org(number),
+        Grantee::Community(number) => rows.has_community(number),
+        Grantee::Group(number) => rows.has_group_member(number, org),
+    }
+}
+
+pub(crate) fn stands_gate<L: LookUps>(
+    rows: &mut L,
+    alloc: Global,
+    incident: u32,
+    path: &Text,
+    level: u32,
+    group: Option<u32>,
+) -> Result<bool, ShelfFault>
+    ensures value { L.doubts rows.new ≡ 0 → (s : State) → L.has rows.old s → IfOk result (λ b. b ≡ at_pointer (λ p. has_gate incident p level group s) path.now) }
+    ensures kept { IsKept L.has L.doubts L.failed L.may_leave rows.old rows.new }
+    ensures cause { IsErrOf result ShelfFault.Failed → HasFailed (L.failed rows.old) (L.failed rows.new) }
+{
+    match path_of(alloc, path)? {
+        None => Ok(false),
+        Some(path) => rows.has_gate(incident, &path, level, group),
+    }
+}
+
+pub(crate) fn stands_permission<L: LookUps>(
+    rows: &mut L,
+    alloc: Global,
+    incident: u32,
+    path: &Text,
+    grantee: Grantee,
+) -> Result<bool, ShelfFault>
+    ensures value { L.doubts rows.new ≡ 0 → (s : State) → L.has rows.old s → IfOk result (λ b. b ≡ at_pointer (λ p. has_permission incident p grantee s) path.now) }
+    ensures kept { IsKept L.has L.doubts L.failed L.may_leave rows.old rows.new }
+    ensures cause { IsErrOf result ShelfFault.Failed → HasFailed (L.failed rows.old) (L.failed rows.new) }
+{
+    match path_of(alloc, path)? {
+        None => Ok(false),
+        Some(path) => rows.has_permission(incident, &path, grantee),
+    }
+}

@@ -1,0 +1,120 @@
+-- Tables as sets: what a statement of one table makes of what the tables hold.
+use Rattle.std.proofs.Common.{◌≡◌, ◌≢◌, ℕ, zero, suc, List, [], ◌∷◌, ◌++◌, map, filter, take, drop, slice_get, Bool, true, false, not, ◌&&◌, ◌||◌, ◌==◌, Some, refl, sym, ap, subst, ◌∙◌, arith}
+use Rattle.std.specs.List.{AllByRecursion, list_any, list_all}
+use Rattle.std.specs.List.Sorted.{IsPermutation}
+use Rattle.std.proofs.lemmas.Bool.Decides.{nat_tests}
+use Rattle.std.proofs.lemmas.List.Sorted.{IsPermutation-map, IsPermutation-cons, IsPermutation-trans, IsPermutation-sym}
+use Rattle.sqlite_value.specs.Order.{Row}
+use Rattle.sqlite_trees.specs.declared.store.Shape.TheVariants as shape
+use Rattle.sqlite_trees.specs.Tree.{Trees}
+use Rattle.sqlite_trees.specs.View.{IsShaped}
+use Rattle.sqlite_trees.proofs.TreeLemmas.{IsShaped-put_row, IsShaped-filter}
+use Rattle.sqlite_trees.proofs.ListLemmas.{map-map, filter-map, filter_same, IsPermutation-filter}
+use Rattle.sqlite_schema.specs.declared.schema.Table.{Table}
+use Rattle.sqlite_schema.specs.declared.schema.Keys.TheVariants.{Enforced}
+use Rattle.sqlite_sql.specs.Term.{Term, col}
+use Rattle.sqlite_sql.specs.Query.{IsAnswer}
+use Rattle.sqlite_rules.specs.Calls.{ids_of}
+use Rattle.sqlite_rules.specs.Edit.{Edit, is_taken, without_all, Applies}
+use Rattle.hub_store.specs.Tables.{hub_schema}
+use Rattle.hub_store.specs.Holdings.{Holding, IsHeld}
+use Rattle.hub_store.proofs.Forms.{one_table}
+use Rattle.hub_store.proofs.Found.{always}
+use Rattle.hub_store.proofs.Lists.{came_in, id_of, went_out}
+use Rattle.hub_store.proofs.Statements.{keeps, shows, selected}
+
+abbrev pub AreHeld : Trees → List Holding → Type 0
+AreHeld db = AllByRecursion (IsHeld db)
+
+-- ---- the other tables stay
+
+abbrev pub is_tree : ℕ → Bool
+is_tree n = list_any (λ (t : Table). t.tree == n) hub_schema.tables
+
+abbrev pub is_other : ℕ → Holding → Bool
+is_other n h = is_tree h.tree && not (h.tree == n)
+
+pub split : (a b : Bool) → (a && b) ≡ true → (a ≡ true) × (b ≡ true)
+split true b h = (refl, h)
+split false b h = absurd cc
+
+of_table : (P : ℕ → Type 0) (n : ℕ) (ts : List Table) → list_any (λ (t : Table). t.tree == n) ts ≡ true → AllByRecursion (λ (t : Table). P t.tree) ts → P n
+of_table P n [] h all = absurd cc
+of_table P n (t ∷ ts) h all = go (t.tree == n) refl h (λ k. of_table P n ts k all.1)
+  where
+    same : (t.tree == n) ≡ true → t.tree ≡ n
+    same e = grind (arith, nat_tests)
+
+    go : (b : Bool) → (t.tree == n) ≡ b → (b || list_any (λ (t : Table). t.tree == n) ts) ≡ true → (list_any (λ (t : Table). t.tree == n) ts ≡ true → P n) → P n
+    go true e k later = subst P (same e) all.0
+    go false e k later = later k
+
+stays : (db next : Trees) (edit : Edit) → Applies hub_schema Enforced db edit next → (h : Holding) → is_other edit.table.tree h ≡ true → IsHeld db h → IsHeld next h
+stays db next edit a h other held =
+    let both = split _ _ other in
+    let apart : h.tree ≢ edit.table.tree = λ e. differ (h.tree) (edit.table.tree) both.1 e in
+    let same = of_table (λ n. n ≢ edit.table.tree → next n ≡ db n) h.tree hub_schema.tables both.0 a.tables apart in
+    record { shaped = subst (IsShaped shape.Table) (sym same) held.shaped; same = subst (λ rows. IsPermutation h.rows (map h.seen rows)) (sym same) held.same }
+  where
+    differ : (m n : ℕ) → not (m == n) ≡ true → m ≡ n → ⊥
+    differ m n e k = grind (arith, nat_tests)
+
+all_stay : (db next : Trees) (edit : Edit) → Applies hub_schema Enforced db edit next → (hs : List Holding) → list_all (is_other edit.table.tree) hs ≡ true → AreHeld db hs → AreHeld next hs
+all_stay db next edit a [] others held = tt
+all_stay db next edit a (h ∷ hs) others held =
+    let both = split _ _ others in
+    (stays db next edit a h both.0 held.0, all_stay db next edit a hs both.1 held.1)
+
+-- one table changes: the one at a place among those that are held
+pub one_changes : (db next : Trees) (edit : Edit) → Applies hub_schema Enforced db edit next → (at : ℕ) (before after : List Holding) (it new : Holding) →
+    slice_get before at ≡ Some it → after ≡ take at before ++ new ∷ drop (suc at) before →
+    list_all (is_other edit.table.tree) (take at before ++ drop (suc at) before) ≡ true → AreHeld db before → (IsHeld db it → IsHeld next new) → AreHeld next after
+one_changes db next edit a at before after it new is now others held change = subst (AreHeld next) (sym now) (go at before is others held)
+  where
+    some_same : (x y : Holding) → Some x ≡ Some y → x ≡ y
+    some_same x y e = cc
+
+    go : (at : ℕ) (hs : List Holding) → slice_get hs at ≡ Some it → list_all (is_other edit.table.tree) (take at hs ++ drop (suc at) hs) ≡ true → AreHeld db hs → AreHeld next (take at hs ++ new ∷ drop (suc at) hs)
+    go at [] is others held = absurd cc
+    go zero (h ∷ hs) is others held = (change (subst (IsHeld db) (some_same h it is) held.0), all_stay db next edit a hs others held.1)
+    go (suc at) (h ∷ hs) is others held =
+        let both = split _ _ others in
+        (stays db next edit a h both.0 held.0, go at hs is both.1 held.1)
+
+-- ---- rows come in, go out, and are exchanged
+
+pub permuted : (db : Trees) (tree : ℕ) (seen : Row → Row) (all more : List Row) → IsPermutation all more → IsHeld db (record { tree = tree; seen = seen; rows = all }) → IsHeld db (record { tree = tree; seen = seen; rows = more })
+permuted db tree seen all more same held = record { shaped = held.shaped; same = IsPermutation-trans _ _ _ (IsPermutation-sym _ _ same) held.same }
+
+pub not_so : (b : Bool) → not b ≡ true → b ≡ false
+not_so true h = absurd cc
+not_so false h = refl
+
+pub comes_in : (db next : Trees) (table : Table) (seen : Row → Row) (all : List Row) (new : Row) → Applies hub_schema Enforced db (record { table = table; gone = []; news = new ∷ [] }) next →
+    IsHeld db (record { tree = table.tree; seen = seen; rows = all }) → IsHeld next (record { tree = table.tree; seen = seen; rows = seen new ∷ all })
+comes_in db next table seen all new a held =
+    let fresh : is_taken (db table.tree) new ≡ false = not_so _ (split _ _ a.fresh).0 in
+    record {
+      shaped = subst (IsShaped shape.Table) (sym a.rows) (IsShaped-put_row new (db table.tree) (split _ _ a.keyed).0 held.shaped);
+      same = subst (λ rows. IsPermutation (seen new ∷ all) (map seen rows)) (sym a.rows) (IsPermutation-trans _ _ _ (IsPermutation-cons (seen new) _ _ held.same) (IsPermutation-map seen _ _ (came_in new (db table.tree) fresh)));
+    }
+
+-- what is left where the rows that a query of one table found go
+pub gone_by : (db : Trees) (tree : ℕ) (terms more : List Term) (params : Row) (rows : List Row) → IsShaped shape.Table (db tree) → IsAnswer (one_table tree terms (col 1 0 ∷ more)) db params rows →
+    without_all (db tree) (ids_of rows) ≡ filter (λ r. not (keeps terms params r)) (db tree)
+gone_by db tree terms more params rows shaped a =
+    let found = selected db tree terms (col 1 0 ∷ more) params rows a in
+    let ids : IsPermutation (map id_of (filter (keeps terms params) (db tree))) (ids_of rows) = subst (λ l. IsPermutation l (ids_of rows)) (map-map id_of (shows (col 1 0 ∷ more) params) _) (IsPermutation-map id_of _ _ found) in
+    went_out (keeps terms params) (db tree) (ids_of rows) shaped ids
+
+pub goes_out : (db next : Trees) (table : Table) (seen : Row → Row) (all : List Row) (terms : List Term) (params : Row) (rows : List Row) (p : Row → Bool) → IsAnswer (one_table table.tree terms (col 1 0 ∷ [])) db params rows →
+    Applies hub_schema Enforced db (record { table = table; gone = ids_of rows; news = [] }) next → ((r : Row) → keeps terms params r ≡ p (seen r)) →
+    IsHeld db (record { tree = table.tree; seen = seen; rows = all }) → IsHeld next (record { tree = table.tree; seen = seen; rows = filter (λ r. not (p r)) all })
+goes_out db next table seen all terms params rows p answer a same held =
+    let left : next table.tree ≡ filter (λ r. not (p (seen r))) (db table.tree) =
+    a.rows ∙ gone_by db table.tree terms [] params rows held.shaped answer ∙ filter_same (λ r. not (keeps terms params r)) (λ r. not (p (seen r))) (db table.tree) (always (λ r. ap not (same r)) (db table.tree)) in
+    record {
+      shaped = subst (IsShaped shape.Table) (sym left) (IsShaped-filter shape.Table (λ r. not (p (seen r))) (db table.tree) held.shaped);
+      same = subst (λ rows. IsPermutation (filter (λ r. not (p r)) all) (map seen rows)) (sym left)
+          (subst (IsPermutation (filter (λ r. not (p r)) all)) (filter-map (λ r. not (p r)) seen (db table.tree)) (IsPermutation-filter (λ r. not (p r)) _ _ held.same));
+    }

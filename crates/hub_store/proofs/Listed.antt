@@ -1,0 +1,69 @@
+-- What a query of one table lists in the order of a key.
+use Rattle.std.proofs.Common.{◌≡◌, ℕ, pos, List, [], ◌∷◌, ◌++◌, Vec, map, filter, take, Bool, true, false, cond, Result, Ok, Err, IfOk, nat_cmp, refl, sym, ap, subst, ◌∙◌, arith}
+use Rattle.std.specs.List.{AllByRecursion}
+use Rattle.std.specs.List.Sorted.{IsPermutation}
+use Rattle.std.specs.Ordering.{int_cmp}
+use Rattle.std.specs.declared.alloc.Global.{Global}
+use Rattle.std.specs.declared.cmp.Ordering.{Ordering}
+use Rattle.std.specs.declared.cmp.Ordering.TheVariants.{Less}
+use Rattle.std.proofs.lemmas.Bool.Decides.{nat_tests}
+use Rattle.sqlite_value.specs.declared.keys.Key.{Key}
+use Rattle.sqlite_value.specs.Order.{Row}
+use Rattle.sqlite_trees.specs.Tree.{Trees, IsAscending}
+use Rattle.sqlite_trees.proofs.ListLemmas.{map-map, all_weaker, ascending-map, ascending_weaker}
+use Rattle.sqlite_sql.specs.Term.{Term, eval, eval_all}
+use Rattle.sqlite_sql.specs.Query.{Query, IsAnswer, Output, output_cmp, limited, as_count}
+use Rattle.sqlite_sql.proofs.QueryLemmas.{output_cmp_total}
+use Rattle.sqlite.specs.declared.error.Error.{Error}
+use Rattle.hub_store.specs.Holdings.{IsHeld}
+use Rattle.hub_store.specs.Shown.{IsShownBy, ShowsAll}
+use Rattle.hub_store.proofs.Forms.{one_table}
+use Rattle.hub_store.proofs.Lists.{Rises}
+use Rattle.hub_store.proofs.Orders.{sorted_as}
+use Rattle.hub_store.proofs.Statements.{keeps, shows, ordered_rows}
+use Rattle.hub_store.proofs.Finding.{seen_through, of_elements, all_are}
+
+-- ---- lists that rise, and what passes of them
+
+all_passing : {X : Type 0} (P : X → Type 0) (q : X → Bool) (xs : List X) → AllByRecursion P xs → AllByRecursion (λ x. P x × (q x ≡ true)) (filter q xs)
+all_passing P q [] all = tt
+all_passing P q (x ∷ xs) all = go (q x) refl (all_passing P q xs all.1)
+  where
+    go : (b : Bool) → q x ≡ b → AllByRecursion (λ y. P y × (q y ≡ true)) (filter q xs) → AllByRecursion (λ y. P y × (q y ≡ true)) (cond b (x ∷ filter q xs) (filter q xs))
+    go true is more = ((all.0, is), more)
+    go false is more = more
+
+-- each two that pass stand in the relation, and pass
+pub rising_passing : {X : Type 0} (R : X → X → Type 0) (q : X → Bool) (xs : List X) → IsAscending R xs → IsAscending (λ a b. (q a ≡ true) × (R a b × (q b ≡ true))) (filter q xs)
+rising_passing R q [] up = tt
+rising_passing R q (x ∷ xs) up = go (q x) refl (rising_passing R q xs up.1)
+  where
+    go : (b : Bool) → q x ≡ b → IsAscending (λ a b. (q a ≡ true) × (R a b × (q b ≡ true))) (filter q xs) → IsAscending (λ a b. (q a ≡ true) × (R a b × (q b ≡ true))) (cond b (x ∷ filter q xs) (filter q xs))
+    go true is more = (all_weaker (λ y. R x y × (q y ≡ true)) (λ y. (q x ≡ true) × (R x y × (q y ≡ true))) (λ y h. (is, h)) (filter q xs) (all_passing (R x) q xs up.0), more)
+    go false is more = more
+
+-- ---- queries
+
+-- the rows that a query lists, by the elements that pass, which stand in the order of the query
+pub listed : {X : Type 0} (db : Trees) (tree : ℕ) (seen : Row → Row) (row : X → Row) (xs : List X) (q : X → Bool) (terms project : List Term) (order : List (Term × Key)) (limit : Term) (params : Row) (p : Row → Bool) (out : Row → Output) (rows : List Row)
+    → ((r : Row) → keeps terms params r ≡ p (seen r)) → ((r : Row) → (eval_all (map (λ (k : Term × Key). k.0) order) (params ∷ r ∷ []), shows project params r) ≡ out (seen r)) → ((x : X) → p (row x) ≡ q x)
+    → (R : X → X → Type 0) → IsAscending R xs → ((a b : X) → q a ≡ true → R a b → q b ≡ true → output_cmp (record (one_table tree terms project) { order = order; limit = limit }) (out (row a)) (out (row b)) ≡ Less)
+    → IsHeld db (record { tree = tree; seen = seen; rows = map row xs }) → IsAnswer (record (one_table tree terms project) { order = order; limit = limit }) db params rows
+    → rows ≡ limited (as_count (eval limit (params ∷ []))) (map (λ x. (out (row x)).1) (filter q xs))
+listed db tree seen row xs q terms project order limit params p out rows keep show same R up below held a =
+    let Q : Query = record (one_table tree terms project) { order = order; limit = limit } in
+    let got = ordered_rows db tree terms project order limit params rows a in
+    let found = of_elements row p out q xs got.0 same (seen_through db (record { tree = tree; seen = seen; rows = map row xs }) (keeps terms params) (λ r. (eval_all (map (λ (k : Term × Key). k.0) order) (params ∷ r ∷ []), shows project params r)) p out got.0 keep show held got.1) in
+    let rises : Rises (output_cmp Q) (λ o. o) (map (λ x. out (row x)) (filter q xs)) =
+    ascending-map _ (λ x. out (row x)) (filter q xs) (ascending_weaker (λ a b. (q a ≡ true) × (R a b × (q b ≡ true))) _ (λ a b h. below a b h.0 h.1.0 h.1.1) (filter q xs) (rising_passing R q xs up)) in
+    let all = sorted_as (output_cmp_total Q) (λ o. o) (map (λ x. out (row x)) (filter q xs)) got.0 rises found got.2 in
+    got.3 ∙ ap (λ l. limited (as_count (eval limit (params ∷ []))) (map (λ (o : Output). o.1) l)) all ∙ ap (limited (as_count (eval limit (params ∷ [])))) (map-map (λ (o : Output). o.1) (λ x. out (row x)) (filter q xs))
+
+pub int_below : (a b : ℕ) → nat_cmp a b ≡ Less → int_cmp (pos a) (pos b) ≡ Less
+int_below a b h = grind (arith, nat_tests)
+
+-- ---- what the rows are read as
+
+pub reads_all : {X : Type 0} (shown : X → Row) (xs : List X) (rows : List Row) (r : Result (Vec X Global) Error) → rows ≡ map shown xs → IfOk r (λ found. ShowsAll (IsShownBy shown) rows found.items) → IfOk r (λ found. found.items ≡ xs)
+reads_all shown xs rows (Ok found) is h = all_are shown xs found.items (subst (λ l. ShowsAll (IsShownBy shown) l found.items) is h)
+reads_all shown xs rows (Err e) is h = tt

@@ -1,0 +1,122 @@
+-- The gates and the permissions of an incident, as queries list them.
+use Rattle.std.proofs.Common.{◌≡◌, ℕ, pos, negsuc, List, [], ◌∷◌, map, filter, drop, Bool, true, ◌==◌, nat_cmp, refl, sym, ap, subst, ◌∙◌, arith}
+use Rattle.std.specs.Ordering.{ordering_then, int_cmp}
+use Rattle.std.specs.Cmp.Lexicographic.{slice_cmp}
+use Rattle.std.specs.declared.cmp.Ordering.{Ordering}
+use Rattle.std.specs.declared.cmp.Ordering.TheVariants.{Less, Equal, Greater}
+use Rattle.std.proofs.lemmas.Bool.Decides.{nat_tests}
+use Rattle.sqlite_value.specs.declared.value.Value.TheVariants.{Int, Text}
+use Rattle.sqlite_value.specs.declared.keys.Key.{Key}
+use Rattle.sqlite_value.specs.Order.{Row, column}
+use Rattle.sqlite_value.proofs.OrderLemmas.{value_cmp-Int, value_cmp-Text}
+use Rattle.sqlite_trees.specs.Tree.{Trees}
+use Rattle.sqlite_trees.proofs.ListLemmas.{map-map}
+use Rattle.sqlite_sql.specs.Term.{Term, lit, col, eval_all}
+use Rattle.sqlite_sql.specs.Query.{Query, IsAnswer, Output}
+use Rattle.iodef_tree.specs.Pointer.{pointer_text}
+use Rattle.hub_core.specs.State as core
+use Rattle.hub_core.specs.State.{gate_cmp, permission_cmp, grantee_key}
+use Rattle.hub_core.specs.Reads.{case_gate, case_permission}
+use Rattle.hub_core.specs.Sound.{IsSound}
+use Rattle.hub_core.specs.declared.state.Gate.{Gate}
+use Rattle.hub_core.specs.declared.state.Permission.{Permission}
+use Rattle.hub_store.specs.Means.{Means}
+use Rattle.hub_store.specs.Rows.{gate_row, permission_row}
+use Rattle.hub_store.specs.Shown.{gate_shown, permission_shown}
+use Rattle.hub_store.proofs.Compare.{begins, equal_numbers, and_true}
+use Rattle.hub_store.proofs.Forms.{one_table, is_param, by_column, in_order}
+use Rattle.hub_store.proofs.Listed.{listed, int_below}
+use Rattle.hub_store.proofs.Puts.{past_one}
+use Rattle.hub_store.proofs.Statements.{shows}
+use Rattle.hub_store.proofs.Unique.{rising}
+
+is_number : (a b : ℕ) → (a == b) ≡ true → a ≡ b
+is_number a b h = grind (arith, nat_tests)
+
+not_less : (m n k : ℕ) → m ≡ k → n ≡ k → nat_cmp m n ≡ Less → ⊥
+not_less m n k e f h = grind (arith, nat_tests)
+
+-- of one incident, so the next key decides
+next_decides : (m n k : ℕ) (o : Ordering) → (m == k) ≡ true → (n == k) ≡ true → ordering_then (nat_cmp m n) o ≡ Less → o ≡ Less
+next_decides m n k o e f h = go (nat_cmp m n) refl h
+  where
+    go : (c : Ordering) → nat_cmp m n ≡ c → ordering_then c o ≡ Less → o ≡ Less
+    go Less is more = absurd (not_less m n k (is_number m k e) (is_number n k f) is)
+    go Equal is more = more
+    go Greater is more = absurd cc
+
+abbrev gates_query : Query
+gates_query = in_order (by_column 2 ∷ []) (one_table 12 (is_param 1 0 ∷ []) (col 1 2 ∷ col 1 3 ∷ col 1 4 ∷ []))
+
+abbrev gate_out : Row → Output
+gate_out r = (column r 1 ∷ [], column r 1 ∷ column r 2 ∷ column r 3 ∷ [])
+
+past_gates : (params r : Row) → (eval_all (map (λ (k : Term × Key). k.0) (by_column 2 ∷ [])) (params ∷ r ∷ []), shows (col 1 2 ∷ col 1 3 ∷ col 1 4 ∷ []) params r) ≡ gate_out (drop 1 r)
+past_gates params [] = refl
+past_gates params (x ∷ r) = refl
+
+pub gates_listed : (db : Trees) (s : core.State) (n : ℕ) (rows : List Row) → IsSound s → Means db s → IsAnswer gates_query db (Int (pos n) ∷ []) rows → rows ≡ map gate_shown (map case_gate (filter (λ (g : Gate). g.incident == n) s.gates))
+gates_listed db s n rows sound means a =
+    let params = Int (pos n) ∷ [] in
+    let is_its = λ (g : Gate). g.incident == n in
+    listed db 12 (drop 1) gate_row s.gates is_its (is_param 1 0 ∷ []) (col 1 2 ∷ col 1 3 ∷ col 1 4 ∷ []) (by_column 2 ∷ []) (lit (Int (negsuc 0))) params (begins 0 params) gate_out rows
+    (past_one (Int (pos n))) (past_gates params) (λ g. and_true _ ∙ equal_numbers g.incident n)
+    (λ a b. gate_cmp a b ≡ Less) (rising _ s.gates sound.gates.rising)
+    (λ a b p less q. rw (value_cmp-Text (pointer_text a.path) (pointer_text b.path), next_decides a.incident b.incident n (slice_cmp nat_cmp (pointer_text a.path) (pointer_text b.path)) p q less) refl)
+    means.1.1.1.1.1.1.0 a
+    ∙ sym (map-map gate_shown case_gate (filter is_its s.gates))
+
+-- ---- permissions: by path, kind and number
+
+int_equal : (a b : ℕ) → nat_cmp a b ≡ Equal → int_cmp (pos a) (pos b) ≡ Equal
+int_equal a b h = grind (arith, nat_tests)
+
+int_above : (a b : ℕ) → nat_cmp a b ≡ Greater → int_cmp (pos a) (pos b) ≡ Greater
+int_above a b h = grind (arith, nat_tests)
+
+int_as_nat : (a b : ℕ) → int_cmp (pos a) (pos b) ≡ nat_cmp a b
+int_as_nat a b = go (nat_cmp a b) refl
+  where
+    go : (c : Ordering) → nat_cmp a b ≡ c → int_cmp (pos a) (pos b) ≡ nat_cmp a b
+    go Less is = int_below a b is ∙ sym is
+    go Equal is = int_equal a b is ∙ sym is
+    go Greater is = int_above a b is ∙ sym is
+
+last_three : (o p q : Ordering) → ordering_then o (ordering_then p q) ≡ Less → ordering_then o (ordering_then p (ordering_then q Equal)) ≡ Less
+last_three Less p q h = refl
+last_three Greater p q h = absurd cc
+last_three Equal Less q h = refl
+last_three Equal Greater q h = absurd cc
+last_three Equal Equal Less h = refl
+last_three Equal Equal Equal h = absurd cc
+last_three Equal Equal Greater h = absurd cc
+
+three_decide : (m n k : ℕ) (o p q : Ordering) → (m == k) ≡ true → (n == k) ≡ true → ordering_then (ordering_then (nat_cmp m n) o) (ordering_then p q) ≡ Less → ordering_then o (ordering_then p (ordering_then q Equal)) ≡ Less
+three_decide m n k o p q e f h = go (nat_cmp m n) refl h
+  where
+    go : (c : Ordering) → nat_cmp m n ≡ c → ordering_then (ordering_then c o) (ordering_then p q) ≡ Less → ordering_then o (ordering_then p (ordering_then q Equal)) ≡ Less
+    go Less is more = absurd (not_less m n k (is_number m k e) (is_number n k f) is)
+    go Equal is more = last_three o p q more
+    go Greater is more = absurd cc
+
+abbrev permissions_query : Query
+permissions_query = in_order (by_column 2 ∷ by_column 3 ∷ by_column 4 ∷ []) (one_table 16 (is_param 1 0 ∷ []) (col 1 2 ∷ col 1 3 ∷ col 1 4 ∷ []))
+
+abbrev permission_out : Row → Output
+permission_out r = (column r 1 ∷ column r 2 ∷ column r 3 ∷ [], column r 1 ∷ column r 2 ∷ column r 3 ∷ [])
+
+past_permissions : (params r : Row) → (eval_all (map (λ (k : Term × Key). k.0) (by_column 2 ∷ by_column 3 ∷ by_column 4 ∷ [])) (params ∷ r ∷ []), shows (col 1 2 ∷ col 1 3 ∷ col 1 4 ∷ []) params r) ≡ permission_out (drop 1 r)
+past_permissions params [] = refl
+past_permissions params (x ∷ r) = refl
+
+pub permissions_listed : (db : Trees) (s : core.State) (n : ℕ) (rows : List Row) → IsSound s → Means db s → IsAnswer permissions_query db (Int (pos n) ∷ []) rows → rows ≡ map permission_shown (map case_permission (filter (λ (x : Permission). x.incident == n) s.permissions))
+permissions_listed db s n rows sound means a =
+    let params = Int (pos n) ∷ [] in
+    let is_its = λ (x : Permission). x.incident == n in
+    listed db 16 (drop 1) permission_row s.permissions is_its (is_param 1 0 ∷ []) (col 1 2 ∷ col 1 3 ∷ col 1 4 ∷ []) (by_column 2 ∷ by_column 3 ∷ by_column 4 ∷ []) (lit (Int (negsuc 0))) params (begins 0 params) permission_out rows
+    (past_one (Int (pos n))) (past_permissions params) (λ x. and_true _ ∙ equal_numbers x.incident n)
+    (λ a b. permission_cmp a b ≡ Less) (rising _ s.permissions sound.permissions.rising)
+    (λ a b p less q. rw (value_cmp-Text (pointer_text a.path) (pointer_text b.path), value_cmp-Int (pos (grantee_key a.grantee).0) (pos (grantee_key b.grantee).0), value_cmp-Int (pos (grantee_key a.grantee).1) (pos (grantee_key b.grantee).1), int_as_nat (grantee_key a.grantee).0 (grantee_key b.grantee).0, int_as_nat (grantee_key a.grantee).1 (grantee_key b.grantee).1)
+    (three_decide a.incident b.incident n (slice_cmp nat_cmp (pointer_text a.path) (pointer_text b.path)) (nat_cmp (grantee_key a.grantee).0 (grantee_key b.grantee).0) (nat_cmp (grantee_key a.grantee).1 (grantee_key b.grantee).1) p q less))
+    means.1.1.1.1.1.1.1.1.0 a
+    ∙ sym (map-map permission_shown case_permission (filter is_its s.permissions))

@@ -1,0 +1,50 @@
+-- Reads one after another in a transaction.
+use Rattle.std.proofs.Common.{◌≡◌, inl, Result, Ok, Err, IfOk, OnOk, IsTrue, sym, ap, subst, ◌∙◌}
+use Rattle.sqlite.specs.declared.error.Error.{Error}
+use Rattle.sqlite.specs.Effect.{Database}
+use Rattle.sqlite.specs.State.{State, HasCleanDisk, IsUnchanged}
+use Rattle.sqlite.proofs.Callers.{unchanged_then}
+use Rattle.hub_core.specs.State as core
+use Rattle.hub_core.specs.Sound.{IsSound}
+use Rattle.hub_store.specs.Keeps.{Knows}
+use Rattle.hub_store.specs.Means.{Holds}
+use Rattle.hub_store.specs.Asked.{IsRead}
+use Rattle.hub_store.proofs.Outcomes.{unchanged_keeps}
+use Rattle.hub_store.proofs.Steps.{on_ok, clean_before, survives_on, kept_then}
+
+still_knows : (a b : State) → IsUnchanged a b → Knows a → Knows b
+still_knows a b same knows up = ap (λ (d : Database). d.schema) same.0.now_is ∙ knows same.0.was_open
+
+if_ok_both : {T : Type 0} (r : Result T Error) (P : Type 0) (Q : T → Type 0) → P → IfOk r Q → IfOk r (λ y. P × Q y)
+if_ok_both (Ok x) P Q one two = (one, two)
+if_ok_both (Err e) P Q one two = tt
+
+-- the second after an Ok of the first
+pub read_then : {T U : Type 0} (a b c : State) (R : core.State → T → Type 0) (Q : core.State → U → Type 0) (x : T) (result : Result U Error) → IsRead a b R (Ok x) → IsRead b c Q result → IsRead a c (λ s y. R s x × Q s y) result
+read_then a b c R Q x result one two = record {
+  survives = survives_on a b c one.survives two.survives;
+  kept = λ clean knows.
+      let before = clean_before b c two.survives clean in
+      let same = one.same before knows in
+      kept_then a b c (unchanged_keeps a b (inl same)) (two.kept clean (still_knows a b same knows));
+  same = λ clean knows.
+      let before = clean_before b c two.survives clean in
+      let same = one.same before knows in
+      on_ok result (IsUnchanged b c) (IsUnchanged a c) (λ more. unchanged_then a b c same more) (two.same clean (still_knows a b same knows));
+  right = λ clean s holds sound.
+      let before = clean_before b c two.survives clean in
+      let same = one.same before (λ _. holds.known) in
+      if_ok_both result (R s x) (Q s) (one.right before s holds sound) (two.right clean s (subst (λ d. Holds d s) (sym same.0.now_is) holds) sound);
+}
+
+-- what is made of the value that was read
+pub read_gives : {T U : Type 0} (a b : State) (R : core.State → T → Type 0) (Q : core.State → U → Type 0) (x : T) (y : U) → IsRead a b R (Ok x) → ((s : core.State) → IsSound s → R s x → Q s y) → IsRead a b Q (Ok y)
+read_gives a b R Q x y read makes = record { survives = read.survives; kept = read.kept; same = read.same; right = λ clean s holds sound. makes s sound (read.right clean s holds sound) }
+
+-- a failure is right of every state
+pub read_fails : {T U : Type 0} (a b : State) (R : core.State → T → Type 0) (Q : core.State → U → Type 0) (e : Error) → IsRead {T = T} a b R (Err e) → IsRead {T = U} a b Q (Err e)
+read_fails a b R Q e read = record { survives = read.survives; kept = read.kept; same = λ _ _. tt; right = λ _ _ _ _. tt }
+
+-- nothing was wrong but what was made of the rows
+pub read_refused : {T U : Type 0} (a b : State) (R : core.State → T → Type 0) (Q : core.State → U → Type 0) (x : T) (e : Error) → IsRead a b R (Ok x) → IsRead {T = U} a b Q (Err e)
+read_refused a b R Q x e read = record { survives = read.survives; kept = read.kept; same = λ _ _. tt; right = λ _ _ _ _. tt }

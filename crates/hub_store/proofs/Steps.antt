@@ -1,0 +1,65 @@
+-- Statements one after another in a transaction.
+use Rattle.std.proofs.Common.{ℕ, List, Result, Ok, Err, OnOk, OnErr, IsTrue, inl, refl, sym, subst, ◌∙◌, arith}
+use Rattle.sqlite_value.specs.Order.{Row}
+use Rattle.sqlite_trees.specs.declared.store.Store as store
+use Rattle.sqlite.specs.declared.error.Error.{Error}
+use Rattle.sqlite.specs.Effect.{Database}
+use Rattle.sqlite.specs.Held.{Held, state}
+use Rattle.sqlite.specs.State.{State, HasCleanDisk, KeepsCommit, Survives, Executes}
+use Rattle.sqlite.proofs.StateLemmas.{survives_then}
+use Rattle.hub_store.specs.Keeps.{Goes, HasRun}
+use Rattle.hub_store.specs.Makes.{Makes}
+
+pub on_ok : {T E : Type 0} (r : Result T E) (P Q : Type 0) → (P → Q) → OnOk r P → OnOk r Q
+on_ok (Ok x) P Q f h = f h
+on_ok (Err e) P Q f h = tt
+
+pub on_any : {T E : Type 0} (r : Result T E) (P : Type 0) → P → OnOk r P
+on_any (Ok x) P h = h
+on_any (Err e) P h = tt
+
+pub on_err_any : {T E : Type 0} (r : Result T E) (P : Type 0) → P → OnErr r P
+on_err_any (Ok x) P h = tt
+on_err_any (Err e) P h = h
+
+pub kept_then : (a b c : State) → KeepsCommit a b → KeepsCommit b c → KeepsCommit a c
+kept_then a b c p q = record { was_open = λ up. p.was_open (q.was_open up); committed = λ up. q.committed up ∙ p.committed (q.was_open up) }
+
+pub kept_itself : (a : State) → KeepsCommit a a
+kept_itself a = record { was_open = λ up. up; committed = λ _. refl }
+
+pub survives_on : (a b c : State) → Survives a b (λ _. ⊥) → Survives b c (λ _. ⊥) → Survives a c (λ _. ⊥)
+survives_on a b c = survives_then a b c (λ _. ⊥) (λ _. ⊥) (λ _. ⊥) (λ _ db h. h) (λ _ db h. h)
+
+pub clean_before : (a b : State) → Survives a b (λ _. ⊥) → HasCleanDisk b → HasCleanDisk a
+clean_before a b s clean = omega (arith, s.clean)
+
+-- a text that was run makes what its meaning says
+pub made_by : {S : Type 0} (g : store.Ghosts S) (text : List ℕ) (params : Row) (old new : Held S) (Before After : Database → Type 0) {T : Type 0} (result : Result T Error) → Goes (state g old) (state g new) result →
+    (HasCleanDisk (state g new) → IsTrue (state g old).in_transaction → OnOk result (HasRun g text params old new)) →
+    ((mid : State) (count : ℕ) → Executes text params mid (state g new) (Ok count) → Before mid.now → After (state g new).now) → Makes (state g old) (state g new) Before After result
+made_by g text params old new Before After result goes ran does = record {
+  goes = goes;
+  made = λ clean inside before. on_ok result (HasRun g text params old new) _ (λ (it : HasRun g text params old new). does (state g it.mid) it.count it.executes (subst Before (sym it.same.0.now_is) before)) (ran clean inside);
+}
+
+-- the second after an Ok of the first
+pub makes_then : {T U : Type 0} (a b c : State) (P Q R : Database → Type 0) (x : T) (result : Result U Error) → Makes a b P Q (Ok x) → Makes b c Q R result → Makes a c P R result
+makes_then a b c P Q R x result one two = record {
+  goes = record {
+    kept = λ clean inside. let before = clean_before b c two.goes.survives clean in let mid = one.goes.inside before inside in kept_then a b c (one.goes.kept before inside) (two.goes.kept clean mid.0);
+    inside = λ clean inside. let before = clean_before b c two.goes.survives clean in let mid = one.goes.inside before inside in on_ok result _ _ (λ late. (late.0, λ up. late.1 (mid.1 up))) (two.goes.inside clean mid.0);
+    survives = survives_on a b c one.goes.survives two.goes.survives;
+  };
+  made = λ clean inside before. let early = clean_before b c two.goes.survives clean in let mid = one.goes.inside early inside in two.made clean mid.0 (one.made early inside before);
+}
+
+pub survives_itself : (a : State) → Survives a a (λ _. ⊥)
+survives_itself a = record { clean = omega arith; shield = λ h. h; counts = omega arith; limit = refl; closes = λ _ up. inl up; crash = λ _ db h. inl h }
+
+-- nothing was asked yet
+pub makes_start : {T : Type 0} (a : State) (P : Database → Type 0) (x : T) → Makes {T = T} a a P P (Ok x)
+makes_start a P x = record {
+  goes = record { kept = λ _ _. kept_itself a; inside = λ _ inside. (inside, λ up. up); survives = survives_itself a };
+  made = λ _ _ before. before;
+}

@@ -1,0 +1,407 @@
+-- The tables stand for one state.
+use Rattle.std.proofs.Common.{◌≡◌, inl, inr, ℕ, zero, suc, ◌+◌, ◌<◌, List, [], ◌∷◌, ◌++◌, map, filter, take, drop, slice_get, Bool, true, false, Option, Some, None, Ok, Result, refl, sym, ap, subst, subst₂, ◌∙◌, nat_cmp, codes, arith}
+use Rattle.std.specs.List.{AllByRecursion, list_all}
+use Rattle.std.specs.Str.{bytes_eq, IsUtf8}
+use Rattle.std.specs.List.Sorted.{IsPermutation}
+use Rattle.std.specs.declared.cmp.Ordering.{Ordering}
+use Rattle.std.specs.declared.cmp.Ordering.TheVariants.{Less}
+use Rattle.std.specs.Ordering.{ordering_then}
+use Rattle.std.specs.Cmp.{IsTotalOrder}
+use Rattle.std.specs.Cmp.Lexicographic.{slice_cmp}
+use Rattle.std.proofs.lemmas.Bool.Decides.{nat_tests}
+use Rattle.std.proofs.lemmas.Cmp.{nat_cmp_total, on_total, then_total, nat_list_cmp_total}
+use Rattle.std.specs.Str.{is_utf8}
+use Rattle.std.proofs.lemmas.List.Elements.{All-contains, All-from_recursion}
+use Rattle.std.proofs.lemmas.Str.{is_utf8-from_IsUtf8}
+use Rattle.std.proofs.lemmas.List.Sorted.{IsPermutation-trans, IsPermutation-sym}
+use Rattle.sqlite_value.specs.Order.{Row}
+use Rattle.sqlite_trees.specs.Tree.{Trees, IsAscending}
+use Rattle.sqlite_trees.proofs.ListLemmas.{map-map, IsPermutation-filter, all_both, all_weaker}
+use Rattle.sqlite_rules.specs.Lists.{Has}
+use Rattle.iodef_tree.specs.Reading.{reading}
+use Rattle.iodef_tree.specs.declared.fault.ReadFault.{ReadFault}
+use Rattle.iodef_tree.specs.Text.{Tokens}
+use Rattle.iodef_tree.specs.Pointer.{pointer_text, pointer_tokens}
+use Rattle.iodef_tree.proofs.Inverse.{pointer_tokens-pointer_text}
+use Rattle.iodef_tree.proofs.ReadBack.{texts-read-back}
+use Rattle.policy.specs.declared.permission.Grantee.{Grantee}
+use Rattle.policy.specs.declared.permission.Grantee.TheVariants as grantee
+use Rattle.circle.specs.Ordered.{pair_cmp}
+use Rattle.circle.specs.Sound.{Pairwise, CountsFrom}
+use Rattle.circle.specs.Directory.{Directory, org_number, account_number, community_number, group_number, client_key, membership_key, connection_key, group_member_key, arrangement_key}
+use Rattle.circle.specs.declared.directory.Role.{Role}
+use Rattle.circle.specs.declared.directory.Role.TheVariants.{Administrator, Coordinator, Poster, Reader}
+use Rattle.circle.specs.declared.directory.Handling.{Handling}
+use Rattle.circle.specs.declared.directory.Handling.TheVariants.{Clear, Green, Amber, Strict, Red}
+use Rattle.circle.specs.declared.directory.Org.{Org}
+use Rattle.circle.specs.declared.directory.Account.{Account}
+use Rattle.circle.specs.declared.directory.Client.{Client}
+use Rattle.circle.specs.declared.directory.Community.{Community}
+use Rattle.circle.specs.declared.directory.Membership.{Membership}
+use Rattle.circle.specs.declared.directory.Connection.{Connection}
+use Rattle.circle.specs.declared.directory.Group.{Group}
+use Rattle.circle.specs.declared.directory.GroupMember.{GroupMember}
+use Rattle.circle.specs.declared.directory.Arrangement.{Arrangement}
+use Rattle.hub_core.specs.Documents.{Lines}
+use Rattle.hub_core.specs.Sound.{IsSound, IsAccepted}
+use Rattle.hub_core.specs.State as core
+use Rattle.hub_core.specs.State.{incident_number, target_key, grantee_key, gate_cmp, recipient_cmp, permission_cmp}
+use Rattle.hub_core.specs.declared.request.Target.{Target}
+use Rattle.hub_core.specs.declared.request.Target.TheVariants as target
+use Rattle.hub_core.specs.declared.state.Incident.{Incident}
+use Rattle.hub_core.specs.declared.state.Gate.{Gate}
+use Rattle.hub_core.specs.declared.state.Recipient.{Recipient}
+use Rattle.hub_core.specs.declared.state.Permission.{Permission}
+use Rattle.hub_store.specs.Values.{number_or_null, flag}
+use Rattle.hub_store.specs.Pairs.{Pair, PairSet, pair_row, rows_of_pairs}
+use Rattle.hub_store.specs.Holdings.{IsHeld}
+use Rattle.hub_store.specs.Rows.{role_number, handling_number, org_row, account_row, community_row, group_row, document_text, incident_row, gate_row, recipient_row, permission_row, client_pair, membership_pair, connection_pair, group_member_pair, arrangement_pair, one_if, pair_sets}
+use Rattle.hub_store.specs.Fit.{IsFit, FitIncident}
+use Rattle.hub_store.specs.Means.{Means}
+use Rattle.hub_store.proofs.OneKind.{kind_alone, is_of}
+use Rattle.hub_store.proofs.Lists.{Rises, same_rising, has_permuted}
+use Rattle.hub_store.proofs.PairSets.{is_other_kind, filter_all}
+
+-- ---- members by their rows
+
+had : {X : Type 0} (P : X → Type 0) (xs : List X) (x : X) → AllByRecursion P xs → Has xs x → P x
+had P [] x all h = absurd h
+had P (y ∷ ys) x all (inl is) = subst P (sym is) all.0
+had P (y ∷ ys) x all (inr h) = had P ys x all.1 h
+
+module _ {X : Type 0} (row : X → Row) (P : X → Type 0) (one : (a b : X) → P a → P b → row a ≡ row b → a ≡ b) where
+  into : (xs : List X) (x : X) → Has xs x → Has (map row xs) (row x)
+  into [] x h = absurd h
+  into (y ∷ ys) x (inl is) = inl (ap row is)
+  into (y ∷ ys) x (inr h) = inr (into ys x h)
+
+  out : (xs : List X) (x : X) → AllByRecursion P xs → P x → Has (map row xs) (row x) → Has xs x
+  out [] x all p h = absurd h
+  out (y ∷ ys) x all p (inl is) = inl (one x y p all.0 is)
+  out (y ∷ ys) x all p (inr h) = inr (out ys x all.1 p h)
+
+  members : (xs ys : List X) → AllByRecursion P xs → AllByRecursion P ys → IsPermutation (map row xs) (map row ys) → (x : X) → Has xs x → Has ys x
+  members xs ys all also same x h = out ys x also (had P xs x all h) (has_permuted _ _ same (row x) (into xs x h))
+
+  -- two lists that rise and have the same rows are one
+  pub same_set : {K : Type 0} {R : K → K → Ordering} → IsTotalOrder R → (key : X → K) (xs ys : List X) → Rises R key xs → Rises R key ys → AllByRecursion P xs → AllByRecursion P ys → IsPermutation (map row xs) (map row ys) → xs ≡ ys
+  same_set total key xs ys up vp all also same = same_rising total key xs ys up vp (members xs ys all also same) (members ys xs also all (IsPermutation-sym _ _ same))
+
+-- ---- lists that rise
+
+pub rising : {X : Type 0} (R : X → X → Type 0) (xs : List X) → Pairwise R xs → IsAscending R xs
+rising R [] up = tt
+rising R (x ∷ xs) up = (up.0, rising R xs up.1)
+
+pub counted : {X : Type 0} (number : X → ℕ) (n : ℕ) (xs : List X) → CountsFrom number n xs → AllByRecursion (λ x. n < number x) xs × Rises nat_cmp number xs
+counted number n [] counts = (tt, tt)
+counted number n (x ∷ xs) counts =
+    let later = counted number (n + 1) xs counts.1 in (
+      (first (number x) counts.0, all_weaker (λ y. n + 1 < number y) (λ y. n < number y) (λ y h. over (number y) h) xs later.0),
+      (all_weaker (λ y. n + 1 < number y) (λ y. nat_cmp (number x) (number y) ≡ Less) (λ y h. less (number x) (number y) counts.0 h) xs later.0, later.1),
+    )
+  where
+    first : (m : ℕ) → m ≡ n + 1 → n < m
+    first m e = omega (arith, e)
+
+    over : (m : ℕ) → n + 1 < m → n < m
+    over m h = omega (arith, h)
+
+    less : (a b : ℕ) → a ≡ n + 1 → n + 1 < b → nat_cmp a b ≡ Less
+    less a b e h = grind (arith, nat_tests)
+
+pub pair_total : IsTotalOrder pair_cmp
+pair_total = then_total (on_total (λ p. p.0) nat_cmp_total) (on_total (λ p. p.1) nat_cmp_total)
+
+-- by incident, then by the bytes of the pointer
+abbrev pub place_cmp : ℕ × List ℕ → ℕ × List ℕ → Ordering
+place_cmp a b = ordering_then (nat_cmp a.0 b.0) (slice_cmp nat_cmp a.1 b.1)
+
+pub place_total : IsTotalOrder place_cmp
+place_total = then_total (on_total (λ p. p.0) nat_cmp_total) (on_total (λ p. p.1) nat_list_cmp_total)
+
+abbrev pub receiver_cmp : ℕ × (ℕ × ℕ) → ℕ × (ℕ × ℕ) → Ordering
+receiver_cmp a b = ordering_then (nat_cmp a.0 b.0) (pair_cmp a.1 b.1)
+
+pub receiver_total : IsTotalOrder receiver_cmp
+receiver_total = then_total (on_total (λ p. p.0) nat_cmp_total) (on_total (λ p. p.1) pair_total)
+
+abbrev pub grant_cmp : (ℕ × List ℕ) × (ℕ × ℕ) → (ℕ × List ℕ) × (ℕ × ℕ) → Ordering
+grant_cmp a b = ordering_then (place_cmp a.0 b.0) (pair_cmp a.1 b.1)
+
+pub grant_total : IsTotalOrder grant_cmp
+grant_total = then_total (on_total (λ p. p.0) place_total) (on_total (λ p. p.1) pair_total)
+
+-- ---- the row of an element is of no other
+
+role_of : ℕ → Role
+role_of zero = Administrator
+role_of (suc zero) = Coordinator
+role_of (suc (suc zero)) = Poster
+role_of (suc (suc (suc n))) = Reader
+
+role_back : (r : Role) → role_of (role_number r) ≡ r
+unfolding role_of
+role_back Administrator = refl
+role_back Coordinator = refl
+role_back Poster = refl
+role_back Reader = refl
+
+one_role : (a b : Role) → role_number a ≡ role_number b → a ≡ b
+one_role a b e = sym (role_back a) ∙ (ap role_of e ∙ role_back b)
+
+handling_of : ℕ → Handling
+handling_of zero = Clear
+handling_of (suc zero) = Green
+handling_of (suc (suc zero)) = Amber
+handling_of (suc (suc (suc zero))) = Strict
+handling_of (suc (suc (suc (suc n)))) = Red
+
+handling_back : (h : Handling) → handling_of (handling_number h) ≡ h
+unfolding handling_of
+handling_back Clear = refl
+handling_back Green = refl
+handling_back Amber = refl
+handling_back Strict = refl
+handling_back Red = refl
+
+one_handling : (a b : Handling) → handling_number a ≡ handling_number b → a ≡ b
+one_handling a b e = sym (handling_back a) ∙ (ap handling_of e ∙ handling_back b)
+
+target_of : ℕ × ℕ → Target
+target_of p = go p.0 p.1
+  where
+    go : ℕ → ℕ → Target
+    go zero n = target.Person n
+    go (suc k) n = target.Org n
+
+target_back : (t : Target) → target_of (target_key t) ≡ t
+unfolding target_of
+target_back (target.Person n) = refl
+target_back (target.Org n) = refl
+
+one_target : (a b : Target) → (target_key a).0 ≡ (target_key b).0 → (target_key a).1 ≡ (target_key b).1 → a ≡ b
+one_target a b e f = sym (target_back a) ∙ (ap target_of (λ i. (e i, f i)) ∙ target_back b)
+
+grantee_of : ℕ × ℕ → Grantee
+grantee_of p = go p.0 p.1
+  where
+    go : ℕ → ℕ → Grantee
+    go zero n = grantee.Person n
+    go (suc zero) n = grantee.Org n
+    go (suc (suc zero)) n = grantee.Community n
+    go (suc (suc (suc k))) n = grantee.Group n
+
+grantee_back : (t : Grantee) → grantee_of (grantee_key t) ≡ t
+unfolding grantee_of
+grantee_back (grantee.Person n) = refl
+grantee_back (grantee.Org n) = refl
+grantee_back (grantee.Community n) = refl
+grantee_back (grantee.Group n) = refl
+
+pub one_grantee : (a b : Grantee) → (grantee_key a).0 ≡ (grantee_key b).0 → (grantee_key a).1 ≡ (grantee_key b).1 → a ≡ b
+one_grantee a b e f = sym (grantee_back a) ∙ (ap grantee_of (λ i. (e i, f i)) ∙ grantee_back b)
+
+one_flag : (a b : Bool) → flag a ≡ flag b → a ≡ b
+one_flag true true e = refl
+one_flag false false e = refl
+one_flag true false e = absurd cc
+one_flag false true e = absurd cc
+
+one_bit : (a b : Bool) → one_if a ≡ one_if b → a ≡ b
+one_bit true true e = refl
+one_bit false false e = refl
+one_bit true false e = absurd cc
+one_bit false true e = absurd cc
+
+pub one_number : (a b : Option ℕ) → number_or_null a ≡ number_or_null b → a ≡ b
+one_number None None e = refl
+one_number None (Some n) e = absurd cc
+one_number (Some n) None e = absurd cc
+one_number (Some m) (Some n) e = let same : m ≡ n = cc in ap Some same
+
+one_org : (a b : Org) → org_row a ≡ org_row b → a ≡ b
+one_org a b e =
+    let number : a.number ≡ b.number = cc in
+    let name : a.name ≡ b.name = cc in
+    λ i. record { number = number i; name = name i }
+
+one_community : (a b : Community) → community_row a ≡ community_row b → a ≡ b
+one_community a b e =
+    let number : a.number ≡ b.number = cc in
+    let name : a.name ≡ b.name = cc in
+    λ i. record { number = number i; name = name i }
+
+one_account : (a b : Account) → account_row a ≡ account_row b → a ≡ b
+one_account a b e =
+    let number : a.person.number ≡ b.person.number = cc in
+    let org : a.person.org ≡ b.person.org = cc in
+    let name : a.person.name ≡ b.person.name = cc in
+    let code : role_number a.person.role ≡ role_number b.person.role = cc in
+    let key : a.key ≡ b.key = cc in
+    let on : flag a.person.active ≡ flag b.person.active = cc in
+    let named : flag a.person.nominated ≡ flag b.person.nominated = cc in
+    let role = one_role a.person.role b.person.role code in
+    let active = one_flag a.person.active b.person.active on in
+    let nominated = one_flag a.person.nominated b.person.nominated named in
+    λ i. record { person = record { number = number i; org = org i; name = name i; role = role i; active = active i; nominated = nominated i }; key = key i }
+
+one_group : (a b : Group) → group_row a ≡ group_row b → a ≡ b
+one_group a b e =
+    let number : a.number ≡ b.number = cc in
+    let owner : a.owner ≡ b.owner = cc in
+    let name : a.name ≡ b.name = cc in
+    let releasability : a.releasability ≡ b.releasability = cc in
+    let on : flag a.active ≡ flag b.active = cc in
+    let active = one_flag a.active b.active on in
+    λ i. record { number = number i; owner = owner i; name = name i; releasability = releasability i; active = active i }
+
+pub one_path : (p q : Tokens) → pointer_text p ≡ pointer_text q → p ≡ q
+one_path p q e = some_same (sym (pointer_tokens-pointer_text p) ∙ (ap pointer_tokens e ∙ pointer_tokens-pointer_text q))
+  where
+    some_same : Some p ≡ Some q → p ≡ q
+    some_same f = cc
+
+one_gate : (a b : Gate) → gate_row a ≡ gate_row b → a ≡ b
+one_gate a b e =
+    let incident : a.incident ≡ b.incident = cc in
+    let text : pointer_text a.path ≡ pointer_text b.path = cc in
+    let level : a.level ≡ b.level = cc in
+    let null : number_or_null a.group ≡ number_or_null b.group = cc in
+    let path = one_path a.path b.path text in
+    let group = one_number a.group b.group null in
+    λ i. record { incident = incident i; path = path i; level = level i; group = group i }
+
+one_recipient : (a b : Recipient) → recipient_row a ≡ recipient_row b → a ≡ b
+one_recipient a b e =
+    let incident : a.incident ≡ b.incident = cc in
+    let kind : (target_key a.target).0 ≡ (target_key b.target).0 = cc in
+    let number : (target_key a.target).1 ≡ (target_key b.target).1 = cc in
+    let it = one_target a.target b.target kind number in
+    λ i. record { incident = incident i; target = it i }
+
+one_permission : (a b : Permission) → permission_row a ≡ permission_row b → a ≡ b
+one_permission a b e =
+    let incident : a.incident ≡ b.incident = cc in
+    let text : pointer_text a.path ≡ pointer_text b.path = cc in
+    let kind : (grantee_key a.grantee).0 ≡ (grantee_key b.grantee).0 = cc in
+    let number : (grantee_key a.grantee).1 ≡ (grantee_key b.grantee).1 = cc in
+    let path = one_path a.path b.path text in
+    let it = one_grantee a.grantee b.grantee kind number in
+    λ i. record { incident = incident i; path = path i; grantee = it i }
+
+one_pair : (kind : List ℕ) (p q : Pair) → pair_row kind p ≡ pair_row kind q → (p.0.0 ≡ q.0.0) × (p.0.1 ≡ q.0.1) × (p.1 ≡ q.1)
+one_pair kind p q e =
+    let a : p.0.0 ≡ q.0.0 = cc in
+    let b : p.0.1 ≡ q.0.1 = cc in
+    let null : number_or_null p.1 ≡ number_or_null q.1 = cc in
+    (a, b, one_number p.1 q.1 null)
+
+some_number : (m n : ℕ) → Some m ≡ Some n → m ≡ n
+some_number m n e = cc
+
+one_client : (a b : Client) → pair_row (codes "client") (client_pair a) ≡ pair_row (codes "client") (client_pair b) → a ≡ b
+one_client a b e = let it = one_pair (codes "client") (client_pair a) (client_pair b) e in λ i. record { org = it.0 i; client = it.1 i }
+
+one_membership : (a b : Membership) → pair_row (codes "member") (membership_pair a) ≡ pair_row (codes "member") (membership_pair b) → a ≡ b
+one_membership a b e = let it = one_pair (codes "member") (membership_pair a) (membership_pair b) e in λ i. record { community = it.0 i; org = it.1 i }
+
+one_connection : (a b : Connection) → pair_row (codes "link") (connection_pair a) ≡ pair_row (codes "link") (connection_pair b) → a ≡ b
+one_connection a b e = let it = one_pair (codes "link") (connection_pair a) (connection_pair b) e in λ i. record { low = it.0 i; high = it.1 i }
+
+one_member : (a b : GroupMember) → pair_row (codes "grp_member") (group_member_pair a) ≡ pair_row (codes "grp_member") (group_member_pair b) → a ≡ b
+one_member a b e =
+    let it = one_pair (codes "grp_member") (group_member_pair a) (group_member_pair b) e in
+    let extend = one_bit a.extend b.extend (some_number (one_if a.extend) (one_if b.extend) it.2) in
+    λ i. record { group = it.0 i; org = it.1 i; extend = extend i }
+
+one_arrangement : (a b : Arrangement) → pair_row (codes "arrangement") (arrangement_pair a) ≡ pair_row (codes "arrangement") (arrangement_pair b) → a ≡ b
+one_arrangement a b e =
+    let it = one_pair (codes "arrangement") (arrangement_pair a) (arrangement_pair b) e in
+    let handling = one_handling a.handling b.handling (some_number (handling_number a.handling) (handling_number b.handling) it.2) in
+    λ i. record { source = it.0 i; org = it.1 i; handling = handling i }
+
+some_one : (x y : Lines) → ◌≡◌ {A = Result (List Lines) ReadFault} (Ok (x ∷ [])) (Ok (y ∷ [])) → x ≡ y
+some_one x y e = cc
+
+-- the text of a stored document reads as that document
+pub read_back : (doc : Lines) → IsAccepted doc → IsUtf8 (document_text doc) → reading (document_text doc) ≡ Ok (doc ∷ [])
+read_back doc accepted utf8 =
+    All-contains (λ d. is_utf8 (document_text d) ≡ true → reading (document_text d) ≡ Ok (d ∷ [])) accepted.docs doc
+    (All-from_recursion (λ d. is_utf8 (document_text d) ≡ true → reading (document_text d) ≡ Ok (d ∷ [])) accepted.docs (texts-read-back accepted.body accepted.docs accepted.read))
+    accepted.among (is_utf8-from_IsUtf8 (document_text doc) utf8)
+
+abbrev pub IsStored : Incident → Type 0
+IsStored i = IsAccepted i.document × FitIncident i
+
+one_incident : (a b : Incident) → IsStored a → IsStored b → incident_row a ≡ incident_row b → a ≡ b
+one_incident a b p q e =
+    let number : a.number ≡ b.number = cc in
+    let source : a.source ≡ b.source = cc in
+    let ident : a.ident ≡ b.ident = cc in
+    let revision : a.revision ≡ b.revision = cc in
+    let text : document_text a.document ≡ document_text b.document = cc in
+    let document = some_one a.document b.document (sym (read_back a.document p.0 p.1) ∙ (ap reading text ∙ read_back b.document q.0 q.1)) in
+    λ i. record { number = number i; source = source i; ident = ident i; revision = revision i; document = document i }
+
+abbrev Any : {X : Type 0} → X → Type 0
+Any x = Unit {0}
+
+any : {X : Type 0} (xs : List X) → AllByRecursion Any xs
+any [] = tt
+any (x ∷ xs) = (tt, any xs)
+
+numbered : {X : Type 0} (row : X → Row) → ((a b : X) → row a ≡ row b → a ≡ b) → (number : X → ℕ) (xs ys : List X) → CountsFrom number 0 xs → CountsFrom number 0 ys → IsPermutation (map row xs) (map row ys) → xs ≡ ys
+numbered row one number xs ys u v same = same_set row Any (λ a b _ _ f. one a b f) nat_cmp_total number xs ys (counted number 0 xs u).1 (counted number 0 ys v).1 (any xs) (any ys) same
+
+-- ---- the sets of the table of pairs
+
+kind_of : (kind : List ℕ) (at : ℕ) (sets : List PairSet) (pairs : List Pair) → slice_get sets at ≡ Some (kind, pairs) → bytes_eq kind kind ≡ true → list_all (is_other_kind kind) (take at sets ++ drop (suc at) sets) ≡ true →
+    filter (is_of kind (λ r. true)) (rows_of_pairs sets) ≡ map (pair_row kind) pairs
+kind_of kind at sets pairs is itself others = kind_alone kind (λ r. true) at sets pairs is itself others ∙ filter_all (map (pair_row kind) pairs)
+
+pairs_of_kind : {X : Type 0} (kind : List ℕ) (pair : X → Pair) (at : ℕ) (d e : Directory) (xs ys : List X) → slice_get (pair_sets d) at ≡ Some (kind, map pair xs) → slice_get (pair_sets e) at ≡ Some (kind, map pair ys) → bytes_eq kind kind ≡ true →
+    list_all (is_other_kind kind) (take at (pair_sets d) ++ drop (suc at) (pair_sets d)) ≡ true → list_all (is_other_kind kind) (take at (pair_sets e) ++ drop (suc at) (pair_sets e)) ≡ true →
+    IsPermutation (rows_of_pairs (pair_sets d)) (rows_of_pairs (pair_sets e)) → IsPermutation (map (λ x. pair_row kind (pair x)) xs) (map (λ x. pair_row kind (pair x)) ys)
+pairs_of_kind kind pair at d e xs ys is also itself others apart same =
+    subst₂ IsPermutation (kind_of kind at (pair_sets d) (map pair xs) is itself others ∙ map-map (pair_row kind) pair xs) (kind_of kind at (pair_sets e) (map pair ys) also itself apart ∙ map-map (pair_row kind) pair ys)
+    (IsPermutation-filter (is_of kind (λ r. true)) _ _ same)
+
+-- ---- the state
+
+between : (db : Trees) (tree : ℕ) (seen : Row → Row) (xs ys : List Row) → IsHeld db (record { tree = tree; seen = seen; rows = xs }) → IsHeld db (record { tree = tree; seen = seen; rows = ys }) → IsPermutation xs ys
+between db tree seen xs ys a b = IsPermutation-trans _ _ _ a.same (IsPermutation-sym _ _ b.same)
+
+pub same_means : (db : Trees) (a b : core.State) → IsSound a → IsSound b → IsFit a → IsFit b → Means db a → Means db b → a ≡ b
+same_means db a b up vp fit gut m n =
+    let d = a.directory in
+    let e = b.directory in
+    let s = up.directory in
+    let t = vp.directory in
+    let orgs = numbered org_row one_org org_number d.orgs e.orgs s.orgs.numbered.0 t.orgs.numbered.0 (between db 1 (λ r. r) _ _ m.1.0 n.1.0) in
+    let accounts = numbered account_row one_account account_number d.accounts e.accounts s.accounts.numbered.0 t.accounts.numbered.0 (between db 3 (λ r. r) _ _ m.1.1.0 n.1.1.0) in
+    let communities = numbered community_row one_community community_number d.communities e.communities s.communities.numbered.0 t.communities.numbered.0 (between db 5 (λ r. r) _ _ m.1.1.1.0 n.1.1.1.0) in
+    let groups = numbered group_row one_group group_number d.groups e.groups s.groups.numbered.0 t.groups.numbered.0 (between db 7 (λ r. r) _ _ m.1.1.1.1.0 n.1.1.1.1.0) in
+    let pairs = between db 9 (drop 1) _ _ m.1.1.1.1.1.0 n.1.1.1.1.1.0 in
+    let clients = same_set (λ x. pair_row (codes "client") (client_pair x)) Any (λ a b _ _ f. one_client a b f) pair_total client_key d.clients e.clients (rising _ d.clients s.clients.rising) (rising _ e.clients t.clients.rising) (any d.clients) (any e.clients)
+    (pairs_of_kind (codes "client") client_pair 0 d e d.clients e.clients refl refl refl refl refl pairs) in
+    let memberships = same_set (λ x. pair_row (codes "member") (membership_pair x)) Any (λ a b _ _ f. one_membership a b f) pair_total membership_key d.memberships e.memberships (rising _ d.memberships s.memberships.rising) (rising _ e.memberships t.memberships.rising) (any d.memberships) (any e.memberships)
+    (pairs_of_kind (codes "member") membership_pair 1 d e d.memberships e.memberships refl refl refl refl refl pairs) in
+    let connections = same_set (λ x. pair_row (codes "link") (connection_pair x)) Any (λ a b _ _ f. one_connection a b f) pair_total connection_key d.connections e.connections (rising _ d.connections s.connections.rising) (rising _ e.connections t.connections.rising) (any d.connections) (any e.connections)
+    (pairs_of_kind (codes "link") connection_pair 2 d e d.connections e.connections refl refl refl refl refl pairs) in
+    let group_members = same_set (λ x. pair_row (codes "grp_member") (group_member_pair x)) Any (λ a b _ _ f. one_member a b f) pair_total group_member_key d.group_members e.group_members (rising _ d.group_members s.group_members.rising) (rising _ e.group_members t.group_members.rising) (any d.group_members) (any e.group_members)
+    (pairs_of_kind (codes "grp_member") group_member_pair 3 d e d.group_members e.group_members refl refl refl refl refl pairs) in
+    let arrangements = same_set (λ x. pair_row (codes "arrangement") (arrangement_pair x)) Any (λ a b _ _ f. one_arrangement a b f) pair_total arrangement_key d.arrangements e.arrangements (rising _ d.arrangements s.arrangements.rising) (rising _ e.arrangements t.arrangements.rising) (any d.arrangements) (any e.arrangements)
+    (pairs_of_kind (codes "arrangement") arrangement_pair 4 d e d.arrangements e.arrangements refl refl refl refl refl pairs) in
+    let gates = same_set gate_row Any (λ a b _ _ f. one_gate a b f) place_total (λ (g : Gate). (g.incident, pointer_text g.path)) a.gates b.gates (rising _ a.gates up.gates.rising) (rising _ b.gates vp.gates.rising) (any a.gates) (any b.gates) (between db 12 (drop 1) _ _ m.1.1.1.1.1.1.0 n.1.1.1.1.1.1.0) in
+    let recipients = same_set recipient_row Any (λ a b _ _ f. one_recipient a b f) receiver_total (λ (r : Recipient). (r.incident, target_key r.target)) a.recipients b.recipients (rising _ a.recipients up.recipients.rising) (rising _ b.recipients vp.recipients.rising) (any a.recipients) (any b.recipients) (between db 14 (drop 1) _ _ m.1.1.1.1.1.1.1.0 n.1.1.1.1.1.1.1.0) in
+    let permissions = same_set permission_row Any (λ a b _ _ f. one_permission a b f) grant_total (λ (x : Permission). ((x.incident, pointer_text x.path), grantee_key x.grantee)) a.permissions b.permissions (rising _ a.permissions up.permissions.rising) (rising _ b.permissions vp.permissions.rising) (any a.permissions) (any b.permissions) (between db 16 (drop 1) _ _ m.1.1.1.1.1.1.1.1.0 n.1.1.1.1.1.1.1.1.0) in
+    let incidents = same_set incident_row IsStored one_incident nat_cmp_total incident_number a.incidents b.incidents (counted incident_number 0 a.incidents up.incidents.numbered.0).1 (counted incident_number 0 b.incidents vp.incidents.numbered.0).1
+    (all_both _ _ IsStored (λ i p q. (p, q)) a.incidents up.incidents.documents fit.incidents) (all_both _ _ IsStored (λ i p q. (p, q)) b.incidents vp.incidents.documents gut.incidents) (between db 18 (λ r. r) _ _ m.1.1.1.1.1.1.1.1.1.0 n.1.1.1.1.1.1.1.1.1.0) in
+    λ i. record {
+      directory = record { orgs = orgs i; accounts = accounts i; clients = clients i; communities = communities i; memberships = memberships i; connections = connections i; groups = groups i; group_members = group_members i; arrangements = arrangements i };
+      incidents = incidents i;
+      gates = gates i;
+      recipients = recipients i;
+      permissions = permissions i;
+    }

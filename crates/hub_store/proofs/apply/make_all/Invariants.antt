@@ -1,0 +1,13 @@
+use Rattle.std.proofs.Common.{◌≡◌, take, Ok}
+use Rattle.sqlite.specs.Held.{state}
+use Rattle.hub_core.specs.State.{State}
+use Rattle.hub_core.specs.Edits.{after}
+use Rattle.hub_store.specs.Means.{Holds}
+use Rattle.hub_store.specs.Makes.{Makes}
+use Rattle.hub_store.proofs.apply.make_all.Given as goal
+
+abbrev pub invariant-loop-edit : goal.invariant-loop-edit
+invariant-loop-edit g l = record {
+  same_reference : l.tx.conn.ghost_name ≡ l.fn.tx.conn.ghost_name;
+  made : (s : State) → Makes {T = Unit {0}} (state g.S.Store l.fn.tx.conn.now) (state g.S.Store l.tx.conn.now) (λ db. Holds db s) (λ db. Holds db (after (take l.edit-index l.edits) s)) (Ok tt);
+}

@@ -1,0 +1,12 @@
+use Rattle.hub_core.specs.Edits.{edited}
+use Rattle.hub_core.specs.declared.edit.Edit.TheVariants.{Directory}
+use Rattle.circle.specs.declared.command.RowEdit.TheVariants.{SetNominated}
+use Rattle.hub_store.specs.Means.{Holds}
+use Rattle.hub_store.proofs.Changes.{nominates}
+use Rattle.hub_store.proofs.Steps.{made_by}
+use Rattle.hub_store.proofs.Texts.{set_nominated}
+use Rattle.hub_store.proofs.directory_edits.nominate.Goals as goal
+
+pub returns-clause-made : goal.returns-clause-made
+returns-clause-made g c s =
+    made_by g.S.Store set_nominated _ _ _ (λ db. Holds db s) (λ db. Holds db (edited (Directory (SetNominated c.args.person c.args.nominated)) s)) _ c.run.ensures.goes (λ clean inside. rw (c.params-to_sql.ensures, c.params-to_sql-2.ensures) at (c.run.ensures.ran clean inside)) (λ mid count h held. nominates mid _ c.args.person c.args.nominated count h s held)

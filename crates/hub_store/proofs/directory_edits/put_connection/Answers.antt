@@ -1,0 +1,12 @@
+use Rattle.hub_core.specs.Edits.{edited}
+use Rattle.hub_core.specs.declared.edit.Edit.TheVariants.{Directory}
+use Rattle.circle.specs.declared.command.RowEdit.TheVariants.{PutConnection}
+use Rattle.hub_store.specs.Means.{Holds}
+use Rattle.hub_store.proofs.Changes.{puts_connection}
+use Rattle.hub_store.proofs.Steps.{made_by}
+use Rattle.hub_store.specs.Pairs.{put_pair}
+use Rattle.hub_store.proofs.directory_edits.put_connection.Goals as goal
+
+pub returns-clause-made : goal.returns-clause-made
+returns-clause-made g c s =
+    made_by g.S.Store put_pair _ _ _ (λ db. Holds db s) (λ db. Holds db (edited (Directory (PutConnection c.args.row.now)) s)) _ c.insert_pair.ensures.goes (λ clean inside. c.insert_pair.ensures.ran clean inside) (λ mid count h held. puts_connection mid _ c.args.row.now count h s held)

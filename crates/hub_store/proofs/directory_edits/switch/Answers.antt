@@ -1,0 +1,12 @@
+use Rattle.hub_core.specs.Edits.{edited}
+use Rattle.hub_core.specs.declared.edit.Edit.TheVariants.{Directory}
+use Rattle.circle.specs.declared.command.RowEdit.TheVariants.{SetGroupActive}
+use Rattle.hub_store.specs.Means.{Holds}
+use Rattle.hub_store.proofs.Changes.{switches}
+use Rattle.hub_store.proofs.Steps.{made_by}
+use Rattle.hub_store.proofs.Texts.{set_group_active}
+use Rattle.hub_store.proofs.directory_edits.switch.Goals as goal
+
+pub returns-clause-made : goal.returns-clause-made
+returns-clause-made g c s =
+    made_by g.S.Store set_group_active _ _ _ (λ db. Holds db s) (λ db. Holds db (edited (Directory (SetGroupActive c.args.group c.args.active)) s)) _ c.run.ensures.goes (λ clean inside. rw (c.params-to_sql.ensures, c.params-to_sql-2.ensures) at (c.run.ensures.ran clean inside)) (λ mid count h held. switches mid _ c.args.group c.args.active count h s held)

@@ -1,0 +1,18 @@
+use Rattle.sqlite.specs.Held.{state}
+use Rattle.hub_store.proofs.Runs.{knows, kept_has}
+use Rattle.hub_store.proofs.sql_shelf.SqlShelf.open.Goals as goal
+
+pub returns-in-Ok-Some-eq1-clause-content : goal.returns-in-Ok-Some-eq1-clause-content
+returns-in-Ok-Some-eq1-clause-content g c clean s has = kept_has (state g.S.Store c.args.conn) _ s (c.version.ensures.kept clean (knows _ s has)) has
+
+pub returns-in-Ok-Some-clause-back : goal.returns-in-Ok-Some-clause-back
+returns-in-Ok-Some-clause-back g c clean s has = kept_has (state g.S.Store c.args.conn) _ s (c.version.ensures.kept clean (knows _ s has)) has
+
+pub returns-in-Err-SqliteFailure-OutOfMemory-clause-back : goal.returns-in-Err-SqliteFailure-OutOfMemory-clause-back
+returns-in-Err-SqliteFailure-OutOfMemory-clause-back g c clean s has = kept_has (state g.S.Store c.args.conn) _ s (c.version.ensures.kept clean (knows _ s has)) has
+
+pub returns-in-Err-clause-back : goal.returns-in-Err-clause-back
+returns-in-Err-clause-back g c clean s has = kept_has (state g.S.Store c.args.conn) _ s (c.version.ensures.kept clean (knows _ s has)) has
+
+pub returns-in-Ok-None-clause-back : goal.returns-in-Ok-None-clause-back
+returns-in-Ok-None-clause-back g c clean s has = kept_has (state g.S.Store c.args.conn) _ s (c.version.ensures.kept clean (knows _ s has)) has

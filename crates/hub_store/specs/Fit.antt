@@ -1,0 +1,39 @@
+-- What every row that the code can make keeps beside soundness: the limits of its texts and its level.
+use Rattle.std.specs.Prelude.{◌<◌, IsTrue}
+use Rattle.std.specs.List.{AllByRecursion}
+use Rattle.std.specs.Str.{IsUtf8}
+use Rattle.circle.specs.Texts.{is_name, is_releasability}
+use Rattle.circle.specs.declared.directory.Org.{Org}
+use Rattle.circle.specs.declared.directory.Account.{Account}
+use Rattle.circle.specs.declared.directory.Community.{Community}
+use Rattle.circle.specs.declared.directory.Group.{Group}
+use Rattle.hub_core.specs.State.{State}
+use Rattle.hub_core.specs.declared.state.Incident.{Incident}
+use Rattle.hub_core.specs.declared.state.Gate.{Gate}
+use Rattle.hub_store.specs.Rows.{document_text}
+
+abbrev pub FitOrg : Org → Type 0
+FitOrg o = IsTrue (is_name o.name)
+
+abbrev pub FitAccount : Account → Type 0
+FitAccount a = IsTrue (is_name a.person.name)
+
+abbrev pub FitCommunity : Community → Type 0
+FitCommunity c = IsTrue (is_name c.name)
+
+abbrev pub FitGroup : Group → Type 0
+FitGroup g = IsTrue (is_name g.name) × IsTrue (is_releasability g.releasability)
+
+abbrev pub FitGate : Gate → Type 0
+FitGate g = g.level < 256
+
+abbrev pub FitIncident : Incident → Type 0
+FitIncident i = IsUtf8 (document_text i.document)
+
+pub record IsFit (s : State) : Type 0 where
+  pub orgs : AllByRecursion FitOrg s.directory.orgs
+  pub accounts : AllByRecursion FitAccount s.directory.accounts
+  pub communities : AllByRecursion FitCommunity s.directory.communities
+  pub groups : AllByRecursion FitGroup s.directory.groups
+  pub gates : AllByRecursion FitGate s.gates
+  pub incidents : AllByRecursion FitIncident s.incidents

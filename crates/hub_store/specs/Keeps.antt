@@ -1,0 +1,35 @@
+-- What a call of the connection leaves, whatever it answers.
+use Rattle.std.specs.Prelude.{◌≡◌, ℕ, List, Result, Ok, OnOk, IsTrue}
+use Rattle.sqlite_value.specs.Order.{Row}
+use Rattle.sqlite_trees.specs.declared.store.Store as store
+use Rattle.sqlite.specs.declared.error.Error.{Error}
+use Rattle.sqlite.specs.Held.{Held, state}
+use Rattle.sqlite.specs.State.{State, HasCleanDisk, KeepsCommit, IsUnchanged, Executes, Survives}
+use Rattle.hub_store.specs.Tables.{hub_schema}
+
+-- the schema is that of the hub, as long as the store is open
+abbrev pub Knows : State → Type 0
+Knows c = IsTrue c.is_open → c.now.schema ≡ hub_schema
+
+-- a query in a transaction commits nothing
+abbrev pub Rests : State → State → Type 0
+Rests old new = HasCleanDisk new → Knows old → KeepsCommit old new
+
+-- the last commit stands while the store is open
+pub record KeepsCommitted (old new : State) : Type 0 where
+  pub was_open : IsTrue new.is_open → IsTrue old.is_open
+  pub now : IsTrue new.is_open → new.now ≡ old.committed
+  pub committed : IsTrue new.is_open → new.committed ≡ old.committed
+
+-- the text was prepared, which changed nothing, and has run
+pub record HasRun {S : Type 0} (g : store.Ghosts S) (text : List ℕ) (params : Row) (old new : Held S) : Type 0 where
+  pub mid : Held S
+  pub same : IsUnchanged (state g old) (state g mid)
+  pub count : ℕ
+  pub executes : Executes text params (state g mid) (state g new) (Ok count)
+
+-- A statement inside a transaction commits nothing, and the transaction goes on at Ok.
+pub record Goes {T : Type 0} (old new : State) (result : Result T Error) : Type 0 where
+  pub kept : HasCleanDisk new → IsTrue old.in_transaction → KeepsCommit old new
+  pub inside : HasCleanDisk new → IsTrue old.in_transaction → OnOk result (IsTrue new.in_transaction × (IsTrue old.is_open → IsTrue new.is_open))
+  pub survives : Survives old new (λ _. ⊥)

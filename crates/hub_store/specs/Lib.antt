@@ -1,0 +1,13 @@
+pub mod Tables
+pub mod Values
+pub mod Holdings
+pub mod Pairs
+pub mod Rows
+pub mod Fit
+pub mod Partly
+pub mod Means
+pub mod Content
+pub mod Keeps
+pub mod Asked
+pub mod Shown
+pub mod Makes

@@ -1,0 +1,8 @@
+-- A state between two statements of one edit.
+use Rattle.std.specs.Prelude.{ℕ, not, ◌==◌, filter}
+use Rattle.hub_core.specs.State.{State}
+use Rattle.hub_core.specs.declared.state.Gate.{Gate}
+
+-- without the gates of an incident
+abbrev pub without_gates : ℕ → State → State
+without_gates n s = record s { gates = filter (λ (g : Gate). not (g.incident == n)) s.gates }

@@ -1,0 +1,106 @@
+-- Each element of a set as a row of its table. The row of what has a number begins with it and NULL, as the number is the rowid.
+use Rattle.std.specs.Prelude.{ℕ, pos, Bool, if◌then◌else◌, List, [], ◌∷◌, map, Some, None, codes}
+use Rattle.serde_json.specs.Data.{object}
+use Rattle.serde_json.specs.Written.{compact_text}
+use Rattle.sqlite_value.specs.declared.value.Value.TheVariants.{Null, Int, Text, Blob}
+use Rattle.sqlite_value.specs.Order.{Row}
+use Rattle.iodef_tree.specs.Json.{data_of}
+use Rattle.iodef_tree.specs.Pointer.{pointer_text}
+use Rattle.circle.specs.declared.directory.Role.{Role}
+use Rattle.circle.specs.declared.directory.Role.TheVariants.{Administrator, Coordinator, Poster, Reader}
+use Rattle.circle.specs.declared.directory.Handling.{Handling}
+use Rattle.circle.specs.declared.directory.Handling.TheVariants.{Clear, Green, Amber, Strict, Red}
+use Rattle.circle.specs.declared.directory.Org.{Org}
+use Rattle.circle.specs.declared.directory.Account.{Account}
+use Rattle.circle.specs.declared.directory.Client.{Client}
+use Rattle.circle.specs.declared.directory.Community.{Community}
+use Rattle.circle.specs.declared.directory.Membership.{Membership}
+use Rattle.circle.specs.declared.directory.Connection.{Connection}
+use Rattle.circle.specs.declared.directory.Group.{Group}
+use Rattle.circle.specs.declared.directory.GroupMember.{GroupMember}
+use Rattle.circle.specs.declared.directory.Arrangement.{Arrangement}
+use Rattle.circle.specs.Directory.{Directory, client_key, membership_key, connection_key, group_member_key, arrangement_key}
+use Rattle.hub_core.specs.Documents.{Lines}
+use Rattle.hub_core.specs.State.{target_key, grantee_key}
+use Rattle.hub_core.specs.declared.state.Incident.{Incident}
+use Rattle.hub_core.specs.declared.state.Gate.{Gate}
+use Rattle.hub_core.specs.declared.state.Recipient.{Recipient}
+use Rattle.hub_core.specs.declared.state.Permission.{Permission}
+use Rattle.hub_store.specs.Values.{number_or_null, flag}
+use Rattle.hub_store.specs.Pairs.{Pair, PairSet}
+
+-- ---- numbers that stand for names
+
+abbrev pub role_number : Role → ℕ
+role_number Administrator = 0
+role_number Coordinator = 1
+role_number Poster = 2
+role_number Reader = 3
+
+abbrev pub handling_number : Handling → ℕ
+handling_number Clear = 0
+handling_number Green = 1
+handling_number Amber = 2
+handling_number Strict = 3
+handling_number Red = 4
+
+-- ---- rows with a number
+
+abbrev pub org_row : Org → Row
+org_row o = Int (pos o.number) ∷ Null ∷ Text o.name ∷ []
+
+abbrev pub account_row : Account → Row
+account_row a = Int (pos a.person.number) ∷ Null ∷ Int (pos a.person.org) ∷ Text a.person.name ∷ Int (pos (role_number a.person.role)) ∷ Blob a.key ∷ flag a.person.active ∷ flag a.person.nominated ∷ []
+
+abbrev pub community_row : Community → Row
+community_row c = Int (pos c.number) ∷ Null ∷ Text c.name ∷ []
+
+abbrev pub group_row : Group → Row
+group_row g = Int (pos g.number) ∷ Null ∷ Int (pos g.owner) ∷ Text g.name ∷ Text g.releasability ∷ flag g.active ∷ []
+
+-- the compact JSON of a document
+abbrev pub document_text : Lines → List ℕ
+document_text doc = compact_text (object (data_of doc))
+
+abbrev pub incident_row : Incident → Row
+incident_row i = Int (pos i.number) ∷ Null ∷ Int (pos i.source) ∷ Text i.ident ∷ Int (pos i.revision) ∷ Text (document_text i.document) ∷ []
+
+-- ---- rows without one
+
+abbrev pub gate_row : Gate → Row
+gate_row g = Int (pos g.incident) ∷ Text (pointer_text g.path) ∷ Int (pos g.level) ∷ number_or_null g.group ∷ []
+
+abbrev pub recipient_row : Recipient → Row
+recipient_row r = Int (pos r.incident) ∷ Int (pos (target_key r.target).0) ∷ Int (pos (target_key r.target).1) ∷ []
+
+abbrev pub permission_row : Permission → Row
+permission_row x = Int (pos x.incident) ∷ Text (pointer_text x.path) ∷ Int (pos (grantee_key x.grantee).0) ∷ Int (pos (grantee_key x.grantee).1) ∷ []
+
+-- ---- five sets in one table, each under its name: two numbers, and a third if there is one
+
+abbrev pub client_pair : Client → Pair
+client_pair c = (client_key c, None)
+
+abbrev pub membership_pair : Membership → Pair
+membership_pair m = (membership_key m, None)
+
+abbrev pub connection_pair : Connection → Pair
+connection_pair l = (connection_key l, None)
+
+abbrev pub one_if : Bool → ℕ
+one_if b = if b then 1 else 0
+
+abbrev pub group_member_pair : GroupMember → Pair
+group_member_pair m = (group_member_key m, Some (one_if m.extend))
+
+abbrev pub arrangement_pair : Arrangement → Pair
+arrangement_pair a = (arrangement_key a, Some (handling_number a.handling))
+
+abbrev pub pair_sets : Directory → List PairSet
+pair_sets d =
+    (codes "client", map client_pair d.clients)
+    ∷ (codes "member", map membership_pair d.memberships)
+    ∷ (codes "link", map connection_pair d.connections)
+    ∷ (codes "grp_member", map group_member_pair d.group_members)
+    ∷ (codes "arrangement", map arrangement_pair d.arrangements)
+    ∷ []

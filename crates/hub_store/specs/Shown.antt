@@ -1,0 +1,62 @@
+-- What the rows of a query show.
+use Rattle.std.specs.Prelude.{◌≡◌, ◌==◌, ℕ, pos, List, [], ◌∷◌, map, filter, Option, Some, None, Ok}
+use Rattle.sqlite_value.specs.declared.value.Value.TheVariants.{Int, Text}
+use Rattle.sqlite_value.specs.Order.{Row}
+use Rattle.circle.specs.declared.directory.Person.{Person}
+use Rattle.iodef_tree.specs.Reading.{reading}
+use Rattle.iodef_tree.specs.Pointer.{pointer_text}
+use Rattle.policy.specs.declared.gate.Gate.{Gate}
+use Rattle.policy.specs.declared.permission.Permission.{Permission}
+use Rattle.policy.specs.declared.case.Case.{Case}
+use Rattle.hub_core.specs.Documents.{Lines}
+use Rattle.hub_core.specs.Reads.{case_gate, case_permission}
+use Rattle.hub_core.specs.State.{State, grantee_key}
+use Rattle.hub_core.specs.declared.state.Gate.{Gate as StoredGate}
+use Rattle.hub_core.specs.declared.state.Permission.{Permission as StoredPermission}
+use Rattle.hub_core.specs.declared.facts.Known.{Known}
+use Rattle.hub_core.specs.declared.reply.Entry.{Entry}
+use Rattle.hub_store.specs.Values.{flag, number_or_null}
+use Rattle.hub_store.specs.Rows.{role_number}
+
+-- the row shows no other value than this
+abbrev pub IsShownBy : {X : Type 0} → (X → Row) → Row → X → Type 0
+IsShownBy {X} shown row x = (y : X) → row ≡ shown y → x ≡ y
+
+-- the first row shows the value, if there is one
+abbrev pub ShowsFirst : {X : Type 0} → (Row → X → Type 0) → List Row → Option X → Type 0
+ShowsFirst shows [] None = Unit {0}
+ShowsFirst shows [] (Some x) = ⊥
+ShowsFirst shows (row ∷ rows) None = ⊥
+ShowsFirst shows (row ∷ rows) (Some x) = shows row x
+
+-- each row shows a value, in the same order
+abbrev pub ShowsAll : {X : Type 0} → (Row → X → Type 0) → List Row → List X → Type 0
+ShowsAll shows [] [] = Unit {0}
+ShowsAll shows [] (x ∷ xs) = ⊥
+ShowsAll shows (row ∷ rows) [] = ⊥
+ShowsAll shows (row ∷ rows) (x ∷ xs) = shows row x × ShowsAll shows rows xs
+
+-- ---- the columns that the queries name
+
+abbrev pub person_shown : Person → Row
+person_shown p = Int (pos p.number) ∷ Int (pos p.org) ∷ Text p.name ∷ Int (pos (role_number p.role)) ∷ flag p.active ∷ flag p.nominated ∷ []
+
+abbrev pub entry_shown : Entry → Row
+entry_shown e = Int (pos e.number) ∷ Int (pos e.revision) ∷ Int (pos e.source) ∷ []
+
+abbrev pub known_shown : Known → Row
+known_shown k = Int (pos k.source) ∷ Int (pos k.revision) ∷ Text k.ident ∷ []
+
+abbrev pub gate_shown : Gate → Row
+gate_shown g = Text (pointer_text g.path) ∷ Int (pos g.level) ∷ number_or_null g.group ∷ []
+
+abbrev pub permission_shown : Permission → Row
+permission_shown x = Text (pointer_text x.path) ∷ Int (pos (grantee_key x.grantee).0) ∷ Int (pos (grantee_key x.grantee).1) ∷ []
+
+-- the document that the row's text reads as, and no other beside it
+abbrev pub ShowsDocument : Row → Lines → Type 0
+ShowsDocument row document = (text : List ℕ) → row ≡ Text text ∷ [] → reading text ≡ Ok (document ∷ [])
+
+-- the case of an incident with this source and number
+abbrev pub IsCase : ℕ → ℕ → State → Case → Type 0
+IsCase source n s case = (case.source ≡ source) × (case.gates ≡ map case_gate (filter (λ (g : StoredGate). g.incident == n) s.gates)) × (case.permissions ≡ map case_permission (filter (λ (x : StoredPermission). x.incident == n) s.permissions))

@@ -1,0 +1,52 @@
+//! Edits, all in one transaction.
+
+ghost use Rattle.std.specs.Prelude.{◌≡◌, false, OnOk, OnErr};
+ghost use Rattle.sqlite.specs.State.{HasCleanDisk, Survives};
+ghost use Rattle.sqlite.specs.Held.{state};
+ghost use Rattle.hub_core.specs.State.{State};
+ghost use Rattle.hub_core.specs.Edits.{after};
+ghost use Rattle.hub_store.specs.Content.{Has, CommitsState};
+ghost use Rattle.hub_store.specs.Keeps.{Knows, Goes, KeepsCommitted};
+ghost use Rattle.hub_store.specs.Makes.{Makes};
+ghost use Rattle.hub_store.specs.Means.{Means, Holds};
+ghost use Rattle.hub_store.specs.Fit.{IsFit};
+
+use crate::incident_edits::make_edit;
+use crate::query::probe;
+use hub_core::Edit;
+use sqlite::{Alter, Connection, Error, Transaction};
+use std::alloc::Global;
+
+fn make_all<S: Alter>(
+    tx: &mut Transaction<'_, S>,
+    alloc: Global,
+    edits: &[Edit],
+) -> Result<(), Error>
+    ensures same_reference { tx.new.conn.ghost_name ≡ tx.old.conn.ghost_name }
+    ensures goes { Goes (state S.Store tx.old.conn.now) (state S.Store tx.new.conn.now) result }
+    ensures made { (s : State) → Makes (state S.Store tx.old.conn.now) (state S.Store tx.new.conn.now) (λ db. Holds db s) (λ db. Holds db (after edits.now s)) result }
+{
+    for edit in edits {
+        make_edit(tx, alloc, edit)?;
+    }
+    Ok(())
+}
+
+/// Makes all edits in one transaction, or none. Nothing is asked of the store after the commit.
+pub(crate) fn apply<S: Alter>(
+    conn: &mut Connection<S>,
+    alloc: Global,
+    edits: &[Edit],
+) -> Result<(), Error>
+    requires { conn.old.in_transaction ≡ false }
+    ensures idle { conn.new.in_transaction ≡ false }
+    ensures made { HasCleanDisk (state S.Store conn.new) → (s : State) → Has (state S.Store conn.old) s → OnOk result (CommitsState (state S.Store conn.new) (after edits.now s)) }
+    ensures none { HasCleanDisk (state S.Store conn.new) → Knows (state S.Store conn.old) → OnErr result (KeepsCommitted (state S.Store conn.old) (state S.Store conn.new)) }
+    ensures survives { Survives (state S.Store conn.old) (state S.Store conn.new) (λ left. (s : State) → Has (state S.Store conn.old) s → Means left (after edits.now s) × IsFit (after edits.now s)) }
+{
+    let mut tx = conn.transaction();
+    // a store that is shut is not asked to commit
+    probe(&mut tx)?;
+    make_all(&mut tx, alloc, edits)?;
+    tx.commit()
+}

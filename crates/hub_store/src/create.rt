@@ -1,0 +1,42 @@
+//! A new store.
+
+ghost use Rattle.std.specs.Prelude.{◌≡◌, false, OnOk, OnErr};
+ghost use Rattle.sqlite.specs.State.{HasCleanDisk};
+ghost use Rattle.sqlite.specs.Held.{state};
+ghost use Rattle.hub_core.specs.State.{empty};
+ghost use Rattle.hub_store.specs.Tables.{no_schema, hub_schema};
+ghost use Rattle.hub_store.specs.Makes.{Makes, HasEmpty};
+ghost use Rattle.hub_store.specs.Means.{Holds};
+ghost use Rattle.hub_store.specs.Content.{CommitsState};
+ghost use Rattle.hub_store.specs.Keeps.{KeepsCommitted};
+
+use crate::statement::run;
+use crate::tables::make_tables;
+use sqlite::{Alter, Connection, Error, Transaction, params};
+
+fn put_version<S: Alter>(tx: &mut Transaction<'_, S>) -> Result<(), Error>
+    ensures same_reference { tx.new.conn.ghost_name ≡ tx.old.conn.ghost_name }
+    ensures made { Makes (state S.Store tx.old.conn.now) (state S.Store tx.new.conn.now) (HasEmpty hub_schema) (λ db. Holds db empty) result }
+{
+    run(tx, "INSERT INTO hub (version) VALUES (?1)", params![1u32])
+}
+
+fn make_in<S: Alter>(tx: &mut Transaction<'_, S>) -> Result<(), Error>
+    ensures same_reference { tx.new.conn.ghost_name ≡ tx.old.conn.ghost_name }
+    ensures made { Makes (state S.Store tx.old.conn.now) (state S.Store tx.new.conn.now) (HasEmpty no_schema) (λ db. Holds db empty) result }
+{
+    make_tables(tx)?;
+    put_version(tx)
+}
+
+/// Makes the tables and the version in one transaction, where there is no table yet.
+pub(crate) fn make_store<S: Alter>(conn: &mut Connection<S>) -> Result<(), Error>
+    requires { conn.old.in_transaction ≡ false }
+    ensures idle { conn.new.in_transaction ≡ false }
+    ensures made { HasCleanDisk (state S.Store conn.new) → (state S.Store conn.old).now.schema ≡ no_schema → OnOk result (CommitsState (state S.Store conn.new) empty) }
+    ensures none { HasCleanDisk (state S.Store conn.new) → OnErr result (KeepsCommitted (state S.Store conn.old) (state S.Store conn.new)) }
+{
+    let mut tx = conn.transaction();
+    make_in(&mut tx)?;
+    tx.commit()
+}

@@ -1,0 +1,44 @@
+//! The document of an incident.
+
+ghost use Rattle.std.specs.Prelude.{◌≡◌, false};
+ghost use Rattle.sqlite.specs.Held.{state};
+ghost use Rattle.hub_core.specs.Reads.{document_of};
+ghost use Rattle.hub_store.specs.Asked.{IsRead, Answers};
+
+use crate::from_row::first;
+use crate::query::ask;
+use iodef_tree::Document;
+use sqlite::{Alter, Connection, Error, Transaction, params};
+use std::alloc::Global;
+
+fn read_document<S: Alter>(
+    tx: &mut Transaction<'_, S>,
+    alloc: Global,
+    incident: u32,
+) -> Result<Option<Document>, Error>
+    ensures same_reference { tx.new.conn.ghost_name ≡ tx.old.conn.ghost_name }
+    ensures read { IsRead (state S.Store tx.old.conn.now) (state S.Store tx.new.conn.now) (λ s found. found ≡ document_of incident s) result }
+{
+    let rows = ask(
+        tx,
+        "SELECT text FROM incident WHERE number = ?1",
+        params![incident],
+    )?;
+    first(alloc, &rows)
+}
+
+/// The document of an incident; none where it is missing.
+pub(crate) fn find_document<S: Alter>(
+    conn: &mut Connection<S>,
+    alloc: Global,
+    incident: u32,
+) -> Result<Option<Document>, Error>
+    requires { conn.old.in_transaction ≡ false }
+    ensures idle { conn.new.in_transaction ≡ false }
+    ensures answers { Answers (state S.Store conn.old) (state S.Store conn.new) (λ s found. found ≡ document_of incident s) result }
+{
+    let mut tx = conn.transaction();
+    let found = read_document(&mut tx, alloc, incident);
+    tx.rollback();
+    found
+}

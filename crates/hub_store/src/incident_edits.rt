@@ -1,0 +1,254 @@
+//! Edits of incidents, of their gates, recipients and permissions, each by one statement, and two for the policy of an incident.
+
+ghost use Rattle.std.specs.Prelude.{◌≡◌};
+ghost use Rattle.sqlite.specs.Held.{state};
+ghost use Rattle.iodef_tree.specs.Pointer.{pointer_text};
+ghost use Rattle.hub_core.specs.State.{State};
+ghost use Rattle.hub_core.specs.Edits.{edited};
+ghost use Rattle.hub_core.specs.declared.edit.Edit.TheVariants.{PutIncident, TakeIncident, TakePolicy, PutGate, TakeGate, PutRecipient, TakeRecipient, PutPermission, TakePermission};
+ghost use Rattle.hub_store.specs.Rows.{document_text};
+ghost use Rattle.hub_store.specs.Partly.{without_gates};
+ghost use Rattle.hub_store.specs.Means.{Holds};
+ghost use Rattle.hub_store.specs.Makes.{Makes};
+
+use crate::directory_edits::make_row;
+use crate::numbers::{grantee_key, target_key};
+use crate::statement::run;
+use hub_core::{Edit, Gate, Incident, Permission, Recipient};
+use iodef_tree::Path;
+use policy::Grantee;
+use sqlite::{Alter, Error, Transaction, params};
+use std::alloc::Global;
+
+fn insert_incident<S: Alter>(
+    tx: &mut Transaction<'_, S>,
+    incident: &Incident,
+    text: &str,
+) -> Result<(), Error>
+    ensures same_reference { tx.new.conn.ghost_name ≡ tx.old.conn.ghost_name }
+    ensures made { text.now ≡ document_text incident.now.document → (s : State) → Makes (state S.Store tx.old.conn.now) (state S.Store tx.new.conn.now) (λ db. Holds db s) (λ db. Holds db (edited (PutIncident incident.now) s)) result }
+{
+    run(
+        tx,
+        "INSERT INTO incident (number, source, ident, revision, text) VALUES (?1, ?2, ?3, ?4, ?5)",
+        params![
+            incident.number,
+            incident.source,
+            incident.ident.as_str(),
+            incident.revision,
+            text,
+        ],
+    )
+}
+
+fn put_incident<S: Alter>(
+    tx: &mut Transaction<'_, S>,
+    alloc: Global,
+    incident: &Incident,
+) -> Result<(), Error>
+    ensures same_reference { tx.new.conn.ghost_name ≡ tx.old.conn.ghost_name }
+    ensures made { (s : State) → Makes (state S.Store tx.old.conn.now) (state S.Store tx.new.conn.now) (λ db. Holds db s) (λ db. Holds db (edited (PutIncident incident.now) s)) result }
+{
+    let text = incident.document.text(alloc)?;
+    insert_incident(tx, incident, &text)
+}
+
+fn take_incident<S: Alter>(tx: &mut Transaction<'_, S>, number: u32) -> Result<(), Error>
+    ensures same_reference { tx.new.conn.ghost_name ≡ tx.old.conn.ghost_name }
+    ensures made { (s : State) → Makes (state S.Store tx.old.conn.now) (state S.Store tx.new.conn.now) (λ db. Holds db s) (λ db. Holds db (edited (TakeIncident number) s)) result }
+{
+    run(
+        tx,
+        "DELETE FROM incident WHERE number = ?1",
+        params![number],
+    )
+}
+
+fn take_gates<S: Alter>(tx: &mut Transaction<'_, S>, incident: u32) -> Result<(), Error>
+    ensures same_reference { tx.new.conn.ghost_name ≡ tx.old.conn.ghost_name }
+    ensures made { (s : State) → Makes (state S.Store tx.old.conn.now) (state S.Store tx.new.conn.now) (λ db. Holds db s) (λ db. Holds db (without_gates incident s)) result }
+{
+    run(
+        tx,
+        "DELETE FROM gate WHERE incident = ?1",
+        params![incident],
+    )
+}
+
+fn take_permissions<S: Alter>(tx: &mut Transaction<'_, S>, incident: u32) -> Result<(), Error>
+    ensures same_reference { tx.new.conn.ghost_name ≡ tx.old.conn.ghost_name }
+    ensures made { (s : State) → Makes (state S.Store tx.old.conn.now) (state S.Store tx.new.conn.now) (λ db. Holds db (without_gates incident s)) (λ db. Holds db (edited (TakePolicy incident) s)) result }
+{
+    run(
+        tx,
+        "DELETE FROM permission WHERE incident = ?1",
+        params![incident],
+    )
+}
+
+fn take_policy<S: Alter>(tx: &mut Transaction<'_, S>, incident: u32) -> Result<(), Error>
+    ensures same_reference { tx.new.conn.ghost_name ≡ tx.old.conn.ghost_name }
+    ensures made { (s : State) → Makes (state S.Store tx.old.conn.now) (state S.Store tx.new.conn.now) (λ db. Holds db s) (λ db. Holds db (edited (TakePolicy incident) s)) result }
+{
+    take_gates(tx, incident)?;
+    take_permissions(tx, incident)
+}
+
+fn insert_gate<S: Alter>(tx: &mut Transaction<'_, S>, gate: &Gate, path: &str) -> Result<(), Error>
+    ensures same_reference { tx.new.conn.ghost_name ≡ tx.old.conn.ghost_name }
+    ensures made { path.now ≡ pointer_text gate.now.path → (s : State) → Makes (state S.Store tx.old.conn.now) (state S.Store tx.new.conn.now) (λ db. Holds db s) (λ db. Holds db (edited (PutGate gate.now) s)) result }
+{
+    run(
+        tx,
+        "INSERT INTO gate (incident, path, level, grp) VALUES (?1, ?2, ?3, ?4)",
+        params![gate.incident, path, u32::from(gate.level), gate.group],
+    )
+}
+
+fn put_gate<S: Alter>(tx: &mut Transaction<'_, S>, alloc: Global, gate: &Gate) -> Result<(), Error>
+    ensures same_reference { tx.new.conn.ghost_name ≡ tx.old.conn.ghost_name }
+    ensures made { (s : State) → Makes (state S.Store tx.old.conn.now) (state S.Store tx.new.conn.now) (λ db. Holds db s) (λ db. Holds db (edited (PutGate gate.now) s)) result }
+{
+    let path = gate.path.print(alloc)?;
+    insert_gate(tx, gate, &path)
+}
+
+fn remove_gate<S: Alter>(
+    tx: &mut Transaction<'_, S>,
+    incident: u32,
+    path: &Path,
+    text: &str,
+) -> Result<(), Error>
+    ensures same_reference { tx.new.conn.ghost_name ≡ tx.old.conn.ghost_name }
+    ensures made { text.now ≡ pointer_text path.now → (s : State) → Makes (state S.Store tx.old.conn.now) (state S.Store tx.new.conn.now) (λ db. Holds db s) (λ db. Holds db (edited (TakeGate incident path.now) s)) result }
+{
+    run(
+        tx,
+        "DELETE FROM gate WHERE incident = ?1 AND path = ?2",
+        params![incident, text],
+    )
+}
+
+fn take_gate<S: Alter>(
+    tx: &mut Transaction<'_, S>,
+    alloc: Global,
+    incident: u32,
+    path: &Path,
+) -> Result<(), Error>
+    ensures same_reference { tx.new.conn.ghost_name ≡ tx.old.conn.ghost_name }
+    ensures made { (s : State) → Makes (state S.Store tx.old.conn.now) (state S.Store tx.new.conn.now) (λ db. Holds db s) (λ db. Holds db (edited (TakeGate incident path.now) s)) result }
+{
+    let text = path.print(alloc)?;
+    remove_gate(tx, incident, path, &text)
+}
+
+fn put_recipient<S: Alter>(tx: &mut Transaction<'_, S>, recipient: &Recipient) -> Result<(), Error>
+    ensures same_reference { tx.new.conn.ghost_name ≡ tx.old.conn.ghost_name }
+    ensures made { (s : State) → Makes (state S.Store tx.old.conn.now) (state S.Store tx.new.conn.now) (λ db. Holds db s) (λ db. Holds db (edited (PutRecipient recipient.now) s)) result }
+{
+    let (kind, target) = target_key(recipient.target);
+    run(
+        tx,
+        "INSERT INTO recipient (incident, kind, target) VALUES (?1, ?2, ?3)",
+        params![recipient.incident, kind, target],
+    )
+}
+
+fn take_recipient<S: Alter>(tx: &mut Transaction<'_, S>, recipient: &Recipient) -> Result<(), Error>
+    ensures same_reference { tx.new.conn.ghost_name ≡ tx.old.conn.ghost_name }
+    ensures made { (s : State) → Makes (state S.Store tx.old.conn.now) (state S.Store tx.new.conn.now) (λ db. Holds db s) (λ db. Holds db (edited (TakeRecipient recipient.now) s)) result }
+{
+    let (kind, target) = target_key(recipient.target);
+    run(
+        tx,
+        "DELETE FROM recipient WHERE incident = ?1 AND kind = ?2 AND target = ?3",
+        params![recipient.incident, kind, target],
+    )
+}
+
+fn insert_permission<S: Alter>(
+    tx: &mut Transaction<'_, S>,
+    permission: &Permission,
+    path: &str,
+) -> Result<(), Error>
+    ensures same_reference { tx.new.conn.ghost_name ≡ tx.old.conn.ghost_name }
+    ensures made { path.now ≡ pointer_text permission.now.path → (s : State) → Makes (state S.Store tx.old.conn.now) (state S.Store tx.new.conn.now) (λ db. Holds db s) (λ db. Holds db (edited (PutPermission permission.now) s)) result }
+{
+    let (kind, target) = grantee_key(permission.grantee);
+    run(
+        tx,
+        "INSERT INTO permission (incident, path, kind, target) VALUES (?1, ?2, ?3, ?4)",
+        params![permission.incident, path, kind, target],
+    )
+}
+
+fn put_permission<S: Alter>(
+    tx: &mut Transaction<'_, S>,
+    alloc: Global,
+    permission: &Permission,
+) -> Result<(), Error>
+    ensures same_reference { tx.new.conn.ghost_name ≡ tx.old.conn.ghost_name }
+    ensures made { (s : State) → Makes (state S.Store tx.old.conn.now) (state S.Store tx.new.conn.now) (λ db. Holds db s) (λ db. Holds db (edited (PutPermission permission.now) s)) result }
+{
+    let path = permission.path.print(alloc)?;
+    insert_permission(tx, permission, &path)
+}
+
+fn remove_permission<S: Alter>(
+    tx: &mut Transaction<'_, S>,
+    incident: u32,
+    path: &Path,
+    text: &str,
+    grantee: Grantee,
+) -> Result<(), Error>
+    ensures same_reference { tx.new.conn.ghost_name ≡ tx.old.conn.ghost_name }
+    ensures made { text.now ≡ pointer_text path.now → (s : State) → Makes (state S.Store tx.old.conn.now) (state S.Store tx.new.conn.now) (λ db. Holds db s) (λ db. Holds db (edited (TakePermission incident path.now grantee) s)) result }
+{
+    let (kind, target) = grantee_key(grantee);
+    run(
+        tx,
+        "DELETE FROM permission WHERE incident = ?1 AND path = ?2 AND kind = ?3 AND target = ?4",
+        params![incident, text, kind, target],
+    )
+}
+
+fn take_permission<S: Alter>(
+    tx: &mut Transaction<'_, S>,
+    alloc: Global,
+    incident: u32,
+    path: &Path,
+    grantee: Grantee,
+) -> Result<(), Error>
+    ensures same_reference { tx.new.conn.ghost_name ≡ tx.old.conn.ghost_name }
+    ensures made { (s : State) → Makes (state S.Store tx.old.conn.now) (state S.Store tx.new.conn.now) (λ db. Holds db s) (λ db. Holds db (edited (TakePermission incident path.now grantee) s)) result }
+{
+    let text = path.print(alloc)?;
+    remove_permission(tx, incident, path, &text, grantee)
+}
+
+/// Makes one edit.
+pub(crate) fn make_edit<S: Alter>(
+    tx: &mut Transaction<'_, S>,
+    alloc: Global,
+    edit: &Edit,
+) -> Result<(), Error>
+    ensures same_reference { tx.new.conn.ghost_name ≡ tx.old.conn.ghost_name }
+    ensures made { (s : State) → Makes (state S.Store tx.old.conn.now) (state S.Store tx.new.conn.now) (λ db. Holds db s) (λ db. Holds db (edited edit.now s)) result }
+{
+    match edit {
+        Edit::Directory(row) => make_row(tx, row),
+        Edit::PutIncident(incident) => put_incident(tx, alloc, incident),
+        Edit::TakeIncident(number) => take_incident(tx, *number),
+        Edit::TakePolicy(incident) => take_policy(tx, *incident),
+        Edit::PutGate(gate) => put_gate(tx, alloc, gate),
+        Edit::TakeGate { incident, path } => take_gate(tx, alloc, *incident, path),
+        Edit::PutRecipient(recipient) => put_recipient(tx, recipient),
+        Edit::TakeRecipient(recipient) => take_recipient(tx, recipient),
+        Edit::PutPermission(permission) => put_permission(tx, alloc, permission),
+        Edit::TakePermission {
+            incident,
+            path,
+            grantee,
+        } => take_permission(tx, alloc, *incident, path, *grantee),
+    }
+}

@@ -1,0 +1,139 @@
+//! Incidents, their documents, gates and permissions as rows.
+
+ghost use Rattle.std.specs.Prelude.{◌≡◌, ℕ, Option, [], ◌∷◌, Ok, IfOk, string_bytes};
+ghost use Rattle.sqlite_value.specs.Order.{column};
+ghost use Rattle.iodef_tree.specs.Pointer.{pointer_text};
+ghost use Rattle.iodef_tree.specs.Text.{Tokens};
+ghost use Rattle.iodef_tree.specs.Reading.{reading};
+ghost use Rattle.hub_core.specs.State.{grantee_key};
+ghost use Rattle.hub_store.specs.Shown.{IsShownBy, ShowsDocument, entry_shown, known_shown, gate_shown, permission_shown};
+ghost use Rattle.hub_store.specs.Values.{number_or_null};
+
+use crate::from_row::{FromRow, STRANGE};
+use circle::text::Text;
+use hub_core::{Entry, Known};
+use iodef_tree::{Document, Path, PathFault, ReadFault};
+use policy::{Gate, Grantee, Permission};
+use sqlite::{Error, ErrorCode, Row};
+use std::alloc::Global;
+
+const NO_MEMORY: Error = Error::SqliteFailure(ErrorCode::OutOfMemory);
+
+/// The one document that the text reads as.
+fn only_document(alloc: Global, text: &str) -> Result<Document, Error>
+    ensures { IfOk result (λ document. reading text.now ≡ Ok (document ∷ [])) }
+{
+    match Document::read(alloc, text.as_bytes()) {
+        Ok(documents) => only_of(documents),
+        Err(ReadFault::NoMemory) => Err(NO_MEMORY),
+        Err(_) => Err(STRANGE),
+    }
+}
+
+fn only_of(mut documents: Vec<Document>) -> Result<Document, Error>
+    ensures { IfOk result (λ document. documents.items ≡ document ∷ []) }
+{
+    if documents.len() != 1 {
+        return Err(STRANGE);
+    }
+    match documents.pop() {
+        None => Err(STRANGE),
+        Some(document) => Ok(document),
+    }
+}
+
+fn path_of(alloc: Global, text: &str) -> Result<Path, Error>
+    ensures { IfOk result (λ path. (p : Tokens) → text.now ≡ pointer_text p → path ≡ p) }
+{
+    match Path::parse(alloc, text) {
+        Ok(path) => Ok(path),
+        Err(PathFault::NoMemory) => Err(NO_MEMORY),
+        Err(PathFault::BadPath) => Err(STRANGE),
+    }
+}
+
+fn grantee_of(kind: u32, number: u32) -> Result<Grantee, Error>
+    ensures { IfOk result (λ grantee. grantee_key grantee ≡ (kind, number)) }
+{
+    match kind {
+        0 => Ok(Grantee::Person(number)),
+        1 => Ok(Grantee::Org(number)),
+        2 => Ok(Grantee::Community(number)),
+        3 => Ok(Grantee::Group(number)),
+        _ => Err(STRANGE),
+    }
+}
+
+fn level_of(number: u32) -> Result<u8, Error>
+    ensures { IfOk result (λ level. level ≡ number) }
+{
+    if number > 255 {
+        return Err(STRANGE);
+    }
+    Ok(number as u8)
+}
+
+fn number_if_any(row: &Row, at: usize) -> Result<Option<u32>, Error>
+    ensures { IfOk result (λ found. (number : Option ℕ) → column row.now at ≡ number_or_null number → found ≡ number) }
+{
+    row.get(at)
+}
+
+impl FromRow for Document {
+    ghost shows = { ShowsDocument };
+
+    fn from_row(alloc: Global, row: &Row) -> Result<Document, Error> {
+        let text: String = row.get(0)?;
+        only_document(alloc, text.as_str())
+    }
+}
+
+impl FromRow for Entry {
+    ghost shows = { IsShownBy entry_shown };
+
+    fn from_row(_alloc: Global, row: &Row) -> Result<Entry, Error> {
+        Ok(Entry {
+            number: row.get(0)?,
+            revision: row.get(1)?,
+            source: row.get(2)?,
+        })
+    }
+}
+
+impl FromRow for Known {
+    ghost shows = { IsShownBy known_shown };
+
+    fn from_row(_alloc: Global, row: &Row) -> Result<Known, Error> {
+        Ok(Known {
+            source: row.get(0)?,
+            revision: row.get(1)?,
+            ident: Text::new(row.get(2)?),
+        })
+    }
+}
+
+impl FromRow for Gate {
+    ghost shows = { IsShownBy gate_shown };
+
+    fn from_row(alloc: Global, row: &Row) -> Result<Gate, Error> {
+        let path: String = row.get(0)?;
+        Ok(Gate {
+            path: path_of(alloc, path.as_str())?,
+            level: level_of(row.get(1)?)?,
+            group: number_if_any(row, 2)?,
+        })
+    }
+}
+
+impl FromRow for Permission {
+    ghost shows = { IsShownBy permission_shown };
+
+    fn from_row(alloc: Global, row: &Row) -> Result<Permission, Error> {
+        let path: String = row.get(0)?;
+        let kind: u32 = row.get(1)?;
+        Ok(Permission {
+            path: path_of(alloc, path.as_str())?,
+            grantee: grantee_of(kind, row.get(2)?)?,
+        })
+    }
+}

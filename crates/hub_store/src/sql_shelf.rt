@@ -1,0 +1,119 @@
+//! The shelf over a connection.
+
+ghost use Rattle.std.specs.Prelude.{◌≡◌, ◌↔◌, false, IfOk, IfErr, IsTrue};
+ghost use Rattle.hub_store.specs.Tables.{no_schema};
+
+use crate::create::make_store;
+use crate::version::version;
+use hub_core::ShelfFault;
+use sqlite::{Alter, Connection, Error, ErrorCode};
+use sqlite_schema::schema::Schema;
+use std::alloc::Global;
+
+/// The newest version of the tables.
+pub const NEWEST: u32 = 1;
+
+/// Why a store was not opened.
+#[derive(Clone, Copy, Debug, PartialEq, Eq)]
+pub enum OpenFault {
+    /// There is no table `hub` of one row whose column `version` holds a `u32`.
+    NotOurs,
+    /// The tables are of this version.
+    WrongVersion(u32),
+    /// The store failed.
+    Failed,
+    NoMemory,
+}
+
+/// The hub's tables in a connection that is in no transaction between two calls.
+#[derive(Drop)]
+pub struct SqlShelf<S: Alter> {
+    alloc: Global,
+    conn: Connection<S>,
+    failures: u64,
+    ghost idle: { conn.in_transaction ≡ false },
+}
+
+/// Want of memory is told apart from all else.
+fn fault_of(error: Error) -> ShelfFault
+    ensures { (result ≡ ShelfFault.NoMemory) ↔ (error ≡ Error.SqliteFailure ErrorCode.OutOfMemory) }
+{
+    match error {
+        Error::SqliteFailure(ErrorCode::OutOfMemory) => ShelfFault::NoMemory,
+        _ => ShelfFault::Failed,
+    }
+}
+
+fn is_blank(schema: &Schema) -> bool
+    ensures { IsTrue result → schema.now ≡ no_schema }
+{
+    schema.tables.is_empty() && schema.indexes.is_empty() && schema.views.is_empty()
+}
+
+impl<S: Alter> SqlShelf<S> {
+    ghost use Rattle.sqlite.specs.State.{HasCleanDisk, Survives};
+    ghost use Rattle.sqlite.specs.Held.{state};
+    ghost use Rattle.hub_core.specs.State.{State, empty};
+    ghost use Rattle.hub_store.specs.Content.{Has};
+
+    /// Makes the tables, with no row but the version. Where there are tables already it is Failed, and changes nothing. On a
+    /// refusal the connection comes back.
+    pub fn create(
+        alloc: Global,
+        mut conn: Connection<S>,
+    ) -> Result<SqlShelf<S>, (ShelfFault, Connection<S>)>
+        requires { conn.in_transaction ≡ false }
+        ensures made { IfOk result (λ shelf. HasCleanDisk (state S.Store shelf.conn) → Has (state S.Store shelf.conn) empty) }
+        ensures back { IfErr result (λ e. HasCleanDisk (state S.Store e.1) → (s : State) → Has (state S.Store conn) s → Has (state S.Store e.1) s) }
+        ensures idle { IfErr result (λ e. e.1.in_transaction ≡ false) }
+    {
+        if !is_blank(conn.schema()) {
+            return Err((ShelfFault::Failed, conn));
+        }
+        match make_store(&mut conn) {
+            Ok(()) => Ok(SqlShelf {
+                alloc,
+                conn,
+                failures: 0,
+            }),
+            Err(error) => Err((fault_of(error), conn)),
+        }
+    }
+
+    /// Takes a connection whose store holds the hub's tables of the newest version. On a refusal the connection comes back,
+    /// with its content.
+    pub fn open(
+        alloc: Global,
+        mut conn: Connection<S>,
+    ) -> Result<SqlShelf<S>, (OpenFault, Connection<S>)>
+        requires { conn.in_transaction ≡ false }
+        ensures content { IfOk result (λ shelf. HasCleanDisk (state S.Store shelf.conn) → (s : State) → Has (state S.Store conn) s → Has (state S.Store shelf.conn) s) }
+        ensures back { IfErr result (λ e. HasCleanDisk (state S.Store e.1) → (s : State) → Has (state S.Store conn) s → Has (state S.Store e.1) s) }
+        ensures idle { IfErr result (λ e. e.1.in_transaction ≡ false) }
+        ensures crash { IfErr result (λ e. Survives (state S.Store conn) (state S.Store e.1) (λ _. ⊥)) }
+    {
+        match version(&mut conn) {
+            Ok(Some(1)) => Ok(SqlShelf {
+                alloc,
+                conn,
+                failures: 0,
+            }),
+            Ok(Some(other)) => Err((OpenFault::WrongVersion(other), conn)),
+            Ok(None) | Err(Error::SqlInputError(_)) => Err((OpenFault::NotOurs, conn)),
+            Err(Error::SqliteFailure(ErrorCode::OutOfMemory)) => Err((OpenFault::NoMemory, conn)),
+            Err(_) => Err((OpenFault::Failed, conn)),
+        }
+    }
+
+    /// Gives the connection back, with the content as it was; takes no memory.
+    pub fn release(self) -> Connection<S>
+        ensures { result ≡ self.conn }
+    {
+        let SqlShelf {
+            alloc: _,
+            conn,
+            failures: _,
+        } = self;
+        conn
+    }
+}
