@@ -4,6 +4,7 @@ pub mod Keeping
 pub mod Numbered
 pub mod Paging
 pub mod Seeing
+pub mod Explained
 pub mod Changing
 pub mod Served
 pub mod Runs

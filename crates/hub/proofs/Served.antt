@@ -75,6 +75,7 @@ unless_same (Some refusal) s = refl
 
 reads_leave : (s : State) (p : Person) (r : Request) → is_reading r ≡ true → state_after s p r ≡ s
 reads_leave s p (ask.View n) h = refl
+reads_leave s p (ask.Explain person n path) h = unless_same (refusal_of s p (ask.Explain person n path)) s
 reads_leave s p (ask.List after) h = refl
 reads_leave s p (ask.Search needle class after) h = unless_same (refusal_of s p (ask.Search needle class after)) s
 reads_leave s p (ask.Addressed after) h = refl
@@ -103,6 +104,7 @@ search_unmade (Some refusal) r h = refl
 
 reads_unmade : (s : State) (now : ℤ) (p : Person) (r : Request) → is_reading r ≡ true → is_made (due_to s now p r) ≡ false
 reads_unmade s now p (ask.View n) h = view_unmade s now p (incident_of n s)
+reads_unmade s now p (ask.Explain person n path) h = search_unmade (refusal_of s p (ask.Explain person n path)) _ refl
 reads_unmade s now p (ask.List after) h = refl
 reads_unmade s now p (ask.Search needle class after) h = search_unmade (refusal_of s p (ask.Search needle class after)) _ refl
 reads_unmade s now p (ask.Addressed after) h = refl
@@ -218,6 +220,7 @@ grounds_tell s a (ask.Unaddress n target) = refl
 grounds_tell s a (ask.Grant n revision path grantee) = refl
 grounds_tell s a (ask.Withdraw n path grantee) = refl
 grounds_tell s a (ask.View n) = refl
+grounds_tell s a (ask.Explain person n path) = refl
 grounds_tell s a (ask.List after) = refl
 grounds_tell s a (ask.Search needle class after) = refl
 grounds_tell s a (ask.Addressed after) = refl
@@ -274,6 +277,7 @@ answer_tells s now p (ask.Unaddress n target) h = cc
 answer_tells s now p (ask.Grant n revision path grantee) h = cc
 answer_tells s now p (ask.Withdraw n path grantee) h = cc
 answer_tells s now p (ask.View n) h = view_tells s now p (incident_of n s) h
+answer_tells s now p (ask.Explain person n path) h = cc
 answer_tells s now p (ask.List after) h = cc
 answer_tells s now p (ask.Search needle class after) h = cc
 answer_tells s now p (ask.Addressed after) h = cc

@@ -5,5 +5,6 @@ pub mod Faults
 pub mod Asking
 pub mod Wanted
 pub mod Viewing
+pub mod Explaining
 pub mod Serving
 pub mod Laws

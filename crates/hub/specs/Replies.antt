@@ -3,11 +3,13 @@ use Rattle.std.specs.Prelude.{ℕ, ◌+◌, ℤ, Bool, ◌&&◌, List, [], ◌�
 use Rattle.circle.specs.Outcomes.{bare}
 use Rattle.circle.specs.Aftermath.{next_in}
 use Rattle.circle.specs.Directory.{Directory}
+use Rattle.circle.specs.Reads.{person_of}
 use Rattle.circle.specs.declared.refusal.Code.TheVariants.{K1, N1}
 use Rattle.circle.specs.declared.refusal.Refusal.{Refusal}
 use Rattle.circle.specs.declared.directory.Person.{Person}
 use Rattle.circle.specs.declared.command.CircleCommand.{CircleCommand}
 use Rattle.circle.specs.declared.command.CircleCommand.TheVariants.{AddOrg, AddPerson, AddCommunity, NewGroup}
+use Rattle.iodef_tree.specs.Pointer.{pointer_tokens}
 use Rattle.hub_core.specs.Documents.{Lines, documents_in}
 use Rattle.hub_core.specs.State.{State, incident_of}
 use Rattle.hub_core.specs.Aftermath.{next_incident}
@@ -16,10 +18,10 @@ use Rattle.hub_core.specs.Reads.{person_by_key, entry_of, incidents_above, group
 use Rattle.hub_core.specs.declared.state.Incident.{Incident}
 use Rattle.hub_core.specs.declared.reply.Entry.{Entry}
 use Rattle.hub_core.specs.declared.reply.Reply.{Reply}
-use Rattle.hub_core.specs.declared.reply.Reply.TheVariants.{Done, Numbers, Revision, View, Incidents, Groups, Caller, Refused}
+use Rattle.hub_core.specs.declared.reply.Reply.TheVariants.{Done, Numbers, Revision, View, Incidents, Groups, Caller, Trace, Refused}
 use Rattle.hub_core.specs.declared.request.Request.{Request}
 use Rattle.hub_core.specs.declared.request.Request.TheVariants as ask
-use Rattle.hub.specs.Told.{is_shown, is_found, is_addressed, view_of}
+use Rattle.hub.specs.Told.{is_shown, is_found, is_addressed, view_of, trace_of}
 use Rattle.hub.specs.declared.key.Key.{Key}
 use Rattle.hub.specs.declared.key.Key.TheVariants.{Absent, Digest}
 
@@ -77,6 +79,7 @@ answer_to s now p (ask.Unaddress n target) = Done
 answer_to s now p (ask.Grant n revision path grantee) = Done
 answer_to s now p (ask.Withdraw n path grantee) = Done
 answer_to s now p (ask.View n) = viewed s now p (incident_of n s)
+answer_to s now p (ask.Explain person n path) = Trace (trace_of s now (person_of person s.directory) (incident_of n s) (pointer_tokens path))
 answer_to s now p (ask.List after) = Incidents (page_of (is_shown s now p) after s)
 answer_to s now p (ask.Search needle class after) = Incidents (page_of (λ (i : Incident). is_found s now p i needle class) after s)
 answer_to s now p (ask.Addressed after) = Incidents (page_of (λ (i : Incident). is_addressed s now p i && is_shown s now p i) after s)

@@ -3,7 +3,9 @@ ghost use Rattle.std.specs.Prelude.{◌≡◌, IfOk, IsErrOf, option_map, option
 ghost use Rattle.hub_core.specs.State.{State, incident_of};
 ghost use Rattle.hub_core.specs.Reads.{case_for};
 ghost use Rattle.hub_core.specs.declared.state.Incident.{Incident};
+ghost use Rattle.circle.specs.Reads.{person_of};
 ghost use Rattle.hub.specs.Told.{standing_at};
+ghost use Rattle.hub.specs.Explaining.{standing_between};
 ghost use Rattle.hub.specs.Replies.{caller_of};
 ghost use Rattle.hub.specs.Asking.{HasFailed, IsKept, IsThere};
 
@@ -53,6 +55,21 @@ pub fn standing<Sh: Shelf>(
     ensures cause { IsErrOf result ShelfFault.Failed → HasFailed (Sh.failed shelf.old) (Sh.failed shelf.new) }
 {
     shelf.standing(asker.person.number, incident)
+}
+
+/// How the person of a number stands to an incident at a moment; none where either is missing.
+pub fn standing_of_person<Sh: Shelf>(
+    shelf: &mut Sh,
+    now: i64,
+    person: u32,
+    incident: u32,
+) -> Result<Option<Standing>, ShelfFault>
+    ensures value { Sh.doubts shelf.new ≡ 0 → (s : State) → Sh.has shelf.old s → IfOk result (λ found. found ≡ standing_between s now (person_of person s.directory) (incident_of incident s)) }
+    ensures kept { IsKept Sh.has Sh.doubts Sh.failed Sh.may_leave shelf.old shelf.new }
+    ensures cause { IsErrOf result ShelfFault.Failed → HasFailed (Sh.failed shelf.old) (Sh.failed shelf.new) }
+{
+    let _ = now;
+    shelf.standing(person, incident)
 }
 
 /// What an incident is judged by; none where it is missing.

@@ -10,7 +10,7 @@ ghost use Rattle.hub.specs.Serving.{IsCounted, IsServed, due_to, gives_numbers, 
 
 use crate::asking::Asker;
 use crate::fault::ample;
-use crate::reading::told;
+use crate::fault::told;
 use circle::command::{CircleCommand, RowEdit};
 use hub_core::{Edit, Facts, Reply, Request, Shelf, ShelfFault, judge};
 use policy::Numbers;

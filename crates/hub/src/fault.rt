@@ -1,6 +1,6 @@
 //! Why an answer is given up.
 ghost use Rattle.std.specs.Prelude.{◌≡◌, IfOk, IfErr, Ok};
-ghost use Rattle.circle.specs.Outcomes.{bare};
+ghost use Rattle.circle.specs.Outcomes.{bare, no_memory};
 ghost use Rattle.hub_core.specs.declared.reply.Reply.TheVariants.{Refused};
 ghost use Rattle.hub.specs.Faults.{code_told};
 
@@ -33,4 +33,16 @@ pub fn given_up(alloc: Global, fault: ShelfFault) -> Reply
     ensures { result ≡ Refused (bare (code_told fault)) }
 {
     Reply::Refused(Refusal::bare(alloc, code_of(fault)))
+}
+
+/// The refusal as a reply; that of want of memory is the shelf's.
+pub fn told(refusal: Refusal) -> Result<Reply, ShelfFault>
+    ensures reply { IfOk result (λ reply. reply ≡ Refused refusal) }
+    ensures other { IfOk result (λ reply. refusal ≡ no_memory → ⊥) }
+    ensures fault { IfErr result (λ e. e ≡ ShelfFault.NoMemory) }
+{
+    match refusal.code {
+        Code::F2 => Err(ShelfFault::NoMemory),
+        _ => Ok(Reply::Refused(refusal)),
+    }
 }

@@ -14,13 +14,14 @@
 //! may see is the policy's. So who reviews `policy` and the tables of `hub_core` has reviewed what callers are served.
 //!
 //! The code, from the call inwards: `hub` has [`Hub`]; `serving` finds out who asks and serves the request; `reading` answers
-//! what only reads, a page by `pages` and a view by `view`; `change` judges a change, makes the reply, and only then asks the
+//! what only reads, a page by `pages`, a view by `view` and an explanation by `explaining`; `change` judges a change, makes the reply, and only then asks the
 //! shelf to make it. `asking` has the reads of the shelf that several of these need, `fault` why an answer is given up.
 //! [`laws`] says that a run keeps a state sound.
 #![tactic(auto)]
 
 mod asking;
 mod change;
+mod explaining;
 mod fault;
 mod hub;
 mod key;

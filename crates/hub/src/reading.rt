@@ -14,25 +14,14 @@ ghost use Rattle.hub.specs.Serving.{read_by, searched};
 ghost use Rattle.hub.specs.Asking.{HasFailed, IsKept, IsThere};
 
 use crate::asking::Asker;
-use crate::fault::ample;
+use crate::explaining::explain_to;
+use crate::fault::{ample, told};
 use crate::pages::page;
 use crate::view::view;
 use crate::wanted::Wanted;
 use circle::text::Text;
 use hub_core::{Code, Entries, JoinedGroups, Refusal, Reply, Request, Shelf, ShelfFault, judge};
 use std::alloc::Global;
-
-/// The refusal as a reply; that of want of memory is the shelf's.
-pub fn told(refusal: Refusal) -> Result<Reply, ShelfFault>
-    ensures reply { IfOk result (λ reply. reply ≡ Refused refusal) }
-    ensures other { IfOk result (λ reply. refusal ≡ no_memory → ⊥) }
-    ensures fault { IfErr result (λ e. e ≡ ShelfFault.NoMemory) }
-{
-    match refusal.code {
-        Code::F2 => Err(ShelfFault::NoMemory),
-        _ => Ok(Reply::Refused(refusal)),
-    }
-}
 
 /// The incidents above a number that a page lists.
 fn list<Sh: Shelf>(
@@ -129,6 +118,11 @@ pub fn read<Sh: Shelf>(
             after,
         } => search(shelf, alloc, asker, request, needle, text_of(class), *after)?,
         Request::Addressed { after } => list(shelf, alloc, asker, Wanted::Addressed, *after)?,
+        Request::Explain {
+            person,
+            incident,
+            path,
+        } => explain_to(shelf, alloc, asker, request, *person, *incident, path)?,
         Request::MyGroups => groups(shelf, asker)?,
         Request::WhoAmI => Reply::Caller(ample(asker.person.clone())?),
         _ => return Ok(None),

@@ -116,6 +116,7 @@ kept s a (ask.Unaddress n target) h known fine = unaddress_kept s a n target h
 kept s a (ask.Grant n revision path grantee) h known fine = grant_kept s a n revision path grantee h fine
 kept s a (ask.Withdraw n path grantee) h known fine = withdraw_kept s a n path grantee h
 kept s a (ask.View n) h known fine = h
+kept s a (ask.Explain person n path) h known fine = h
 kept s a (ask.List after) h known fine = h
 kept s a (ask.Search needle class after) h known fine = h
 kept s a (ask.Addressed after) h known fine = h

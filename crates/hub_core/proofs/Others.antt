@@ -161,6 +161,7 @@ all_spared s a (ask.Withdraw n path grantee) i h found other fine =
     let apart : (n == i.number) ≡ false = not_theirs s a n i found other p.1.1.0 in
     made_spares i.number (λ p. TakePermission n p grantee ∷ []) (pointer_tokens path) (λ q. (apart, tt))
 all_spared s a (ask.View n) i h found other fine = tt
+all_spared s a (ask.Explain person n path) i h found other fine = tt
 all_spared s a (ask.List after) i h found other fine = tt
 all_spared s a (ask.Search needle class after) i h found other fine = tt
 all_spared s a (ask.Addressed after) i h found other fine = tt

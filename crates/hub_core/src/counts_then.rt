@@ -110,7 +110,8 @@ fn find_gates<L: LookUps>(rows: &mut L, alloc: Global, request: &Request) -> Res
         | Request::Unaddress { incident, .. }
         | Request::Grant { incident, .. }
         | Request::Withdraw { incident, .. }
-        | Request::View { incident } => rows.class_gates(*incident),
+        | Request::View { incident }
+        | Request::Explain { incident, .. } => rows.class_gates(*incident),
         _ => Ok(0),
     }
 }
@@ -128,7 +129,8 @@ fn find_recipients<L: LookUps>(rows: &mut L, request: &Request) -> Result<u32, S
         Request::Redistribute { incident, .. }
         | Request::Grant { incident, .. }
         | Request::Withdraw { incident, .. }
-        | Request::View { incident } => rows.recipient_count(*incident),
+        | Request::View { incident }
+        | Request::Explain { incident, .. } => rows.recipient_count(*incident),
         _ => Ok(0),
     }
 }
@@ -155,7 +157,8 @@ fn find_permissions<L: LookUps>(
         Request::Redistribute { incident, .. }
         | Request::Address { incident, .. }
         | Request::Unaddress { incident, .. }
-        | Request::View { incident } => rows.permission_count(*incident),
+        | Request::View { incident }
+        | Request::Explain { incident, .. } => rows.permission_count(*incident),
         // an exchanged document ends them
         _ => Ok(0),
     }

@@ -2,7 +2,7 @@
 ghost use Rattle.std.specs.Prelude.{◌≡◌, true, false, IfOk, IsErrOf, option_map, length};
 ghost use Rattle.hub_core.specs.Documents.{at_pointer};
 ghost use Rattle.hub_core.specs.Facts.{plain_facts, circle_facts_of, known, looked_up, facts_of};
-ghost use Rattle.hub_core.specs.Refusals.{is_own_group, are_own_groups, is_target, is_grantee, incident_asked as incident_named_by};
+ghost use Rattle.hub_core.specs.Refusals.{is_own_group, are_own_groups, is_target, is_grantee, is_active, incident_asked as incident_named_by};
 ghost use Rattle.hub_core.specs.Shelves.{HasFailed, IsKept, IsRead};
 ghost use Rattle.hub_core.specs.State.{State, has_gate, has_recipient, has_permission};
 ghost use Rattle.hub_core.specs.declared.state.Incident.{Incident};
@@ -11,7 +11,7 @@ use crate::counts_then::find_counts;
 use crate::facts::{Facts, Known};
 use crate::look_ups::LookUps;
 use crate::named_there::{
-    are_own_groups, is_grantee, is_own_group, is_target, stands_gate, stands_permission,
+    are_own_groups, is_active, is_grantee, is_own_group, is_target, stands_gate, stands_permission,
 };
 use crate::posted_earlier::find_posted;
 use crate::request::{Request, Target, WantedGates};
@@ -34,7 +34,8 @@ fn incident_asked(request: &Request) -> Option<u32>
         | Request::Unaddress { incident, .. }
         | Request::Grant { incident, .. }
         | Request::Withdraw { incident, .. }
-        | Request::View { incident } => Some(*incident),
+        | Request::View { incident }
+        | Request::Explain { incident, .. } => Some(*incident),
         _ => None,
     }
 }
@@ -159,6 +160,15 @@ fn withdraw_facts<L: LookUps>(
     Ok(plain_facts(true, stands, 0))
 }
 
+fn explain_facts<L: LookUps>(rows: &mut L, person: u32) -> Result<CircleFacts, ShelfFault>
+    ensures value { L.doubts rows.new ≡ 0 → (s : State) → L.has rows.old s → IfOk result (λ facts. facts ≡ plain_facts (is_active s.directory person) false 0) }
+    ensures kept { IsKept L.has L.doubts L.failed L.may_leave rows.old rows.new }
+    ensures cause { IsErrOf result ShelfFault.Failed → HasFailed (L.failed rows.old) (L.failed rows.new) }
+{
+    let active = is_active(rows, person)?;
+    Ok(plain_facts(active, false, 0))
+}
+
 /// The facts that the directory has of a request.
 fn find_circle_facts<L: LookUps>(
     rows: &mut L,
@@ -194,6 +204,7 @@ fn find_circle_facts<L: LookUps>(
             path,
             grantee,
         } => withdraw_facts(rows, alloc, *incident, path, *grantee),
+        Request::Explain { person, .. } => explain_facts(rows, *person),
         _ => Ok(plain_facts(true, false, 0)),
     }
 }

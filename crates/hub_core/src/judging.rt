@@ -14,6 +14,7 @@ mod body;
 mod change;
 mod class_gates;
 mod directory;
+mod explain;
 mod gate;
 mod post;
 mod posted;
@@ -28,6 +29,7 @@ use change::{address, grant, redistribute, unaddress, withdraw};
 use circle::directory::Person;
 use circle::refusal::{Code, Refusal};
 use directory::judge_command;
+use explain::explain;
 use post::post;
 use replace::replace;
 use search::search;
@@ -112,6 +114,11 @@ pub fn judge(
             class,
             after,
         } => answer(alloc, search(alloc, actor, facts, needle, class, *after)),
+        Request::Explain {
+            person,
+            incident,
+            path,
+        } => answer(alloc, explain(alloc, actor, facts, *person, *incident, path)),
         _ => Ok(Vec::new(alloc)),
     }
 }

@@ -3,7 +3,7 @@ ghost use Rattle.std.specs.Prelude.{◌≡◌, IfOk, IsErrOf};
 ghost use Rattle.std.specs.List.{list_all};
 ghost use Rattle.iodef_tree.specs.Pointer.{pointer_tokens};
 ghost use Rattle.hub_core.specs.Documents.{at_pointer};
-ghost use Rattle.hub_core.specs.Refusals.{is_own_group, are_own_groups, is_target, is_grantee};
+ghost use Rattle.hub_core.specs.Refusals.{is_own_group, are_own_groups, is_target, is_grantee, is_active};
 ghost use Rattle.hub_core.specs.Shelves.{HasFailed, IsKept};
 ghost use Rattle.hub_core.specs.State.{State, has_gate, has_permission};
 
@@ -101,6 +101,18 @@ pub(crate) fn is_grantee<L: LookUps>(
         Grantee::Org(number) => rows.has_org(number),
         Grantee::Community(number) => rows.has_community(number),
         Grantee::Group(number) => rows.has_group_member(number, org),
+    }
+}
+
+/// Whether the person is there, and active.
+pub(crate) fn is_active<L: LookUps>(rows: &mut L, person: u32) -> Result<bool, ShelfFault>
+    ensures value { L.doubts rows.new ≡ 0 → (s : State) → L.has rows.old s → IfOk result (λ b. b ≡ is_active s.directory person) }
+    ensures kept { IsKept L.has L.doubts L.failed L.may_leave rows.old rows.new }
+    ensures cause { IsErrOf result ShelfFault.Failed → HasFailed (L.failed rows.old) (L.failed rows.new) }
+{
+    match rows.person_of(person)? {
+        None => Ok(false),
+        Some(person) => Ok(person.active),
     }
 }
 

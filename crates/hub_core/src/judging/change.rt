@@ -158,7 +158,8 @@ pub fn redistribute(
     Ok(edits)
 }
 
-fn is_class(facts: &Facts, path: &Path) -> bool
+/// Whether the incident that is asked about has a class at the path.
+pub fn is_class(facts: &Facts, path: &Path) -> bool
     ensures { result ≡ is_known_class facts.now path.now }
 {
     match &facts.document {

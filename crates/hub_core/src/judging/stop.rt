@@ -1,6 +1,6 @@
 //! How the grounds of a request are asked: each is a test and the refusal that it gives.
 ghost use Rattle.std.specs.Prelude.{◌≡◌, [], ◌∷◌, IfOk, option_map, decimal};
-ghost use Rattle.circle.specs.Refusals.{refuse, bad};
+ghost use Rattle.circle.specs.Refusals.{refuse, bad, unless_administrator};
 ghost use Rattle.iodef_tree.specs.Pointer.{pointer_tokens};
 ghost use Rattle.hub_core.specs.Refusals.{because, unless_poster, is_bad_pointer, other_than as told_unless_same};
 ghost use Rattle.hub_core.specs.Judgement.{unless_known_own};
@@ -71,6 +71,14 @@ pub fn refuse_with(alloc: Global, code: Code, number: Option<u32>) -> Result<(),
         }));
     }
     Ok(())
+}
+
+/// Administrators alone ask why somebody sees a class.
+pub fn administrator(alloc: Global, actor: &Person) -> Result<(), Stop>
+    ensures { Asks (unless_administrator actor.now ∷ []) result }
+{
+    let may_ask = matches!(actor.role, Role::Administrator);
+    refuse_if(alloc, !may_ask, Code::W1)
 }
 
 /// Posters and coordinators alone post and change incidents.

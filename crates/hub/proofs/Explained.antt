@@ -1,0 +1,65 @@
+-- An explanation is there wherever it isn't refused.
+use Rattle.std.proofs.Common.{◌≡◌, ℕ, Bool, true, false, not, Option, Some, None, cond, refl, sym}
+use Rattle.std.specs.Prelude.{ℤ, is_none, option_map, option_and_then}
+use Rattle.std.specs.Option.{option_map_or}
+use Rattle.std.proofs.lemmas.Bool.{true≢false}
+use Rattle.iodef_tree.specs.Text.{Bytes, Tokens}
+use Rattle.iodef_tree.specs.Paths.{located, has_class}
+use Rattle.iodef_tree.specs.Pointer.{pointer_tokens}
+use Rattle.policy.specs.declared.standing.Standing.{Standing}
+use Rattle.circle.specs.Reads.{person_of}
+use Rattle.circle.specs.declared.directory.Person.{Person}
+use Rattle.circle.proofs.Judged.{passed}
+use Rattle.hub_core.specs.State.{State, incident_of}
+use Rattle.hub_core.specs.Documents.{is_class_in}
+use Rattle.hub_core.specs.Refusals.{grounds, refusal_of}
+use Rattle.hub_core.specs.declared.state.Incident.{Incident}
+use Rattle.hub_core.specs.declared.request.Request.TheVariants as ask
+use Rattle.hub.specs.Told.{standing_at, trace_of}
+use Rattle.hub.specs.Explaining.{standing_between, content_in, text_at, text_of}
+use Rattle.hub.specs.declared.asking.Content.{Content}
+
+-- what is there is told
+told_of : (b : Bool) (text : Bytes) → not b ≡ false → cond b (Some text) None ≡ Some text
+told_of true text h = refl
+told_of false text h = absurd (true≢false h)
+
+there : (s : State) (now : ℤ) (p : Option Person) (i : Option Incident) (path : Option Tokens) →
+    is_none path ≡ false → is_none i ≡ false → not (option_map_or (λ (q : Person). q.active) p false) ≡ false →
+    not (option_map_or (λ (q : Tokens). option_map_or (λ (j : Incident). is_class_in j.document q) i false) path false) ≡ false →
+    text_of s now p i path ≡ Some (trace_of s now p i path)
+there s now None i path wanted posted active class = absurd (true≢false active)
+there s now (Some p) None path wanted posted active class = absurd (true≢false posted)
+there s now (Some p) (Some i) None wanted posted active class = absurd (true≢false wanted)
+there s now (Some p) (Some i) (Some path) wanted posted active class = told_of (has_class (located i.document) path) _ class
+
+pub explained : (s : State) (now : ℤ) (a : Person) (person n : ℕ) (path : Bytes) → refusal_of s a (ask.Explain person n path) ≡ None →
+    text_of s now (person_of person s.directory) (incident_of n s) (pointer_tokens path) ≡ Some (trace_of s now (person_of person s.directory) (incident_of n s) (pointer_tokens path))
+explained s now a person n path fine =
+    let p = passed (grounds s a (ask.Explain person n path)) fine in
+    there s now (person_of person s.directory) (incident_of n s) (pointer_tokens path) p.1.0 p.1.1.0 p.1.1.1.0 p.1.1.1.1.0
+
+-- ---- what is read, and what is missing
+
+pub no_standing : (s : State) (now : ℤ) (p : Option Person) (i : Option Incident) (path : Option Tokens) → None ≡ standing_between s now p i → None ≡ text_of s now p i path
+no_standing s now None i path h = refl
+no_standing s now (Some p) None path h = refl
+no_standing s now (Some p) (Some i) path h = cc
+
+pub no_content : (s : State) (now : ℤ) (p : Option Person) (i : Option Incident) (path : Option Tokens) → None ≡ option_map (content_in s) i → None ≡ text_of s now p i path
+no_content s now None i path h = refl
+no_content s now (Some p) None path h = refl
+no_content s now (Some p) (Some i) path h = cc
+
+pub no_path : (s : State) (now : ℤ) (p : Option Person) (i : Option Incident) → None ≡ text_of s now p i None
+no_path s now None i = refl
+no_path s now (Some p) None = refl
+no_path s now (Some p) (Some i) = refl
+
+pub text_there : (s : State) (now : ℤ) (p : Option Person) (i : Option Incident) (path : Tokens) (st : Standing) (c : Content) → Some st ≡ standing_between s now p i → Some c ≡ option_map (content_in s) i → text_at c st path ≡ text_of s now p i (Some path)
+text_there s now None i path st c stands content = cc
+text_there s now (Some p) None path st c stands content = cc
+text_there s now (Some p) (Some i) path st c stands content =
+    let same : c ≡ content_in s i = cc in
+    let so : st ≡ standing_at s now p i = cc in
+    cc

@@ -1,0 +1,133 @@
+//! Why a person sees a class of an incident, or doesn't.
+ghost use Rattle.std.specs.Prelude.{◌≡◌, ℕ, List, None, Some, IfOk, IfErr, IsErrOf};
+ghost use Rattle.iodef_tree.specs.Paths.{located};
+ghost use Rattle.iodef_tree.specs.Pointer.{pointer_tokens};
+ghost use Rattle.marking.specs.Marks.{first_bad_marking};
+ghost use Rattle.circle.specs.Reads.{person_of};
+ghost use Rattle.hub_core.specs.State.{State, incident_of};
+ghost use Rattle.hub_core.specs.Sound.{IsSound};
+ghost use Rattle.hub_core.specs.Refusals.{refusal_of};
+ghost use Rattle.hub_core.specs.declared.reply.Reply.TheVariants.{Trace};
+ghost use Rattle.hub_core.specs.declared.request.Request.TheVariants as ask;
+ghost use Rattle.hub.specs.Asking.{HasFailed, IsKept};
+ghost use Rattle.hub.specs.Explaining.{text_at, text_of as text_told};
+ghost use Rattle.hub.specs.Replies.{refused_or};
+ghost use Rattle.hub.specs.Told.{trace_of};
+
+use crate::asking::{Asker, Content, content_of, standing_of_person};
+use crate::fault::{ample, told};
+use circle::text::Text;
+use explain::{ExplainFault, explain};
+use hub_core::{Code, Refusal, Reply, Request, Shelf, ShelfFault, judge};
+use iodef_tree::{Path, PathFault};
+use marking::{MarkingFault, check};
+use policy::Standing;
+use std::alloc::Global;
+
+/// The explanation of a class as text; none where there is no class at the path. A document whose markings weren't
+/// accepted has none: a shelf has no such document, unless its disk returned what wasn't written.
+fn text_of(
+    alloc: Global,
+    content: &Content,
+    standing: &Standing,
+    path: &Path,
+) -> Result<Option<Text>, ShelfFault>
+    ensures told { first_bad_marking (located content.now.document) ≡ None → IfOk result (λ text. text ≡ text_at content.now standing.now path.now) }
+    ensures fault { IfErr result (λ e. e ≡ ShelfFault.NoMemory) }
+{
+    match check(alloc, &content.document) {
+        Ok(()) => explained(alloc, content, standing, path),
+        Err(MarkingFault::BadMarking(_)) => Ok(None),
+        Err(MarkingFault::NoMemory) => Err(ShelfFault::NoMemory),
+    }
+}
+
+fn explained(
+    alloc: Global,
+    content: &Content,
+    standing: &Standing,
+    path: &Path,
+) -> Result<Option<Text>, ShelfFault>
+    requires { first_bad_marking (located content.now.document) ≡ None }
+    ensures told { IfOk result (λ text. text ≡ text_at content.now standing.now path.now) }
+    ensures fault { IfErr result (λ e. e ≡ ShelfFault.NoMemory) }
+{
+    match explain(alloc, &content.document, &content.case, standing, path) {
+        Ok(trace) => {
+            let text = ample(trace.text(alloc))?;
+            Ok(Some(Text::new(text)))
+        }
+        Err(ExplainFault::NoClass) => Ok(None),
+        Err(ExplainFault::NoMemory) => Err(ShelfFault::NoMemory),
+    }
+}
+
+fn path_of(alloc: Global, text: &Text) -> Result<Option<Path>, ShelfFault>
+    ensures value { IfOk result (λ path. path ≡ pointer_tokens text.now) }
+    ensures fault { IfErr result (λ e. e ≡ ShelfFault.NoMemory) }
+{
+    match Path::parse(alloc, text.as_str()) {
+        Ok(path) => Ok(Some(path)),
+        Err(PathFault::BadPath) => Ok(None),
+        Err(PathFault::NoMemory) => Err(ShelfFault::NoMemory),
+    }
+}
+
+/// The explanation at a moment; none where the person, the incident or the class is missing.
+fn find_text<Sh: Shelf>(
+    shelf: &mut Sh,
+    alloc: Global,
+    now: i64,
+    person: u32,
+    incident: u32,
+    path: &Text,
+) -> Result<Option<Text>, ShelfFault>
+    ensures value { Sh.doubts shelf.new ≡ 0 → (s : State) → Sh.has shelf.old s → IsSound s → IfOk result (λ text. text ≡ text_told s now (person_of person s.directory) (incident_of incident s) (pointer_tokens path.now)) }
+    ensures kept { IsKept Sh.has Sh.doubts Sh.failed Sh.may_leave shelf.old shelf.new }
+    ensures cause { IsErrOf result ShelfFault.Failed → HasFailed (Sh.failed shelf.old) (Sh.failed shelf.new) }
+{
+    let Some(standing) = standing_of_person(shelf, now, person, incident)? else {
+        return Ok(None);
+    };
+    let Some(content) = content_of(shelf, incident)? else {
+        return Ok(None);
+    };
+    let Some(path) = path_of(alloc, path)? else {
+        return Ok(None);
+    };
+    text_of(alloc, &content, &standing, &path)
+}
+
+/// What is answered with the explanation. There is one wherever the question isn't refused.
+fn reply_of(alloc: Global, text: Option<Text>) -> Reply
+    ensures { (told : List ℕ) → text ≡ Some told → result ≡ Trace told }
+{
+    match text {
+        Some(text) => Reply::Trace(text),
+        None => Reply::Refused(Refusal::bare(alloc, Code::N3)),
+    }
+}
+
+/// Why a person sees a class of an incident, or doesn't, unless the question is refused.
+pub fn explain_to<Sh: Shelf>(
+    shelf: &mut Sh,
+    alloc: Global,
+    asker: Asker<'_>,
+    request: &Request,
+    person: u32,
+    incident: u32,
+    path: &Text,
+) -> Result<Reply, ShelfFault>
+    ensures value { Sh.doubts shelf.new ≡ 0 → (s : State) → Sh.has shelf.old s → IsSound s → request.now ≡ ask.Explain person incident path.now → IfOk result (λ reply. reply ≡ refused_or (refusal_of s asker.entry.person.now request.now) (Trace (trace_of s asker.entry.now (person_of person s.directory) (incident_of incident s) (pointer_tokens path.now)))) }
+    ensures kept { IsKept Sh.has Sh.doubts Sh.failed Sh.may_leave shelf.old shelf.new }
+    ensures cause { IsErrOf result ShelfFault.Failed → HasFailed (Sh.failed shelf.old) (Sh.failed shelf.new) }
+{
+    let facts = shelf.facts(asker.person, request)?;
+    match judge(alloc, asker.person, &facts, request) {
+        Err(refusal) => told(refusal),
+        Ok(_) => {
+            let text = find_text(shelf, alloc, asker.now, person, incident, path)?;
+            Ok(reply_of(alloc, text))
+        }
+    }
+}

@@ -1,0 +1,34 @@
+//! What may be wrong with a question for an explanation.
+ghost use Rattle.std.specs.Prelude.{◌≡◌, IfOk};
+ghost use Rattle.hub_core.specs.Judgement.{grounds_by, edits_by};
+ghost use Rattle.hub_core.specs.Asked.{Asks};
+ghost use Rattle.hub_core.specs.declared.request.Request.TheVariants as ask;
+
+use crate::edit::Edit;
+use crate::facts::Facts;
+use crate::judging::change::is_class;
+use crate::judging::stop::{Stop, administrator, path_of, refuse_if};
+use circle::directory::Person;
+use circle::refusal::Code;
+use circle::text::Text;
+use std::alloc::Global;
+
+/// An administrator asks why an active person sees a class of an incident, or doesn't.
+pub fn explain(
+    alloc: Global,
+    actor: &Person,
+    facts: &Facts,
+    person: u32,
+    incident: u32,
+    path: &Text,
+) -> Result<Vec<Edit>, Stop>
+    ensures asked { Asks (grounds_by facts.now actor.now (ask.Explain person incident path.now)) result }
+    ensures made { IfOk result (λ edits. edits.items ≡ edits_by facts.now actor.now (ask.Explain person incident path.now)) }
+{
+    administrator(alloc, actor)?;
+    let path = path_of(alloc, path.as_str(), "path")?;
+    refuse_if(alloc, facts.incident.is_none(), Code::N1)?;
+    refuse_if(alloc, !facts.circle.exists, Code::N2)?;
+    refuse_if(alloc, !is_class(facts, &path), Code::N3)?;
+    Ok(Vec::new(alloc))
+}
