@@ -1,5 +1,5 @@
 -- In a sound state no incident has more rows than a u32 counts.
-use Rattle.std.proofs.Common.{◌≡◌, ℕ, ◌+◌, ◌-◌, ◌^◌, ◌≤◌, ◌==◌, ◌&&◌, ◌||◌, Bool, true, false, not, List, filter, length, Option, refl, subst, arith}
+use Rattle.std.proofs.Common.{◌≡◌, ℕ, ◌+◌, ◌-◌, ◌^◌, ◌≤◌, ◌==◌, ◌&&◌, ◌||◌, Bool, true, false, not, List, filter, Option, refl, subst, arith}
 use Rattle.std.proofs.lemmas.Bool.{and_left, eqb-true, false_from_ne_true}
 use Rattle.std.specs.Prelude.{min, IsTrue}
 use Rattle.std.specs.List.{list_any}
@@ -55,9 +55,6 @@ few_permissions s n sound = few (λ m. permissions_of m s.permissions) 64 n s.in
     apart s.incidents x.incident n (owner s.incidents (λ (i : Incident). is_class_in i.document x.path) x.incident there) none) sound.permissions.places))
 
 -- ---- what a u32 tells of what stands, and of what would stand
-
-pub incidents_told : (s : State) (m : ℕ) → IsSound s → m ≡ min (length s.incidents) 4294967295 → m ≡ length s.incidents
-incidents_told s m sound is = let few = sound.incidents.numbered.1 in omega arith
 
 pub gates_told : (s : State) (n m : ℕ) → IsSound s → m ≡ class_gates n s.gates → min m 4294967295 ≡ class_gates n s.gates
 gates_told s n m sound is = let few = few_gates s n sound in omega arith
