@@ -31,7 +31,7 @@ pub(crate) struct Counts {
 }
 
 fn recipients_with<L: LookUps>(rows: &mut L, incident: u32) -> Result<u32, ShelfFault>
-    ensures value { L.doubts rows.new ≡ 0 → (s : State) → L.has rows.old s → is_some (incident_of incident s) ≡ true → IfOk result (λ n. (target : Addressed) → n ≡ recipients_of incident (after (edit.PutRecipient (record { incident = incident; target = target }) ∷ []) s).recipients) }
+    ensures value { L.doubts rows.new ≡ 0 → (s : State) → L.has rows.old s → IfOk result (λ n. (target : Addressed) → n ≡ recipients_of incident (after (edit.PutRecipient (record { incident = incident; target = target }) ∷ []) s).recipients) }
     ensures kept { IsKept L.has L.doubts L.failed L.may_leave rows.old rows.new }
     ensures cause { IsErrOf result ShelfFault.Failed → HasFailed (L.failed rows.old) (L.failed rows.new) }
 {
@@ -39,7 +39,7 @@ fn recipients_with<L: LookUps>(rows: &mut L, incident: u32) -> Result<u32, Shelf
 }
 
 fn permissions_with<L: LookUps>(rows: &mut L, incident: u32) -> Result<u32, ShelfFault>
-    ensures value { L.doubts rows.new ≡ 0 → (s : State) → L.has rows.old s → is_some (incident_of incident s) ≡ true → IfOk result (λ n. (path : Tokens) → (grantee : Granted) → n ≡ permissions_of incident (after (edit.PutPermission (record { incident = incident; path = path; grantee = grantee }) ∷ []) s).permissions) }
+    ensures value { L.doubts rows.new ≡ 0 → (s : State) → L.has rows.old s → IfOk result (λ n. (path : Tokens) → (grantee : Granted) → n ≡ permissions_of incident (after (edit.PutPermission (record { incident = incident; path = path; grantee = grantee }) ∷ []) s).permissions) }
     ensures kept { IsKept L.has L.doubts L.failed L.may_leave rows.old rows.new }
     ensures cause { IsErrOf result ShelfFault.Failed → HasFailed (L.failed rows.old) (L.failed rows.new) }
 {
@@ -68,7 +68,7 @@ fn permissions_granted<L: LookUps>(
     incident: u32,
     path: &Text,
 ) -> Result<u32, ShelfFault>
-    ensures value { L.doubts rows.new ≡ 0 → (s : State) → L.has rows.old s → is_some (incident_of incident s) ≡ true → IfOk result (λ k. (grantee : Granted) → k ≡ permissions_of incident (after (made_at (λ p. edit.PutPermission (record { incident = incident; path = p; grantee = grantee }) ∷ []) path.now) s).permissions) }
+    ensures value { L.doubts rows.new ≡ 0 → (s : State) → L.has rows.old s → IfOk result (λ k. (grantee : Granted) → k ≡ permissions_of incident (after (made_at (λ p. edit.PutPermission (record { incident = incident; path = p; grantee = grantee }) ∷ []) path.now) s).permissions) }
     ensures kept { IsKept L.has L.doubts L.failed L.may_leave rows.old rows.new }
     ensures cause { IsErrOf result ShelfFault.Failed → HasFailed (L.failed rows.old) (L.failed rows.new) }
 {

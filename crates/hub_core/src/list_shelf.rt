@@ -10,11 +10,13 @@ ghost use Rattle.hub_core.specs.declared.edit.Edit.TheVariants as edit;
 use crate::change::changes_of;
 use crate::edit::Edit;
 use crate::facts::Facts;
+use crate::facts_made::facts_by;
 use crate::lists::Lists;
 use crate::reply::{Entry, JoinedGroup};
 use crate::request::{Request, Target};
 use crate::rows::Named;
 use crate::shelf::{Shelf, ShelfFault};
+use crate::standing::standing_by;
 use crate::state::Incident;
 use circle::directory::Person;
 use circle::rows::DirectoryRows;
@@ -224,7 +226,7 @@ impl Shelf for ListShelf {
     }
 
     fn standing(&mut self, person: u32, incident: u32) -> Result<Option<Standing>, ShelfFault> {
-        Ok(self.find_standing(person, incident)?)
+        standing_by(self, person, incident)
     }
 
     fn case(&mut self, incident: u32) -> Result<Option<Case>, ShelfFault> {
@@ -244,7 +246,8 @@ impl Shelf for ListShelf {
     }
 
     fn facts(&mut self, actor: &Person, request: &Request) -> Result<Facts, ShelfFault> {
-        Ok(self.find_facts(actor, request)?)
+        let alloc = self.alloc;
+        facts_by(self, alloc, actor, request)
     }
 
     fn apply(&mut self, edits: &[Edit]) -> Result<(), ShelfFault> {
