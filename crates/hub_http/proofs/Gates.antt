@@ -1,5 +1,5 @@
 -- Gates, one after another.
-use Rattle.std.proofs.Common.{◌≡◌, ℕ, ◌+◌, ◌<◌, List, [], ◌∷◌, ◌++◌, length, drop, Result, Ok, Err, true, refl, ap, sym, ◌∙◌, subst, append_assoc, append-nil, if◌then◌else◌, Bor, get_or, drop_of_length-le, add-one, suc, ◌≤◌}
+use Rattle.std.proofs.Common.{◌≡◌, ℕ, ◌+◌, ◌<◌, List, [], ◌∷◌, ◌++◌, length, drop, Ok, Err, refl, ap, sym, ◌∙◌, subst, append_assoc, append-nil, Bor, get_or, drop_of_length-le, add-one, ◌≤◌}
 use Rattle.std.proofs.Math.Seq.{drop-cons}
 use Rattle.hub_http.specs.Texts.{texts}
 use Rattle.hub_core.specs.declared.request.WantedGate.{WantedGate}

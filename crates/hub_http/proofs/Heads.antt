@@ -1,20 +1,17 @@
 -- What the parser of heads answers, and what the bytes ask.
-use Rattle.std.proofs.Common.{◌≡◌, ◌≢◌, ℕ, ◌+◌, ◌<◌, ◌≤◌, List, [], ◌∷◌, ◌++◌, length, map, take, drop, Bor, Option, Some, None, Result, Ok, Err, refl, ap, ◌∙◌, subst, inl, inr, arith, rules, append-nil, length-append, length-drop, length-take, nat_le, false, sym, option_copied}
+use Rattle.std.proofs.Common.{◌≡◌, ℕ, ◌+◌, ◌<◌, ◌≤◌, List, [], ◌∷◌, ◌++◌, length, map, drop, Bor, Some, Err, refl, ap, ◌∙◌, subst, inl, arith, append-nil, length-append, length-drop, length-take, nat_le, false, sym, option_copied}
 use Rattle.std.specs.List.{flat_map}
 use Rattle.std.proofs.lemmas.List.{length-map}
 use Rattle.std.proofs.lemmas.Bool.Decides.{nat_tests}
-use Rattle.std.proofs.lemmas.Grind.{common_steps}
-use Rattle.httparse.specs.Ascii.{colon}
-use Rattle.httparse.specs.Grammar.{RequestHead, Field, LineEnd, lf, print_end, print_field, print_section, print_request, print_blank, print_version, ReadsRequest, HasNoRequest, NeverHasRequest, MayBecomeRequest}
+use Rattle.httparse.specs.Grammar.{RequestHead, Field, lf, print_end, print_field, print_request, ReadsRequest}
 use Rattle.httparse.specs.Borrowed.{HoldsRequest, HoldsSomeRequest, header_parts}
 use Rattle.httparse.specs.Spans.{RequestOverflows, RequestExceeds}
 use Rattle.httparse.specs.declared.borrowed.Request.{Request}
-use Rattle.hub_http.specs.declared.wire_fault.WireFault.{WireFault}
 use Rattle.hub_http.specs.declared.wire_fault.WireFault.TheVariants as fault
 use Rattle.hub_http.specs.declared.wire.Arrival.{Arrival}
 use Rattle.hub_http.specs.declared.wire.Arrival.TheVariants.{Wants, Asks, Refused}
-use Rattle.hub_http.specs.Wire.{Asked, Wire, AsksByHead, IsHeadless, asked_by, window, fields_of}
-use Rattle.hub_http.specs.Arrivals.{Stands, Arrives, FailsWith}
+use Rattle.hub_http.specs.Wire.{Asked, Wire, AsksByHead, asked_by, window, fields_of}
+use Rattle.hub_http.specs.Arrivals.{Stands, Arrives}
 
 -- what the parts that the parser holds ask is what the head asks
 asks_same : (bytes : List ℕ) (len : ℕ) (r : Request) (h : RequestHead) (method target : Bor (List ℕ))

@@ -5,4 +5,6 @@ pub mod Heads
 pub mod Gates
 pub mod NoFloats
 pub mod Whole
+pub mod Readings
 pub mod Standing
+pub mod Replied

@@ -1,9 +1,8 @@
 -- No body has a float.
-use Rattle.std.proofs.Common.{◌≡◌, List, [], ◌∷◌, map, false, ◌||◌, refl}
-use Rattle.serde_json.specs.Data.{Data, object}
+use Rattle.std.proofs.Common.{◌≡◌, List, [], ◌∷◌, map, false, refl}
+use Rattle.serde_json.specs.Data.{Data}
 use Rattle.serde_json.specs.View.{items_of}
 use Rattle.serde_json.specs.Written.{has_float, items_have_float}
-use Rattle.iodef_tree.specs.Json.{data_of}
 use Rattle.hub_core.specs.declared.reply.Reply.{Reply}
 use Rattle.hub_core.specs.declared.reply.Reply.TheVariants as reply
 use Rattle.hub_http.specs.Bodies.{whole, withheld_pair, entry_object, group_object, body_of, HasWholeDocument}

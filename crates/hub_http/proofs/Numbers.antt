@@ -1,12 +1,12 @@
 -- Reading a number.
-use Rattle.std.proofs.Common.{◌+◌, ◌-◌, ◌*◌, ◌≤◌, min, take, ◌≡◌, ℕ, ◌<◌, ◌^◌, List, [], ◌∷◌, length, Bool, true, false, ◌&&◌, ◌||◌, Result, Ok, Err, refl, rules, arith, nat_lt, get_or, sym, if◌then◌else◌}
+use Rattle.std.proofs.Common.{◌+◌, ◌-◌, ◌*◌, ◌≤◌, min, take, ◌≡◌, ℕ, ◌<◌, ◌^◌, List, length, true, false, ◌&&◌, Result, Ok, Err, refl, rules, arith, nat_lt, get_or, sym, if◌then◌else◌}
 use Rattle.std.specs.List.{list_all}
 use Rattle.std.specs.Char.{is_ascii_digit, digit_value}
 use Rattle.std.specs.Result.{OkIff}
 use Rattle.std.specs.Str.Parse.{digits_value, ParsesUnsigned}
 use Rattle.std.proofs.lemmas.Bool.Decides.{nat_tests}
 use Rattle.std.proofs.lemmas.Int.Digits.{digits_value_more}
-use Rattle.std.proofs.lemmas.Str.Parse.{digit_at, IsNumeralModel, IsDigitsTest, numerals_by_value, parse_digits}
+use Rattle.std.proofs.lemmas.Str.Parse.{digit_at, IsNumeralModel, numerals_by_value, parse_digits}
 use Rattle.std.proofs.lemmas.Grind.{common_steps}
 use Rattle.hub_http.specs.Spelling.{is_plain, number}
 use borrow.Author.Tests.{ltb-true}

@@ -1,8 +1,7 @@
 -- The bytes ask one thing, or have one fault, but for the one case in which two are right.
-use Rattle.std.proofs.Common.{◌≡◌, ℕ, ◌<◌, ◌≤◌, ◌⊎◌, List, [], ◌++◌, length, drop, Result, Ok, Err, refl, ap, sym, ◌∙◌, subst, inl, inr, arith, append-nil}
-use Rattle.httparse.specs.Grammar.{RequestHead, print_request, ReadsRequest, HasNoRequest, NeverHasRequest, MayBecomeRequest, EndsInTarget}
+use Rattle.std.proofs.Common.{◌≡◌, ℕ, ◌<◌, ◌≤◌, ◌⊎◌, List, [], length, drop, Ok, Err, refl, ap, sym, ◌∙◌, subst, inl, inr, arith, append-nil}
+use Rattle.httparse.specs.Grammar.{print_request, HasNoRequest, NeverHasRequest, MayBecomeRequest}
 use Rattle.httparse.proofs.GrammarLemmas.{request_unique}
-use Rattle.hub_http.specs.declared.wire_fault.WireFault.{WireFault}
 use Rattle.hub_http.specs.declared.wire_fault.WireFault.TheVariants as fault
 use Rattle.hub_http.specs.Wire.{Asked, Wire, AsksByHead, IsHeadless, asked_by, window, fields_of}
 use Rattle.hub_http.specs.Laws.{IsOpenTarget}

@@ -7,10 +7,8 @@ use Rattle.circle.specs.Codes.{name_of, reason_of}
 use Rattle.circle.specs.declared.directory.Person.{Person}
 use Rattle.circle.specs.declared.directory.Role.{Role}
 use Rattle.circle.specs.declared.directory.Role.TheVariants.{Administrator, Coordinator, Poster, Reader}
-use Rattle.circle.specs.declared.refusal.Refusal.{Refusal}
 use Rattle.iodef_tree.specs.Json.{data_of}
 use Rattle.iodef_tree.specs.Pointer.{pointer_text}
-use Rattle.iodef_tree.specs.Text.{Tokens}
 use Rattle.policy.specs.Rule.{name_of as rule_name}
 use Rattle.policy.specs.declared.rule.Rule.{Rule}
 use Rattle.hub_core.specs.declared.reply.Entry.{Entry}

@@ -10,3 +10,4 @@ pub mod Arrivals
 pub mod Laws
 pub mod Bodies
 pub mod Replies
+pub mod Serving

@@ -9,10 +9,12 @@ mod reply;
 mod request_fault;
 mod requests;
 mod routes;
+mod serve;
 mod spelling;
 mod wire;
 mod wire_fault;
 
 pub use reply::{body_text, fault_bytes, reply_bytes};
+pub use serve::{ServeFault, Served, serve_one};
 pub use wire::request_of;
 pub use wire_fault::WireFault;

@@ -1,6 +1,5 @@
 use Rattle.std.proofs.Common.{◌≡◌, false, subst}
 use Rattle.serde_json.specs.Data.{object}
-use Rattle.serde_json.specs.View.{view}
 use Rattle.serde_json.specs.Written.{has_float}
 use Rattle.std.proofs.lemmas.Result.{IfOk-weaker}
 use Rattle.iodef_tree.specs.Json.{data_of}

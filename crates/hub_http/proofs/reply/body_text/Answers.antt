@@ -1,4 +1,3 @@
-use Rattle.std.proofs.Common.{◌≡◌}
 use Rattle.hub_http.proofs.NoFloats.{no_float}
 use Rattle.hub_http.proofs.reply.body_text.Goals as goal
 

@@ -1,4 +1,4 @@
-use Rattle.std.proofs.Common.{◌≡◌, ◌++◌, ◌∷◌, [], arith, rules}
+use Rattle.std.proofs.Common.{◌≡◌, ◌++◌, ◌∷◌, [], rules}
 use Rattle.hub_http.proofs.Gates.{gates_step, gates_end, gates_fault}
 use Rattle.hub_http.proofs.spelling.read_gates.Goals as goal
 

@@ -1,0 +1,168 @@
+//! What the plain hub answers, and what it leaves.
+
+use crate::asked::{body_in, refusal};
+use crate::changes::{Done, change};
+use crate::excerpts::{Excerpt, count_visible, excerpt_of, finds, verdicts};
+use crate::grounds::Told;
+use crate::rows::{Report, Rows};
+use crate::sight::Sight;
+use circle::directory::{Group, Person};
+use hub_core::{Code, Entry, Request, Target};
+use std::alloc::{AllocError, Global};
+
+/// How many incidents a page has at most.
+const PAGE: usize = 100;
+
+/// The excerpt of an incident.
+#[derive(Drop)]
+pub struct Shown {
+    pub entry: Entry,
+    pub excerpt: Excerpt,
+}
+
+/// What is answered.
+#[derive(Drop)]
+pub enum Answer {
+    Changed(Done),
+    View(Shown),
+    Incidents(Vec<Entry>),
+    Groups(Vec<(Group, bool)>),
+    Caller(Person),
+    Refused(Told),
+}
+
+fn refused(alloc: Global, code: Code) -> Answer {
+    Answer::Refused(Told {
+        code,
+        detail: String::new(alloc),
+    })
+}
+
+fn entry_of(report: &Report) -> Entry {
+    Entry {
+        number: report.number,
+        revision: report.revision,
+        source: report.source,
+    }
+}
+
+fn sight_of<'r>(
+    alloc: Global,
+    rows: &'r Rows,
+    caller: &Person,
+    report: &'r Report,
+) -> Result<Sight<'r>, AllocError> {
+    Ok(Sight {
+        rows,
+        report,
+        stand: rows.standing(alloc, caller, report)?,
+    })
+}
+
+fn view(alloc: Global, rows: &Rows, caller: &Person, incident: u32) -> Result<Answer, AllocError> {
+    let Some(report) = rows.report(incident) else {
+        return Ok(refused(alloc, Code::N1));
+    };
+    let sight = sight_of(alloc, rows, caller, report)?;
+    let list = verdicts(alloc, &sight)?;
+    if count_visible(list.as_slice()) == 0 {
+        return Ok(refused(alloc, Code::N1));
+    }
+    Ok(Answer::View(Shown {
+        entry: entry_of(report),
+        excerpt: excerpt_of(alloc, &sight, list.as_slice())?,
+    }))
+}
+
+/// Whether the incident is one of those that the caller asks to be listed.
+fn is_listed(
+    alloc: Global,
+    rows: &Rows,
+    caller: &Person,
+    report: &Report,
+    request: &Request,
+) -> Result<bool, AllocError> {
+    let sight = sight_of(alloc, rows, caller, report)?;
+    let list = verdicts(alloc, &sight)?;
+    let shown = count_visible(list.as_slice()) > 0;
+    match request {
+        Request::Search { needle, class, .. } => {
+            let class = match class {
+                Some(class) => Some(class.as_str()),
+                None => None,
+            };
+            Ok(finds(list.as_slice(), needle.as_str(), class))
+        }
+        Request::Addressed { .. } => Ok(shown && (sight.stand.person || sight.stand.addressed)),
+        _ => Ok(shown),
+    }
+}
+
+fn page(
+    alloc: Global,
+    rows: &Rows,
+    caller: &Person,
+    request: &Request,
+    after: u32,
+) -> Result<Answer, AllocError> {
+    let mut entries = Vec::new(alloc);
+    for report in rows.reports.iter() {
+        if after < report.number
+            && entries.len() < PAGE
+            && is_listed(alloc, rows, caller, report, request)?
+        {
+            entries.push(entry_of(report))?;
+        }
+    }
+    Ok(Answer::Incidents(entries))
+}
+
+fn groups(alloc: Global, rows: &Rows, caller: &Person) -> Result<Answer, AllocError> {
+    let mut groups = Vec::new(alloc);
+    for (group, extend) in rows.groups_of(alloc, caller.org)? {
+        groups.push((group.clone()?, extend))?;
+    }
+    Ok(Answer::Groups(groups))
+}
+
+/// What the caller, a person that is active, is answered; the rows are changed.
+fn answer_to(
+    alloc: Global,
+    rows: &mut Rows,
+    caller: &Person,
+    request: &Request,
+) -> Result<Answer, AllocError> {
+    let body = body_in(alloc, request)?;
+    if let Some(told) = refusal(alloc, rows, caller, request, &body)? {
+        return Ok(Answer::Refused(told));
+    }
+    match request {
+        Request::View { incident } => view(alloc, rows, caller, *incident),
+        Request::List { after } | Request::Search { after, .. } | Request::Addressed { after } =>
+            page(alloc, rows, caller, request, *after),
+        Request::MyGroups => groups(alloc, rows, caller),
+        Request::WhoAmI => Ok(Answer::Caller(caller.clone()?)),
+        _ => Ok(Answer::Changed(change(rows, alloc, caller.org, request, body)?)),
+    }
+}
+
+/// What is answered to whoever has this key, if any.
+pub fn answered(
+    alloc: Global,
+    rows: &mut Rows,
+    key: Option<[u8; 32]>,
+    request: &Request,
+) -> Result<Answer, AllocError> {
+    let mut caller = None;
+    if let Some(key) = key {
+        if let Some(account) = rows.account_of_key(&key) {
+            if account.person.active {
+                caller = Some(account.person.clone()?);
+            }
+        }
+    }
+    match caller {
+        Some(caller) => answer_to(alloc, rows, &caller, request),
+        None => Ok(refused(alloc, Code::K1)),
+    }
+}

@@ -1,0 +1,49 @@
+//! What the plain hub says of a request: its refusal, or the change of its rows.
+
+use crate::changes::{Done, change};
+use crate::grounds::Told;
+use crate::rows::Rows;
+use crate::sheet::{Body, body_of};
+use crate::{directory, incidents};
+use circle::directory::Person;
+use hub_core::Request;
+use std::alloc::{AllocError, Global};
+
+/// What the body of the request is read as; nothing where it has none.
+pub fn body_in(alloc: Global, request: &Request) -> Result<Body, AllocError> {
+    match request {
+        Request::Post { document, .. } | Request::Replace { document, .. } => {
+            body_of(alloc, document.as_slice())
+        }
+        _ => Ok(Body::Sheets(Vec::new(alloc))),
+    }
+}
+
+/// Why the request is refused, if it is.
+pub fn refusal(
+    alloc: Global,
+    rows: &Rows,
+    actor: &Person,
+    request: &Request,
+    body: &Body,
+) -> Result<Option<Told>, AllocError> {
+    let grounds = match request {
+        Request::Circle(command) => directory::grounds_of(alloc, rows, actor, command)?,
+        _ => incidents::grounds_of(alloc, rows, actor, request, body)?,
+    };
+    Ok(grounds.first(alloc))
+}
+
+/// The refusal, or what the change is answered by once it is made.
+pub fn obey(
+    alloc: Global,
+    rows: &mut Rows,
+    actor: &Person,
+    request: &Request,
+) -> Result<Result<Done, Told>, AllocError> {
+    let body = body_in(alloc, request)?;
+    match refusal(alloc, rows, actor, request, &body)? {
+        Some(told) => Ok(Err(told)),
+        None => Ok(Ok(change(rows, alloc, actor.org, request, body)?)),
+    }
+}

@@ -1,0 +1,41 @@
+//! Why a comparison ends early.
+
+use hub_core::ShelfFault;
+use std::alloc::{AllocError, AllocFailed};
+
+#[derive(Drop)]
+pub enum Fault {
+    NoMemory,
+    /// The two differ in this.
+    Differs(&'static str),
+}
+
+impl From<AllocError> for Fault {
+    fn from(_refused: AllocError) -> Fault {
+        Fault::NoMemory
+    }
+}
+
+impl<T: Drop> From<AllocFailed<T>> for Fault {
+    fn from(_refused: AllocFailed<T>) -> Fault {
+        Fault::NoMemory
+    }
+}
+
+impl From<ShelfFault> for Fault {
+    fn from(fault: ShelfFault) -> Fault {
+        match fault {
+            ShelfFault::NoMemory => Fault::NoMemory,
+            ShelfFault::Failed => Fault::Differs("a shelf that failed"),
+        }
+    }
+}
+
+/// A difference in this, unless they are alike.
+pub fn agree(alike: bool, name: &'static str) -> Result<(), Fault> {
+    if alike {
+        Ok(())
+    } else {
+        Err(Fault::Differs(name))
+    }
+}

@@ -1,0 +1,21 @@
+-- A reply to what was read is what a connection is served.
+use Rattle.std.proofs.Common.{List, ℕ, Option, Result, Ok, Err, inr}
+use Rattle.hub_core.specs.declared.reply.Reply.{Reply}
+use Rattle.hub_core.specs.declared.request.Request.{Request}
+use Rattle.hub.specs.declared.key.Key.{Key}
+use Rattle.hub_http.specs.declared.serve.Served.{Served}
+use Rattle.hub_http.specs.declared.serve.Served.TheVariants.{Answered, WireRefused}
+use Rattle.hub_http.specs.declared.serve.ServeFault.{ServeFault}
+use Rattle.hub_http.specs.declared.serve.ServeFault.TheVariants.{Truncated, ReadFailed, WriteFailed, NoMemory}
+use Rattle.hub_http.specs.Serving.{HasRead, Replies, Serves}
+
+pub serves_reply : (Does : Key × Request → Reply → Type 0) (Same : Type 0) (asked : Key × Request)
+    (before after written now_written : Option (List ℕ)) (result : Result Served ServeFault)
+    → HasRead before after (Ok asked) → Replies (Does asked) written now_written result
+    → Serves Does Same before after written now_written result
+serves_reply Does Same asked before after written now_written (Ok Answered) read told = (told.0, (asked, read, told.1), told.2)
+serves_reply Does Same asked before after written now_written (Err WriteFailed) read told = inr (told.0, (asked, read, told.1))
+serves_reply Does Same asked before after written now_written (Err NoMemory) read told = inr (told.0, (asked, read, told.1))
+serves_reply Does Same asked before after written now_written (Ok (WireRefused e)) read told = absurd told
+serves_reply Does Same asked before after written now_written (Err Truncated) read told = absurd told
+serves_reply Does Same asked before after written now_written (Err ReadFailed) read told = absurd told

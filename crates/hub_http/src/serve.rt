@@ -1,0 +1,161 @@
+//! One connection: a request is read, answered, and the reply is written.
+ghost use Rattle.std.specs.Prelude.{◌≡◌, ◌⊎◌, ◌≤◌, IfOk, IfErr};
+ghost use Rattle.std.specs.Io.KnownBytes.{IsAtEnd};
+ghost use Rattle.hub_http.specs.Serving.{as_gather, Extends, Gathers, Replies, Steps, Serves};
+
+use crate::reply::{fault_bytes, reply_bytes};
+use crate::wire::{Arrival, read_wire};
+use crate::wire_fault::WireFault;
+use hub::{Hub, Key};
+use hub_core::{Request, Shelf};
+use std::alloc::Global;
+use std::io::{Read, Write};
+
+/// What was done for a connection.
+#[derive(Clone, Copy, Debug, PartialEq, Eq, Drop)]
+pub enum Served {
+    /// The request was answered, and the reply is written.
+    Answered,
+    /// The bytes have this fault, which is told to the peer; nothing was asked of the hub.
+    WireRefused(WireFault),
+}
+
+/// Why a connection wasn't served to its end.
+#[derive(Clone, Copy, Debug, PartialEq, Eq, Drop)]
+pub enum ServeFault {
+    /// The peer ended before its request did; nothing was asked of the hub, and nothing was written.
+    Truncated,
+    /// A read failed; nothing was asked of the hub, and nothing was written.
+    ReadFailed,
+    /// A write failed. A change may stand that the caller wasn't told of.
+    WriteFailed,
+    /// The memory didn't suffice. A change may stand that the caller wasn't told of.
+    NoMemory,
+}
+
+/// Why no request was read.
+#[derive(Drop)]
+pub(crate) enum GatherFault {
+    Wire(WireFault),
+    Truncated,
+    ReadFailed,
+    NoMemory,
+}
+
+/// How many reads a request may take: as many as the bytes of a head and a body at their limits.
+const READ_LIMIT: u32 = 270_336;
+
+/// How many bytes a read may give.
+const PIECE: usize = 16_384;
+
+/// Reads once, and puts what comes behind the bytes.
+fn read_more<R: Read>(reader: &mut R, bytes: &mut Vec<u8>) -> Result<usize, GatherFault>
+    ensures grows { IfOk result (λ n. Extends (R.remaining reader.old) (R.remaining reader.new) bytes.old.items bytes.new.items) }
+    ensures end { IfOk result (λ n. n ≡ 0 → IsAtEnd (R.remaining reader.new)) }
+    ensures fault { IfErr result (λ e. (e ≡ GatherFault.ReadFailed) ⊎ (e ≡ GatherFault.NoMemory)) }
+{
+    let mut piece = [0; PIECE];
+    let count = match reader.read(&mut piece) {
+        Ok(count) => count,
+        Err(_) => return Err(GatherFault::ReadFailed),
+    };
+    if bytes.extend_from_slice(&piece[..count]).is_err() {
+        return Err(GatherFault::NoMemory);
+    }
+    Ok(count)
+}
+
+fn as_gather_fault(fault: WireFault) -> GatherFault
+    ensures { result ≡ as_gather fault }
+{
+    match fault {
+        WireFault::NoMemory => GatherFault::NoMemory,
+        _ => GatherFault::Wire(fault),
+    }
+}
+
+/// Reads until a request and its body are there, or a fault. The bytes are looked at again only where as many have come as
+/// were wanted, or where the peer has ended.
+fn gather<R: Read>(alloc: Global, reader: &mut R) -> Result<(Key, Request), GatherFault>
+    ensures { Gathers (R.remaining reader.old) (R.remaining reader.new) result }
+{
+    let mut bytes: Vec<u8> = Vec::new(alloc);
+    let mut wanted = 1;
+    for _ in 0..READ_LIMIT {
+        let count = match read_more(reader, &mut bytes) {
+            Ok(count) => count,
+            Err(GatherFault::NoMemory) => return Err(GatherFault::NoMemory),
+            Err(_) => return Err(GatherFault::ReadFailed),
+        };
+        if count != 0 && bytes.len() < wanted {
+            continue;
+        }
+        match read_wire(alloc, &bytes) {
+            Arrival::Wants(n) => {
+                if count == 0 {
+                    return Err(GatherFault::Truncated);
+                }
+                wanted = n;
+            }
+            Arrival::Asks(key, request) => return Ok((key, request)),
+            Arrival::Refused(fault) => return Err(as_gather_fault(fault)),
+        }
+    }
+    Err(GatherFault::ReadFailed)
+}
+
+/// Asks the hub at this moment, and writes its reply.
+fn reply_to<W: Write, Sh: Shelf>(
+    alloc: Global,
+    writer: &mut W,
+    hub: &mut Hub<Sh>,
+    now: i64,
+    key: &Key,
+    request: &Request,
+) -> Result<Served, ServeFault>
+    ensures replied { Replies (λ reply. Steps Sh.has Sh.doubts Sh.failed Sh.may_leave hub.old now (key.now, request.now) reply hub.new)
+        (W.contents writer.old) (W.contents writer.new) result }
+    ensures later { Sh.failed hub.old ≤ Sh.failed hub.new }
+    ensures doubt { Sh.doubts hub.old ≤ Sh.doubts hub.new }
+{
+    let reply = hub.answer(alloc, now, key, request);
+    let Ok(bytes) = reply_bytes(alloc, &reply) else {
+        return Err(ServeFault::NoMemory);
+    };
+    match writer.write_all(&bytes) {
+        Ok(()) => Ok(Served::Answered),
+        Err(_) => Err(ServeFault::WriteFailed),
+    }
+}
+
+/// Serves one connection: reads one request, asks the hub at this moment (in seconds since 1970), and writes the reply. It
+/// reads at most 270,336 times; a reader that still gives bytes then is ReadFailed.
+#[tactic(auto, using(crate::proofs::Replied::serves_reply))]
+pub fn serve_one<R: Read, W: Write, Sh: Shelf>(
+    alloc: Global,
+    reader: &mut R,
+    writer: &mut W,
+    hub: &mut Hub<Sh>,
+    now: i64,
+) -> Result<Served, ServeFault>
+    ensures served { Serves (λ asked reply. Steps Sh.has Sh.doubts Sh.failed Sh.may_leave hub.old now asked reply hub.new) (hub.new ≡ hub.old)
+        (R.remaining reader.old) (R.remaining reader.new) (W.contents writer.old) (W.contents writer.new) result }
+    ensures later { Sh.failed hub.old ≤ Sh.failed hub.new }
+    ensures doubt { Sh.doubts hub.old ≤ Sh.doubts hub.new }
+{
+    match gather(alloc, reader) {
+        Ok((key, request)) => reply_to(alloc, writer, hub, now, &key, &request),
+        Err(GatherFault::Wire(fault)) => {
+            let Ok(bytes) = fault_bytes(alloc, fault) else {
+                return Err(ServeFault::NoMemory);
+            };
+            match writer.write_all(&bytes) {
+                Ok(()) => Ok(Served::WireRefused(fault)),
+                Err(_) => Err(ServeFault::WriteFailed),
+            }
+        }
+        Err(GatherFault::Truncated) => Err(ServeFault::Truncated),
+        Err(GatherFault::ReadFailed) => Err(ServeFault::ReadFailed),
+        Err(GatherFault::NoMemory) => Err(ServeFault::NoMemory),
+    }
+}

@@ -1,0 +1,129 @@
+//! Serves the request of a line in the way that it names.
+
+use crate::lines::{bytes_of, shown};
+use crate::streams::{Drip, Narrow};
+use hub::Hub;
+use hub_core::ListShelf;
+use hub_http::{ServeFault, Served, serve_one};
+use std::alloc::{AllocError, Global};
+
+/// The moment of each request, in seconds since 1970.
+const NOW: i64 = 1_700_000_000;
+
+fn outcome(served: Result<Served, ServeFault>) -> &'static str {
+    match served {
+        Ok(Served::Answered) => "Answered",
+        Ok(Served::WireRefused(_)) => "WireRefused",
+        Err(ServeFault::Truncated) => "Truncated",
+        Err(ServeFault::ReadFailed) => "ReadFailed",
+        Err(ServeFault::WriteFailed) => "WriteFailed",
+        Err(ServeFault::NoMemory) => "NoMemory",
+    }
+}
+
+fn told(
+    alloc: Global,
+    served: Result<Served, ServeFault>,
+    out: &[u8],
+) -> Result<String, AllocError> {
+    let outcome = outcome(served);
+    let written = shown(alloc, out)?;
+    format!(in alloc; "{outcome} {written}")
+}
+
+fn whole(alloc: Global, hub: &mut Hub<ListShelf>, bytes: &[u8]) -> Result<String, AllocError> {
+    let mut reader = bytes;
+    let mut out: Vec<u8> = Vec::new(alloc);
+    let served = serve_one(alloc, &mut reader, &mut out, hub, NOW);
+    told(alloc, served, &out)
+}
+
+fn by_bytes(alloc: Global, hub: &mut Hub<ListShelf>, bytes: &[u8]) -> Result<String, AllocError> {
+    let mut reader = Drip {
+        bytes,
+        reads: 0,
+        fails_after: u32::MAX,
+    };
+    let mut out: Vec<u8> = Vec::new(alloc);
+    let served = serve_one(alloc, &mut reader, &mut out, hub, NOW);
+    let reads = reader.reads;
+    let told = told(alloc, served, &out)?;
+    format!(in alloc; "{reads} reads {told}")
+}
+
+fn prefixes(alloc: Global, hub: &mut Hub<ListShelf>, bytes: &[u8]) -> Result<String, AllocError> {
+    let mut count: u32 = 0;
+    for n in 0..bytes.len() {
+        let mut reader = &bytes[..n];
+        let mut out: Vec<u8> = Vec::new(alloc);
+        let served = serve_one(alloc, &mut reader, &mut out, hub, NOW);
+        if served == Err(ServeFault::Truncated) && out.is_empty() {
+            count = count.saturating_add(1);
+        }
+    }
+    format!(in alloc; "{count} Truncated")
+}
+
+fn failing_reads(
+    alloc: Global,
+    hub: &mut Hub<ListShelf>,
+    bytes: &[u8],
+) -> Result<String, AllocError> {
+    let mut count: u32 = 0;
+    for k in 0..u32::MAX {
+        let mut reader = Drip {
+            bytes,
+            reads: 0,
+            fails_after: k,
+        };
+        let mut out: Vec<u8> = Vec::new(alloc);
+        match serve_one(alloc, &mut reader, &mut out, hub, NOW) {
+            Err(ServeFault::ReadFailed) if out.is_empty() => count = count.saturating_add(1),
+            other => {
+                let told = told(alloc, other, &out)?;
+                return format!(in alloc; "{count} ReadFailed, then {told}");
+            }
+        }
+    }
+    String::from_str(alloc, "every read failed")
+}
+
+fn failing_writes(
+    alloc: Global,
+    hub: &mut Hub<ListShelf>,
+    bytes: &[u8],
+) -> Result<String, AllocError> {
+    let mut count: u32 = 0;
+    for k in 0..u32::MAX {
+        let mut reader = bytes;
+        let mut writer = Narrow {
+            writes: 0,
+            fails_after: k,
+        };
+        match serve_one(alloc, &mut reader, &mut writer, hub, NOW) {
+            Err(ServeFault::WriteFailed) => count = count.saturating_add(1),
+            other => {
+                let outcome = outcome(other);
+                return format!(in alloc; "{count} WriteFailed, then {outcome}");
+            }
+        }
+    }
+    String::from_str(alloc, "every write failed")
+}
+
+/// The answer to a line.
+pub fn answer(alloc: Global, hub: &mut Hub<ListShelf>, line: &str) -> Result<String, AllocError> {
+    let Some((way, request)) = line.split_once('|') else {
+        return String::from_str(alloc, "no request");
+    };
+    let text = bytes_of(alloc, request)?;
+    let bytes = text.as_bytes();
+    match way {
+        "whole" => whole(alloc, hub, bytes),
+        "bytes" => by_bytes(alloc, hub, bytes),
+        "prefixes" => prefixes(alloc, hub, bytes),
+        "reads" => failing_reads(alloc, hub, bytes),
+        "writes" => failing_writes(alloc, hub, bytes),
+        _ => String::from_str(alloc, "no such way"),
+    }
+}
