@@ -54,6 +54,14 @@ search_in pairs = do
   after ← number_or_zero (codes "after") pairs
   Ok (request.Search needle class after)
 
+unfoldable pub explain_in : List Pair → Read Request
+explain_in pairs = do
+  _ ← only (codes "person" ∷ codes "incident" ∷ codes "path" ∷ []) pairs
+  person ← needed_number (codes "person") pairs
+  incident ← needed_number (codes "incident") pairs
+  path ← needed (codes "path") pairs
+  Ok (request.Explain person incident path)
+
 -- ---- incidents
 
 unfoldable pub post_in : List Pair → List ℕ → Read Request
@@ -187,6 +195,7 @@ request_in route.Addressed pairs body = after_alone pairs >>= λ after. Ok (requ
 request_in route.List pairs body = after_alone pairs >>= λ after. Ok (request.List after)
 request_in (route.View n) pairs body = nothing_beside pairs (request.View n)
 request_in route.Search pairs body = search_in pairs
+request_in route.Explain pairs body = explain_in pairs
 request_in route.Post pairs body = post_in pairs body
 request_in (route.Replace n) pairs body = replace_in n pairs body
 request_in (route.OfCircle change) pairs body = circle_command change pairs >>= λ asked. Ok (request.Circle asked)

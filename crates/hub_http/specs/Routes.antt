@@ -37,6 +37,7 @@ entries =
     ∷ (codes "/incidents/{n}/grant", resource.OfIncident incident.Grant)
     ∷ (codes "/incidents/{n}/withdraw", resource.OfIncident incident.Withdraw)
     ∷ (codes "/search", resource.Search)
+    ∷ (codes "/explain", resource.Explain)
     ∷ (codes "/orgs", resource.OfCircle circle.AddOrg)
     ∷ (codes "/orgs/{n}/clients", resource.OfPart part.AddClient)
     ∷ (codes "/orgs/{n}/clients/remove", resource.OfPart part.RemoveClient)
@@ -119,6 +120,7 @@ read_at resource.MyAddressed path = Ok route.Addressed
 read_at resource.Incidents path = Ok route.List
 read_at resource.Incident path = number_in path >>= λ n. Ok (route.View n)
 read_at resource.Search path = Ok route.Search
+read_at resource.Explain path = Ok route.Explain
 read_at (resource.OfCircle change) path = Err NoRoute
 read_at (resource.OfPart change) path = Err NoRoute
 read_at (resource.OfIncident change) path = Err NoRoute

@@ -89,6 +89,21 @@ fn read_search(alloc: Global, pairs: &Parameters<'_>) -> Result<Request, Request
     })
 }
 
+#[tactic(auto, unfolding(crate::specs::Requests::explain_in))]
+fn read_explain(alloc: Global, pairs: &Parameters<'_>) -> Result<Request, RequestFault>
+    ensures { Gives result (spec.explain_in pairs.now) }
+{
+    pairs.only(&["person", "incident", "path"])?;
+    let person = pairs.needed_number("person")?;
+    let incident = pairs.needed_number("incident")?;
+    let path = pairs.needed_text(alloc, "path")?;
+    Ok(Request::Explain {
+        person,
+        incident,
+        path,
+    })
+}
+
 #[tactic(auto, unfolding(crate::specs::Requests::post_in))]
 fn read_post(alloc: Global, pairs: &Parameters<'_>, body: &[u8]) -> Result<Request, RequestFault>
     ensures { Gives result (spec.post_in pairs.now body.now) }
@@ -413,6 +428,7 @@ fn read_request_in(
             Ok(Request::View { incident })
         }
         Route::Search => read_search(alloc, pairs),
+        Route::Explain => read_explain(alloc, pairs),
         Route::Post => read_post(alloc, pairs, body),
         Route::Replace(incident) => read_replace(alloc, incident, pairs, body),
         Route::OfCircle(change) => Ok(Request::Circle(read_circle_command(alloc, change, pairs)?)),

@@ -65,6 +65,7 @@ pub(crate) enum Resource {
     Incidents,
     Incident,
     Search,
+    Explain,
     OfCircle(CircleChange),
     OfPart(PartChange),
     OfIncident(IncidentChange),
@@ -79,6 +80,7 @@ pub(crate) enum Route {
     List,
     View(u32),
     Search,
+    Explain,
     Post,
     Replace(u32),
     OfCircle(CircleChange),
@@ -87,7 +89,7 @@ pub(crate) enum Route {
 }
 
 /// The patterns of the paths, each with what it names.
-const ENTRIES: [(&str, Resource); 29] = [
+const ENTRIES: [(&str, Resource); 30] = [
     ("/me", Resource::Me),
     ("/me/groups", Resource::MyGroups),
     ("/me/addressed", Resource::MyAddressed),
@@ -114,6 +116,7 @@ const ENTRIES: [(&str, Resource); 29] = [
         Resource::OfIncident(IncidentChange::Withdraw),
     ),
     ("/search", Resource::Search),
+    ("/explain", Resource::Explain),
     ("/orgs", Resource::OfCircle(CircleChange::AddOrg)),
     ("/orgs/{n}/clients", Resource::OfPart(PartChange::AddClient)),
     (
@@ -268,6 +271,7 @@ fn read_at(resource: Resource, path: &str) -> Result<Route, RequestFault>
         Resource::Incidents => Ok(Route::List),
         Resource::Incident => Ok(Route::View(read_path_number(path)?)),
         Resource::Search => Ok(Route::Search),
+        Resource::Explain => Ok(Route::Explain),
         Resource::OfCircle(_) | Resource::OfPart(_) | Resource::OfIncident(_) => {
             Err(RequestFault::NoRoute)
         }

@@ -21,3 +21,4 @@ pub mod Searching
 pub mod Texts
 pub mod Stepping
 pub mod Promised
+pub mod Served

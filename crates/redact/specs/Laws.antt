@@ -1,12 +1,17 @@
 -- What excerpts and searches promise, whatever the document, the case and the reader are.
-use Rattle.std.specs.Prelude.{◌≡◌, ◌==◌, true, not, List, map, filter, Option}
-use Rattle.iodef_tree.specs.Text.{Bytes}
-use Rattle.iodef_tree.specs.Paths.{LocatedLine, is_class, is_class_kind}
+use Rattle.std.specs.Prelude.{◌≡◌, ◌==◌, Bool, true, false, not, List, map, filter, Option, Some, Contains}
+use Rattle.iodef_tree.specs.Text.{Bytes, Tokens}
+use Rattle.iodef_tree.specs.Paths.{LocatedLine, is_class, is_class_kind, located}
 use Rattle.iodef_tree.specs.declared.line.Line.{Line}
 use Rattle.policy.specs.declared.standing.Standing.{Standing}
 use Rattle.policy.specs.declared.case.Case.{Case}
-use Rattle.redact.specs.Kept.{Verdicts, is_kept, kept}
-use Rattle.redact.specs.Told.{visible_count, is_listed, finds}
+use Rattle.policy.specs.declared.rule.Rule.{Rule}
+use Rattle.policy.specs.declared.verdict.Verdict.{Verdict}
+use Rattle.policy.specs.declared.verdict.Verdict.TheVariants.{Shown, Hidden}
+use Rattle.policy.specs.Verdict.{is_visible, verdict_of}
+use Rattle.redact.specs.Kept.{Verdicts, is_kept, is_frame, kept}
+use Rattle.redact.specs.Withheld.{class_places, place_by}
+use Rattle.redact.specs.Told.{verdicts_of, withheld_of, visible_count, is_listed, finds}
 
 -- an incident is listed exactly where an excerpt of it is served: where some class is visible
 abbrev pub ListedIsServed : Type 0
@@ -20,3 +25,21 @@ FoundIsListed = (ls : List Line) (c : Case) (s : Standing) (needle : Bytes) (nam
 abbrev pub KeptClassesStay : Type 0
 KeptClassesStay = (v : Verdicts) (es : List LocatedLine) →
     filter (λ l. is_class_kind l.kind) (kept v es) ≡ map (λ e. e.line) (filter is_class (filter (is_kept v) es))
+
+-- ---- what is decided, and what is served
+
+abbrev pub is_shown : Verdict → Bool
+is_shown (Shown r) = true
+is_shown (Hidden r) = false
+
+-- A verdict tells what is served. It is Shown exactly where the class is visible; where it is Hidden, by the rule that hides
+-- the class; and the rule that hides a frame is told at the frame's place in the excerpt.
+pub record VerdictIsServed (ls : List Line) (c : Case) (s : Standing) (e : LocatedLine) : Type 0 where
+  pub shown : is_shown (verdict_of (located ls) c s e.path) ≡ is_visible (located ls) c s e.path
+  pub hidden : (r : Rule) → verdict_of (located ls) c s e.path ≡ Hidden r → r ≡ (verdicts_of (located ls) c s).rule e.path
+  pub frame : (q : Tokens) → is_frame (verdicts_of (located ls) c s) e.path ≡ true →
+      place_by (class_places (verdicts_of (located ls) c s) (located ls)) e.path ≡ Some q →
+      Contains (withheld_of ls c s) (q, (verdicts_of (located ls) c s).rule e.path)
+
+abbrev pub VerdictsAreServed : Type 0
+VerdictsAreServed = (ls : List Line) (c : Case) (s : Standing) (e : LocatedLine) → Contains (located ls) e → is_class e ≡ true → VerdictIsServed ls c s e

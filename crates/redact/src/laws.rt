@@ -1,7 +1,7 @@
 //! What excerpts and searches promise whatever the document, the case and the reader are. Each law is the contract of a
 //! function that does nothing.
 
-ghost use Rattle.redact.specs.Laws.{ListedIsServed, FoundIsListed, KeptClassesStay};
+ghost use Rattle.redact.specs.Laws.{ListedIsServed, FoundIsListed, KeptClassesStay, VerdictsAreServed};
 
 /// An incident is listed exactly where an excerpt of it is served.
 pub fn listed_is_served()
@@ -16,4 +16,10 @@ pub fn found_is_listed()
 /// The class lines of an excerpt are those of the kept classes, in their order, so that each has its place.
 pub fn kept_classes_stay()
     ensures { KeptClassesStay }
+{}
+
+/// The verdict of a class tells what is served of it: Shown exactly where the class is visible, else the rule that hides it,
+/// which is told at its place in the excerpt where the class is a frame.
+pub fn verdicts_are_served()
+    ensures { VerdictsAreServed }
 {}
