@@ -80,3 +80,7 @@ none_left n xs = count_left (λ (x : Permission). x.incident == n) (λ (x : Perm
 pub none_then : (b : Bool) (k : ℕ) → k ≡ 0 → 0 ≡ (if b then k else 0)
 none_then true k h = sym h
 none_then false k h = refl
+
+pub where_there : (b : Bool) (k n : ℕ) → b ≡ true → n ≡ k → n ≡ (if b then k else 0)
+where_there true k n h e = e
+where_there false k n h e = cc

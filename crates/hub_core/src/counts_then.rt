@@ -101,19 +101,20 @@ fn find_gates<L: LookUps>(rows: &mut L, alloc: Global, request: &Request) -> Res
     ensures kept { IsKept L.has L.doubts L.failed L.may_leave rows.old rows.new }
     ensures cause { IsErrOf result ShelfFault.Failed → HasFailed (L.failed rows.old) (L.failed rows.new) }
 {
-    match request {
-        Request::Replace { gates, .. } => Ok(number_of(gates.as_slice().len())),
+    let count = match request {
+        Request::Replace { gates, .. } => number_of(gates.as_slice().len()),
         Request::Redistribute { incident, path, .. } => {
-            gates_redistributed(rows, alloc, *incident, path)
+            gates_redistributed(rows, alloc, *incident, path)?
         }
         Request::Address { incident, .. }
         | Request::Unaddress { incident, .. }
         | Request::Grant { incident, .. }
         | Request::Withdraw { incident, .. }
         | Request::View { incident }
-        | Request::Explain { incident, .. } => rows.class_gates(*incident),
-        _ => Ok(0),
-    }
+        | Request::Explain { incident, .. } => rows.class_gates(*incident)?,
+        _ => 0,
+    };
+    Ok(count)
 }
 
 /// How many recipients the incident, which is there, would have.
@@ -122,17 +123,18 @@ fn find_recipients<L: LookUps>(rows: &mut L, request: &Request) -> Result<u32, S
     ensures kept { IsKept L.has L.doubts L.failed L.may_leave rows.old rows.new }
     ensures cause { IsErrOf result ShelfFault.Failed → HasFailed (L.failed rows.old) (L.failed rows.new) }
 {
-    match request {
-        Request::Address { incident, .. } => recipients_with(rows, *incident),
-        Request::Unaddress { incident, target } => rows.recipients_without(*incident, *target),
-        Request::Replace { incident, .. } => rows.recipient_count(*incident),
+    let count = match request {
+        Request::Address { incident, .. } => recipients_with(rows, *incident)?,
+        Request::Unaddress { incident, target } => rows.recipients_without(*incident, *target)?,
+        Request::Replace { incident, .. } => rows.recipient_count(*incident)?,
         Request::Redistribute { incident, .. }
         | Request::Grant { incident, .. }
         | Request::Withdraw { incident, .. }
         | Request::View { incident }
-        | Request::Explain { incident, .. } => rows.recipient_count(*incident),
-        _ => Ok(0),
-    }
+        | Request::Explain { incident, .. } => rows.recipient_count(*incident)?,
+        _ => 0,
+    };
+    Ok(count)
 }
 
 /// How many permissions the incident, which is there, would have.
@@ -145,23 +147,23 @@ fn find_permissions<L: LookUps>(
     ensures kept { IsKept L.has L.doubts L.failed L.may_leave rows.old rows.new }
     ensures cause { IsErrOf result ShelfFault.Failed → HasFailed (L.failed rows.old) (L.failed rows.new) }
 {
-    match request {
-        Request::Grant { incident, path, .. } => {
-            permissions_granted(rows, alloc, *incident, path)
-        }
+    let count = match request {
+        Request::Grant { incident, path, .. } => permissions_granted(rows, alloc, *incident, path)?,
         Request::Withdraw {
             incident,
             path,
             grantee,
-        } => permissions_withdrawn(rows, alloc, *incident, path, *grantee),
+        } => permissions_withdrawn(rows, alloc, *incident, path, *grantee)?,
         Request::Redistribute { incident, .. }
         | Request::Address { incident, .. }
         | Request::Unaddress { incident, .. }
         | Request::View { incident }
-        | Request::Explain { incident, .. } => rows.permission_count(*incident),
+        | Request::Explain { incident, .. } => rows.permission_count(*incident)?,
         // an exchanged document ends them
-        _ => Ok(0),
-    }
+        Request::Replace { .. } => 0,
+        _ => 0,
+    };
+    Ok(count)
 }
 
 /// How many class gates each incident of a Post would have.

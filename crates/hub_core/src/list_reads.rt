@@ -1,5 +1,6 @@
 //! What the shelf in memory tells.
 ghost use Rattle.std.specs.Prelude.{◌≡◌, IfOk, option_map};
+ghost use Rattle.std.specs.Option.{option_copied};
 ghost use Rattle.circle.specs.Reads.{person_of};
 ghost use Rattle.hub_core.specs.Facts.{known};
 ghost use Rattle.hub_core.specs.Reads.{person_by_key as person_of_key, case_of, document_of, groups_of as groups_joined_by, joined};
@@ -18,19 +19,13 @@ impl ListShelf {
     pub(crate) fn find_person(&self, key: &[u8; 32]) -> Result<Option<Person>, AllocError>
         ensures { IfOk result (λ found. found ≡ person_of_key key.now self.now) }
     {
-        match self.directory().person_of_key(key) {
-            None => Ok(None),
-            Some(person) => Ok(Some(person.clone()?)),
-        }
+        copy_of(self.directory().person_of_key(key))
     }
 
     pub(crate) fn find_person_of(&self, number: u32) -> Result<Option<Person>, AllocError>
         ensures { IfOk result (λ found. found ≡ person_of number self.now.directory) }
     {
-        match self.directory().person_of(number) {
-            None => Ok(None),
-            Some(person) => Ok(Some(person.clone()?)),
-        }
+        copy_of(self.directory().person_of(number))
     }
 
     pub(crate) fn find_case(&self, incident: u32) -> Result<Option<Case>, AllocError>
@@ -80,13 +75,22 @@ impl ListShelf {
     }
 }
 
-fn known_of(incident: &Incident) -> Result<Known, AllocError>
-    ensures { IfOk result (λ k. k ≡ known incident.now) }
+fn copy_of(person: Option<&Person>) -> Result<Option<Person>, AllocError>
+    ensures { IfOk result (λ found. found ≡ option_copied person.entry) }
+{
+    match person {
+        None => Ok(None),
+        Some(person) => Ok(Some(person.clone()?)),
+    }
+}
+
+fn known_of(row: &Incident) -> Result<Known, AllocError>
+    ensures { IfOk result (λ k. k ≡ known row.now) }
 {
     Ok(Known {
-        source: incident.source,
-        revision: incident.revision,
-        ident: incident.ident.clone()?,
+        source: row.source,
+        revision: row.revision,
+        ident: row.ident.clone()?,
     })
 }
 
