@@ -1,5 +1,5 @@
 -- An explanation is there wherever it isn't refused.
-use Rattle.std.proofs.Common.{◌≡◌, ℕ, Bool, true, false, not, Option, Some, None, cond, refl, sym}
+use Rattle.std.proofs.Common.{◌≡◌, ℕ, Bool, true, false, not, Option, Some, None, cond, refl, sym, ap}
 use Rattle.std.specs.Prelude.{ℤ, is_none, option_map, option_and_then}
 use Rattle.std.specs.Option.{option_map_or}
 use Rattle.std.proofs.lemmas.Bool.{true≢false}
@@ -7,6 +7,9 @@ use Rattle.iodef_tree.specs.Text.{Bytes, Tokens}
 use Rattle.iodef_tree.specs.Paths.{located, has_class}
 use Rattle.iodef_tree.specs.Pointer.{pointer_tokens}
 use Rattle.policy.specs.declared.standing.Standing.{Standing}
+use Rattle.explain.specs.Explanation.{Explanation, explanation_of}
+use Rattle.explain.specs.Explained.{explained_at}
+use Rattle.explain.specs.Lines.{trace_text}
 use Rattle.circle.specs.Reads.{person_of}
 use Rattle.circle.specs.declared.directory.Person.{Person}
 use Rattle.circle.proofs.Judged.{passed}
@@ -63,3 +66,11 @@ text_there s now (Some p) (Some i) path st c stands content =
     let same : c ≡ content_in s i = cc in
     let so : st ≡ standing_at s now p i = cc in
     cc
+
+-- the text of what is explained is that at the class
+pub text_of_explained : (c : Content) (st : Standing) (path : Tokens) (x : Explanation) → explained_at (located c.document) c.case st path ≡ Some x → Some (trace_text x) ≡ text_at c st path
+text_of_explained c st path x h = by_case (has_class (located c.document) path) h
+  where
+    by_case : (b : Bool) → cond b (Some (explanation_of (located c.document) c.case st path)) None ≡ Some x → Some (trace_text x) ≡ cond b (Some (trace_text (explanation_of (located c.document) c.case st path))) None
+    by_case true k = let same : explanation_of (located c.document) c.case st path ≡ x = cc in sym (ap (λ y. Some (trace_text y)) same)
+    by_case false k = cc

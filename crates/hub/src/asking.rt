@@ -57,18 +57,18 @@ pub fn standing<Sh: Shelf>(
     shelf.standing(asker.person.number, incident)
 }
 
-/// How the person of a number stands to an incident at a moment; none where either is missing.
+/// How the person of a number stands to an incident at the moment of asking; none where either is missing.
 pub fn standing_of_person<Sh: Shelf>(
     shelf: &mut Sh,
-    now: i64,
+    asker: Asker<'_>,
     person: u32,
     incident: u32,
 ) -> Result<Option<Standing>, ShelfFault>
-    ensures value { Sh.doubts shelf.new ≡ 0 → (s : State) → Sh.has shelf.old s → IfOk result (λ found. found ≡ standing_between s now (person_of person s.directory) (incident_of incident s)) }
+    ensures value { Sh.doubts shelf.new ≡ 0 → (s : State) → Sh.has shelf.old s → IfOk result (λ found. found ≡ standing_between s asker.entry.now (person_of person s.directory) (incident_of incident s)) }
     ensures kept { IsKept Sh.has Sh.doubts Sh.failed Sh.may_leave shelf.old shelf.new }
     ensures cause { IsErrOf result ShelfFault.Failed → HasFailed (Sh.failed shelf.old) (Sh.failed shelf.new) }
 {
-    let _ = now;
+    let _ = asker;
     shelf.standing(person, incident)
 }
 

@@ -9,8 +9,7 @@ ghost use Rattle.hub_core.specs.Laws.{is_reading};
 ghost use Rattle.hub.specs.Serving.{IsCounted, IsServed, due_to, gives_numbers, made_reply, number_put, numbers_put};
 
 use crate::asking::Asker;
-use crate::fault::ample;
-use crate::fault::told;
+use crate::fault::{ample, told};
 use circle::command::{CircleCommand, RowEdit};
 use hub_core::{Edit, Facts, Reply, Request, Shelf, ShelfFault, judge};
 use policy::Numbers;

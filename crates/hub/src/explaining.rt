@@ -73,20 +73,20 @@ fn path_of(alloc: Global, text: &Text) -> Result<Option<Path>, ShelfFault>
     }
 }
 
-/// The explanation at a moment; none where the person, the incident or the class is missing.
+/// The explanation; none where the person, the incident or the class is missing.
 fn find_text<Sh: Shelf>(
     shelf: &mut Sh,
     alloc: Global,
-    now: i64,
+    asker: Asker<'_>,
     person: u32,
     incident: u32,
     path: &Text,
 ) -> Result<Option<Text>, ShelfFault>
-    ensures value { Sh.doubts shelf.new ≡ 0 → (s : State) → Sh.has shelf.old s → IsSound s → IfOk result (λ text. text ≡ text_told s now (person_of person s.directory) (incident_of incident s) (pointer_tokens path.now)) }
+    ensures value { Sh.doubts shelf.new ≡ 0 → (s : State) → Sh.has shelf.old s → IsSound s → IfOk result (λ text. text ≡ text_told s asker.entry.now (person_of person s.directory) (incident_of incident s) (pointer_tokens path.now)) }
     ensures kept { IsKept Sh.has Sh.doubts Sh.failed Sh.may_leave shelf.old shelf.new }
     ensures cause { IsErrOf result ShelfFault.Failed → HasFailed (Sh.failed shelf.old) (Sh.failed shelf.new) }
 {
-    let Some(standing) = standing_of_person(shelf, now, person, incident)? else {
+    let Some(standing) = standing_of_person(shelf, asker, person, incident)? else {
         return Ok(None);
     };
     let Some(content) = content_of(shelf, incident)? else {
@@ -126,7 +126,7 @@ pub fn explain_to<Sh: Shelf>(
     match judge(alloc, asker.person, &facts, request) {
         Err(refusal) => told(refusal),
         Ok(_) => {
-            let text = find_text(shelf, alloc, asker.now, person, incident, path)?;
+            let text = find_text(shelf, alloc, asker, person, incident, path)?;
             Ok(reply_of(alloc, text))
         }
     }

@@ -118,7 +118,10 @@ pub fn judge(
             person,
             incident,
             path,
-        } => answer(alloc, explain(alloc, actor, facts, *person, *incident, path)),
+        } => answer(
+            alloc,
+            explain(alloc, actor, facts, *person, *incident, path),
+        ),
         _ => Ok(Vec::new(alloc)),
     }
 }

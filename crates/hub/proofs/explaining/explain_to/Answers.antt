@@ -1,0 +1,21 @@
+use Rattle.std.proofs.Common.{◌≡◌, None, sym, ap, subst, ◌∙◌, arith}
+use Rattle.iodef_tree.specs.Pointer.{pointer_tokens}
+use Rattle.circle.specs.Reads.{person_of}
+use Rattle.hub_core.specs.State.{incident_of}
+use Rattle.hub_core.specs.Refusals.{refusal_of}
+use Rattle.hub_core.specs.declared.reply.Reply.TheVariants.{Trace}
+use Rattle.hub.specs.Told.{trace_of}
+use Rattle.hub.specs.Replies.{refused_or}
+use Rattle.hub.proofs.Explained.{explained}
+use Rattle.hub.proofs.explaining.explain_to.Goals as goal
+
+pub returns-clause-value : goal.returns-clause-value
+returns-clause-value g c = λ clean s has sound is.
+    let asker = c.args.asker.person.now in
+    let mid : g.Sh.Shelf.doubts c.facts.new.self ≡ 0 = omega (arith, c.find_text.ensures.kept.doubt) in
+    let read = c.in_ok-facts.ensures in
+    let fine = c.in-Ok.ensures.allowed s (read.value mid s has) in
+    let told = trace_of s c.args.asker.now (person_of c.args.person s.directory) (incident_of c.args.incident s) (pointer_tokens c.args.path.now) in
+    let text = c.in_ok-text-in-Ok.ensures.value clean s (read.kept.content mid s has) sound in
+    let there = explained s c.args.asker.now asker c.args.person c.args.incident c.args.path.now (subst (λ r. refusal_of s asker r ≡ None) is fine) in
+    c.reply_of.ensures told (text ∙ there) ∙ ap (λ refusal. refused_or refusal (Trace told)) (sym fine)
