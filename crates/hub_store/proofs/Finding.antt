@@ -1,6 +1,5 @@
 -- What a query finds: the elements that pass, and the values that the rows show.
-use Rattle.std.proofs.Common.{◌≡◌, ◌≢◌, ℕ, List, [], ◌∷◌, ◌++◌, map, filter, find, take, Bool, true, false, cond, ◌==◌, Option, Some, None, option_map, Result, Ok, Err, IfOk, nat_cmp, refl, sym, ap, subst, ◌∙◌, arith}
-use Rattle.std.specs.List.{AllByRecursion}
+use Rattle.std.proofs.Common.{◌≡◌, ◌≢◌, ℕ, List, [], ◌∷◌, ◌++◌, map, filter, find, Bool, true, false, cond, ◌==◌, Option, Some, None, option_map, Result, Ok, Err, IfOk, nat_cmp, refl, sym, ap, subst, ◌∙◌, arith}
 use Rattle.std.specs.Option.{option_to_list}
 use Rattle.std.specs.Str.{bytes_eq}
 use Rattle.std.specs.List.Sorted.{IsPermutation}
@@ -78,7 +77,7 @@ pub as_viewed : {X Y : Type 0} (show : X → Row) (view : X → Y) (shown : Y �
 as_viewed show view shown same None = refl
 as_viewed show view shown same (Some x) = ap (λ r. r ∷ []) (same x)
 
-no_permutation : {X : Type 0} (xs : List X) → IsPermutation [] xs → xs ≡ []
+pub no_permutation : {X : Type 0} (xs : List X) → IsPermutation [] xs → xs ≡ []
 no_permutation [] h = refl
 no_permutation (x ∷ xs) h = absurd (omega (arith, length_permutation [] (x ∷ xs) h))
 

@@ -1,10 +1,9 @@
 -- What queries find of incidents.
-use Rattle.std.proofs.Common.{◌≡◌, ℕ, pos, List, [], ◌∷◌, map, filter, find, take, Bool, true, false, cond, ◌==◌, nat_lt, Option, Some, None, option_map, Result, Ok, Err, IfOk, nat_cmp, refl, sym, ap, subst, ◌∙◌, arith}
-use Rattle.std.specs.List.{AllByRecursion}
+use Rattle.std.proofs.Common.{◌≡◌, ℕ, pos, List, [], ◌∷◌, map, filter, take, ◌==◌, nat_lt, Option, Some, None, option_map, Result, Ok, Err, IfOk, nat_cmp, refl, sym, ap, subst, ◌∙◌}
 use Rattle.std.specs.Option.{option_to_list}
 use Rattle.std.specs.List.Sorted.{IsPermutation}
 use Rattle.std.specs.declared.cmp.Ordering.TheVariants.{Less}
-use Rattle.std.proofs.lemmas.Bool.Decides.{nat_tests}
+use Rattle.std.proofs.lemmas.Bool.{eqb-true}
 use Rattle.std.proofs.lemmas.List.{take-map}
 use Rattle.sqlite_value.specs.declared.value.Value.TheVariants.{Int, Text}
 use Rattle.sqlite_value.specs.declared.keys.Key.{Key}
@@ -13,17 +12,16 @@ use Rattle.sqlite_value.proofs.OrderLemmas.{value_cmp-Int}
 use Rattle.sqlite_trees.specs.Tree.{Trees}
 use Rattle.sqlite_trees.proofs.ListLemmas.{map-map, all_both}
 use Rattle.sqlite_sql.specs.Term.{Term, col, eval_all}
-use Rattle.sqlite_sql.specs.Query.{Query, IsAnswer}
+use Rattle.sqlite_sql.specs.Query.{Query, IsAnswer, Output}
 use Rattle.sqlite.specs.declared.error.Error.{Error}
 use Rattle.sqlite.proofs.Callers.{one_permutation}
-use Rattle.iodef_tree.specs.Reading.{reading}
-use Rattle.iodef_tree.specs.declared.fault.ReadFault.{ReadFault}
 use Rattle.hub_core.specs.Documents.{Lines}
 use Rattle.hub_core.specs.Facts.{known}
 use Rattle.hub_core.specs.Reads.{entry_of, entries_after, case_gate, case_permission, case_for, case_of}
 use Rattle.hub_core.specs.State as core
 use Rattle.hub_core.specs.State.{incident_number, incident_of}
 use Rattle.hub_core.specs.Sound.{IsSound}
+use Rattle.hub_core.proofs.Keeping.{found_is, found_each}
 use Rattle.hub_core.specs.declared.facts.Known.{Known}
 use Rattle.hub_core.specs.declared.state.Incident.{Incident}
 use Rattle.hub_core.specs.declared.state.Gate.{Gate}
@@ -39,7 +37,7 @@ use Rattle.hub_store.proofs.Forms.{one_table, is_param, is_above, by_column}
 use Rattle.hub_store.proofs.Statements.{keeps, shows, selected}
 use Rattle.hub_store.proofs.Finding.{seen_through, of_elements, only_one, once_numbered, as_viewed, no_permutation}
 use Rattle.hub_store.proofs.Listed.{listed, int_below}
-use Rattle.hub_store.proofs.Unique.{counted, read_back, IsStored}
+use Rattle.hub_store.proofs.Unique.{counted, some_one, read_back, IsStored}
 
 -- ---- by the number
 
@@ -62,22 +60,8 @@ known_found db s n rows sound means a =
 
 -- ---- documents
 
-same_some : {X : Type 0} (a b : X) → ◌≡◌ {A = Option X} (Some a) (Some b) → a ≡ b
-same_some a b e = cc
-
-found_all : {X : Type 0} (P : X → Type 0) (q : X → Bool) (xs : List X) (x : X) → AllByRecursion P xs → find q xs ≡ Some x → P x
-found_all P q [] x all e = absurd cc
-found_all P q (y ∷ ys) x all e = go (q y) e (λ f. found_all P q ys x all.1 f)
-  where
-    go : (b : Bool) → cond b (Some y) (find q ys) ≡ Some x → (find q ys ≡ Some x → P x) → P x
-    go true e later = subst P (same_some y x e) all.0
-    go false e later = later e
-
 pub is_stored : (s : core.State) (n : ℕ) (i : Incident) → IsSound s → IsFit s → incident_of n s ≡ Some i → IsStored i
-is_stored s n i sound fit = found_all IsStored (λ (i : Incident). i.number == n) s.incidents i (all_both _ _ IsStored (λ i p q. (p, q)) s.incidents sound.incidents.documents fit.incidents)
-
-same_document : (x y : Lines) → ◌≡◌ {A = Result (List Lines) ReadFault} (Ok (x ∷ [])) (Ok (y ∷ [])) → x ≡ y
-same_document x y e = cc
+is_stored s n i sound fit is = found_each IsStored (λ (i : Incident). i.number == n) s.incidents i is (all_both _ _ IsStored (λ i p q. (p, q)) s.incidents sound.incidents.documents fit.incidents)
 
 abbrev text_row : Incident → Row
 text_row i = Text (document_text i.document) ∷ []
@@ -92,7 +76,7 @@ first_document (Some i) rows found stored same h = one found (subst (λ l. Shows
   where
     one : (found : Option Lines) → ShowsFirst ShowsDocument (text_row i ∷ []) found → found ≡ Some i.document
     one None h = absurd h
-    one (Some x) h = let it = stored i refl in ap Some (same_document x i.document (sym (h (document_text i.document) refl) ∙ read_back i.document it.0 it.1))
+    one (Some x) h = let it = stored i refl in ap Some (some_one x i.document (sym (h (document_text i.document) refl) ∙ read_back i.document it.0 it.1))
 
 pub reads_document : (db : Trees) (s : core.State) (n : ℕ) (rows : List Row) (r : Result (Option Lines) Error) → IsSound s → IsFit s → Means db s → IsAnswer (one_table 18 (is_param 0 0 ∷ []) (col 1 5 ∷ [])) db (Int (pos n) ∷ []) rows
     → IfOk r (λ found. ShowsFirst ShowsDocument rows found) → IfOk r (λ found. found ≡ option_map (λ (i : Incident). i.document) (incident_of n s))
@@ -111,7 +95,7 @@ entries_listed db s number most rows sound means a =
     let order = by_column 0 ∷ [] in
     let params = Int (pos number) ∷ Int (pos most) ∷ [] in
     let passes = λ (i : Incident). nat_lt number i.number in
-    let out = λ (r : Row). (eval_all (map (λ (k : Term × Key). k.0) order) (params ∷ r ∷ []), shows project params r) in
+    let out : Row → Output = λ r. (eval_all (map (λ (k : Term × Key). k.0) order) (params ∷ r ∷ []), shows project params r) in
     listed db 18 (λ r. r) incident_row s.incidents passes terms project order (col 0 1) params (keeps terms params) out rows (λ r. refl) (λ r. refl) (λ i. and_true _ ∙ more_than i.number number)
     (λ (a b : Incident). nat_cmp a.number b.number ≡ Less) (counted incident_number 0 s.incidents sound.incidents.numbered.0).1
     (λ a b _ less _. rw (value_cmp-Int (pos a.number) (pos b.number), int_below a.number b.number less) refl)
@@ -120,17 +104,6 @@ entries_listed db s number most rows sound means a =
 
 -- ---- cases
 
-found_passes : {X : Type 0} (q : X → Bool) (xs : List X) (x : X) → find q xs ≡ Some x → q x ≡ true
-found_passes q [] x e = absurd cc
-found_passes q (y ∷ ys) x e = go (q y) refl e (λ f. found_passes q ys x f)
-  where
-    go : (b : Bool) → q y ≡ b → cond b (Some y) (find q ys) ≡ Some x → (find q ys ≡ Some x → q x ≡ true) → q x ≡ true
-    go true is f later = subst (λ z. q z ≡ true) (same_some y x f) is
-    go false is f later = later f
-
-is_number : (a b : ℕ) → (a == b) ≡ true → a ≡ b
-is_number a b h = grind (arith, nat_tests)
-
 -- the case of an incident that is there, by what was read of it
 pub case_is : (s : core.State) (n : ℕ) (k : Known) (case : Case) → Some k ≡ option_map known (incident_of n s) → IsCase k.source n s case → Some case ≡ case_of n s
 case_is s n k case is it = go (incident_of n s) refl is
@@ -138,15 +111,8 @@ case_is s n k case is it = go (incident_of n s) refl is
     go : (o : Option Incident) → incident_of n s ≡ o → Some k ≡ option_map known o → Some case ≡ option_map (case_for s) o
     go None e h = absurd cc
     go (Some i) e h =
-        let number : i.number ≡ n = is_number i.number n (found_passes (λ (i : Incident). i.number == n) s.incidents i e) in
+        let number : i.number ≡ n = eqb-true i.number n (found_is (λ (i : Incident). i.number == n) s.incidents i e) in
         let source : k.source ≡ i.source = cc in
-        let gates = it.1.0 ∙ sym (ap (λ m. map case_gate (filter (λ (g : Gate). g.incident == m) s.gates)) number) in
-        let permissions = it.1.1 ∙ sym (ap (λ m. map case_permission (filter (λ (x : Permission). x.incident == m) s.permissions)) number) in
+        let gates = it.1 ∙ sym (ap (λ m. map case_gate (filter (λ (g : Gate). g.incident == m) s.gates)) number) in
+        let permissions = it.2 ∙ sym (ap (λ m. map case_permission (filter (λ (x : Permission). x.incident == m) s.permissions)) number) in
         ap Some (λ j. record { source = (it.0 ∙ source) j; gates = gates j; permissions = permissions j })
-
-pub no_case : (s : core.State) (n : ℕ) → None ≡ option_map known (incident_of n s) → None ≡ case_of n s
-no_case s n is = go (incident_of n s) is
-  where
-    go : (o : Option Incident) → None ≡ option_map known o → None ≡ option_map (case_for s) o
-    go None h = refl
-    go (Some i) h = absurd cc

@@ -11,7 +11,8 @@ use Rattle.sqlite_sql.specs.Query.{IsAnswer}
 use Rattle.circle.specs.declared.directory.Account.{Account}
 use Rattle.hub_core.specs.State as core
 use Rattle.hub_core.specs.Sound.{IsSound}
-use Rattle.hub_core.specs.Reads.{person_by_key, person_in}
+use Rattle.circle.specs.Reads.{person_in}
+use Rattle.hub_core.specs.Reads.{person_by_key}
 use Rattle.hub_store.specs.Holdings.{by_number}
 use Rattle.hub_store.specs.Means.{Means}
 use Rattle.hub_store.specs.Rows.{account_row}

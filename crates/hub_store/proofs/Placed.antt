@@ -1,11 +1,12 @@
 -- The gates and the permissions of an incident, as queries list them.
-use Rattle.std.proofs.Common.{◌≡◌, ℕ, pos, negsuc, List, [], ◌∷◌, map, filter, drop, Bool, true, ◌==◌, nat_cmp, refl, sym, ap, subst, ◌∙◌, arith}
+use Rattle.std.proofs.Common.{◌≡◌, ℕ, pos, negsuc, List, [], ◌∷◌, map, filter, drop, true, ◌==◌, nat_cmp, refl, sym, ◌∙◌, arith}
 use Rattle.std.specs.Ordering.{ordering_then, int_cmp}
 use Rattle.std.specs.Cmp.Lexicographic.{slice_cmp}
 use Rattle.std.specs.declared.cmp.Ordering.{Ordering}
 use Rattle.std.specs.declared.cmp.Ordering.TheVariants.{Less, Equal, Greater}
+use Rattle.std.proofs.lemmas.Bool.{eqb-true}
 use Rattle.std.proofs.lemmas.Bool.Decides.{nat_tests}
-use Rattle.sqlite_value.specs.declared.value.Value.TheVariants.{Int, Text}
+use Rattle.sqlite_value.specs.declared.value.Value.TheVariants.{Int}
 use Rattle.sqlite_value.specs.declared.keys.Key.{Key}
 use Rattle.sqlite_value.specs.Order.{Row, column}
 use Rattle.sqlite_value.proofs.OrderLemmas.{value_cmp-Int, value_cmp-Text}
@@ -30,18 +31,15 @@ use Rattle.hub_store.proofs.Puts.{past_one}
 use Rattle.hub_store.proofs.Statements.{shows}
 use Rattle.hub_store.proofs.Unique.{rising}
 
-is_number : (a b : ℕ) → (a == b) ≡ true → a ≡ b
-is_number a b h = grind (arith, nat_tests)
-
 not_less : (m n k : ℕ) → m ≡ k → n ≡ k → nat_cmp m n ≡ Less → ⊥
 not_less m n k e f h = grind (arith, nat_tests)
 
 -- of one incident, so the next key decides
-next_decides : (m n k : ℕ) (o : Ordering) → (m == k) ≡ true → (n == k) ≡ true → ordering_then (nat_cmp m n) o ≡ Less → o ≡ Less
+pub next_decides : (m n k : ℕ) (o : Ordering) → (m == k) ≡ true → (n == k) ≡ true → ordering_then (nat_cmp m n) o ≡ Less → o ≡ Less
 next_decides m n k o e f h = go (nat_cmp m n) refl h
   where
     go : (c : Ordering) → nat_cmp m n ≡ c → ordering_then c o ≡ Less → o ≡ Less
-    go Less is more = absurd (not_less m n k (is_number m k e) (is_number n k f) is)
+    go Less is more = absurd (not_less m n k (eqb-true m k e) (eqb-true n k f) is)
     go Equal is more = more
     go Greater is more = absurd cc
 
@@ -74,7 +72,7 @@ int_equal a b h = grind (arith, nat_tests)
 int_above : (a b : ℕ) → nat_cmp a b ≡ Greater → int_cmp (pos a) (pos b) ≡ Greater
 int_above a b h = grind (arith, nat_tests)
 
-int_as_nat : (a b : ℕ) → int_cmp (pos a) (pos b) ≡ nat_cmp a b
+pub int_as_nat : (a b : ℕ) → int_cmp (pos a) (pos b) ≡ nat_cmp a b
 int_as_nat a b = go (nat_cmp a b) refl
   where
     go : (c : Ordering) → nat_cmp a b ≡ c → int_cmp (pos a) (pos b) ≡ nat_cmp a b
@@ -95,7 +93,7 @@ three_decide : (m n k : ℕ) (o p q : Ordering) → (m == k) ≡ true → (n == 
 three_decide m n k o p q e f h = go (nat_cmp m n) refl h
   where
     go : (c : Ordering) → nat_cmp m n ≡ c → ordering_then (ordering_then c o) (ordering_then p q) ≡ Less → ordering_then o (ordering_then p (ordering_then q Equal)) ≡ Less
-    go Less is more = absurd (not_less m n k (is_number m k e) (is_number n k f) is)
+    go Less is more = absurd (not_less m n k (eqb-true m k e) (eqb-true n k f) is)
     go Equal is more = last_three o p q more
     go Greater is more = absurd cc
 

@@ -1,8 +1,8 @@
 -- Reads one after another in a transaction.
-use Rattle.std.proofs.Common.{◌≡◌, inl, Result, Ok, Err, IfOk, OnOk, IsTrue, sym, ap, subst, ◌∙◌}
+use Rattle.std.proofs.Common.{inl, Result, Ok, Err, IfOk, sym, ap, subst, ◌∙◌}
 use Rattle.sqlite.specs.declared.error.Error.{Error}
 use Rattle.sqlite.specs.Effect.{Database}
-use Rattle.sqlite.specs.State.{State, HasCleanDisk, IsUnchanged}
+use Rattle.sqlite.specs.State.{State, IsUnchanged}
 use Rattle.sqlite.proofs.Callers.{unchanged_then}
 use Rattle.hub_core.specs.State as core
 use Rattle.hub_core.specs.Sound.{IsSound}

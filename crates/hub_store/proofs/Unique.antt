@@ -321,7 +321,7 @@ one_arrangement a b e =
     let handling = one_handling a.handling b.handling (some_number (handling_number a.handling) (handling_number b.handling) it.2) in
     λ i. record { source = it.0 i; org = it.1 i; handling = handling i }
 
-some_one : (x y : Lines) → ◌≡◌ {A = Result (List Lines) ReadFault} (Ok (x ∷ [])) (Ok (y ∷ [])) → x ≡ y
+pub some_one : (x y : Lines) → ◌≡◌ {A = Result (List Lines) ReadFault} (Ok (x ∷ [])) (Ok (y ∷ [])) → x ≡ y
 some_one x y e = cc
 
 -- the text of a stored document reads as that document

@@ -3,6 +3,8 @@ pub mod Values
 pub mod Holdings
 pub mod Pairs
 pub mod Rows
+pub mod PairKinds
+pub mod ShownPairs
 pub mod Fit
 pub mod Partly
 pub mod Means
@@ -10,4 +12,7 @@ pub mod Content
 pub mod Keeps
 pub mod Asked
 pub mod Shown
+pub mod FirstShown
+pub mod Looks
 pub mod Makes
+pub mod TargetsShown

@@ -1,38 +1,19 @@
 //! What an incident is judged by, beside its document.
 
-ghost use Rattle.std.specs.Prelude.{◌≡◌, ◌==◌, false, map, filter, option_map};
+ghost use Rattle.std.specs.Prelude.{◌≡◌, ◌==◌, false, map, filter};
 ghost use Rattle.sqlite.specs.Held.{state};
-ghost use Rattle.hub_core.specs.Facts.{known};
 ghost use Rattle.hub_core.specs.Reads.{case_gate, case_permission, case_of};
-ghost use Rattle.hub_core.specs.State.{incident_of};
 ghost use Rattle.hub_store.specs.Asked.{IsRead, Answers};
 ghost use Rattle.hub_store.specs.Shown.{IsCase};
 
-use crate::from_row::{all, first};
+use crate::find_known::read_known;
+use crate::from_row::all;
 use crate::query::ask;
-use hub_core::Known;
 use policy::{Case, Gate, Gates, Permission, Permissions};
 use sqlite::{Alter, Connection, Error, Transaction, params};
 use std::alloc::Global;
 
-/// The incident without its document.
-pub(crate) fn read_known<S: Alter>(
-    tx: &mut Transaction<'_, S>,
-    alloc: Global,
-    incident: u32,
-) -> Result<Option<Known>, Error>
-    ensures same_reference { tx.new.conn.ghost_name ≡ tx.old.conn.ghost_name }
-    ensures read { IsRead (state S.Store tx.old.conn.now) (state S.Store tx.new.conn.now) (λ s found. found ≡ option_map known (incident_of incident s)) result }
-{
-    let rows = ask(
-        tx,
-        "SELECT source, revision, ident FROM incident WHERE number = ?1",
-        params![incident],
-    )?;
-    first(alloc, &rows)
-}
-
-fn read_gates<S: Alter>(
+pub(crate) fn read_gates<S: Alter>(
     tx: &mut Transaction<'_, S>,
     alloc: Global,
     incident: u32,
@@ -48,7 +29,7 @@ fn read_gates<S: Alter>(
     all(alloc, &rows)
 }
 
-fn read_permissions<S: Alter>(
+pub(crate) fn read_permissions<S: Alter>(
     tx: &mut Transaction<'_, S>,
     alloc: Global,
     incident: u32,

@@ -11,7 +11,7 @@ use circle::directory::Person;
 use sqlite::{Alter, Connection, Error, Transaction, params};
 use std::alloc::Global;
 
-fn read_person<S: Alter>(
+pub(crate) fn read_person<S: Alter>(
     tx: &mut Transaction<'_, S>,
     alloc: Global,
     key: &[u8; 32],

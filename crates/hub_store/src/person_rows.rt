@@ -22,7 +22,7 @@ fn role_of(number: u32) -> Result<Role, Error>
     }
 }
 
-fn name_of(alloc: Global, text: &str) -> Result<Name, Error>
+pub(crate) fn name_of(alloc: Global, text: &str) -> Result<Name, Error>
     ensures { IfOk result (λ name. name ≡ text.now) }
 {
     match Name::of(alloc, text)? {

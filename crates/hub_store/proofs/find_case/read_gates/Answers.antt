@@ -1,4 +1,4 @@
-use Rattle.std.proofs.Common.{pos, ◌==◌, ◌∷◌, [], map, filter, option_map}
+use Rattle.std.proofs.Common.{pos, ◌==◌, ◌∷◌, [], map, filter}
 use Rattle.sqlite_value.specs.declared.value.Value.TheVariants.{Int}
 use Rattle.sqlite.specs.Held.{state}
 use Rattle.hub_core.specs.Reads.{case_gate}

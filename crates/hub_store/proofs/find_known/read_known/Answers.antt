@@ -1,4 +1,4 @@
-use Rattle.std.proofs.Common.{pos, ◌==◌, ◌∷◌, [], map, filter, option_map}
+use Rattle.std.proofs.Common.{pos, ◌∷◌, [], option_map}
 use Rattle.sqlite_value.specs.declared.value.Value.TheVariants.{Int}
 use Rattle.sqlite.specs.Held.{state}
 use Rattle.hub_core.specs.Facts.{known}
@@ -8,7 +8,7 @@ use Rattle.hub_store.proofs.Answering.{read_shown}
 use Rattle.hub_store.proofs.Finding.{reads_first}
 use Rattle.hub_store.proofs.Incidents.{known_found}
 use Rattle.hub_store.proofs.Texts.{incident_with_number, incident_with_number_is, incident_with_number_plain}
-use Rattle.hub_store.proofs.find_case.read_known.Goals as goal
+use Rattle.hub_store.proofs.find_known.read_known.Goals as goal
 
 pub returns-clause-read : goal.returns-clause-read
 returns-clause-read g c =

@@ -1,0 +1,177 @@
+-- What queries of the table of pairs show of one of its sets.
+use Rattle.std.proofs.Common.{◌≡◌, ℕ, pos, negsuc, List, [], ◌∷◌, map, filter, find, drop, Bool, true, false, ◌&&◌, ◌==◌, codes, Option, Some, None, nat_cmp, refl, sym, ap, subst, ◌∙◌, arith}
+use Rattle.std.specs.Option.{option_to_list}
+use Rattle.std.specs.Ordering.{ordering_then}
+use Rattle.std.specs.List.Sorted.{IsPermutation}
+use Rattle.std.specs.declared.cmp.Ordering.{Ordering}
+use Rattle.std.specs.declared.cmp.Ordering.TheVariants.{Less, Equal, Greater}
+use Rattle.std.proofs.lemmas.Bool.Decides.{nat_tests}
+use Rattle.sqlite_value.specs.declared.value.Value.TheVariants.{Int, Text}
+use Rattle.sqlite_value.specs.declared.keys.Key.{Key}
+use Rattle.sqlite_value.specs.Order.{Row, column}
+use Rattle.sqlite_value.proofs.OrderLemmas.{value_cmp-Int}
+use Rattle.sqlite_trees.specs.Tree.{Trees, IsAscending}
+use Rattle.sqlite_trees.proofs.ListLemmas.{map-map, all_weaker, ascending-map, ascending_weaker}
+use Rattle.sqlite_sql.specs.Term.{Term, lit, col, eval_all}
+use Rattle.sqlite_sql.specs.Query.{Query, IsAnswer, Output, output_cmp}
+use Rattle.sqlite_sql.proofs.QueryLemmas.{output_cmp_total}
+use Rattle.sqlite.proofs.Callers.{one_permutation}
+use Rattle.circle.specs.Ordered.{pair_cmp}
+use Rattle.circle.specs.Directory.{Directory, client_key, membership_key, connection_key, group_member_key, arrangement_key}
+use Rattle.circle.specs.Sound as circle
+use Rattle.hub_core.specs.State as core
+use Rattle.hub_core.specs.Sound.{IsSound}
+use Rattle.hub_store.specs.Holdings.{without_rowids}
+use Rattle.hub_store.specs.Means.{Means}
+use Rattle.hub_store.specs.Pairs.{Pair, pair_row, rows_of_pairs}
+use Rattle.hub_store.specs.PairKinds.{kind_name, pairs_of, is_between, pair_between, pairs_from, pairs_to, value_shown, first_shown, second_shown}
+use Rattle.hub_store.specs.Rows.{pair_sets, client_pair, membership_pair, connection_pair, group_member_pair, arrangement_pair}
+use Rattle.hub_store.specs.declared.pair_kind.PairKind.{PairKind}
+use Rattle.hub_store.specs.declared.pair_kind.PairKind.TheVariants as kind
+use Rattle.hub_store.proofs.Compare.{begins, equal_numbers, and_true}
+use Rattle.hub_store.proofs.Finding.{seen_through, of_elements, only_one, Once, no_permutation}
+use Rattle.hub_store.proofs.Forms.{one_table, is_param, by_column, in_order}
+use Rattle.hub_store.proofs.Lists.{Rises}
+use Rattle.hub_store.proofs.Listed.{rising_passing, int_below}
+use Rattle.hub_store.proofs.OneKind.{kind_alone, is_of}
+use Rattle.hub_store.proofs.Orders.{sorted_as}
+use Rattle.hub_store.proofs.Puts.{past_two, past_three}
+use Rattle.hub_store.proofs.Statements.{keeps, shows, selected, ordered_rows}
+use Rattle.hub_store.proofs.Unique.{rising}
+
+-- ---- one set of the table
+
+seen_kind : (k : PairKind) (test : Row → Bool) (d : Directory) → filter (is_of (kind_name k) test) (rows_of_pairs (pair_sets d)) ≡ filter test (map (pair_row (kind_name k)) (pairs_of k d))
+seen_kind kind.Client test d = kind_alone (codes "client") test 0 (pair_sets d) (map client_pair d.clients) refl refl refl
+seen_kind kind.Membership test d = kind_alone (codes "member") test 1 (pair_sets d) (map membership_pair d.memberships) refl refl refl
+seen_kind kind.Connection test d = kind_alone (codes "link") test 2 (pair_sets d) (map connection_pair d.connections) refl refl refl
+seen_kind kind.GroupMember test d = kind_alone (codes "grp_member") test 3 (pair_sets d) (map group_member_pair d.group_members) refl refl refl
+seen_kind kind.Arrangement test d = kind_alone (codes "arrangement") test 4 (pair_sets d) (map arrangement_pair d.arrangements) refl refl refl
+
+abbrev pub Below : Pair → Pair → Type 0
+Below p q = pair_cmp p.0 q.0 ≡ Less
+
+-- each set stands in the order of its two numbers
+pub pairs_rise : (k : PairKind) (d : Directory) → circle.IsSound d → IsAscending Below (pairs_of k d)
+pairs_rise kind.Client d sound = ascending-map Below client_pair d.clients (rising _ d.clients sound.clients.rising)
+pairs_rise kind.Membership d sound = ascending-map Below membership_pair d.memberships (rising _ d.memberships sound.memberships.rising)
+pairs_rise kind.Connection d sound = ascending-map Below connection_pair d.connections (rising _ d.connections sound.connections.rising)
+pairs_rise kind.GroupMember d sound = ascending-map Below group_member_pair d.group_members (rising _ d.group_members sound.group_members.rising)
+pairs_rise kind.Arrangement d sound = ascending-map Below arrangement_pair d.arrangements (rising _ d.arrangements sound.arrangements.rising)
+
+-- ---- two pairs that follow each other
+
+is_number : (a b : ℕ) → (a == b) ≡ true → a ≡ b
+is_number a b h = grind (arith, nat_tests)
+
+not_less : (m n k : ℕ) → m ≡ k → n ≡ k → nat_cmp m n ≡ Less → ⊥
+not_less m n k e f h = grind (arith, nat_tests)
+
+-- where both have the same second number, the first decides
+pub first_decides : (m n i j k : ℕ) → (i == k) ≡ true → (j == k) ≡ true → ordering_then (nat_cmp m n) (nat_cmp i j) ≡ Less → nat_cmp m n ≡ Less
+first_decides m n i j k e f h = go (nat_cmp m n) h
+  where
+    go : (c : Ordering) → ordering_then c (nat_cmp i j) ≡ Less → c ≡ Less
+    go Less more = refl
+    go Equal more = absurd (not_less i j k (is_number i k e) (is_number j k f) more)
+    go Greater more = absurd cc
+
+-- where both have the same first number, the second decides
+second_decides : (m n k : ℕ) (o : Ordering) → (m == k) ≡ true → (n == k) ≡ true → ordering_then (nat_cmp m n) o ≡ Less → o ≡ Less
+second_decides m n k o e f h = go (nat_cmp m n) refl h
+  where
+    go : (c : Ordering) → nat_cmp m n ≡ c → ordering_then c o ≡ Less → o ≡ Less
+    go Less is more = absurd (not_less m n k (is_number m k e) (is_number n k f) is)
+    go Equal is more = more
+    go Greater is more = absurd cc
+
+split_and : (x y : Bool) → (x && y) ≡ true → (x ≡ true) × (y ≡ true)
+split_and true true h = (refl, refl)
+split_and true false h = absurd cc
+split_and false y h = absurd cc
+
+never_so : (t : Bool) → (t ≡ true → ⊥) → t ≡ false
+never_so true never = absurd (never refl)
+never_so false never = refl
+
+-- two numbers stand once
+pub once_between : (a b : ℕ) (ps : List Pair) → IsAscending Below ps → Once (is_between a b) ps
+once_between a b [] up = tt
+once_between a b (p ∷ ps) up = (all_weaker (Below p) (λ q. is_between a b p ≡ true → is_between a b q ≡ false) (λ q h is. never_so (is_between a b q) (apart q h (split_and (p.0.0 == a) (p.0.1 == b) is))) ps up.0, once_between a b ps up.1)
+  where
+    apart : (q : Pair) → Below p q → ((p.0.0 == a) ≡ true) × ((p.0.1 == b) ≡ true) → is_between a b q ≡ true → ⊥
+    apart q h one also =
+        let other = split_and (q.0.0 == a) (q.0.1 == b) also in
+        not_less p.0.1 q.0.1 b (is_number p.0.1 b one.1) (is_number q.0.1 b other.1) (second_decides p.0.0 q.0.0 a (nat_cmp p.0.1 q.0.1) one.0 other.0 h)
+
+-- ---- queries
+
+alone : {X : Type 0} (shown : X → Row) (o : Option X) (rows : List Row) → IsPermutation (map shown (option_to_list o)) rows → rows ≡ map shown (option_to_list o)
+alone shown None rows same = no_permutation rows same
+alone shown (Some x) rows same = one_permutation (shown x) rows same
+
+past_both : (params r : Row) → shows (col 1 4 ∷ []) params r ≡ column (drop 1 r) 3 ∷ []
+past_both params [] = refl
+past_both params (x ∷ r) = refl
+
+abbrev from_out : Row → Output
+from_out r = (column r 2 ∷ [], column r 2 ∷ column r 3 ∷ [])
+
+past_from : (params r : Row) → (eval_all (map (λ (k : Term × Key). k.0) (by_column 3 ∷ [])) (params ∷ r ∷ []), shows (col 1 3 ∷ col 1 4 ∷ []) params r) ≡ from_out (drop 1 r)
+past_from params [] = refl
+past_from params (x ∷ r) = refl
+
+abbrev to_out : Row → Output
+to_out r = (column r 1 ∷ [], column r 1 ∷ column r 3 ∷ [])
+
+past_to : (params r : Row) → (eval_all (map (λ (k : Term × Key). k.0) (by_column 2 ∷ [])) (params ∷ r ∷ []), shows (col 1 2 ∷ col 1 4 ∷ []) params r) ≡ to_out (drop 1 r)
+past_to params [] = refl
+past_to params (x ∷ r) = refl
+
+kept_to : (name : List ℕ) (b : ℕ) (r : Row) → keeps (is_param 1 0 ∷ is_param 3 1 ∷ []) (Text name ∷ Int (pos b) ∷ []) r ≡ is_of name (begins 2 (Int (pos b) ∷ [])) (drop 1 r)
+kept_to name b [] = refl
+kept_to name b (x ∷ r) = refl
+
+module _ (db : Trees) (s : core.State) (k : PairKind) (sound : IsSound s) (means : Means db s) where
+  -- the pairs of the set that pass, in some order
+  passing : {Y : Type 0} (keep : Row → Bool) (show : Row → Y) (test : Row → Bool) (out : Row → Y) (q : Pair → Bool) (found : List Y) → ((r : Row) → keep r ≡ is_of (kind_name k) test (drop 1 r)) → ((r : Row) → show r ≡ out (drop 1 r)) → ((p : Pair) → test (pair_row (kind_name k) p) ≡ q p)
+      → IsPermutation (map show (filter keep (db 9))) found → IsPermutation (map (λ p. out (pair_row (kind_name k) p)) (filter q (pairs_of k s.directory))) found
+  passing keep show test out q found keeps shows same is =
+      let seen = seen_through db (without_rowids 9 (rows_of_pairs (pair_sets s.directory))) keep show (is_of (kind_name k) test) out found keeps shows means.1.1.1.1.1.0 is in
+      of_elements (pair_row (kind_name k)) test out q (pairs_of k s.directory) found same (subst (λ l. IsPermutation (map out l) found) (seen_kind k test s.directory) seen)
+
+  pub between_shown : (a b : ℕ) (rows : List Row) → IsAnswer (one_table 9 (is_param 1 0 ∷ is_param 2 1 ∷ is_param 3 2 ∷ []) (col 1 4 ∷ [])) db (Text (kind_name k) ∷ Int (pos a) ∷ Int (pos b) ∷ []) rows → rows ≡ map value_shown (option_to_list (pair_between k a b s.directory))
+  between_shown a b rows answer =
+      let terms = is_param 1 0 ∷ is_param 2 1 ∷ is_param 3 2 ∷ [] in
+      let params = Text (kind_name k) ∷ Int (pos a) ∷ Int (pos b) ∷ [] in
+      let found = passing (keeps terms params) (shows (col 1 4 ∷ []) params) (begins 1 (Int (pos a) ∷ Int (pos b) ∷ [])) (λ r. column r 3 ∷ []) (is_between a b) rows (past_three (Text (kind_name k)) (Int (pos a)) (Int (pos b))) (past_both params)
+      (λ p. rw (equal_numbers p.0.0 a, equal_numbers p.0.1 b, and_true (p.0.1 == b)) refl) (selected db 9 terms (col 1 4 ∷ []) params rows answer) in
+      alone value_shown (pair_between k a b s.directory) rows (subst (λ l. IsPermutation (map value_shown l) rows) (only_one (is_between a b) (pairs_of k s.directory) (once_between a b (pairs_of k s.directory) (pairs_rise k s.directory sound.directory))) found)
+
+  -- the pairs of the set that pass, in the order of the query
+  ordered : (terms project : List Term) (order : List (Term × Key)) (params : Row) (test : Row → Bool) (out : Row → Output) (q : Pair → Bool) (rows : List Row) → ((r : Row) → keeps terms params r ≡ is_of (kind_name k) test (drop 1 r))
+      → ((r : Row) → (eval_all (map (λ (key : Term × Key). key.0) order) (params ∷ r ∷ []), shows project params r) ≡ out (drop 1 r)) → ((p : Pair) → test (pair_row (kind_name k) p) ≡ q p)
+      → ((a b : Pair) → q a ≡ true → Below a b → q b ≡ true → output_cmp (in_order order (one_table 9 terms project)) (out (pair_row (kind_name k) a)) (out (pair_row (kind_name k) b)) ≡ Less)
+      → IsAnswer (in_order order (one_table 9 terms project)) db params rows → rows ≡ map (λ p. (out (pair_row (kind_name k) p)).1) (filter q (pairs_of k s.directory))
+  ordered terms project order params test out q rows kept show same below answer =
+      let Q : Query = in_order order (one_table 9 terms project) in
+      let row = pair_row (kind_name k) in
+      let pairs = pairs_of k s.directory in
+      let got = ordered_rows db 9 terms project order (lit (Int (negsuc 0))) params rows answer in
+      let found = passing (keeps terms params) (λ r. (eval_all (map (λ (key : Term × Key). key.0) order) (params ∷ r ∷ []), shows project params r)) test out q got.0 kept show same got.1 in
+      let rises : Rises (output_cmp Q) (λ o. o) (map (λ p. out (row p)) (filter q pairs)) =
+      ascending-map _ (λ p. out (row p)) (filter q pairs) (ascending_weaker (λ a b. (q a ≡ true) × (Below a b × (q b ≡ true))) _ (λ a b h. below a b h.0 h.1.0 h.1.1) (filter q pairs) (rising_passing Below q pairs (pairs_rise k s.directory sound.directory))) in
+      let all = sorted_as (output_cmp_total Q) (λ o. o) (map (λ p. out (row p)) (filter q pairs)) got.0 rises found got.2 in
+      got.3 ∙ ap (map (λ (o : Output). o.1)) all ∙ map-map (λ (o : Output). o.1) (λ p. out (row p)) (filter q pairs)
+
+  pub from_shown : (a : ℕ) (rows : List Row) → IsAnswer (in_order (by_column 3 ∷ []) (one_table 9 (is_param 1 0 ∷ is_param 2 1 ∷ []) (col 1 3 ∷ col 1 4 ∷ []))) db (Text (kind_name k) ∷ Int (pos a) ∷ []) rows → rows ≡ map second_shown (pairs_from k a s.directory)
+  from_shown a rows answer =
+      let params = Text (kind_name k) ∷ Int (pos a) ∷ [] in
+      ordered (is_param 1 0 ∷ is_param 2 1 ∷ []) (col 1 3 ∷ col 1 4 ∷ []) (by_column 3 ∷ []) params (begins 1 (Int (pos a) ∷ [])) from_out (λ (p : Pair). p.0.0 == a) rows (past_two (Text (kind_name k)) (Int (pos a))) (past_from params) (λ p. and_true _ ∙ equal_numbers p.0.0 a)
+      (λ p q one less other. rw (value_cmp-Int (pos p.0.1) (pos q.0.1), int_below p.0.1 q.0.1 (second_decides p.0.0 q.0.0 a (nat_cmp p.0.1 q.0.1) one other less)) refl) answer
+
+  pub to_shown : (b : ℕ) (rows : List Row) → IsAnswer (in_order (by_column 2 ∷ []) (one_table 9 (is_param 1 0 ∷ is_param 3 1 ∷ []) (col 1 2 ∷ col 1 4 ∷ []))) db (Text (kind_name k) ∷ Int (pos b) ∷ []) rows → rows ≡ map first_shown (pairs_to k b s.directory)
+  to_shown b rows answer =
+      let params = Text (kind_name k) ∷ Int (pos b) ∷ [] in
+      ordered (is_param 1 0 ∷ is_param 3 1 ∷ []) (col 1 2 ∷ col 1 4 ∷ []) (by_column 2 ∷ []) params (begins 2 (Int (pos b) ∷ [])) to_out (λ (p : Pair). p.0.1 == b) rows (kept_to (kind_name k) b) (past_to params) (λ p. and_true _ ∙ equal_numbers p.0.1 b)
+      (λ p q one less other. rw (value_cmp-Int (pos p.0.0) (pos q.0.0), int_below p.0.0 q.0.0 (first_decides p.0.0 q.0.0 p.0.1 q.0.1 b one other less)) refl) answer

@@ -1,0 +1,64 @@
+-- What a query by a number finds.
+use Rattle.std.proofs.Common.{◌≡◌, ℕ, pos, List, [], ◌∷◌, map, filter, find, length, Bool, true, false, cond, not, ◌||◌, ◌==◌, is_some, option_map, Option, Some, None, Result, Ok, Err, IfOk, refl, sym, ap, subst, ◌∙◌}
+use Rattle.std.specs.List.{list_any}
+use Rattle.std.specs.Option.{option_to_list}
+use Rattle.std.specs.List.Sorted.{IsPermutation}
+use Rattle.std.proofs.lemmas.List.{length-map}
+use Rattle.std.proofs.lemmas.List.Sorted.{length_permutation}
+use Rattle.sqlite_value.specs.declared.value.Value.TheVariants.{Int}
+use Rattle.sqlite_value.specs.Order.{Row, column}
+use Rattle.sqlite_trees.specs.Tree.{Trees}
+use Rattle.sqlite_sql.specs.Term.{Term, col}
+use Rattle.sqlite_sql.specs.Query.{IsAnswer}
+use Rattle.circle.specs.Directory.{has_org, has_community, org_number, community_number, account_number, group_number}
+use Rattle.circle.specs.Reads.{person_in, person_of, group_of}
+use Rattle.circle.specs.Sound.{CountsFrom}
+use Rattle.circle.proofs.Lookup.{some_having}
+use Rattle.hub_core.specs.State as core
+use Rattle.hub_core.specs.Sound.{IsSound}
+use Rattle.hub_store.specs.Holdings.{IsHeld, by_number}
+use Rattle.hub_store.specs.Means.{Means}
+use Rattle.hub_store.specs.Rows.{org_row, account_row, community_row, group_row}
+use Rattle.hub_store.specs.Shown.{person_shown}
+use Rattle.hub_store.proofs.Compare.{is_same, equal_numbers, and_true}
+use Rattle.hub_store.proofs.Forms.{one_table, is_param}
+use Rattle.hub_store.proofs.Statements.{keeps, shows, selected}
+use Rattle.hub_store.proofs.Finding.{seen_through, of_elements, only_one, once_numbered, as_viewed}
+
+-- rows show whether an element passes
+pub any_shown : {X : Type 0} (shown : X → Row) (q : X → Bool) (xs : List X) (rows : List Row) → IsPermutation (map shown (filter q xs)) rows → not (length rows == 0) ≡ list_any q xs
+any_shown shown q xs rows same = ap (λ n. not (n == 0)) (length_permutation _ rows same ∙ length-map (filter q xs) shown) ∙ some_having q xs
+
+module _ {X : Type 0} (db : Trees) (tree : ℕ) (row : X → Row) (number : X → ℕ) (xs : List X) (first : (x : X) → column (row x) 0 ≡ Int (pos (number x))) (n : ℕ) (project : List Term) (rows : List Row) (held : IsHeld db (by_number tree row xs)) (a : IsAnswer (one_table tree (is_param 0 0 ∷ []) project) db (Int (pos n) ∷ []) rows) where
+  pub with_number : IsPermutation (map (λ x. shows project (Int (pos n) ∷ []) (row x)) (filter (λ x. number x == n) xs)) rows
+  with_number =
+      let terms = is_param 0 0 ∷ [] in
+      let params = Int (pos n) ∷ [] in
+      let found = seen_through db (by_number tree row xs) (keeps terms params) (shows project params) (keeps terms params) (shows project params) rows (λ r. refl) (λ r. refl) held (selected db tree terms project params rows a) in
+      of_elements row (keeps terms params) (shows project params) (λ x. number x == n) xs rows (λ x. and_true _ ∙ ap (λ v. is_same v (Int (pos n))) (first x) ∙ equal_numbers (number x) n) found
+
+  -- there is one at most
+  pub one_with_number : CountsFrom number 0 xs → IsPermutation (map (λ x. shows project (Int (pos n) ∷ []) (row x)) (option_to_list (find (λ x. number x == n) xs))) rows
+  one_with_number counts = subst (λ l. IsPermutation l rows) (ap (map (λ x. shows project (Int (pos n) ∷ []) (row x))) (only_one (λ x. number x == n) xs (once_numbered number n xs counts))) with_number
+
+pub org_found : (db : Trees) (s : core.State) (n : ℕ) (rows : List Row) → Means db s → IsAnswer (one_table 1 (is_param 0 0 ∷ []) (col 1 0 ∷ [])) db (Int (pos n) ∷ []) rows → not (length rows == 0) ≡ has_org n s.directory
+org_found db s n rows means a = any_shown _ _ s.directory.orgs rows (with_number db 1 org_row org_number s.directory.orgs (λ x. refl) n (col 1 0 ∷ []) rows means.1.0 a)
+
+pub community_found : (db : Trees) (s : core.State) (n : ℕ) (rows : List Row) → Means db s → IsAnswer (one_table 5 (is_param 0 0 ∷ []) (col 1 0 ∷ [])) db (Int (pos n) ∷ []) rows → not (length rows == 0) ≡ has_community n s.directory
+community_found db s n rows means a = any_shown _ _ s.directory.communities rows (with_number db 5 community_row community_number s.directory.communities (λ x. refl) n (col 1 0 ∷ []) rows means.1.1.1.0 a)
+
+pub person_numbered_found : (db : Trees) (s : core.State) (n : ℕ) (rows : List Row) → IsSound s → Means db s → IsAnswer (one_table 3 (is_param 0 0 ∷ []) (col 1 0 ∷ col 1 2 ∷ col 1 3 ∷ col 1 4 ∷ col 1 6 ∷ col 1 7 ∷ [])) db (Int (pos n) ∷ []) rows
+    → IsPermutation (map person_shown (option_to_list (person_of n s.directory))) rows
+person_numbered_found db s n rows sound means a =
+    let project = col 1 0 ∷ col 1 2 ∷ col 1 3 ∷ col 1 4 ∷ col 1 6 ∷ col 1 7 ∷ [] in
+    subst (λ l. IsPermutation l rows) (as_viewed (λ a. shows project (Int (pos n) ∷ []) (account_row a)) person_in person_shown (λ a. refl) _)
+    (one_with_number db 3 account_row account_number s.directory.accounts (λ x. refl) n project rows means.1.1.0 a sound.directory.accounts.numbered.0)
+
+-- an option that is there, and a list that has such an element
+pub some_passes : {X Y : Type 0} (view : X → Y) (q : X → Bool) (xs : List X) → is_some (option_map view (find q xs)) ≡ list_any q xs
+some_passes view q [] = refl
+some_passes view q (x ∷ xs) = go (q x) (some_passes view q xs)
+  where
+    go : (b : Bool) → is_some (option_map view (find q xs)) ≡ list_any q xs → is_some (option_map view (cond b (Some x) (find q xs))) ≡ (b || list_any q xs)
+    go true more = refl
+    go false more = more

@@ -1,0 +1,68 @@
+-- Loops over what was read, by what is left to go over.
+use Rattle.std.proofs.Common.{◌≡◌, ℕ, ◌+◌, ◌<◌, ◌≤◌, List, [], ◌∷◌, ◌++◌, map, drop, length, get_or, Bool, true, false, ◌||◌, Option, Some, None, option_map, append_assoc, refl, sym, ap, ◌∙◌, arith}
+use Rattle.std.specs.List.{list_any, filter_map, cons_option}
+use Rattle.std.proofs.lemmas.List.{at_drop_more, drop_all, append-nil}
+use Rattle.std.proofs.lemmas.List.Folds.{list_any-append}
+use Rattle.circle.specs.declared.directory.Group.{Group}
+use Rattle.circle.specs.Directory.{Directory}
+use Rattle.circle.specs.Reads.{group_of}
+use Rattle.hub_core.specs.declared.reply.JoinedGroup.{JoinedGroup}
+use Rattle.hub_store.specs.Pairs.{Pair}
+use Rattle.hub_store.specs.PairKinds.{pairs_from, pairs_to}
+use Rattle.hub_store.specs.ShownPairs.{joined_group, group_if_any, is_one_of, linked_with}
+use Rattle.hub_store.specs.declared.joined_rows.Joined.{Joined}
+use Rattle.hub_store.specs.declared.pair_kind.PairKind.TheVariants as kind
+
+-- ---- groups
+
+cons_more : {X : Type 0} (o : Option X) (rest : List X) → cons_option o [] ++ rest ≡ cons_option o rest
+cons_more None rest = refl
+cons_more (Some x) rest = refl
+
+-- one member more
+pub more_groups : (d : Directory) (items new : List JoinedGroup) (ms : List Joined) (i : ℕ) (m e : Joined) (o : Option Group) (total : List JoinedGroup) → i < length ms → m ≡ get_or ms i e → o ≡ group_of m.group d → new ≡ items ++ cons_option (option_map (joined_group m) o) []
+    → items ++ filter_map (group_if_any d) (drop i ms) ≡ total → new ++ filter_map (group_if_any d) (drop (i + 1) ms) ≡ total
+more_groups d items new ms i m e o total low is found pushed so_far =
+    let rest = filter_map (group_if_any d) (drop (i + 1) ms) in
+    let one = option_map (joined_group m) o in
+    ap (λ l. l ++ rest) pushed
+    ∙ (append_assoc items (cons_option one []) rest
+    ∙ (ap (λ l. items ++ l) (cons_more one rest)
+    ∙ (ap (λ (p : Option Group). items ++ cons_option (option_map (joined_group m) p) rest) found
+    ∙ (ap (λ (x : Joined). items ++ filter_map (group_if_any d) (x ∷ drop (i + 1) ms)) is
+    ∙ (sym (at_drop_more (λ l. items ++ filter_map (group_if_any d) l) ms i e low) ∙ so_far)))))
+
+-- all members
+pub all_groups : (d : Directory) (items : List JoinedGroup) (ms : List Joined) (i : ℕ) (total : List JoinedGroup) → length ms ≤ i → items ++ filter_map (group_if_any d) (drop i ms) ≡ total → items ≡ total
+all_groups d items ms i total past so_far = sym (append-nil items) ∙ (ap (λ l. items ++ filter_map (group_if_any d) l) (sym (drop_all i ms past)) ∙ so_far)
+
+-- ---- tests
+
+module _ {X : Type 0} (test : X → Bool) (xs : List X) (i : ℕ) (x e : X) (total : Bool) (low : i < length xs) (is : x ≡ get_or xs i e) (so_far : list_any test (drop i xs) ≡ total) where
+  at_next : (test x || list_any test (drop (i + 1) xs)) ≡ total
+  at_next = ap (λ y. list_any test (y ∷ drop (i + 1) xs)) is ∙ (sym (at_drop_more (list_any test) xs i e low) ∙ so_far)
+
+  -- one that fails is passed over
+  pub passed_over : false ≡ test x → list_any test (drop (i + 1) xs) ≡ total
+  passed_over fails = ap (λ b. b || list_any test (drop (i + 1) xs)) fails ∙ at_next
+
+  -- one that passes settles the answer
+  pub settled : true ≡ test x → true ≡ total
+  settled passes = ap (λ b. b || list_any test (drop (i + 1) xs)) passes ∙ at_next
+
+pub none_left : {X : Type 0} (test : X → Bool) (xs : List X) (i : ℕ) (total : Bool) → length xs ≤ i → list_any test (drop i xs) ≡ total → false ≡ total
+none_left test xs i total past so_far = ap (list_any test) (sym (drop_all i xs past)) ∙ so_far
+
+-- ---- connected communities
+
+module _ (ns : List ℕ) (n : ℕ) (d : Directory) (above : List ℕ) (is : above ≡ map (λ (p : Pair). p.0.1) (pairs_from kind.Connection n d)) where
+  pub found_above : true ≡ list_any (is_one_of ns) above → true ≡ list_any (is_one_of ns) (linked_with n d)
+  found_above passes =
+      let below = map (λ (p : Pair). p.0.0) (pairs_to kind.Connection n d) in
+      ap (λ b. b || list_any (is_one_of ns) below) (passes ∙ ap (list_any (is_one_of ns)) is) ∙ sym (list_any-append (is_one_of ns) (map (λ (p : Pair). p.0.1) (pairs_from kind.Connection n d)) below)
+
+  pub found_below : (below : List ℕ) → below ≡ map (λ (p : Pair). p.0.0) (pairs_to kind.Connection n d) → false ≡ list_any (is_one_of ns) above → list_any (is_one_of ns) below ≡ list_any (is_one_of ns) (linked_with n d)
+  found_below below also fails =
+      ap (λ b. b || list_any (is_one_of ns) below) (fails ∙ ap (list_any (is_one_of ns)) is)
+      ∙ (ap (λ l. list_any (is_one_of ns) (map (λ (p : Pair). p.0.1) (pairs_from kind.Connection n d)) || list_any (is_one_of ns) l) also
+      ∙ sym (list_any-append (is_one_of ns) (map (λ (p : Pair). p.0.1) (pairs_from kind.Connection n d)) (map (λ (p : Pair). p.0.0) (pairs_to kind.Connection n d))))

@@ -1,0 +1,10 @@
+use Rattle.std.proofs.Common.{◌≡◌, ◌∙◌, min, length, vec_len, ap, arith}
+use Rattle.hub_store.proofs.OfIncident.{permissions_counted}
+use Rattle.hub_store.proofs.Reading.{read_gives}
+use Rattle.hub_store.proofs.incident_permissions.read_permission_count.Goals as goal
+
+pub returns-clause-read : goal.returns-clause-read
+returns-clause-read g c =
+    let all = c.in_ok-permissions.permissions in
+    let as_many : vec_len all ≡ length all.items = omega (arith, all.ok) in
+    read_gives _ _ _ _ _ _ c.in_ok-permissions.ensures.read (λ s sound is. c.counted.ensures ∙ (ap (λ m. min m 4294967295) (c.len.ensures ∙ as_many) ∙ permissions_counted s c.args.incident all.items is sound))

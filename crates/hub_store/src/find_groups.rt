@@ -1,0 +1,203 @@
+//! Groups and their members.
+
+ghost use Rattle.std.specs.Prelude.{◌≡◌, ◌++◌, [], map, filter, option_map, IfOk, OnOk, false};
+ghost use Rattle.std.specs.List.{cons_option};
+ghost use Rattle.sqlite.specs.Held.{state};
+ghost use Rattle.circle.specs.Directory.{has_group_member as is_group_member};
+ghost use Rattle.circle.specs.Reads.{group_of, memberships_in_groups, groups_joined as groups_joined_by, active_groups_joined as active_groups_joined_by};
+ghost use Rattle.hub_core.specs.Reads.{groups_of};
+ghost use Rattle.hub_store.specs.Asked.{IsRead, Answers};
+ghost use Rattle.hub_store.specs.ShownPairs.{joined_of, joined_group as joined_with, groups_in};
+
+use crate::ask_pairs::ask_to;
+use crate::from_row::{all, first};
+use crate::joined_rows::Joined;
+use crate::pair_kind::PairKind;
+use crate::query::ask;
+use crate::read_pairs::{read_firsts, read_has_pair};
+use circle::directory::{Group, Person};
+use hub_core::JoinedGroup;
+use sqlite::{Alter, Connection, Error, Transaction, params};
+use std::alloc::{AllocError, Global};
+
+pub(crate) fn read_has_group_member<S: Alter>(
+    tx: &mut Transaction<'_, S>,
+    group: u32,
+    org: u32,
+) -> Result<bool, Error>
+    ensures same_reference { tx.new.conn.ghost_name ≡ tx.old.conn.ghost_name }
+    ensures read { IsRead (state S.Store tx.old.conn.now) (state S.Store tx.new.conn.now) (λ s found. found ≡ is_group_member group org s.directory) result }
+{
+    read_has_pair(tx, PairKind::GroupMember, group, org)
+}
+
+fn read_groups_joined<S: Alter>(
+    tx: &mut Transaction<'_, S>,
+    alloc: Global,
+    org: u32,
+) -> Result<Vec<u32>, Error>
+    ensures same_reference { tx.new.conn.ghost_name ≡ tx.old.conn.ghost_name }
+    ensures read { IsRead (state S.Store tx.old.conn.now) (state S.Store tx.new.conn.now) (λ s found. found.items ≡ groups_joined_by org s.directory) result }
+{
+    read_firsts(tx, alloc, PairKind::GroupMember, org)
+}
+
+/// The organisation's rows among the members of groups.
+fn read_memberships<S: Alter>(
+    tx: &mut Transaction<'_, S>,
+    alloc: Global,
+    org: u32,
+) -> Result<Vec<Joined>, Error>
+    ensures same_reference { tx.new.conn.ghost_name ≡ tx.old.conn.ghost_name }
+    ensures read { IsRead (state S.Store tx.old.conn.now) (state S.Store tx.new.conn.now) (λ s found. found.items ≡ map joined_of (memberships_in_groups org s.directory)) result }
+{
+    let rows = ask_to(tx, PairKind::GroupMember, org)?;
+    all(alloc, &rows)
+}
+
+pub(crate) fn read_group<S: Alter>(
+    tx: &mut Transaction<'_, S>,
+    alloc: Global,
+    number: u32,
+) -> Result<Option<Group>, Error>
+    ensures same_reference { tx.new.conn.ghost_name ≡ tx.old.conn.ghost_name }
+    ensures read { IsRead (state S.Store tx.old.conn.now) (state S.Store tx.new.conn.now) (λ s found. found ≡ group_of number s.directory) result }
+{
+    let rows = ask(
+        tx,
+        "SELECT number, owner, name, releasability, active FROM grp WHERE number = ?1",
+        params![number],
+    )?;
+    first(alloc, &rows)
+}
+
+fn joined_group(member: Joined, group: Group) -> JoinedGroup
+    ensures { result ≡ joined_with member group }
+{
+    JoinedGroup {
+        number: group.number,
+        owner: group.owner,
+        name: group.name,
+        releasability: group.releasability,
+        active: group.active,
+        extend: member.extend,
+    }
+}
+
+fn push_joined(
+    groups: &mut Vec<JoinedGroup>,
+    member: Joined,
+    group: Option<Group>,
+) -> Result<(), AllocError>
+    ensures { OnOk result (groups.new.items ≡ groups.old.items ++ cons_option (option_map (joined_with member) group) []) }
+{
+    if let Some(group) = group {
+        groups.push(joined_group(member, group))?;
+    }
+    Ok(())
+}
+
+/// The groups of which the organisation is a member, by number.
+fn read_groups<S: Alter>(
+    tx: &mut Transaction<'_, S>,
+    alloc: Global,
+    org: u32,
+) -> Result<Vec<JoinedGroup>, Error>
+    ensures same_reference { tx.new.conn.ghost_name ≡ tx.old.conn.ghost_name }
+    ensures read { IsRead (state S.Store tx.old.conn.now) (state S.Store tx.new.conn.now) (λ s found. found.items ≡ groups_in org s.directory) result }
+{
+    let members = read_memberships(tx, alloc, org)?;
+    let mut groups = Vec::new(alloc);
+    for member in &members {
+        let group = read_group(tx, alloc, member.group)?;
+        push_joined(&mut groups, *member, group)?;
+    }
+    Ok(groups)
+}
+
+fn active_numbers(alloc: Global, groups: &[JoinedGroup]) -> Result<Vec<u32>, AllocError>
+    ensures { IfOk result (λ found. found.items ≡ map (λ g. g.number) (filter (λ g. g.active) groups.now)) }
+{
+    groups
+        .iter()
+        .filter(|group| group.active)
+        .map(|group| group.number)
+        .collect(alloc)
+}
+
+fn read_active_groups<S: Alter>(
+    tx: &mut Transaction<'_, S>,
+    alloc: Global,
+    org: u32,
+) -> Result<Vec<u32>, Error>
+    ensures same_reference { tx.new.conn.ghost_name ≡ tx.old.conn.ghost_name }
+    ensures read { IsRead (state S.Store tx.old.conn.now) (state S.Store tx.new.conn.now) (λ s found. found.items ≡ active_groups_joined_by org s.directory) result }
+{
+    let groups = read_groups(tx, alloc, org)?;
+    let numbers = active_numbers(alloc, &groups)?;
+    Ok(numbers)
+}
+
+/// Whether the organisation is a member of the group.
+pub(crate) fn has_group_member<S: Alter>(
+    conn: &mut Connection<S>,
+    group: u32,
+    org: u32,
+) -> Result<bool, Error>
+    requires { conn.old.in_transaction ≡ false }
+    ensures idle { conn.new.in_transaction ≡ false }
+    ensures answers { Answers (state S.Store conn.old) (state S.Store conn.new) (λ s found. found ≡ is_group_member group org s.directory) result }
+{
+    let mut tx = conn.transaction();
+    let found = read_has_group_member(&mut tx, group, org);
+    tx.rollback();
+    found
+}
+
+/// The groups of which the organisation is a member, by number.
+pub(crate) fn groups_joined<S: Alter>(
+    conn: &mut Connection<S>,
+    alloc: Global,
+    org: u32,
+) -> Result<Vec<u32>, Error>
+    requires { conn.old.in_transaction ≡ false }
+    ensures idle { conn.new.in_transaction ≡ false }
+    ensures answers { Answers (state S.Store conn.old) (state S.Store conn.new) (λ s found. found.items ≡ groups_joined_by org s.directory) result }
+{
+    let mut tx = conn.transaction();
+    let found = read_groups_joined(&mut tx, alloc, org);
+    tx.rollback();
+    found
+}
+
+/// Those of them that are active.
+pub(crate) fn active_groups_joined<S: Alter>(
+    conn: &mut Connection<S>,
+    alloc: Global,
+    org: u32,
+) -> Result<Vec<u32>, Error>
+    requires { conn.old.in_transaction ≡ false }
+    ensures idle { conn.new.in_transaction ≡ false }
+    ensures answers { Answers (state S.Store conn.old) (state S.Store conn.new) (λ s found. found.items ≡ active_groups_joined_by org s.directory) result }
+{
+    let mut tx = conn.transaction();
+    let found = read_active_groups(&mut tx, alloc, org);
+    tx.rollback();
+    found
+}
+
+/// The groups of which the person's organisation is a member, by number.
+pub(crate) fn find_groups<S: Alter>(
+    conn: &mut Connection<S>,
+    alloc: Global,
+    person: &Person,
+) -> Result<Vec<JoinedGroup>, Error>
+    requires { conn.old.in_transaction ≡ false }
+    ensures idle { conn.new.in_transaction ≡ false }
+    ensures answers { Answers (state S.Store conn.old) (state S.Store conn.new) (λ s found. found.items ≡ groups_of person.now s) result }
+{
+    let mut tx = conn.transaction();
+    let found = read_groups(&mut tx, alloc, person.org);
+    tx.rollback();
+    found
+}

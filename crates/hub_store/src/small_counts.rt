@@ -1,0 +1,14 @@
+//! Counts as numbers of 32 bits.
+
+ghost use Rattle.std.specs.Prelude.{◌≡◌, min};
+
+/// The count, as far as a u32 counts.
+pub(crate) fn counted(count: usize) -> u32
+    ensures { result ≡ min count 4294967295 }
+{
+    if count <= u32::MAX as usize {
+        count as u32
+    } else {
+        u32::MAX
+    }
+}
