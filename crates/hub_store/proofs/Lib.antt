@@ -43,3 +43,5 @@ pub mod DirectorySets
 pub mod GroupSets
 pub mod Halving
 pub mod Stepping
+pub mod Telling
+pub mod AnyVersion

@@ -16,3 +16,5 @@ pub mod FirstShown
 pub mod Looks
 pub mod Makes
 pub mod TargetsShown
+pub mod Versions
+pub mod Opening

@@ -38,6 +38,7 @@ mod small_counts;
 mod sql_shelf;
 mod statement;
 mod tables;
+mod told;
 mod version;
 
 pub use sql_shelf::{NEWEST, OpenFault, SqlShelf};

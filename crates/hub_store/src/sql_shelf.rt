@@ -1,9 +1,13 @@
 //! The shelf over a connection.
 
-ghost use Rattle.std.specs.Prelude.{◌≡◌, ◌↔◌, false, IfOk, IfErr, IsTrue};
+ghost use Rattle.std.specs.Prelude.{◌≡◌, ◌≢◌, ◌<◌, ◌↔◌, false, IfOk, IfErr, IsTrue, OnOk};
+ghost use Rattle.hub_core.specs.Shelves.{last_count};
 ghost use Rattle.hub_store.specs.Tables.{no_schema};
 
+mod shelf;
+
 use crate::create::make_store;
+use crate::told::fault_of;
 use crate::version::version;
 use hub_core::ShelfFault;
 use sqlite::{Alter, Connection, Error, ErrorCode};
@@ -34,18 +38,8 @@ pub struct SqlShelf<S: Alter> {
     ghost idle: { conn.in_transaction ≡ false },
 }
 
-/// Want of memory is told apart from all else.
-fn fault_of(error: Error) -> ShelfFault
-    ensures { (result ≡ ShelfFault.NoMemory) ↔ (error ≡ Error.SqliteFailure ErrorCode.OutOfMemory) }
-{
-    match error {
-        Error::SqliteFailure(ErrorCode::OutOfMemory) => ShelfFault::NoMemory,
-        _ => ShelfFault::Failed,
-    }
-}
-
 fn is_blank(schema: &Schema) -> bool
-    ensures { IsTrue result → schema.now ≡ no_schema }
+    ensures { IsTrue result ↔ (schema.now ≡ no_schema) }
 {
     schema.tables.is_empty() && schema.indexes.is_empty() && schema.views.is_empty()
 }
@@ -55,6 +49,19 @@ impl<S: Alter> SqlShelf<S> {
     ghost use Rattle.sqlite.specs.Held.{state};
     ghost use Rattle.hub_core.specs.State.{State, empty};
     ghost use Rattle.hub_store.specs.Content.{Has};
+    ghost use Rattle.hub_store.specs.Versions.{IsVersion};
+    ghost use Rattle.hub_store.specs.Opening.{newest, IsOpenFault};
+
+    /// At its last value the count of failures can't rise, so nothing more is asked of the store.
+    fn may_ask(&self) -> Result<(), ShelfFault>
+        ensures asked { OnOk result (self.now.failures < last_count) }
+        ensures ended { IfErr result (λ fault. (fault ≡ ShelfFault.Failed) × (self.now.failures ≡ last_count)) }
+    {
+        if self.failures == u64::MAX {
+            return Err(ShelfFault::Failed);
+        }
+        Ok(())
+    }
 
     /// Makes the tables, with no row but the version. Where there are tables already it is Failed, and changes nothing. On a
     /// refusal the connection comes back.
@@ -64,6 +71,7 @@ impl<S: Alter> SqlShelf<S> {
     ) -> Result<SqlShelf<S>, (ShelfFault, Connection<S>)>
         requires { conn.in_transaction ≡ false }
         ensures made { IfOk result (λ shelf. HasCleanDisk (state S.Store shelf.conn) → Has (state S.Store shelf.conn) empty) }
+        ensures taken { (state S.Store conn).now.schema ≢ no_schema → result ≡ Err (ShelfFault.Failed, conn) }
         ensures back { IfErr result (λ e. HasCleanDisk (state S.Store e.1) → (s : State) → Has (state S.Store conn) s → Has (state S.Store e.1) s) }
         ensures idle { IfErr result (λ e. e.1.in_transaction ≡ false) }
     {
@@ -88,21 +96,41 @@ impl<S: Alter> SqlShelf<S> {
     ) -> Result<SqlShelf<S>, (OpenFault, Connection<S>)>
         requires { conn.in_transaction ≡ false }
         ensures content { IfOk result (λ shelf. HasCleanDisk (state S.Store shelf.conn) → (s : State) → Has (state S.Store conn) s → Has (state S.Store shelf.conn) s) }
+        ensures newest { IfOk result (λ shelf. HasCleanDisk (state S.Store shelf.conn) → IsVersion (state S.Store conn).now (Some newest)) }
+        ensures refused { IfErr result (λ e. HasCleanDisk (state S.Store e.1) → IsOpenFault (state S.Store conn).now e.0) }
         ensures back { IfErr result (λ e. HasCleanDisk (state S.Store e.1) → (s : State) → Has (state S.Store conn) s → Has (state S.Store e.1) s) }
         ensures idle { IfErr result (λ e. e.1.in_transaction ≡ false) }
         ensures crash { IfErr result (λ e. Survives (state S.Store conn) (state S.Store e.1) (λ _. ⊥)) }
     {
         match version(&mut conn) {
-            Ok(Some(1)) => Ok(SqlShelf {
+            Ok(Some(NEWEST)) => Ok(SqlShelf {
                 alloc,
                 conn,
                 failures: 0,
             }),
             Ok(Some(other)) => Err((OpenFault::WrongVersion(other), conn)),
-            Ok(None) | Err(Error::SqlInputError(_)) => Err((OpenFault::NotOurs, conn)),
+            Ok(None) => Err((OpenFault::NotOurs, conn)),
             Err(Error::SqliteFailure(ErrorCode::OutOfMemory)) => Err((OpenFault::NoMemory, conn)),
             Err(_) => Err((OpenFault::Failed, conn)),
         }
+    }
+
+    /// Takes a connection whose store holds the hub's tables of the newest version or an older one, and makes them the
+    /// newest, with the content as it was. No version is older than the newest yet. On a refusal the connection comes
+    /// back, with its content.
+    pub fn migrate(
+        alloc: Global,
+        conn: Connection<S>,
+    ) -> Result<SqlShelf<S>, (OpenFault, Connection<S>)>
+        requires { conn.in_transaction ≡ false }
+        ensures content { IfOk result (λ shelf. HasCleanDisk (state S.Store shelf.conn) → (s : State) → Has (state S.Store conn) s → Has (state S.Store shelf.conn) s) }
+        ensures newest { IfOk result (λ shelf. HasCleanDisk (state S.Store shelf.conn) → IsVersion (state S.Store conn).now (Some newest)) }
+        ensures refused { IfErr result (λ e. HasCleanDisk (state S.Store e.1) → IsOpenFault (state S.Store conn).now e.0) }
+        ensures back { IfErr result (λ e. HasCleanDisk (state S.Store e.1) → (s : State) → Has (state S.Store conn) s → Has (state S.Store e.1) s) }
+        ensures idle { IfErr result (λ e. e.1.in_transaction ≡ false) }
+        ensures crash { IfErr result (λ e. Survives (state S.Store conn) (state S.Store e.1) (λ _. ⊥)) }
+    {
+        SqlShelf::open(alloc, conn)
     }
 
     /// Gives the connection back, with the content as it was; takes no memory.

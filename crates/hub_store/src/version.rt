@@ -1,33 +1,73 @@
 //! The version of the tables.
 
-ghost use Rattle.std.specs.Prelude.{◌≡◌, false};
+ghost use Rattle.std.specs.Prelude.{◌≡◌, false, map, is_some, IfOk, IsTrue};
+ghost use Rattle.sqlite_value.specs.Order.{column};
 ghost use Rattle.sqlite.specs.State.{HasCleanDisk, Survives};
 ghost use Rattle.sqlite.specs.Held.{state};
 ghost use Rattle.hub_store.specs.Keeps.{Knows, Rests, KeepsCommitted};
+ghost use Rattle.hub_store.specs.Versions.{version_column, only_u32, IsVersion};
 
-use sqlite::{Alter, Connection, Error, Transaction};
+use sqlite::{Alter, Connection, Error, ErrorCode, Row, Transaction};
+use sqlite_schema::schema::Schema;
 
-fn read_version<S: Alter>(tx: &mut Transaction<'_, S>) -> Result<Option<u32>, Error>
-    ensures same_reference { tx.new.conn.ghost_name ≡ tx.old.conn.ghost_name }
-    ensures kept { Rests (state S.Store tx.old.conn.now) (state S.Store tx.new.conn.now) }
-    ensures survives { Survives (state S.Store tx.old.conn.now) (state S.Store tx.new.conn.now) (λ _. ⊥) }
+/// Whether there is a table `hub` with a column `version`.
+fn has_version_column(schema: &Schema) -> bool
+    ensures { result ≡ is_some (version_column schema.now) }
 {
-    let rows = tx.query_all("SELECT version FROM hub", &[])?;
-    match rows.as_slice() {
-        [row] => Ok(row.get(0).ok()),
+    match schema.table_named(b"hub") {
+        None => false,
+        Some(at) => match schema.tables.as_slice().get(at) {
+            None => false,
+            Some(table) => table.column_named(b"version").is_some(),
+        },
+    }
+}
+
+/// The u32 in the first column, where there is one row.
+fn only_number(rows: &[Row]) -> Result<Option<u32>, Error>
+    ensures { IfOk result (λ found. found ≡ only_u32 (map (λ row. column row 0) rows.now)) }
+{
+    match rows {
+        [row] => match row.get(0) {
+            Ok(number) => Ok(Some(number)),
+            Err(Error::SqliteFailure(ErrorCode::OutOfMemory)) => {
+                Err(Error::SqliteFailure(ErrorCode::OutOfMemory))
+            }
+            Err(_) => Ok(None),
+        },
         _ => Ok(None),
     }
 }
 
-/// The version that the one row of the table `hub` holds, if it is so.
+/// A query of a view `hub` tells nothing of a table.
+fn read_version<S: Alter>(
+    tx: &mut Transaction<'_, S>,
+    has_column: bool,
+) -> Result<Option<u32>, Error>
+    ensures same_reference { tx.new.conn.ghost_name ≡ tx.old.conn.ghost_name }
+    ensures kept { Rests (state S.Store tx.old.conn.now) (state S.Store tx.new.conn.now) }
+    ensures survives { Survives (state S.Store tx.old.conn.now) (state S.Store tx.new.conn.now) (λ _. ⊥) }
+    ensures exact { HasCleanDisk (state S.Store tx.new.conn.now) → has_column ≡ is_some (version_column (state S.Store tx.old.conn.now).now.schema) → IfOk result (λ found. IsTrue (state S.Store tx.old.conn.now).is_open × IsVersion (state S.Store tx.old.conn.now).now found) }
+{
+    match tx.query_all("SELECT version FROM hub", &[]) {
+        Ok(rows) if has_column => only_number(&rows),
+        Ok(_) => Ok(None),
+        Err(Error::SqlInputError(_)) if !has_column => Ok(None),
+        Err(error) => Err(error),
+    }
+}
+
+/// The version that the one row of the table `hub` holds; none where there is no such table, row or number.
 pub(crate) fn version<S: Alter>(conn: &mut Connection<S>) -> Result<Option<u32>, Error>
     requires { conn.old.in_transaction ≡ false }
     ensures idle { conn.new.in_transaction ≡ false }
     ensures kept { HasCleanDisk (state S.Store conn.new) → Knows (state S.Store conn.old) → KeepsCommitted (state S.Store conn.old) (state S.Store conn.new) }
     ensures survives { Survives (state S.Store conn.old) (state S.Store conn.new) (λ _. ⊥) }
+    ensures exact { HasCleanDisk (state S.Store conn.new) → IfOk result (λ found. IsTrue (state S.Store conn.old).is_open × IsVersion (state S.Store conn.old).now found) }
 {
+    let has_column = has_version_column(conn.schema());
     let mut tx = conn.transaction();
-    let found = read_version(&mut tx);
+    let found = read_version(&mut tx, has_column);
     tx.rollback();
     found
 }

@@ -7,7 +7,7 @@ use Rattle.hub_store.proofs.sql_shelf.SqlShelf.create.Goals as goal
 
 pub returns-in-Ok-clause-made : goal.returns-in-Ok-clause-made
 returns-in-Ok-clause-made g c clean =
-    let blank : (state g.S.Store c.args.conn).now.schema ≡ no_schema = sym c.schema.ensures.value ∙ c.is_blank.ensures (search rules) in
+    let blank : (state g.S.Store c.args.conn).now.schema ≡ no_schema = sym c.schema.ensures.value ∙ c.is_blank.ensures.0 (search rules) in
     has_empty (state g.S.Store c.make_store.new.conn) (c.in-Ok.ensures.made clean blank)
 
 pub returns-in-Err-clause-back : goal.returns-in-Err-clause-back

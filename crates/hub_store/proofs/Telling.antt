@@ -1,0 +1,41 @@
+-- What the shelf says of what the connection did.
+use Rattle.std.proofs.Common.{◌≡◌, ℕ, inl, inr, Result, Ok, Err, IfOk, OnOk, OnErr, sym, subst}
+use Rattle.sqlite_trees.specs.declared.store.Store as store
+use Rattle.sqlite_trees.specs.View.{doubt}
+use Rattle.sqlite.specs.declared.error.Error.{Error}
+use Rattle.sqlite.specs.Held.{Held, state}
+use Rattle.sqlite.specs.State.{State, HasCleanDisk, Survives}
+use Rattle.hub_core.specs.State as core
+use Rattle.hub_core.specs.Shelves.{HasCause, IsRead}
+use Rattle.hub_core.specs.declared.shelf.ShelfFault.{ShelfFault}
+use Rattle.hub_store.specs.Asked.{Answers}
+use Rattle.hub_store.specs.Content.{Has, MayLeave}
+use Rattle.hub_store.specs.Keeps.{Knows}
+use Rattle.hub_store.proofs.Runs.{knows, kept_has}
+
+-- what commits nothing leaves a crash what it left before
+leaves_no_more : (old new : State) (s : core.State) → Survives old new (λ _. ⊥) → HasCleanDisk new → MayLeave new s → MayLeave old s
+leaves_no_more old new s survives clean may = elim (survives.crash clean may.2 may.3) [
+  | inl before ↦ (may.0, may.1, may.2, before, may.4)
+  | inr none ↦ absurd none
+]
+
+-- a read of the connection is a read of the shelf
+pub read_keeps : {D S : Type 0} (g : store.Ghosts S) (conn : D → Held S) (failures : D → ℕ) (old new : D) {T : Type 0} (Right : core.State → T → Type 0) (outcome : Result T Error) (result : Result T ShelfFault)
+    → Answers (state g (conn old)) (state g (conn new)) Right outcome → HasCause (failures old) (failures new) result
+    → IsRead (λ d s. Has (state g (conn d)) s) (λ d. doubt (state g (conn d)).is_clean) failures (λ d s. MayLeave (state g (conn d)) s) old new result
+read_keeps g conn failures old new Right outcome result answers cause = record {
+  cause = cause;
+  doubt = answers.survives.clean;
+  content = λ clean s has. kept_has (state g (conn old)) (state g (conn new)) s (answers.kept clean (knows (state g (conn old)) s has)) has;
+  crash = λ clean s may. leaves_no_more (state g (conn old)) (state g (conn new)) s answers.survives clean may;
+}
+
+pub err_only : {T E F : Type 0} (made : Result T E) (told : Result T F) (A B K Q : Type 0) → IfOk made (λ x. told ≡ Ok x) → (A → B → OnErr made K) → ((A → B → K) → Q) → OnErr told Q
+err_only (Ok x) told A B K Q given none f = subst (λ r. OnErr r Q) (sym given) tt
+err_only (Err e) (Ok x) A B K Q given none f = tt
+err_only (Err e) (Err d) A B K Q given none f = f none
+
+pub ok_only : {T E F : Type 0} (made : Result T E) (told : Result T F) (P Q : Type 0) → IfOk told (λ x. made ≡ Ok x) → OnOk made P → (P → Q) → OnOk told Q
+ok_only made (Err e) P Q value h f = tt
+ok_only made (Ok x) P Q value h f = f (subst (λ r. OnOk r P) value h)

@@ -1,0 +1,76 @@
+//! The tables as the hub's shelf.
+
+ghost use Rattle.std.specs.Prelude.{◌≡◌, ◌<◌};
+
+use super::SqlShelf;
+use crate::apply::apply;
+use crate::find_case::find_case;
+use crate::find_document::find_document;
+use crate::find_person::find_person;
+use crate::list_entries::list_entries;
+use crate::told::told;
+use circle::directory::Person;
+use hub_core::{Edit, Entry, Facts, JoinedGroup, Request, Shelf, ShelfFault};
+use iodef_tree::Document;
+use policy::{Case, Standing};
+use sqlite::Alter;
+
+impl<S: Alter> Shelf for SqlShelf<S> {
+    ghost use Rattle.sqlite_trees.specs.View.{doubt};
+    ghost use Rattle.sqlite.specs.Held.{state};
+    ghost use Rattle.hub_store.specs.Content.{Has, MayLeave};
+
+    ghost has = { λ shelf s. Has (state S.Store shelf.conn) s };
+
+    ghost doubts = { λ shelf. doubt (state S.Store shelf.conn).is_clean };
+
+    ghost failed = { λ shelf. shelf.failures };
+
+    ghost may_leave = { λ shelf s. MayLeave (state S.Store shelf.conn) s };
+
+    fn failures(&self) -> u64 {
+        self.failures
+    }
+
+    fn person_by_key(&mut self, key: &[u8; 32]) -> Result<Option<Person>, ShelfFault> {
+        self.may_ask()?;
+        let found = find_person(&mut self.conn, self.alloc, key);
+        told(&mut self.failures, found)
+    }
+
+    fn standing(&mut self, _person: u32, _incident: u32) -> Result<Option<Standing>, ShelfFault> {
+        Err(ShelfFault::NoMemory)
+    }
+
+    fn case(&mut self, incident: u32) -> Result<Option<Case>, ShelfFault> {
+        self.may_ask()?;
+        let found = find_case(&mut self.conn, self.alloc, incident);
+        told(&mut self.failures, found)
+    }
+
+    fn document(&mut self, incident: u32) -> Result<Option<Document>, ShelfFault> {
+        self.may_ask()?;
+        let found = find_document(&mut self.conn, self.alloc, incident);
+        told(&mut self.failures, found)
+    }
+
+    fn incidents_after(&mut self, number: u32, most: u32) -> Result<Vec<Entry>, ShelfFault> {
+        self.may_ask()?;
+        let found = list_entries(&mut self.conn, self.alloc, number, most);
+        told(&mut self.failures, found)
+    }
+
+    fn groups_of(&mut self, _person: &Person) -> Result<Vec<JoinedGroup>, ShelfFault> {
+        Err(ShelfFault::NoMemory)
+    }
+
+    fn facts(&mut self, _actor: &Person, _request: &Request) -> Result<Facts, ShelfFault> {
+        Err(ShelfFault::NoMemory)
+    }
+
+    fn apply(&mut self, edits: &[Edit]) -> Result<(), ShelfFault> {
+        self.may_ask()?;
+        let made = apply(&mut self.conn, self.alloc, edits);
+        told(&mut self.failures, made)
+    }
+}

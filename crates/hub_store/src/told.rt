@@ -1,0 +1,40 @@
+//! How a failure of the store is told.
+
+ghost use Rattle.std.specs.Prelude.{◌≡◌, ◌<◌, ◌↔◌, IfOk};
+ghost use Rattle.hub_core.specs.Shelves.{HasCause, last_count};
+
+use hub_core::ShelfFault;
+use sqlite::{Error, ErrorCode};
+
+/// Want of memory is told apart from all else.
+pub(crate) fn fault_of(error: Error) -> ShelfFault
+    ensures { (result ≡ ShelfFault.NoMemory) ↔ (error ≡ Error.SqliteFailure ErrorCode.OutOfMemory) }
+{
+    match error {
+        Error::SqliteFailure(ErrorCode::OutOfMemory) => ShelfFault::NoMemory,
+        _ => ShelfFault::Failed,
+    }
+}
+
+/// Tells want of memory from a failure of the store, which is counted.
+pub(crate) fn told<T: Drop>(
+    failures: &mut u64,
+    outcome: Result<T, Error>,
+) -> Result<T, ShelfFault>
+    requires { failures.old < last_count }
+    ensures value { IfOk result (λ x. outcome ≡ Ok x) }
+    ensures given { IfOk outcome (λ x. result ≡ Ok x) }
+    ensures cause { HasCause failures.old failures.new result }
+    ensures memory { outcome ≡ Err (Error.SqliteFailure ErrorCode.OutOfMemory) → failures.new ≡ failures.old }
+{
+    match outcome {
+        Ok(value) => Ok(value),
+        Err(error) => {
+            let fault = fault_of(error);
+            if fault == ShelfFault::Failed {
+                *failures += 1;
+            }
+            Err(fault)
+        }
+    }
+}
