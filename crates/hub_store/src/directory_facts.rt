@@ -23,11 +23,7 @@ use circle::directory::Person;
 use sqlite::{Alter, Connection, Error, Transaction};
 use std::alloc::Global;
 
-fn has_both_orgs<S: Alter>(
-    tx: &mut Transaction<'_, S>,
-    org: u32,
-    other: u32,
-) -> Result<bool, Error>
+fn has_both_orgs<S: Alter>(tx: &mut Transaction<'_, S>, org: u32, other: u32) -> Result<bool, Error>
     ensures same_reference { tx.new.conn.ghost_name ≡ tx.old.conn.ghost_name }
     ensures read { IsRead (state S.Store tx.old.conn.now) (state S.Store tx.new.conn.now) (λ s found. found ≡ (has_org org s.directory && has_org other s.directory)) result }
 {

@@ -13,7 +13,10 @@ use circle::directory::Person;
 use sqlite::{Alter, Connection, Error, Transaction, params};
 use std::alloc::Global;
 
-pub(crate) fn read_has_org<S: Alter>(tx: &mut Transaction<'_, S>, number: u32) -> Result<bool, Error>
+pub(crate) fn read_has_org<S: Alter>(
+    tx: &mut Transaction<'_, S>,
+    number: u32,
+) -> Result<bool, Error>
     ensures same_reference { tx.new.conn.ghost_name ≡ tx.old.conn.ghost_name }
     ensures read { IsRead (state S.Store tx.old.conn.now) (state S.Store tx.new.conn.now) (λ s found. found ≡ is_org number s.directory) result }
 {
@@ -25,7 +28,10 @@ pub(crate) fn read_has_org<S: Alter>(tx: &mut Transaction<'_, S>, number: u32) -
     Ok(is_any(&rows))
 }
 
-pub(crate) fn read_has_community<S: Alter>(tx: &mut Transaction<'_, S>, number: u32) -> Result<bool, Error>
+pub(crate) fn read_has_community<S: Alter>(
+    tx: &mut Transaction<'_, S>,
+    number: u32,
+) -> Result<bool, Error>
     ensures same_reference { tx.new.conn.ghost_name ≡ tx.old.conn.ghost_name }
     ensures read { IsRead (state S.Store tx.old.conn.now) (state S.Store tx.new.conn.now) (λ s found. found ≡ is_community number s.directory) result }
 {

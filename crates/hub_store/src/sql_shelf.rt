@@ -4,6 +4,7 @@ ghost use Rattle.std.specs.Prelude.{◌≡◌, ◌≢◌, ◌<◌, ◌↔◌, fa
 ghost use Rattle.hub_core.specs.Shelves.{last_count};
 ghost use Rattle.hub_store.specs.Tables.{no_schema};
 
+mod look_ups;
 mod shelf;
 
 use crate::create::make_store;

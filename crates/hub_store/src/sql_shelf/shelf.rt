@@ -6,11 +6,14 @@ use super::SqlShelf;
 use crate::apply::apply;
 use crate::find_case::find_case;
 use crate::find_document::find_document;
+use crate::find_groups::find_groups;
 use crate::find_person::find_person;
 use crate::list_entries::list_entries;
 use crate::told::told;
 use circle::directory::Person;
-use hub_core::{Edit, Entry, Facts, JoinedGroup, Request, Shelf, ShelfFault};
+use hub_core::{
+    Edit, Entry, Facts, JoinedGroup, Request, Shelf, ShelfFault, facts_by, standing_by,
+};
 use iodef_tree::Document;
 use policy::{Case, Standing};
 use sqlite::Alter;
@@ -38,8 +41,8 @@ impl<S: Alter> Shelf for SqlShelf<S> {
         told(&mut self.failures, found)
     }
 
-    fn standing(&mut self, _person: u32, _incident: u32) -> Result<Option<Standing>, ShelfFault> {
-        Err(ShelfFault::NoMemory)
+    fn standing(&mut self, person: u32, incident: u32) -> Result<Option<Standing>, ShelfFault> {
+        standing_by(self, person, incident)
     }
 
     fn case(&mut self, incident: u32) -> Result<Option<Case>, ShelfFault> {
@@ -60,12 +63,15 @@ impl<S: Alter> Shelf for SqlShelf<S> {
         told(&mut self.failures, found)
     }
 
-    fn groups_of(&mut self, _person: &Person) -> Result<Vec<JoinedGroup>, ShelfFault> {
-        Err(ShelfFault::NoMemory)
+    fn groups_of(&mut self, person: &Person) -> Result<Vec<JoinedGroup>, ShelfFault> {
+        self.may_ask()?;
+        let found = find_groups(&mut self.conn, self.alloc, person);
+        told(&mut self.failures, found)
     }
 
-    fn facts(&mut self, _actor: &Person, _request: &Request) -> Result<Facts, ShelfFault> {
-        Err(ShelfFault::NoMemory)
+    fn facts(&mut self, actor: &Person, request: &Request) -> Result<Facts, ShelfFault> {
+        let alloc = self.alloc;
+        facts_by(self, alloc, actor, request)
     }
 
     fn apply(&mut self, edits: &[Edit]) -> Result<(), ShelfFault> {

@@ -23,10 +23,10 @@ loop-community-preserved g c =
       same_reference = search rules;
       read = read_gives _ _ _ _ c.in_ok-read_linked.field-0 tt (read_then _ _ _ _ _ tt (Ok c.in_ok-read_linked.field-0) c.loop-community.invariant.read c.in_ok-read_linked.ensures.read)
           (λ s sound both. (
-              both.0.0,
-              passed_over (λ (n : ℕ). list_any (is_one_of others) (linked_with n s.directory)) own i (get_or own i 0) 0 (are_connected c.args.org c.args.other s.directory) c.loop-community-test.true refl both.0.1
-              (sym c.if-branch.false ∙ (rw c.deref.ensures.value at both.1) (subst AreRising (sym both.0.0) (communities_rise c.args.other s.directory sound.directory))),
-            ));
+            both.0.0,
+            passed_over (λ (n : ℕ). list_any (is_one_of others) (linked_with n s.directory)) own i (get_or own i 0) 0 (are_connected c.args.org c.args.other s.directory) c.loop-community-test.true refl both.0.1
+                (sym c.if-branch.false ∙ (rw c.deref.ensures.value at both.1) (subst AreRising (sym both.0.0) (communities_rise c.args.other s.directory sound.directory))),
+          ));
     }
 
 pub returns-then-branch-clause-read : goal.returns-then-branch-clause-read
@@ -36,8 +36,8 @@ returns-then-branch-clause-read g c =
     let i = c.loop-community.community-index in
     read_gives _ _ _ _ c.in_ok-read_linked.field-0 true (read_then _ _ _ _ _ tt (Ok c.in_ok-read_linked.field-0) c.loop-community.invariant.read c.in_ok-read_linked.ensures.read)
     (λ s sound both.
-        settled (λ (n : ℕ). list_any (is_one_of others) (linked_with n s.directory)) own i (get_or own i 0) 0 (are_connected c.args.org c.args.other s.directory) c.loop-community-test.true refl both.0.1
-        (sym c.if-branch.true ∙ (rw c.deref.ensures.value at both.1) (subst AreRising (sym both.0.0) (communities_rise c.args.other s.directory sound.directory))))
+    settled (λ (n : ℕ). list_any (is_one_of others) (linked_with n s.directory)) own i (get_or own i 0) 0 (are_connected c.args.org c.args.other s.directory) c.loop-community-test.true refl both.0.1
+    (sym c.if-branch.true ∙ (rw c.deref.ensures.value at both.1) (subst AreRising (sym both.0.0) (communities_rise c.args.other s.directory sound.directory))))
 
 pub returns-clause-read : goal.returns-clause-read
 returns-clause-read g c =

@@ -1,0 +1,221 @@
+//! What the shelf over the tables looks up.
+
+ghost use Rattle.std.specs.Prelude.{◌≡◌, ◌<◌};
+
+use super::SqlShelf;
+use crate::count_incidents::incident_count;
+use crate::directory_facts::find_circle_facts;
+use crate::find_arranged::{arranged, served_by};
+use crate::find_communities::{are_connected, communities_of, share_community};
+use crate::find_document::find_document;
+use crate::find_groups::{active_groups_joined, groups_joined, has_group_member};
+use crate::find_known::find_known;
+use crate::find_number::number_of;
+use crate::find_numbered::{has_community, has_org, has_person, person_of};
+use crate::incident_gates::{class_gates, class_gates_with, has_gate};
+use crate::incident_permissions::{has_permission, permission_count, permissions_without};
+use crate::incident_recipients::{has_recipient, recipient_count, recipients_without};
+use crate::told::told;
+use circle::command::{CircleCommand, CircleFacts};
+use circle::directory::{Handling, Person};
+use circle::text::Text;
+use hub_core::{Known, LookUps, ShelfFault, Target};
+use iodef_tree::{Document, Path};
+use policy::Grantee;
+use sqlite::Alter;
+
+impl<S: Alter> LookUps for SqlShelf<S> {
+    ghost use Rattle.sqlite_trees.specs.View.{doubt};
+    ghost use Rattle.sqlite.specs.Held.{state};
+    ghost use Rattle.hub_store.specs.Content.{Has, MayLeave};
+
+    ghost has = { λ shelf s. Has (state S.Store shelf.conn) s };
+
+    ghost doubts = { λ shelf. doubt (state S.Store shelf.conn).is_clean };
+
+    ghost failed = { λ shelf. shelf.failures };
+
+    ghost may_leave = { λ shelf s. MayLeave (state S.Store shelf.conn) s };
+
+    ghost sound = { λ shelf s h. h.sound };
+
+    fn has_ended(&self) -> bool {
+        self.failures == u64::MAX
+    }
+
+    fn circle_facts(
+        &mut self,
+        actor: &Person,
+        command: &CircleCommand,
+    ) -> Result<CircleFacts, ShelfFault> {
+        self.may_ask()?;
+        let found = find_circle_facts(&mut self.conn, self.alloc, actor, command);
+        told(&mut self.failures, found)
+    }
+
+    fn person_of(&mut self, number: u32) -> Result<Option<Person>, ShelfFault> {
+        self.may_ask()?;
+        let found = person_of(&mut self.conn, self.alloc, number);
+        told(&mut self.failures, found)
+    }
+
+    fn has_person(&mut self, number: u32) -> Result<bool, ShelfFault> {
+        self.may_ask()?;
+        let found = has_person(&mut self.conn, self.alloc, number);
+        told(&mut self.failures, found)
+    }
+
+    fn has_org(&mut self, number: u32) -> Result<bool, ShelfFault> {
+        self.may_ask()?;
+        let found = has_org(&mut self.conn, number);
+        told(&mut self.failures, found)
+    }
+
+    fn has_community(&mut self, number: u32) -> Result<bool, ShelfFault> {
+        self.may_ask()?;
+        let found = has_community(&mut self.conn, number);
+        told(&mut self.failures, found)
+    }
+
+    fn has_group_member(&mut self, group: u32, org: u32) -> Result<bool, ShelfFault> {
+        self.may_ask()?;
+        let found = has_group_member(&mut self.conn, group, org);
+        told(&mut self.failures, found)
+    }
+
+    fn groups_joined(&mut self, org: u32) -> Result<Vec<u32>, ShelfFault> {
+        self.may_ask()?;
+        let found = groups_joined(&mut self.conn, self.alloc, org);
+        told(&mut self.failures, found)
+    }
+
+    fn active_groups_joined(&mut self, org: u32) -> Result<Vec<u32>, ShelfFault> {
+        self.may_ask()?;
+        let found = active_groups_joined(&mut self.conn, self.alloc, org);
+        told(&mut self.failures, found)
+    }
+
+    fn communities_of(&mut self, org: u32) -> Result<Vec<u32>, ShelfFault> {
+        self.may_ask()?;
+        let found = communities_of(&mut self.conn, self.alloc, org);
+        told(&mut self.failures, found)
+    }
+
+    fn share_community(&mut self, org: u32, other: u32) -> Result<bool, ShelfFault> {
+        self.may_ask()?;
+        let found = share_community(&mut self.conn, self.alloc, org, other);
+        told(&mut self.failures, found)
+    }
+
+    fn are_connected(&mut self, org: u32, other: u32) -> Result<bool, ShelfFault> {
+        self.may_ask()?;
+        let found = are_connected(&mut self.conn, self.alloc, org, other);
+        told(&mut self.failures, found)
+    }
+
+    fn arranged(&mut self, source: u32, org: u32) -> Result<Option<Handling>, ShelfFault> {
+        self.may_ask()?;
+        let found = arranged(&mut self.conn, self.alloc, source, org);
+        told(&mut self.failures, found)
+    }
+
+    fn served_by(&mut self, client: u32) -> Result<Vec<u32>, ShelfFault> {
+        self.may_ask()?;
+        let found = served_by(&mut self.conn, self.alloc, client);
+        told(&mut self.failures, found)
+    }
+
+    fn incident_count(&mut self) -> Result<u32, ShelfFault> {
+        self.may_ask()?;
+        let found = incident_count(&mut self.conn);
+        told(&mut self.failures, found)
+    }
+
+    fn known(&mut self, incident: u32) -> Result<Option<Known>, ShelfFault> {
+        self.may_ask()?;
+        let found = find_known(&mut self.conn, self.alloc, incident);
+        told(&mut self.failures, found)
+    }
+
+    fn stored_document(&mut self, incident: u32) -> Result<Option<Document>, ShelfFault> {
+        self.may_ask()?;
+        let found = find_document(&mut self.conn, self.alloc, incident);
+        told(&mut self.failures, found)
+    }
+
+    fn number_of(&mut self, source: u32, ident: &Text) -> Result<Option<u32>, ShelfFault> {
+        self.may_ask()?;
+        let found = number_of(&mut self.conn, self.alloc, source, ident);
+        told(&mut self.failures, found)
+    }
+
+    fn has_recipient(&mut self, incident: u32, target: Target) -> Result<bool, ShelfFault> {
+        self.may_ask()?;
+        let found = has_recipient(&mut self.conn, incident, target);
+        told(&mut self.failures, found)
+    }
+
+    fn has_gate(
+        &mut self,
+        incident: u32,
+        path: &Path,
+        level: u32,
+        group: Option<u32>,
+    ) -> Result<bool, ShelfFault> {
+        self.may_ask()?;
+        let found = has_gate(&mut self.conn, self.alloc, incident, path, level, group);
+        told(&mut self.failures, found)
+    }
+
+    fn has_permission(
+        &mut self,
+        incident: u32,
+        path: &Path,
+        grantee: Grantee,
+    ) -> Result<bool, ShelfFault> {
+        self.may_ask()?;
+        let found = has_permission(&mut self.conn, self.alloc, incident, path, grantee);
+        told(&mut self.failures, found)
+    }
+
+    fn class_gates(&mut self, incident: u32) -> Result<u32, ShelfFault> {
+        self.may_ask()?;
+        let found = class_gates(&mut self.conn, self.alloc, incident);
+        told(&mut self.failures, found)
+    }
+
+    fn class_gates_with(&mut self, incident: u32, path: &Path) -> Result<u32, ShelfFault> {
+        self.may_ask()?;
+        let found = class_gates_with(&mut self.conn, self.alloc, incident, path);
+        told(&mut self.failures, found)
+    }
+
+    fn recipient_count(&mut self, incident: u32) -> Result<u32, ShelfFault> {
+        self.may_ask()?;
+        let found = recipient_count(&mut self.conn, self.alloc, incident);
+        told(&mut self.failures, found)
+    }
+
+    fn recipients_without(&mut self, incident: u32, target: Target) -> Result<u32, ShelfFault> {
+        self.may_ask()?;
+        let found = recipients_without(&mut self.conn, self.alloc, incident, target);
+        told(&mut self.failures, found)
+    }
+
+    fn permission_count(&mut self, incident: u32) -> Result<u32, ShelfFault> {
+        self.may_ask()?;
+        let found = permission_count(&mut self.conn, self.alloc, incident);
+        told(&mut self.failures, found)
+    }
+
+    fn permissions_without(
+        &mut self,
+        incident: u32,
+        path: &Path,
+        grantee: Grantee,
+    ) -> Result<u32, ShelfFault> {
+        self.may_ask()?;
+        let found = permissions_without(&mut self.conn, self.alloc, incident, path, grantee);
+        told(&mut self.failures, found)
+    }
+}
