@@ -1,5 +1,5 @@
 -- What queries of the table of pairs show of one of its sets.
-use Rattle.std.proofs.Common.{◌≡◌, ℕ, pos, negsuc, List, [], ◌∷◌, map, filter, find, drop, Bool, true, false, ◌&&◌, ◌==◌, codes, Option, Some, None, nat_cmp, refl, sym, ap, subst, ◌∙◌, arith}
+use Rattle.std.proofs.Common.{◌≡◌, ℕ, pos, negsuc, List, [], ◌∷◌, map, filter, drop, Bool, true, false, ◌&&◌, ◌==◌, codes, Option, Some, None, nat_cmp, refl, ap, subst, ◌∙◌, arith}
 use Rattle.std.specs.Option.{option_to_list}
 use Rattle.std.specs.Ordering.{ordering_then}
 use Rattle.std.specs.List.Sorted.{IsPermutation}
@@ -17,7 +17,7 @@ use Rattle.sqlite_sql.specs.Query.{Query, IsAnswer, Output, output_cmp}
 use Rattle.sqlite_sql.proofs.QueryLemmas.{output_cmp_total}
 use Rattle.sqlite.proofs.Callers.{one_permutation}
 use Rattle.circle.specs.Ordered.{pair_cmp}
-use Rattle.circle.specs.Directory.{Directory, client_key, membership_key, connection_key, group_member_key, arrangement_key}
+use Rattle.circle.specs.Directory.{Directory}
 use Rattle.circle.specs.Sound as circle
 use Rattle.hub_core.specs.State as core
 use Rattle.hub_core.specs.Sound.{IsSound}

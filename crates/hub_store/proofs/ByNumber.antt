@@ -1,5 +1,5 @@
 -- What a query by a number finds.
-use Rattle.std.proofs.Common.{◌≡◌, ℕ, pos, List, [], ◌∷◌, map, filter, find, length, Bool, true, false, cond, not, ◌||◌, ◌==◌, is_some, option_map, Option, Some, None, Result, Ok, Err, IfOk, refl, sym, ap, subst, ◌∙◌}
+use Rattle.std.proofs.Common.{◌≡◌, ℕ, pos, List, [], ◌∷◌, map, filter, find, length, Bool, true, false, cond, not, ◌||◌, ◌==◌, is_some, option_map, Some, refl, ap, subst, ◌∙◌}
 use Rattle.std.specs.List.{list_any}
 use Rattle.std.specs.Option.{option_to_list}
 use Rattle.std.specs.List.Sorted.{IsPermutation}
@@ -10,15 +10,15 @@ use Rattle.sqlite_value.specs.Order.{Row, column}
 use Rattle.sqlite_trees.specs.Tree.{Trees}
 use Rattle.sqlite_sql.specs.Term.{Term, col}
 use Rattle.sqlite_sql.specs.Query.{IsAnswer}
-use Rattle.circle.specs.Directory.{has_org, has_community, org_number, community_number, account_number, group_number}
-use Rattle.circle.specs.Reads.{person_in, person_of, group_of}
+use Rattle.circle.specs.Directory.{has_org, has_community, org_number, community_number, account_number}
+use Rattle.circle.specs.Reads.{person_in, person_of}
 use Rattle.circle.specs.Sound.{CountsFrom}
 use Rattle.circle.proofs.Lookup.{some_having}
 use Rattle.hub_core.specs.State as core
 use Rattle.hub_core.specs.Sound.{IsSound}
 use Rattle.hub_store.specs.Holdings.{IsHeld, by_number}
 use Rattle.hub_store.specs.Means.{Means}
-use Rattle.hub_store.specs.Rows.{org_row, account_row, community_row, group_row}
+use Rattle.hub_store.specs.Rows.{org_row, account_row, community_row}
 use Rattle.hub_store.specs.Shown.{person_shown}
 use Rattle.hub_store.proofs.Compare.{is_same, equal_numbers, and_true}
 use Rattle.hub_store.proofs.Forms.{one_table, is_param}

@@ -1,5 +1,5 @@
 -- What the directory tells, by its pairs.
-use Rattle.std.proofs.Common.{◌≡◌, ℕ, ◌<◌, pos, List, [], ◌∷◌, ◌++◌, map, filter, find, Bool, true, false, cond, ◌&&◌, ◌||◌, ◌==◌, is_some, Option, Some, None, option_map, nat_cmp, refl, sym, ap, subst, ◌∙◌, arith}
+use Rattle.std.proofs.Common.{◌≡◌, ℕ, ◌<◌, pos, List, [], ◌∷◌, map, filter, find, Bool, true, false, ◌&&◌, ◌||◌, ◌==◌, is_some, Option, Some, None, option_map, nat_cmp, refl, sym, ap, subst, ◌∙◌, arith}
 use Rattle.std.specs.List.{list_any}
 use Rattle.std.specs.Option.{option_to_list}
 use Rattle.std.specs.declared.cmp.Ordering.TheVariants.{Less}

@@ -1,5 +1,5 @@
 -- What the rows of pairs are read as.
-use Rattle.std.proofs.Common.{◌≡◌, ℕ, pos, List, [], ◌∷◌, Vec, map, filter, find, length, Bool, true, false, cond, not, ◌&&◌, ◌==◌, is_some, Option, Some, None, option_map, Result, Ok, Err, IfOk, refl, sym, ap, subst, ◌∙◌}
+use Rattle.std.proofs.Common.{◌≡◌, ℕ, pos, List, [], ◌∷◌, Vec, map, filter, find, length, Bool, true, false, cond, not, ◌==◌, is_some, Option, Some, None, option_map, Result, Ok, Err, IfOk, refl, ap, subst, ◌∙◌}
 use Rattle.std.specs.Option.{option_to_list}
 use Rattle.std.specs.declared.alloc.Global.{Global}
 use Rattle.std.specs.List.Sorted.{IsPermutation}

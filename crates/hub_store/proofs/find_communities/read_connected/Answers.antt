@@ -1,6 +1,6 @@
-use Rattle.std.proofs.Common.{◌≡◌, ℕ, get_or, Ok, true, false, rules, refl, sym, subst, ◌∙◌}
+use Rattle.std.proofs.Common.{ℕ, get_or, Ok, true, false, rules, refl, sym, subst, ◌∙◌}
 use Rattle.std.specs.List.{list_any}
-use Rattle.circle.specs.Reads.{communities_of, are_connected}
+use Rattle.circle.specs.Reads.{are_connected}
 use Rattle.hub_store.specs.ShownPairs.{AreRising, is_one_of, linked_with}
 use Rattle.hub_store.proofs.DirectorySets.{communities_rise, connected_from}
 use Rattle.hub_store.proofs.Reading.{read_then, read_gives}
@@ -44,6 +44,3 @@ returns-clause-read g c =
     let others = c.in_ok-others.others.items in
     read_gives _ _ _ _ tt false c.loop-community.invariant.read
     (λ s sound both. none_left (λ (n : ℕ). list_any (is_one_of others) (linked_with n s.directory)) c.deref-community-items.result.now c.loop-community.community-index (are_connected c.args.org c.args.other s.directory) c.loop-community-test.false both.1)
-
-element : goal.loop-community-preserved
-element g c = let read = c.in_ok-read_linked.ensures.read in let branch = c.if-branch in ?

@@ -1,7 +1,5 @@
-use Rattle.std.proofs.Common.{◌≡◌, ◌∙◌, Vec, Ok, ap, sym, subst}
-use Rattle.std.specs.List.{list_any}
+use Rattle.std.proofs.Common.{◌≡◌, ◌∙◌, Ok}
 use Rattle.circle.specs.Reads.{communities_of, share_community}
-use Rattle.hub_store.specs.ShownPairs.{AreRising, is_one_of}
 use Rattle.hub_store.proofs.DirectorySets.{communities_rise, share_is}
 use Rattle.hub_store.proofs.Reading.{read_then, read_gives}
 use Rattle.hub_store.proofs.find_communities.read_share.Goals as goal

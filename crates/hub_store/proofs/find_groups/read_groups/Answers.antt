@@ -1,4 +1,4 @@
-use Rattle.std.proofs.Common.{◌≡◌, ◌++◌, Ok, rules, refl, ap, ◌∙◌}
+use Rattle.std.proofs.Common.{◌++◌, false, Ok, rules, refl, ap, ◌∙◌}
 use Rattle.std.specs.List.{filter_map}
 use Rattle.hub_store.specs.ShownPairs.{group_if_any, groups_in}
 use Rattle.hub_store.proofs.GroupSets.{groups_are}
@@ -25,6 +25,3 @@ pub returns-clause-read : goal.returns-clause-read
 returns-clause-read g c =
     read_gives _ _ _ _ tt c.loop-member.groups c.loop-member.invariant.read
     (λ s sound so_far. all_groups s.directory c.loop-member.groups.items c.deref-member-items.result.now c.loop-member.member-index (groups_in c.args.org s.directory) c.loop-member-test.false so_far)
-
-element : goal.loop-member-preserved
-element g c = let read = c.in_ok-group.ensures.read in let pushed = c.in_ok-push_joined.ensures in ?
