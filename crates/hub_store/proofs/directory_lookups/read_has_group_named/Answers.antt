@@ -1,4 +1,4 @@
-use Rattle.std.proofs.Common.{pos, ◌==◌, ◌&&◌, ◌∷◌, [], Ok, refl, ap, ◌∙◌}
+use Rattle.std.proofs.Common.{pos, ◌==◌, ◌&&◌, ◌∷◌, [], Ok, refl, ◌∙◌}
 use Rattle.std.specs.Str.{bytes_eq}
 use Rattle.sqlite_value.specs.declared.value.Value.TheVariants.{Int, Text}
 use Rattle.sqlite.specs.Held.{state}

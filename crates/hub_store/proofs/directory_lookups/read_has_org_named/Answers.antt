@@ -1,12 +1,12 @@
-use Rattle.std.proofs.Common.{pos, ◌==◌, ◌&&◌, ◌∷◌, [], Ok, refl, ap, ◌∙◌}
+use Rattle.std.proofs.Common.{◌∷◌, [], Ok, refl, ◌∙◌}
 use Rattle.std.specs.Str.{bytes_eq}
-use Rattle.sqlite_value.specs.declared.value.Value.TheVariants.{Int, Text}
+use Rattle.sqlite_value.specs.declared.value.Value.TheVariants.{Text}
 use Rattle.sqlite.specs.Held.{state}
 use Rattle.sqlite_sql.specs.Term.{col}
 use Rattle.circle.specs.declared.directory.Org.{Org}
 use Rattle.hub_store.specs.Rows.{org_row}
 use Rattle.hub_store.proofs.Answering.{read_shown}
-use Rattle.hub_store.proofs.Compare.{and_true, equal_numbers, equal_texts}
+use Rattle.hub_store.proofs.Compare.{and_true, equal_texts}
 use Rattle.hub_store.proofs.Forms.{is_param}
 use Rattle.hub_store.proofs.Statements.{keeps}
 use Rattle.hub_store.proofs.Texts.{org_with_name, org_with_name_is, org_with_name_plain}

@@ -1,6 +1,3 @@
-use Rattle.std.proofs.Common.{◌≡◌, List, map}
-use Rattle.std.specs.Option.{option_to_list}
-use Rattle.hub_store.specs.PairKinds.{pair_between, value_shown}
 use Rattle.hub_store.specs.declared.pair_kind.PairKind.TheVariants as kind
 use Rattle.hub_store.proofs.Extending.{reads_extends}
 use Rattle.hub_store.proofs.MoreReading.{read_made}
