@@ -1,6 +1,6 @@
 //! How a failure of the store is told.
 
-ghost use Rattle.std.specs.Prelude.{◌≡◌, ◌<◌, ◌↔◌, IfOk};
+ghost use Rattle.std.specs.Prelude.{◌≡◌, ◌<◌, ◌+◌, ◌↔◌, IfOk, IsErrOf};
 ghost use Rattle.hub_core.specs.Shelves.{HasCause, last_count};
 
 use hub_core::ShelfFault;
@@ -22,7 +22,9 @@ pub(crate) fn told<T: Drop>(failures: &mut u64, outcome: Result<T, Error>) -> Re
     ensures value { IfOk result (λ x. outcome ≡ Ok x) }
     ensures given { IfOk outcome (λ x. result ≡ Ok x) }
     ensures cause { HasCause failures.old failures.new result }
-    ensures memory { outcome ≡ Err (Error.SqliteFailure ErrorCode.OutOfMemory) → failures.new ≡ failures.old }
+    ensures memory { (result ≡ Err ShelfFault.NoMemory) ↔ (outcome ≡ Err (Error.SqliteFailure ErrorCode.OutOfMemory)) }
+    ensures counted { IsErrOf result ShelfFault.Failed → failures.new ≡ failures.old + 1 }
+    ensures uncounted { ¬ IsErrOf result ShelfFault.Failed → failures.new ≡ failures.old }
 {
     match outcome {
         Ok(value) => Ok(value),
