@@ -34,14 +34,10 @@ pub mod AskedPairs
 pub mod MoreReading
 pub mod PairRows
 pub mod Extending
-<<<<<<< ours
-pub mod Looking
 pub mod IncidentTexts
 pub mod OfIncident
 pub mod Recipients
 pub mod Named
-=======
->>>>>>> theirs
 pub mod DirectorySets
 pub mod GroupSets
 pub mod Halving
