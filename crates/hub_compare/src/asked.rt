@@ -1,6 +1,5 @@
-//! What the plain hub says of a request: its refusal, or the change of its rows.
+//! What the plain hub says of a request: what its body is read as, and its refusal.
 
-use crate::changes::{Done, change};
 use crate::grounds::Told;
 use crate::rows::Rows;
 use crate::sheet::{Body, body_of};
@@ -32,18 +31,4 @@ pub fn refusal(
         _ => incidents::grounds_of(alloc, rows, actor, request, body)?,
     };
     Ok(grounds.first(alloc))
-}
-
-/// The refusal, or what the change is answered by once it is made.
-pub fn obey(
-    alloc: Global,
-    rows: &mut Rows,
-    actor: &Person,
-    request: &Request,
-) -> Result<Result<Done, Told>, AllocError> {
-    let body = body_in(alloc, request)?;
-    match refusal(alloc, rows, actor, request, &body)? {
-        Some(told) => Ok(Err(told)),
-        None => Ok(Ok(change(rows, alloc, actor.org, request, body)?)),
-    }
 }

@@ -1,11 +1,11 @@
 -- Which route a method and a target have.
-use Rattle.std.specs.Prelude.{ℕ, List, [], ◌∷◌, length, fold, Bool, ◌==◌, nat_lt, if◌then◌else◌, Option, Some, None, option_map, Result, Ok, Err, codes}
+use Rattle.std.specs.Prelude.{◌≡◌, ℕ, List, [], ◌∷◌, length, fold, Bool, true, false, ◌==◌, ◌&&◌, nat_lt, if◌then◌else◌, Option, Some, None, is_none, option_map, Result, Ok, Err, codes}
 use Rattle.std.specs.List.{before_first, after_first, position_or_len}
 use Rattle.std.specs.Str.{bytes_eq}
 use Rattle.matchit.specs.Rows.{RowsOf}
 use Rattle.matchit.specs.Seek.{first}
 use Rattle.matchit.specs.Route.{Scan, parse_route}
-use Rattle.matchit.specs.Router.{RouteOf, route_from}
+use Rattle.matchit.specs.Router.{RouteOf, route_from, nearest}
 use Rattle.matchit.specs.Order.{placed}
 use Rattle.matchit.specs.declared.error.InsertError.{InsertError}
 use Rattle.hub_http.specs.declared.request_fault.RequestFault.TheVariants.{NoRoute}
@@ -65,6 +65,16 @@ with_scan (Err e) value rows = rows
 
 abbrev pub with_entry : RowsOf (RouteOf Resource) → List ℕ × Resource → RowsOf (RouteOf Resource)
 with_entry rows entry = with_scan (parse_route entry.0) entry.1 rows
+
+-- the pattern reads well, and conflicts with none of the rows
+abbrev pub has_room : Result Scan InsertError → RowsOf (RouteOf Resource) → Bool
+has_room (Ok s) rows = is_none (nearest s.pattern rows)
+has_room (Err e) rows = false
+
+-- the rows take one entry after another, and refuse none
+abbrev pub take_all : RowsOf (RouteOf Resource) → List (List ℕ × Resource) → Bool
+take_all rows [] = true
+take_all rows (entry ∷ rest) = has_room (parse_route entry.0) rows && take_all (with_entry rows entry) rest
 
 -- the rows of all the patterns
 unfoldable pub table : RowsOf (RouteOf Resource)

@@ -1,6 +1,8 @@
 //! Which route a method and a target have.
-ghost use Rattle.std.specs.Prelude.{◌≡◌, ℕ, List, [], map, fold, Ok, IfOk, OnOk, option_copied};
+ghost use Rattle.std.specs.Prelude.{◌≡◌, ℕ, List, [], map, fold, Ok, IfOk, IfErr, OnOk, option_copied, true};
 ghost use Rattle.std.specs.List.{before_first, after_first};
+ghost use Rattle.matchit.specs.Route.{parse_route};
+ghost use Rattle.matchit.specs.declared.error.InsertError.TheVariants.{OutOfMemory};
 ghost use Rattle.hub_http.specs.Outcome.{Gives, GivesAs};
 ghost use Rattle.hub_http.specs.Texts.{entry_view};
 ghost use Rattle.hub_http.specs.Routes as spec;
@@ -169,14 +171,16 @@ const ENTRIES: [(&str, Resource); 30] = [
 
 /// Puts in one more pattern.
 fn add(router: &mut Router<Resource>, pattern: &str, resource: Resource) -> Result<(), InsertError>
-    ensures { OnOk result (router.new ≡ spec.with_entry router.old (pattern.now, resource)) }
+    ensures added { OnOk result (router.new ≡ spec.with_entry router.old (pattern.now, resource)) }
+    ensures fault { spec.has_room (parse_route pattern.now) router.old ≡ true → IfErr result (λ e. e ≡ OutOfMemory) }
 {
     router.insert(pattern, resource)
 }
 
 /// The router of these patterns.
 fn router_of(alloc: Global, entries: &[(&str, Resource)]) -> Result<Router<Resource>, InsertError>
-    ensures { IfOk result (λ r. r ≡ fold spec.with_entry [] (map entry_view entries.now)) }
+    ensures all { IfOk result (λ r. r ≡ fold spec.with_entry [] (map entry_view entries.now)) }
+    ensures fault { spec.take_all [] (map entry_view entries.now) ≡ true → IfErr result (λ e. e ≡ OutOfMemory) }
 {
     let mut router = Router::new(alloc);
     for entry in entries {
@@ -188,7 +192,8 @@ fn router_of(alloc: Global, entries: &[(&str, Resource)]) -> Result<Router<Resou
 /// The router of all the paths. The patterns do not conflict, so only memory can be wanting.
 #[tactic(auto, unfolding(crate::specs::Routes::table))]
 fn router(alloc: Global) -> Result<Router<Resource>, InsertError>
-    ensures { IfOk result (λ r. r ≡ spec.table) }
+    ensures all { IfOk result (λ r. r ≡ spec.table) }
+    ensures fault { IfErr result (λ e. e ≡ OutOfMemory) }
 {
     router_of(alloc, &ENTRIES)
 }

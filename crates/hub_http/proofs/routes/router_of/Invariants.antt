@@ -1,7 +1,10 @@
-use Rattle.std.proofs.Common.{◌≡◌, fold, map, take, []}
-use Rattle.hub_http.specs.Routes.{with_entry}
+use Rattle.std.proofs.Common.{◌≡◌, fold, map, take, drop, [], true}
+use Rattle.hub_http.specs.Routes.{with_entry, take_all}
 use Rattle.hub_http.specs.Texts.{entry_view}
 use Rattle.hub_http.proofs.routes.router_of.Given as goal
 
 abbrev pub invariant-loop-entry : goal.invariant-loop-entry
-invariant-loop-entry l = l.router ≡ fold with_entry [] (map entry_view (take l.entry-index l.entries))
+invariant-loop-entry l = record {
+  rows : l.router ≡ fold with_entry [] (map entry_view (take l.entry-index l.entries));
+  left : take_all [] (map entry_view l.entries) ≡ true → take_all l.router (map entry_view (drop l.entry-index l.entries)) ≡ true;
+}
