@@ -1,13 +1,13 @@
 //! How many class gates, recipients and permissions of an incident would stand after a request, by a shelf's look-ups.
-ghost use Rattle.std.specs.Prelude.{◌≡◌, ◌∷◌, [], true, false, ℕ, Some, Option, is_some, min, IfOk, IsErrOf, if◌then◌else◌, length};
+ghost use Rattle.std.specs.Prelude.{◌≡◌, ◌∷◌, [], true, false, ℕ, Option, is_some, IfOk, IsErrOf};
 ghost use Rattle.circle.specs.declared.directory.Person.{Person as Actor};
 ghost use Rattle.hub_core.specs.Aftermath.{put_gate};
 ghost use Rattle.hub_core.specs.Documents.{made_at};
 ghost use Rattle.hub_core.specs.Edits.{after};
 ghost use Rattle.hub_core.specs.Facts.{looked_up};
-ghost use Rattle.hub_core.specs.Refusals.{counted, incident_asked, gates_then, recipients_then, permissions_then};
+ghost use Rattle.hub_core.specs.Refusals.{incident_asked, gates_then, recipients_then, permissions_then};
 ghost use Rattle.hub_core.specs.Shelves.{HasFailed, IsKept};
-ghost use Rattle.hub_core.specs.State.{State, incident_of, class_gates, recipients_of, permissions_of};
+ghost use Rattle.hub_core.specs.State.{State, class_gates, recipients_of, permissions_of};
 ghost use Rattle.hub_core.specs.declared.edit.Edit.TheVariants as edit;
 ghost use Rattle.hub_core.specs.declared.request.Target.{Target as Addressed};
 ghost use Rattle.iodef_tree.specs.Text.{Tokens};

@@ -4,7 +4,7 @@ ghost use Rattle.std.specs.List.{list_any};
 ghost use Rattle.circle.specs.Reads.{communities_of, groups_joined, active_groups_joined, share_community, are_connected};
 ghost use Rattle.hub_core.specs.Reads.{standing_of, standing_for, is_client_for, arranged as arranged_with};
 ghost use Rattle.hub_core.specs.Shelves.{HasFailed, IsKept, IsRead};
-ghost use Rattle.hub_core.specs.State.{State, incident_of, has_recipient};
+ghost use Rattle.hub_core.specs.State.{State, has_recipient};
 ghost use Rattle.hub_core.specs.declared.request.Target.TheVariants as target;
 ghost use Rattle.hub_core.specs.declared.state.Incident.{Incident};
 
