@@ -5,7 +5,7 @@ use Rattle.std.proofs.lemmas.Bool.Decides.{leb_tells}
 use Rattle.hub_core.specs.State.{State}
 use Rattle.hub_core.specs.Shelves.{IsRead, last_count}
 use Rattle.hub_core.specs.declared.shelf.ShelfFault.{ShelfFault}
-use Rattle.hub.specs.Asking.{HasFailed, IsKept}
+use Rattle.hub_core.specs.Shelves.{HasFailed, IsKept}
 
 pub kept_on : {D : Type 0} {has : D → State → Type 0} {doubts failed : D → ℕ} {may_leave : D → State → Type 0} {old mid new : D} →
     IsKept has doubts failed may_leave old mid → IsKept has doubts failed may_leave mid new → IsKept has doubts failed may_leave old new

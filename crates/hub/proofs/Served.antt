@@ -32,7 +32,8 @@ use Rattle.hub.specs.Faults.{code_told}
 use Rattle.hub.specs.Told.{is_shown, view_of}
 use Rattle.hub.specs.Replies.{if_active, caller_of, viewed, circle_reply, refused_or, answer_to, reply_by, reply_of}
 use Rattle.hub.specs.Machine.{IsGivenUp}
-use Rattle.hub.specs.Asking.{IsThere, IsKept}
+use Rattle.hub_core.specs.Shelves.{IsKept}
+use Rattle.hub.specs.Asking.{IsThere}
 use Rattle.hub.specs.Serving.{due_to, read_by, is_made, IsServed}
 use Rattle.hub.specs.declared.key.Key.{Key}
 use Rattle.hub.specs.declared.key.Key.TheVariants.{Absent, Digest}

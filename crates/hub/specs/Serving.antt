@@ -17,7 +17,7 @@ use Rattle.hub_core.specs.declared.request.Request.{Request}
 use Rattle.hub_core.specs.declared.request.Request.TheVariants as ask
 use Rattle.hub_core.specs.declared.shelf.ShelfFault.{ShelfFault}
 use Rattle.hub_core.specs.declared.shelf.ShelfFault.TheVariants.{Failed}
-use Rattle.hub.specs.Asking.{HasFailed}
+use Rattle.hub_core.specs.Shelves.{HasFailed}
 use Rattle.iodef_tree.specs.Text.{Bytes}
 use Rattle.circle.specs.declared.refusal.Refusal.{Refusal}
 use Rattle.hub_core.specs.declared.state.Incident.{Incident}

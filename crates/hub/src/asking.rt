@@ -7,7 +7,8 @@ ghost use Rattle.circle.specs.Reads.{person_of};
 ghost use Rattle.hub.specs.Told.{standing_at};
 ghost use Rattle.hub.specs.Explaining.{standing_between};
 ghost use Rattle.hub.specs.Replies.{caller_of};
-ghost use Rattle.hub.specs.Asking.{HasFailed, IsKept, IsThere};
+ghost use Rattle.hub_core.specs.Shelves.{HasFailed, IsKept};
+ghost use Rattle.hub.specs.Asking.{IsThere};
 
 use crate::key::Key;
 use circle::directory::Person;

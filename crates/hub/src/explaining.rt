@@ -9,7 +9,7 @@ ghost use Rattle.hub_core.specs.Sound.{IsSound};
 ghost use Rattle.hub_core.specs.Refusals.{refusal_of};
 ghost use Rattle.hub_core.specs.declared.reply.Reply.TheVariants.{Trace};
 ghost use Rattle.hub_core.specs.declared.request.Request.TheVariants as ask;
-ghost use Rattle.hub.specs.Asking.{HasFailed, IsKept};
+ghost use Rattle.hub_core.specs.Shelves.{HasFailed, IsKept};
 ghost use Rattle.hub.specs.Explaining.{text_at, text_of as text_told};
 ghost use Rattle.hub.specs.Replies.{refused_or};
 ghost use Rattle.hub.specs.Told.{trace_of};

@@ -6,7 +6,7 @@ ghost use Rattle.circle.specs.declared.refusal.Code.TheVariants.{F1};
 ghost use Rattle.hub_core.specs.State.{State};
 ghost use Rattle.hub_core.specs.Sound.{IsSound};
 ghost use Rattle.hub_core.specs.declared.reply.Reply.TheVariants.{Refused};
-ghost use Rattle.hub.specs.Asking.{HasFailed};
+ghost use Rattle.hub_core.specs.Shelves.{HasFailed};
 ghost use Rattle.hub.specs.Machine.{IsRun, IsStep, state_left};
 ghost use Rattle.hub.specs.Serving.{is_made};
 

@@ -8,7 +8,8 @@ ghost use Rattle.hub_core.specs.declared.state.Incident.{Incident};
 ghost use Rattle.hub_core.specs.declared.reply.Entry.{Entry as Listed};
 ghost use Rattle.hub.specs.Replies.{page_of};
 ghost use Rattle.hub.specs.Wanted.{is_told, is_wanted, is_wanted_at, number_at_end, rules_out};
-ghost use Rattle.hub.specs.Asking.{HasFailed, IsKept, IsThere};
+ghost use Rattle.hub_core.specs.Shelves.{HasFailed, IsKept};
+ghost use Rattle.hub.specs.Asking.{IsThere};
 
 use crate::asking::{Asker, content_of, standing};
 use crate::fault::ample;

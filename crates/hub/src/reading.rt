@@ -11,7 +11,8 @@ ghost use Rattle.hub_core.specs.State.{incident_of};
 ghost use Rattle.hub.specs.Replies.{page_of, viewed};
 ghost use Rattle.hub.specs.Wanted.{is_wanted};
 ghost use Rattle.hub.specs.Serving.{read_by, searched};
-ghost use Rattle.hub.specs.Asking.{HasFailed, IsKept, IsThere};
+ghost use Rattle.hub_core.specs.Shelves.{HasFailed, IsKept};
+ghost use Rattle.hub.specs.Asking.{IsThere};
 
 use crate::asking::Asker;
 use crate::explaining::explain_to;

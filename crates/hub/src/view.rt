@@ -7,7 +7,8 @@ ghost use Rattle.hub_core.specs.State.{State, incident_of};
 ghost use Rattle.hub_core.specs.Sound.{IsSound};
 ghost use Rattle.hub_core.specs.Reads.{entry_of};
 ghost use Rattle.hub.specs.Viewing.{first_being, seen_in, view_made};
-ghost use Rattle.hub.specs.Asking.{HasFailed, IsKept, IsThere};
+ghost use Rattle.hub_core.specs.Shelves.{HasFailed, IsKept};
+ghost use Rattle.hub.specs.Asking.{IsThere};
 
 use crate::asking::{Asker, Content, content_of, standing};
 use crate::fault::ample;

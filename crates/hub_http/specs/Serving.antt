@@ -8,7 +8,7 @@ use Rattle.hub_core.specs.declared.request.Request.{Request}
 use Rattle.circle.specs.Outcomes.{bare}
 use Rattle.circle.specs.declared.refusal.Code.TheVariants.{F1}
 use Rattle.hub_core.specs.declared.reply.Reply.TheVariants.{Refused}
-use Rattle.hub.specs.Asking.{HasFailed}
+use Rattle.hub_core.specs.Shelves.{HasFailed}
 use Rattle.hub.specs.Machine.{IsStep, state_left}
 use Rattle.hub.specs.Serving.{is_made}
 use Rattle.hub.specs.declared.key.Key.{Key}

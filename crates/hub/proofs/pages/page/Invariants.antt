@@ -3,7 +3,8 @@ use Rattle.hub_core.specs.State.{State}
 use Rattle.hub_core.specs.Sound.{IsSound}
 use Rattle.hub.specs.Replies.{page_of}
 use Rattle.hub.specs.Wanted.{is_wanted}
-use Rattle.hub.specs.Asking.{IsKept, IsThere}
+use Rattle.hub_core.specs.Shelves.{IsKept}
+use Rattle.hub.specs.Asking.{IsThere}
 use Rattle.hub.proofs.Paging.{passing_above}
 use Rattle.hub.proofs.pages.page.Given as goal
 

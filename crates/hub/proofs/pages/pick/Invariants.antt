@@ -2,7 +2,8 @@ use Rattle.std.proofs.Common.{◌≡◌, ◌≤◌, ◌++◌, filter, take, drop
 use Rattle.hub_core.specs.State.{State}
 use Rattle.hub_core.specs.declared.reply.Entry.{Entry}
 use Rattle.hub.specs.Wanted.{is_wanted_at}
-use Rattle.hub.specs.Asking.{IsKept, IsThere}
+use Rattle.hub_core.specs.Shelves.{IsKept}
+use Rattle.hub.specs.Asking.{IsThere}
 use Rattle.hub.proofs.pages.pick.Given as goal
 
 abbrev pub invariant-loop-entry : goal.invariant-loop-entry

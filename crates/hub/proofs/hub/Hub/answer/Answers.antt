@@ -2,7 +2,7 @@ use Rattle.std.proofs.Common.{inl, inr, Err, w64, sym, ap, subst, refl, ◌∙�
 use Rattle.std.specs.Prelude.{ℤ}
 use Rattle.std.proofs.lemmas.Int.{to_z-of_z}
 use Rattle.hub.specs.Replies.{reply_of}
-use Rattle.hub.specs.Asking.{HasFailed}
+use Rattle.hub_core.specs.Shelves.{HasFailed}
 use Rattle.hub.specs.Machine.{state_left}
 use Rattle.hub.proofs.Served.{due_tells, given_up, failure_told}
 use Rattle.hub.proofs.hub.Hub.answer.Goals as goal

@@ -6,7 +6,7 @@ use Rattle.circle.specs.declared.refusal.Code.TheVariants.{F1}
 use Rattle.hub_core.specs.State.{State}
 use Rattle.hub_core.specs.Sound.{IsSound}
 use Rattle.hub_core.specs.declared.reply.Reply.TheVariants.{Refused}
-use Rattle.hub.specs.Asking.{HasFailed}
+use Rattle.hub_core.specs.Shelves.{HasFailed}
 use Rattle.hub.specs.Machine.{IsRun}
 use Rattle.hub.proofs.hub.Hub.run.Given as goal
 
