@@ -63,7 +63,7 @@ once_rising number n (x ∷ xs) up = (all_weaker (λ y. nat_cmp (number x) (numb
 pub once_numbered : {X : Type 0} (number : X → ℕ) (n : ℕ) (xs : List X) → CountsFrom number 0 xs → Once (λ x. number x == n) xs
 once_numbered number n xs counts = once_rising number n xs (counted number 0 xs counts).1
 
-never_so : (t : Bool) → (t ≡ true → ⊥) → t ≡ false
+pub never_so : (t : Bool) → (t ≡ true → ⊥) → t ≡ false
 never_so true never = absurd (never refl)
 never_so false never = refl
 

@@ -29,6 +29,8 @@ pub mod Whether
 pub mod TextsHighest
 pub mod Highest
 pub mod Left
+pub mod Telling
+pub mod AnyVersion
 pub mod ByNumber
 pub mod AskedPairs
 pub mod MoreReading
@@ -42,5 +44,3 @@ pub mod DirectorySets
 pub mod GroupSets
 pub mod Halving
 pub mod Stepping
-pub mod Telling
-pub mod AnyVersion

@@ -27,17 +27,13 @@ use Rattle.hub_store.proofs.Compare.{equal_numbers, equal_texts, and_true}
 use Rattle.hub_store.proofs.Forms.{one_table, is_param}
 use Rattle.hub_store.proofs.Held.{split}
 use Rattle.hub_store.proofs.Statements.{keeps, shows, selected}
-use Rattle.hub_store.proofs.Finding.{Once, seen_through, of_elements, only_one, as_viewed, reads_first}
+use Rattle.hub_store.proofs.Finding.{Once, never_so, seen_through, of_elements, only_one, as_viewed, reads_first}
 
 abbrev is_named : ℕ → List ℕ → Incident → Bool
 is_named source ident i = i.source == source && bytes_eq i.ident ident
 
 abbrev name_of : Incident → ℕ × List ℕ
 name_of i = (i.source, i.ident)
-
-never_both : (t : Bool) → (t ≡ true → ⊥) → t ≡ false
-never_both true never = absurd (never refl)
-never_both false never = refl
 
 one_name : (source : ℕ) (ident : List ℕ) (a b : Incident) → is_named source ident a ≡ true → is_named source ident b ≡ true → name_of a ≡ name_of b
 one_name source ident a b one two =
@@ -51,7 +47,7 @@ one_name source ident a b one two =
 once_named : (source : ℕ) (ident : List ℕ) (xs : List Incident) → Differ name_of xs → Once (is_named source ident) xs
 once_named source ident [] apart = tt
 once_named source ident (x ∷ xs) apart = (
-  all_weaker (λ y. name_of x ≢ name_of y) (λ y. is_named source ident x ≡ true → is_named source ident y ≡ false) (λ y other is. never_both (is_named source ident y) (λ also. other (one_name source ident x y is also))) xs apart.0,
+  all_weaker (λ y. name_of x ≢ name_of y) (λ y. is_named source ident x ≡ true → is_named source ident y ≡ false) (λ y other is. never_so (is_named source ident y) (λ also. other (one_name source ident x y is also))) xs apart.0,
   once_named source ident xs apart.1,
 )
 

@@ -31,6 +31,12 @@ read_keeps g conn failures old new Right outcome result answers cause = record {
   crash = λ clean s may. leaves_no_more (state g (conn old)) (state g (conn new)) s answers.survives clean may;
 }
 
+-- what was found is right, where it is told
+pub read_value : {S : Type 0} (g : store.Ghosts S) (old new : Held S) {T : Type 0} (Right : core.State → T → Type 0) (outcome : Result T Error) (result : Result T ShelfFault)
+    → Answers (state g old) (state g new) Right outcome → IfOk result (λ x. outcome ≡ Ok x) → HasCleanDisk (state g new) → (s : core.State) → Has (state g old) s → IfOk result (Right s)
+read_value g old new Right outcome (Ok x) answers told clean s has = subst (λ r. IfOk r (Right s)) told (answers.right clean s has)
+read_value g old new Right outcome (Err fault) answers told clean s has = tt
+
 pub err_only : {T E F : Type 0} (made : Result T E) (told : Result T F) (A B K Q : Type 0) → IfOk made (λ x. told ≡ Ok x) → (A → B → OnErr made K) → ((A → B → K) → Q) → OnErr told Q
 err_only (Ok x) told A B K Q given none f = subst (λ r. OnErr r Q) (sym given) tt
 err_only (Err e) (Ok x) A B K Q given none f = tt

@@ -15,6 +15,6 @@ pub mod Shown
 pub mod FirstShown
 pub mod Looks
 pub mod Makes
-pub mod TargetsShown
 pub mod Versions
 pub mod Opening
+pub mod TargetsShown

@@ -1,4 +1,4 @@
-//! What the shelf over the tables looks up.
+//! What the tables look up for standings and facts.
 
 ghost use Rattle.std.specs.Prelude.{◌≡◌, ◌<◌};
 
@@ -37,7 +37,7 @@ impl<S: Alter> LookUps for SqlShelf<S> {
 
     ghost may_leave = { λ shelf s. MayLeave (state S.Store shelf.conn) s };
 
-    ghost sound = { λ shelf s h. h.sound };
+    ghost sound = { λ shelf s has. has.sound };
 
     fn has_ended(&self) -> bool {
         self.failures == u64::MAX

@@ -1,0 +1,59 @@
+//! The requests of a block of lines, written out.
+
+use crate::fields::number_of;
+use std::alloc::{AllocError, Global};
+
+/// A block of the table.
+#[derive(Drop)]
+pub struct Block {
+    alloc: Global,
+    /// One for each request, with its fields.
+    pub lines: Vec<String>,
+}
+
+impl Block {
+    pub fn new(alloc: Global) -> Block {
+        Block {
+            alloc,
+            lines: Vec::new(alloc),
+        }
+    }
+
+    pub fn is_empty(&self) -> bool {
+        self.lines.is_empty()
+    }
+
+    /// Adds the requests of a line.
+    pub fn add(&mut self, line: &str) -> Result<(), AllocError> {
+        let (times, request) = line.split_once(" times ").unwrap_or(("1", line));
+        for n in 1..=number_of(times) {
+            self.lines.push(filled_in(self.alloc, request, n)?)?;
+        }
+        Ok(())
+    }
+}
+
+/// The request as it is made the nth time.
+fn filled_in(alloc: Global, request: &str, n: u32) -> Result<String, AllocError> {
+    let mut all = String::new(alloc);
+    for piece in request.split('<') {
+        match piece.split_once('>') {
+            Some((word, behind)) => {
+                push_word(alloc, &mut all, word, n)?;
+                all.push_str(behind)?;
+            }
+            None => all.push_str(piece)?,
+        }
+    }
+    Ok(all)
+}
+
+fn push_word(alloc: Global, all: &mut String, word: &str, n: u32) -> Result<(), AllocError> {
+    match word.split_once(',') {
+        Some((odd, even)) => all.push_str(if n % 2 == 1 { odd } else { even }),
+        None => {
+            let number = format!(in alloc; "{n}")?;
+            all.push_str(number.as_str())
+        }
+    }
+}

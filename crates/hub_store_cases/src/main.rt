@@ -1,0 +1,53 @@
+//! Runs the hub over the tables in memory for the cases on standard input, and prints what each request is answered.
+//!
+//! A case is a block of lines, one request a line, with an empty line behind it; each case is one list that is run over
+//! new tables. The first block sets up the organisations, persons and groups, and its requests come before those of every
+//! later block. The tables begin with organisation 1 and its administrator, person 1. A line that begins with `#` is
+//! printed as it is.
+//!
+//! A request is WHO|REQUEST|FIELD|FIELD.. with the fields in the request's order; WHO is `p4` for person 4, or `nobody`.
+//! The key of person N is 32 bytes of N. A group is `-` for none, and so is a class; gates are LEVEL:GROUP:POINTER with a
+//! space between; targets and grantees are `person 4`, `org 3`, `community 1` or `group 1`.
+//! `150 times` before a request asks it so often; in it `<n>` is the number of the time, and `<a,b>` is a and b in turn.
+//!
+//! A failure of the tables is told behind its block. Behind the cases stands what becomes of stores that are opened.
+#![tactic(auto)]
+
+mod block;
+mod commands;
+mod fields;
+mod openings;
+mod play;
+mod requests;
+mod told;
+
+use block::Block;
+use std::io;
+use std::io::Read;
+
+fn main(rt: HostRuntime) -> io::Result<()> {
+    let alloc = rt.alloc();
+    let mut table = String::new(alloc);
+    rt.reader().read_to_string(&mut table)?;
+    let mut world = Block::new(alloc);
+    let mut block = Block::new(alloc);
+    for line in table.lines() {
+        if line.is_empty() {
+            for told in play::answers(alloc, &world, &block)? {
+                println!(rt; "{told}")?;
+            }
+            if world.is_empty() {
+                world = block;
+            }
+            block = Block::new(alloc);
+        } else if line.starts_with('#') {
+            println!(rt; "{line}")?;
+        } else {
+            block.add(line)?;
+        }
+    }
+    for told in openings::all(alloc)? {
+        println!(rt; "{told}")?;
+    }
+    Ok(())
+}

@@ -1,0 +1,171 @@
+//! Who asks, and what, by the fields of a line.
+
+use crate::commands::{command_of, key_of};
+use crate::fields::{Fields, number_if_any, number_of};
+use circle::text::Text;
+use hub::Key;
+use hub_core::{Bytes, Request, Target, WantedGate, WantedGates};
+use policy::Grantee;
+use std::alloc::{AllocError, Global};
+
+fn target_of(words: &str) -> Target {
+    match words.split_once(' ') {
+        Some(("org", number)) => Target::Org(number_of(number)),
+        Some((_, number)) => Target::Person(number_of(number)),
+        None => Target::Person(0),
+    }
+}
+
+fn grantee_of(words: &str) -> Grantee {
+    match words.split_once(' ') {
+        Some(("org", number)) => Grantee::Org(number_of(number)),
+        Some(("community", number)) => Grantee::Community(number_of(number)),
+        Some(("group", number)) => Grantee::Group(number_of(number)),
+        Some((_, number)) => Grantee::Person(number_of(number)),
+        None => Grantee::Person(0),
+    }
+}
+
+fn gate_of(alloc: Global, word: &str) -> Result<WantedGate, AllocError> {
+    let (level, rest) = word.split_once(':').unwrap_or((word, ""));
+    let (group, path) = rest.split_once(':').unwrap_or((rest, ""));
+    Ok(WantedGate {
+        level: number_of(level),
+        group: number_if_any(group),
+        path: Text::of(alloc, path)?,
+    })
+}
+
+fn gates_of(alloc: Global, words: &str) -> Result<WantedGates, AllocError> {
+    let mut gates = Vec::new(alloc);
+    if !words.is_empty() {
+        for word in words.split(' ') {
+            gates.push(gate_of(alloc, word)?)?;
+        }
+    }
+    Ok(WantedGates::new(gates))
+}
+
+fn body_of(alloc: Global, text: &str) -> Result<Bytes, AllocError> {
+    Ok(Bytes::new(text.as_bytes().to_vec(alloc)?))
+}
+
+/// A request with a document.
+fn posting(
+    alloc: Global,
+    name: &str,
+    fields: &mut Fields<'_>,
+) -> Result<Option<Request>, AllocError> {
+    Ok(match name {
+        "Post" => Some(Request::Post {
+            level: fields.number(),
+            group: fields.number_if_any(),
+            gates: gates_of(alloc, fields.word())?,
+            document: body_of(alloc, fields.word())?,
+        }),
+        "Replace" => Some(Request::Replace {
+            incident: fields.number(),
+            revision: fields.number(),
+            level: fields.number(),
+            group: fields.number_if_any(),
+            gates: gates_of(alloc, fields.word())?,
+            document: body_of(alloc, fields.word())?,
+        }),
+        _ => None,
+    })
+}
+
+/// A request on an incident that is there.
+fn sharing(
+    alloc: Global,
+    name: &str,
+    fields: &mut Fields<'_>,
+) -> Result<Option<Request>, AllocError> {
+    Ok(match name {
+        "Redistribute" => Some(Request::Redistribute {
+            incident: fields.number(),
+            revision: fields.number(),
+            path: fields.text(alloc)?,
+            level: fields.number(),
+            group: fields.number_if_any(),
+        }),
+        "Address" => Some(Request::Address {
+            incident: fields.number(),
+            target: target_of(fields.word()),
+        }),
+        "Unaddress" => Some(Request::Unaddress {
+            incident: fields.number(),
+            target: target_of(fields.word()),
+        }),
+        "Grant" => Some(Request::Grant {
+            incident: fields.number(),
+            revision: fields.number(),
+            path: fields.text(alloc)?,
+            grantee: grantee_of(fields.word()),
+        }),
+        "Withdraw" => Some(Request::Withdraw {
+            incident: fields.number(),
+            path: fields.text(alloc)?,
+            grantee: grantee_of(fields.word()),
+        }),
+        _ => None,
+    })
+}
+
+fn class_of(alloc: Global, word: &str) -> Result<Option<Text>, AllocError> {
+    if word == "-" {
+        Ok(None)
+    } else {
+        Ok(Some(Text::of(alloc, word)?))
+    }
+}
+
+fn reading(alloc: Global, name: &str, fields: &mut Fields<'_>) -> Result<Request, AllocError> {
+    Ok(match name {
+        "View" => Request::View {
+            incident: fields.number(),
+        },
+        "List" => Request::List {
+            after: fields.number(),
+        },
+        "Search" => Request::Search {
+            needle: fields.text(alloc)?,
+            class: class_of(alloc, fields.word())?,
+            after: fields.number(),
+        },
+        "Addressed" => Request::Addressed {
+            after: fields.number(),
+        },
+        "MyGroups" => Request::MyGroups,
+        _ => Request::WhoAmI,
+    })
+}
+
+fn request_of(alloc: Global, fields: &mut Fields<'_>) -> Result<Request, AllocError> {
+    let name = fields.word();
+    if let Some(command) = command_of(alloc, name, fields)? {
+        return Ok(Request::Circle(command));
+    }
+    if let Some(request) = posting(alloc, name, fields)? {
+        return Ok(request);
+    }
+    match sharing(alloc, name, fields)? {
+        Some(request) => Ok(request),
+        None => reading(alloc, name, fields),
+    }
+}
+
+/// By what the caller is known.
+fn caller(word: &str) -> Key {
+    match word.split_once('p') {
+        Some((_, number)) => Key::Digest(key_of(number_of(number))),
+        None => Key::Absent,
+    }
+}
+
+/// Who asks what, by a line.
+pub fn asked_of(alloc: Global, line: &str) -> Result<(Key, Request), AllocError> {
+    let mut fields = Fields::new(line);
+    let key = caller(fields.word());
+    Ok((key, request_of(alloc, &mut fields)?))
+}

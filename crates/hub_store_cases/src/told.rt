@@ -1,0 +1,131 @@
+//! Replies as text.
+
+use circle::directory::{Person, Role};
+use circle::refusal::Refusal;
+use hub_core::{Entry, JoinedGroup, Reply, View};
+use std::alloc::{AllocError, Global};
+
+fn push_pairs(alloc: Global, all: &mut String, view: &View) -> Result<(), AllocError> {
+    for (place, rule) in view.withheld.as_slice() {
+        let pointer = place.print(alloc)?;
+        all.push_str(" [")?;
+        all.push_str(pointer.as_str())?;
+        all.push_str(",")?;
+        all.push_str(rule.name())?;
+        all.push_str("]")?;
+    }
+    Ok(())
+}
+
+/// `view 1 revision 1 of 2 classes 1 DOCUMENT`, and behind it what is withheld.
+fn view(alloc: Global, view: &View) -> Result<String, AllocError> {
+    let (number, revision, source, classes) = (
+        view.number,
+        view.revision,
+        view.source,
+        view.classes,
+    );
+    let mut all = format!(in alloc;
+        "view {number} revision {revision} of {source} classes {classes} "
+    )?;
+    let document = view.document.text(alloc)?;
+    all.push_str(document.as_str())?;
+    push_pairs(alloc, &mut all, view)?;
+    Ok(all)
+}
+
+/// `incidents`, and each with its number, its revision and its source.
+fn incidents(alloc: Global, entries: &[Entry]) -> Result<String, AllocError> {
+    let mut all = String::from_str(alloc, "incidents")?;
+    for entry in entries {
+        let (number, revision, source) = (entry.number, entry.revision, entry.source);
+        let one = format!(in alloc; " {number}:{revision}:{source}")?;
+        all.push_str(one.as_str())?;
+    }
+    Ok(all)
+}
+
+fn numbers(alloc: Global, numbers: &[u32]) -> Result<String, AllocError> {
+    let mut all = String::from_str(alloc, "numbers")?;
+    for number in numbers {
+        let one = format!(in alloc; " {number}")?;
+        all.push_str(one.as_str())?;
+    }
+    Ok(all)
+}
+
+fn push_group(alloc: Global, all: &mut String, group: &JoinedGroup) -> Result<(), AllocError> {
+    let (number, owner) = (group.number, group.owner);
+    let name = group.name.as_str();
+    let releasability = group.releasability.as_str();
+    let active = if group.active { "active" } else { "inactive" };
+    let extend = if group.extend { "extends" } else { "keeps" };
+    let one = format!(in alloc;
+        " [{number} {name} '{releasability}' of {owner} {active} {extend}]"
+    )?;
+    all.push_str(one.as_str())
+}
+
+fn groups(alloc: Global, groups: &[JoinedGroup]) -> Result<String, AllocError> {
+    let mut all = String::from_str(alloc, "groups")?;
+    for group in groups {
+        push_group(alloc, &mut all, group)?;
+    }
+    Ok(all)
+}
+
+fn role(role: Role) -> &'static str {
+    match role {
+        Role::Administrator => "administrator",
+        Role::Coordinator => "coordinator",
+        Role::Poster => "poster",
+        Role::Reader => "reader",
+    }
+}
+
+fn caller(alloc: Global, person: &Person) -> Result<String, AllocError> {
+    let (number, org) = (person.number, person.org);
+    let name = person.name.as_str();
+    let role = role(person.role);
+    let nominated = if person.nominated {
+        "nominated"
+    } else {
+        "not nominated"
+    };
+    format!(in alloc; "caller {number} {name} of {org} {role} {nominated}")
+}
+
+/// The code, and the detail where there is one.
+fn refusal(alloc: Global, refusal: &Refusal) -> Result<String, AllocError> {
+    let code = refusal.code.name();
+    let detail = refusal.detail.as_str();
+    if detail.is_empty() {
+        return String::from_str(alloc, code);
+    }
+    format!(in alloc; "{code} {detail}")
+}
+
+pub fn reply(alloc: Global, reply: &Reply) -> Result<String, AllocError> {
+    match reply {
+        Reply::Done => String::from_str(alloc, "done"),
+        Reply::Numbers(found) => numbers(alloc, found.as_slice()),
+        Reply::Revision(revision) => {
+            let revision = *revision;
+            format!(in alloc; "revision {revision}")
+        }
+        Reply::View(found) => view(alloc, found),
+        Reply::Incidents(found) => incidents(alloc, found.as_slice()),
+        Reply::Groups(found) => groups(alloc, found.as_slice()),
+        Reply::Caller(person) => caller(alloc, person),
+        Reply::Trace(trace) => String::from_str(alloc, trace.as_str()),
+        Reply::Refused(found) => refusal(alloc, found),
+    }
+}
+
+pub fn replies(alloc: Global, list: &[Reply]) -> Result<Vec<String>, AllocError> {
+    let mut all = Vec::new(alloc);
+    for one in list {
+        all.push(reply(alloc, one)?)?;
+    }
+    Ok(all)
+}
