@@ -13,7 +13,7 @@ use crate::rows::{Report, Rows};
 use crate::sound::is_sound;
 use crate::tally::Tally;
 use crate::worlds::any_rows;
-use circle::directory::{Account, Person, Role};
+use circle::directory::{Person, Role};
 use hub_core::{Code, Facts, Known, ListShelf, Request, Shelf, judge};
 use std::alloc::{AllocError, Global};
 
@@ -158,26 +158,43 @@ pub fn any_incident(dice: &mut Dice, rows: &Rows) -> u32 {
     dice.roll(count).saturating_add(1)
 }
 
-fn step(alloc: Global, dice: &mut Dice, both: &mut Both, tally: &mut Tally) -> Result<(), Fault> {
-    let kind = any_kind(dice);
-    let incident = any_incident(dice, &both.rows);
-    let place = any_actor(dice, &both.rows, kind, incident).unwrap_or(0);
-    let actor = match both.rows.accounts.get(place) {
-        Some(Account { person, .. }) => person.clone()?,
-        None => return Ok(()),
+/// A person, and a request of this kind that the person makes.
+fn any_asked(
+    alloc: Global,
+    dice: &mut Dice,
+    rows: &Rows,
+    kind: u32,
+) -> Result<Option<(Person, Request)>, AllocError> {
+    let incident = any_incident(dice, rows);
+    let place = any_actor(dice, rows, kind, incident).unwrap_or(0);
+    let Some(account) = rows.accounts.get(place) else {
+        return Ok(None);
     };
     let subject = Subject {
-        who: actor.number,
-        own: actor.org,
+        who: account.person.number,
+        own: account.person.org,
         incident,
     };
-    let request = any_request(alloc, dice, &both.rows, kind, subject)?;
+    let request = any_request(alloc, dice, rows, kind, subject)?;
+    Ok(Some((account.person.clone()?, request)))
+}
+
+/// Compares what both have after a change.
+fn agree_afterwards(alloc: Global, both: &mut Both) -> Result<(), Fault> {
+    agree(is_sound(alloc, &both.rows)?, "rows that aren't sound")?;
+    agree_on_reads(alloc, &mut both.shelf, &both.rows)
+}
+
+fn step(alloc: Global, dice: &mut Dice, both: &mut Both, tally: &mut Tally) -> Result<(), Fault> {
+    let kind = any_kind(dice);
+    let Some((actor, request)) = any_asked(alloc, dice, &both.rows, kind)? else {
+        return Ok(());
+    };
     let told = ask(alloc, both, &actor, &request)?;
     let outcome = outcome_of(alloc, &told)?;
     tally.note(alloc, kind, outcome.as_str())?;
     if told.is_none() && kind < 25 {
-        agree(is_sound(alloc, &both.rows)?, "rows that aren't sound")?;
-        agree_on_reads(alloc, &mut both.shelf, &both.rows)?;
+        agree_afterwards(alloc, both)?;
     }
     Ok(())
 }
