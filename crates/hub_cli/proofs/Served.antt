@@ -34,7 +34,7 @@ serves_run has doubts failed may_leave old new now before after written now_writ
   where
     maybe : MayHaveAnswered (λ asked reply. Steps has doubts failed may_leave old now asked reply new) (new ≡ old) before after → HasRun has old new 1
     maybe (inl same) = none_asked has old new 1 same
-    maybe (inr told) = one_asked has doubts failed may_leave old new now told.1 told.0 told.3 clean
+    maybe (inr told) = one_asked has doubts failed may_leave old new now told.1.0 told.0 told.1.2 clean
 
     by_result : (r : Result Served ServeFault) → Serves (λ asked reply. Steps has doubts failed may_leave old now asked reply new) (new ≡ old) before after written now_written r → HasRun has old new 1
     by_result (Ok Answered) told = one_asked has doubts failed may_leave old new now told.1.0 told.0 told.1.2 clean

@@ -71,9 +71,8 @@ fn init<'a>(alloc: Global) -> Result<Command<'a>, AllocError> {
 }
 
 fn serve<'a>(alloc: Global) -> Result<Command<'a>, AllocError> {
-    let port = word(alloc, "port", "PORT", "The port on 127.0.0.1").value_parser(value_parser!(
-        u16
-    ).range(1..=65535));
+    let ports = value_parser!(u16).range(1..=65535);
+    let port = word(alloc, "port", "PORT", "The port on 127.0.0.1").value_parser(ports);
     let count = word(alloc, "count", "COUNT", "How many connections are served").value_parser(
         value_parser!(u32),
     );
