@@ -25,7 +25,9 @@ fn new_hub(rt: &HostRuntime) -> io::Result<Hub<ListShelf>> {
     let alloc = rt.alloc();
     let mut shelf = ListShelf::new(alloc);
     if let (Some(name), Some(key)) = (Name::of(alloc, "Hub")?, digest_of(ABC)) {
-        assert!(rt; put_first_rows(alloc, &mut shelf, name, key).is_ok());
+        if put_first_rows(alloc, &mut shelf, name, key).is_err() {
+            return Err(io::Error::from(ErrorKind::OutOfMemory));
+        }
     }
     Ok(Hub::new(shelf))
 }
@@ -66,11 +68,11 @@ fn faults_are_told_and_count(rt: HostRuntime) -> io::Result<()> {
     let mut errors: Vec<u8> = Vec::new(rt.alloc());
     drop(TcpStream::connect(&rt, listener.local_addr()?)?);
     let status = serve_count(rt.alloc(), &listener, 1, &mut hub, &rt, &mut errors);
-    assert!(rt; status == Status::Done && errors.as_slice() == b"Truncated\n");
+    assert!(rt; status == Status::Done && errors.as_slice() == "Truncated\n".as_bytes());
     let _client = TcpStream::connect(&rt, listener.local_addr()?)?;
     let mut errors: Vec<u8> = Vec::new(rt.alloc());
     let status = serve_count(rt.alloc(), &listener, 1, &mut hub, &Stopped, &mut errors);
-    assert!(rt; status == Status::Done && errors.as_slice() == b"ReadFailed\n");
+    assert!(rt; status == Status::Done && errors.as_slice() == "ReadFailed\n".as_bytes());
     Ok(())
 }
 
