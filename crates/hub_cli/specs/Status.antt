@@ -1,7 +1,7 @@
 -- The exit status of the program.
 use Rattle.std.specs.Prelude.{ℕ}
-use Rattle.hub_cli.specs.declared.cli.Status.{Status}
-use Rattle.hub_cli.specs.declared.cli.Status.TheVariants.{Done, Refused, Usage, Failed}
+use Rattle.hub_cli.specs.declared.status.Status.{Status}
+use Rattle.hub_cli.specs.declared.status.Status.TheVariants.{Done, Refused, Usage, Failed}
 
 abbrev pub exit_status : Status → ℕ
 exit_status Done = 0

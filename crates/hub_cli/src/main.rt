@@ -2,14 +2,29 @@
 #![tactic(auto)]
 
 mod cli;
+mod clock;
+mod commands;
 #[cfg(test)]
 mod examples;
+mod fault;
+mod first_rows;
 mod input;
+mod keys;
+mod listen;
 mod mark;
+mod output;
+mod peer;
+#[cfg(test)]
+mod socket_tests;
+mod status;
+mod store;
+#[cfg(test)]
+mod store_tests;
 #[cfg(test)]
 mod tests;
+mod view;
+mod words;
 
-use cli::Status;
 use std::process::ExitCode;
 use std::{env, io};
 
@@ -18,6 +33,6 @@ fn main(rt: HostRuntime) -> io::Result<ExitCode> {
     let mut reader = rt.reader();
     let mut writer = io::writer(&rt);
     let mut errors = rt.stderr();
-    let status = cli::cli_run(rt.alloc(), &words, &mut reader, &mut writer, &mut errors);
+    let status = cli::cli_run(&rt, &words, &mut reader, &mut writer, &mut errors);
     Ok(ExitCode::from(status.code()))
 }

@@ -1,0 +1,59 @@
+-- One connection after another is one run.
+use Rattle.std.proofs.Common.{◌≡◌, ◌⊎◌, inl, inr, ℕ, ◌+◌, ℤ, List, [], ◌∷◌, ◌++◌, Option, Result, Ok, Err, refl, sym, subst, arith}
+use Rattle.std.proofs.lemmas.List.{length-append}
+use Rattle.hub_core.specs.State.{State}
+use Rattle.hub_core.specs.Sound.{IsSound}
+use Rattle.hub_core.specs.declared.reply.Reply.{Reply}
+use Rattle.hub_core.specs.declared.request.Request.{Request}
+use Rattle.hub.specs.Machine.{Asked, IsStep, IsRun}
+use Rattle.hub.specs.declared.key.Key.{Key}
+use Rattle.hub.proofs.Runs.{runs_sound}
+use Rattle.hub_http.specs.Serving.{Steps, Serves, MayHaveAnswered}
+use Rattle.hub_http.specs.declared.serve.Served.{Served}
+use Rattle.hub_http.specs.declared.serve.Served.TheVariants.{Answered, WireRefused}
+use Rattle.hub_http.specs.declared.serve.ServeFault.{ServeFault}
+use Rattle.hub_http.specs.declared.serve.ServeFault.TheVariants.{Truncated, ReadFailed, WriteFailed, NoMemory}
+use Rattle.hub_cli.specs.Serving.{HasRun}
+
+-- nothing was asked
+pub none_asked : {D : Type 0} (has : D → State → Type 0) (old new : D) (most : ℕ) → new ≡ old → HasRun has old new most
+none_asked has old new most same = λ s here sound. ([], [], s, omega arith, refl, subst (λ d. has d s) (sym same) here)
+
+one_asked : {D : Type 0} (has : D → State → Type 0) (doubts failed : D → ℕ) (may_leave : D → State → Type 0) (old new : D) (now : ℤ) (asked : Key × Request) (reply : Reply)
+    → Steps has doubts failed may_leave old now asked reply new → doubts new ≡ 0 → HasRun has old new 1
+one_asked has doubts failed may_leave old new now asked reply steps clean = λ s here sound.
+    let step = steps.step clean s here sound in
+    ((now, asked.0, asked.1) ∷ [], reply ∷ [], step.0, omega arith, (step.0, step.1, refl), step.2)
+
+-- one connection asks one thing at most
+pub serves_run : {D : Type 0} (has : D → State → Type 0) (doubts failed : D → ℕ) (may_leave : D → State → Type 0) (old new : D) (now : ℤ)
+    (before after written now_written : Option (List ℕ)) (result : Result Served ServeFault)
+    → Serves (λ asked reply. Steps has doubts failed may_leave old now asked reply new) (new ≡ old) before after written now_written result
+    → doubts new ≡ 0 → HasRun has old new 1
+serves_run has doubts failed may_leave old new now before after written now_written result served clean = by_result result served
+  where
+    maybe : MayHaveAnswered (λ asked reply. Steps has doubts failed may_leave old now asked reply new) (new ≡ old) before after → HasRun has old new 1
+    maybe (inl same) = none_asked has old new 1 same
+    maybe (inr told) = one_asked has doubts failed may_leave old new now told.1.0 told.0 told.1.2 clean
+
+    by_result : (r : Result Served ServeFault) → Serves (λ asked reply. Steps has doubts failed may_leave old now asked reply new) (new ≡ old) before after written now_written r → HasRun has old new 1
+    by_result (Ok Answered) told = one_asked has doubts failed may_leave old new now told.1.0 told.0 told.1.2 clean
+    by_result (Ok (WireRefused e)) told = none_asked has old new 1 told.3
+    by_result (Err Truncated) told = none_asked has old new 1 told.3
+    by_result (Err ReadFailed) told = none_asked has old new 1 told.1
+    by_result (Err WriteFailed) told = maybe told
+    by_result (Err NoMemory) told = maybe told
+
+-- ---- a run, and a run
+
+joined : (s mid end : State) (first second : List Asked) (told more : List Reply) → IsRun s first told mid → IsRun mid second more end → IsRun s (first ++ second) (told ++ more) end
+joined s mid end [] second [] more run next = subst (λ m. IsRun m second more end) run next
+joined s mid end [] second (r ∷ told) more run next = absurd run
+joined s mid end (q ∷ first) second [] more run next = absurd run
+joined s mid end (q ∷ first) second (r ∷ told) more run next = (run.0, run.1, joined run.0 mid end first second told more run.2 next)
+
+pub runs_on : {D : Type 0} (has : D → State → Type 0) (old mid new : D) (m n : ℕ) → HasRun has old mid m → HasRun has mid new n → HasRun has old new (m + n)
+runs_on has old mid new m n first second = λ s here sound.
+    let one = first s here sound in
+    let two = second one.2 one.5 (runs_sound s one.2 one.0 one.1 sound one.4) in
+    (one.0 ++ two.0, one.1 ++ two.1, two.2, omega (arith, length-append one.0 two.0), joined s one.2 two.2 one.0 two.0 one.1 two.1 one.4 two.4, two.5)

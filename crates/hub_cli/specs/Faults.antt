@@ -1,0 +1,29 @@
+-- Why a command over a store isn't done: the name that is told, and how the program ends.
+use Rattle.std.specs.Prelude.{codes}
+use Rattle.iodef_tree.specs.Text.{Bytes}
+use Rattle.hub_core.specs.declared.shelf.ShelfFault.{ShelfFault}
+use Rattle.hub_core.specs.declared.shelf.ShelfFault.TheVariants as shelf
+use Rattle.hub_cli.specs.declared.fault.Fault.{Fault}
+use Rattle.hub_cli.specs.declared.fault.Fault.TheVariants.{BadArgument, NotOurs, WrongVersion, Failed, ListenFailed, ReadFailed, WriteFailed, NoMemory}
+use Rattle.hub_cli.specs.declared.status.Status.{Status}
+use Rattle.hub_cli.specs.declared.status.Status.TheVariants as status
+
+abbrev pub fault_name : Fault → Bytes
+fault_name BadArgument = codes "B1"
+fault_name NotOurs = codes "NotOurs"
+fault_name WrongVersion = codes "WrongVersion"
+fault_name Failed = codes "Failed"
+fault_name ListenFailed = codes "ListenFailed"
+fault_name ReadFailed = codes "ReadFailed"
+fault_name WriteFailed = codes "WriteFailed"
+fault_name NoMemory = codes "NoMemory"
+
+-- a bad argument is refused, all else has failed
+abbrev pub fault_status : Fault → Status
+fault_status BadArgument = status.Refused
+fault_status _ = status.Failed
+
+-- what is told of a shelf's fault
+abbrev pub told_of_shelf : ShelfFault → Fault
+told_of_shelf shelf.NoMemory = NoMemory
+told_of_shelf shelf.Failed = Failed

@@ -1,0 +1,49 @@
+//! `mark`: the labels of a report on standard input.
+
+use crate::fault::Fault;
+use crate::input::read_input;
+use crate::mark::{MarkFault, Wanted, mark_text};
+use crate::output::{ended, print, told};
+use crate::status::Status;
+use iodef_tree::{Path, PathFault};
+use std::alloc::Global;
+use std::io::{Read, Write};
+
+/// Prints what the words ask for, or tells the fault.
+pub fn run<R: Read, W: Write, E: Write>(
+    alloc: Global,
+    place: u32,
+    pointer: Option<&str>,
+    reader: &mut R,
+    writer: &mut W,
+    errors: &mut E,
+) -> Status {
+    let wanted = match wanted(alloc, place, pointer) {
+        Ok(wanted) => wanted,
+        Err(PathFault::BadPath) => return told(errors, PathFault::BadPath.name(), Status::Refused),
+        Err(PathFault::NoMemory) => return ended(errors, Err(Fault::NoMemory)),
+    };
+    let body = match read_input(alloc, reader) {
+        Ok(body) => body,
+        Err(fault) => return ended(errors, Err(fault)),
+    };
+    match mark_text(alloc, &body, &wanted) {
+        Ok(text) => ended(errors, print(writer, text.as_str())),
+        Err(fault) => told(errors, fault.name(), status_of(&fault)),
+    }
+}
+
+fn wanted(alloc: Global, place: u32, pointer: Option<&str>) -> Result<Wanted, PathFault> {
+    let class = match pointer {
+        Some(pointer) => Some(Path::parse(alloc, pointer)?),
+        None => None,
+    };
+    Ok(Wanted { place, class })
+}
+
+fn status_of(fault: &MarkFault) -> Status {
+    match fault {
+        MarkFault::NoMemory => Status::Failed,
+        MarkFault::Body(_) | MarkFault::BadMarking(_) | MarkFault::NoClass => Status::Refused,
+    }
+}
