@@ -13,15 +13,10 @@
 //! request is answered F1, and all others as if that one hadn't been made.
 #![tactic(auto)]
 
-mod block;
-mod commands;
 mod failing;
-mod fields;
 mod play;
-mod requests;
-mod told;
 
-use block::Block;
+use hub_table::Block;
 use std::io;
 use std::io::Read;
 

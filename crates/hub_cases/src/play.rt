@@ -1,45 +1,13 @@
 //! Runs the requests of a block.
 
-use crate::block::Block;
-use crate::commands::key_of;
 use crate::failing::Failing;
-use crate::requests::asked_of;
-use crate::told;
-use circle::command::RowEdit;
-use circle::directory::{Account, Org, Person, Role};
-use circle::name::Name;
-use hub::{Hub, Key};
-use hub_core::{Edit, ListShelf, Request, Shelf};
+use hub::Hub;
+use hub_core::{ListShelf, Shelf};
+use hub_table::{Block, first_rows, lines_of, requests_of};
 use std::alloc::{AllocError, Global};
-
-/// The moment of the first request, in seconds since 1970; each comes a second behind the one before.
-const FIRST_MOMENT: i64 = 1_700_000_000;
 
 /// More calls of the shelf than a case makes.
 const MOST_CALLS: u64 = 10_000;
-
-/// Organisation 1 and its administrator, person 1.
-fn first_rows(alloc: Global) -> Result<Vec<Edit>, AllocError> {
-    let mut edits = Vec::new(alloc);
-    if let (Some(hub), Some(admin)) = (Name::of(alloc, "Hub")?, Name::of(alloc, "admin")?) {
-        edits.push(Edit::Directory(RowEdit::PutOrg(Org {
-            number: 1,
-            name: hub,
-        })))?;
-        edits.push(Edit::Directory(RowEdit::PutAccount(Account {
-            person: Person {
-                number: 1,
-                org: 1,
-                name: admin,
-                role: Role::Administrator,
-                active: true,
-                nominated: false,
-            },
-            key: key_of(1),
-        })))?;
-    }
-    Ok(edits)
-}
 
 /// The shelf that each case begins with; none where it wasn't made.
 fn first_shelf(alloc: Global) -> Result<Option<ListShelf>, AllocError> {
@@ -51,24 +19,6 @@ fn first_shelf(alloc: Global) -> Result<Option<ListShelf>, AllocError> {
     }
 }
 
-/// The requests of these lines, but for one.
-fn requests(
-    alloc: Global,
-    lines: &[&str],
-    but: Option<usize>,
-) -> Result<Vec<(i64, Key, Request)>, AllocError> {
-    let mut asked = Vec::new(alloc);
-    let mut now = FIRST_MOMENT;
-    for (i, line) in lines.iter().enumerate() {
-        if but != Some(i) {
-            let (key, request) = asked_of(alloc, line)?;
-            asked.push((now, key, request))?;
-        }
-        now = now.saturating_add(1);
-    }
-    Ok(asked)
-}
-
 /// What the requests are answered, but for one that isn't made; none where the memory doesn't suffice.
 fn replies(
     alloc: Global,
@@ -78,9 +28,9 @@ fn replies(
     let Some(shelf) = first_shelf(alloc)? else {
         return Ok(None);
     };
-    let asked = requests(alloc, lines, but)?;
+    let asked = requests_of(alloc, lines, but)?;
     match Hub::new(shelf).run(alloc, &asked) {
-        Ok(list) => Ok(Some(told::replies(alloc, &list)?)),
+        Ok(list) => Ok(Some(hub_table::replies(alloc, &list)?)),
         Err(_) => Ok(None),
     }
 }
@@ -94,7 +44,7 @@ fn replies_failing(
     let Some(shelf) = first_shelf(alloc)? else {
         return Ok(None);
     };
-    let asked = requests(alloc, lines, None)?;
+    let asked = requests_of(alloc, lines, None)?;
     let mut hub = Hub::new(Failing {
         shelf,
         calls,
@@ -105,7 +55,7 @@ fn replies_failing(
         return Ok(None);
     }
     match outcome {
-        Ok(list) => Ok(Some(told::replies(alloc, &list)?)),
+        Ok(list) => Ok(Some(hub_table::replies(alloc, &list)?)),
         Err(_) => Ok(None),
     }
 }
@@ -146,18 +96,6 @@ fn failed_in_turn(alloc: Global, lines: &[&str]) -> Result<&'static str, AllocEr
         }
     }
     Ok("more calls than expected")
-}
-
-fn lines_of<'a>(
-    alloc: Global,
-    world: &'a Block,
-    block: &'a Block,
-) -> Result<Vec<&'a str>, AllocError> {
-    let mut lines = Vec::new(alloc);
-    for line in world.lines.iter().chain(block.lines.iter()) {
-        lines.push(line.as_str())?;
-    }
-    Ok(lines)
 }
 
 /// What is printed for a block: the answer to each of its requests.

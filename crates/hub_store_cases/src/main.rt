@@ -13,15 +13,10 @@
 //! A failure of the tables is told behind its block. Behind the cases stands what becomes of stores that are opened.
 #![tactic(auto)]
 
-mod block;
-mod commands;
-mod fields;
 mod openings;
 mod play;
-mod requests;
-mod told;
 
-use block::Block;
+use hub_table::Block;
 use std::io;
 use std::io::Read;
 

@@ -2,10 +2,9 @@
 
 ghost use Rattle.std.specs.Prelude.{◌≡◌};
 
-use crate::commands::key_of;
-use crate::play::first_rows;
 use hub_core::{Shelf, ShelfFault};
 use hub_store::{OpenFault, SqlShelf};
+use hub_table::{first_rows, key_of};
 use sqlite::{Alter, Connection, MemStore};
 use std::alloc::{AllocError, Global};
 
