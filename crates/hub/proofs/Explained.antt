@@ -1,6 +1,6 @@
 -- An explanation is there wherever it isn't refused.
 use Rattle.std.proofs.Common.{◌≡◌, ℕ, Bool, true, false, not, Option, Some, None, cond, refl, sym, ap}
-use Rattle.std.specs.Prelude.{ℤ, is_none, option_map, option_and_then}
+use Rattle.std.specs.Prelude.{ℤ, is_none, option_map}
 use Rattle.std.specs.Option.{option_map_or}
 use Rattle.std.proofs.lemmas.Bool.{true≢false}
 use Rattle.iodef_tree.specs.Text.{Bytes, Tokens}

@@ -1,5 +1,5 @@
 -- The query for the version, whatever the schema is.
-use Rattle.std.proofs.Common.{◌≡◌, ◌⊎◌, inl, inr, ℕ, List, [], ◌∷◌, map, append-nil, Bool, true, false, cond, IsTrue, is_some, Option, Some, None, Ok, Err, Result, IfOk, refl, sym, ap, subst, ◌∙◌}
+use Rattle.std.proofs.Common.{◌≡◌, ◌⊎◌, inl, inr, ℕ, List, [], map, append-nil, Bool, true, false, cond, IsTrue, is_some, Option, Some, None, Ok, Err, Result, IfOk, refl, sym, ap, subst, ◌∙◌}
 use Rattle.sqlite_value.specs.Order.{Row, column}
 use Rattle.sqlite_schema.specs.declared.command.Command.{Command}
 use Rattle.sqlite_schema.specs.declared.command.Returning.{Returning}
@@ -17,7 +17,7 @@ use Rattle.sqlite.specs.declared.error.Error.TheVariants.{SqlInputError}
 use Rattle.sqlite.specs.Effect.{Reads}
 use Rattle.sqlite.specs.Listing.{understood, reads_listing, listing_schema, if_select, IsSourceOf}
 use Rattle.sqlite.specs.State.{State, Shown, IsNotRun, Fails, FailsToQuery, FailsToShow, RunsCommand, IsTooLate, store_error}
-use Rattle.hub_store.specs.Versions.{version_column, version_text, only_u32, AreVersions, IsVersion}
+use Rattle.hub_store.specs.Versions.{version_column, version_text, only_u32, IsVersion}
 use Rattle.hub_store.proofs.Outcomes.{shown_up}
 use Rattle.hub_store.proofs.Statements.{same_ok}
 

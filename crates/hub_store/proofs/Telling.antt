@@ -10,7 +10,6 @@ use Rattle.hub_core.specs.Shelves.{HasCause, IsRead}
 use Rattle.hub_core.specs.declared.shelf.ShelfFault.{ShelfFault}
 use Rattle.hub_store.specs.Asked.{Answers}
 use Rattle.hub_store.specs.Content.{Has, MayLeave}
-use Rattle.hub_store.specs.Keeps.{Knows}
 use Rattle.hub_store.proofs.Runs.{knows, kept_has}
 
 -- what commits nothing leaves a crash what it left before

@@ -1,4 +1,4 @@
-use Rattle.std.proofs.Common.{◌≡◌, Option, IfOk, sym, subst}
+use Rattle.std.proofs.Common.{◌≡◌, Option, IfOk, subst}
 use Rattle.policy.specs.declared.standing.Standing.{Standing}
 use Rattle.hub.proofs.Standings.{standing_of-numbered}
 use Rattle.hub.proofs.asking.standing_of_person.Goals as goal

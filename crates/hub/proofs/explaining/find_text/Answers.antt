@@ -1,6 +1,5 @@
 use Rattle.std.proofs.Common.{◌≡◌, Option, IfOk, sym, ap, subst, ◌∙◌, arith}
 use Rattle.iodef_tree.specs.Text.{Bytes}
-use Rattle.iodef_tree.specs.Pointer.{pointer_tokens}
 use Rattle.circle.specs.Reads.{person_of}
 use Rattle.hub_core.specs.State.{incident_of}
 use Rattle.hub.specs.Explaining.{text_of}

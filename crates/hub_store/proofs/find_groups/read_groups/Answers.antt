@@ -1,4 +1,4 @@
-use Rattle.std.proofs.Common.{◌++◌, false, Ok, rules, refl, ap, ◌∙◌}
+use Rattle.std.proofs.Common.{◌++◌, Ok, rules, refl, ap, ◌∙◌}
 use Rattle.std.specs.List.{filter_map}
 use Rattle.hub_store.specs.ShownPairs.{group_if_any, groups_in}
 use Rattle.hub_store.proofs.GroupSets.{groups_are}

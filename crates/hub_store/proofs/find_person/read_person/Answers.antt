@@ -1,11 +1,7 @@
-use Rattle.std.proofs.Common.{◌≡◌, ◌∷◌, [], refl, sym, ap, subst, ◌∙◌}
-use Rattle.std.specs.Str.{bytes_eq}
-use Rattle.std.specs.List.Sorted.{IsPermutation}
+use Rattle.std.proofs.Common.{◌∷◌, []}
 use Rattle.sqlite_value.specs.declared.value.Value.TheVariants.{Blob}
 use Rattle.sqlite.specs.Held.{state}
-use Rattle.circle.specs.declared.directory.Account.{Account}
 use Rattle.hub_core.specs.Reads.{person_by_key}
-use Rattle.hub_store.specs.Asked.{HasShown}
 use Rattle.hub_store.specs.Shown.{person_shown}
 use Rattle.hub_store.proofs.Answering.{read_shown}
 use Rattle.hub_store.proofs.Finding.{reads_first}

@@ -1,4 +1,3 @@
-use Rattle.hub_store.specs.declared.pair_kind.PairKind.TheVariants as kind
 use Rattle.hub_store.proofs.Extending.{reads_extends}
 use Rattle.hub_store.proofs.MoreReading.{read_made}
 use Rattle.hub_store.proofs.pair_lookups.read_has_extender.Goals as goal
