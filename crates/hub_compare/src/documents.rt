@@ -48,6 +48,8 @@ fn label(dice: &mut Dice) -> &'static str {
         12 => "\"restriction\":\"ext-value\",\"ext-restriction\":\"tlp:Amber+Strict\"",
         13 => "\"restriction\":\"ext-value\",\"ext-restriction\":\"tlp:clear\"",
         14 => "\"restriction\":\"ext-value\",\"ext-restriction\":\"ours\"",
+        15 =>
+            "\"restriction\":\"ext-value\",\"ext-restriction\":\"our \\\"o\\\\n\\u0001\\b\\u001f\u{7f}ü\"",
         _ => "",
     }
 }
@@ -265,6 +267,9 @@ pub fn any_body(
     }
     if dice.once_in(5) {
         push_member(&mut text, "a/b", "{\"Note\":\"needle\"}")?;
+    }
+    if dice.once_in(5) {
+        push_member(&mut text, "\\\"~\\n", "{\"Note\":\"x\"}")?;
     }
     text.push('}')?;
     Ok(text)
