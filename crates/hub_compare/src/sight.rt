@@ -85,23 +85,34 @@ fn is_meant(stand: &Stand, grantee: Grantee) -> bool {
     }
 }
 
-/// The nearest place that has a label of its own, and that label: the root and the Incident have one in any case.
-pub fn nearest_site<'a>(spots: &'a [Spot], path: &str) -> (&'a str, Written<'a>) {
-    let mut site = "";
-    let mut nearest = PRIVATE;
+/// The nearest class that has a label of its own, as the Incident has in any case; none where the root alone has one.
+fn nearest_class<'a>(spots: &'a [Spot], path: &str) -> Option<&'a Spot> {
+    let mut nearest: Option<&'a Spot> = None;
+    let mut length = 0;
     for spot in spots {
         let class = spot.path.as_str();
-        if spot.kind == Kind::Class && is_within(path, class) && site.len() <= class.len() {
-            if let Some(label) = label_in(spots, class) {
-                nearest = label;
-                site = class;
-            } else if class == INCIDENT {
-                nearest = PRIVATE;
-                site = class;
-            }
+        if spot.kind == Kind::Class
+            && is_within(path, class)
+            && length <= class.len()
+            && (class == INCIDENT || label_in(spots, class).is_some())
+        {
+            nearest = Some(spot);
+            length = class.len();
         }
     }
-    (site, nearest)
+    nearest
+}
+
+/// The nearest place that has a label of its own, and that label: the root and the Incident have one in any case.
+pub fn nearest_site<'a>(spots: &'a [Spot], path: &str) -> (&'a str, Written<'a>) {
+    let Some(spot) = nearest_class(spots, path) else {
+        return ("", PRIVATE);
+    };
+    let class = spot.path.as_str();
+    match label_in(spots, class) {
+        Some(label) => (class, label),
+        None => (class, PRIVATE),
+    }
 }
 
 /// The label at that place.
