@@ -28,15 +28,15 @@ struct Story {
     answers: Vec<Answer>,
 }
 
-/// The kind of a request; two in five read.
+/// The kind of a request; more than half of them read.
 fn any_kind_in_list(dice: &mut Dice, paged: bool) -> u32 {
     if paged {
         return 26u32.saturating_add(dice.roll(2));
     }
-    match dice.roll(10) {
-        0 | 1 => 25,
-        2 => 26u32.saturating_add(dice.roll(5)),
-        3 => 31,
+    match dice.roll(11) {
+        0..=2 => 25,
+        3 => 26u32.saturating_add(dice.roll(5)),
+        4 | 5 => 31,
         _ => any_kind(dice),
     }
 }

@@ -621,17 +621,43 @@ fn any_class_name(alloc: Global, dice: &mut Dice) -> Result<Option<Text>, AllocE
     }
 }
 
-/// A person who is there mostly, sometimes one that is suspended.
-fn any_reader(dice: &mut Dice, rows: &Rows) -> u32 {
-    let mut person = any_number(dice, rows.accounts.len());
-    if dice.once_in(8) {
-        for account in rows.accounts.iter() {
-            if !account.person.active && dice.once_in(2) {
-                person = account.person.number;
+/// A person who is there mostly: one that is suspended, one that is nominated of an organisation that is addressed, one that
+/// is nominated, or any.
+fn any_reader(dice: &mut Dice, rows: &Rows, incident: u32) -> u32 {
+    let mut found = any_number(dice, rows.accounts.len());
+    let choice = dice.roll(8);
+    for account in rows.accounts.iter() {
+        let person = &account.person;
+        let is_addressed = rows.has_recipient(incident, Target::Org(person.org));
+        let is_meant = match choice {
+            0 => !person.active,
+            1..=3 => person.nominated && is_addressed,
+            4 => person.nominated,
+            _ => false,
+        };
+        if is_meant && dice.once_in(2) {
+            found = person.number;
+        }
+    }
+    found
+}
+
+/// The pointer of a class of the incident that has a label, if there is one.
+fn any_labelled(
+    alloc: Global,
+    dice: &mut Dice,
+    rows: &Rows,
+    incident: u32,
+) -> Result<Text, AllocError> {
+    let mut path = "/Incident/0";
+    if let Some(report) = rows.report(incident) {
+        for spot in report.sheet.spots.iter() {
+            if spot.name.as_str() == "restriction" && dice.once_in(2) {
+                path = spot.parent.as_str();
             }
         }
     }
-    person
+    Text::of(alloc, path)
 }
 
 fn any_question(
@@ -642,11 +668,12 @@ fn any_question(
 ) -> Result<Request, AllocError> {
     let path = match dice.roll(12) {
         0 => Text::of(alloc, "")?,
-        1..=3 => any_granted(alloc, dice, rows, incident)?,
+        1 | 2 => any_granted(alloc, dice, rows, incident)?,
+        3..=5 => any_labelled(alloc, dice, rows, incident)?,
         _ => any_place(alloc, dice, rows, incident)?,
     };
     Ok(Request::Explain {
-        person: any_reader(dice, rows),
+        person: any_reader(dice, rows, incident),
         incident,
         path,
     })
