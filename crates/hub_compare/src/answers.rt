@@ -6,6 +6,7 @@ use crate::excerpts::{Excerpt, count_visible, excerpt_of, finds, verdicts};
 use crate::grounds::Told;
 use crate::rows::{Report, Rows};
 use crate::sight::Sight;
+use crate::traces::{Trace, trace_of};
 use circle::directory::{Group, Person};
 use hub_core::{Code, Entry, Request, Target};
 use std::alloc::{AllocError, Global};
@@ -28,6 +29,7 @@ pub enum Answer {
     Incidents(Vec<Entry>),
     Groups(Vec<(Group, bool)>),
     Caller(Person),
+    Trace(Trace),
     Refused(Told),
 }
 
@@ -72,6 +74,21 @@ fn view(alloc: Global, rows: &Rows, caller: &Person, incident: u32) -> Result<An
         entry: entry_of(report),
         excerpt: excerpt_of(alloc, &sight, list.as_slice())?,
     }))
+}
+
+/// Why the person sees the class, or doesn't; person, incident and class are there.
+fn trace(
+    alloc: Global,
+    rows: &Rows,
+    person: u32,
+    incident: u32,
+    path: &str,
+) -> Result<Answer, AllocError> {
+    let (Some(account), Some(report)) = (rows.account(person), rows.report(incident)) else {
+        return Ok(refused(alloc, Code::N1));
+    };
+    let sight = sight_of(alloc, rows, &account.person, report)?;
+    Ok(Answer::Trace(trace_of(alloc, &sight, path)?))
 }
 
 /// Whether the incident is one of those that the caller asks to be listed.
@@ -142,6 +159,11 @@ fn answer_to(
             page(alloc, rows, caller, request, *after),
         Request::MyGroups => groups(alloc, rows, caller),
         Request::WhoAmI => Ok(Answer::Caller(caller.clone()?)),
+        Request::Explain {
+            person,
+            incident,
+            path,
+        } => trace(alloc, rows, *person, *incident, path.as_str()),
         _ => Ok(Answer::Changed(change(rows, alloc, caller.org, request, body)?)),
     }
 }

@@ -37,17 +37,19 @@ fn label(dice: &mut Dice) -> &'static str {
     match dice.roll(24) {
         0 | 1 => "\"restriction\":\"public\"",
         2 => "\"restriction\":\"white\"",
-        3 => "\"restriction\":\"partner\"",
+        3 | 17 => "\"restriction\":\"partner\"",
         4 => "\"restriction\":\"green\",\"ext-restriction\":\"TLP:CLEAR\"",
         5 => "\"restriction\":\"need-to-know\"",
         6 => "\"restriction\":\"amber\"",
         7 => "\"restriction\":\"private\"",
         8 => "\"restriction\":\"red\"",
         9 | 10 => "\"restriction\":\"default\"",
-        11 => "\"restriction\":\"ext-value\",\"ext-restriction\":\"TLP:AMBER\"",
+        11 | 16 => "\"restriction\":\"ext-value\",\"ext-restriction\":\"TLP:AMBER\"",
         12 => "\"restriction\":\"ext-value\",\"ext-restriction\":\"tlp:Amber+Strict\"",
         13 => "\"restriction\":\"ext-value\",\"ext-restriction\":\"tlp:clear\"",
         14 => "\"restriction\":\"ext-value\",\"ext-restriction\":\"ours\"",
+        15 =>
+            "\"restriction\":\"ext-value\",\"ext-restriction\":\"our \\\"o\\\\n\\u0001\\b\\u001f\u{7f}ü\"",
         _ => "",
     }
 }
@@ -265,6 +267,9 @@ pub fn any_body(
     }
     if dice.once_in(5) {
         push_member(&mut text, "a/b", "{\"Note\":\"needle\"}")?;
+    }
+    if dice.once_in(5) {
+        push_member(&mut text, "\\\"~\\n", "{\"Note\":\"x\"}")?;
     }
     text.push('}')?;
     Ok(text)

@@ -43,7 +43,8 @@ fn incident_of(request: &Request) -> Option<u32> {
         | Request::Unaddress { incident, .. }
         | Request::Grant { incident, .. }
         | Request::Withdraw { incident, .. }
-        | Request::View { incident } => Some(*incident),
+        | Request::View { incident }
+        | Request::Explain { incident, .. } => Some(*incident),
         _ => None,
     }
 }
@@ -120,6 +121,7 @@ impl Rows {
                 path,
                 grantee,
             } => facts.stands = self.has_permission(*incident, path.as_str(), *grantee),
+            Request::Explain { person, .. } => facts.exists = self.is_active(*person),
             _ => {}
         }
         facts

@@ -357,6 +357,24 @@ fn search_grounds(
     Ok(grounds)
 }
 
+fn explain_grounds(
+    alloc: Global,
+    rows: &Rows,
+    actor: &Person,
+    person: u32,
+    incident: u32,
+    path: &Text,
+) -> Result<Grounds, AllocError> {
+    let path = path.as_str();
+    let mut grounds = Grounds::none();
+    grounds.role = actor.role != Role::Administrator;
+    grounds.bad = first_field(alloc, &[(!is_pointer(path), "path")])?;
+    grounds.not_yours = rows.report(incident).is_none();
+    grounds.unknown = !rows.is_active(person);
+    grounds.no_class = !rows.is_class(incident, path);
+    Ok(grounds)
+}
+
 /// The grounds of a change of incidents, the role apart.
 fn change_grounds(
     alloc: Global,
@@ -456,6 +474,14 @@ pub fn grounds_of(
 ) -> Result<Grounds, AllocError> {
     if let Request::Search { needle, class, .. } = request {
         return search_grounds(alloc, needle, class);
+    }
+    if let Request::Explain {
+        person,
+        incident,
+        path,
+    } = request
+    {
+        return explain_grounds(alloc, rows, actor, *person, *incident, path);
     }
     let mut grounds = change_grounds(alloc, rows, actor, request, body)?;
     grounds.role = !reads(request) && !may_post(actor);

@@ -125,6 +125,7 @@ fn suits(person: &Person, kind: u32, source: Option<u32>) -> bool {
         18 => person.role == Role::Coordinator || person.role == Role::Poster,
         19..=24 => (person.role == Role::Coordinator || person.role == Role::Poster)
             && (source.is_none() || source == Some(person.org)),
+        31 => person.role == Role::Administrator,
         _ => true,
     }
 }

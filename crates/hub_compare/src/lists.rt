@@ -28,14 +28,15 @@ struct Story {
     answers: Vec<Answer>,
 }
 
-/// The kind of a request; one in three reads.
+/// The kind of a request; more than half of them read.
 fn any_kind_in_list(dice: &mut Dice, paged: bool) -> u32 {
     if paged {
         return 26u32.saturating_add(dice.roll(2));
     }
-    match dice.roll(9) {
-        0 | 1 => 25,
-        2 => 26u32.saturating_add(dice.roll(5)),
+    match dice.roll(11) {
+        0..=2 => 25,
+        3 => 26u32.saturating_add(dice.roll(5)),
+        4 | 5 => 31,
         _ => any_kind(dice),
     }
 }
@@ -104,6 +105,10 @@ fn note_answer(alloc: Global, tally: &mut Tally, told: &Answer) -> Result<(), Al
         }
         Answer::Groups(_) => tally.note(alloc, 0, "Groups"),
         Answer::Caller(_) => tally.note(alloc, 0, "Caller"),
+        Answer::Trace(trace) => {
+            tally.note(alloc, 3, trace.rule)?;
+            tally.note(alloc, 0, "Trace")
+        }
         Answer::Refused(told) => tally.note(alloc, 1, told.code.name()),
     }
 }

@@ -30,6 +30,7 @@ mod sound;
 mod spots;
 mod standings;
 mod tally;
+mod traces;
 mod worlds;
 
 use fault::Fault;

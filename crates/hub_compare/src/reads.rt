@@ -73,7 +73,7 @@ pub fn same_entry(entry: &Entry, report: &Report) -> bool {
 }
 
 /// The kind's place among the kinds, and the number.
-fn key_of(grantee: Grantee) -> (u32, u32) {
+pub fn key_of(grantee: Grantee) -> (u32, u32) {
     match grantee {
         Grantee::Person(number) => (0, number),
         Grantee::Org(number) => (1, number),

@@ -65,6 +65,7 @@ pub fn same_reply(alloc: Global, reply: &Reply, answer: &Answer) -> Result<bool,
             Ok(same_groups(joined.as_slice(), groups.as_slice()))
         }
         (Reply::Caller(person), Answer::Caller(wanted)) => Ok(*person == *wanted),
+        (Reply::Trace(text), Answer::Trace(trace)) => Ok(text.as_str() == trace.text.as_str()),
         (Reply::Refused(refusal), Answer::Refused(told)) => {
             Ok(refusal.code == told.code && refusal.detail.as_str() == told.detail.as_str())
         }

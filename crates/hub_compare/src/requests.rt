@@ -357,6 +357,22 @@ fn any_class(
     Ok(found)
 }
 
+/// The place of a permission of the incident, if there is one.
+fn any_granted(
+    alloc: Global,
+    dice: &mut Dice,
+    rows: &Rows,
+    incident: u32,
+) -> Result<Text, AllocError> {
+    let mut path = "/Incident/0";
+    for row in rows.permissions.iter() {
+        if row.incident == incident && dice.once_in(2) {
+            path = row.path.as_str();
+        }
+    }
+    Text::of(alloc, path)
+}
+
 /// A pointer to a class of the incident, or another one.
 fn any_place(
     alloc: Global,
@@ -605,6 +621,64 @@ fn any_class_name(alloc: Global, dice: &mut Dice) -> Result<Option<Text>, AllocE
     }
 }
 
+/// A person who is there mostly: one that is suspended, one that is nominated of an organisation that is addressed, one that
+/// is nominated, or any.
+fn any_reader(dice: &mut Dice, rows: &Rows, incident: u32) -> u32 {
+    let mut found = any_number(dice, rows.accounts.len());
+    let choice = dice.roll(8);
+    for account in rows.accounts.iter() {
+        let person = &account.person;
+        let is_addressed = rows.has_recipient(incident, Target::Org(person.org));
+        let is_meant = match choice {
+            0 => !person.active,
+            1..=3 => person.nominated && is_addressed,
+            4 => person.nominated,
+            _ => false,
+        };
+        if is_meant && dice.once_in(2) {
+            found = person.number;
+        }
+    }
+    found
+}
+
+/// The pointer of a class of the incident that has a label, if there is one.
+fn any_labelled(
+    alloc: Global,
+    dice: &mut Dice,
+    rows: &Rows,
+    incident: u32,
+) -> Result<Text, AllocError> {
+    let mut path = "/Incident/0";
+    if let Some(report) = rows.report(incident) {
+        for spot in report.sheet.spots.iter() {
+            if spot.name.as_str() == "restriction" && dice.once_in(2) {
+                path = spot.parent.as_str();
+            }
+        }
+    }
+    Text::of(alloc, path)
+}
+
+fn any_question(
+    alloc: Global,
+    dice: &mut Dice,
+    rows: &Rows,
+    incident: u32,
+) -> Result<Request, AllocError> {
+    let path = match dice.roll(12) {
+        0 => Text::of(alloc, "")?,
+        1 | 2 => any_granted(alloc, dice, rows, incident)?,
+        3..=5 => any_labelled(alloc, dice, rows, incident)?,
+        _ => any_place(alloc, dice, rows, incident)?,
+    };
+    Ok(Request::Explain {
+        person: any_reader(dice, rows, incident),
+        incident,
+        path,
+    })
+}
+
 fn any_reading(
     alloc: Global,
     dice: &mut Dice,
@@ -651,6 +725,7 @@ pub fn any_request(
             target: any_target(dice, rows, incident),
         }),
         23 | 24 => any_permit(alloc, dice, rows, kind, subject),
+        31 => any_question(alloc, dice, rows, incident),
         _ => any_reading(alloc, dice, kind, incident),
     }
 }
@@ -682,7 +757,7 @@ fn any_permit(
 
 /// The kind of a request; those with many grounds come more often.
 pub fn any_kind(dice: &mut Dice) -> u32 {
-    match dice.roll(86) {
+    match dice.roll(90) {
         place @ 0..=35 => place / 2,
         36..=46 => 18,
         47..=57 => 19,
@@ -696,6 +771,7 @@ pub fn any_kind(dice: &mut Dice) -> u32 {
         78 => 27,
         79 => 28u32.saturating_add(dice.roll(3)),
         80..=82 => 21,
-        _ => 23,
+        83..=85 => 23,
+        _ => 31,
     }
 }

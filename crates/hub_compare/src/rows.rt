@@ -152,6 +152,14 @@ impl Rows {
         }
     }
 
+    /// Whether the person is there and active.
+    pub fn is_active(&self, person: u32) -> bool {
+        match self.account(person) {
+            Some(account) => account.person.active,
+            None => false,
+        }
+    }
+
     pub fn group(&self, number: u32) -> Option<&Group> {
         for group in self.groups.iter() {
             if group.number == number {

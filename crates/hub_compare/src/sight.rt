@@ -2,7 +2,7 @@
 //! 2.0, the MISP book's distribution levels).
 
 use crate::labels::{Written, label_in};
-use crate::rows::{PlacedGate, Report, Rows};
+use crate::rows::{Granted, PlacedGate, Report, Rows};
 use crate::spots::{Spot, is_within};
 use crate::standings::Stand;
 use iodef_tree::Kind;
@@ -47,23 +47,23 @@ fn rank_of(label: Written<'_>, arranged: Option<u32>) -> u32 {
     }
 }
 
-/// The strictest rank that the person is cleared for.
-fn cleared_for(stand: &Stand) -> u32 {
+/// The strictest rank that the person is cleared for, and the rule by which it is.
+pub fn clearance_of(stand: &Stand) -> (u32, &'static str) {
     if stand.person {
-        4
+        (4, "P")
     } else if stand.nominated && stand.addressed {
-        3
+        (3, "O")
     } else if stand.nominated && stand.client {
-        2
+        (2, "C")
     } else if stand.community {
-        1
+        (1, "M")
     } else {
-        0
+        (0, "A")
     }
 }
 
 /// The rule by which the gate refuses the person, if it does.
-fn refused_by(stand: &Stand, gate: &PlacedGate) -> Option<&'static str> {
+pub fn refused_by(stand: &Stand, gate: &PlacedGate) -> Option<&'static str> {
     let group = gate.group.unwrap_or(0);
     let (passes, rule) = match gate.level {
         1 => (stand.community, "G1"),
@@ -85,23 +85,39 @@ fn is_meant(stand: &Stand, grantee: Grantee) -> bool {
     }
 }
 
-/// The label at the nearest place that has one of its own: the root and the Incident have one in any case.
-pub fn nearest_label<'a>(spots: &'a [Spot], path: &str) -> Written<'a> {
-    let mut nearest = PRIVATE;
+/// The nearest class that has a label of its own, as the Incident has in any case; none where the root alone has one.
+fn nearest_class<'a>(spots: &'a [Spot], path: &str) -> Option<&'a Spot> {
+    let mut nearest: Option<&'a Spot> = None;
     let mut length = 0;
     for spot in spots {
         let class = spot.path.as_str();
-        if spot.kind == Kind::Class && is_within(path, class) && length <= class.len() {
-            if let Some(label) = label_in(spots, class) {
-                nearest = label;
-                length = class.len();
-            } else if class == INCIDENT {
-                nearest = PRIVATE;
-                length = class.len();
-            }
+        if spot.kind == Kind::Class
+            && is_within(path, class)
+            && length <= class.len()
+            && (class == INCIDENT || label_in(spots, class).is_some())
+        {
+            nearest = Some(spot);
+            length = class.len();
         }
     }
     nearest
+}
+
+/// The nearest place that has a label of its own, and that label: the root and the Incident have one in any case.
+pub fn nearest_site<'a>(spots: &'a [Spot], path: &str) -> (&'a str, Written<'a>) {
+    let Some(spot) = nearest_class(spots, path) else {
+        return ("", PRIVATE);
+    };
+    let class = spot.path.as_str();
+    match label_in(spots, class) {
+        Some(label) => (class, label),
+        None => (class, PRIVATE),
+    }
+}
+
+/// The label at that place.
+pub fn nearest_label<'a>(spots: &'a [Spot], path: &str) -> Written<'a> {
+    nearest_site(spots, path).1
 }
 
 /// A person before an incident.
@@ -151,20 +167,25 @@ impl<'r> Sight<'r> {
         false
     }
 
+    /// Whether the permission covers the class at the path for the person.
+    pub fn covers(&self, row: &Granted, path: &str) -> bool {
+        row.incident == self.report.number
+            && is_within(path, row.path.as_str())
+            && is_meant(&self.stand, row.grantee)
+            && !self.is_ended(row.path.as_str(), path)
+    }
+
     fn is_covered(&self, path: &str) -> bool {
         for row in self.rows.permissions.iter() {
-            if row.incident == self.report.number
-                && is_within(path, row.path.as_str())
-                && is_meant(&self.stand, row.grantee)
-                && !self.is_ended(row.path.as_str(), path)
-            {
+            if self.covers(row, path) {
                 return true;
             }
         }
         false
     }
 
-    fn rank(&self, path: &str) -> u32 {
+    /// How strictly the person is to handle what stands at the path.
+    pub fn rank(&self, path: &str) -> u32 {
         rank_of(nearest_label(self.spots(), path), self.stand.arrangement)
     }
 
@@ -172,7 +193,19 @@ impl<'r> Sight<'r> {
     pub fn is_visible(&self, path: &str) -> bool {
         self.stand.source
             || (self.refusal(path).is_none()
-                && (self.rank(path) <= cleared_for(&self.stand) || self.is_covered(path)))
+                && (self.rank(path) <= clearance_of(&self.stand).0 || self.is_covered(path)))
+    }
+
+    /// The rule by which the class at the path is visible, where it is.
+    pub fn showing_rule(&self, path: &str) -> &'static str {
+        let (rank, rule) = clearance_of(&self.stand);
+        if self.stand.source {
+            "SRC"
+        } else if self.rank(path) <= rank {
+            rule
+        } else {
+            "X"
+        }
     }
 
     /// The rule that hides the class at the path, where it isn't visible.

@@ -3,7 +3,7 @@
 use std::alloc::{AllocError, Global};
 
 /// The kinds of requests, in the order of their numbers.
-const REQUESTS: [&str; 31] = [
+const REQUESTS: [&str; 32] = [
     "AddOrg",
     "AddPerson",
     "SuspendPerson",
@@ -35,10 +35,11 @@ const REQUESTS: [&str; 31] = [
     "Addressed",
     "MyGroups",
     "WhoAmI",
+    "Explain",
 ];
 
 /// The outcomes that each of them may have, in the same order.
-const OUTCOMES: [&str; 31] = [
+const OUTCOMES: [&str; 32] = [
     "done,W1,B1 name,S1,L1",
     "done,W1,B1 name,N2,S1,L1",
     "done,W1,B1 person,N2,S1",
@@ -70,6 +71,7 @@ const OUTCOMES: [&str; 31] = [
     "done",
     "done",
     "done",
+    "done,W1,B1 path,N1,N2,N3",
 ];
 
 /// How often each is to be met.
@@ -83,13 +85,14 @@ struct Count {
 }
 
 /// Kinds of what the hub answers.
-const ANSWERS: [&str; 3] = ["replies", "refusals", "withheld by"];
+const ANSWERS: [&str; 4] = ["replies", "refusals", "withheld by", "explained by"];
 
 /// What there is of each of them, in the same order.
-const ANSWERED: [&str; 3] = [
-    "Done,Numbers,Revision,View,Incidents,empty pages,full pages,Groups,Caller",
+const ANSWERED: [&str; 4] = [
+    "Done,Numbers,Revision,View,Incidents,empty pages,full pages,Groups,Caller,Trace",
     "K1,W1,B1,N1,N2,W2,W3,N3,S1,S2,S3,L1",
     "G0,G1,G2,G4,G4X,H-GREEN,H-AMBER,H-STRICT,H-RED",
+    "SRC,P,O,C,M,A,X,G0,G1,G2,G4,G4X,H-GREEN,H-AMBER,H-STRICT,H-RED",
 ];
 
 #[derive(Drop)]
