@@ -61,7 +61,7 @@ never_both : (b : Bool) → b ≡ false → IsTrue b → ⊥
 never_both b is h = let e = rw is at h in cc
 
 -- the rows of a query tell the version, where there is the column
-pub told_by_rows : (old new : State) (has : Bool) (rows : List Row) (r : Result (Option ℕ) Error) → has ≡ true → has ≡ is_some (version_column old.now.schema) → Shown version_text [] old new rows → IfOk r (λ found. found ≡ only_u32 (map (λ (row : Row). column row 0) rows))
+pub told_by_rows : (old new : State) (has : Bool) (rows : List Row) (r : Result (Option ℕ) Error) → has ≡ true → has ≡ is_some (version_column old.now.schema) → Shown version_text [] old new rows → IfOk r (λ found. found ≡ only_u32 (map (λ (r : Row). column r 0) rows))
     → IfOk r (λ found. IsTrue old.is_open × IsVersion old.now found)
 told_by_rows old new has rows r up is shown found =
     let there : is_some (version_column old.now.schema) ≡ true = sym is ∙ up in

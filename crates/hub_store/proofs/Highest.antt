@@ -47,9 +47,9 @@ higher : (m n : ℕ) → m < n → nat_cmp m n ≡ Less
 higher m n h = grind (arith, nat_tests)
 
 -- no row, or the one of this number
-abbrev last_row : ℕ → ℕ → List Row
-last_row n zero = []
-last_row n (suc k) = number_shown (n + suc k) ∷ []
+abbrev ending_in : ℕ → ℕ → List Row
+ending_in n zero = []
+ending_in n (suc k) = number_shown (n + suc k) ∷ []
 
 module _ {X : Type 0} (number : X → ℕ) where
   falling : (n : ℕ) (xs : List X) → CountsFrom number n xs → IsAscending (λ a b. nat_cmp (number b) (number a) ≡ Less) (reverse xs)
@@ -61,7 +61,7 @@ module _ {X : Type 0} (number : X → ℕ) where
       (ascending-append (λ a b. nat_cmp (number b) (number a) ≡ Less) (reverse xs) (x ∷ []) (falling (n + 1) xs counts.1) (tt, tt)
       (all_weaker (λ y. n + 1 < number y) (λ y. AllByRecursion (λ b. nat_cmp (number b) (number y) ≡ Less) (x ∷ [])) (λ y above. (higher (number x) (number y) (omega arith), tt)) (reverse xs) later))
 
-  last_is : (n : ℕ) (xs : List X) → CountsFrom number n xs → take 1 (map (λ x. number_shown (number x)) (reverse xs)) ≡ last_row n (length xs)
+  last_is : (n : ℕ) (xs : List X) → CountsFrom number n xs → take 1 (map (λ x. number_shown (number x)) (reverse xs)) ≡ ending_in n (length xs)
   last_is n [] counts = refl
   last_is n (x ∷ []) counts = ap (λ m. number_shown m ∷ []) counts.0
   last_is n (x ∷ y ∷ ys) counts =
@@ -73,7 +73,7 @@ module _ {X : Type 0} (number : X → ℕ) where
 -- ---- the query
 
 pub highest_listed : {X : Type 0} (db : Trees) (tree : ℕ) (row : X → Row) (number : X → ℕ) (xs : List X) (rows : List Row) → ((x : X) → column (row x) 0 ≡ Int (pos (number x))) → CountsFrom number 0 xs → IsHeld db (by_number tree row xs) → IsAnswer (highest_query tree) db [] rows
-    → rows ≡ last_row 0 (length xs)
+    → rows ≡ ending_in 0 (length xs)
 highest_listed {X} db tree row number xs rows first counts held a =
     let terms = op2 (Compare Gt Binary) (col 1 0) (lit (Int (pos 0))) ∷ [] in
     let project = col 1 0 ∷ [] in
@@ -90,13 +90,13 @@ highest_listed {X} db tree row number xs rows first counts held a =
     ∙ ap (take 1) (map_each (λ x. column (row x) 0 ∷ []) (λ x. number_shown (number x)) (λ x. ap (λ v. v ∷ []) (first x)) (reverse xs))
     ∙ last_is number 0 xs counts
 
-number_is : (count : ℕ) (rows : List Row) (n : ℕ) → rows ≡ last_row 0 count → ShowsNumber rows n → n ≡ count
+number_is : (count : ℕ) (rows : List Row) (n : ℕ) → rows ≡ ending_in 0 count → ShowsNumber rows n → n ≡ count
 number_is count rows n is h = go count (subst (λ l. ShowsNumber l n) is h)
   where
-    go : (count : ℕ) → ShowsNumber (last_row 0 count) n → n ≡ count
+    go : (count : ℕ) → ShowsNumber (ending_in 0 count) n → n ≡ count
     go zero h = h
     go (suc k) h = let it : n ≡ 0 + suc k = h (0 + suc k) refl in omega (arith, it)
 
-pub reads_count : (count : ℕ) (rows : List Row) (r : Result ℕ Error) → rows ≡ last_row 0 count → IfOk r (λ n. ShowsNumber rows n) → IfOk r (λ n. n ≡ count)
+pub reads_count : (count : ℕ) (rows : List Row) (r : Result ℕ Error) → rows ≡ ending_in 0 count → IfOk r (λ n. ShowsNumber rows n) → IfOk r (λ n. n ≡ count)
 reads_count count rows (Ok n) is h = number_is count rows n is h
 reads_count count rows (Err e) is h = tt

@@ -20,7 +20,7 @@ use Rattle.hub_store.specs.declared.joined_rows.Joined.{Joined}
 
 -- the first column is this number, and no other
 abbrev pub ShowsNumber : Row → ℕ → Type 0
-ShowsNumber row n = (m : ℕ) → column row 0 ≡ Int (pos m) → n ≡ m
+ShowsNumber shown n = (m : ℕ) → column shown 0 ≡ Int (pos m) → n ≡ m
 
 abbrev pub handling_shown : Handling → Row
 handling_shown h = Int (pos (handling_number h)) ∷ []

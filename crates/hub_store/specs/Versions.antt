@@ -29,4 +29,4 @@ only_u32 _ = None
 -- the u32 in the column `version` of the one row of the table `hub`; none where there is no such table, row or number
 pub record IsVersion (db : Database) (version : Option ℕ) : Type 0 where
   pub missing : is_some (version_column db.schema) ≡ false → version ≡ None
-  pub there : IsTrue (is_some (version_column db.schema)) → (rows : List Row) × AreVersions db rows × (version ≡ only_u32 (map (λ (row : Row). column row 0) rows))
+  pub there : IsTrue (is_some (version_column db.schema)) → (rows : List Row) × AreVersions db rows × (version ≡ only_u32 (map (λ (r : Row). column r 0) rows))

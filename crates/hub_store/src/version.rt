@@ -25,7 +25,7 @@ fn has_version_column(schema: &Schema) -> bool
 
 /// The u32 in the first column, where there is one row.
 fn only_number(rows: &[Row]) -> Result<Option<u32>, Error>
-    ensures { IfOk result (λ found. found ≡ only_u32 (map (λ row. column row 0) rows.now)) }
+    ensures { IfOk result (λ found. found ≡ only_u32 (map (λ r. column r 0) rows.now)) }
 {
     match rows {
         [row] => match row.get(0) {
