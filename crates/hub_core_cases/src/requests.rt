@@ -215,6 +215,14 @@ fn command(alloc: Global, name: &str, fields: &mut Split<'_, char>) -> Result<Re
     }
 }
 
+fn explain(alloc: Global, fields: &mut Split<'_, char>) -> Result<Request, AllocError> {
+    Ok(Request::Explain {
+        person: next_number(fields),
+        incident: next_number(fields),
+        path: text_of(alloc, next(fields))?,
+    })
+}
+
 fn reading(name: &str, fields: &mut Split<'_, char>) -> Request {
     match name {
         "View" => Request::View {
@@ -248,6 +256,7 @@ pub fn request_of(alloc: Global, fields: &mut Split<'_, char>) -> Result<Request
         "Grant" => grant(alloc, fields),
         "Withdraw" => withdraw(alloc, fields),
         "Search" => search(alloc, fields),
+        "Explain" => explain(alloc, fields),
         "View" | "List" | "Addressed" | "MyGroups" | "WhoAmI" => Ok(reading(name, fields)),
         _ => command(alloc, name, fields),
     }

@@ -71,6 +71,14 @@ fn reading(alloc: Global, request: &Request) -> Result<Option<String>, AllocErro
                 None => format!(in alloc; "Search {needle:?} after {after}")?,
             }
         }
+        Request::Explain {
+            person,
+            incident,
+            path,
+        } => {
+            let path = path.as_str();
+            format!(in alloc; "Explain to {person} of {incident} at {path:?}")?
+        }
         Request::Addressed { after } => format!(in alloc; "Addressed after {after}")?,
         Request::MyGroups => String::from_str(alloc, "MyGroups")?,
         Request::WhoAmI => String::from_str(alloc, "WhoAmI")?,

@@ -125,6 +125,11 @@ fn reading(alloc: Global, name: &str, fields: &mut Fields<'_>) -> Result<Request
         "View" => Request::View {
             incident: fields.number(),
         },
+        "Explain" => Request::Explain {
+            person: fields.number(),
+            incident: fields.number(),
+            path: fields.text(alloc)?,
+        },
         "List" => Request::List {
             after: fields.number(),
         },

@@ -95,6 +95,17 @@ fn caller(alloc: Global, person: &Person) -> Result<String, AllocError> {
     format!(in alloc; "caller {number} {name} of {org} {role} {nominated}")
 }
 
+/// `trace`, and each of its lines.
+fn trace(alloc: Global, text: &str) -> Result<String, AllocError> {
+    let mut all = String::from_str(alloc, "trace")?;
+    for line in text.trim_end().split('\n') {
+        all.push_str(" [")?;
+        all.push_str(line)?;
+        all.push_str("]")?;
+    }
+    Ok(all)
+}
+
 /// The code, and the detail where there is one.
 fn refusal(alloc: Global, refusal: &Refusal) -> Result<String, AllocError> {
     let code = refusal.code.name();
@@ -117,7 +128,7 @@ pub fn reply(alloc: Global, reply: &Reply) -> Result<String, AllocError> {
         Reply::Incidents(found) => incidents(alloc, found.as_slice()),
         Reply::Groups(found) => groups(alloc, found.as_slice()),
         Reply::Caller(person) => caller(alloc, person),
-        Reply::Trace(trace) => String::from_str(alloc, trace.as_str()),
+        Reply::Trace(text) => trace(alloc, text.as_str()),
         Reply::Refused(found) => refusal(alloc, found),
     }
 }

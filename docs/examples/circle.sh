@@ -55,8 +55,8 @@ ask bank-key GET /incidents/1 | jq -c '{classes, withheld}'
 say "What the telco is served: what is GREEN or CLEAR; each part that is withheld is told with its rule"
 ask telco-key GET /incidents/1 | jq '{classes, withheld}'
 
-say "What the university is served: the same answer as for a report that isn't there"
-ask university-key GET /incidents/1
+say "What the university is served: what is CLEAR; of a report that isn't there, what is told of one in which it may see nothing"
+ask university-key GET /incidents/1 | jq -c '{classes, withheld}'
 ask university-key GET /incidents/999
 
 say "The bank permits the telco to read the mailboxes that were opened"
@@ -66,3 +66,6 @@ ask telco-key GET /incidents/1 | jq -c '.document.Incident[0].EventData[1]'
 say "The group is switched off: what was for it is withheld as G4X"
 ask bank-key POST /groups/1/active -d "active=0"
 ask telco-key GET /incidents/1 | jq -c '.withheld'
+
+say "The administrator asks why the university isn't shown the mailboxes"
+ask admin-key GET '/explain?person=4&incident=1&path=/Incident/0/EventData/1' | jq -r .trace
