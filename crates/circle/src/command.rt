@@ -1,3 +1,4 @@
+//! What is asked of the directory, what is found out about it, and what it changes.
 use crate::directory::{
     Account, Arrangement, Client, Community, Connection, Group, GroupMember, Handling, Membership,
     Org, Role,

@@ -1,5 +1,5 @@
 //! What a command would change, where its arguments are good.
-ghost use Rattle.std.specs.Prelude.{◌≡◌, ◌==◌, true, false, not, codes, None, IfOk, IfErr, OnOk};
+ghost use Rattle.std.specs.Prelude.{◌≡◌, ◌==◌, Ok, true, false, not, codes, None, IfOk, IfErr, OnOk};
 ghost use Rattle.circle.specs.declared.command.Edit.TheVariants.{Row, Found};
 ghost use Rattle.circle.specs.declared.command.RowEdit.TheVariants.{PutOrg, PutAccount, PutCommunity};
 ghost use Rattle.circle.specs.Texts.{is_name, is_releasability};
@@ -31,135 +31,96 @@ impl CircleCommand {
         ensures value { IfOk result (λ edit. edit ≡ edit_of number actor.now self.now) }
         ensures bad { IfErr result (Explains (bad_field self.now actor.now)) }
     {
-        match self {
-            CircleCommand::AddOrg { name } => new_org(alloc, number, name),
+        match *self {
+            CircleCommand::AddOrg { ref name } => new_org(alloc, number, name),
             CircleCommand::AddPerson {
                 org,
-                name,
+                ref name,
                 role,
                 key,
-            } => { new_account(alloc, number, *org, name, *role, *key) }
+            } => new_account(alloc, number, org, name, role, key),
+            CircleCommand::AddCommunity { ref name } => new_community(alloc, number, name),
+            CircleCommand::NewGroup {
+                ref name,
+                ref releasability,
+            } => new_group(alloc, number, actor.org, name, releasability),
             CircleCommand::SuspendPerson { person } => {
-                unless_same(
-                    *person,
-                    actor.number,
-                    "person",
-                    Edit::Row(RowEdit::Suspend(*person)),
-                )
+                unless_same(person, actor.number, "person", RowEdit::Suspend(person))
             }
             CircleCommand::AddClient { org, client } => {
-                let row = Client {
-                    org: *org,
-                    client: *client,
-                };
-                unless_same(*org, *client, "client", Edit::Row(RowEdit::PutClient(row)))
+                let row = Client { org, client };
+                unless_same(org, client, "client", RowEdit::PutClient(row))
             }
             CircleCommand::RemoveClient { org, client } => {
-                let row = Client {
-                    org: *org,
-                    client: *client,
-                };
-                unless_same(*org, *client, "client", Edit::Row(RowEdit::TakeClient(row)))
-            }
-            CircleCommand::AddCommunity { name } => new_community(alloc, number, name),
-            CircleCommand::Join { community, org } => {
-                Ok(Edit::Row(RowEdit::PutMembership(Membership {
-                    community: *community,
-                    org: *org,
-                })))
-            }
-            CircleCommand::Leave { community, org } => {
-                Ok(Edit::Row(RowEdit::TakeMembership(Membership {
-                    community: *community,
-                    org: *org,
-                })))
+                let row = Client { org, client };
+                unless_same(org, client, "client", RowEdit::TakeClient(row))
             }
             CircleCommand::Link { community, other } => {
-                let row = Connection::between(*community, *other);
-                unless_same(
-                    *community,
-                    *other,
-                    "other",
-                    Edit::Row(RowEdit::PutConnection(row)),
-                )
+                let row = Connection::between(community, other);
+                unless_same(community, other, "other", RowEdit::PutConnection(row))
             }
             CircleCommand::Unlink { community, other } => {
-                let row = Connection::between(*community, *other);
-                unless_same(
-                    *community,
-                    *other,
-                    "other",
-                    Edit::Row(RowEdit::TakeConnection(row)),
-                )
-            }
-            CircleCommand::NewGroup {
-                name,
-                releasability,
-            } => { new_group(alloc, number, actor.org, name, releasability) }
-            CircleCommand::GroupAdd { group, org, extend } => {
-                Ok(Edit::Row(RowEdit::PutGroupMember(GroupMember {
-                    group: *group,
-                    org: *org,
-                    extend: *extend,
-                })))
-            }
-            CircleCommand::GroupRemove { group, org } => {
-                Ok(Edit::Row(RowEdit::TakeGroupMember {
-                    group: *group,
-                    org: *org,
-                }))
-            }
-            CircleCommand::GroupActive { group, active } => {
-                Ok(Edit::Row(RowEdit::SetGroupActive {
-                    group: *group,
-                    active: *active,
-                }))
+                let row = Connection::between(community, other);
+                unless_same(community, other, "other", RowEdit::TakeConnection(row))
             }
             CircleCommand::Arrange { org, handling } => {
                 let row = Arrangement {
                     source: actor.org,
-                    org: *org,
-                    handling: *handling,
+                    org,
+                    handling,
                 };
-                unless_same(
-                    *org,
-                    actor.org,
-                    "org",
-                    Edit::Row(RowEdit::PutArrangement(row)),
-                )
+                unless_same(org, actor.org, "org", RowEdit::PutArrangement(row))
+            }
+            CircleCommand::Join { community, org } => {
+                row(RowEdit::PutMembership(Membership { community, org }))
+            }
+            CircleCommand::Leave { community, org } => {
+                row(RowEdit::TakeMembership(Membership { community, org }))
+            }
+            CircleCommand::GroupAdd { group, org, extend } => {
+                row(RowEdit::PutGroupMember(GroupMember { group, org, extend }))
+            }
+            CircleCommand::GroupRemove { group, org } => {
+                row(RowEdit::TakeGroupMember { group, org })
+            }
+            CircleCommand::GroupActive { group, active } => {
+                row(RowEdit::SetGroupActive { group, active })
             }
             CircleCommand::CancelArrange { org } => {
-                Ok(Edit::Row(RowEdit::TakeArrangement {
+                row(RowEdit::TakeArrangement {
                     source: actor.org,
-                    org: *org,
-                }))
+                    org,
+                })
             }
-            CircleCommand::Nominate { person } => {
-                Ok(Edit::Row(RowEdit::SetNominated {
-                    person: *person,
-                    nominated: true,
-                }))
-            }
-            CircleCommand::Unnominate { person } => {
-                Ok(Edit::Row(RowEdit::SetNominated {
-                    person: *person,
-                    nominated: false,
-                }))
-            }
+            CircleCommand::Nominate { person } => row(RowEdit::SetNominated {
+                person,
+                nominated: true,
+            }),
+            CircleCommand::Unnominate { person } => row(RowEdit::SetNominated {
+                person,
+                nominated: false,
+            }),
         }
     }
 }
 
-/// The edit, unless two numbers that have to differ are the same.
-fn unless_same(one: u32, other: u32, field: &'static str, edit: Edit) -> Result<Edit, Unfit>
+/// The edit of a row, which no argument can spoil.
+fn row(edit: RowEdit) -> Result<Edit, Unfit>
+    ensures { result ≡ Ok (Row edit) }
+{
+    Ok(Edit::Row(edit))
+}
+
+/// The edit of a row, unless two numbers that have to differ are the same.
+fn unless_same(one: u32, other: u32, field: &'static str, edit: RowEdit) -> Result<Edit, Unfit>
     ensures good { OnOk result (field_if (one == other) field.now None ≡ None) }
-    ensures value { IfOk result (λ e. e ≡ edit) }
+    ensures value { IfOk result (λ made. made ≡ Row edit) }
     ensures bad { IfErr result (Explains (field_if (one == other) field.now None)) }
 {
     if one == other {
         Err(Unfit::BadField(field))
     } else {
-        Ok(edit)
+        row(edit)
     }
 }
 

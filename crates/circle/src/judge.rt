@@ -1,3 +1,4 @@
+//! Why a command is refused, or what it changes: by the facts alone.
 ghost use Rattle.std.specs.Prelude.{◌≡◌, ◌+◌, List, ℕ, None, IfOk, IfErr, OnOk, option_map};
 ghost use Rattle.circle.specs.Outcomes.{RefusedAs, bare};
 ghost use Rattle.circle.specs.Directory.{Directory};

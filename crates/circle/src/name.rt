@@ -1,3 +1,4 @@
+//! Names, which keep their limits.
 ghost use Rattle.std.specs.Prelude.{◌≡◌, IfOk, IsTrue, Some, None, if◌then◌else◌, string_bytes};
 ghost use Rattle.std.specs.List.{list_all};
 ghost use Rattle.circle.specs.Texts.{is_name, is_no_control};

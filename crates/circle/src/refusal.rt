@@ -1,9 +1,11 @@
+//! The codes of refusals, for the whole product, and a refusal with its detail.
 ghost use Rattle.std.specs.Prelude.{◌≡◌, ◌⊎◌, []};
 ghost use Rattle.circle.specs.Codes.{name_of, reason_of, status_of};
 ghost use Rattle.circle.specs.Outcomes.{no_memory, bare};
 
 use crate::text::Text;
 use std::alloc::Global;
+use thiserror::Error;
 
 /// Why a request was not done, in the order in which the grounds are asked; `F1` and `F2` may stand
 /// in place of any other answer.
@@ -100,7 +102,8 @@ impl Code {
 }
 
 /// A refusal: its code, and what it tells beside it, which is empty for most codes.
-#[derive(Clone, Debug, PartialEq, Eq, Drop)]
+#[derive(Clone, Debug, PartialEq, Eq, Drop, Error)]
+#[error("{reason}", reason = .code.reason())]
 pub struct Refusal {
     pub code: Code,
     pub detail: Text,

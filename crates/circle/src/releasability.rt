@@ -1,3 +1,4 @@
+//! To whom what a group shares may be released: a text that keeps its limit.
 ghost use Rattle.std.specs.Prelude.{◌≡◌, IfOk, IsTrue, Some, None, if◌then◌else◌, string_bytes};
 ghost use Rattle.circle.specs.Texts.{is_releasability};
 

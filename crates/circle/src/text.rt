@@ -1,3 +1,4 @@
+//! Texts of any length, as they are asked for.
 ghost use Rattle.std.specs.Prelude.{◌≡◌, IfOk, string_bytes};
 
 use std::alloc::{AllocError, Global};

@@ -1,12 +1,16 @@
+//! Why nothing is explained.
 use marking::SiteFault;
 use policy::DecideFault;
 use std::alloc::AllocError;
+use thiserror::Error;
 
 /// Why nothing is explained of a path.
-#[derive(Clone, Copy, Debug, PartialEq, Eq)]
+#[derive(Clone, Copy, Debug, PartialEq, Eq, Error)]
 pub enum ExplainFault {
     /// There is no class at the path; the root is none.
+    #[error("there is no class at the path")]
     NoClass,
+    #[error("no memory")]
     NoMemory,
 }
 

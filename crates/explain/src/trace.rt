@@ -1,3 +1,4 @@
+//! An explanation: the verdict with all that it rests on.
 use iodef_tree::Path;
 use marking::Handling;
 use policy::{Gate, Permission, Rule, Verdict};

@@ -1,4 +1,4 @@
-//! Runs the hub over the shelf in memory for the cases on standard input, and prints what each request is answered.
+//! Runs the hub over both shelves for the cases on standard input, and prints what each request is answered.
 //!
 //! A case is a block of lines, one request a line, with an empty line behind it; each case is one list that is run. The
 //! first block sets up the organisations, persons and groups, and its requests come before those of every later block.
@@ -9,14 +9,25 @@
 //! space between; targets and grantees are `person 4`, `org 3`, `community 1` or `group 1`.
 //! `150 times` before a request asks it so often; in it `<n>` is the number of the time, and `<a,b>` is a and b in turn.
 //!
+//! Behind the answers of a block stands whether tables in memory, opened anew behind each request, answer the same. Behind
+//! all blocks stands what becomes of stores that are made, opened and refused.
+//!
 //! A block with a line `every call fails` is run once more for each call of the shelf, which then fails that one time: one
 //! request is answered F1, and all others as if that one hadn't been made.
 #![tactic(auto)]
 
+mod block;
+mod commands;
 mod failing;
+mod fields;
+mod openings;
 mod play;
+mod requests;
+mod tables;
+mod told;
+mod world;
 
-use hub_table::Block;
+use block::Block;
 use std::io;
 use std::io::Read;
 
@@ -40,6 +51,9 @@ fn main(rt: HostRuntime) -> io::Result<()> {
         } else {
             block.add(line)?;
         }
+    }
+    for told in openings::all(alloc)? {
+        println!(rt; "{told}")?;
     }
     Ok(())
 }

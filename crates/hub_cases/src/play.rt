@@ -1,9 +1,11 @@
 //! Runs the requests of a block.
 
+use crate::block::Block;
 use crate::failing::Failing;
+use crate::world::{first_rows, lines_of, requests_of};
+use crate::{tables, told};
 use hub::Hub;
 use hub_core::{ListShelf, Shelf};
-use hub_table::{Block, first_rows, lines_of, requests_of};
 use std::alloc::{AllocError, Global};
 
 /// More calls of the shelf than a case makes.
@@ -30,7 +32,7 @@ fn replies(
     };
     let asked = requests_of(alloc, lines, but)?;
     match Hub::new(shelf).run(alloc, &asked) {
-        Ok(list) => Ok(Some(hub_table::replies(alloc, &list)?)),
+        Ok(list) => Ok(Some(told::replies(alloc, &list)?)),
         Err(_) => Ok(None),
     }
 }
@@ -55,7 +57,7 @@ fn replies_failing(
         return Ok(None);
     }
     match outcome {
-        Ok(list) => Ok(Some(hub_table::replies(alloc, &list)?)),
+        Ok(list) => Ok(Some(told::replies(alloc, &list)?)),
         Err(_) => Ok(None),
     }
 }
@@ -98,18 +100,28 @@ fn failed_in_turn(alloc: Global, lines: &[&str]) -> Result<&'static str, AllocEr
     Ok("more calls than expected")
 }
 
-/// What is printed for a block: the answer to each of its requests.
+/// Whether the tables answer as the shelf in memory did.
+fn over_tables(alloc: Global, lines: &[&str], told: &[String]) -> Result<&'static str, AllocError> {
+    match tables::replies(alloc, lines)? {
+        Some(others) if others.iter().eq(told.iter()) => Ok("the same over tables"),
+        Some(_) => Ok("other answers over tables"),
+        None => Ok("the tables failed"),
+    }
+}
+
+/// What is printed for a block: the answer to each of its requests, and how the tables answered.
 pub fn answers(alloc: Global, world: &Block, block: &Block) -> Result<Vec<String>, AllocError> {
     let lines = lines_of(alloc, world, block)?;
     let mut answers = Vec::new(alloc);
-    match replies(alloc, &lines, None)? {
-        Some(told) => {
-            for reply in told.into_iter().skip(world.lines.len()) {
-                answers.push(reply)?;
-            }
-        }
-        None => answers.push(String::from_str(alloc, "no memory")?)?,
+    let Some(told) = replies(alloc, &lines, None)? else {
+        answers.push(String::from_str(alloc, "no memory")?)?;
+        return Ok(answers);
+    };
+    let same = over_tables(alloc, &lines, &told)?;
+    for reply in told.into_iter().skip(world.lines.len()) {
+        answers.push(reply)?;
     }
+    answers.push(String::from_str(alloc, same)?)?;
     if block.fails {
         answers.push(String::from_str(alloc, failed_in_turn(alloc, &lines)?)?)?;
     }

@@ -3,6 +3,8 @@ use Rattle.std.specs.Prelude.{codes}
 use Rattle.iodef_tree.specs.Text.{Bytes}
 use Rattle.hub_core.specs.declared.shelf.ShelfFault.{ShelfFault}
 use Rattle.hub_core.specs.declared.shelf.ShelfFault.TheVariants as shelf
+use Rattle.hub_store.specs.declared.sql_shelf.OpenFault.{OpenFault}
+use Rattle.hub_store.specs.declared.sql_shelf.OpenFault.TheVariants as opening
 use Rattle.hub_cli.specs.declared.fault.Fault.{Fault}
 use Rattle.hub_cli.specs.declared.fault.Fault.TheVariants.{BadArgument, NotOurs, WrongVersion, Failed, ListenFailed, ReadFailed, WriteFailed, NoMemory}
 use Rattle.hub_cli.specs.declared.status.Status.{Status}
@@ -27,3 +29,10 @@ fault_status _ = status.Failed
 abbrev pub told_of_shelf : ShelfFault → Fault
 told_of_shelf shelf.NoMemory = NoMemory
 told_of_shelf shelf.Failed = Failed
+
+-- what is told of a store that isn't opened
+abbrev pub told_of_opening : OpenFault → Fault
+told_of_opening opening.NotOurs = NotOurs
+told_of_opening (opening.WrongVersion n) = WrongVersion
+told_of_opening opening.Failed = Failed
+told_of_opening opening.NoMemory = NoMemory

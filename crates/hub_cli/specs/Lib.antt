@@ -5,4 +5,4 @@ pub mod Faults
 pub mod Keys
 pub mod FirstRows
 pub mod Serving
-pub mod Views
+pub mod Replies

@@ -1,6 +1,6 @@
 //! The command line.
 
-use crate::commands::{init, mark, migrate, serve, view};
+use crate::commands::{explanation, init, mark, migrate, serve, view};
 use crate::fault::Fault;
 use crate::output::{ended, told};
 use crate::status::Status;
@@ -45,6 +45,12 @@ fn run<R: Read, W: Write, E: Write>(
         } => init::run(rt, store, name, digest, writer),
         Asked::Serve { store, port, count } => serve::run(rt, store, port, count, writer, errors),
         Asked::View { store, number } => view::run(rt, store, number, reader, writer),
+        Asked::Explain {
+            store,
+            person,
+            number,
+            pointer,
+        } => explanation::run(rt, store, person, number, pointer, reader, writer),
         Asked::Migrate { store } => migrate::run(rt, store, writer),
     };
     ended(errors, outcome)

@@ -1,5 +1,6 @@
 //! The rows of a new store.
-ghost use Rattle.std.specs.Prelude.{◌≡◌, ◌⊎◌, IfOk, OnOk};
+ghost use Rattle.std.specs.Prelude.{◌≡◌, ◌⊎◌, IfOk, OnOk, OnErr};
+ghost use Rattle.hub_core.specs.Shelves.{KeepsContent};
 ghost use Rattle.hub_core.specs.State.{State, empty};
 ghost use Rattle.hub_cli.specs.FirstRows as spec;
 
@@ -40,7 +41,8 @@ fn first_edits(alloc: Global, name: Name, key: [u8; 32]) -> Result<Vec<Edit>, Al
     Ok(edits)
 }
 
-/// Puts organisation 1 of this name, and its administrator, whose key has this SHA-256, into a shelf that has no row.
+/// Puts organisation 1 of this name, and its administrator, whose key has this SHA-256, into a shelf that has no row, or
+/// leaves the shelf what it has.
 #[tactic(auto, using(crate::proofs::FirstRows::first_is_sound))]
 pub fn put_first_rows<Sh: Shelf>(
     alloc: Global,
@@ -49,6 +51,7 @@ pub fn put_first_rows<Sh: Shelf>(
     key: [u8; 32],
 ) -> Result<(), ShelfFault>
     ensures made { Sh.doubts shelf.new ≡ 0 → Sh.has shelf.old empty → OnOk result (Sh.has shelf.new (spec.first_state name key)) }
+    ensures none { OnErr result (KeepsContent Sh.has Sh.doubts Sh.failed Sh.may_leave shelf.old shelf.new) }
     ensures durable { Sh.doubts shelf.new ≡ 0 → Sh.has shelf.old empty → OnOk result ((left : State) → Sh.may_leave shelf.new left → left ≡ spec.first_state name key) }
     ensures crash { Sh.doubts shelf.new ≡ 0 → Sh.has shelf.old empty → (left : State) → Sh.may_leave shelf.new left → Sh.may_leave shelf.old left ⊎ (left ≡ spec.first_state name key) }
 {

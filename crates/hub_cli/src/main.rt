@@ -1,11 +1,14 @@
 //! The program `iodef-hub`.
 #![tactic(auto)]
 
+mod asking;
 mod cli;
 mod clock;
 mod commands;
 #[cfg(test)]
 mod examples;
+#[cfg(test)]
+mod explain_tests;
 mod fault;
 mod first_rows;
 mod input;
@@ -14,6 +17,7 @@ mod listen;
 mod mark;
 mod output;
 mod peer;
+mod replies;
 #[cfg(test)]
 mod socket_tests;
 mod status;
@@ -22,7 +26,6 @@ mod store;
 mod store_tests;
 #[cfg(test)]
 mod tests;
-mod view;
 mod words;
 
 use std::process::ExitCode;

@@ -1,9 +1,13 @@
 //! Connections over loopback.
 
+use crate::clock::seconds;
+use crate::fault::Fault;
 use crate::first_rows::put_first_rows;
 use crate::keys::digest_of;
 use crate::listen::serve_count;
 use crate::status::Status;
+use crate::store::{close, open_store};
+use crate::store_tests::{ABC, change, ends, new_path, remove};
 use circle::name::Name;
 use hub::Hub;
 use hub_core::ListShelf;
@@ -11,9 +15,6 @@ use std::io;
 use std::io::{ErrorKind, Read, Write};
 use std::net::{Ipv4Addr, TcpListener, TcpStream};
 use std::time::{Clock, Duration};
-
-/// The SHA-256 of `abc`.
-const ABC: &str = "ba7816bf8f01cfea414140de5dae2223b00361a396177a9cb410ff61f20015ad";
 
 const WHO_AM_I: &[u8] = b"GET /me HTTP/1.1\r\nAuthorization: Bearer abc\r\n\r\n";
 
@@ -30,6 +31,20 @@ fn new_hub(rt: &HostRuntime) -> io::Result<Hub<ListShelf>> {
         }
     }
     Ok(Hub::new(shelf))
+}
+
+/// A clock that stands at these seconds since 1970.
+#[derive(Drop)]
+struct At(u64);
+
+impl Clock for At {
+    fn monotonic(&self) -> io::Result<Duration> {
+        Ok(Duration::ZERO)
+    }
+
+    fn since_1970(&self) -> io::Result<Duration> {
+        Ok(Duration::from_secs(self.0))
+    }
 }
 
 #[test]
@@ -61,6 +76,15 @@ impl Clock for Stopped {
     }
 }
 
+/// A clock that can't be read, as is one that is set before 1970, and one past the last moment; the first moment is 0.
+#[test]
+fn moments_of_clocks(rt: HostRuntime) {
+    assert!(rt; seconds(&Stopped) == Err(Fault::ReadFailed));
+    assert!(rt; seconds(&At(0)) == Ok(0));
+    assert!(rt; seconds(&At(i64::MAX as u64)) == Ok(i64::MAX));
+    assert!(rt; seconds(&At(1 << 63)) == Err(Fault::ReadFailed));
+}
+
 #[test]
 fn faults_are_told_and_count(rt: HostRuntime) -> io::Result<()> {
     let listener = TcpListener::bind(&rt, (Ipv4Addr::LOCALHOST, 0))?;
@@ -74,6 +98,41 @@ fn faults_are_told_and_count(rt: HostRuntime) -> io::Result<()> {
     let status = serve_count(rt.alloc(), &listener, 1, &mut hub, &Stopped, &mut errors);
     assert!(rt; status == Status::Done && errors.as_slice() == "ReadFailed\n".as_bytes());
     Ok(())
+}
+
+const FAILED: &str =
+    "HTTP/1.1 503 Service Unavailable\r\nContent-Type: application/json\r\nContent-Length: 49\r\nConnection: close\r\n\r\n{\"code\":\"F1\",\"detail\":\"\",\"reason\":\"store failed\"}";
+
+/// A caller whose request the store fails is told so, and the next is served. Both connections are served to their end, so
+/// nothing stands on standard error.
+#[test]
+fn a_store_that_fails_in_between(rt: HostRuntime) -> io::Result<()> {
+    let alloc = rt.alloc();
+    let path = new_path(&rt, "failing")?;
+    let path = path.as_str();
+    let made = ["init", path, "Hub", ABC];
+    assert!(rt; ends(&rt, &made, Status::Done, "created\n", "")?);
+    change(&rt, path, "DROP TABLE incident")?;
+    let Ok(shelf) = open_store(&rt, path) else {
+        return Err(io::Error::from(ErrorKind::NotFound));
+    };
+    let mut hub = Hub::new(shelf);
+    let listener = TcpListener::bind(&rt, (Ipv4Addr::LOCALHOST, 0))?;
+    let mut first = TcpStream::connect(&rt, listener.local_addr()?)?;
+    first.write_all(b"GET /incidents HTTP/1.1\r\nAuthorization: Bearer abc\r\n\r\n")?;
+    let mut second = TcpStream::connect(&rt, listener.local_addr()?)?;
+    second.write_all(WHO_AM_I)?;
+    let mut errors: Vec<u8> = Vec::new(alloc);
+    let status = serve_count(alloc, &listener, 2, &mut hub, &rt, &mut errors);
+    assert!(rt; status == Status::Done && errors.is_empty());
+    let mut reply = Vec::new(alloc);
+    first.read_to_end(&mut reply)?;
+    assert!(rt; reply.as_slice() == FAILED.as_bytes());
+    let mut reply = Vec::new(alloc);
+    second.read_to_end(&mut reply)?;
+    assert!(rt; reply.as_slice() == ADMIN.as_bytes());
+    close(hub.into_shelf());
+    remove(&rt, path)
 }
 
 /// A body that is refused by its length is read to its end, so that the peer that sends it all reads why.

@@ -1,6 +1,6 @@
 //! The store in a file.
 ghost use Rattle.std.specs.Prelude.{◌≡◌, false, IfOk};
-ghost use Rattle.hub_cli.specs.Faults.{told_of_shelf};
+ghost use Rattle.hub_cli.specs.Faults.{told_of_shelf, told_of_opening};
 
 use crate::fault::Fault;
 use hub_core::ShelfFault;
@@ -21,7 +21,9 @@ pub fn shelf_fault(fault: ShelfFault) -> Fault
 }
 
 /// What is told of a store that isn't opened.
-pub fn open_fault(fault: OpenFault) -> Fault {
+pub fn open_fault(fault: OpenFault) -> Fault
+    ensures { result ≡ told_of_opening fault }
+{
     match fault {
         OpenFault::NotOurs => Fault::NotOurs,
         OpenFault::WrongVersion(_) => Fault::WrongVersion,

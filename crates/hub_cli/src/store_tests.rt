@@ -2,19 +2,21 @@
 
 use crate::input::INPUT_LIMIT;
 use crate::status::Status;
+use crate::store::connect;
 use crate::tests::{Run, run_program};
+use std::io::ErrorKind;
 use std::net::{Ipv4Addr, TcpListener};
 use std::{env, fs, io, process};
 
 /// The SHA-256 of `abc`.
-const ABC: &str = "ba7816bf8f01cfea414140de5dae2223b00361a396177a9cb410ff61f20015ad";
+pub const ABC: &str = "ba7816bf8f01cfea414140de5dae2223b00361a396177a9cb410ff61f20015ad";
 
-const K1: &str = "{\"code\":\"K1\",\"detail\":\"\",\"reason\":\"unknown or suspended key\"}\n";
+pub const K1: &str = "{\"code\":\"K1\",\"detail\":\"\",\"reason\":\"unknown or suspended key\"}\n";
 
-const N1: &str = "{\"code\":\"N1\",\"detail\":\"\",\"reason\":\"no such incident for you\"}\n";
+pub const N1: &str = "{\"code\":\"N1\",\"detail\":\"\",\"reason\":\"no such incident for you\"}\n";
 
 /// A path at which no file is.
-fn new_path(rt: &HostRuntime, name: &str) -> io::Result<String> {
+pub fn new_path(rt: &HostRuntime, name: &str) -> io::Result<String> {
     let alloc = rt.alloc();
     let id = process::id(rt.process());
     let file = format!(in alloc; "iodef-hub-{id}-{name}")?;
@@ -25,21 +27,21 @@ fn new_path(rt: &HostRuntime, name: &str) -> io::Result<String> {
 }
 
 /// Takes a store's file away, and its log.
-fn remove(rt: &HostRuntime, path: &str) -> io::Result<()> {
+pub fn remove(rt: &HostRuntime, path: &str) -> io::Result<()> {
     let log = format!(in rt.alloc(); "{path}-wal")?;
     let _ = fs::remove_file(rt, path);
     let _ = fs::remove_file(rt, log.as_str());
     Ok(())
 }
 
-fn is(run: &Run, status: Status, output: &str, errors: &str) -> bool {
+pub fn is(run: &Run, status: Status, output: &str, errors: &str) -> bool {
     let is_printed = run.output.as_slice() == output.as_bytes();
     let is_told = run.errors.as_slice() == errors.as_bytes();
     run.status == status && is_printed && is_told
 }
 
 /// Whether these words, over no input, end so.
-fn ends(
+pub fn ends(
     rt: &HostRuntime,
     words: &[&str],
     status: Status,
@@ -87,6 +89,41 @@ fn a_file_without_a_store(rt: HostRuntime) -> io::Result<()> {
     let port = format!(in rt.alloc(); "{port}")?;
     let serve = ["serve", path, port.as_str(), "0"];
     assert!(rt; ends(&rt, &serve, Status::Failed, "", "NotOurs\n")?);
+    remove(&rt, path)
+}
+
+/// Runs these statements over the file.
+pub fn change(rt: &HostRuntime, path: &str, statements: &str) -> io::Result<()> {
+    if let Ok(mut conn) = connect(rt, path) {
+        if conn.execute_batch(statements).is_ok() && conn.close().is_ok() {
+            return Ok(());
+        }
+    }
+    Err(io::Error::from(ErrorKind::InvalidInput))
+}
+
+/// The tables' version is asked before the port, the input and what is asked for; and nobody changes them.
+#[test]
+fn a_store_of_another_version(rt: HostRuntime) -> io::Result<()> {
+    let path = new_path(&rt, "version")?;
+    let path = path.as_str();
+    change(
+        &rt,
+        path,
+        "CREATE TABLE hub (version INTEGER NOT NULL) STRICT; INSERT INTO hub (version) VALUES (9)",
+    )?;
+    let told = "WrongVersion\n";
+    let listener = TcpListener::bind(&rt, (Ipv4Addr::LOCALHOST, 0))?;
+    let port = listener.local_addr()?.port();
+    let port = format!(in rt.alloc(); "{port}")?;
+    let serve = ["serve", path, port.as_str(), "0"];
+    assert!(rt; ends(&rt, &serve, Status::Failed, "", told)?);
+    assert!(rt; ends(&rt, &["migrate", path], Status::Failed, "", told)?);
+    let line = vec![in rt.alloc(); b'a'; INPUT_LIMIT + 1]?;
+    let run = run_program(&rt, &["view", path, "1"], &line)?;
+    assert!(rt; is(&run, Status::Failed, "", told));
+    let run = run_program(&rt, &["explain", path, "1", "1", "a"], &line)?;
+    assert!(rt; is(&run, Status::Failed, "", told));
     remove(&rt, path)
 }
 

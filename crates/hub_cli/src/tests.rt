@@ -17,7 +17,7 @@ const UNMARKED_MARKS: &str = r#"["/Incident/0","private","RED","/Incident/0"]
 ["/Incident/0/IncidentID","private","RED","/Incident/0"]
 "#;
 
-const AMBER: &str =
+pub const AMBER: &str =
     r#"{"Incident":[{"Contact":[],"EventData":[{"Description":["x"],"restriction":"amber"},{"Description":["y"],"ext-restriction":"TLP:AMBER","restriction":"ext-value"}],"GenerationTime":"g","IncidentID":"4","purpose":"reporting","restriction":"public"}],"version":"2.0"}"#;
 
 const AMBER_MARKS: &str = r#"["/Incident/0","public","CLEAR","/Incident/0"]
@@ -188,7 +188,12 @@ fn other_words(rt: HostRuntime) -> io::Result<()> {
     assert!(rt; is_usage(&rt, &["init", "x", "Hub"])?);
     assert!(rt; is_usage(&rt, &["view", "x", "4294967296"])?);
     assert!(rt; is_usage(&rt, &["migrate", "x", "y"])?);
-    assert!(rt; is_usage(&rt, &["explain", "x", "1", "1", ""])?);
+    assert!(rt; is_usage(&rt, &["explain", "x", "1", "1"])?);
+    assert!(rt; is_usage(&rt, &["explain", "x", "1", "1", "/a", "more"])?);
+    assert!(rt; is_usage(&rt, &["explain", "x", "4294967296", "1", "/a"])?);
+    assert!(rt; is_usage(&rt, &["explain", "x", "one", "1", "/a"])?);
+    assert!(rt; is_usage(&rt, &["explain", "x", "1", "4294967296", "/a"])?);
+    assert!(rt; is_usage(&rt, &["explain", "x", "1", "-1", "/a"])?);
     assert!(rt; is_usage(&rt, &["mark", "/Incident/0", "more"])?);
     assert!(rt; is_usage(&rt, &["mark", "--incident", "4294967296"])?);
     assert!(rt; is_usage(&rt, &["mark", "--incident", "first"])?);
@@ -246,7 +251,7 @@ fn inputs_at_the_limit(rt: HostRuntime) -> io::Result<()> {
 
 /// Takes nothing.
 #[derive(Drop)]
-struct Full;
+pub struct Full;
 
 impl Write for Full {
     fn write(&mut self, _bytes: &[u8]) -> io::Result<usize> {

@@ -23,6 +23,12 @@ pub enum Asked<'a> {
         store: &'a str,
         number: u32,
     },
+    Explain {
+        store: &'a str,
+        person: u32,
+        number: u32,
+        pointer: &'a str,
+    },
     Migrate {
         store: &'a str,
     },
@@ -95,6 +101,29 @@ fn view<'a>(alloc: Global) -> Result<Command<'a>, AllocError> {
         .arg(number)
 }
 
+fn explain<'a>(alloc: Global) -> Result<Command<'a>, AllocError> {
+    let person = word(alloc, "person", "PERSON", "The number of the person").value_parser(
+        value_parser!(u32),
+    );
+    let number = word(alloc, "number", "NUMBER", "The number of the incident").value_parser(
+        value_parser!(u32),
+    );
+    let pointer = word(
+        alloc,
+        "pointer",
+        "POINTER",
+        "The JSON pointer of the class in the incident's document",
+    );
+    Command::new(alloc, "explain")
+        .about(
+            "Prints why a person sees a class of an incident, or doesn't; an administrator's key is the first line of standard input",
+        )
+        .arg(store(alloc))?
+        .arg(person)?
+        .arg(number)?
+        .arg(pointer)
+}
+
 fn migrate<'a>(alloc: Global) -> Result<Command<'a>, AllocError> {
     Command::new(alloc, "migrate")
         .about("Brings a store to the newest version of its tables")
@@ -108,6 +137,7 @@ fn program<'a>(alloc: Global) -> Result<Command<'a>, AllocError> {
         .subcommand(init(alloc)?)?
         .subcommand(serve(alloc)?)?
         .subcommand(view(alloc)?)?
+        .subcommand(explain(alloc)?)?
         .subcommand(migrate(alloc)?)
 }
 
@@ -149,6 +179,12 @@ fn asked_by<'a>(command: &str, found: &ArgMatches<'a>) -> Asked<'a> {
         "view" => Asked::View {
             store,
             number: number_of(found, "number"),
+        },
+        "explain" => Asked::Explain {
+            store,
+            person: number_of(found, "person"),
+            number: number_of(found, "number"),
+            pointer: text_of(found, "pointer"),
         },
         "migrate" => Asked::Migrate { store },
         _ => Asked::Mark {

@@ -10,6 +10,7 @@ use crate::grounds::Told;
 use crate::reads::{agree_on_reads, same_document};
 use crate::requests::{Subject, any_kind, any_request};
 use crate::rows::{Report, Rows};
+use crate::shelves::in_memory;
 use crate::sound::is_sound;
 use crate::tally::Tally;
 use crate::worlds::any_rows;
@@ -30,9 +31,8 @@ pub struct Both {
 impl Both {
     /// A shelf with these rows.
     pub fn new(alloc: Global, rows: Rows) -> Result<Both, Fault> {
-        let mut shelf = ListShelf::new(alloc);
         let edits = edits_of(alloc, &rows)?;
-        shelf.apply(edits.as_slice())?;
+        let shelf = in_memory(alloc, edits.as_slice())?;
         Ok(Both { shelf, rows })
     }
 }

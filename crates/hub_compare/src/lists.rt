@@ -1,18 +1,20 @@
-//! Lists of requests by several persons, answered by the hub over the shelf in memory and by the plain hub.
+//! Lists of requests by several persons, answered by the hub over both shelves and by the plain hub.
 
 use crate::answers::{Answer, answered};
 use crate::changes::Done;
 use crate::dice::Dice;
+use crate::edits::edits_of;
 use crate::fault::{Fault, agree};
-use crate::judged::{Both, any_actor, any_incident};
+use crate::judged::{any_actor, any_incident};
 use crate::reads::agree_on_reads;
 use crate::replies::same_reply;
 use crate::requests::{Subject, any_kind, any_request};
 use crate::rows::Rows;
+use crate::shelves::{in_memory, in_tables, opened_anew};
 use crate::tally::Tally;
 use crate::worlds::{any_rows, many_reports};
 use hub::{Hub, Key};
-use hub_core::{Request, Shelf};
+use hub_core::{Edit, Request, Shelf};
 use std::alloc::{AllocError, Global};
 
 /// How many requests a list has.
@@ -20,6 +22,9 @@ const REQUESTS: u32 = 12;
 
 /// In how many lists one is over a state with pages of incidents.
 const PAGED: u64 = 200;
+
+/// Behind how many lists the tables are opened anew, and all that they have is read once.
+const REREAD: u64 = 11;
 
 /// Requests with what the plain hub answers to them.
 #[derive(Drop)]
@@ -113,41 +118,74 @@ fn note_answer(alloc: Global, tally: &mut Tally, told: &Answer) -> Result<(), Al
     }
 }
 
-/// Runs the hub over the requests, and compares its replies one after another.
-fn agree_on_story(
-    alloc: Global,
-    both: Both,
-    story: &Story,
-    tally: &mut Tally,
-) -> Result<(), Fault> {
-    let Both { shelf, rows } = both;
+fn note_answers(alloc: Global, tally: &mut Tally, story: &Story) -> Result<(), AllocError> {
+    for told in story.answers.iter() {
+        note_answer(alloc, tally, told)?;
+    }
+    Ok(())
+}
+
+/// Runs the hub over a shelf, and compares its replies one after another. The shelf comes back.
+fn agree_on_story<Sh: Shelf + Drop>(alloc: Global, shelf: Sh, story: &Story) -> Result<Sh, Fault> {
     let mut hub = Hub::new(shelf);
     let replies = hub.run(alloc, story.asked.as_slice())?;
     agree(replies.len() == story.answers.len(), "how many replies")?;
     for (reply, told) in replies.iter().zip(story.answers.iter()) {
         agree(same_reply(alloc, reply, told)?, "a reply")?;
-        note_answer(alloc, tally, told)?;
     }
-    let mut shelf = hub.into_shelf();
-    agree_on_reads(alloc, &mut shelf, &rows)?;
-    agree(shelf.failures() == 0, "how often the shelf failed")
+    let shelf = hub.into_shelf();
+    agree(shelf.failures() == 0, "how often the shelf failed")?;
+    Ok(shelf)
 }
 
-/// Compares the hub with the plain one over a list of this seed; one in ten begins at the limits.
-pub fn agree_on_list(alloc: Global, tally: &mut Tally, seed: u64) -> Result<(), Fault> {
+/// The replies over the shelf in memory, and what it has then.
+fn agree_in_memory(alloc: Global, edits: &[Edit], rows: &Rows, story: &Story) -> Result<(), Fault> {
+    let mut shelf = agree_on_story(alloc, in_memory(alloc, edits)?, story)?;
+    agree_on_reads(alloc, &mut shelf, rows)
+}
+
+/// The replies over SQL tables; and, where that is asked, what they have then, opened anew.
+fn agree_in_tables(
+    alloc: Global,
+    edits: &[Edit],
+    rows: &Rows,
+    story: &Story,
+    is_reread: bool,
+) -> Result<(), Fault> {
+    let tables = agree_on_story(alloc, in_tables(alloc, edits)?, story)?;
+    if is_reread {
+        let mut tables = opened_anew(alloc, tables)?;
+        agree_on_reads(alloc, &mut tables, rows)?;
+    }
+    Ok(())
+}
+
+/// Compares the hub with the plain one over a list of this seed, over SQL tables too where that is asked; one in ten begins
+/// at the limits.
+pub fn agree_on_list(
+    alloc: Global,
+    tally: &mut Tally,
+    seed: u64,
+    has_tables: bool,
+) -> Result<(), Fault> {
     let mut dice = Dice::new(seed.saturating_add(1_000_000));
     let paged = seed % PAGED == 0;
     let mut rows = any_rows(alloc, &mut dice, seed % 10 == 1)?;
     if paged {
         many_reports(&mut rows, alloc)?;
     }
-    let mut both = Both::new(alloc, rows)?;
+    let edits = edits_of(alloc, &rows)?;
     let mut story = Story {
         asked: Vec::new(alloc),
         answers: Vec::new(alloc),
     };
     for _ in 0..REQUESTS {
-        add_request(alloc, &mut dice, &mut both.rows, &mut story, paged)?;
+        add_request(alloc, &mut dice, &mut rows, &mut story, paged)?;
     }
-    agree_on_story(alloc, both, &story, tally)
+    note_answers(alloc, tally, &story)?;
+    agree_in_memory(alloc, edits.as_slice(), &rows, &story)?;
+    if has_tables {
+        agree_in_tables(alloc, edits.as_slice(), &rows, &story, seed % REREAD == 0)?;
+    }
+    Ok(())
 }

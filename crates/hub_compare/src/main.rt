@@ -1,7 +1,8 @@
-//! `hub_compare STATES LISTS`: compares facts, `judge`, edits and reads of the shelf in memory with a plain, slow hub that
-//! keeps its rows in vectors, over so many generated states of 40 requests each; then the replies of `Hub::run` with those
-//! of the plain hub, over so many lists of 12 requests by several persons. A difference is told by its seed, with status 1.
-//! Behind each kind of request stands how often each outcome was met.
+//! `hub_compare STATES LISTS TABLES`: compares facts, `judge`, edits and reads of the shelf in memory with a plain, slow hub
+//! that keeps its rows in vectors, over so many generated states of 40 requests each; then the replies of `Hub::run` over that
+//! shelf with those of the plain hub, over so many lists of 12 requests by several persons, and so many of them over SQL
+//! tables too. A difference is told by its seed, with status 1. Behind each kind of request stands how often each outcome
+//! was met.
 #![tactic(auto)]
 
 mod answers;
@@ -25,6 +26,7 @@ mod replies;
 mod requests;
 mod rows;
 mod sheet;
+mod shelves;
 mod sight;
 mod sound;
 mod spots;
@@ -38,10 +40,12 @@ use std::process::ExitCode;
 use std::{env, io};
 use tally::Tally;
 
-/// How many states and how many lists, where the words name no numbers.
+/// How many states and how many lists, where the words name no numbers, and how many of the lists over tables too.
 const STATES: u64 = 576;
 
 const LISTS: u64 = 2000;
+
+const TABLES: u64 = 500;
 
 /// What differs, or that memory ran out.
 fn name_of(fault: &Fault) -> &'static str {
@@ -92,17 +96,18 @@ fn compare_states(rt: &HostRuntime, states: u64) -> io::Result<bool> {
 }
 
 /// Compares the hub. Whether there is no difference, and everything was answered.
-fn compare_lists(rt: &HostRuntime, lists: u64) -> io::Result<bool> {
+fn compare_lists(rt: &HostRuntime, lists: u64, tables: u64) -> io::Result<bool> {
     let alloc = rt.alloc();
     let mut tally = Tally::of_answers(alloc);
     for seed in 0..lists {
-        if let Err(fault) = lists::agree_on_list(alloc, &mut tally, seed) {
+        if let Err(fault) = lists::agree_on_list(alloc, &mut tally, seed, seed < tables) {
             let name = name_of(&fault);
             println!(rt; "list {seed}: {name}")?;
             return Ok(false);
         }
     }
-    println!(rt; "{lists} lists of 12 requests, no difference")?;
+    let both = lists.min(tables);
+    println!(rt; "{lists} lists of 12 requests, {both} of them over tables too, no difference")?;
     tell(rt, &tally)
 }
 
@@ -110,6 +115,10 @@ fn main(rt: HostRuntime) -> io::Result<ExitCode> {
     let alloc = rt.alloc();
     let words: Vec<String> = env::args(&rt)?.skip(1).collect(alloc)?;
     let shelf = compare_states(&rt, number_at(words.as_slice(), 0, STATES))?;
-    let hub = compare_lists(&rt, number_at(words.as_slice(), 1, LISTS))?;
+    let (lists, tables) = (
+        number_at(words.as_slice(), 1, LISTS),
+        number_at(words.as_slice(), 2, TABLES),
+    );
+    let hub = compare_lists(&rt, lists, tables)?;
     Ok(ExitCode::from(if shelf && hub { 0 } else { 1 }))
 }

@@ -323,6 +323,17 @@ fn read_active(group: u32, pairs: &Parameters<'_>) -> Result<CircleCommand, Requ
     Ok(CircleCommand::GroupActive { group, active })
 }
 
+/// The command, with no parameter beside it.
+fn without_parameter(
+    pairs: &Parameters<'_>,
+    command: CircleCommand,
+) -> Result<CircleCommand, RequestFault>
+    ensures { Gives result (spec.nothing_beside pairs.now command) }
+{
+    pairs.only(&[])?;
+    Ok(command)
+}
+
 /// What is posted to the organisation, person, community or group of a number.
 #[tactic(auto, unfolding(crate::specs::Requests::part_command))]
 fn read_part_command(
@@ -334,58 +345,37 @@ fn read_part_command(
 {
     match change {
         PartChange::AddClient => {
-            let client = pairs.number_alone("client")?;
-            Ok(CircleCommand::AddClient {
-                org: number,
-                client,
-            })
+            let (org, client) = (number, pairs.number_alone("client")?);
+            Ok(CircleCommand::AddClient { org, client })
         }
         PartChange::RemoveClient => {
-            let client = pairs.number_alone("client")?;
-            Ok(CircleCommand::RemoveClient {
-                org: number,
-                client,
-            })
+            let (org, client) = (number, pairs.number_alone("client")?);
+            Ok(CircleCommand::RemoveClient { org, client })
         }
         PartChange::SuspendPerson => {
-            pairs.only(&[])?;
-            Ok(CircleCommand::SuspendPerson { person: number })
+            without_parameter(pairs, CircleCommand::SuspendPerson { person: number })
         }
         PartChange::Nominate => {
-            pairs.only(&[])?;
-            Ok(CircleCommand::Nominate { person: number })
+            without_parameter(pairs, CircleCommand::Nominate { person: number })
         }
         PartChange::Unnominate => {
-            pairs.only(&[])?;
-            Ok(CircleCommand::Unnominate { person: number })
+            without_parameter(pairs, CircleCommand::Unnominate { person: number })
         }
         PartChange::Join => {
-            let org = pairs.number_alone("org")?;
-            Ok(CircleCommand::Join {
-                community: number,
-                org,
-            })
+            let (community, org) = (number, pairs.number_alone("org")?);
+            Ok(CircleCommand::Join { community, org })
         }
         PartChange::Leave => {
-            let org = pairs.number_alone("org")?;
-            Ok(CircleCommand::Leave {
-                community: number,
-                org,
-            })
+            let (community, org) = (number, pairs.number_alone("org")?);
+            Ok(CircleCommand::Leave { community, org })
         }
         PartChange::Link => {
-            let other = pairs.number_alone("other")?;
-            Ok(CircleCommand::Link {
-                community: number,
-                other,
-            })
+            let (community, other) = (number, pairs.number_alone("other")?);
+            Ok(CircleCommand::Link { community, other })
         }
         PartChange::Unlink => {
-            let other = pairs.number_alone("other")?;
-            Ok(CircleCommand::Unlink {
-                community: number,
-                other,
-            })
+            let (community, other) = (number, pairs.number_alone("other")?);
+            Ok(CircleCommand::Unlink { community, other })
         }
         PartChange::GroupAdd => read_member(number, pairs),
         PartChange::GroupRemove => {

@@ -10,6 +10,7 @@ use hub::{Hub, Key};
 use hub_core::{Request, Shelf};
 use std::alloc::Global;
 use std::io::{Read, Write};
+use thiserror::Error;
 
 /// What was done for a connection.
 #[derive(Clone, Copy, Debug, PartialEq, Eq, Drop)]
@@ -21,15 +22,19 @@ pub enum Served {
 }
 
 /// Why a connection wasn't served to its end.
-#[derive(Clone, Copy, Debug, PartialEq, Eq, Drop)]
+#[derive(Clone, Copy, Debug, PartialEq, Eq, Drop, Error)]
 pub enum ServeFault {
     /// The peer ended before its request did; nothing was asked of the hub, and nothing was written.
+    #[error("the request ends early")]
     Truncated,
     /// A read failed; nothing was asked of the hub, and nothing was written.
+    #[error("a read failed")]
     ReadFailed,
     /// A write failed. A change may stand that the caller wasn't told of.
+    #[error("a write failed")]
     WriteFailed,
     /// The memory didn't suffice. A change may stand that the caller wasn't told of.
+    #[error("no memory")]
     NoMemory,
 }
 

@@ -1,24 +1,34 @@
 //! What is wrong with a request's bytes.
+use thiserror::Error;
 
 /// What is wrong with a request's bytes: the first of these that holds, in this order.
-#[derive(Clone, Copy, Debug, PartialEq, Eq, Drop)]
+#[derive(Clone, Copy, Debug, PartialEq, Eq, Drop, Error)]
 pub enum WireFault {
     /// The first 8,192 bytes are there, hold no whole head and may still begin one; or a whole head has over 64 fields.
+    #[error("the head is too long")]
     HeadTooLong,
     /// The bytes begin no head of HTTP/1.0 or HTTP/1.1, or Content-Length stands there twice or isn't digits.
+    #[error("the head is none of HTTP/1.x")]
     BadHead,
     /// There is a Transfer-Encoding field.
+    #[error("there is a Transfer-Encoding")]
     Chunked,
     /// There is no Content-Length, and the method isn't GET.
+    #[error("there is no Content-Length")]
     NoLength,
     /// Content-Length is over 262,144.
+    #[error("the body is too large")]
     TooLarge,
     /// The bytes end before the head or the body does.
+    #[error("the request ends early")]
     Truncated,
     /// The method and the path have no route.
+    #[error("there is no such route")]
     NoRoute,
     /// A parameter is missing, unknown, repeated or can't be read; or there is a query where the parameters stand in
     /// the body, or a body on GET.
+    #[error("a parameter is missing, unknown, repeated or unreadable")]
     BadBody,
+    #[error("no memory")]
     NoMemory,
 }

@@ -16,9 +16,9 @@ use Rattle.sqlite.specs.declared.error.Error.{Error}
 use Rattle.sqlite.specs.declared.error.Error.TheVariants.{SqlInputError}
 use Rattle.sqlite.specs.Effect.{Reads}
 use Rattle.sqlite.specs.Listing.{understood, reads_listing, listing_schema, if_select, IsSourceOf}
-use Rattle.sqlite.specs.State.{State, Shown, IsNotRun, Fails, FailsToQuery, FailsToShow, RunsCommand, IsTooLate, store_error}
+use Rattle.sqlite.specs.State.{State, Shown, IsNotRun, Fails, FailsToQuery, FailsToShow, RunsCommand, IsTooLate, IsUnchanged, store_error}
 use Rattle.hub_store.specs.Versions.{version_column, version_text, only_u32, IsVersion}
-use Rattle.hub_store.proofs.Outcomes.{shown_up}
+use Rattle.hub_store.proofs.Outcomes.{plain_shown, shown_up}
 use Rattle.hub_store.proofs.Statements.{same_ok}
 
 -- a SELECT has no RETURNING, and reads no clock where it names none
@@ -52,6 +52,13 @@ answer_of params old new rows h =
     let it = rw (bare.0, bare.1, append-nil params) at h.2 in
     let db : it.0 ≡ old.now = subst (λ b. IsSourceOf b old.now it.0) tables.0 it.1 in
     (h.0, h.1.is, subst (λ d. Reads h.0.command d params rows) db it.2)
+
+-- it changes nothing
+pub versions_same : (old new : State) (rows : List Row) → Shown version_text [] old new rows → IsUnchanged old new
+unfolding Shown
+versions_same old new rows h =
+    let tables = from_tables old.now.schema h.0 h.1.is in
+    plain_shown old new version_text h.0 _ rows h.0.returning (bare_anywhere old.now.schema h.0 tables.1).0 h.2
 
 on_if_ok : {T E : Type 0} (r : Result T E) (P Q : T → Type 0) → ((x : T) → P x → Q x) → IfOk r P → IfOk r Q
 on_if_ok (Ok x) P Q f h = f x h

@@ -62,7 +62,7 @@ begins_empty old new count h has =
       fit = record { orgs = tt; accounts = tt; communities = tt; groups = tt; gates = tt; incidents = tt };
     }
 
-sound_empty : IsSound empty
+pub sound_empty : IsSound empty
 sound_empty = record {
   directory = record {
     orgs = record { numbered = (tt, omega arith); names = tt };

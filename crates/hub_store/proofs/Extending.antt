@@ -7,7 +7,7 @@ use Rattle.sqlite.specs.declared.error.Error.{Error}
 use Rattle.circle.specs.declared.directory.GroupMember.{GroupMember}
 use Rattle.circle.specs.Directory.{Directory, has_extender}
 use Rattle.circle.specs.Sound as circle
-use Rattle.hub_store.specs.FirstShown.{flag_shown, ShowsFlag}
+use Rattle.hub_store.specs.FirstShown.{flag_shown, ShowsFlagOrFalse}
 use Rattle.hub_store.specs.PairKinds.{is_between, pair_between, value_shown}
 use Rattle.hub_store.specs.Pairs.{Pair}
 use Rattle.hub_store.specs.Rows.{group_member_pair, one_if}
@@ -35,10 +35,10 @@ as_flag : (b : Bool) → number_or_null (Some (one_if b)) ∷ [] ≡ flag_shown 
 as_flag true = refl
 as_flag false = refl
 
-flag_of : (o : Option GroupMember) (rows : List Row) (b : Bool) → rows ≡ map value_shown (option_to_list (option_map group_member_pair o)) → ShowsFlag rows b → b ≡ option_map_or (λ (m : GroupMember). m.extend) o false
-flag_of o rows b is h = go o (subst (λ l. ShowsFlag l b) is h)
+flag_of : (o : Option GroupMember) (rows : List Row) (b : Bool) → rows ≡ map value_shown (option_to_list (option_map group_member_pair o)) → ShowsFlagOrFalse rows b → b ≡ option_map_or (λ (m : GroupMember). m.extend) o false
+flag_of o rows b is h = go o (subst (λ l. ShowsFlagOrFalse l b) is h)
   where
-    go : (o : Option GroupMember) → ShowsFlag (map value_shown (option_to_list (option_map group_member_pair o))) b → b ≡ option_map_or (λ (m : GroupMember). m.extend) o false
+    go : (o : Option GroupMember) → ShowsFlagOrFalse (map value_shown (option_to_list (option_map group_member_pair o))) b → b ≡ option_map_or (λ (m : GroupMember). m.extend) o false
     go None h = h
     go (Some m) h = h m.extend (as_flag m.extend)
 
@@ -46,7 +46,7 @@ both_first : (x y z : Bool) → ((x && y) && z) ≡ (x && y && z)
 both_first true y z = refl
 both_first false y z = refl
 
-extends_is : (d : Directory) (group org : ℕ) (rows : List Row) (b : Bool) → circle.IsSound d → rows ≡ map value_shown (option_to_list (pair_between kind.GroupMember group org d)) → ShowsFlag rows b → b ≡ has_extender group org d
+extends_is : (d : Directory) (group org : ℕ) (rows : List Row) (b : Bool) → circle.IsSound d → rows ≡ map value_shown (option_to_list (pair_between kind.GroupMember group org d)) → ShowsFlagOrFalse rows b → b ≡ has_extender group org d
 extends_is d group org rows b sound is h =
     let its = λ (m : GroupMember). m.group == group && m.org == org in
     let members = d.group_members in
@@ -56,6 +56,6 @@ extends_is d group org rows b sound is h =
     one_passes (λ (m : GroupMember). m) its (λ (m : GroupMember). m.extend) members (find its members) b once (sym (itself (find its members))) (flag_of (find its members) rows b found h)
     ∙ same_test (λ (m : GroupMember). its m && m.extend) (λ (m : GroupMember). m.group == group && m.org == org && m.extend) (λ m. both_first (m.group == group) (m.org == org) m.extend) members
 
-pub reads_extends : (d : Directory) (group org : ℕ) (rows : List Row) (r : Result Bool Error) → circle.IsSound d → rows ≡ map value_shown (option_to_list (pair_between kind.GroupMember group org d)) → IfOk r (λ b. ShowsFlag rows b) → IfOk r (λ b. b ≡ has_extender group org d)
+pub reads_extends : (d : Directory) (group org : ℕ) (rows : List Row) (r : Result Bool Error) → circle.IsSound d → rows ≡ map value_shown (option_to_list (pair_between kind.GroupMember group org d)) → IfOk r (λ b. ShowsFlagOrFalse rows b) → IfOk r (λ b. b ≡ has_extender group org d)
 reads_extends d group org rows (Ok b) sound is h = extends_is d group org rows b sound is h
 reads_extends d group org rows (Err e) sound is h = tt

@@ -20,7 +20,7 @@ use Rattle.sqlite_sql.specs.declared.ops.CompareOp.TheVariants.{Gt}
 use Rattle.sqlite_sql.specs.Query.{IsAnswer, Output}
 use Rattle.sqlite.specs.declared.error.Error.{Error}
 use Rattle.circle.specs.Sound.{CountsFrom}
-use Rattle.hub_store.specs.FirstShown.{number_shown, ShowsNumber}
+use Rattle.hub_store.specs.FirstShown.{number_shown, ShowsNumberOrZero}
 use Rattle.hub_store.specs.Holdings.{IsHeld, by_number}
 use Rattle.hub_store.proofs.Compare.{more_than, and_true}
 use Rattle.hub_store.proofs.Found.{map_each}
@@ -90,13 +90,13 @@ highest_listed {X} db tree row number xs rows first counts held a =
     ∙ ap (take 1) (map_each (λ x. column (row x) 0 ∷ []) (λ x. number_shown (number x)) (λ x. ap (λ v. v ∷ []) (first x)) (reverse xs))
     ∙ last_is number 0 xs counts
 
-number_is : (count : ℕ) (rows : List Row) (n : ℕ) → rows ≡ ending_in 0 count → ShowsNumber rows n → n ≡ count
-number_is count rows n is h = go count (subst (λ l. ShowsNumber l n) is h)
+number_is : (count : ℕ) (rows : List Row) (n : ℕ) → rows ≡ ending_in 0 count → ShowsNumberOrZero rows n → n ≡ count
+number_is count rows n is h = go count (subst (λ l. ShowsNumberOrZero l n) is h)
   where
-    go : (count : ℕ) → ShowsNumber (ending_in 0 count) n → n ≡ count
+    go : (count : ℕ) → ShowsNumberOrZero (ending_in 0 count) n → n ≡ count
     go zero h = h
     go (suc k) h = let it : n ≡ 0 + suc k = h (0 + suc k) refl in omega (arith, it)
 
-pub reads_count : (count : ℕ) (rows : List Row) (r : Result ℕ Error) → rows ≡ ending_in 0 count → IfOk r (λ n. ShowsNumber rows n) → IfOk r (λ n. n ≡ count)
+pub reads_count : (count : ℕ) (rows : List Row) (r : Result ℕ Error) → rows ≡ ending_in 0 count → IfOk r (λ n. ShowsNumberOrZero rows n) → IfOk r (λ n. n ≡ count)
 reads_count count rows (Ok n) is h = number_is count rows n is h
 reads_count count rows (Err e) is h = tt

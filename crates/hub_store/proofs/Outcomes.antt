@@ -43,7 +43,7 @@ module _ (old new : State) where
   shown_open sql c params rows None h = h.3.0.was_open
   shown_open sql c params rows (Some what) h = h.1.shown.was_open
 
-  plain_shown : (sql : List ℕ) (c : Compiled) (params : Row) (rows : List Row) (r : Option Returning) → r ≡ None → ShowsRows old new sql c params rows r → IsUnchanged old new
+  pub plain_shown : (sql : List ℕ) (c : Compiled) (params : Row) (rows : List Row) (r : Option Returning) → r ≡ None → ShowsRows old new sql c params rows r → IsUnchanged old new
   plain_shown sql c params rows None e h = h.3
   plain_shown sql c params rows (Some what) e h = absurd cc
 

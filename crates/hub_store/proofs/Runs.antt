@@ -29,11 +29,9 @@ knows old s has up = (has_now old s has up).known
 
 -- a transaction has begun on a store that answers
 pub ready : {S : Type 0} (g : store.Ghosts S) (old : Held S) (probed : State) (s : core.State) → Has (state g old) s
-    → IsTrue (state g old).is_open × (Knows (state g old) → IsUnchanged (state g (record old { in_transaction = true })) probed)
+    → IsTrue (state g old).is_open × IsUnchanged (state g (record old { in_transaction = true })) probed
     → Holds probed.now s × IsTrue probed.in_transaction
-ready g old probed s has it =
-    let same = it.1 (knows (state g old) s has) in
-    (subst (λ d. Holds d s) (sym same.0.now_is) (has_now (state g old) s has it.0), same.0.mode)
+ready g old probed s has it = (subst (λ d. Holds d s) (sym it.1.0.now_is) (has_now (state g old) s has it.0), it.1.0.mode)
 
 pub kept_has : (old new : State) (s : core.State) → KeepsCommitted old new → Has old s → Has new s
 kept_has old new s k has = record {

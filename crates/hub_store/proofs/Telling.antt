@@ -36,10 +36,10 @@ pub read_value : {S : Type 0} (g : store.Ghosts S) (old new : Held S) {T : Type 
 read_value g old new Right outcome (Ok x) answers told clean s has = subst (λ r. IfOk r (Right s)) told (answers.right clean s has)
 read_value g old new Right outcome (Err fault) answers told clean s has = tt
 
-pub err_only : {T E F : Type 0} (made : Result T E) (told : Result T F) (A B K Q : Type 0) → IfOk made (λ x. told ≡ Ok x) → (A → B → OnErr made K) → ((A → B → K) → Q) → OnErr told Q
-err_only (Ok x) told A B K Q given none f = subst (λ r. OnErr r Q) (sym given) tt
-err_only (Err e) (Ok x) A B K Q given none f = tt
-err_only (Err e) (Err d) A B K Q given none f = f none
+pub err_only : {T E F : Type 0} (made : Result T E) (told : Result T F) (A K Q : Type 0) → IfOk made (λ x. told ≡ Ok x) → (A → OnErr made K) → ((A → K) → Q) → OnErr told Q
+err_only (Ok x) told A K Q given none f = subst (λ r. OnErr r Q) (sym given) tt
+err_only (Err e) (Ok x) A K Q given none f = tt
+err_only (Err e) (Err d) A K Q given none f = f none
 
 pub ok_only : {T E F : Type 0} (made : Result T E) (told : Result T F) (P Q : Type 0) → IfOk told (λ x. made ≡ Ok x) → OnOk made P → (P → Q) → OnOk told Q
 ok_only made (Err e) P Q value h f = tt

@@ -233,17 +233,6 @@ set_group_active_plain = (refl, refl)
 
 -- ---- rows are read
 
-abbrev pub versions : List ℕ
-versions = codes "SELECT version FROM hub"
-
-pub versions_is : command_of (understood hub_schema versions) ≡ Select (program (one_table 0 ([]) (col 1 1 ∷ []))) (codes "version" ∷ [])
-unfolding understood everything
-versions_is = refl
-
-pub versions_plain : IsPlain (understood hub_schema versions) × (reads_listing hub_schema versions ≡ false)
-unfolding understood everything
-versions_plain = ((refl, refl), refl)
-
 abbrev pub person_with_key : List ℕ
 person_with_key = codes "SELECT number, org, name, role, active, nominated FROM person WHERE key = ?1"
 

@@ -12,11 +12,11 @@ abbrev pub flag_shown : Bool → Row
 flag_shown b = flag b ∷ []
 
 -- 0 where there is no row
-abbrev pub ShowsNumber : List Row → ℕ → Type 0
-ShowsNumber [] n = n ≡ 0
-ShowsNumber (row ∷ rows) n = IsShownBy number_shown row n
+abbrev pub ShowsNumberOrZero : List Row → ℕ → Type 0
+ShowsNumberOrZero [] n = n ≡ 0
+ShowsNumberOrZero (row ∷ rows) n = IsShownBy number_shown row n
 
 -- not set where there is no row
-abbrev pub ShowsFlag : List Row → Bool → Type 0
-ShowsFlag [] b = b ≡ false
-ShowsFlag (row ∷ rows) b = IsShownBy flag_shown row b
+abbrev pub ShowsFlagOrFalse : List Row → Bool → Type 0
+ShowsFlagOrFalse [] b = b ≡ false
+ShowsFlagOrFalse (row ∷ rows) b = IsShownBy flag_shown row b

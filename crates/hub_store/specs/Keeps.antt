@@ -11,10 +11,6 @@ use Rattle.hub_store.specs.Tables.{hub_schema}
 abbrev pub Knows : State → Type 0
 Knows c = IsTrue c.is_open → c.now.schema ≡ hub_schema
 
--- a query in a transaction commits nothing
-abbrev pub Rests : State → State → Type 0
-Rests old new = HasCleanDisk new → Knows old → KeepsCommit old new
-
 -- the last commit stands while the store is open
 pub record KeepsCommitted (old new : State) : Type 0 where
   pub was_open : IsTrue new.is_open → IsTrue old.is_open

@@ -6,7 +6,7 @@ ghost use Rattle.sqlite.specs.Held.{state};
 ghost use Rattle.hub_core.specs.State.{State};
 ghost use Rattle.hub_core.specs.Edits.{after};
 ghost use Rattle.hub_store.specs.Content.{Has, CommitsState};
-ghost use Rattle.hub_store.specs.Keeps.{Knows, Goes, KeepsCommitted};
+ghost use Rattle.hub_store.specs.Keeps.{Goes, KeepsCommitted};
 ghost use Rattle.hub_store.specs.Makes.{Makes};
 ghost use Rattle.hub_store.specs.Means.{Means, Holds};
 ghost use Rattle.hub_store.specs.Fit.{IsFit};
@@ -41,7 +41,7 @@ pub(crate) fn apply<S: Alter>(
     requires { conn.old.in_transaction ≡ false }
     ensures idle { conn.new.in_transaction ≡ false }
     ensures made { HasCleanDisk (state S.Store conn.new) → (s : State) → Has (state S.Store conn.old) s → OnOk result (CommitsState (state S.Store conn.new) (after edits.now s)) }
-    ensures none { HasCleanDisk (state S.Store conn.new) → Knows (state S.Store conn.old) → OnErr result (KeepsCommitted (state S.Store conn.old) (state S.Store conn.new)) }
+    ensures none { HasCleanDisk (state S.Store conn.new) → OnErr result (KeepsCommitted (state S.Store conn.old) (state S.Store conn.new)) }
     ensures survives { Survives (state S.Store conn.old) (state S.Store conn.new) (λ left. (s : State) → Has (state S.Store conn.old) s → Means left (after edits.now s) × IsFit (after edits.now s)) }
 {
     let mut tx = conn.transaction();

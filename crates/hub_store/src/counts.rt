@@ -3,14 +3,14 @@
 ghost use Rattle.std.specs.Prelude.{◌≡◌, length, IfOk};
 ghost use Rattle.sqlite.specs.Held.{state};
 ghost use Rattle.hub_store.specs.Asked.{IsRead};
-ghost use Rattle.hub_store.specs.FirstShown.{ShowsNumber};
+ghost use Rattle.hub_store.specs.FirstShown.{ShowsNumberOrZero};
 
 use crate::query::ask;
 use sqlite::{Alter, Error, Row, Transaction};
 
 /// The number that the first row shows; 0 where there is none.
 pub(crate) fn number_in(rows: &[Row]) -> Result<u32, Error>
-    ensures { IfOk result (λ number. ShowsNumber rows.now number) }
+    ensures { IfOk result (λ number. ShowsNumberOrZero rows.now number) }
 {
     match rows.first() {
         None => Ok(0),

@@ -9,11 +9,13 @@ ghost use Rattle.hub_core.specs.State.{State};
 ghost use Rattle.hub_core.specs.Edits.{edited};
 ghost use Rattle.hub_core.specs.declared.edit.Edit.TheVariants.{Directory};
 ghost use Rattle.hub_store.specs.Pairs.{pair_row, put_pair, take_pair};
+ghost use Rattle.hub_store.specs.PairKinds.{kind_name};
 ghost use Rattle.hub_store.specs.Means.{Holds};
 ghost use Rattle.hub_store.specs.Keeps.{Goes, HasRun};
 ghost use Rattle.hub_store.specs.Makes.{Makes};
 
 use crate::numbers::{handling_number, one_if, role_number};
+use crate::pair_kind::PairKind;
 use crate::statement::run;
 use circle::command::RowEdit;
 use circle::directory::{
@@ -119,36 +121,36 @@ fn switch<S: Alter>(tx: &mut Transaction<'_, S>, group: u32, active: bool) -> Re
 
 fn insert_pair<S: Alter>(
     tx: &mut Transaction<'_, S>,
-    kind: &str,
+    kind: PairKind,
     a: u32,
     b: u32,
     value: Option<u32>,
 ) -> Result<(), Error>
     ensures same_reference { tx.new.conn.ghost_name ≡ tx.old.conn.ghost_name }
     ensures goes { Goes (state S.Store tx.old.conn.now) (state S.Store tx.new.conn.now) result }
-    ensures ran { HasCleanDisk (state S.Store tx.new.conn.now) → IsTrue (state S.Store tx.old.conn.now).in_transaction → OnOk result (HasRun S.Store put_pair (pair_row kind.now ((a, b), value)) tx.old.conn.now tx.new.conn.now) }
+    ensures ran { HasCleanDisk (state S.Store tx.new.conn.now) → IsTrue (state S.Store tx.old.conn.now).in_transaction → OnOk result (HasRun S.Store put_pair (pair_row (kind_name kind) ((a, b), value)) tx.old.conn.now tx.new.conn.now) }
 {
     run(
         tx,
         "INSERT INTO pair (kind, a, b, value) VALUES (?1, ?2, ?3, ?4)",
-        params![kind, a, b, value],
+        params![kind.name(), a, b, value],
     )
 }
 
 fn remove_pair<S: Alter>(
     tx: &mut Transaction<'_, S>,
-    kind: &str,
+    kind: PairKind,
     a: u32,
     b: u32,
 ) -> Result<(), Error>
     ensures same_reference { tx.new.conn.ghost_name ≡ tx.old.conn.ghost_name }
     ensures goes { Goes (state S.Store tx.old.conn.now) (state S.Store tx.new.conn.now) result }
-    ensures ran { HasCleanDisk (state S.Store tx.new.conn.now) → IsTrue (state S.Store tx.old.conn.now).in_transaction → OnOk result (HasRun S.Store take_pair (Text kind.now ∷ Int (pos a) ∷ Int (pos b) ∷ []) tx.old.conn.now tx.new.conn.now) }
+    ensures ran { HasCleanDisk (state S.Store tx.new.conn.now) → IsTrue (state S.Store tx.old.conn.now).in_transaction → OnOk result (HasRun S.Store take_pair (Text (kind_name kind) ∷ Int (pos a) ∷ Int (pos b) ∷ []) tx.old.conn.now tx.new.conn.now) }
 {
     run(
         tx,
         "DELETE FROM pair WHERE kind = ?1 AND a = ?2 AND b = ?3",
-        params![kind, a, b],
+        params![kind.name(), a, b],
     )
 }
 
@@ -156,21 +158,21 @@ fn put_client<S: Alter>(tx: &mut Transaction<'_, S>, row: &Client) -> Result<(),
     ensures same_reference { tx.new.conn.ghost_name ≡ tx.old.conn.ghost_name }
     ensures made { (s : State) → Makes (state S.Store tx.old.conn.now) (state S.Store tx.new.conn.now) (λ db. Holds db s) (λ db. Holds db (edited (Directory (PutClient row.now)) s)) result }
 {
-    insert_pair(tx, "client", row.org, row.client, None)
+    insert_pair(tx, PairKind::Client, row.org, row.client, None)
 }
 
 fn put_membership<S: Alter>(tx: &mut Transaction<'_, S>, row: &Membership) -> Result<(), Error>
     ensures same_reference { tx.new.conn.ghost_name ≡ tx.old.conn.ghost_name }
     ensures made { (s : State) → Makes (state S.Store tx.old.conn.now) (state S.Store tx.new.conn.now) (λ db. Holds db s) (λ db. Holds db (edited (Directory (PutMembership row.now)) s)) result }
 {
-    insert_pair(tx, "member", row.community, row.org, None)
+    insert_pair(tx, PairKind::Membership, row.community, row.org, None)
 }
 
 fn put_connection<S: Alter>(tx: &mut Transaction<'_, S>, row: &Connection) -> Result<(), Error>
     ensures same_reference { tx.new.conn.ghost_name ≡ tx.old.conn.ghost_name }
     ensures made { (s : State) → Makes (state S.Store tx.old.conn.now) (state S.Store tx.new.conn.now) (λ db. Holds db s) (λ db. Holds db (edited (Directory (PutConnection row.now)) s)) result }
 {
-    insert_pair(tx, "link", row.low, row.high, None)
+    insert_pair(tx, PairKind::Connection, row.low, row.high, None)
 }
 
 fn put_group_member<S: Alter>(tx: &mut Transaction<'_, S>, row: &GroupMember) -> Result<(), Error>
@@ -179,7 +181,7 @@ fn put_group_member<S: Alter>(tx: &mut Transaction<'_, S>, row: &GroupMember) ->
 {
     insert_pair(
         tx,
-        "grp_member",
+        PairKind::GroupMember,
         row.group,
         row.org,
         Some(one_if(row.extend)),
@@ -192,7 +194,7 @@ fn put_arrangement<S: Alter>(tx: &mut Transaction<'_, S>, row: &Arrangement) -> 
 {
     insert_pair(
         tx,
-        "arrangement",
+        PairKind::Arrangement,
         row.source,
         row.org,
         Some(handling_number(row.handling)),
@@ -203,21 +205,21 @@ fn take_client<S: Alter>(tx: &mut Transaction<'_, S>, row: &Client) -> Result<()
     ensures same_reference { tx.new.conn.ghost_name ≡ tx.old.conn.ghost_name }
     ensures made { (s : State) → Makes (state S.Store tx.old.conn.now) (state S.Store tx.new.conn.now) (λ db. Holds db s) (λ db. Holds db (edited (Directory (TakeClient row.now)) s)) result }
 {
-    remove_pair(tx, "client", row.org, row.client)
+    remove_pair(tx, PairKind::Client, row.org, row.client)
 }
 
 fn take_membership<S: Alter>(tx: &mut Transaction<'_, S>, row: &Membership) -> Result<(), Error>
     ensures same_reference { tx.new.conn.ghost_name ≡ tx.old.conn.ghost_name }
     ensures made { (s : State) → Makes (state S.Store tx.old.conn.now) (state S.Store tx.new.conn.now) (λ db. Holds db s) (λ db. Holds db (edited (Directory (TakeMembership row.now)) s)) result }
 {
-    remove_pair(tx, "member", row.community, row.org)
+    remove_pair(tx, PairKind::Membership, row.community, row.org)
 }
 
 fn take_connection<S: Alter>(tx: &mut Transaction<'_, S>, row: &Connection) -> Result<(), Error>
     ensures same_reference { tx.new.conn.ghost_name ≡ tx.old.conn.ghost_name }
     ensures made { (s : State) → Makes (state S.Store tx.old.conn.now) (state S.Store tx.new.conn.now) (λ db. Holds db s) (λ db. Holds db (edited (Directory (TakeConnection row.now)) s)) result }
 {
-    remove_pair(tx, "link", row.low, row.high)
+    remove_pair(tx, PairKind::Connection, row.low, row.high)
 }
 
 fn take_group_member<S: Alter>(
@@ -228,7 +230,7 @@ fn take_group_member<S: Alter>(
     ensures same_reference { tx.new.conn.ghost_name ≡ tx.old.conn.ghost_name }
     ensures made { (s : State) → Makes (state S.Store tx.old.conn.now) (state S.Store tx.new.conn.now) (λ db. Holds db s) (λ db. Holds db (edited (Directory (TakeGroupMember group org)) s)) result }
 {
-    remove_pair(tx, "grp_member", group, org)
+    remove_pair(tx, PairKind::GroupMember, group, org)
 }
 
 fn take_arrangement<S: Alter>(
@@ -239,7 +241,7 @@ fn take_arrangement<S: Alter>(
     ensures same_reference { tx.new.conn.ghost_name ≡ tx.old.conn.ghost_name }
     ensures made { (s : State) → Makes (state S.Store tx.old.conn.now) (state S.Store tx.new.conn.now) (λ db. Holds db s) (λ db. Holds db (edited (Directory (TakeArrangement source org)) s)) result }
 {
-    remove_pair(tx, "arrangement", source, org)
+    remove_pair(tx, PairKind::Arrangement, source, org)
 }
 
 /// Makes one edit of the directory.

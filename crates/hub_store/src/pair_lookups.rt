@@ -4,7 +4,7 @@ ghost use Rattle.std.specs.Prelude.{◌≡◌, IfOk};
 ghost use Rattle.sqlite.specs.Held.{state};
 ghost use Rattle.circle.specs.Directory.{has_client, has_membership, has_connection, has_arrangement, has_extender};
 ghost use Rattle.hub_store.specs.Asked.{IsRead};
-ghost use Rattle.hub_store.specs.FirstShown.{ShowsFlag};
+ghost use Rattle.hub_store.specs.FirstShown.{ShowsFlagOrFalse};
 
 use crate::ask_pairs::ask_between;
 use crate::pair_kind::PairKind;
@@ -56,7 +56,7 @@ pub(crate) fn read_has_arrangement<S: Alter>(
 }
 
 fn is_flagged(rows: &[Row]) -> Result<bool, Error>
-    ensures { IfOk result (λ flagged. ShowsFlag rows.now flagged) }
+    ensures { IfOk result (λ flagged. ShowsFlagOrFalse rows.now flagged) }
 {
     match rows.first() {
         None => Ok(false),

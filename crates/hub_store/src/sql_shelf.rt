@@ -49,9 +49,23 @@ impl<S: Alter> SqlShelf<S> {
     ghost use Rattle.sqlite.specs.State.{HasCleanDisk, Survives};
     ghost use Rattle.sqlite.specs.Held.{state};
     ghost use Rattle.hub_core.specs.State.{State, empty};
-    ghost use Rattle.hub_store.specs.Content.{Has};
+    ghost use Rattle.hub_store.specs.Content.{Has, MayLeave};
+    ghost use Rattle.hub_store.specs.Means.{Means};
+    ghost use Rattle.hub_store.specs.Keeps.{KeepsCommitted};
     ghost use Rattle.hub_store.specs.Versions.{IsVersion};
     ghost use Rattle.hub_store.specs.Opening.{newest, IsOpenFault};
+
+    fn over(alloc: Global, conn: Connection<S>) -> SqlShelf<S>
+        requires { conn.in_transaction ≡ false }
+        ensures same { result.conn ≡ conn }
+        ensures begun { result.failures ≡ 0 }
+    {
+        SqlShelf {
+            alloc,
+            conn,
+            failures: 0,
+        }
+    }
 
     /// At its last value the count of failures can't rise, so nothing more is asked of the store.
     fn may_ask(&self) -> Result<(), ShelfFault>
@@ -65,50 +79,51 @@ impl<S: Alter> SqlShelf<S> {
     }
 
     /// Makes the tables, with no row but the version. Where there are tables already it is Failed, and changes nothing. On a
-    /// refusal the connection comes back.
+    /// refusal the connection comes back, with its content.
     pub fn create(
         alloc: Global,
         mut conn: Connection<S>,
     ) -> Result<SqlShelf<S>, (ShelfFault, Connection<S>)>
         requires { conn.in_transaction ≡ false }
         ensures made { IfOk result (λ shelf. HasCleanDisk (state S.Store shelf.conn) → Has (state S.Store shelf.conn) empty) }
+        ensures begun { IfOk result (λ shelf. shelf.failures ≡ 0) }
         ensures taken { (state S.Store conn).now.schema ≢ no_schema → result ≡ Err (ShelfFault.Failed, conn) }
+        ensures kept { IfErr result (λ e. HasCleanDisk (state S.Store e.1) → KeepsCommitted (state S.Store conn) (state S.Store e.1)) }
         ensures back { IfErr result (λ e. HasCleanDisk (state S.Store e.1) → (s : State) → Has (state S.Store conn) s → Has (state S.Store e.1) s) }
         ensures idle { IfErr result (λ e. e.1.in_transaction ≡ false) }
+        // After Ok a crash leaves the empty state, else what it could have left before or that state.
+        ensures durable { IfOk result (λ shelf. HasCleanDisk (state S.Store shelf.conn) → (left : State) → MayLeave (state S.Store shelf.conn) left → left ≡ empty) }
+        ensures crash { IfErr result (λ e. Survives (state S.Store conn) (state S.Store e.1) (λ left. Means left empty)) }
     {
+        prove!(conn.is_autocommit());
         if !is_blank(conn.schema()) {
             return Err((ShelfFault::Failed, conn));
         }
         match make_store(&mut conn) {
-            Ok(()) => Ok(SqlShelf {
-                alloc,
-                conn,
-                failures: 0,
-            }),
+            Ok(()) => Ok(SqlShelf::over(alloc, conn)),
             Err(error) => Err((fault_of(error), conn)),
         }
     }
 
     /// Takes a connection whose store holds the hub's tables of the newest version. On a refusal the connection comes back,
-    /// with its content.
+    /// with its content, whatever store it is.
     pub fn open(
         alloc: Global,
         mut conn: Connection<S>,
     ) -> Result<SqlShelf<S>, (OpenFault, Connection<S>)>
         requires { conn.in_transaction ≡ false }
         ensures content { IfOk result (λ shelf. HasCleanDisk (state S.Store shelf.conn) → (s : State) → Has (state S.Store conn) s → Has (state S.Store shelf.conn) s) }
+        ensures begun { IfOk result (λ shelf. shelf.failures ≡ 0) }
         ensures newest { IfOk result (λ shelf. HasCleanDisk (state S.Store shelf.conn) → IsVersion (state S.Store conn).now (Some newest)) }
         ensures refused { IfErr result (λ e. HasCleanDisk (state S.Store e.1) → IsOpenFault (state S.Store conn).now e.0) }
+        ensures kept { IfErr result (λ e. HasCleanDisk (state S.Store e.1) → KeepsCommitted (state S.Store conn) (state S.Store e.1)) }
         ensures back { IfErr result (λ e. HasCleanDisk (state S.Store e.1) → (s : State) → Has (state S.Store conn) s → Has (state S.Store e.1) s) }
         ensures idle { IfErr result (λ e. e.1.in_transaction ≡ false) }
+        ensures survives { IfOk result (λ shelf. Survives (state S.Store conn) (state S.Store shelf.conn) (λ _. ⊥)) }
         ensures crash { IfErr result (λ e. Survives (state S.Store conn) (state S.Store e.1) (λ _. ⊥)) }
     {
         match version(&mut conn) {
-            Ok(Some(NEWEST)) => Ok(SqlShelf {
-                alloc,
-                conn,
-                failures: 0,
-            }),
+            Ok(Some(NEWEST)) => Ok(SqlShelf::over(alloc, conn)),
             Ok(Some(other)) => Err((OpenFault::WrongVersion(other), conn)),
             Ok(None) => Err((OpenFault::NotOurs, conn)),
             Err(Error::SqliteFailure(ErrorCode::OutOfMemory)) => Err((OpenFault::NoMemory, conn)),
@@ -118,17 +133,20 @@ impl<S: Alter> SqlShelf<S> {
 
     /// Takes a connection whose store holds the hub's tables of the newest version or an older one, and makes them the
     /// newest, with the content as it was. No version is older than the newest yet. On a refusal the connection comes
-    /// back, with its content.
+    /// back, with its content, whatever store it is.
     pub fn migrate(
         alloc: Global,
         conn: Connection<S>,
     ) -> Result<SqlShelf<S>, (OpenFault, Connection<S>)>
         requires { conn.in_transaction ≡ false }
         ensures content { IfOk result (λ shelf. HasCleanDisk (state S.Store shelf.conn) → (s : State) → Has (state S.Store conn) s → Has (state S.Store shelf.conn) s) }
+        ensures begun { IfOk result (λ shelf. shelf.failures ≡ 0) }
         ensures newest { IfOk result (λ shelf. HasCleanDisk (state S.Store shelf.conn) → IsVersion (state S.Store conn).now (Some newest)) }
         ensures refused { IfErr result (λ e. HasCleanDisk (state S.Store e.1) → IsOpenFault (state S.Store conn).now e.0) }
+        ensures kept { IfErr result (λ e. HasCleanDisk (state S.Store e.1) → KeepsCommitted (state S.Store conn) (state S.Store e.1)) }
         ensures back { IfErr result (λ e. HasCleanDisk (state S.Store e.1) → (s : State) → Has (state S.Store conn) s → Has (state S.Store e.1) s) }
         ensures idle { IfErr result (λ e. e.1.in_transaction ≡ false) }
+        ensures survives { IfOk result (λ shelf. Survives (state S.Store conn) (state S.Store shelf.conn) (λ _. ⊥)) }
         ensures crash { IfErr result (λ e. Survives (state S.Store conn) (state S.Store e.1) (λ _. ⊥)) }
     {
         SqlShelf::open(alloc, conn)

@@ -1,10 +1,10 @@
 //! The version of the tables.
 
-ghost use Rattle.std.specs.Prelude.{◌≡◌, false, map, is_some, IfOk, IsTrue};
+ghost use Rattle.std.specs.Prelude.{◌≡◌, false, map, is_some, IfOk, IfErr, IsTrue};
 ghost use Rattle.sqlite_value.specs.Order.{column};
-ghost use Rattle.sqlite.specs.State.{HasCleanDisk, Survives};
+ghost use Rattle.sqlite.specs.State.{HasCleanDisk, KeepsCommit, Survives};
 ghost use Rattle.sqlite.specs.Held.{state};
-ghost use Rattle.hub_store.specs.Keeps.{Knows, Rests, KeepsCommitted};
+ghost use Rattle.hub_store.specs.Keeps.{KeepsCommitted};
 ghost use Rattle.hub_store.specs.Versions.{version_column, only_u32, IsVersion};
 
 use sqlite::{Alter, Connection, Error, ErrorCode, Row, Transaction};
@@ -25,7 +25,8 @@ fn has_version_column(schema: &Schema) -> bool
 
 /// The u32 in the first column, where there is one row.
 fn only_number(rows: &[Row]) -> Result<Option<u32>, Error>
-    ensures { IfOk result (λ found. found ≡ only_u32 (map (λ r. column r 0) rows.now)) }
+    ensures value { IfOk result (λ found. found ≡ only_u32 (map (λ r. column r 0) rows.now)) }
+    ensures memory { IfErr result (λ e. e ≡ Error.SqliteFailure ErrorCode.OutOfMemory) }
 {
     match rows {
         [row] => match row.get(0) {
@@ -45,7 +46,7 @@ fn read_version<S: Alter>(
     has_column: bool,
 ) -> Result<Option<u32>, Error>
     ensures same_reference { tx.new.conn.ghost_name ≡ tx.old.conn.ghost_name }
-    ensures kept { Rests (state S.Store tx.old.conn.now) (state S.Store tx.new.conn.now) }
+    ensures kept { HasCleanDisk (state S.Store tx.new.conn.now) → KeepsCommit (state S.Store tx.old.conn.now) (state S.Store tx.new.conn.now) }
     ensures survives { Survives (state S.Store tx.old.conn.now) (state S.Store tx.new.conn.now) (λ _. ⊥) }
     ensures exact { HasCleanDisk (state S.Store tx.new.conn.now) → has_column ≡ is_some (version_column (state S.Store tx.old.conn.now).now.schema) → IfOk result (λ found. IsTrue (state S.Store tx.old.conn.now).is_open × IsVersion (state S.Store tx.old.conn.now).now found) }
 {
@@ -61,7 +62,7 @@ fn read_version<S: Alter>(
 pub(crate) fn version<S: Alter>(conn: &mut Connection<S>) -> Result<Option<u32>, Error>
     requires { conn.old.in_transaction ≡ false }
     ensures idle { conn.new.in_transaction ≡ false }
-    ensures kept { HasCleanDisk (state S.Store conn.new) → Knows (state S.Store conn.old) → KeepsCommitted (state S.Store conn.old) (state S.Store conn.new) }
+    ensures kept { HasCleanDisk (state S.Store conn.new) → KeepsCommitted (state S.Store conn.old) (state S.Store conn.new) }
     ensures survives { Survives (state S.Store conn.old) (state S.Store conn.new) (λ _. ⊥) }
     ensures exact { HasCleanDisk (state S.Store conn.new) → IfOk result (λ found. IsTrue (state S.Store conn.old).is_open × IsVersion (state S.Store conn.old).now found) }
 {

@@ -1,9 +1,6 @@
 -- The lines of a document's tree are an outline.
-use Rattle.std.proofs.Common.{◌≡◌, ℕ, zero, suc, ◌+◌, ◌≤◌, ◌<◌, Bool, true, false, ◌&&◌, ◌||◌, List, [], ◌∷◌, refl, sym, ◌∙◌, ap, subst, arith, if◌then◌else◌, ◌==◌, true≢false}
-use Rattle.std.specs.Prelude.{Option, Some, None, is_some, nat_lt, nat_le}
-use Rattle.std.specs.Str.{bytes_eq}
-use Rattle.std.proofs.lemmas.Bool.{lt-ltb, and_parts}
-use Rattle.std.proofs.lemmas.Bool.Decides.{nat_tests}
+use Rattle.std.proofs.Common.{◌≡◌, ℕ, suc, ◌+◌, ◌≤◌, ◌<◌, Bool, true, false, List, [], ◌∷◌, refl, sym, ◌∙◌, ap, subst, arith, if◌then◌else◌, ◌==◌, true≢false, Option, Some, None, is_some, nat_lt, nat_le, bytes_eq}
+use Rattle.std.proofs.lemmas.Bool.{lt-ltb, and_parts, and_from, or_left, or_right, le-leb}
 use Rattle.iodef_tree.specs.Text.{Bytes, bytes_lt}
 use Rattle.iodef_tree.specs.Texts.{HasTexts}
 use Rattle.iodef_tree.specs.Tree.{Content, text, value, Forest, end, leaf, branch, kind_of, leaf_line, class_line, lines, height}
@@ -15,26 +12,12 @@ use Rattle.iodef_tree.specs.declared.line.Line.{Line}
 use Rattle.iodef_tree.proofs.Outlines.{outline_after-append, back_onto-append}
 use Rattle.iodef_tree.proofs.Sounds.{as_sibling, sibling_skip, sibling_here, sibling_below, counted-back_onto}
 
-both : (a b : Bool) → a ≡ true → b ≡ true → (a && b) ≡ true
-both a b h k = ap (λ x. x && b) h ∙ k
-
-or-left : (a b : Bool) → a ≡ true → (a || b) ≡ true
-or-left a b h = ap (λ x. x || b) h
-
-or-right : (a b : Bool) → b ≡ true → (a || b) ≡ true
-or-right true b h = refl
-or-right false b h = h
-
-le_true : (a b : ℕ) → a ≤ b → nat_le a b ≡ true
-le_true a b h = grind (arith, nat_tests)
-
 -- what may stand behind a sibling follows its line
 follows : (o : Option SiblingPlace) (name : Bytes) (place : Option ℕ) → may_stand o name place ≡ true → may_follow (as_sibling o) (record { name = name; in_array = is_some place }) ≡ true
 follows None name place h = refl
-follows (Some (n, p)) name None h = or-left (bytes_lt n name) _ h
-follows (Some (n, p)) name (Some zero) h = or-left (bytes_lt n name) _ h
 follows (Some (n, None)) name (Some (suc j)) h = absurd (true≢false (sym h))
-follows (Some (n, Some i)) name (Some (suc j)) h = or-right (bytes_lt n name) _ (both (bytes_eq n name) _ ((and_parts (bytes_eq n name) (i == j) h).0) refl)
+follows (Some (n, Some i)) name (Some (suc j)) h = or_right (bytes_lt n name) _ (and_from (bytes_eq n name) _ ((and_parts (bytes_eq n name) (i == j) h).0) refl)
+follows (Some (n, p)) name place h = or_left (bytes_lt n name) _ h
 
 -- ---- how deep the next line may be
 
@@ -60,14 +43,14 @@ comes : (before : List Line) (l : Line) (o : Option SiblingPlace) (place : Optio
 comes before l o place few positive reached is a stands sound =
     let next : may_follow (last_sibling l.depth before) (sibling l) ≡ true =
     ap (λ z. may_follow z (sibling l)) is ∙ ap (λ b. may_follow (as_sibling o) (record { name = l.name; in_array = b })) a ∙ follows o l.name place stands in
-    both (is_short (l ∷ before)) _ (le_true (counted (l ∷ before)) LINE_LIMIT few)
-    (both (nat_lt 0 l.depth) _ (lt-ltb 0 l.depth positive)
-    (both (nat_le l.depth (deepest before)) _ (le_true l.depth (deepest before) reached)
-    (both (may_follow (last_sibling l.depth before) (sibling l)) _ next sound)))
+    and_from (is_short (l ∷ before)) _ (le-leb (counted (l ∷ before)) LINE_LIMIT few)
+    (and_from (nat_lt 0 l.depth) _ (lt-ltb 0 l.depth positive)
+    (and_from (nat_le l.depth (deepest before)) _ (le-leb l.depth (deepest before) reached)
+    (and_from (may_follow (last_sibling l.depth before) (sibling l)) _ next sound)))
 
 plain-within : (c : Content) (d : ℕ) → d ≤ DEPTH_LIMIT + 1 → nat_le d (if is_class_kind (kind_of c) then DEPTH_LIMIT else DEPTH_LIMIT + 1) ≡ true
-plain-within (text s) d h = le_true d (DEPTH_LIMIT + 1) h
-plain-within (value s) d h = le_true d (DEPTH_LIMIT + 1) h
+plain-within (text s) d h = le-leb d (DEPTH_LIMIT + 1) h
+plain-within (value s) d h = le-leb d (DEPTH_LIMIT + 1) h
 
 fewer : (f : Forest) (d : ℕ) (before : List Line) → counted (back_onto (lines d f) before) ≤ LINE_LIMIT → counted before ≤ LINE_LIMIT
 fewer f d before h = let a = counted-back_onto (lines d f) before in omega (arith, a, h)
@@ -79,20 +62,20 @@ come : (f : Forest) (d : ℕ) (before : List Line) (o : Option SiblingPlace) →
 come end d before o positive reached is ordered texts classes high few = refl
 come (leaf i rest) d before o positive reached is ordered texts classes high few =
     let x = leaf_line d i in
-    let sound : is_sound_line x ≡ true = both (is_within_depth x) _ (plain-within i.content d (omega (arith, high))) texts.0 in
-    both (may_come before x) _ (comes before x o i.place (fewer rest d (x ∷ before) few) positive reached is refl ordered.0 sound)
+    let sound : is_sound_line x ≡ true = and_from (is_within_depth x) _ (plain-within i.content d (omega (arith, high))) texts.0 in
+    and_from (may_come before x) _ (comes before x o i.place (fewer rest d (x ∷ before) few) positive reached is refl ordered.0 sound)
     (come rest d (x ∷ before) (Some (i.name, i.place)) positive (deep_line x before d (omega arith)) (sibling_here x before d refl) ordered.1 texts.1 classes (omega (arith, high)) few)
 come (branch n p kids rest) d before o positive reached is ordered texts classes high few =
     let x = class_line d n p in
     let inner = back_onto (lines (suc d) kids) (x ∷ before) in
     let after : counted (back_onto (lines d rest) inner) ≤ LINE_LIMIT = subst (λ ls. counted ls ≤ LINE_LIMIT) (back_onto-append (lines (suc d) kids) (lines d rest) (x ∷ before)) few in
     let few-kids : counted inner ≤ LINE_LIMIT = fewer rest d inner after in
-    let sound : is_sound_line x ≡ true = both (is_within_depth x) _ (le_true d DEPTH_LIMIT (omega (arith, classes))) refl in
+    let sound : is_sound_line x ≡ true = and_from (is_within_depth x) _ (le-leb d DEPTH_LIMIT (omega (arith, classes))) refl in
     let below = come kids (suc d) (x ∷ before) None (omega arith) (omega arith) (sibling_below x before d refl) ordered.1 texts.0 (omega (arith, classes)) (omega (arith, high)) few-kids in
     let behind = come rest d inner (Some (n, p)) positive (deep_past kids (suc d) d (x ∷ before) (omega arith) (deep_line x before d (omega arith)))
     (sibling_skip kids (suc d) d (x ∷ before) (omega arith) ∙ sibling_here x before d refl) ordered.2 texts.1 (omega (arith, classes)) (omega (arith, high)) after in
-    both (may_come before x) _ (comes before x o p (fewer kids (suc d) (x ∷ before) few-kids) positive reached is refl ordered.0 sound)
-    (outline_after-append (lines (suc d) kids) (lines d rest) (x ∷ before) ∙ both (is_outline_after (x ∷ before) (lines (suc d) kids)) _ below behind)
+    and_from (may_come before x) _ (comes before x o p (fewer kids (suc d) (x ∷ before) few-kids) positive reached is refl ordered.0 sound)
+    (outline_after-append (lines (suc d) kids) (lines d rest) (x ∷ before) ∙ and_from (is_outline_after (x ∷ before) (lines (suc d) kids)) _ below behind)
 
 pub lines-outline : (f : Forest) → IsSound f → is_outline (lines 1 f) ≡ true
 lines-outline f h =

@@ -1,7 +1,5 @@
 -- Siblings stand apart, since their names ascend and the elements of an array are numbered.
-use Rattle.std.proofs.Common.{◌≡◌, ℕ, zero, suc, ◌+◌, ◌^◌, ◌<◌, ◌≤◌, List, ◌∷◌, ◌++◌, true, false, not, cond, ◌&&◌, ◌||◌, ◌==◌, decimal, refl, sym, ◌∙◌, ap, subst, arith, ◌⊎◌, inl, inr}
-use Rattle.std.specs.Prelude.{Option, Some, None, is_some, codes}
-use Rattle.std.specs.Str.{bytes_eq}
+use Rattle.std.proofs.Common.{◌≡◌, ℕ, zero, suc, ◌+◌, ◌^◌, ◌<◌, ◌≤◌, List, ◌∷◌, ◌++◌, true, false, not, cond, ◌&&◌, ◌||◌, ◌==◌, decimal, refl, sym, ◌∙◌, ap, subst, arith, ◌⊎◌, inl, inr, Option, Some, None, is_some, codes, bytes_eq}
 use Rattle.std.proofs.lemmas.Bool.{and_parts, and_left, and_right, false≢true, eqb-true}
 use Rattle.std.proofs.lemmas.List.Sums.{sum_by-cons, sum_by-append}
 use Rattle.iodef_tree.specs.Text.{Bytes, Tokens, bytes_lt, is_prefix}
@@ -11,6 +9,7 @@ use Rattle.iodef_tree.specs.Sound.{SiblingPlace, may_stand, may_stand_behind, Is
 use Rattle.iodef_tree.specs.Laws.{AllSiblings, AreApart, HasApart}
 use Rattle.iodef_tree.specs.declared.line.Line.{Line}
 use Rattle.iodef_tree.proofs.Order.{bytes_eq-true, bytes_lt-trans, bytes_lt-ne, bytes_lt-ne_back, decimals_differ}
+use Rattle.iodef_tree.proofs.Siblings.{siblings-map}
 
 -- ---- places are small
 
@@ -102,19 +101,14 @@ later-trans n o n' o' n'' o'' (inl a) (inr b) = inl (subst (λ x. bytes_lt n x �
 later-trans n o n' o' n'' o'' (inr a) (inl b) = inl (subst (λ x. bytes_lt x n'' ≡ true) (sym a.0) b)
 later-trans n o n' o' n'' o'' (inr a) (inr b) = inr (a.0 ∙ b.0, place_later-trans o o' o'' a.1 b.1)
 
-later-weaker : (f : Forest) (n : Bytes) (o : Option ℕ) (n' : Bytes) (o' : Option ℕ) → IsLater n o n' o' → AllSiblings (IsLater n' o') f → AllSiblings (IsLater n o) f
-later-weaker end n o n' o' h all = tt
-later-weaker (leaf i rest) n o n' o' h all = (later-trans n o n' o' i.name i.place h all.0, later-weaker rest n o n' o' h all.1)
-later-weaker (branch m p kids rest) n o n' o' h all = (later-trans n o n' o' m p h all.0, later-weaker rest n o n' o' h all.1)
-
 later-behind : (f : Forest) (n : Bytes) (o : Option ℕ) → IsOrderedBehind (Some (n, o)) f → AllSiblings (IsLater n o) f
 later-behind end n o ordered = tt
 later-behind (leaf i rest) n o ordered =
     let here = later-next n o i.name i.place ordered.0 in
-    (here, later-weaker rest n o i.name i.place here (later-behind rest i.name i.place ordered.1))
+    (here, siblings-map (IsLater i.name i.place) (IsLater n o) rest (λ m p. later-trans n o i.name i.place m p here) (later-behind rest i.name i.place ordered.1))
 later-behind (branch m p kids rest) n o ordered =
     let here = later-next n o m p ordered.0 in
-    (here, later-weaker rest n o m p here (later-behind rest m p ordered.2))
+    (here, siblings-map (IsLater m p) (IsLater n o) rest (λ n' o'. later-trans n o m p n' o' here) (later-behind rest m p ordered.2))
 
 names_apart : (n : Bytes) (o : Option ℕ) (n' : Bytes) (o' : Option ℕ) (z : Tokens) → bytes_eq n n' ≡ false → is_prefix (steps n o) (steps n' o' ++ z) ≡ false
 names_apart n None n' None z h = and_left (bytes_eq n n') _ h

@@ -1,29 +1,24 @@
 -- The look-up by a path finds the class whose lines stand below it.
-use Rattle.std.proofs.Common.{◌≡◌, ℕ, zero, suc, ◌+◌, ◌^◌, ◌<◌, ◌≤◌, List, [], ◌∷◌, ◌++◌, Bool, true, false, cond, ◌&&◌, ◌||◌, length, decimal, refl, sym, ◌∙◌, ap, subst, arith, append-nil, append_assoc, true≢false}
-use Rattle.std.specs.Prelude.{Option, Some, None, is_some, option_map}
+use Rattle.std.proofs.Common.{◌≡◌, ℕ, zero, suc, ◌+◌, ◌^◌, ◌<◌, ◌≤◌, List, [], ◌∷◌, ◌++◌, Bool, true, false, cond, ◌&&◌, ◌||◌, length, decimal, refl, sym, ◌∙◌, ap, arith, append-nil, append_assoc, true≢false, Option, Some, None, is_some, option_map, bytes_eq}
 use Rattle.std.specs.Option.{option_map_or}
 use Rattle.std.specs.List.{AllByRecursion, slice_get}
-use Rattle.std.specs.Str.{bytes_eq}
 use Rattle.std.proofs.lemmas.Bool.{and_left, and_right, cond-true, cond-false}
 use Rattle.std.proofs.lemmas.List.Folds.{list_any-append}
 use Rattle.iodef_tree.specs.Text.{Bytes, Tokens, same_path, is_root, is_prefix}
-use Rattle.iodef_tree.specs.Tree.{Content, text, value, Forest, end, leaf, branch, Body, holds, says, Bodies, one, many, in_front, elements, member_front, steps, kind_of, lines}
+use Rattle.iodef_tree.specs.Tree.{Content, text, value, Forest, end, leaf, branch, Body, holds, says, Bodies, one, many, in_front, elements, member_front, steps, kind_of}
 use Rattle.iodef_tree.specs.Paths.{LocatedLine, is_class_kind, is_class, placed, located_after, located, has_class}
-use Rattle.iodef_tree.specs.Sound.{IsSound}
-use Rattle.iodef_tree.specs.Walk.{walk, IsBlock, AreBlocks}
+use Rattle.iodef_tree.specs.Walk.{walk}
 use Rattle.iodef_tree.specs.Laws.{AllSiblings, AreApart, HasApart}
-use Rattle.iodef_tree.specs.Lookup.{past, class_at, object_at, object_in, element_at, part_at}
+use Rattle.iodef_tree.specs.Lookup.{past, class_at, object_in, element_at, part_at}
 use Rattle.iodef_tree.specs.declared.line.Line.{Line}
-use Rattle.iodef_tree.proofs.Apart.{sound-apart}
-use Rattle.iodef_tree.proofs.Blocks.{blocks-located, root-block}
 use Rattle.iodef_tree.proofs.Distinct.{apart-differ}
-use Rattle.iodef_tree.proofs.Located.{located-lines}
 use Rattle.iodef_tree.proofs.Order.{is_false, bytes_eq-refl, bytes_eq-true, decimals_differ, same_path-refl, same_path-true, same_path-common, same_path-is_prefix, same_path-longer, is_prefix-append}
 use Rattle.iodef_tree.proofs.Siblings.{siblings-all, siblings-map, walk-all}
+use Rattle.std.proofs.Math.Bool.{or-false}
 
 -- ---- what is left of a path
 
-past-some : (q p r : Tokens) → past q p ≡ Some r → p ≡ q ++ r
+pub past-some : (q p r : Tokens) → past q p ≡ Some r → p ≡ q ++ r
 past-some [] p r e = cc
 past-some (x ∷ q) [] r e = cc
 past-some (x ∷ q) (y ∷ p) r e = step (bytes_eq x y) refl e (past-some q p r)
@@ -40,29 +35,6 @@ past-none (x ∷ q) (y ∷ p) e = step (bytes_eq x y) e (past-none q p)
     step : (b : Bool) → cond b (past q p) None ≡ None → (past q p ≡ None → is_prefix q p ≡ false) → (b && is_prefix q p) ≡ false
     step true h later = later h
     step false h later = refl
-
--- ---- the block of what is found
-
-pub block-at : (f : Forest) (es : List LocatedLine) (d : ℕ) (q p : Tokens) (g : Forest) → AreBlocks es d q f → class_at f p ≡ Some g → IsBlock (q ++ p) es g
-block-at end es d q p g blocks e = cc
-block-at (leaf i rest) es d q p g blocks e = step (past (steps i.name i.place) p) e (block-at rest es d q p g blocks)
-  where
-    step : (o : Option Tokens) → option_map_or (λ r. None) o (class_at rest p) ≡ Some g → (class_at rest p ≡ Some g → IsBlock (q ++ p) es g) → IsBlock (q ++ p) es g
-    step None h later = later h
-    step (Some r) h later = cc
-block-at (branch n o kids rest) es d q p g blocks e =
-    step (past (steps n o) p) refl e (λ r h. block-at kids es (suc d) (q ++ steps n o) r g blocks.1 h) (block-at rest es d q p g blocks.2)
-  where
-    step : (o' : Option Tokens) → past (steps n o) p ≡ o' → option_map_or (λ r. cond (is_root r) (Some kids) (class_at kids r)) o' (class_at rest p) ≡ Some g →
-        ((r : Tokens) → class_at kids r ≡ Some g → IsBlock ((q ++ steps n o) ++ r) es g) → (class_at rest p ≡ Some g → IsBlock (q ++ p) es g) → IsBlock (q ++ p) es g
-    step None is h inner later = later h
-    step (Some []) is h inner later =
-        let same : kids ≡ g = cc in
-        let at : q ++ steps n o ≡ q ++ p = ap (λ z. q ++ z) (sym (past-some (steps n o) p [] is ∙ append-nil (steps n o))) in
-        subst (λ r. IsBlock r es g) at (subst (λ k. IsBlock (q ++ steps n o) es k) same (suc d, blocks.0))
-    step (Some (x ∷ r)) is h inner later =
-        let at : (q ++ steps n o) ++ (x ∷ r) ≡ q ++ p = append_assoc q (steps n o) (x ∷ r) ∙ ap (λ z. q ++ z) (sym (past-some (steps n o) p (x ∷ r) is)) in
-        subst (λ z. IsBlock z es g) at (inner (x ∷ r) h)
 
 -- ---- whether there is a class
 
@@ -123,31 +95,13 @@ has_class-walk (branch n o kids rest) d q p apart =
         ap (λ b. b || (has_class (walk (suc d) (q ++ steps n o) kids) (q ++ p) || has_class (walk d q rest) (q ++ p))) (same_path-common q (steps n o) p ∙ ap (same_path (steps n o)) (sym at) ∙ same_path-refl (steps n o))
     step (Some (x ∷ r)) is inner later =
         let at : p ≡ steps n o ++ (x ∷ r) = past-some (steps n o) p (x ∷ r) is in
-        ap (λ b. b || (has_class (walk (suc d) (q ++ steps n o) kids) (q ++ p) || has_class (walk d q rest) (q ++ p))) (same_path-common q (steps n o) p ∙ ap (same_path (steps n o)) at ∙ longer (steps n o) x r)
+        ap (λ b. b || (has_class (walk (suc d) (q ++ steps n o) kids) (q ++ p) || has_class (walk d q rest) (q ++ p))) (same_path-common q (steps n o) p ∙ ap (same_path (steps n o)) at ∙ same_path-longer (steps n o) x None r)
         ∙ ap (λ z. has_class (walk (suc d) (q ++ steps n o) kids) z || has_class (walk d q rest) (q ++ p)) (ap (λ z. q ++ z) at ∙ sym (append_assoc q (steps n o) (x ∷ r)))
         ∙ ap (λ b. b || has_class (walk d q rest) (q ++ p)) (inner (x ∷ r))
         ∙ ap (λ b. is_some (class_at kids (x ∷ r)) || b) (ap (λ z. has_class (walk d q rest) (q ++ z)) at ∙ none-behind rest d q n o (x ∷ r) apart.0)
-        ∙ or_none (is_some (class_at kids (x ∷ r)))
-      where
-        longer : (s : Tokens) (y : Bytes) (z : Tokens) → same_path s (s ++ y ∷ z) ≡ false
-        longer s y z = same_path-longer s y None z
-
-        or_none : (b : Bool) → (b || false) ≡ b
-        or_none true = refl
-        or_none false = refl
+        ∙ or-false (is_some (class_at kids (x ∷ r)))
 
 -- ---- whole documents
-
-pub has_class-located : (f : Forest) (p : Tokens) → IsSound f → has_class (located (lines 1 f)) p ≡ is_some (class_at f p)
-has_class-located f p sound = ap (λ es. has_class es p) (located-lines f sound) ∙ has_class-walk f 1 [] p (sound-apart f sound)
-
-pub found : (f : Forest) (p : Tokens) → IsSound f → is_some (object_at f p) ≡ (is_root p || has_class (located (lines 1 f)) p)
-found f [] sound = refl
-found f (x ∷ p) sound = sym (has_class-located f (x ∷ p) sound)
-
-pub block : (f : Forest) (p : Tokens) (g : Forest) → IsSound f → object_at f p ≡ Some g → IsBlock p (located (lines 1 f)) g
-block f [] g sound e = let same : f ≡ g = cc in subst (λ k. IsBlock [] (located (lines 1 f)) k) same (root-block f sound)
-block f (x ∷ p) g sound e = block-at f (located (lines 1 f)) 1 [] (x ∷ p) g (blocks-located f sound) e
 
 -- the root is no class
 root-none : (before : List LocatedLine) (ls : List Line) → has_class (located_after before ls) [] ≡ false
@@ -159,8 +113,7 @@ root-none before (l ∷ ls) =
   where
     not_root : (p : Tokens) (n : Bytes) (o : Option ℕ) → same_path (p ++ steps n o) [] ≡ false
     not_root [] n None = refl
-    not_root [] n (Some k) = refl
-    not_root (x ∷ p) n o = refl
+    not_root _ n o = refl
 
 pub has_class-root : (ls : List Line) → has_class (located ls) [] ≡ false
 has_class-root ls = root-none [] ls

@@ -1,7 +1,7 @@
 -- The bytes that UTF-8 writes a character with.
 use Rattle.std.proofs.Common.{◌≡◌, ◌≤◌, ◌⊎◌, inl, inr, ℕ, ◌+◌, ◌/◌, List, [], ◌∷◌, Bool, true, false, cond, refl, arith, ltb}
-use lib.Utf8.{next}
 use Rattle.std.specs.Char.{encode_utf8}
+use lib.Utf8.{next}
 use Rattle.std.proofs.lemmas.Bool.{ltb-false}
 
 -- none of them is ASCII

@@ -1,11 +1,9 @@
 -- How many lines the parts of a tree have.
-use Rattle.std.proofs.Common.{◌≡◌, ℕ, suc, ◌+◌, List, [], ◌∷◌, length, sum_by, refl, ap, arith}
-use Rattle.std.proofs.Common.{Option, Some, None}
+use Rattle.std.proofs.Common.{◌≡◌, ℕ, suc, ◌+◌, List, [], ◌∷◌, length, sum_by, refl, ap, arith, Option, Some, None, length-append}
 use Rattle.std.proofs.lemmas.List.Sums.{sum_by-cons}
 use Rattle.iodef_tree.specs.Text.{Bytes}
 use Rattle.iodef_tree.specs.Tree.{Forest, end, leaf, branch, Body, holds, says, Bodies, one, many, in_front, elements, member_front, lines}
-use Rattle.iodef_tree.specs.Fit.{line_count, body_count, bodies_count}
-use Rattle.std.proofs.Common.{length-append}
+use Rattle.iodef_tree.specs.FitValues.{line_count, body_count, bodies_count}
 
 line_count-in_front : (name : Bytes) (place : Option ℕ) (b : Body) (rest : Forest) → line_count (in_front name place b rest) ≡ body_count b + line_count rest
 line_count-in_front name place (holds kids) rest = omega arith

@@ -1,11 +1,9 @@
 -- A tree as data, member by member.
-use Rattle.std.proofs.Common.{◌≡◌, ℕ, zero, suc, ◌+◌, ◌<◌, true, List, [], ◌∷◌, map, length, drop, drop-cons, get_or, refl, sym, ◌∙◌, ap, subst, arith, true≢false, Greater, String, Global, string_bytes, string_cmp}
-use Rattle.std.specs.Prelude.{Option, Some, None, ◌==◌}
+use Rattle.std.proofs.Common.{◌≡◌, ℕ, suc, ◌+◌, ◌<◌, true, List, [], ◌∷◌, map, length, drop, drop-cons, get_or, refl, sym, ◌∙◌, ap, subst, arith, true≢false, Greater, String, Global, string_bytes, string_cmp, Option, Some, None, ◌==◌, bytes_eq}
 use Rattle.std.specs.List.{AllByRecursion}
 use Rattle.std.specs.Ordering.{nat_cmp, match_ordering, ordering_reverse}
 use Rattle.std.specs.Cmp.Lexicographic.{slice_cmp}
 use Rattle.std.specs.BTreeMap.{insert_entry}
-use Rattle.std.specs.Str.{bytes_eq}
 use Rattle.std.proofs.lemmas.Bool.{and_parts}
 use Rattle.std.proofs.lemmas.Cmp.{nat_list_cmp_total}
 use Rattle.serde_json.specs.Data as json
@@ -13,7 +11,7 @@ use Rattle.serde_json.specs.Data.{Data, put}
 use Rattle.serde_json.specs.View.{view, members_view, items_of as listed}
 use Rattle.serde_json.specs.declared.value.Value.{Value}
 use Rattle.serde_json.proofs.Views.{members_view-insert_entry}
-use Rattle.iodef_tree.specs.Fit.{IsBodyOrdered, AreBodiesOrdered}
+use Rattle.iodef_tree.specs.FitValues.{IsBodyOrdered, AreBodiesOrdered}
 use Rattle.iodef_tree.specs.Sound.{SiblingPlace, may_stand, IsOrderedBehind, IsOrdered}
 use Rattle.iodef_tree.specs.Text.{Bytes, bytes_lt}
 use Rattle.iodef_tree.specs.Tree.{Forest, end, leaf, branch, Body, holds, says, Bodies, one, many, in_front, elements, member_front}
@@ -24,7 +22,7 @@ use Rattle.iodef_tree.specs.declared.object.Member.{Member}
 use Rattle.iodef_tree.specs.declared.object.Object.{Object}
 use Rattle.iodef_tree.proofs.Filled.{has_elements}
 use Rattle.iodef_tree.proofs.Order.{bytes_eq-true, bytes_lt-less, bytes_lt-trans}
-use Rattle.iodef_tree.proofs.Given.{LocatedLine}
+use Rattle.iodef_tree.proofs.FromValues.{MapEntry}
 use Rattle.iodef_tree.proofs.Members.{members-next}
 use Rattle.iodef_tree.proofs.Views.{forest-members}
 
@@ -113,10 +111,9 @@ after-trans n m (json.member l d ms) h k = (bytes_lt-trans n m l h k.0, after-tr
 
 placed-after : (n : Bytes) (q : Option ℕ) (name : Bytes) (p : Option ℕ) (d : Data) (ds : json.Items) (ms : json.Members) → may_stand (Some (n, q)) name p ≡ true → AreAfter name ms →
     AreAfter n (placed_member name p d ds ms)
-placed-after n q name None d ds ms h k = (h, after-trans n name ms h k)
-placed-after n q name (Some zero) d ds ms h k = (h, after-trans n name ms h k)
 placed-after n None name (Some (suc i)) d ds ms h k = absurd (true≢false (sym h))
 placed-after n (Some j) name (Some (suc i)) d ds ms h k = subst (λ x. AreAfter x ms) (sym (bytes_eq-true n name ((and_parts (bytes_eq n name) (j == i) h).0))) k
+placed-after n q name _ d ds ms h k = (h, after-trans n name ms h k)
 
 after : (f : Forest) (n : Bytes) (q : Option ℕ) → IsOrderedBehind (Some (n, q)) f → AreAfter n (members_of f)
 after end n q h = tt
@@ -124,9 +121,8 @@ after (leaf i rest) n q h = placed-after n q i.name i.place (content_data i.cont
 after (branch name p kids rest) n q h = placed-after n q name p (json.object (members_of kids)) (items_of rest) (members_of rest) h.0 (after rest name p h.2)
 
 placed-ascend : (name : Bytes) (p : Option ℕ) (d : Data) (ds : json.Items) (ms : json.Members) → AreAfter name ms → Ascend ms → Ascend (placed_member name p d ds ms)
-placed-ascend name None d ds ms h k = (h, k)
-placed-ascend name (Some zero) d ds ms h k = (h, k)
 placed-ascend name (Some (suc i)) d ds ms h k = k
+placed-ascend name _ d ds ms h k = (h, k)
 
 ascend : (f : Forest) (o : Option SiblingPlace) → IsOrderedBehind o f → Ascend (members_of f)
 ascend end o h = tt
@@ -181,7 +177,7 @@ put-ordered f h = put-ascending (members_of f) (ascend f None h)
 one-more : (i : ℕ) → suc i ≡ i + 1
 one-more i = omega arith
 
-pub put-member : (old new : List LocatedLine) (name : String Global) (v : Value) (R : json.Members) (xs : List (Text × Member)) (i : ℕ) (m : Text × Member) → i < length xs → m ≡ get_or xs i m →
+pub put-member : (old new : List MapEntry) (name : String Global) (v : Value) (R : json.Members) (xs : List (Text × Member)) (i : ℕ) (m : Text × Member) → i < length xs → m ≡ get_or xs i m →
     has_elements (bodies m.1) ≡ true → string_bytes name ≡ m.0 → view v ≡ bodies_data (bodies m.1) → new ≡ insert_entry string_cmp old name v →
     put_all (members_of (members_forest (drop i xs))) (members_view old) ≡ R → put_all (members_of (members_forest (drop (i + 1) xs))) (members_view new) ≡ R
 put-member old new name v R xs i m h e filled is means put_in left =
@@ -199,7 +195,7 @@ all-left P xs i m h e all =
 
 -- ---- at the start
 
-pub put-started : (o : Object) (xs : List (Text × Member)) (es : List LocatedLine) → IsOrdered (forest o) → xs ≡ o.members.items → es ≡ [] → put_all (members_of (members_forest xs)) (members_view es) ≡ members_of (forest o)
+pub put-started : (o : Object) (xs : List (Text × Member)) (es : List MapEntry) → IsOrdered (forest o) → xs ≡ o.members.items → es ≡ [] → put_all (members_of (members_forest xs)) (members_view es) ≡ members_of (forest o)
 put-started o xs es h is none =
     ap (λ found. put_all (members_of (members_forest xs)) (members_view found)) none
     ∙ ap (λ f. put_all (members_of f) json.no_members) (ap members_forest is ∙ sym (forest-members o))

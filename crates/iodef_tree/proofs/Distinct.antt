@@ -1,6 +1,5 @@
 -- No two lines of a sound document have one path.
-use Rattle.std.proofs.Common.{◌≡◌, ℕ, suc, List, [], ◌∷◌, ◌++◌, Bool, true, false, cond, map, filter, sym, ◌∙◌, ap, subst, append-nil, append_assoc, true≢false}
-use Rattle.std.specs.Prelude.{Option}
+use Rattle.std.proofs.Common.{◌≡◌, ℕ, suc, List, [], ◌∷◌, ◌++◌, Bool, true, false, cond, map, filter, sym, ◌∙◌, ap, subst, append-nil, append_assoc, true≢false, Option}
 use Rattle.std.specs.List.{AllByRecursion, IsDistinct}
 use Rattle.std.proofs.lemmas.List.{map-append}
 use Rattle.iodef_tree.specs.Text.{Bytes, Tokens, same_path, is_prefix}

@@ -1,6 +1,5 @@
 -- A root whose member `Incident` is exchanged.
-use Rattle.std.proofs.Common.{◌≡◌, ℕ, List, [], ◌∷◌, Option, Some, None, option_map, option_and_then, Vec, String, BTreeMap, Global, Ordering, Less, Equal, Greater, string_bytes, string_cmp, nat_cmp, refl, sym, ap, ◌∙◌, rules}
-use Rattle.std.specs.Prelude.{codes}
+use Rattle.std.proofs.Common.{◌≡◌, ℕ, List, [], ◌∷◌, Option, Some, None, option_map, option_and_then, Vec, String, BTreeMap, Global, Ordering, Less, Equal, Greater, string_bytes, string_cmp, nat_cmp, refl, sym, ap, ◌∙◌, rules, codes}
 use Rattle.std.specs.List.{AllZip}
 use Rattle.std.specs.Map.{lookup}
 use Rattle.std.specs.Ordering.{match_ordering}
@@ -9,13 +8,13 @@ use Rattle.std.specs.Cmp.Lexicographic.{slice_cmp}
 use Rattle.std.proofs.lemmas.Cmp.{nat_list_cmp_total, tied_itself}
 use Rattle.serde_json.specs.Data as json
 use Rattle.serde_json.specs.Data.{Data, put}
-use Rattle.serde_json.specs.Find.{as_array, as_object, get, get_member}
+use Rattle.serde_json.specs.Find.{as_array, get_member}
 use Rattle.serde_json.specs.View.{view, members_view}
 use Rattle.serde_json.specs.declared.value.Value.{Value, Null, Array, Object, the_lemmas}
 use Rattle.serde_json.proofs.Views.{view-Array, view-Object, view-lookup, members_view-insert_entry}
-use Rattle.iodef_tree.specs.Fit.{taken}
+use Rattle.iodef_tree.specs.FitValues.{taken}
 use Rattle.iodef_tree.specs.Reading.{with_incident}
-use Rattle.iodef_tree.proofs.Given.{LocatedLine}
+use Rattle.iodef_tree.proofs.FromValues.{MapEntry}
 
 same_text : (xs : List ℕ) → slice_cmp nat_cmp xs xs ≡ Equal
 same_text xs = tied_itself nat_list_cmp_total xs
@@ -52,22 +51,13 @@ taken_some body m n name old ds is named found some after =
     taken_at body m name old is named found ∙ rw (some, left)
 
 -- the members with an array of one Incident
-pub put_in : (es new : List LocatedLine) (name : String Global) (v : Vec Value Global) (incident : Value) → new ≡ insert_entry string_cmp es name (Array v) → string_bytes name ≡ codes "Incident" → v.items ≡ incident ∷ []
+pub put_in : (es new : List MapEntry) (name : String Global) (v : Vec Value Global) (incident : Value) → new ≡ insert_entry string_cmp es name (Array v) → string_bytes name ≡ codes "Incident" → v.items ≡ incident ∷ []
     → members_view new ≡ with_incident (view incident) (members_view es)
 put_in es new name v incident after named one = rw (after, members_view-insert_entry es name (Array v), named, view-Array v, one)
 
 -- a copy has the same members
-pub cloned : (es fs : List LocatedLine) → AllZip (λ p q. (string_bytes q.0 ≡ string_bytes p.0) × (view q.1 ≡ view p.1)) es fs → members_view fs ≡ members_view es
+pub cloned : (es fs : List MapEntry) → AllZip (λ p q. (string_bytes q.0 ≡ string_bytes p.0) × (view q.1 ≡ view p.1)) es fs → members_view fs ≡ members_view es
 cloned [] [] h = refl
 cloned [] (f ∷ fs) h = absurd h
 cloned (e ∷ es) [] h = absurd h
 cloned (e ∷ es) (f ∷ fs) h = rw (h.0.0, h.0.1, cloned es fs h.1)
-
--- a value's member is found at its object's members
-pub get-as_object : (name : List ℕ) (d : Data) → get name d ≡ option_and_then (get_member name) (as_object d)
-get-as_object name json.null = refl
-get-as_object name (json.boolean b) = refl
-get-as_object name (json.number n) = refl
-get-as_object name (json.string s) = refl
-get-as_object name (json.array ds) = refl
-get-as_object name (json.object ms) = refl

@@ -1,53 +1,69 @@
--- The lines of a member, and those of what stands behind it.
-use Rattle.std.proofs.Common.{◌≡◌, ℕ, suc, ◌+◌, ◌<◌, max, List, [], ◌∷◌, ◌++◌, length, get_or, drop, refl, sym, ◌∙◌, ap, append-nil, append_assoc, arith}
-use Rattle.std.specs.Prelude.{Option, Some, None}
+-- A member in front of others: what is made of it, joined with what is made of those.
+use Rattle.std.proofs.Common.{◌≡◌, ℕ, suc, ◌+◌, ◌<◌, max, List, [], ◌∷◌, ◌++◌, length, get_or, drop, refl, sym, ◌∙◌, ap, append_assoc, arith, Option, Some, None}
 use Rattle.iodef_tree.specs.Text.{Bytes}
-use Rattle.iodef_tree.specs.Tree.{Forest, end, Body, holds, says, Bodies, one, many, in_front, elements, member_front, class_line, lines, height}
+use Rattle.iodef_tree.specs.Tree.{Forest, end, leaf, branch, Body, holds, says, Bodies, one, many, in_front, elements, member_front, leaf_line, class_line, lines, height}
 use Rattle.iodef_tree.specs.View.{bodies, members_forest}
-use Rattle.iodef_tree.specs.declared.line.Line.{Line}
 use Rattle.iodef_tree.specs.declared.text.Text.{Text}
 use Rattle.iodef_tree.specs.declared.object.Member.{Member}
 use Rattle.iodef_tree.proofs.Members.{members-next}
 
-lines-in_front : (n : Bytes) (o : Option ℕ) (b : Body) (rest : Forest) (d : ℕ) → lines d (in_front n o b rest) ≡ lines d (in_front n o b end) ++ lines d rest
-lines-in_front n o (holds kids) rest d = ap (λ ls. class_line d n o ∷ (ls ++ lines d rest)) (sym (append-nil (lines (suc d) kids)))
-lines-in_front n o (says c) rest d = refl
+-- ---- one forest behind another
 
-lines-elements : (bs : List Body) (n : Bytes) (k : ℕ) (rest : Forest) (d : ℕ) → lines d (elements n k bs rest) ≡ lines d (elements n k bs end) ++ lines d rest
-lines-elements [] n k rest d = refl
-lines-elements (b ∷ bs) n k rest d =
-    lines-in_front n (Some k) b (elements n (suc k) bs rest) d
-    ∙ ap (λ ls. lines d (in_front n (Some k) b end) ++ ls) (lines-elements bs n (suc k) rest d)
-    ∙ sym (append_assoc (lines d (in_front n (Some k) b end)) (lines d (elements n (suc k) bs end)) (lines d rest))
-    ∙ ap (λ ls. ls ++ lines d rest) (sym (lines-in_front n (Some k) b (elements n (suc k) bs end) d))
+abbrev pub append : Forest → Forest → Forest
+append end g = g
+append (leaf i rest) g = leaf i (append rest g)
+append (branch n p kids rest) g = branch n p kids (append rest g)
 
-pub lines-member : (n : Bytes) (m : Bodies) (rest : Forest) (d : ℕ) → lines d (member_front n m rest) ≡ lines d (member_front n m end) ++ lines d rest
-lines-member n (one b) rest d = lines-in_front n None b rest d
-lines-member n (many bs) rest d = lines-elements bs n 0 rest d
+pub append-assoc : (f g h : Forest) → append (append f g) h ≡ append f (append g h)
+append-assoc end g h = refl
+append-assoc (leaf i rest) g h = ap (leaf i) (append-assoc rest g h)
+append-assoc (branch n p kids rest) g h = ap (branch n p kids) (append-assoc rest g h)
 
-height-in_front : (n : Bytes) (o : Option ℕ) (b : Body) (rest : Forest) → height (in_front n o b rest) ≡ max (height (in_front n o b end)) (height rest)
-height-in_front n o (holds kids) rest = omega arith
-height-in_front n o (says c) rest = omega arith
+pub lines-append : (d : ℕ) (f g : Forest) → lines d (append f g) ≡ lines d f ++ lines d g
+lines-append d end g = refl
+lines-append d (leaf i rest) g = ap (λ ls. leaf_line d i ∷ ls) (lines-append d rest g)
+lines-append d (branch n p kids rest) g =
+    ap (λ ls. class_line d n p ∷ (lines (suc d) kids ++ ls)) (lines-append d rest g)
+    ∙ ap (λ ls. class_line d n p ∷ ls) (sym (append_assoc (lines (suc d) kids) (lines d rest) (lines d g)))
 
-height-elements : (bs : List Body) (n : Bytes) (k : ℕ) (rest : Forest) → height (elements n k bs rest) ≡ max (height (elements n k bs end)) (height rest)
-height-elements [] n k rest = omega arith
-height-elements (b ∷ bs) n k rest =
-    omega (arith, height-in_front n (Some k) b (elements n (suc k) bs rest), height-in_front n (Some k) b (elements n (suc k) bs end), height-elements bs n (suc k) rest)
+height-append : (f g : Forest) → height (append f g) ≡ max (height f) (height g)
+height-append end g = omega arith
+height-append (leaf i rest) g = let later = height-append rest g in omega (arith, later)
+height-append (branch n p kids rest) g = let later = height-append rest g in omega (arith, later)
 
-pub height-member : (n : Bytes) (m : Bodies) (rest : Forest) → height (member_front n m rest) ≡ max (height (member_front n m end)) (height rest)
-height-member n (one b) rest = height-in_front n None b rest
-height-member n (many bs) rest = height-elements bs n 0 rest
+-- ---- a member in front is appended to
 
--- a loop's step: the lines of one more member are in front
-pub lines_next : (ms : List (Text × Member)) (i : ℕ) (m : Text × Member) (d : ℕ) (made before : List Line) → i < length ms → m ≡ get_or ms i m →
-    made ≡ before ++ lines d (member_front m.0 (bodies m.1) end) →
-    made ++ lines d (members_forest (drop (i + 1) ms)) ≡ before ++ lines d (members_forest (drop i ms))
-lines_next ms i m d made before h is pushed =
-    let rest = lines d (members_forest (drop (i + 1) ms)) in
-    ap (λ ls. ls ++ rest) pushed
-    ∙ append_assoc before (lines d (member_front m.0 (bodies m.1) end)) rest
-    ∙ ap (λ ls. before ++ ls) (sym (ap (lines d) (members-next ms i m h is) ∙ lines-member m.0 (bodies m.1) (members_forest (drop (i + 1) ms)) d))
+pub front-append : (n : Bytes) (p : Option ℕ) (b : Body) (f : Forest) → in_front n p b f ≡ append (in_front n p b end) f
+front-append n p (holds kids) f = refl
+front-append n p (says c) f = refl
 
-pub height_next : (ms : List (Text × Member)) (i : ℕ) (m : Text × Member) → i < length ms → m ≡ get_or ms i m →
+elements-append : (n : Bytes) (k : ℕ) (bs : List Body) (f : Forest) → elements n k bs f ≡ append (elements n k bs end) f
+elements-append n k [] f = refl
+elements-append n k (b ∷ bs) f =
+    ap (in_front n (Some k) b) (elements-append n (suc k) bs f)
+    ∙ front-append n (Some k) b (append (elements n (suc k) bs end) f)
+    ∙ sym (append-assoc (in_front n (Some k) b end) (elements n (suc k) bs end) f)
+    ∙ ap (λ g. append g f) (sym (front-append n (Some k) b (elements n (suc k) bs end)))
+
+pub member-append : (n : Bytes) (m : Bodies) (f : Forest) → member_front n m f ≡ append (member_front n m end) f
+member-append n (one b) f = front-append n None b f
+member-append n (many bs) f = elements-append n 0 bs f
+
+-- ---- a loop's step: one more member is in front
+
+front-next : (ms : List (Text × Member)) (i : ℕ) (m : Text × Member) → i < length ms → m ≡ get_or ms i m →
+    members_forest (drop i ms) ≡ append (member_front m.0 (bodies m.1) end) (members_forest (drop (i + 1) ms))
+front-next ms i m h is = members-next ms i m h is ∙ member-append m.0 (bodies m.1) (members_forest (drop (i + 1) ms))
+
+-- what is made of a forest as a list, joined where forests are
+pub list-next : {A : Type 0} (F : Forest → List A) → ((f g : Forest) → F (append f g) ≡ F f ++ F g) → (ms : List (Text × Member)) (i : ℕ) (m : Text × Member) (made before : List A) → i < length ms → m ≡ get_or ms i m →
+    made ≡ before ++ F (member_front m.0 (bodies m.1) end) → made ++ F (members_forest (drop (i + 1) ms)) ≡ before ++ F (members_forest (drop i ms))
+list-next F joins ms i m made before h is pushed =
+    let rest = members_forest (drop (i + 1) ms) in
+    ap (λ xs. xs ++ F rest) pushed
+    ∙ append_assoc before (F (member_front m.0 (bodies m.1) end)) (F rest)
+    ∙ ap (λ xs. before ++ xs) (sym (ap F (front-next ms i m h is) ∙ joins (member_front m.0 (bodies m.1) end) rest))
+
+pub height-next : (ms : List (Text × Member)) (i : ℕ) (m : Text × Member) → i < length ms → m ≡ get_or ms i m →
     height (members_forest (drop i ms)) ≡ max (height (member_front m.0 (bodies m.1) end)) (height (members_forest (drop (i + 1) ms)))
-height_next ms i m h is = ap height (members-next ms i m h is) ∙ height-member m.0 (bodies m.1) (members_forest (drop (i + 1) ms))
+height-next ms i m h is = ap height (front-next ms i m h is) ∙ height-append (member_front m.0 (bodies m.1) end) (members_forest (drop (i + 1) ms))

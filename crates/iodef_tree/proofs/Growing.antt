@@ -1,12 +1,10 @@
 -- Members put behind others.
-use Rattle.std.proofs.Common.{◌≡◌, ℕ, suc, ◌+◌, ◌-◌, Bool, true, false, not, ◌==◌, ◌&&◌, List, [], ◌∷◌, ◌++◌, map, length, refl, sym, ◌∙◌, ap, subst, append_assoc, arith, Vec, Global, true≢false}
-use Rattle.std.specs.Prelude.{Option, Some, None}
+use Rattle.std.proofs.Common.{◌≡◌, ℕ, suc, ◌+◌, ◌-◌, Bool, true, false, not, ◌==◌, ◌&&◌, List, [], ◌∷◌, ◌++◌, map, length, refl, sym, ◌∙◌, ap, subst, arith, Vec, Global, true≢false, Option, Some, None, bytes_eq}
 use Rattle.std.specs.List.{AllByRecursion}
-use Rattle.std.specs.Str.{bytes_eq}
 use Rattle.std.proofs.lemmas.List.{map-append}
 use Rattle.std.proofs.lemmas.Bool.{eq-eqb}
 use Rattle.iodef_tree.specs.Text.{Bytes}
-use Rattle.iodef_tree.specs.Tree.{Forest, end, leaf, branch, Body, holds, says, Bodies, one, many, in_front, elements, member_front, place_of, class_line, leaf_line, lines}
+use Rattle.iodef_tree.specs.Tree.{Forest, end, leaf, branch, Body, holds, says, Bodies, many, in_front, elements, member_front, place_of, lines}
 use Rattle.iodef_tree.specs.Sound.{SiblingPlace}
 use Rattle.iodef_tree.specs.View.{forest_of_members, body, bodies, named, members_forest}
 use Rattle.iodef_tree.specs.Built.{is_numbered, IsNumberedBehind, IsNumbered, IsBodyNumbered, last_place, IsGrown, Grows}
@@ -18,25 +16,10 @@ use Rattle.iodef_tree.specs.declared.object.Member.TheVariants.{One, Many}
 use Rattle.iodef_tree.proofs.Filled.{filled-One, many-filled, many-kept}
 use Rattle.iodef_tree.proofs.Siblings.{all-append, all-split}
 use Rattle.iodef_tree.proofs.Views.{bodies-One, bodies-Many}
+use Rattle.iodef_tree.proofs.Order.{bytes_eq-refl}
+use Rattle.iodef_tree.proofs.Fronts.{append, append-assoc, lines-append, front-append, member-append}
 
--- ---- one forest behind another
-
-abbrev pub append : Forest → Forest → Forest
-append end g = g
-append (leaf i rest) g = leaf i (append rest g)
-append (branch n p kids rest) g = branch n p kids (append rest g)
-
-append-assoc : (f g h : Forest) → append (append f g) h ≡ append f (append g h)
-append-assoc end g h = refl
-append-assoc (leaf i rest) g h = ap (leaf i) (append-assoc rest g h)
-append-assoc (branch n p kids rest) g h = ap (branch n p kids) (append-assoc rest g h)
-
-pub lines-append : (d : ℕ) (f g : Forest) → lines d (append f g) ≡ lines d f ++ lines d g
-lines-append d end g = refl
-lines-append d (leaf i rest) g = ap (λ ls. leaf_line d i ∷ ls) (lines-append d rest g)
-lines-append d (branch n p kids rest) g =
-    ap (λ ls. class_line d n p ∷ (lines (suc d) kids ++ ls)) (lines-append d rest g)
-    ∙ ap (λ ls. class_line d n p ∷ ls) (sym (append_assoc (lines (suc d) kids) (lines d rest) (lines d g)))
+-- ---- the last of members
 
 last-append : (o : Option SiblingPlace) (f g : Forest) → last_place o (append f g) ≡ last_place (last_place o f) g
 last-append o end g = refl
@@ -49,22 +32,6 @@ numbered-append o (leaf i rest) g h k = (h.0, numbered-append (Some (i.name, i.p
 numbered-append o (branch n p kids rest) g h k = (h.0, h.1, numbered-append (Some (n, p)) rest g h.2 k)
 
 -- ---- members, one after another
-
-front-append : (n : Bytes) (p : Option ℕ) (b : Body) (f : Forest) → in_front n p b f ≡ append (in_front n p b end) f
-front-append n p (holds kids) f = refl
-front-append n p (says c) f = refl
-
-elements-append : (n : Bytes) (k : ℕ) (bs : List Body) (f : Forest) → elements n k bs f ≡ append (elements n k bs end) f
-elements-append n k [] f = refl
-elements-append n k (b ∷ bs) f =
-    ap (in_front n (Some k) b) (elements-append n (suc k) bs f)
-    ∙ front-append n (Some k) b (append (elements n (suc k) bs end) f)
-    ∙ sym (append-assoc (in_front n (Some k) b end) (elements n (suc k) bs end) f)
-    ∙ ap (λ g. append g f) (sym (front-append n (Some k) b (elements n (suc k) bs end)))
-
-member-append : (n : Bytes) (m : Bodies) (f : Forest) → member_front n m f ≡ append (member_front n m end) f
-member-append n (one b) f = front-append n None b f
-member-append n (many bs) f = elements-append n 0 bs f
 
 pub members-append : (xs ys : List (Bytes × Bodies)) → forest_of_members (xs ++ ys) ≡ append (forest_of_members xs) (forest_of_members ys)
 members-append [] ys = refl
@@ -84,8 +51,6 @@ elements-push n k (x ∷ bs) b =
     ∙ front-append n (Some k) x (append (elements n (suc k) bs end) (in_front n (Some (k + length (x ∷ bs))) b end))
     ∙ sym (append-assoc (in_front n (Some k) x end) (elements n (suc k) bs end) (in_front n (Some (k + length (x ∷ bs))) b end))
     ∙ ap (λ g. append g (in_front n (Some (k + length (x ∷ bs))) b end)) (sym (front-append n (Some k) x (elements n (suc k) bs end)))
-
--- ---- the last of them
 
 last-front : (o : Option SiblingPlace) (n : Bytes) (p : Option ℕ) (b : Body) (f : Forest) → last_place o (in_front n p b f) ≡ last_place (Some (n, p)) f
 last-front o n p (holds kids) f = refl
@@ -116,10 +81,6 @@ others-filled P m h = (all-split (λ x. IsMemberFilled x.1) P m h.filled).0
 
 all-push : (P : List (Text × Member)) (m : Text × Member) → AllByRecursion (λ x. IsMemberFilled x.1) P → IsMemberFilled m.1 → AllByRecursion (λ x. IsMemberFilled x.1) (P ++ m ∷ [])
 all-push P m all h = all-append (λ x. IsMemberFilled x.1) P (m ∷ []) all (h, tt)
-
-bytes_eq-same : (x : Bytes) → bytes_eq x x ≡ true
-bytes_eq-same [] = refl
-bytes_eq-same (c ∷ cs) = ap (λ b. b && bytes_eq cs cs) (eq-eqb c c refl) ∙ bytes_eq-same cs
 
 -- ---- one thing more at the end
 
@@ -198,7 +159,7 @@ some-push [] x = refl
 some-push (y ∷ xs) x = refl
 
 next-fits : (n : Bytes) (j k : ℕ) → k ≡ suc j → is_numbered (Some (n, Some j)) n (Some k) ≡ true
-next-fits n j k e = ap (λ i. is_numbered (Some (n, Some j)) n (Some i)) e ∙ ap (λ b. b && (j == j)) (bytes_eq-same n) ∙ eq-eqb j j refl
+next-fits n j k e = ap (λ i. is_numbered (Some (n, Some j)) n (Some i)) e ∙ ap (λ b. b && (j == j)) (bytes_eq-refl n) ∙ eq-eqb j j refl
 
 -- one more element of the last array
 pub grows-element : (P : List (Text × Member)) (n : Text) (i : Item) (v w : Vec Item Global) → w.items ≡ v.items ++ i ∷ [] →

@@ -1,7 +1,6 @@
 pub mod Views
 pub mod Characters
 pub mod Pointers
-mod Plain
 pub mod Outlines
 mod Growing
 pub mod Sounds
@@ -10,9 +9,10 @@ mod ValueTexts
 mod Flat
 mod Spines
 mod Writing
-mod Quoted
 mod Data
-mod Whole
+mod Each
+mod Passed
+pub mod NoFloat
 pub mod Meaning
 pub mod Order
 pub mod Apart
@@ -30,17 +30,16 @@ pub mod Members
 pub mod ClassesBelow
 pub mod Fronts
 pub mod Unescaping
-pub mod Prefixes
 pub mod Inverse
 pub mod Seeking
 pub mod Counts
-pub mod Given
-pub mod Ordered
+pub mod FromValues
+pub mod AscendingNames
 pub mod Filled
 pub mod Fitness
 pub mod Shallow
 pub mod Exchanged
-pub mod Loop
+pub mod DocumentLists
 pub mod Bodies
-mod Found
+mod MembersByName
 pub mod Identified

@@ -1,14 +1,11 @@
 -- The entries of a document are the walk of its tree.
-use Rattle.std.proofs.Common.{◌≡◌, ℕ, zero, suc, ◌+◌, ◌<◌, List, [], ◌∷◌, ◌++◌, Bool, true, false, not, cond, ◌==◌, map, take, count_by, refl, sym, ◌∙◌, ap, subst, append-nil, append_assoc, arith}
-use Rattle.std.specs.Prelude.{Option, Some, None, is_some, find}
+use Rattle.std.proofs.Common.{◌≡◌, ℕ, zero, suc, ◌+◌, ◌<◌, List, [], ◌∷◌, ◌++◌, Bool, true, false, not, cond, ◌==◌, take, count_by, refl, sym, ◌∙◌, ap, subst, append-nil, append_assoc, arith, Option, Some, None, is_some, find, bytes_eq}
 use Rattle.std.specs.Option.{option_map_or}
 use Rattle.std.specs.List.{before_first, prefix_len}
-use Rattle.std.specs.Str.{bytes_eq}
 use Rattle.std.proofs.lemmas.Bool.{and_parts, and_left, and_right, and_from, false≢true, eqb-true, eq-eqb, ne_eqb}
-use Rattle.std.proofs.lemmas.List.{map-append}
 use Rattle.std.proofs.lemmas.List.Sums.{sum_by-cons}
 use Rattle.iodef_tree.specs.Text.{Bytes, Tokens, bytes_lt}
-use Rattle.iodef_tree.specs.Tree.{Forest, end, leaf, branch, steps, place_of, lines, leaf_line, class_line}
+use Rattle.iodef_tree.specs.Tree.{Forest, end, leaf, branch, place_of, lines, leaf_line, class_line}
 use Rattle.iodef_tree.specs.Paths.{LocatedLine, is_one_less_deep, parent_path, is_like, place_among, entry_at, placed, located_after, located}
 use Rattle.iodef_tree.specs.Sound.{SiblingPlace, may_stand, may_stand_behind, may_stand_first, IsOrderedBehind, IsSound}
 use Rattle.iodef_tree.specs.Walk.{leaf_entry, class_entry, walk}
@@ -65,11 +62,10 @@ stands-past x before d p s deep h =
 -- a later name than that of a sibling is later than all before it
 none-before : (s : Option SiblingPlace) (n : Bytes) (o : Option ℕ) (name : Bytes) → may_stand s n o ≡ true → bytes_lt n name ≡ true → may_stand s name (Some zero) ≡ true
 none-before None n o name h lt = refl
-none-before (Some (m, q)) n None name h lt = bytes_lt-trans m n name h lt
-none-before (Some (m, q)) n (Some zero) name h lt = bytes_lt-trans m n name h lt
 none-before (Some (m, None)) n (Some (suc k)) name h lt = absurd (false≢true h)
 none-before (Some (m, Some j)) n (Some (suc k)) name h lt =
     subst (λ x. bytes_lt x name ≡ true) (sym (bytes_eq-true m n (and_parts (bytes_eq m n) (j == k) h).0)) lt
+none-before (Some (m, q)) n o name h lt = bytes_lt-trans m n name h lt
 
 place-sibling : (x : LocatedLine) (before : List LocatedLine) (d : ℕ) (p : Tokens) (s : Option SiblingPlace) (o : Option ℕ) → x.line.depth ≡ d → may_stand s x.line.name o ≡ true → Stands before d p s →
     (name : Bytes) (k : ℕ) → may_stand_behind (x.line.name, o) name (Some k) ≡ true → cond (is_like d name x) 1 0 + place_among before d name ≡ k
@@ -168,22 +164,3 @@ located-walk (branch name place kids rest) d p s before ls ordered h =
 pub located-lines : (f : Forest) → IsSound f → located (lines 1 f) ≡ walk 1 [] f
 located-lines f sound =
     ap located (sym (append-nil (lines 1 f))) ∙ located-walk f 1 [] None [] [] sound.ordered stands-first ∙ append-nil (walk 1 [] f)
-
--- ---- the lines of the entries
-
-pub lines-walk : (f : Forest) (d : ℕ) (p : Tokens) → map (λ (e : LocatedLine). e.line) (walk d p f) ≡ lines d f
-lines-walk end d p = refl
-lines-walk (leaf i rest) d p = ap (λ ls. leaf_line d i ∷ ls) (lines-walk rest d p)
-lines-walk (branch name place kids rest) d p =
-    let q = p ++ steps name place in
-    ap (λ ls. class_line d name place ∷ ls) (
-    map-append (λ (e : LocatedLine). e.line) (walk (suc d) q kids) (walk d p rest)
-    ∙ ap (λ ls. ls ++ map (λ (e : LocatedLine). e.line) (walk d p rest)) (lines-walk kids (suc d) q)
-    ∙ ap (λ ls. lines (suc d) kids ++ ls) (lines-walk rest d p))
-
-lines-located_after : (before : List LocatedLine) (ls : List Line) → map (λ (e : LocatedLine). e.line) (located_after before ls) ≡ ls
-lines-located_after before [] = refl
-lines-located_after before (l ∷ ls) = ap (λ ks. l ∷ ks) (lines-located_after (placed before l ∷ before) ls)
-
-pub lines-located : (ls : List Line) → map (λ (e : LocatedLine). e.line) (located ls) ≡ ls
-lines-located ls = lines-located_after [] ls

@@ -1,11 +1,8 @@
 -- The text of a tree is that of the JSON object which its lines mean.
-use Rattle.std.proofs.Common.{◌≡◌, ℕ, zero, suc, ◌<◌, Bool, true, false, ◌&&◌, List, [], ◌∷◌, ◌++◌, refl, sym, ◌∙◌, ap, append_assoc, append-nil, arith, if◌then◌else◌, ◌==◌, true≢false, Ordering, Less, Equal, Greater}
-use Rattle.std.specs.Prelude.{Option, Some, None, is_some, nat_lt, unwrap_or}
+use Rattle.std.proofs.Common.{◌≡◌, ℕ, zero, suc, ◌<◌, Bool, true, false, ◌&&◌, List, [], ◌∷◌, ◌++◌, refl, sym, ◌∙◌, ap, append_assoc, append-nil, arith, if◌then◌else◌, ◌==◌, true≢false, Ordering, Less, Option, Some, None, is_some, unwrap_or, nat_cmp, is_lt, is_eq, bytes_eq}
 use Rattle.std.specs.Option.{option_map_or}
-use Rattle.std.specs.Ordering.{nat_cmp, is_lt, is_eq}
 use Rattle.std.specs.Cmp.Lexicographic.{slice_cmp}
-use Rattle.std.specs.Str.{bytes_eq}
-use Rattle.std.proofs.lemmas.Bool.{cond-true, cond-false, ne_eqb, eq-eqb, lt-ltb, le-ltb, and_parts}
+use Rattle.std.proofs.lemmas.Bool.{cond-true, cond-false, and_parts, and_right}
 use Rattle.std.proofs.lemmas.Slice.Eq.{bytes_eq-Decides}
 use Rattle.std.proofs.lemmas.Map.Text.{is_eq-slice_cmp}
 use Rattle.json.specs.Print.{quoted}
@@ -16,12 +13,14 @@ use Rattle.serde_json.specs.Written.{comma_if, compact_text, items_text, members
 use Rattle.iodef_tree.specs.Text.{Bytes, bytes_lt}
 use Rattle.iodef_tree.specs.Texts.{may_be_value, may_be_text, HasTexts}
 use Rattle.iodef_tree.specs.Tree.{Content, text, value, Forest, end, leaf, branch, kind_of, text_of, leaf_line, class_line, lines}
-use Rattle.iodef_tree.specs.Sound.{SiblingPlace, may_stand, IsOrderedBehind, IsOrdered, IsSound}
+use Rattle.iodef_tree.specs.Sound.{SiblingPlace, may_stand, IsOrderedBehind, IsSound}
 use Rattle.iodef_tree.specs.Outline.{sibling}
 use Rattle.iodef_tree.specs.Json.{continues, datum, members_from, items_from, data_of}
 use Rattle.iodef_tree.specs.Written.{content_text, front_text, is_later_place, goes_on, close_text, written, content_data, placed_member, placed_item, members_of, items_of}
 use Rattle.iodef_tree.specs.declared.line.Line.{Line}
 use Rattle.iodef_tree.specs.declared.shape.Sibling.{Sibling}
+use Rattle.iodef_tree.proofs.Sounds.{as_sibling}
+use Rattle.iodef_tree.proofs.Outlines.{above-line, at-line, past-line}
 
 -- ---- the text of the value that a tree is
 
@@ -33,36 +32,21 @@ content-means : (a : Bool) (c : Content) → may_be_text (kind_of c) a (text_of 
 content-means a (text s) h = refl
 content-means a (value s) h = sym (value-text a s (read s) h)
 
--- no array goes on behind what is no element, and none at first
-starts : (f : Forest) → IsOrderedBehind None f → goes_on f ≡ false
-starts end h = refl
-starts (leaf i rest) h = first i.place h.0
-  where
-    first : (p : Option ℕ) → may_stand None i.name p ≡ true → is_later_place p ≡ false
-    first None k = refl
-    first (Some zero) k = refl
-    first (Some (suc j)) k = absurd (true≢false (sym k))
-starts (branch n q kids rest) h = first q h.0
-  where
-    first : (p : Option ℕ) → may_stand None n p ≡ true → is_later_place p ≡ false
-    first None k = refl
-    first (Some zero) k = refl
-    first (Some (suc j)) k = absurd (true≢false (sym k))
+abbrev is_element : Option SiblingPlace → Bool
+is_element None = false
+is_element (Some s) = is_some s.1
 
-ends : (n : Bytes) (f : Forest) → IsOrderedBehind (Some (n, None)) f → goes_on f ≡ false
-ends n end h = refl
-ends n (leaf i rest) h = next i.place h.0
-  where
-    next : (p : Option ℕ) → may_stand (Some (n, None)) i.name p ≡ true → is_later_place p ≡ false
-    next None k = refl
-    next (Some zero) k = refl
-    next (Some (suc j)) k = absurd (true≢false (sym k))
-ends n (branch m q kids rest) h = next q h.0
-  where
-    next : (p : Option ℕ) → may_stand (Some (n, None)) m p ≡ true → is_later_place p ≡ false
-    next None k = refl
-    next (Some zero) k = refl
-    next (Some (suc j)) k = absurd (true≢false (sym k))
+-- no array goes on behind what is no element, and none at first
+no-later : (o : Option SiblingPlace) (n : Bytes) (p : Option ℕ) → is_element o ≡ false → may_stand o n p ≡ true → is_later_place p ≡ false
+no-later None n (Some (suc j)) e k = absurd (true≢false (sym k))
+no-later (Some (m, None)) n (Some (suc j)) e k = absurd (true≢false (sym k))
+no-later (Some (m, Some i)) n (Some (suc j)) e k = absurd (true≢false e)
+no-later o n p e k = refl
+
+starts : (o : Option SiblingPlace) (f : Forest) → is_element o ≡ false → IsOrderedBehind o f → goes_on f ≡ false
+starts o end e h = refl
+starts o (leaf i rest) e h = no-later o i.name i.place e h.0
+starts o (branch n p kids rest) e h = no-later o n p e h.0
 
 -- what is written of a tree is the text of its members, or goes on with the elements of an array
 record Means (w : Bool → Bytes) (goes : Bool) (close : Bytes) (ds : json.Items) (ms : json.Members) : Type 0 where
@@ -108,7 +92,7 @@ in_front-means n (Some (suc j)) t d rest is alone k = record {
 }
 
 alone-behind : (n : Bytes) (p : Option ℕ) (rest : Forest) → IsOrderedBehind (Some (n, p)) rest → p ≡ None → goes_on rest ≡ false
-alone-behind n None rest h e = ends n rest h
+alone-behind n None rest h e = starts (Some (n, None)) rest refl h
 alone-behind n (Some k) rest h e = cc
 
 means : (f : Forest) (o : Option SiblingPlace) → IsOrderedBehind o f → HasTexts f → Means (λ later. written later f) (goes_on f) (closing (goes_on f)) (items_of f) (members_of f)
@@ -117,7 +101,7 @@ means (leaf i rest) o h k =
     in_front-means i.name i.place (content_text i.content) (content_data i.content) rest (content-means (is_some i.place) i.content k.0) (alone-behind i.name i.place rest h.1) (means rest (Some (i.name, i.place)) h.1 k.1)
 means (branch n p kids rest) o h k =
     in_front-means n p (123 ∷ (written false kids ++ 125 ∷ [])) (json.object (members_of kids)) rest
-    (ap (λ x. 123 ∷ x) ((means kids None h.1 k.0).members false (starts kids h.1)))
+    (ap (λ x. 123 ∷ x) ((means kids None h.1 k.0).members false (starts None kids refl h.1)))
     (alone-behind n p rest h.2)
     (means rest (Some (n, p)) h.2 k.1)
 
@@ -125,27 +109,17 @@ means (branch n p kids rest) o h k =
 
 lt-ne : (o : Ordering) → is_lt o ≡ true → is_eq o ≡ false
 lt-ne Less h = refl
-lt-ne Equal h = absurd (true≢false (sym h))
-lt-ne Greater h = absurd (true≢false (sym h))
+lt-ne _ h = absurd (true≢false (sym h))
 
 other-name : (x y : Bytes) → bytes_lt x y ≡ true → bytes_eq x y ≡ false
 other-name x y h = sym (is_eq-slice_cmp x y) ∙ lt-ne (slice_cmp nat_cmp x y) h
-
-abbrev as_sibling : Option SiblingPlace → Option Sibling
-as_sibling None = None
-as_sibling (Some s) = Some (record { name = s.0; in_array = is_some s.1 })
-
-and-false : (a b : Bool) → (a && (b && false)) ≡ false
-and-false true true = refl
-and-false true false = refl
-and-false false b = refl
 
 -- a line goes on with its sibling's array where its place is a later one
 continues-is : (o : Option SiblingPlace) (l : Line) (p : Option ℕ) → l.in_array ≡ is_some p → may_stand o l.name p ≡ true → continues (as_sibling o) l ≡ is_later_place p
 continues-is None l None a h = refl
 continues-is None l (Some zero) a h = refl
 continues-is None l (Some (suc k)) a h = absurd (true≢false (sym h))
-continues-is (Some (n, q)) l None a h = ap (λ b. bytes_eq n l.name && (is_some q && b)) a ∙ and-false (bytes_eq n l.name) (is_some q)
+continues-is (Some (n, q)) l None a h = ap (λ b. bytes_eq n l.name && (is_some q && b)) a ∙ and_right (bytes_eq n l.name) _ (and_right (is_some q) false refl)
 continues-is (Some (n, q)) l (Some zero) a h = ap (λ b. b && (is_some q && l.in_array)) (other-name n l.name (first-stands q h))
   where
     first-stands : (r : Option ℕ) → may_stand (Some (n, r)) l.name (Some zero) ≡ true → bytes_lt n l.name ≡ true
@@ -156,39 +130,21 @@ continues-is (Some (n, Some j)) l (Some (suc k)) a h = ap (λ b. b && (true && l
 
 -- ---- lines that are passed by
 
-head-in : (l : Line) (ls : List Line) (d : ℕ) (o : Option Sibling) → l.depth ≡ d →
-    members_from d o (l ∷ ls) ≡ (if continues o l then members_from d (Some (sibling l)) ls
-    else (if l.in_array then json.member l.name (json.array (json.item (datum l.kind l.text (members_from (suc d) None ls)) (items_from d (Some (sibling l)) ls))) (members_from d (Some (sibling l)) ls)
-    else json.member l.name (datum l.kind l.text (members_from (suc d) None ls)) (members_from d (Some (sibling l)) ls)))
-head-in l ls d o e = cond-false (nat_lt l.depth d) _ _ (le-ltb l.depth d (omega (arith, e))) ∙ cond-true (l.depth == d) _ _ (eq-eqb l.depth d e)
-
-head-items : (l : Line) (ls : List Line) (d : ℕ) (o : Option Sibling) → l.depth ≡ d →
-    items_from d o (l ∷ ls) ≡ (if continues o l then json.item (datum l.kind l.text (members_from (suc d) None ls)) (items_from d (Some (sibling l)) ls) else json.no_items)
-head-items l ls d o e = cond-false (nat_lt l.depth d) _ _ (le-ltb l.depth d (omega (arith, e))) ∙ cond-true (l.depth == d) _ _ (eq-eqb l.depth d e)
-
-pass-members : (l : Line) (ls : List Line) (d : ℕ) (o : Option Sibling) → d < l.depth → members_from d o (l ∷ ls) ≡ members_from d o ls
-pass-members l ls d o h = cond-false (nat_lt l.depth d) _ _ (le-ltb l.depth d (omega (arith, h))) ∙ cond-false (l.depth == d) _ _ (ne_eqb l.depth d (λ e. omega (arith, h, e)))
-
-pass-items : (l : Line) (ls : List Line) (d : ℕ) (o : Option Sibling) → d < l.depth → items_from d o (l ∷ ls) ≡ items_from d o ls
-pass-items l ls d o h = cond-false (nat_lt l.depth d) _ _ (le-ltb l.depth d (omega (arith, h))) ∙ cond-false (l.depth == d) _ _ (ne_eqb l.depth d (λ e. omega (arith, h, e)))
+-- what passes by deeper lines
+skip : {A : Type 0} (F : List Line → A) (d : ℕ) → ((l : Line) (ls : List Line) → d < l.depth → F (l ∷ ls) ≡ F ls) → (f : Forest) (n : ℕ) (X : List Line) → d < n → F (lines n f ++ X) ≡ F X
+skip F d passes end n X h = refl
+skip F d passes (leaf i rest) n X h = passes (leaf_line n i) (lines n rest ++ X) h ∙ skip F d passes rest n X h
+skip F d passes (branch m p kids rest) n X h =
+    passes (class_line n m p) ((lines (suc n) kids ++ lines n rest) ++ X) h
+    ∙ ap F (append_assoc (lines (suc n) kids) (lines n rest) X)
+    ∙ skip F d passes kids (suc n) (lines n rest ++ X) (omega (arith, h))
+    ∙ skip F d passes rest n X h
 
 skip-members : (f : Forest) (n d : ℕ) (o : Option Sibling) (X : List Line) → d < n → members_from d o (lines n f ++ X) ≡ members_from d o X
-skip-members end n d o X h = refl
-skip-members (leaf i rest) n d o X h = pass-members (leaf_line n i) (lines n rest ++ X) d o h ∙ skip-members rest n d o X h
-skip-members (branch m p kids rest) n d o X h =
-    pass-members (class_line n m p) ((lines (suc n) kids ++ lines n rest) ++ X) d o h
-    ∙ ap (members_from d o) (append_assoc (lines (suc n) kids) (lines n rest) X)
-    ∙ skip-members kids (suc n) d o (lines n rest ++ X) (omega (arith, h))
-    ∙ skip-members rest n d o X h
+skip-members f n d o X h = skip (members_from d o) d (λ l ls k. past-line l.depth d _ _ _ k) f n X h
 
 skip-items : (f : Forest) (n d : ℕ) (o : Option Sibling) (X : List Line) → d < n → items_from d o (lines n f ++ X) ≡ items_from d o X
-skip-items end n d o X h = refl
-skip-items (leaf i rest) n d o X h = pass-items (leaf_line n i) (lines n rest ++ X) d o h ∙ skip-items rest n d o X h
-skip-items (branch m p kids rest) n d o X h =
-    pass-items (class_line n m p) ((lines (suc n) kids ++ lines n rest) ++ X) d o h
-    ∙ ap (items_from d o) (append_assoc (lines (suc n) kids) (lines n rest) X)
-    ∙ skip-items kids (suc n) d o (lines n rest ++ X) (omega (arith, h))
-    ∙ skip-items rest n d o X h
+skip-items f n d o X h = skip (items_from d o) d (λ l ls k. past-line l.depth d _ _ _ k) f n X h
 
 -- the list begins less deep
 abbrev Stops : ℕ → List Line → Type 0
@@ -197,11 +153,11 @@ Stops d (l ∷ ls) = l.depth < d
 
 stops-members : (X : List Line) (d : ℕ) (o : Option Sibling) → Stops d X → members_from d o X ≡ json.no_members
 stops-members [] d o h = refl
-stops-members (l ∷ ls) d o h = cond-true (nat_lt l.depth d) _ _ (lt-ltb l.depth d h)
+stops-members (l ∷ ls) d o h = above-line l.depth d _ _ _ h
 
 stops-items : (X : List Line) (d : ℕ) (o : Option Sibling) → Stops d X → items_from d o X ≡ json.no_items
 stops-items [] d o h = refl
-stops-items (l ∷ ls) d o h = cond-true (nat_lt l.depth d) _ _ (lt-ltb l.depth d h)
+stops-items (l ∷ ls) d o h = above-line l.depth d _ _ _ h
 
 stops-more : (X : List Line) (d : ℕ) → Stops d X → Stops (suc d) X
 stops-more [] d h = tt
@@ -221,9 +177,8 @@ choose-member n (Some zero) c a D ds ms e g = cond-false c _ _ e ∙ cond-true a
 choose-member n (Some (suc k)) c a D ds ms e g = cond-true c _ _ e
 
 choose-item : (p : Option ℕ) (c : Bool) (D : Data) (ds : json.Items) → c ≡ is_later_place p → (if c then json.item D ds else json.no_items) ≡ placed_item p D ds
-choose-item None c D ds e = cond-false c _ _ e
-choose-item (Some zero) c D ds e = cond-false c _ _ e
 choose-item (Some (suc k)) c D ds e = cond-true c _ _ e
+choose-item _ c D ds e = cond-false c _ _ e
 
 plain-datum : (c : Content) (ms : json.Members) → datum (kind_of c) (text_of c) ms ≡ content_data c
 plain-datum (text s) ms = refl
@@ -239,13 +194,13 @@ one-tells : (d : ℕ) (o : Option SiblingPlace) (l : Line) (p : Option ℕ) (ls 
 one-tells d o l p ls D ds ms deep a fits is m i =
     let c = continues-is o l p a fits in record {
       members =
-          head-in l ls d (as_sibling o) deep
+          at-line l.depth d _ _ _ deep
           ∙ choose-member l.name p (continues (as_sibling o) l) l.in_array (datum l.kind l.text (members_from (suc d) None ls)) (items_from d (Some (sibling l)) ls) (members_from d (Some (sibling l)) ls) c a
           ∙ ap (λ x. placed_member l.name p x (items_from d (Some (sibling l)) ls) (members_from d (Some (sibling l)) ls)) is
           ∙ ap (λ x. placed_member l.name p D x (members_from d (Some (sibling l)) ls)) i
           ∙ ap (placed_member l.name p D ds) m;
       items =
-          head-items l ls d (as_sibling o) deep
+          at-line l.depth d _ _ _ deep
           ∙ choose-item p (continues (as_sibling o) l) (datum l.kind l.text (members_from (suc d) None ls)) (items_from d (Some (sibling l)) ls) c
           ∙ ap (λ x. placed_item p x (items_from d (Some (sibling l)) ls)) is
           ∙ ap (placed_item p D) i;
@@ -278,5 +233,5 @@ data-is f h = data-ordered f h.ordered
 -- what is written of a document's tree is the compact JSON of the object that its lines mean
 pub text-is : (f : Forest) → IsSound f → 123 ∷ (written false f ++ 125 ∷ []) ≡ compact_text (json.object (data_of (lines 1 f)))
 text-is f h =
-    ap (λ x. 123 ∷ x) ((means f None h.ordered h.texts).members false (starts f h.ordered))
+    ap (λ x. 123 ∷ x) ((means f None h.ordered h.texts).members false (starts None f refl h.ordered))
     ∙ sym (ap (λ ms. 123 ∷ members_text false ms) (data-is f h))

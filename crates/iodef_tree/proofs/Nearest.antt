@@ -1,10 +1,8 @@
 -- The parent of a line is the longest class above its path.
-use Rattle.std.proofs.Common.{◌≡◌, ℕ, suc, List, [], ◌∷◌, ◌++◌, Bool, true, false, cond, ◌&&◌, ◌||◌, refl, sym, ◌∙◌, ap, subst, append-nil, true≢false, ◌⊎◌, inl, inr, decimal}
-use Rattle.std.specs.Prelude.{Option, Some, None, is_some}
+use Rattle.std.proofs.Common.{◌≡◌, ℕ, suc, List, [], ◌∷◌, ◌++◌, Bool, true, false, cond, ◌&&◌, ◌||◌, refl, sym, ◌∙◌, ap, subst, append-nil, true≢false, ◌⊎◌, inl, inr, decimal, Option, Some, None, is_some, bytes_eq}
 use Rattle.std.specs.Option.{option_map_or}
 use Rattle.std.specs.List.{AllByRecursion}
-use Rattle.std.specs.Str.{bytes_eq}
-use Rattle.std.proofs.lemmas.Bool.{and_parts, and_right, cond-true, cond-false}
+use Rattle.std.proofs.lemmas.Bool.{and_parts, and_right, cond-false, or_left, or_right}
 use Rattle.std.proofs.lemmas.List.Folds.{list_any-append}
 use Rattle.iodef_tree.specs.Text.{Bytes, Tokens, same_path, is_root, is_prefix, is_under}
 use Rattle.iodef_tree.specs.Tree.{Forest, end, leaf, branch, steps, lines}
@@ -17,8 +15,9 @@ use Rattle.iodef_tree.proofs.Apart.{sound-apart}
 use Rattle.iodef_tree.proofs.Blocks.{blocks, all-below}
 use Rattle.iodef_tree.proofs.ByPath.{has_class-walk}
 use Rattle.iodef_tree.proofs.Located.{located-lines}
-use Rattle.iodef_tree.proofs.Order.{is_false, bytes_eq-true, same_path-refl, same_path-true, is_under-steps}
+use Rattle.iodef_tree.proofs.Order.{bytes_eq-true, same_path-refl, is_under-steps}
 use Rattle.iodef_tree.proofs.Siblings.{all-append, siblings-map}
+use Rattle.iodef_tree.proofs.Onward.{has_class-below}
 
 -- ---- what stands above a line's path
 
@@ -94,24 +93,6 @@ none-bare (leaf i rest) n o some h =
 none-bare (branch m p kids rest) n o some h =
     ap (λ z. option_map_or (λ r. cond (is_root r) (Some kids) (class_at kids r)) z (class_at rest (n ∷ []))) (past-bare m p n (h.0 some)) ∙ none-bare rest n o some h.1
 
--- ---- a class below a path is one of those below it
-
-class-below : (es : List LocatedLine) (p : Tokens) (n : Bytes) → has_class es (p ++ n ∷ []) ≡ has_class (below p es) (p ++ n ∷ [])
-class-below [] p n = refl
-class-below (e ∷ es) p n = step (is_under p e.path) refl (class-below es p n)
-  where
-    step : (b : Bool) → is_under p e.path ≡ b → has_class es (p ++ n ∷ []) ≡ has_class (below p es) (p ++ n ∷ []) →
-        ((is_class e && same_path e.path (p ++ n ∷ [])) || has_class es (p ++ n ∷ [])) ≡ has_class (cond (is_under p e.path) (e ∷ below p es) (below p es)) (p ++ n ∷ [])
-    step true u ih =
-        ap (λ b. (is_class e && same_path e.path (p ++ n ∷ [])) || b) ih
-        ∙ sym (ap (λ xs. has_class xs (p ++ n ∷ [])) (cond-true (is_under p e.path) (e ∷ below p es) (below p es) u))
-    step false u ih =
-        ap (λ b. b || has_class es (p ++ n ∷ []))
-        (and_right (is_class e) _ (is_false (same_path e.path (p ++ n ∷ [])) (λ same.
-        true≢false (sym (is_under-steps p n None []) ∙ ap (is_under p) (sym (same_path-true e.path (p ++ n ∷ []) same)) ∙ u))))
-        ∙ ih
-        ∙ sym (ap (λ xs. has_class xs (p ++ n ∷ [])) (cond-false (is_under p e.path) (e ∷ below p es) (below p es) u))
-
 -- ---- down the tree
 
 abbrev IsBare : List LocatedLine → Tokens → Bytes → Option ℕ → Type 0
@@ -121,7 +102,7 @@ bare-siblings : (es : List LocatedLine) (d : ℕ) (p : Tokens) (f : Forest) → 
 bare-siblings es d p f apart block =
     siblings-map (λ n o. AllSiblings (Differs n o) f) (IsBare es p) f
     (λ n o h some.
-    class-below es p n ∙ ap (λ xs. has_class xs (p ++ n ∷ [])) block ∙ has_class-walk f d p (n ∷ []) apart ∙ ap (λ z. is_some z) (none-bare f n o some h))
+    has_class-below es p n [] ∙ ap (λ xs. has_class xs (p ++ n ∷ [])) block ∙ has_class-walk f d p (n ∷ []) apart ∙ ap (λ z. is_some z) (none-bare f n o some h))
     (all-differ f apart)
 
 nearest-entry : (es : List LocatedLine) (p : Tokens) (n : Bytes) (o : Option ℕ) → (is_root p || has_class es p) ≡ true → IsBare es p n o → IsNearestClass es (p ++ steps n o) p
@@ -134,14 +115,6 @@ nearest-entry es p n o stands bare = record {
   ];
 }
 
-or-left : (a b : Bool) → a ≡ true → (a || b) ≡ true
-or-left true b h = refl
-or-left false b h = absurd (true≢false (sym h))
-
-or-right : (a b : Bool) → b ≡ true → (a || b) ≡ true
-or-right true b h = refl
-or-right false b h = h
-
 abbrev Nearest : List LocatedLine → List LocatedLine → Type 0
 Nearest es xs = AllByRecursion (λ e. IsNearestClass es e.path e.parent) xs
 
@@ -150,19 +123,19 @@ nearest-walk : (es : List LocatedLine) (f : Forest) (d : ℕ) (p : Tokens) → A
 nearest-walk es end d p blocks apart stands bare among = tt
 nearest-walk es (leaf i rest) d p blocks apart stands bare among = (
   nearest-entry es p i.name i.place stands bare.0,
-  nearest-walk es rest d p blocks apart.1 stands bare.1 (λ r h. among r (or-right (is_class (leaf_entry d p i) && same_path (p ++ steps i.name i.place) r) _ h)),
+  nearest-walk es rest d p blocks apart.1 stands bare.1 (λ r h. among r (or_right (is_class (leaf_entry d p i) && same_path (p ++ steps i.name i.place) r) _ h)),
 )
 nearest-walk es (branch n o kids rest) d p blocks apart stands bare among =
     let q = p ++ steps n o in
     let K = walk (suc d) q kids in
     let R = walk d p rest in
-    let here : has_class es q ≡ true = among q (or-left (same_path q q) (has_class (K ++ R) q) (same_path-refl q)) in
+    let here : has_class es q ≡ true = among q (or_left (same_path q q) (has_class (K ++ R) q) (same_path-refl q)) in
     let parts = λ (r : Tokens). list_any-append (λ (e : LocatedLine). is_class e && same_path e.path r) K R in (
       nearest-entry es p n o stands bare.0,
       all-append (λ e. IsNearestClass es e.path e.parent) K R
-          (nearest-walk es kids (suc d) q blocks.1 apart.1 (or-right (is_root q) (has_class es q) here) (bare-siblings es (suc d) q kids apart.1 blocks.0)
-          (λ r h. among r (or-right (same_path q r) _ (parts r ∙ or-left (has_class K r) (has_class R r) h))))
-          (nearest-walk es rest d p blocks.2 apart.2 stands bare.1 (λ r h. among r (or-right (same_path q r) _ (parts r ∙ or-right (has_class K r) (has_class R r) h)))),
+          (nearest-walk es kids (suc d) q blocks.1 apart.1 (or_right (is_root q) (has_class es q) here) (bare-siblings es (suc d) q kids apart.1 blocks.0)
+          (λ r h. among r (or_right (same_path q r) _ (parts r ∙ or_left (has_class K r) (has_class R r) h))))
+          (nearest-walk es rest d p blocks.2 apart.2 stands bare.1 (λ r h. among r (or_right (same_path q r) _ (parts r ∙ or_right (has_class K r) (has_class R r) h)))),
     )
 
 pub nearest-located : (f : Forest) → IsSound f → Nearest (located (lines 1 f)) (located (lines 1 f))

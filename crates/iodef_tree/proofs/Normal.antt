@@ -1,10 +1,9 @@
 -- What is read of a text has its names in order and its numbers in range, and its own text is read as the same.
-use Rattle.std.proofs.Common.{◌≡◌, ℕ, zero, suc, ◌^◌, ◌<◌, ◌≤◌, List, [], Bool, true, false, cond, ◌&&◌, ◌||◌, nat_lt, nat_le, drop, refl, sym, ◌∙◌, ap, subst, arith, append-nil, Ordering, Less, Equal, Greater}
-use Rattle.std.specs.Prelude.{Option, Some, None, option_map, option_and_then, negsuc}
+use Rattle.std.proofs.Common.{◌≡◌, ℕ, zero, suc, ◌^◌, ◌<◌, ◌≤◌, List, [], Bool, true, false, cond, ◌&&◌, nat_lt, nat_le, drop, refl, sym, ◌∙◌, ap, subst, arith, append-nil, Ordering, Less, Equal, Greater, Option, Some, None, option_map, option_and_then, negsuc}
 use Rattle.std.specs.Fmt.{signed_decimal}
 use Rattle.std.specs.Ordering.{nat_cmp, match_ordering, is_lt, ordering_reverse}
 use Rattle.std.specs.Cmp.Lexicographic.{slice_cmp}
-use Rattle.std.proofs.lemmas.Bool.{and_parts, ltb-true, leb-true}
+use Rattle.std.proofs.lemmas.Bool.{and_parts, ltb-true, leb-true, or_parts}
 use Rattle.std.proofs.lemmas.Cmp.{nat_list_cmp_total}
 use Rattle.fast_float.specs.Text.{Parts, scan, digits_of, with_sign}
 use Rattle.json.specs.Token.{Token}
@@ -26,6 +25,7 @@ use Rattle.serde_json.proofs.Texts.{print-outline}
 use Rattle.iodef_tree.specs.Text.{Bytes, bytes_lt}
 use Rattle.iodef_tree.specs.Written.{put_all}
 use Rattle.iodef_tree.proofs.Data.{AreAfter, Ascend, after-trans, put-ascending}
+use Rattle.iodef_tree.proofs.Each.{IsEach, put-each}
 
 -- ---- numbers
 
@@ -37,12 +37,10 @@ IsInRange (json.float x) = Unit {0}
 
 abbrev mutual
   pub IsNormal : Data → Type 0
-  IsNormal json.null = Unit {0}
-  IsNormal (json.boolean b) = Unit {0}
   IsNormal (json.number n) = IsInRange n
-  IsNormal (json.string s) = Unit {0}
   IsNormal (json.array ds) = AreNormal ds
   IsNormal (json.object ms) = Ascend ms × AreMembersNormal ms
+  IsNormal _ = Unit {0}
 
   pub AreNormal : json.Items → Type 0
   AreNormal json.no_items = Unit {0}
@@ -109,17 +107,11 @@ put-ascend k d (json.member m e ms) h = step (slice_cmp nat_cmp k m) refl (put-a
     step Equal is later = h
     step Greater is later = (put-after m k d ms h.0 (ap is_lt (nat_list_cmp_total.antisymm m k ∙ ap ordering_reverse is)), later)
 
-put-all_normal : (k : Bytes) (d : Data) (ms : json.Members) → AreMembersNormal ms → IsNormal d → AreMembersNormal (put k d ms)
-put-all_normal k d json.no_members h n = (n, tt)
-put-all_normal k d (json.member m e ms) h n = step (slice_cmp nat_cmp k m) (put-all_normal k d ms h.1 n)
-  where
-    step : (o : Ordering) → AreMembersNormal (put k d ms) → AreMembersNormal (match_ordering o (json.member k d (json.member m e ms)) (json.member m d ms) (json.member m e (put k d ms)))
-    step Less later = (n, h)
-    step Equal later = (n, h.1)
-    step Greater later = (h.0, later)
+pub normals : IsEach IsNormal AreMembersNormal
+normals = record { made = λ k d ms h all. (h, all); first = λ k d ms h. h.0; others = λ k d ms h. h.1 }
 
 pub put-normal : (k : Bytes) (d : Data) (ms : json.Members) → IsNormal (json.object ms) → IsNormal d → IsNormal (json.object (put k d ms))
-put-normal k d ms h n = (put-ascend k d ms h.0, put-all_normal k d ms h.1 n)
+put-normal k d ms h n = (put-ascend k d ms h.0, put-each IsNormal AreMembersNormal normals k d ms n h.1)
 
 -- ---- what is read
 
@@ -171,10 +163,6 @@ read-normal text d h = step (option_and_then (λ p. tree.if_last p.0 p.1) (tree.
 
 -- ---- printed, and read again
 
-or_false : (a b : Bool) → (a || b) ≡ false → (a ≡ false) × (b ≡ false)
-or_false true b h = absurd (cc)
-or_false false b h = (refl, h)
-
 number-printed : (n : Num) → IsInRange n → is_float n ≡ false → (number_of (number_text n) ≡ Some n) × IsNumber (number_text n)
 number-printed (json.unsigned n) h w = (number_of-decimal n h, IsNumber-decimal n h)
 number-printed (json.negative z) h w =
@@ -184,50 +172,43 @@ number-printed (json.float x) h w = absurd (cc)
 
 mutual
   back : (d : Data) → IsNormal d → has_float d ≡ false → of_json (outline d) ≡ Some d
-  back json.null n w = refl
-  back (json.boolean b) n w = refl
   back (json.number x) n w = ap (option_map json.number) (number-printed x n w).0
-  back (json.string s) n w = refl
   back (json.array ds) n w = ap (option_map json.array) (back-items ds n w)
   back (json.object ms) n w = ap (option_map json.object) (back-members ms json.no_members n.1 w ∙ ap Some (put-ascending ms n.0))
+  back _ n w = refl
 
   back-items : (ds : json.Items) → AreNormal ds → items_have_float ds ≡ false → of_items (items_outline ds) ≡ Some ds
   back-items json.no_items n w = refl
   back-items (json.item d ds) n w =
-      let whole = or_false (has_float d) (items_have_float ds) w in
+      let whole = or_parts (has_float d) (items_have_float ds) w in
       ap (option_and_then (λ x. option_map (json.item x) (of_items (items_outline ds)))) (back d n.0 whole.0) ∙ ap (option_map (json.item d)) (back-items ds n.1 whole.1)
 
   back-members : (ms found : json.Members) → AreMembersNormal ms → members_have_float ms ≡ false → of_members (members_outline ms) found ≡ Some (put_all ms found)
   back-members json.no_members found n w = refl
   back-members (json.member k d ms) found n w =
-      let whole = or_false (has_float d) (members_have_float ms) w in
+      let whole = or_parts (has_float d) (members_have_float ms) w in
       ap (option_and_then (λ x. of_members (members_outline ms) (put k x found))) (back d n.0 whole.0) ∙ back-members ms (put k d found) n.1 whole.1
 
 mutual
   numbers : (d : Data) → IsNormal d → has_float d ≡ false → HasNumbers (outline d)
-  numbers json.null n w = tt
-  numbers (json.boolean b) n w = tt
   numbers (json.number x) n w = (number-printed x n w).1
-  numbers (json.string s) n w = tt
   numbers (json.array ds) n w = items-numbers ds n w
   numbers (json.object ms) n w = members-numbers ms n.1 w
+  numbers _ n w = tt
 
   items-numbers : (ds : json.Items) → AreNormal ds → items_have_float ds ≡ false → ItemsHaveNumbers (items_outline ds)
   items-numbers json.no_items n w = tt
-  items-numbers (json.item d ds) n w = let whole = or_false (has_float d) (items_have_float ds) w in (numbers d n.0 whole.0, items-numbers ds n.1 whole.1)
+  items-numbers (json.item d ds) n w = let whole = or_parts (has_float d) (items_have_float ds) w in (numbers d n.0 whole.0, items-numbers ds n.1 whole.1)
 
   members-numbers : (ms : json.Members) → AreMembersNormal ms → members_have_float ms ≡ false → MembersHaveNumbers (members_outline ms)
   members-numbers json.no_members n w = tt
-  members-numbers (json.member k d ms) n w = let whole = or_false (has_float d) (members_have_float ms) w in (numbers d n.0 whole.0, members-numbers ms n.1 whole.1)
+  members-numbers (json.member k d ms) n w = let whole = or_parts (has_float d) (members_have_float ms) w in (numbers d n.0 whole.0, members-numbers ms n.1 whole.1)
 
 mutual
   as-deep : (d : Data) → sized.depth (outline d) ≡ depth d
-  as-deep json.null = refl
-  as-deep (json.boolean b) = refl
-  as-deep (json.number x) = refl
-  as-deep (json.string s) = refl
   as-deep (json.array ds) = ap suc (items-as-deep ds)
   as-deep (json.object ms) = ap suc (members-as-deep ms)
+  as-deep _ = refl
 
   items-as-deep : (ds : json.Items) → sized.items_depth (items_outline ds) ≡ items_depth ds
   items-as-deep json.no_items = refl

@@ -1,8 +1,6 @@
 -- A sound tree is known by its lines.
-use Rattle.std.proofs.Common.{◌≡◌, ℕ, zero, suc, ◌≤◌, List, [], ◌∷◌, ◌++◌, true, ◌==◌, refl, sym, ◌∙◌, ap, subst, arith, true≢false}
-use Rattle.std.specs.Prelude.{Option, Some, None, is_some}
+use Rattle.std.proofs.Common.{◌≡◌, ℕ, zero, suc, ◌≤◌, List, [], ◌∷◌, ◌++◌, true, ◌==◌, refl, sym, ◌∙◌, ap, subst, arith, true≢false, Option, Some, None, is_some, bytes_eq}
 use Rattle.std.specs.List.{AllByRecursion}
-use Rattle.std.specs.Str.{bytes_eq}
 use Rattle.std.proofs.lemmas.Bool.{and_parts, false≢true, eqb-true}
 use Rattle.iodef_tree.specs.Text.{Bytes, bytes_lt}
 use Rattle.iodef_tree.specs.Tree.{Content, text, value, Leaf, Forest, end, leaf, branch, kind_of, text_of, leaf_line, class_line, lines}
@@ -97,10 +95,6 @@ leaf-same i i' a b c = ap (λ n. leaf_of n i.place i.content) a ∙ ap (λ o. le
 
 one_to_one-behind : (f g : Forest) (d : ℕ) (s : Option SiblingPlace) → IsOrderedBehind s f → IsOrderedBehind s g → lines d f ≡ lines d g → f ≡ g
 one_to_one-behind end end d s a b e = refl
-one_to_one-behind end (leaf i rest) d s a b e = cc
-one_to_one-behind end (branch n o kids rest) d s a b e = cc
-one_to_one-behind (leaf i rest) end d s a b e = cc
-one_to_one-behind (branch n o kids rest) end d s a b e = cc
 one_to_one-behind (leaf i rest) (branch n o kids rest') d s a b e =
     let head : leaf_line d i ≡ class_line d n o = cc in absurd (no_class i.content (ap (λ (l : Line). l.kind) head))
 one_to_one-behind (branch n o kids rest) (leaf i rest') d s a b e =
@@ -123,6 +117,7 @@ one_to_one-behind (branch n o kids rest) (branch n' o' kids' rest') d s a b e =
     let inner : kids ≡ kids' = one_to_one-behind kids kids' (suc d) None a.1 b.1 two.0 in
     let behind : rest ≡ rest' = one_to_one-behind rest rest' d (Some (n', o')) (subst (λ x. IsOrderedBehind (Some (n', x)) rest) place (subst (λ x. IsOrderedBehind (Some (x, o)) rest) name a.2)) b.2 two.1 in
     cc
+one_to_one-behind f g d s a b e = cc
 
 pub one-to-one : (f g : Forest) → IsSound f → IsSound g → lines 1 f ≡ lines 1 g → f ≡ g
 one-to-one f g a b e = one_to_one-behind f g 1 None a.ordered b.ordered e

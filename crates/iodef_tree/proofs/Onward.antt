@@ -1,6 +1,5 @@
 -- The look-up from a class, or from the root, finds the class whose lines stand below the whole path.
-use Rattle.std.proofs.Common.{◌≡◌, ℕ, suc, List, [], ◌∷◌, ◌++◌, Bool, true, false, cond, filter, ◌&&◌, ◌||◌, refl, sym, ◌∙◌, ap, subst, append-nil, true≢false, Bor}
-use Rattle.std.specs.Prelude.{Option, Some, None, is_some, option_map, IfSome}
+use Rattle.std.proofs.Common.{◌≡◌, List, [], ◌∷◌, ◌++◌, Bool, true, false, cond, ◌&&◌, ◌||◌, refl, sym, ◌∙◌, ap, subst, append-nil, true≢false, Bor, ℕ, suc, append_assoc, Option, Some, None, is_some, option_map, IfSome}
 use Rattle.std.specs.Option.{option_map_or}
 use Rattle.std.proofs.lemmas.Bool.{and_right, cond-true, cond-false}
 use Rattle.iodef_tree.specs.Text.{Bytes, Tokens, same_path, is_root, is_under}
@@ -8,17 +7,17 @@ use Rattle.iodef_tree.specs.Tree.{Forest, end, leaf, branch, steps, lines}
 use Rattle.iodef_tree.specs.Paths.{LocatedLine, is_class, located, has_class, below}
 use Rattle.iodef_tree.specs.Sound.{IsSound}
 use Rattle.iodef_tree.specs.View.{forest}
-use Rattle.iodef_tree.specs.Walk.{walk, AreBlocks}
+use Rattle.iodef_tree.specs.Walk.{AreBlocks}
 use Rattle.iodef_tree.specs.Laws.{HasApart, StandsAt}
 use Rattle.iodef_tree.specs.Lookup.{past, class_at, object_at}
 use Rattle.iodef_tree.specs.declared.object.Object.{Object}
 use Rattle.iodef_tree.proofs.Apart.{sound-apart}
 use Rattle.iodef_tree.proofs.Blocks.{below-weaker, blocks-in, root-block}
-use Rattle.iodef_tree.proofs.ByPath.{block-at, has_class-walk}
+use Rattle.iodef_tree.proofs.ByPath.{has_class-walk, past-some}
 use Rattle.iodef_tree.proofs.Order.{is_false, is_under-steps, same_path-true}
 
 -- the class at a longer path is among what stands below the shorter one
-has_class-below : (es : List LocatedLine) (p : Tokens) (x : Bytes) (z : Tokens) → has_class es (p ++ x ∷ z) ≡ has_class (below p es) (p ++ x ∷ z)
+pub has_class-below : (es : List LocatedLine) (p : Tokens) (x : Bytes) (z : Tokens) → has_class es (p ++ x ∷ z) ≡ has_class (below p es) (p ++ x ∷ z)
 has_class-below [] p x z = refl
 has_class-below (e ∷ es) p x z = by_cases (is_under p e.path) refl (has_class-below es p x z)
   where
@@ -42,21 +41,26 @@ found-at es p f (x ∷ z) at =
     ∙ sym (has_class-below es p x z)
 
 -- each sibling stands apart from the others in what is found too
-apart-at : (f : Forest) (p : Tokens) (g : Forest) → HasApart f → class_at f p ≡ Some g → HasApart g
-apart-at end p g apart e = cc
-apart-at (leaf i rest) p g apart e = step (past (steps i.name i.place) p) e (apart-at rest p g apart.1)
+class-stands : (f : Forest) (es : List LocatedLine) (d : ℕ) (q p : Tokens) (g : Forest) → AreBlocks es d q f → HasApart f → class_at f p ≡ Some g → StandsAt es (q ++ p) g
+class-stands end es d q p g blocks apart e = absurd (cc)
+class-stands (leaf i rest) es d q p g blocks apart e = step (past (steps i.name i.place) p) e (class-stands rest es d q p g blocks apart.1)
   where
-    step : (o : Option Tokens) → option_map_or (λ r. None) o (class_at rest p) ≡ Some g → (class_at rest p ≡ Some g → HasApart g) → HasApart g
+    step : (o : Option Tokens) → option_map_or (λ r. None) o (class_at rest p) ≡ Some g → (class_at rest p ≡ Some g → StandsAt es (q ++ p) g) → StandsAt es (q ++ p) g
     step None h later = later h
-    step (Some r) h later = cc
-apart-at (branch n o kids rest) p g apart e =
-    step (past (steps n o) p) e (λ r h. apart-at kids r g apart.1 h) (apart-at rest p g apart.2)
+    step (Some r) h later = absurd (cc)
+class-stands (branch n o kids rest) es d q p g blocks apart e =
+    step (past (steps n o) p) refl e (λ r h. class-stands kids es (suc d) (q ++ steps n o) r g blocks.1 apart.1 h) (class-stands rest es d q p g blocks.2 apart.2)
   where
-    step : (o' : Option Tokens) → option_map_or (λ r. cond (is_root r) (Some kids) (class_at kids r)) o' (class_at rest p) ≡ Some g →
-        ((r : Tokens) → class_at kids r ≡ Some g → HasApart g) → (class_at rest p ≡ Some g → HasApart g) → HasApart g
-    step None h inner later = later h
-    step (Some []) h inner later = let same : kids ≡ g = cc in subst HasApart same apart.1
-    step (Some (x ∷ r)) h inner later = inner (x ∷ r) h
+    step : (o' : Option Tokens) → past (steps n o) p ≡ o' → option_map_or (λ r. cond (is_root r) (Some kids) (class_at kids r)) o' (class_at rest p) ≡ Some g →
+        ((r : Tokens) → class_at kids r ≡ Some g → StandsAt es ((q ++ steps n o) ++ r) g) → (class_at rest p ≡ Some g → StandsAt es (q ++ p) g) → StandsAt es (q ++ p) g
+    step None is h inner later = later h
+    step (Some []) is h inner later =
+        let same : kids ≡ g = cc in
+        let at : q ++ steps n o ≡ q ++ p = ap (λ z. q ++ z) (sym (past-some (steps n o) p [] is ∙ append-nil (steps n o))) in
+        subst (λ r. StandsAt es r g) at (subst (StandsAt es (q ++ steps n o)) same (record { block = (suc d, blocks.0); apart = apart.1 }))
+    step (Some (x ∷ r)) is h inner later =
+        let at : (q ++ steps n o) ++ (x ∷ r) ≡ q ++ p = append_assoc q (steps n o) (x ∷ r) ∙ ap (λ z. q ++ z) (sym (past-some (steps n o) p (x ∷ r) is)) in
+        subst (λ z. StandsAt es z g) at (inner (x ∷ r) h)
 
 stands-at : (es : List LocatedLine) (p : Tokens) (f : Forest) (z : Tokens) (g : Forest) → StandsAt es p f → object_at f z ≡ Some g → StandsAt es (p ++ z) g
 stands-at es p f [] g at e =
@@ -65,7 +69,7 @@ stands-at es p f [] g at e =
 stands-at es p f (x ∷ z) g at e =
     let d = at.block.0 in
     let blocks : AreBlocks es d p f = blocks-in f d p es at.apart (λ n o is. below-weaker p (steps n o) es ∙ ap (below (p ++ steps n o)) at.block.1) in
-    record { block = block-at f es d p (x ∷ z) g blocks e; apart = apart-at f (x ∷ z) g at.apart e }
+    class-stands f es d p (x ∷ z) g blocks at.apart e
 
 -- ---- as it is found
 

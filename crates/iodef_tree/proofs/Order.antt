@@ -1,8 +1,5 @@
 -- The order of texts, and how paths stand to one another.
-use Rattle.std.proofs.Common.{◌≡◌, ℕ, ◌^◌, ◌<◌, [], ◌∷◌, ◌++◌, Bool, true, false, ◌&&◌, decimal, refl, sym, ◌∙◌, ap, append-nil, Ordering, Less, Equal, Greater, is_eq, true≢false, arith}
-use Rattle.std.specs.Prelude.{Option, Some, None}
-use Rattle.std.specs.Str.{bytes_eq}
-use Rattle.std.specs.Ordering.{nat_cmp, is_lt}
+use Rattle.std.proofs.Common.{◌≡◌, ℕ, ◌^◌, ◌<◌, [], ◌∷◌, ◌++◌, Bool, true, false, ◌&&◌, decimal, refl, sym, ◌∙◌, ap, append-nil, Ordering, Less, is_eq, true≢false, arith, Option, Some, None, bytes_eq, nat_cmp, is_lt}
 use Rattle.std.specs.Cmp.Lexicographic.{slice_cmp}
 use Rattle.std.proofs.lemmas.Bool.{and_parts, false≢true}
 use Rattle.std.proofs.lemmas.Cmp.{nat_list_cmp_total}
@@ -27,8 +24,7 @@ bytes_eq-true x y = (bytes_eq-Decides x y).0
 
 less : (o : Ordering) → is_lt o ≡ true → o ≡ Less
 less Less h = refl
-less Equal h = cc
-less Greater h = cc
+less _ h = cc
 
 pub bytes_lt-less : (x y : Bytes) → bytes_lt x y ≡ true → slice_cmp nat_cmp x y ≡ Less
 bytes_lt-less x y = less (slice_cmp nat_cmp x y)
@@ -74,10 +70,6 @@ pub is_under-common : (p a b : Tokens) → is_under (p ++ a) (p ++ b) ≡ is_und
 is_under-common [] a b = refl
 is_under-common (x ∷ p) a b = ap (λ t. t && is_under (p ++ a) (p ++ b)) (bytes_eq-refl x) ∙ is_under-common p a b
 
-pub is_prefix-common : (p a b : Tokens) → is_prefix (p ++ a) (p ++ b) ≡ is_prefix a b
-is_prefix-common [] a b = refl
-is_prefix-common (x ∷ p) a b = ap (λ t. t && is_prefix (p ++ a) (p ++ b)) (bytes_eq-refl x) ∙ is_prefix-common p a b
-
 -- nothing stands below itself
 pub is_under-self : (p : Tokens) → is_under p p ≡ false
 is_under-self [] = refl
@@ -100,9 +92,6 @@ is_under-is_prefix (x ∷ q) (y ∷ p) h = step (bytes_eq x y) h (is_under-is_pr
 
 pub same_path-is_prefix : (q p : Tokens) → is_prefix q p ≡ false → same_path q p ≡ false
 same_path-is_prefix q p h = is_false (same_path q p) (λ same. true≢false (sym (is_prefix-append q []) ∙ ap (is_prefix q) (append-nil q ∙ same_path-true q p same) ∙ h))
-
-pub same_path-is_prefix_back : (q p : Tokens) → is_prefix q p ≡ false → same_path p q ≡ false
-same_path-is_prefix_back q p h = is_false (same_path p q) (λ same. true≢false (sym (is_prefix-append q []) ∙ ap (is_prefix q) (append-nil q ∙ sym (same_path-true p q same)) ∙ h))
 
 -- what stands below a path stands below each of its prefixes
 pub is_under-weaker : (p y x : Tokens) → is_under (p ++ y) x ≡ true → is_under p x ≡ true

@@ -1,8 +1,6 @@
 -- Outlines, one line more at a time.
-use Rattle.std.proofs.Common.{◌⊎◌, inl, inr, ◌≡◌, ℕ, zero, suc, ◌+◌, ◌-◌, ◌<◌, ◌≤◌, Bool, true, false, not, ◌&&◌, List, [], ◌∷◌, ◌++◌, length, take, drop, drop-cons, get_or, refl, sym, ◌∙◌, ap, arith, if◌then◌else◌, ◌==◌, cond}
-use Rattle.std.specs.Prelude.{Some, None, nat_lt, nat_le}
-use Rattle.std.specs.List.{slice_get}
-use Rattle.std.proofs.lemmas.Bool.{cond-true, cond-false, ne_eqb, eq-eqb, lt-ltb, le-ltb, cases_lt, and_parts}
+use Rattle.std.proofs.Common.{◌⊎◌, inl, inr, ◌≡◌, ℕ, zero, suc, ◌+◌, ◌-◌, ◌<◌, ◌≤◌, Bool, true, false, not, ◌&&◌, List, [], ◌∷◌, ◌++◌, length, take, drop, drop-cons, get_or, refl, sym, ◌∙◌, ap, arith, if◌then◌else◌, ◌==◌, cond, Some, None, nat_lt, nat_le, slice_get}
+use Rattle.std.proofs.lemmas.Bool.{cond-true, cond-false, ne_eqb, eq-eqb, lt-ltb, le-ltb, cases_lt, and_parts, and_right, leb-true, ltb-true}
 use Rattle.std.proofs.lemmas.List.{take_more, take-append-drop}
 use Rattle.std.proofs.lemmas.List.Sums.{sum_by-cons}
 use Rattle.iodef_tree.specs.Paths.{is_class_kind}
@@ -12,17 +10,15 @@ use Rattle.iodef_tree.specs.Shown.{counted_with, if_short, fits_edge, Shows}
 use Rattle.iodef_tree.specs.declared.TheConstants.{LINE_LIMIT}
 use Rattle.iodef_tree.specs.declared.line.Line.{Line}
 use Rattle.iodef_tree.specs.declared.shape.Shape.{Shape}
+use Rattle.std.proofs.Math.Bool.{and-true, and_assoc, and_comm}
+use Rattle.std.proofs.lemmas.Option.{slice_get_past}
 
 -- ---- lists of lines, appended and turned round
-
-and_assoc : (a b c : Bool) → (a && (b && c)) ≡ ((a && b) && c)
-and_assoc true b c = refl
-and_assoc false b c = refl
 
 pub outline_after-append : (xs ys before : List Line) →
     is_outline_after before (xs ++ ys) ≡ (is_outline_after before xs && is_outline_after (back_onto xs before) ys)
 outline_after-append [] ys before = refl
-outline_after-append (x ∷ xs) ys before = ap (λ b. may_come before x && b) (outline_after-append xs ys (x ∷ before)) ∙ and_assoc (may_come before x) _ _
+outline_after-append (x ∷ xs) ys before = ap (λ b. may_come before x && b) (outline_after-append xs ys (x ∷ before)) ∙ sym (and_assoc (may_come before x) _ _)
 
 pub back_onto-append : (xs ys zs : List Line) → back_onto (xs ++ ys) zs ≡ back_onto ys (back_onto xs zs)
 back_onto-append [] ys zs = refl
@@ -34,29 +30,14 @@ back-push ls l = back_onto-append ls (l ∷ []) []
 
 back_is : (ls before : List Line) → is_outline_back (back_onto ls before) ≡ (is_outline_after before ls && is_outline_back before)
 back_is [] before = refl
-back_is (x ∷ ls) before = back_is ls (x ∷ before) ∙ shift (is_outline_after (x ∷ before) ls) (may_come before x) (is_outline_back before)
-  where
-    shift : (a b c : Bool) → (a && (b && c)) ≡ ((b && a) && c)
-    shift true true c = refl
-    shift true false c = refl
-    shift false true c = refl
-    shift false false c = refl
-
-and_true : (b : Bool) → (b && true) ≡ b
-and_true true = refl
-and_true false = refl
+back_is (x ∷ ls) before =
+    back_is ls (x ∷ before)
+    ∙ sym (and_assoc (is_outline_after (x ∷ before) ls) (may_come before x) (is_outline_back before))
+    ∙ ap (λ b. b && is_outline_back before) (and_comm (is_outline_after (x ∷ before) ls) (may_come before x))
 
 -- from the newest line back the same lists are outlines
 pub outline-back : (ls : List Line) → is_outline_back (back ls) ≡ is_outline ls
-outline-back ls = back_is ls [] ∙ and_true (is_outline ls)
-
--- where the lines are an outline, they are with one more exactly where it may come
-pub outline-more : (ls : List Line) (l : Line) → is_outline ls ≡ true → is_outline (ls ++ l ∷ []) ≡ may_come (back ls) l
-outline-more ls l h = outline_after-append ls (l ∷ []) [] ∙ ap (λ b. b && (may_come (back ls) l && true)) h ∙ and_true (may_come (back ls) l)
-
--- the front of an outline is one
-pub outline-front : (xs ys : List Line) → is_outline (xs ++ ys) ≡ true → is_outline xs ≡ true
-outline-front xs ys h = (and_parts (is_outline xs) (is_outline_after (back_onto xs []) ys) (sym (outline_after-append xs ys []) ∙ h)).0
+outline-back ls = back_is ls [] ∙ and-true (is_outline ls)
 
 -- the lines up to one
 pub upto : (ls : List Line) (i : ℕ) (x : Line) → i < length ls → x ≡ get_or ls i x → take (i + 1) ls ≡ take i ls ++ x ∷ []
@@ -64,10 +45,6 @@ upto ls i x h e = take_more ls i x h ∙ ap (λ y. take i ls ++ y ∷ []) (sym e
 
 pub back-upto : (ls : List Line) (i : ℕ) (x : Line) → i < length ls → x ≡ get_or ls i x → back (take (i + 1) ls) ≡ x ∷ back (take i ls)
 back-upto ls i x h e = ap back (upto ls i x h e) ∙ back-push (take i ls) x
-
-and_false : (b : Bool) → (b && false) ≡ false
-and_false true = refl
-and_false false = refl
 
 -- lines behind one that may not come mend nothing
 pub no-outline : (ls : List Line) (i : ℕ) (x : Line) → i < length ls → x ≡ get_or ls i x → may_come (back (take i ls)) x ≡ false → is_outline ls ≡ false
@@ -78,7 +55,19 @@ no-outline ls i x h e bad =
     ap is_outline whole
     ∙ outline_after-append A (x ∷ D) []
     ∙ ap (λ b. is_outline A && (b && is_outline_after (x ∷ back A) D)) bad
-    ∙ and_false (is_outline A)
+    ∙ and_right (is_outline A) false refl
+
+-- ---- lines beside a depth
+
+-- what is asked of a line: whether it is less deep, and whether it is as deep
+pub above-line : {A : Type 0} (n d : ℕ) (x y z : A) → n < d → (if nat_lt n d then x else (if n == d then y else z)) ≡ x
+above-line n d x y z h = cond-true (nat_lt n d) _ _ (lt-ltb n d h)
+
+pub at-line : {A : Type 0} (n d : ℕ) (x y z : A) → n ≡ d → (if nat_lt n d then x else (if n == d then y else z)) ≡ y
+at-line n d x y z e = cond-false (nat_lt n d) _ _ (le-ltb n d (omega (arith, e))) ∙ cond-true (n == d) _ _ (eq-eqb n d e)
+
+pub past-line : {A : Type 0} (n d : ℕ) (x y z : A) → d < n → (if nat_lt n d then x else (if n == d then y else z)) ≡ z
+past-line n d x y z h = cond-false (nat_lt n d) _ _ (le-ltb n d (omega (arith, h))) ∙ cond-false (n == d) _ _ (ne_eqb n d (λ e. omega (arith, h, e)))
 
 -- ---- the newest line of each open depth
 
@@ -93,21 +82,13 @@ get_new zero E n h = refl
 get_new (suc e) [] n h = absurd (omega arith)
 get_new (suc e) (x ∷ E) n h = get_new e E n (omega (arith, h))
 
-get_past : {A : Type 0} (e : ℕ) (E : List A) (n : A) → e ≤ length E → slice_get (take e E ++ n ∷ []) (suc e) ≡ None
-get_past zero E n h = refl
-get_past (suc e) [] n h = absurd (omega arith)
-get_past (suc e) (x ∷ E) n h = get_past e E n (omega (arith, h))
-
 length_new : {A : Type 0} (e : ℕ) (E : List A) (n : A) → e ≤ length E → length (take e E ++ n ∷ []) ≡ suc e
 length_new zero E n h = refl
 length_new (suc e) [] n h = absurd (omega arith)
 length_new (suc e) (x ∷ E) n h = ap suc (length_new e E n (omega (arith, h)))
 
-pub le_from : (a b : ℕ) → nat_le a b ≡ true → a ≤ b
-le_from a b h = search (arith, h)
-
-pub lt_from : (a b : ℕ) → nat_lt a b ≡ true → a < b
-lt_from a b h = search (arith, h)
+get_past : {A : Type 0} (e : ℕ) (E : List A) (n : A) → e ≤ length E → slice_get (take e E ++ n ∷ []) (suc e) ≡ None
+get_past e E n h = let long = length_new e E n h in slice_get_past (take e E ++ n ∷ []) (suc e) (omega (arith, long))
 
 -- what the open lines say of all lines
 pub record Known (before : List Line) : Type 0 where
@@ -140,17 +121,15 @@ known_more x before positive reached k =
     by_place d (inl l) o h fits =
         get_kept (x.depth - 1) (edge before) (sibling x) d fits l
         ∙ k.at d (omega (arith, l, reached))
-        ∙ sym (cond-false (nat_lt x.depth (suc d)) _ _ (le-ltb x.depth (suc d) (omega (arith, l)))
-        ∙ cond-false (x.depth == suc d) _ _ (ne_eqb x.depth (suc d) (λ e. omega (arith, l, e))))
+        ∙ sym (past-line x.depth (suc d) _ _ _ (omega (arith, l)))
     by_place d (inr g) (inr l) h fits =
         ap (λ i. slice_get (take (x.depth - 1) (edge before) ++ sibling x ∷ []) i) (omega (arith, g, l))
         ∙ get_new (x.depth - 1) (edge before) (sibling x) fits
-        ∙ sym (cond-false (nat_lt x.depth (suc d)) _ _ (le-ltb x.depth (suc d) (omega (arith, l, positive)))
-        ∙ cond-true (x.depth == suc d) _ _ (eq-eqb x.depth (suc d) (omega (arith, g, l, positive))))
+        ∙ sym (at-line x.depth (suc d) _ _ _ (omega (arith, g, l, positive)))
     by_place d (inr g) (inl l) h fits =
         ap (λ i. slice_get (take (x.depth - 1) (edge before) ++ sibling x ∷ []) i) (omega (arith, l, h, positive))
         ∙ get_past (x.depth - 1) (edge before) (sibling x) fits
-        ∙ sym (cond-true (nat_lt x.depth (suc d)) _ _ (lt-ltb x.depth (suc d) (omega (arith, l, positive))))
+        ∙ sym (above-line x.depth (suc d) _ _ _ (omega (arith, l, positive)))
 
 -- what a line that may come says
 pub record Came (before : List Line) (l : Line) : Type 0 where
@@ -166,7 +145,7 @@ came before l h =
     let a = and_parts (nat_lt 0 l.depth) _ s.1 in
     let b = and_parts (nat_le l.depth (deepest before)) _ a.1 in
     let c = and_parts (may_follow (last_sibling l.depth before) (sibling l)) (is_sound_line l) b.1 in
-    record { positive = lt_from 0 l.depth a.0; reached = le_from l.depth (deepest before) b.0; follows = c.0; sound = c.1; short = s.0 }
+    record { positive = ltb-true 0 l.depth a.0; reached = leb-true l.depth (deepest before) b.0; follows = c.0; sound = c.1; short = s.0 }
 
 pub known : (before : List Line) → is_outline_back before ≡ true → Known before
 known [] h = record { size = omega arith; at = λ d k. refl }
@@ -216,8 +195,8 @@ fits_is s before l n shows few =
     ∙ ap (λ m. fits_edge (edge before) m l) shows.depth
     ∙ sym (ap (λ b. b && fits_edge (edge before) (deepest before) l) (ap (λ m. nat_le m LINE_LIMIT) (counted-cons l before) ∙ (short_if (counted_with l (counted before)) n (sym (ap (λ m. if_short (counted_with l m)) shows.count) ∙ few)).1))
     ∙ ap (λ b. is_short (l ∷ before) && b) (guarded (nat_lt 0 l.depth) (nat_le l.depth (deepest before)) _ _ (is_sound_line l) (λ a b.
-    let positive = lt_from 0 l.depth a in
-    let reached = le_from l.depth (deepest before) b in
+    let positive = ltb-true 0 l.depth a in
+    let reached = leb-true l.depth (deepest before) b in
     let upward : suc (l.depth - 1) ≡ l.depth = omega (arith, positive) in
     ap (λ o. may_follow o (sibling l)) ((known before shows.outline).at (l.depth - 1) (omega (arith, positive, reached)) ∙ ap (λ d. last_sibling d before) upward)))
 

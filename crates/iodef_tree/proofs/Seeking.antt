@@ -1,6 +1,6 @@
 -- The first of some values that passes a test, those of one value in front of the others.
 use Rattle.std.proofs.Common.{◌≡◌, List, [], ◌∷◌, ◌++◌, Bool, true, false, cond, ◌||◌, Some, None, refl}
-use Rattle.iodef_tree.specs.Fit.{any_at}
+use Rattle.iodef_tree.specs.FitValues.{any_at}
 use Rattle.iodef_tree.specs.Text.{Bytes, Tokens}
 use Rattle.iodef_tree.specs.Values.{Surrounded, Node, beneath, first_at}
 

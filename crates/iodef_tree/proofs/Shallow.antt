@@ -1,17 +1,15 @@
 -- Where no value stands too deep, the trees are low.
-use Rattle.std.proofs.Common.{◌≡◌, ℕ, suc, ◌+◌, ◌≤◌, max, List, [], ◌∷◌, Bool, false, nat_lt, ◌||◌, ◌&&◌, Option, Some, None, Ordering, Less, Equal, Greater, refl, subst, arith}
-use Rattle.std.specs.Prelude.{decimal, is_some}
-use Rattle.std.specs.Ordering.{nat_cmp, match_ordering}
-use Rattle.std.specs.Cmp.Lexicographic.{slice_cmp}
-use Rattle.std.proofs.lemmas.Bool.Decides.{nat_tests}
+use Rattle.std.proofs.Common.{◌≡◌, ℕ, suc, ◌+◌, ◌≤◌, max, List, [], ◌∷◌, nat_lt, ◌&&◌, Option, Some, None, refl, arith, decimal, is_some}
 use Rattle.serde_json.specs.Data as json
 use Rattle.serde_json.specs.Data.{Data, put}
-use Rattle.serde_json.specs.Find.{get_member, as_array}
+use Rattle.serde_json.specs.Find.{as_array}
 use Rattle.iodef_tree.specs.Text.{Bytes}
 use Rattle.iodef_tree.specs.Tree.{Forest, Body, holds, says, Bodies, one, many, in_front, elements, member_front, height}
 use Rattle.iodef_tree.specs.Values.{Node, node, nodes, item_nodes, member_nodes, first_at, is_too_deep, one_or_many, bodies_of_data, body_of_data, elements_of_data, items_of_data, forest_of_data}
 use Rattle.iodef_tree.specs.declared.TheConstants.{DEPTH_LIMIT}
 use Rattle.iodef_tree.proofs.Fitness.{split, head}
+use Rattle.std.proofs.lemmas.Bool.{ltb-false, or_parts}
+use Rattle.iodef_tree.proofs.Each.{IsEach}
 
 abbrev pub body_height : Body → ℕ
 body_height (holds kids) = suc (height kids)
@@ -40,36 +38,27 @@ pub height-member_front : (name : Bytes) (m : Bodies) (rest : Forest) → height
 height-member_front name (one b) rest = height-in_front name None b rest
 height-member_front name (many bs) rest = height-elements name 0 bs rest
 
-low : (n : ℕ) (b : Bool) → (nat_lt DEPTH_LIMIT n || b) ≡ false → n ≤ 32
-low n b e = grind (arith, nat_tests)
-
 bodies_le : (b : Body) (bs : List Body) (n : ℕ) → body_height b ≤ n → tallest bs ≤ n → bodies_height (one_or_many b bs) ≤ n
 bodies_le b [] n p q = p
 bodies_le b (x ∷ xs) n p q = q
 
 here : (d : Data) (o a : ℕ) (rest : List Node) → first_at is_too_deep (node o a d ∷ rest) ≡ None → o ≤ 32
-here d o a rest e = low o (nat_lt DEPTH_LIMIT a && is_some (as_array d)) (head is_too_deep (node o a d) rest e).0
+here d o a rest e = ltb-false DEPTH_LIMIT o (or_parts _ (nat_lt DEPTH_LIMIT a && is_some (as_array d)) (head is_too_deep (node o a d) rest e).0).0
 
 mutual
   low_body : (d : Data) (o a : ℕ) → first_at is_too_deep (nodes o a d) ≡ None → o + body_height (body_of_data d) ≤ 33
-  low_body json.null o a e = let h = here json.null o a [] e in omega arith
-  low_body (json.boolean b) o a e = let h = here (json.boolean b) o a [] e in omega arith
-  low_body (json.number x) o a e = let h = here (json.number x) o a [] e in omega arith
-  low_body (json.string s) o a e = let h = here (json.string s) o a [] e in omega arith
   low_body (json.array ds) o a e = let h = here (json.array ds) o a (item_nodes o (suc a) 0 ds) e in omega arith
   low_body (json.object ms) o a e =
       let h = here (json.object ms) o a (member_nodes (suc o) ms) e in
       let m = low_members ms (suc o) (omega arith) (head is_too_deep (node o a (json.object ms)) (member_nodes (suc o) ms) e).1 in omega (arith, m)
+  low_body d o a e = let h = here d o a [] e in omega arith
 
   low_elements : (d : Data) (o a : ℕ) → first_at is_too_deep (nodes o a d) ≡ None → o + tallest (elements_of_data d) ≤ 33
-  low_elements json.null o a e = let h = here json.null o a [] e in omega arith
-  low_elements (json.boolean b) o a e = let h = here (json.boolean b) o a [] e in omega arith
-  low_elements (json.number x) o a e = let h = here (json.number x) o a [] e in omega arith
-  low_elements (json.string s) o a e = let h = here (json.string s) o a [] e in omega arith
   low_elements (json.array ds) o a e =
       let h = here (json.array ds) o a (item_nodes o (suc a) 0 ds) e in
       low_items ds o (suc a) 0 (omega arith) (head is_too_deep (node o a (json.array ds)) (item_nodes o (suc a) 0 ds) e).1
   low_elements (json.object ms) o a e = let h = here (json.object ms) o a (member_nodes (suc o) ms) e in omega arith
+  low_elements d o a e = let h = here d o a [] e in omega arith
 
   low_items : (ds : json.Items) (o a k : ℕ) → o ≤ 33 → first_at is_too_deep (item_nodes o a k ds) ≡ None → o + tallest (items_of_data ds) ≤ 33
   low_items json.no_items o a k le e = omega arith
@@ -89,34 +78,14 @@ mutual
       let m = height-member_front name (bodies_of_data d) (forest_of_data ms) in
       omega (arith, x, y, z, w, m)
 
--- a member that is put in is the only new one
-pub height-put : (name : Bytes) (e : Data) (ms : json.Members) (b : ℕ) → bodies_height (bodies_of_data e) ≤ b → height (forest_of_data ms) ≤ b → height (forest_of_data (put name e ms)) ≤ b
-height-put name e json.no_members b p q = let m = height-member_front name (bodies_of_data e) (forest_of_data json.no_members) in omega (arith, m)
-height-put name e (json.member l d ms) b p q =
-    let old = height-member_front l (bodies_of_data d) (forest_of_data ms) in
-    step (slice_cmp nat_cmp name l) (height-member_front name (bodies_of_data e) (forest_of_data (json.member l d ms))) (height-member_front l (bodies_of_data e) (forest_of_data ms)) (height-member_front l (bodies_of_data d) (forest_of_data (put name e ms))) (omega (arith, old)) (omega (arith, old)) (height-put name e ms b p (omega (arith, old)))
-  where
-    step : (o : Ordering)
-        → height (member_front name (bodies_of_data e) (forest_of_data (json.member l d ms))) ≡ max (bodies_height (bodies_of_data e)) (height (forest_of_data (json.member l d ms)))
-        → height (member_front l (bodies_of_data e) (forest_of_data ms)) ≡ max (bodies_height (bodies_of_data e)) (height (forest_of_data ms))
-        → height (member_front l (bodies_of_data d) (forest_of_data (put name e ms))) ≡ max (bodies_height (bodies_of_data d)) (height (forest_of_data (put name e ms)))
-        → bodies_height (bodies_of_data d) ≤ b → height (forest_of_data ms) ≤ b → height (forest_of_data (put name e ms)) ≤ b
-        → height (forest_of_data (match_ordering o (json.member name e (json.member l d ms)) (json.member l e ms) (json.member l d (put name e ms)))) ≤ b
-    step Less x y z u v w = omega (arith, x)
-    step Equal x y z u v w = omega (arith, y)
-    step Greater x y z u v w = omega (arith, z)
+-- the tree is as low as each member
+pub heights : (n : ℕ) → IsEach (λ d. bodies_height (bodies_of_data d) ≤ n) (λ ms. height (forest_of_data ms) ≤ n)
+heights n = record {
+  made = λ k d ms h all. let m = height-member_front k (bodies_of_data d) (forest_of_data ms) in omega (arith, h, all, m);
+  first = λ k d ms h. let m = height-member_front k (bodies_of_data d) (forest_of_data ms) in omega (arith, h, m);
+  others = λ k d ms h. let m = height-member_front k (bodies_of_data d) (forest_of_data ms) in omega (arith, h, m);
+}
 
-tallest_le : (b : Body) (bs : List Body) → tallest bs ≤ bodies_height (one_or_many b bs)
+pub tallest_le : (b : Body) (bs : List Body) → tallest bs ≤ bodies_height (one_or_many b bs)
 tallest_le b [] = omega arith
 tallest_le b (x ∷ xs) = omega arith
-
-pub height-get_member : (name : Bytes) (ms : json.Members) (e : Data) → get_member name ms ≡ Some e → tallest (elements_of_data e) ≤ height (forest_of_data ms)
-height-get_member name json.no_members e is = cc
-height-get_member name (json.member l d ms) e is =
-    rw (height-member_front l (bodies_of_data d) (forest_of_data ms)) (step (slice_cmp nat_cmp name l) is (height-get_member name ms e) (tallest_le (body_of_data d) (elements_of_data d)))
-  where
-    step : (o : Ordering) → match_ordering o (get_member name ms) (Some d) (get_member name ms) ≡ Some e → (get_member name ms ≡ Some e → tallest (elements_of_data e) ≤ height (forest_of_data ms)) → tallest (elements_of_data d) ≤ bodies_height (bodies_of_data d)
-        → tallest (elements_of_data e) ≤ max (bodies_height (bodies_of_data d)) (height (forest_of_data ms))
-    step Less is later h = omega (arith, later is)
-    step Equal is later h = let same : d ≡ e = cc in subst (λ x. tallest (elements_of_data x) ≤ max (bodies_height (bodies_of_data d)) (height (forest_of_data ms))) same (omega arith)
-    step Greater is later h = omega (arith, later is)

@@ -1,8 +1,6 @@
 -- A numbered tree whose lines are an outline is that of a document.
-use Rattle.std.proofs.Common.{◌≡◌, ℕ, zero, suc, ◌+◌, ◌≤◌, ◌<◌, Bool, true, false, not, ◌&&◌, ◌||◌, List, [], ◌∷◌, refl, sym, ◌∙◌, ap, arith, if◌then◌else◌, ◌==◌, cond}
-use Rattle.std.specs.Prelude.{Option, Some, None, is_some, nat_lt, nat_le}
-use Rattle.std.specs.Str.{bytes_eq}
-use Rattle.std.proofs.lemmas.Bool.{cond-true, cond-false, ne_eqb, eq-eqb, lt-ltb, le-ltb, and_parts}
+use Rattle.std.proofs.Common.{◌≡◌, ℕ, zero, suc, ◌+◌, ◌≤◌, ◌<◌, Bool, true, false, not, ◌&&◌, ◌||◌, List, [], ◌∷◌, refl, sym, ◌∙◌, ap, arith, if◌then◌else◌, cond, Option, Some, None, is_some, nat_le, bytes_eq}
+use Rattle.std.proofs.lemmas.Bool.{and_parts, leb-true}
 use Rattle.std.proofs.lemmas.List.Sums.{sum_by-cons}
 use Rattle.iodef_tree.specs.Text.{Bytes, bytes_lt}
 use Rattle.iodef_tree.specs.Texts.{HasTexts}
@@ -14,13 +12,13 @@ use Rattle.iodef_tree.specs.Built.{is_numbered, IsNumberedBehind, IsNumbered}
 use Rattle.iodef_tree.specs.declared.TheConstants.{DEPTH_LIMIT, LINE_LIMIT}
 use Rattle.iodef_tree.specs.declared.line.Line.{Line}
 use Rattle.iodef_tree.specs.declared.shape.Sibling.{Sibling}
-use Rattle.iodef_tree.proofs.Outlines.{outline_after-append, back_onto-append, outline-back, le_from, Came, came}
+use Rattle.iodef_tree.proofs.Outlines.{outline_after-append, back_onto-append, outline-back, Came, came, above-line, at-line, past-line}
 
 -- ---- the siblings of a tree among its lines
 
 -- deeper lines are no siblings
 sibling_past : (x : Line) (before : List Line) (d : ℕ) → d < x.depth → last_sibling d (x ∷ before) ≡ last_sibling d before
-sibling_past x before d h = cond-false (nat_lt x.depth d) _ _ (le-ltb x.depth d (omega (arith, h))) ∙ cond-false (x.depth == d) _ _ (ne_eqb x.depth d (λ e. omega (arith, h, e)))
+sibling_past x before d h = past-line x.depth d _ _ _ h
 
 pub sibling_skip : (f : Forest) (n d : ℕ) (before : List Line) → d < n → last_sibling d (back_onto (lines n f) before) ≡ last_sibling d before
 sibling_skip end n d before h = refl
@@ -33,10 +31,10 @@ sibling_skip (branch name place kids rest) n d before h =
     ∙ sibling_past x before d h
 
 pub sibling_here : (x : Line) (before : List Line) (d : ℕ) → x.depth ≡ d → last_sibling d (x ∷ before) ≡ Some (sibling x)
-sibling_here x before d e = cond-false (nat_lt x.depth d) _ _ (le-ltb x.depth d (omega (arith, e))) ∙ cond-true (x.depth == d) _ _ (eq-eqb x.depth d e)
+sibling_here x before d e = at-line x.depth d _ _ _ e
 
 pub sibling_below : (x : Line) (before : List Line) (d : ℕ) → x.depth ≡ d → last_sibling (suc d) (x ∷ before) ≡ None
-sibling_below x before d e = cond-true (nat_lt x.depth (suc d)) _ _ (lt-ltb x.depth (suc d) (omega (arith, e)))
+sibling_below x before d e = above-line x.depth (suc d) _ _ _ (omega (arith, e))
 
 -- ---- what each line of an outline says, on the tree
 
@@ -76,8 +74,7 @@ fine (branch n p kids rest) d before o is h =
 only-first : (a b c : Bool) → (a || (b && (c && false))) ≡ true → a ≡ true
 only-first true b c h = refl
 only-first false true true h = h
-only-first false true false h = h
-only-first false false c h = h
+only-first _ b c h = h
 
 only-first_too : (a b : Bool) → (a || (b && (false && true))) ≡ true → a ≡ true
 only-first_too true b h = refl
@@ -93,13 +90,11 @@ stands : (o : Option SiblingPlace) (name : Bytes) (place : Option ℕ) → may_f
     may_stand o name place ≡ true
 stands None name None h k = refl
 stands None name (Some zero) h k = refl
-stands None name (Some (suc j)) h k = k
 stands (Some (n, None)) name None h k = only-first (bytes_lt n name) (bytes_eq n name) false h
 stands (Some (n, Some j)) name None h k = only-first (bytes_lt n name) (bytes_eq n name) true h
 stands (Some (n, None)) name (Some zero) h k = only-first_too (bytes_lt n name) (bytes_eq n name) h
 stands (Some (n, Some j)) name (Some zero) h k = other-name (bytes_lt n name) (bytes_eq n name) h k
-stands (Some (n, None)) name (Some (suc i)) h k = k
-stands (Some (n, Some j)) name (Some (suc i)) h k = k
+stands _ name place h k = k
 
 ordered : (f : Forest) (d : ℕ) (o : Option SiblingPlace) → IsFine o d f → IsNumberedBehind o f → IsOrderedBehind o f
 ordered end d o h k = tt
@@ -109,8 +104,8 @@ ordered (branch n p kids rest) d o h k = (stands o n p h.0 k.0, ordered kids (su
 -- ---- the tree is shallow
 
 plain-depth : (c : Content) (d : ℕ) → nat_le d (if is_class_kind (kind_of c) then DEPTH_LIMIT else DEPTH_LIMIT + 1) ≡ true → d ≤ DEPTH_LIMIT + 1
-plain-depth (text s) d h = le_from d (DEPTH_LIMIT + 1) h
-plain-depth (value s) d h = le_from d (DEPTH_LIMIT + 1) h
+plain-depth (text s) d h = leb-true d (DEPTH_LIMIT + 1) h
+plain-depth (value s) d h = leb-true d (DEPTH_LIMIT + 1) h
 
 high : (f : Forest) (d : ℕ) (o : Option SiblingPlace) → d ≤ DEPTH_LIMIT + 2 → IsFine o d f → height f + d ≤ DEPTH_LIMIT + 2
 high end d o small h = omega (arith, small)
@@ -119,7 +114,7 @@ high (leaf i rest) d o small h =
     let b = high rest d (Some (i.name, i.place)) small h.2 in
     omega (arith, a, b)
 high (branch n p kids rest) d o small h =
-    let a = le_from d DEPTH_LIMIT ((and_parts (is_within_depth (class_line d n p)) _ h.1).0) in
+    let a = leb-true d DEPTH_LIMIT ((and_parts (is_within_depth (class_line d n p)) _ h.1).0) in
     let b = high kids (suc d) None (omega (arith, a)) h.2 in
     let c = high rest d (Some (n, p)) small h.3 in
     omega (arith, a, b, c)
@@ -128,7 +123,7 @@ class_high : (f : Forest) (d : ℕ) (o : Option SiblingPlace) → d ≤ DEPTH_LI
 class_high end d o small h = omega (arith, small)
 class_high (leaf i rest) d o small h = class_high rest d (Some (i.name, i.place)) small h.2
 class_high (branch n p kids rest) d o small h =
-    let a = le_from d DEPTH_LIMIT ((and_parts (is_within_depth (class_line d n p)) _ h.1).0) in
+    let a = leb-true d DEPTH_LIMIT ((and_parts (is_within_depth (class_line d n p)) _ h.1).0) in
     let b = class_high kids (suc d) None (omega (arith, a)) h.2 in
     let c = class_high rest d (Some (n, p)) small h.3 in
     omega (arith, b, c)
@@ -152,7 +147,7 @@ counted-back_onto (x ∷ xs) ys =
 
 short_back : (ls : List Line) → is_outline_back ls ≡ true → counted ls ≤ LINE_LIMIT
 short_back [] h = omega arith
-short_back (l ∷ before) h = le_from (counted (l ∷ before)) LINE_LIMIT (came before l ((and_parts (may_come before l) _ h).0)).short
+short_back (l ∷ before) h = leb-true (counted (l ∷ before)) LINE_LIMIT (came before l ((and_parts (may_come before l) _ h).0)).short
 
 pub outline-short : (ls : List Line) → is_outline ls ≡ true → counted ls ≤ LINE_LIMIT
 outline-short ls h =

@@ -1,6 +1,5 @@
 -- The open classes of a document under construction.
-use Rattle.std.proofs.Common.{◌≡◌, ℕ, suc, ◌+◌, ◌-◌, Bool, true, false, List, [], ◌∷◌, ◌++◌, length, refl, sym, ◌∙◌, ap, subst, append_assoc, arith, true≢false}
-use Rattle.std.specs.Prelude.{is_some, Result, Ok, Err, IfOk}
+use Rattle.std.proofs.Common.{◌≡◌, ℕ, suc, ◌+◌, ◌-◌, Bool, true, false, List, [], ◌∷◌, ◌++◌, length, refl, sym, ◌∙◌, ap, subst, append_assoc, arith, true≢false, is_some, Result, Ok, Err, IfOk}
 use Rattle.std.specs.List.{AllByRecursion}
 use Rattle.std.proofs.lemmas.Bool.{and_parts}
 use Rattle.std.proofs.lemmas.List.{append-nil, length_push}
@@ -62,20 +61,6 @@ down-add d f xs x y R n a is =
 
 -- ---- one thing more
 
-pub put-root : (s t : Spine) (n : Bytes) (a : Bool) (b : Body) → IsSpineGrown s → s.classes.items ≡ [] → t.classes.items ≡ [] →
-    Grows s.root.members.items n a b t.root.members.items →
-    Extends s (lines (suc (length s.classes.items)) (in_front n (place_of a 0) b end)) (length s.classes.items) t
-put-root s t n a b h none none' g = record {
-  grown = record { root = g.grown; classes = subst (AllByRecursion IsOpenGrown) (sym none') tt };
-  lines =
-      ap (lines_down 1 (forest t.root)) none'
-      ∙ ap (lines 1) (forest-members t.root)
-      ∙ g.lines 1
-      ∙ ap (λ f. lines 1 f ++ lines 1 (in_front n (place_of a 0) b end)) (sym (forest-members s.root))
-      ∙ sym (ap (λ xs. lines_down 1 (forest s.root) xs ++ lines (suc (length xs)) (in_front n (place_of a 0) b end)) none);
-  depth = ap length (none' ∙ sym none);
-}
-
 pub put-class : (s t : Spine) (P : List Open) (x y : Open) (n : Bytes) (a : Bool) (b : Body) → IsSpineGrown s → t.root ≡ s.root →
     s.classes.items ≡ P ++ x ∷ [] → t.classes.items ≡ P ++ y ∷ [] → y.name ≡ x.name → y.in_array ≡ x.in_array →
     Grows x.object.members.items n a b y.object.members.items →
@@ -125,12 +110,6 @@ opened s t x h root is none =
 
 -- ---- closing
 
-outer-grown : (s o : Spine) (P : List Open) (x : Open) → IsSpineGrown s → o.root ≡ s.root → o.classes.items ≡ P → s.classes.items ≡ P ++ x ∷ [] → IsSpineGrown o
-outer-grown s o P x h root is was = record {
-  root = subst (λ (r : Object). IsGrown r.members.items) (sym root) h.root;
-  classes = subst (AllByRecursion IsOpenGrown) (sym is) ((all-split IsOpenGrown P x (subst (AllByRecursion IsOpenGrown) was h.classes)).0);
-}
-
 pub closed : (s o t : Spine) (x : Open) → o.root ≡ s.root → s.classes.items ≡ o.classes.items ++ x ∷ [] →
     Extends o (lines (suc (length o.classes.items)) (in_front x.name (place_of x.in_array 0) (body (Class x.object)) end)) (length o.classes.items) t →
     Extends s [] (length s.classes.items - 1) t
@@ -150,29 +129,6 @@ closed s o t x root was e =
           ∙ sym (append-nil (lines_of s));
       depth = e.depth ∙ sym (ap (λ (xs : List Open). length xs - 1) was ∙ ap (λ n. n - 1) (one-longer P x) ∙ omega arith);
     }
-
-pub closed-none : (s t : Spine) → IsSpineGrown s → t.root ≡ s.root → s.classes.items ≡ [] → t.classes.items ≡ [] → Extends s [] (length s.classes.items - 1) t
-closed-none s t h root none none' = record {
-  grown = record {
-    root = subst (λ (o : Object). IsGrown o.members.items) (sym root) h.root;
-    classes = subst (AllByRecursion IsOpenGrown) (sym none') tt;
-  };
-  lines =
-      ap (λ (o : Object). lines_down 1 (forest o) t.classes.items) root
-      ∙ ap (lines_down 1 (forest s.root)) (none' ∙ sym none)
-      ∙ sym (append-nil (lines_of s));
-  depth = ap length none' ∙ sym (ap (λ (xs : List Open). length xs - 1) none);
-}
-
-pub extends-same : (s : Spine) (n : ℕ) → IsSpineGrown s → length s.classes.items ≡ n → Extends s [] n s
-extends-same s n h long = record { grown = h; lines = sym (append-nil (lines_of s)); depth = long }
-
-pub extends-more : (s t u : Spine) (m n k : ℕ) → Extends s [] m t → Extends t [] n u → n ≡ k → Extends s [] k u
-extends-more s t u m n k e g is = record {
-  grown = g.grown;
-  lines = g.lines ∙ append-nil (lines_of t) ∙ e.lines;
-  depth = g.depth ∙ is;
-}
 
 -- ---- a line
 

@@ -1,10 +1,8 @@
 -- The texts of a tree made of what serde_json read.
-use Rattle.std.proofs.Common.{◌≡◌, ◌≤◌, ℕ, suc, ◌-◌, Bool, true, false, ◌&&◌, ◌||◌, List, [], ◌∷◌, sym, ap, ◌∙◌, arith, true≢false}
-use Rattle.std.specs.Prelude.{Option, Some, None, is_some, nat_lt}
+use Rattle.std.proofs.Common.{◌≡◌, ◌≤◌, ℕ, suc, ◌-◌, Bool, true, false, ◌&&◌, ◌||◌, List, [], ◌∷◌, sym, ap, ◌∙◌, arith, true≢false, Option, Some, None, is_some, nat_lt, bytes_eq}
 use Rattle.std.specs.List.{AllByRecursion}
 use Rattle.std.specs.Option.{option_map_or}
-use Rattle.std.specs.Str.{bytes_eq}
-use Rattle.std.proofs.lemmas.Bool.{and_parts}
+use Rattle.std.proofs.lemmas.Bool.{and_parts, ltb-true}
 use Rattle.std.proofs.lemmas.Slice.Eq.{bytes_eq-Decides}
 use Rattle.serde_json.specs.Data as json
 use Rattle.serde_json.specs.Data.{Data, depth, items_depth}
@@ -12,14 +10,13 @@ use Rattle.serde_json.specs.Read.{max_depth, read}
 use Rattle.serde_json.specs.View.{view}
 use Rattle.serde_json.specs.Written.{compact_text}
 use Rattle.serde_json.specs.declared.value.Value.{Value}
-use Rattle.iodef_tree.specs.Fit.{HasBodyTexts, HaveTexts}
+use Rattle.iodef_tree.specs.FitValues.{HasBodyTexts, HaveTexts}
 use Rattle.iodef_tree.specs.Text.{Bytes}
 use Rattle.iodef_tree.specs.Texts.{is_plain, are_plain, is_empty, may_be_value, may_be_text, HasTexts}
 use Rattle.iodef_tree.specs.Tree.{Forest, Body, holds, says, Bodies, one, many, in_front, elements}
 use Rattle.iodef_tree.specs.View.{forest_of_members}
 use Rattle.iodef_tree.specs.declared.TheConstants.{DEPTH_LIMIT}
 use Rattle.iodef_tree.specs.declared.line.Kind.TheVariants as kind
-use Rattle.iodef_tree.proofs.Outlines.{lt_from}
 
 -- ---- a tree, member by member
 
@@ -41,16 +38,13 @@ texts-members ((name, many bs) ∷ ms) all = texts-elements name bs 0 (forest_of
 -- no deeper than so many arrays
 mutual
   plain-depth : (deep : ℕ) (d : Data) → is_plain deep d ≡ true → depth d ≤ deep
-  plain-depth deep json.null h = omega arith
-  plain-depth deep (json.boolean b) h = omega arith
-  plain-depth deep (json.number n) h = omega arith
-  plain-depth deep (json.string s) h = omega arith
   plain-depth deep (json.array ds) h =
       let parts = and_parts (nat_lt 0 deep) (are_plain (deep - 1) ds) h in
-      let some = lt_from 0 deep parts.0 in
+      let some = ltb-true 0 deep parts.0 in
       let inner = items-depth (deep - 1) ds parts.1 in
       omega (arith, some, inner)
   plain-depth deep (json.object ms) h = absurd (true≢false (sym h))
+  plain-depth deep _ h = omega arith
 
   items-depth : (deep : ℕ) (ds : json.Items) → are_plain deep ds ≡ true → items_depth ds ≤ deep
   items-depth deep json.no_items h = omega arith
@@ -61,13 +55,11 @@ mutual
       omega (arith, a, b)
 
 value-depth : (in_array : Bool) (d : Data) → may_be_value in_array d ≡ true → depth d ≤ max_depth
-value-depth in_array json.null h = omega arith
-value-depth in_array (json.boolean b) h = omega arith
-value-depth in_array (json.number n) h = omega arith
 value-depth in_array (json.string s) h = absurd (true≢false (sym h))
 value-depth in_array (json.array ds) h =
     let low = plain-depth DEPTH_LIMIT (json.array ds) ((and_parts (is_empty ds || in_array) (is_plain DEPTH_LIMIT (json.array ds)) h).1) in omega (arith, low)
 value-depth in_array (json.object ms) h = absurd (true≢false (sym h))
+value-depth in_array _ h = omega arith
 
 -- what is written of such a value, and reads back
 pub written-text : (in_array : Bool) (v : Value) (t : Bytes) → may_be_value in_array (view v) ≡ true → t ≡ compact_text (view v) → (depth (view v) ≤ max_depth → read t ≡ Some (view v)) →

@@ -1,6 +1,5 @@
 -- The text of a tree, member by member.
-use Rattle.std.proofs.Common.{◌≡◌, ℕ, suc, ◌+◌, ◌<◌, Bool, true, false, List, [], ◌∷◌, ◌++◌, map, length, drop, drop-cons, get_or, arith, refl, sym, ◌∙◌, ap, append_assoc, if◌then◌else◌, true≢false}
-use Rattle.std.specs.Prelude.{Option, Some, None}
+use Rattle.std.proofs.Common.{◌≡◌, ℕ, suc, ◌+◌, ◌<◌, Bool, true, false, List, [], ◌∷◌, ◌++◌, map, length, drop, get_or, refl, sym, ◌∙◌, ap, append_assoc, if◌then◌else◌, true≢false, Option, Some, None}
 use Rattle.json.specs.Print.{quoted}
 use Rattle.serde_json.specs.Written.{comma_if}
 use Rattle.iodef_tree.specs.Text.{Bytes}
@@ -10,6 +9,7 @@ use Rattle.iodef_tree.specs.declared.text.Text.{Text}
 use Rattle.iodef_tree.specs.declared.object.Member.{Member}
 use Rattle.iodef_tree.proofs.Filled.{has_elements}
 use Rattle.iodef_tree.specs.Written.{front_text, goes_on, close_text, written, body_text, array_text, member_text}
+use Rattle.iodef_tree.proofs.Members.{members-next}
 
 written-front : (later : Bool) (n : Bytes) (p : Option ℕ) (b : Body) (rest : Forest) →
     written later (in_front n p b rest) ≡ front_text later n p ++ (body_text b ++ (close_text p rest ++ written true rest))
@@ -70,15 +70,6 @@ goes_on-members (m ∷ ms) = by_bodies m.1 (goes_on-members ms)
 
 -- ---- members and elements, one after another
 
-one-more : (i : ℕ) → suc i ≡ i + 1
-one-more i = omega arith
-
-first-left : (xs : List (Text × Member)) (i : ℕ) (m : Text × Member) → i < length xs → m ≡ get_or xs i m →
-    members_forest (drop i xs) ≡ member_front m.0 (bodies m.1) (members_forest (drop (i + 1) xs))
-first-left xs i m h e =
-    ap members_forest (drop-cons xs i m h ∙ ap (λ y. y ∷ drop (suc i) xs) (sym e))
-    ∙ ap (λ k. member_front m.0 (bodies m.1) (members_forest (drop k xs))) (one-more i)
-
 pub write-member : (out new R : Bytes) (later : Bool) (xs : List (Text × Member)) (i : ℕ) (m : Text × Member) → i < length xs → m ≡ get_or xs i m →
     has_elements (bodies m.1) ≡ true → new ≡ out ++ member_text later m.0 (bodies m.1) → out ++ written later (members_forest (drop i xs)) ≡ R →
     new ++ written true (members_forest (drop (i + 1) xs)) ≡ R
@@ -86,5 +77,5 @@ write-member out new R later xs i m h e filled made left =
     let rest = members_forest (drop (i + 1) xs) in
     ap (λ s. s ++ written true rest) made
     ∙ append_assoc out (member_text later m.0 (bodies m.1)) (written true rest)
-    ∙ ap (λ s. out ++ s) (sym (ap (written later) (first-left xs i m h e) ∙ written-member later m.0 (bodies m.1) rest (goes_on-members (map named (drop (i + 1) xs))) filled))
+    ∙ ap (λ s. out ++ s) (sym (ap (written later) (members-next xs i m h e) ∙ written-member later m.0 (bodies m.1) rest (goes_on-members (map named (drop (i + 1) xs))) filled))
     ∙ left

@@ -24,25 +24,31 @@ datum kind.Class s ms = json.object ms
 datum kind.Text s ms = json.string s
 datum kind.Value s ms = unwrap_or (read s) json.null
 
--- Of the lines before the first that is less deep: the members at this depth behind a sibling, and the elements of the
--- sibling's array. A line that is the first element of an array begins a member with all its elements.
+-- what a line gives beside a depth: nothing more where it is less deep, its own where it is as deep, and else what follows
+abbrev pub by_depth : {A : Type 0} → Line → ℕ → A → A → A → A
+by_depth l depth ended own passed = if nat_lt l.depth depth then ended else (if l.depth == depth then own else passed)
+
+-- the member that a line begins: where it is in an array, all the elements, of which the line is the first
+abbrev pub member_begun : Line → Data → json.Items → json.Members → json.Members
+member_begun l d others rest = if l.in_array then json.member l.name (json.array (json.item d others)) rest else json.member l.name d rest
+
+-- Of the lines before the first that is less deep: the members at this depth behind a sibling, and the elements with which
+-- the sibling's array goes on.
 abbrev mutual
   pub members_from : ℕ → Option Sibling → List Line → json.Members
   members_from depth before [] = json.no_members
-  members_from depth before (l ∷ ls) =
-      if nat_lt l.depth depth then json.no_members
-      else (if l.depth == depth then (if continues before l then members_from depth (Some (sibling l)) ls
-      else (if l.in_array then json.member l.name (json.array (json.item (datum l.kind l.text (members_from (suc depth) None ls)) (items_from depth (Some (sibling l)) ls))) (members_from depth (Some (sibling l)) ls)
-      else json.member l.name (datum l.kind l.text (members_from (suc depth) None ls)) (members_from depth (Some (sibling l)) ls)))
-      else members_from depth before ls)
+  members_from depth before (l ∷ ls) = by_depth l depth
+      json.no_members
+      (if continues before l then members_from depth (Some (sibling l)) ls
+      else member_begun l (datum l.kind l.text (members_from (suc depth) None ls)) (items_from depth (Some (sibling l)) ls) (members_from depth (Some (sibling l)) ls))
+      (members_from depth before ls)
 
   pub items_from : ℕ → Option Sibling → List Line → json.Items
   items_from depth before [] = json.no_items
-  items_from depth before (l ∷ ls) =
-      if nat_lt l.depth depth then json.no_items
-      else (if l.depth == depth then (if continues before l then json.item (datum l.kind l.text (members_from (suc depth) None ls)) (items_from depth (Some (sibling l)) ls)
-      else json.no_items)
-      else items_from depth before ls)
+  items_from depth before (l ∷ ls) = by_depth l depth
+      json.no_items
+      (if continues before l then json.item (datum l.kind l.text (members_from (suc depth) None ls)) (items_from depth (Some (sibling l)) ls) else json.no_items)
+      (items_from depth before ls)
 
 -- the members of the root
 abbrev pub data_of : List Line → json.Members
@@ -50,12 +56,9 @@ data_of ls = members_from 1 None ls
 
 -- what stands at `0` in an array or an object
 abbrev pub zeroth : Data → Option Data
-zeroth json.null = None
-zeroth (json.boolean b) = None
-zeroth (json.number n) = None
-zeroth (json.string s) = None
 zeroth (json.array ds) = get_item 0 ds
 zeroth (json.object ms) = get_member (codes "0") ms
+zeroth _ = None
 
 -- the member `IncidentID` of what stands at `/Incident/0` (RFC 7970 section 3.4)
 abbrev pub id_in : Data → Option Data

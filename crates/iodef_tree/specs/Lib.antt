@@ -15,7 +15,7 @@ pub mod Lookup
 pub mod Values
 pub mod Reading
 pub mod Filled
-pub mod Fit
+pub mod FitValues
 pub mod Laws
 pub mod Examples
-pub mod Kept
+pub mod SoundParts

@@ -1,5 +1,5 @@
 -- Parents and paths of the lines of an outline, from the flat list of its lines alone.
-use Rattle.std.specs.Prelude.{ℕ, suc, List, [], ◌∷◌, ◌++◌, map, filter, find, count_by, Bool, true, false, not, ◌==◌, ◌&&◌, Option}
+use Rattle.std.specs.Prelude.{ℕ, suc, List, [], ◌∷◌, ◌++◌, map, filter, find, count_by, Bool, true, false, ◌==◌, ◌&&◌, Option}
 use Rattle.std.specs.Option.{option_map_or}
 use Rattle.std.specs.List.{before_first, list_any}
 use Rattle.std.specs.Str.{bytes_eq}
@@ -70,7 +70,3 @@ below p es = filter (λ e. is_under p e.path) es
 -- the lines directly in the class at a path, or in the root
 abbrev pub members_at : Tokens → List LocatedLine → List LocatedLine
 members_at p es = filter (λ e. same_path e.parent p) es
-
--- the header: the plain lines of the root
-abbrev pub header_of : List LocatedLine → List LocatedLine
-header_of es = filter (λ e. is_root e.parent && not (is_class e)) es

@@ -128,13 +128,7 @@ reading bytes = do
 -- What a function returned, seen by view, is what reading gives, unless memory ran out.
 abbrev pub Fails : {Y : Type 0} → ReadFault → Result Y ReadFault → Type 0
 Fails NoMemory read = Unit {0}
-Fails NotJson read = read ≡ Err NotJson
-Fails NotDocument read = read ≡ Err NotDocument
-Fails (Missing p r) read = read ≡ Err (Missing p r)
-Fails (NotWhole p) read = read ≡ Err (NotWhole p)
-Fails (NestedClass p) read = read ≡ Err (NestedClass p)
-Fails TooDeep read = read ≡ Err TooDeep
-Fails TooManyLines read = read ≡ Err TooManyLines
+Fails fault read = read ≡ Err fault
 
 abbrev pub Returns : {X Y : Type 0} → (X → Y) → Result X ReadFault → Result Y ReadFault → Type 0
 Returns view (Ok x) read = read ≡ Ok (view x)

@@ -17,12 +17,10 @@ use Rattle.iodef_tree.specs.declared.line.Kind.TheVariants as kind
 -- (RFC 8259 sections 3 to 6).
 abbrev mutual
   pub is_plain : ℕ → Data → Bool
-  is_plain deep json.null = true
-  is_plain deep (json.boolean b) = true
   is_plain deep (json.number n) = not (is_float n)
-  is_plain deep (json.string s) = true
   is_plain deep (json.array ds) = nat_lt 0 deep && are_plain (deep - 1) ds
   is_plain deep (json.object ms) = false
+  is_plain deep _ = true
 
   pub are_plain : ℕ → json.Items → Bool
   are_plain deep json.no_items = true

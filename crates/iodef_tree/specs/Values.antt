@@ -23,20 +23,13 @@ abbrev mutual
   forest_of_data (json.member name d ms) = member_front name (one_or_many (body_of_data d) (elements_of_data d)) (forest_of_data ms)
 
   pub body_of_data : Data → Body
-  body_of_data json.null = says (value (compact_text json.null))
-  body_of_data (json.boolean b) = says (value (compact_text (json.boolean b)))
-  body_of_data (json.number n) = says (value (compact_text (json.number n)))
-  body_of_data (json.string s) = says (text s)
-  body_of_data (json.array ds) = says (value (compact_text (json.array ds)))
   body_of_data (json.object ms) = holds (forest_of_data ms)
+  body_of_data (json.string s) = says (text s)
+  body_of_data d = says (value (compact_text d))
 
   pub elements_of_data : Data → List Body
-  elements_of_data json.null = []
-  elements_of_data (json.boolean b) = []
-  elements_of_data (json.number n) = []
-  elements_of_data (json.string s) = []
   elements_of_data (json.array ds) = items_of_data ds
-  elements_of_data (json.object ms) = []
+  elements_of_data _ = []
 
   pub items_of_data : json.Items → List Body
   items_of_data json.no_items = []

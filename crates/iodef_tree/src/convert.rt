@@ -9,7 +9,7 @@ ghost use Rattle.serde_json.specs.Read.{max_depth, read as read_text};
 ghost use Rattle.iodef_tree.specs.Sound.{IsOrdered};
 ghost use Rattle.iodef_tree.specs.Texts.{HasTexts};
 ghost use Rattle.iodef_tree.specs.Filled.{IsFilled, IsMemberFilled, IsItemFilled};
-ghost use Rattle.iodef_tree.specs.Fit.{IsBodyOrdered, AreBodiesOrdered, HasBodyTexts, HaveTexts, is_flat, is_element_flat, are_flat, are_members_flat};
+ghost use Rattle.iodef_tree.specs.FitValues.{IsBodyOrdered, AreBodiesOrdered, HasBodyTexts, HaveTexts, is_flat, is_element_flat, are_flat, are_members_flat};
 ghost use Rattle.iodef_tree.specs.Values.{forest_of_data, bodies_of_data, body_of_data, items_of_data};
 ghost use Rattle.iodef_tree.specs.View.{forest, bodies, body};
 

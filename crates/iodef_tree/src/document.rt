@@ -1,3 +1,5 @@
+//! Documents: the one type that the crates above hold, and its calls.
+
 ghost use Rattle.std.specs.Prelude.{◌≡◌, ◌||◌, IfOk, IfSome, is_some};
 ghost use Rattle.iodef_tree.specs.Filled.{IsFilled};
 ghost use Rattle.iodef_tree.specs.Paths.{located, classes_of as class_paths_of, has_class as has_class_at};

@@ -1,9 +1,12 @@
+//! Why a body is no list of documents, and why lines make none.
+
 ghost use Rattle.std.specs.Prelude.{◌≡◌};
 ghost use Rattle.iodef_tree.specs.declared.fault.ReadFault.TheVariants.{NoMemory};
 ghost use Rattle.iodef_tree.specs.Reading.{fault_name, required_name};
 
 use crate::path::Path;
 use std::alloc::{AllocError, AllocFailed};
+use thiserror::Error;
 
 /// The members that an Incident must have (RFC 7970 section 3.2), in the order in which a missing one is told.
 #[derive(Clone, Copy, Debug, PartialEq, Eq)]
@@ -16,22 +19,30 @@ pub enum Required {
 
 /// Why a body is no list of documents: the first of these that holds, in this order. A pointer is one in the body that
 /// was read, and within one fault it is that of the first place in stored order.
-#[derive(Drop)]
+#[derive(Debug, Drop, Error)]
 pub enum ReadFault {
     /// The bytes are no JSON text (RFC 8259).
+    #[error("the bytes are no JSON text")]
     NotJson,
     /// The root is no object, or its `Incident` is no array of 1 to 16 objects (RFC 8727 section 4).
+    #[error("the body is no document")]
     NotDocument,
     /// The Incident at this pointer lacks this member.
+    #[error("an Incident has no {}", .1.name())]
     Missing(Path, Required),
     /// The number at this pointer is neither an i64 nor a u64.
+    #[error("a number is neither an i64 nor a u64")]
     NotWhole(Path),
     /// The object at this pointer stands inside an array inside an array.
+    #[error("an object stands inside an array inside an array")]
     NestedClass(Path),
     /// A line is deeper than the limit, or the arrays of a value are.
+    #[error("a line is too deep")]
     TooDeep,
     /// One of the documents has more lines than the limit.
+    #[error("a document has too many lines")]
     TooManyLines,
+    #[error("no memory")]
     NoMemory,
 }
 
@@ -84,10 +95,12 @@ impl<T: Drop> From<AllocFailed<T>> for ReadFault {
 }
 
 /// Why lines make no document.
-#[derive(Clone, Copy, Debug, PartialEq, Eq)]
+#[derive(Clone, Copy, Debug, PartialEq, Eq, Error)]
 pub enum OutlineFault {
     /// They are no outline.
+    #[error("the lines are no outline")]
     BadOutline,
+    #[error("no memory")]
     NoMemory,
 }
 

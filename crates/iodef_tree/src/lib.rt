@@ -1,4 +1,20 @@
-//! IODEF v2 documents in JSON (RFC 7970, RFC 8727): reading, outlines, class paths and JSON pointers (RFC 6901).
+//! IODEF v2 documents in JSON (RFC 7970, RFC 8727): trees in memory, and flat lists of lines in every contract.
+//!
+//! To read first, in `specs/`: `Tree`, a document as a tree and the lines of it; `Paths`, the path of each line, from the
+//! flat list alone; `Reading`, what a body gives.
+//!
+//! The rooms, in the way of the data:
+//!
+//! - `read`: from bytes to documents, or to the first `fault`; `unfit_values`: the values that no document can hold;
+//!   `convert`: the others, moved into a tree; `line_limit`: how many lines that tree has;
+//! - `object`: [`Object`], the tree, with `text`, the bytes of its names and texts; `copy`: the same tree once more;
+//! - `document`: [`Document`], a sound tree with the calls that the crates above make; they see its `line`s;
+//! - `outline`, `classes`: walks down the tree, to its lines and to the paths of its classes;
+//! - `path`, `pointer`: [`Path`], and JSON pointers (RFC 6901); `lookup`: the class at a path;
+//! - `shape`: [`Shape`], whether lines that come one at a time are an outline; `value_text`: the texts that stand for a
+//!   value; `builder`: [`Builder`], the document of such lines;
+//! - `value`, `writer`: back to JSON, as a value and as a text, in which `string` quotes;
+//! - [`laws`]: what holds of every document and path, and [`examples`], the lines of three small bodies.
 #![tactic(auto)]
 
 mod builder;
@@ -10,17 +26,17 @@ pub mod examples;
 mod fault;
 pub mod laws;
 mod line;
+mod line_limit;
 mod lookup;
 mod object;
 mod outline;
 mod path;
 mod pointer;
 mod read;
-mod room;
-mod seek;
 mod shape;
 mod string;
 mod text;
+mod unfit_values;
 mod value;
 mod value_text;
 mod writer;

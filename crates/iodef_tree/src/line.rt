@@ -1,3 +1,5 @@
+//! The lines of an outline.
+
 ghost use Rattle.std.specs.Prelude.{◌≡◌};
 
 use crate::text::Text;

@@ -1,3 +1,5 @@
+//! The paths of classes.
+
 ghost use Rattle.std.specs.Prelude.{◌≡◌, ◌++◌, ◌∷◌, [], IfOk, decimal, string_bytes};
 ghost use Rattle.iodef_tree.specs.Pointer.{pointer_text, pointer_tokens};
 ghost use Rattle.iodef_tree.specs.Text.{is_prefix};
@@ -9,7 +11,7 @@ use std::marker::Model;
 
 /// The path of a class by its reference tokens (RFC 6901 section 3), the root's being empty. An array place is its
 /// decimal digits. Contracts see the list of the tokens.
-#[derive(Drop)]
+#[derive(Debug, Drop)]
 pub struct Path {
     tokens: Vec<Text>,
 }

@@ -8,12 +8,15 @@ ghost use Rattle.iodef_tree.specs.declared.pointer.PathFault.TheVariants.{NoMemo
 
 use crate::text::Text;
 use std::alloc::{AllocError, AllocFailed, Global};
+use thiserror::Error;
 
 /// Why a text gives no path.
-#[derive(Clone, Copy, Debug, PartialEq, Eq)]
+#[derive(Clone, Copy, Debug, PartialEq, Eq, Error)]
 pub enum PathFault {
     /// The text is no JSON pointer.
+    #[error("the text is no JSON pointer")]
     BadPath,
+    #[error("no memory")]
     NoMemory,
 }
 

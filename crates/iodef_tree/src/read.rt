@@ -6,15 +6,15 @@ ghost use Rattle.serde_json.specs.Find.{as_array, as_object, get_member};
 ghost use Rattle.serde_json.specs.Read.{max_depth};
 ghost use Rattle.serde_json.specs.View.{view, items_view, members_view};
 ghost use Rattle.iodef_tree.specs.Reading.{Returns, parsed, lacking, all_objects, are_incidents, incidents_of, all_complete, all_fit, document_of, if_short, documents, reading};
-ghost use Rattle.iodef_tree.specs.Fit.{IsFit, AreFit, taken};
+ghost use Rattle.iodef_tree.specs.FitValues.{IsFit, AreFit, taken};
 ghost use Rattle.iodef_tree.specs.Tree.{lines};
 
 use crate::convert::object_from;
 use crate::document::Document;
 use crate::fault::{ReadFault, Required};
+use crate::line_limit::room_left;
 use crate::path::Path;
-use crate::room::room_left;
-use crate::seek::{Sought, first_in, is_plain};
+use crate::unfit_values::{Sought, first_in, is_plain};
 use crate::{INCIDENT_LIMIT, LINE_LIMIT};
 use serde_json::{Map, Value};
 use std::alloc::Global;

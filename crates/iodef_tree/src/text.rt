@@ -1,10 +1,12 @@
+//! Texts, which contracts see as the list of their bytes.
+
 ghost use Rattle.std.specs.Prelude.{◌≡◌, string_bytes};
 
 use std::alloc::AllocError;
 use std::marker::Model;
 
 /// A text, which contracts see as the list of its bytes.
-#[derive(Drop)]
+#[derive(Debug, Drop)]
 pub struct Text {
     string: String,
 }

@@ -1,24 +1,30 @@
+//! Why markings aren't accepted, and why a path has no site.
 ghost use Rattle.std.specs.Prelude.{◌≡◌};
 ghost use Rattle.marking.specs.declared.fault.MarkingFault.TheVariants.{NoMemory};
 ghost use Rattle.marking.specs.declared.fault.SiteFault.TheVariants as site;
 
 use iodef_tree::Path;
 use std::alloc::{AllocError, AllocFailed};
+use thiserror::Error;
 
 /// Why the markings of a document aren't accepted.
-#[derive(Drop)]
+#[derive(Debug, Drop, Error)]
 pub enum MarkingFault {
     /// The class at this path is the first, in stored order, that breaks the marking rule: its `restriction` is none of the
     /// ten texts (RFC 7970 section 3.3.1), its `ext-restriction` is no text or stands alone, or `ext-value` has none.
+    #[error("a class breaks the marking rule")]
     BadMarking(Path),
+    #[error("no memory")]
     NoMemory,
 }
 
 /// Why a path has no site.
-#[derive(Clone, Copy, Debug, PartialEq, Eq)]
+#[derive(Clone, Copy, Debug, PartialEq, Eq, Error)]
 pub enum SiteFault {
     /// The path is neither a class's nor the root's.
+    #[error("there is no class at the path")]
     NoClass,
+    #[error("no memory")]
     NoMemory,
 }
 

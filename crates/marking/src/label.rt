@@ -1,3 +1,4 @@
+//! Labels and handlings, with their tables.
 use std::alloc::{AllocError, Global};
 
 /// How what is under a label is to be handled, the widest audience first.

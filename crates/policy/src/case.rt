@@ -1,3 +1,4 @@
+//! What an incident is judged by.
 use crate::gate::Gates;
 use crate::permission::Permissions;
 

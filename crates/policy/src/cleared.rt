@@ -1,3 +1,4 @@
+//! The table of clearances.
 ghost use Rattle.std.specs.Prelude.{◌≡◌};
 ghost use Rattle.policy.specs.Clearance.{clearance_of};
 

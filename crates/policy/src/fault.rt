@@ -1,10 +1,14 @@
+//! Why a path has no verdict.
 use std::alloc::AllocError;
+use thiserror::Error;
 
 /// Why a path has no verdict.
-#[derive(Clone, Copy, Debug, PartialEq, Eq)]
+#[derive(Clone, Copy, Debug, PartialEq, Eq, Error)]
 pub enum DecideFault {
     /// There is no class at the path; the root is none.
+    #[error("there is no class at the path")]
     NoClass,
+    #[error("no memory")]
     NoMemory,
 }
 

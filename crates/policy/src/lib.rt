@@ -1,6 +1,20 @@
 //! The written policy: what a reader is cleared for, which gates it passes, which permissions cover a class for it, and
-//! the verdict of each class of a document, its path judged alone (FIRST TLP 2.0, the MISP book's distribution levels and
-//! sharing groups, RFC 7970 section 3.3.1).
+//! the verdict of each class of a document, its path judged alone (FIRST TLP 2.0, the MISP book's distribution levels
+//! and sharing groups, RFC 7970 section 3.3.1).
+//!
+//! To read first, in `specs/`: `Clearance`, `Gates`, `Permissions` and `Verdict`, a page each, which are the policy.
+//!
+//! The rooms, in the way of a question:
+//!
+//! - `standing`: who asks; `case`: what the incident is judged by, its gates (`gate`) and permissions (`permission`);
+//!   `numbers`: the lists of numbers in a standing;
+//! - `cleared`: [`clearance`]; `gate`: [`passes`]; `permission`: [`includes`]; `rule`: the names of the rules;
+//! - `covering`: [`covers`], whether one permission covers one class;
+//! - `deciding`: [`decide`], the [`Verdict`] of one class, by a walk from the root (`descent`); `fault`: why there is
+//!   none;
+//! - for passes over a whole document: `inherited`, [`Carried`], what is handed down; `ahead`, [`Ahead`], the gates and
+//!   permissions that can still be met (`onward`); `spot`, where a pass is;
+//! - [`laws`]: what the policy promises of every document, case and reader.
 #![tactic(auto)]
 
 mod ahead;

@@ -1,3 +1,4 @@
+//! Lists of numbers, of groups or communities.
 ghost use Rattle.std.specs.Prelude.{◌≡◌};
 ghost use Rattle.policy.specs.Numbers.{is_among};
 

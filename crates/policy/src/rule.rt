@@ -1,3 +1,4 @@
+//! The rules by which classes are shown and hidden, with their names.
 ghost use Rattle.std.specs.Prelude.{◌≡◌};
 
 /// The rule by which a class is shown, a gate refuses, or a class is hidden.

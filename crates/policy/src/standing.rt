@@ -1,3 +1,4 @@
+//! How a reader stands to an incident.
 ghost use Rattle.std.specs.Prelude.{◌≡◌};
 ghost use Rattle.policy.specs.Standing.{stranger};
 

@@ -1,3 +1,4 @@
+//! The verdict of a class.
 use crate::rule::Rule;
 
 /// Whether the reader sees a class, and the rule by which.

@@ -1,3 +1,4 @@
+//! Why a line has no answer.
 use iodef_tree::PathFault;
 use std::alloc::{AllocError, AllocFailed};
 

@@ -11,7 +11,8 @@ use Rattle.iodef_tree.specs.Tree.{Forest, end, leaf, branch, steps, lines, leaf_
 use Rattle.iodef_tree.specs.Walk.{walk, leaf_entry, class_entry}
 use Rattle.redact.specs.Kept.{Verdicts}
 use Rattle.redact.specs.Judged.{judge, visible_classes}
-use Rattle.redact.proofs.Keeping.{plain_kind, is_seen}
+use Rattle.redact.proofs.Keeping.{is_seen}
+use Rattle.marking.proofs.Bad.{no_class-kind}
 
 pub count_by-append : {X : Type 0} (test : X → Bool) (xs ys : List X) → count_by test (xs ++ ys) ≡ count_by test xs + count_by test ys
 count_by-append test xs ys = sum_by-append (λ x. cond (test x) 1 0) xs ys
@@ -24,7 +25,7 @@ pub count-walk : (v : Verdicts) (f : Forest) (d : ℕ) (p : Tokens) → count_by
 count-walk v end d p = refl
 count-walk v (leaf i rest) d p =
     count_by-cons (is_seen v) (leaf_entry d p i) (walk d p rest)
-    ∙ ap (λ b. cond (b && v.visible (leaf_entry d p i).path) 1 0 + count_by (is_seen v) (walk d p rest)) (plain_kind i.content)
+    ∙ ap (λ b. cond (b && v.visible (leaf_entry d p i).path) 1 0 + count_by (is_seen v) (walk d p rest)) (no_class-kind i.content)
     ∙ zero-add (count_by (is_seen v) (walk d p rest)) ∙ count-walk v rest d p
 count-walk v (branch name place kids rest) d p =
     let q = p ++ steps name place in

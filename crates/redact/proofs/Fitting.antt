@@ -8,7 +8,7 @@ use Rattle.iodef_tree.specs.Text.{Bytes, Tokens}
 use Rattle.iodef_tree.specs.Tree.{Content, text, value, Forest, end, leaf, branch, steps, kind_of, text_of}
 use Rattle.iodef_tree.specs.Paths.{LocatedLine}
 use Rattle.iodef_tree.specs.Walk.{AreBlocks}
-use Rattle.marking.specs.Label.{Marking, public, white, partner, green, need_to_know, amber, private, red, by_arrangement, extended}
+use Rattle.marking.specs.Label.{Marking, restriction_of}
 use Rattle.marking.specs.Marks.{Held, absent, plain, other, held_by_kind, spelled_by, is_rule_kept}
 use Rattle.marking.specs.Members.{held_by_leaf, held_in, is_rule_kept_in}
 use Rattle.marking.specs.Pass.{bad_below}
@@ -16,7 +16,7 @@ use Rattle.marking.proofs.Written.{AreUnderParents, written-block}
 use Rattle.marking.proofs.Placed.{ArePlaced}
 use Rattle.policy.specs.declared.standing.Standing.{Standing}
 use Rattle.policy.specs.declared.case.Case.{Case}
-use Rattle.redact.specs.Told.{attributes_of, verdicts_of}
+use Rattle.redact.specs.Told.{ext_restriction_of, attributes_by, attributes_of, verdicts_of}
 use Rattle.redact.proofs.Ordered.{Lacks, Fits, LabelsFit}
 use Rattle.redact.proofs.Sizes.{AreLabelNames}
 
@@ -26,7 +26,7 @@ held-kind false (text s) h = cc
 held-kind false (value s) h = cc
 
 -- what is held under no name isn't there
-absent-lacks : (name : Bytes) (f : Forest) → held_in name f ≡ absent → Lacks name f
+pub absent-lacks : (name : Bytes) (f : Forest) → held_in name f ≡ absent → Lacks name f
 absent-lacks name end h = tt
 absent-lacks name (leaf i rest) h = by_name (bytes_eq i.name name) refl h (absent-lacks name rest)
   where
@@ -43,36 +43,24 @@ some-none : {X : Type 0} (o : Option X) → is_some o ≡ true → is_none o ≡
 some-none None h k = false≢true h
 some-none (Some x) h k = false≢true k
 
-unmarked-absent : (r e : Held) → is_rule_kept r e ≡ true → is_none (spelled_by r e) ≡ true → (r ≡ absent) × (e ≡ absent)
+pub unmarked-absent : (r e : Held) → is_rule_kept r e ≡ true → is_none (spelled_by r e) ≡ true → (r ≡ absent) × (e ≡ absent)
 unmarked-absent absent absent h k = (refl, refl)
 unmarked-absent absent (plain t) h k = absurd (false≢true h)
 unmarked-absent absent other h k = absurd (false≢true h)
 unmarked-absent (plain t) e h k = absurd (some-none (spelled_by (plain t) e) h k)
 unmarked-absent other e h k = absurd (false≢true h)
 
-fits-label : (l : Marking) (f : Forest) → Lacks (codes "restriction") f → Lacks (codes "ext-restriction") f → Fits (attributes_of l) f
-fits-label public f r e = (r, tt, tt)
-fits-label white f r e = (r, tt, tt)
-fits-label partner f r e = (r, tt, tt)
-fits-label green f r e = (r, tt, tt)
-fits-label need_to_know f r e = (r, tt, tt)
-fits-label amber f r e = (r, tt, tt)
-fits-label private f r e = (r, tt, tt)
-fits-label red f r e = (r, tt, tt)
-fits-label by_arrangement f r e = (r, tt, tt)
-fits-label (extended t) f r e = (e, (refl, tt), (r, tt, tt))
+-- a label fits where its attributes are lacking
+fits-by : (restriction : Bytes) (ext : Option Bytes) (f : Forest) → Lacks (codes "restriction") f → Lacks (codes "ext-restriction") f → Fits (attributes_by restriction ext) f
+fits-by restriction None f r e = (r, tt, tt)
+fits-by restriction (Some ext) f r e = (e, (refl, tt), (r, tt, tt))
+
+names-by : (restriction : Bytes) (ext : Option Bytes) → AreLabelNames (attributes_by restriction ext)
+names-by restriction None = (refl, tt)
+names-by restriction (Some ext) = (refl, (refl, tt))
 
 pub label-names : (l : Marking) → AreLabelNames (attributes_of l)
-label-names public = (refl, tt)
-label-names white = (refl, tt)
-label-names partner = (refl, tt)
-label-names green = (refl, tt)
-label-names need_to_know = (refl, tt)
-label-names amber = (refl, tt)
-label-names private = (refl, tt)
-label-names red = (refl, tt)
-label-names by_arrangement = (refl, tt)
-label-names (extended t) = (refl, (refl, tt))
+label-names l = names-by (restriction_of l) (ext_restriction_of l)
 
 -- what the marking rule says of a class, of those below it and of those behind it
 pub accepted : (name : Bytes) (place : Option ℕ) (kids rest : Forest) → bad_below (branch name place kids rest) ≡ None →
@@ -95,7 +83,7 @@ module _ (es : List LocatedLine) (c : Case) (s : Standing) (under : AreUnderPare
       let written = written-block es (suc d) q kids under blocks.0 there.0 in (
         (λ u.
             let gone = unmarked-absent (held_in (codes "restriction") kids) (held_in (codes "ext-restriction") kids) parts.0 (ap is_none (sym written) ∙ u) in
-            fits-label _ kids (absent-lacks (codes "restriction") kids gone.0) (absent-lacks (codes "ext-restriction") kids gone.1)),
+            fits-by _ _ kids (absent-lacks (codes "restriction") kids gone.0) (absent-lacks (codes "ext-restriction") kids gone.1)),
         labels-fit kids (suc d) q blocks.1 there.2 parts.1,
         labels-fit rest d p blocks.2 there.3 parts.2,
       )

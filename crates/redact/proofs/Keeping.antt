@@ -5,25 +5,18 @@ use Rattle.std.specs.List.{list_any}
 use Rattle.std.proofs.lemmas.Bool.{false≢true, true≢false, and_left, cond-true, cond-false}
 use Rattle.std.proofs.lemmas.List.Folds.{list_any-append}
 use Rattle.iodef_tree.specs.Text.{Bytes, Tokens, is_root}
-use Rattle.iodef_tree.specs.Paths.{LocatedLine, is_class, is_class_kind}
-use Rattle.iodef_tree.specs.Tree.{Leaf, Forest, end, leaf, branch, steps, Content, text, value, kind_of, text_of, leaf_line, class_line, lines}
+use Rattle.iodef_tree.specs.Paths.{LocatedLine, is_class}
+use Rattle.iodef_tree.specs.Tree.{Leaf, Forest, end, leaf, branch, steps, kind_of, text_of, leaf_line, class_line, lines}
 use Rattle.iodef_tree.specs.Walk.{walk, leaf_entry, class_entry}
 use Rattle.iodef_tree.specs.declared.line.Line.{Line}
 use Rattle.iodef_tree.specs.declared.line.Kind.TheVariants as kind
+use Rattle.marking.proofs.Bad.{no_class-kind}
+use Rattle.marking.proofs.Marked.{not_root}
 use Rattle.redact.specs.Kept.{Attribute, Verdicts, put_all, attribute_lines, is_frame, is_visible_class, is_kept, added, labelled, kept}
-use Rattle.redact.specs.Judged.{judge, judgment_at, inside, keeps_plain, shows_label, home_at, left_before, new_place, left_with, moved, is_end, put_attributes, with_label, cut}
+use Rattle.redact.specs.Judged.{judge, inside, keeps_plain, shows_label, home_at, left_before, new_place, left_with, moved, is_end, put_attributes, cut}
 use Rattle.redact.proofs.Puts.{IsShallow, attributes-append, attributes-lines}
 
-pub plain_kind : (c : Content) → is_class_kind (kind_of c) ≡ false
-plain_kind (text t) = refl
-plain_kind (value t) = refl
-
-pub deep_path : (p : Tokens) (name : Bytes) (place : Option ℕ) → is_root (p ++ steps name place) ≡ false
-deep_path [] name None = refl
-deep_path [] name (Some n) = refl
-deep_path (x ∷ p) name place = refl
-
-pub in_array-kept : (n : ℕ) (place : Option ℕ) → is_some (new_place n place) ≡ is_some place
+in_array-kept : (n : ℕ) (place : Option ℕ) → is_some (new_place n place) ≡ is_some place
 in_array-kept n None = refl
 in_array-kept n (Some zero) = refl
 in_array-kept n (Some (suc k)) = refl
@@ -60,7 +53,7 @@ module _ (v : Verdicts) where
       (v.holds_visible q ≡ any_seen (walk (suc d) q kids)) × SaysBelow (suc d) q kids × SaysBelow d p rest
 
   pub home-class : (p : Tokens) (name : Bytes) (place : Option ℕ) → home_at v (p ++ steps name place) ≡ inside (v.visible (p ++ steps name place))
-  home-class p name place = cond-false (is_root (p ++ steps name place)) _ _ (deep_path p name place)
+  home-class p name place = cond-false (is_root (p ++ steps name place)) _ _ (not_root p name place)
 
   pub keeps-home : (p : Tokens) → (is_root p || v.visible p) ≡ keeps_plain (home_at v p)
   keeps-home [] = refl
@@ -75,30 +68,21 @@ module _ (v : Verdicts) where
   ends end d p n = refl
   ends (leaf i rest) d p n =
       ends rest d p (left_before n i.place)
-      ∙ ap (λ b. not ((b && v.visible (leaf_entry d p i).path) || any_seen (walk d p rest))) (sym (plain_kind i.content))
+      ∙ ap (λ b. not ((b && v.visible (leaf_entry d p i).path) || any_seen (walk d p rest))) (sym (no_class-kind i.content))
   ends (branch name place kids rest) d p n =
       let q = p ++ steps name place in
       let K = walk (suc d) q kids in
       let R = walk d p rest in
-      by_class (v.visible q) (ends kids (suc d) q 0) (ends rest d p (left_before n place))
+      ends-class (v.visible q) (is_end (cut (inside false) 0 (judge v q kids))) (any_seen K) (any_seen R) _ _ _ refl refl (ends kids (suc d) q 0) (ends rest d p (left_before n place))
       ∙ ap (λ b. not (v.visible q || b)) (sym (list_any-append is_seen K R))
     where
-      by_class : (b : Bool) → is_end (cut (inside false) 0 (judge v (p ++ steps name place) kids)) ≡ not (any_seen (walk (suc d) (p ++ steps name place) kids)) →
-          is_end (cut (inside false) (left_before n place) (judge v p rest)) ≡ not (any_seen (walk d p rest)) →
-          is_end (if b then branch name (new_place n place) (with_label (inside false) (judgment_at v (p ++ steps name place)) (cut (inside true) 0 (judge v (p ++ steps name place) kids))) (cut (inside false) (left_with n place) (judge v p rest))
-          else (if is_end (cut (inside false) 0 (judge v (p ++ steps name place) kids)) then cut (inside false) (left_before n place) (judge v p rest)
-          else branch name (new_place n place) (cut (inside false) 0 (judge v (p ++ steps name place) kids)) (cut (inside false) (left_with n place) (judge v p rest))))
-          ≡ not (b || (any_seen (walk (suc d) (p ++ steps name place) kids) || any_seen (walk d p rest)))
-      by_class true k r = refl
-      by_class false k r = by_below (is_end (cut (inside false) 0 (judge v (p ++ steps name place) kids))) (any_seen (walk (suc d) (p ++ steps name place) kids)) k
-        where
-          by_below : (e a : Bool) → e ≡ not a →
-              is_end (if e then cut (inside false) (left_before n place) (judge v p rest) else branch name (new_place n place) (cut (inside false) 0 (judge v (p ++ steps name place) kids)) (cut (inside false) (left_with n place) (judge v p rest)))
-              ≡ not (a || any_seen (walk d p rest))
-          by_below true false h = r
-          by_below false true h = refl
-          by_below true true h = absurd (true≢false h)
-          by_below false false h = absurd (false≢true h)
+      ends-class : (visible ended below behind : Bool) (shown framed gone : Forest) → is_end shown ≡ false → is_end framed ≡ false → ended ≡ not below → is_end gone ≡ not behind →
+          is_end (if visible then shown else (if ended then gone else framed)) ≡ not (visible || (below || behind))
+      ends-class true ended below behind shown framed gone s f e g = s
+      ends-class false true true behind shown framed gone s f e g = absurd (true≢false e)
+      ends-class false true false behind shown framed gone s f e g = g
+      ends-class false false true behind shown framed gone s f e g = f
+      ends-class false false false behind shown framed gone s f e g = absurd (false≢true e)
 
 end-lines : (d : ℕ) (f : Forest) → is_end f ≡ true → lines d f ≡ []
 end-lines d end h = refl
@@ -155,7 +139,7 @@ module _ (v : Verdicts) where
       let E = kept v es in
       let W = kept v (walk d p rest ++ es) in
       let J = judge v p rest in
-      kept-plain e (walk d p rest ++ es) (plain_kind i.content)
+      kept-plain e (walk d p rest ++ es) (no_class-kind i.content)
       ∙ ap (λ b. if b then leaf_line d i ∷ W else W) (keeps-home v p)
       ∙ elim (keeps_plain h) as (λ b. (if b then leaf_line d i ∷ W else W)
       ≡ lines d (if b then leaf (moved n i) (cut h (left_with n i.place) J) else cut h (left_before n i.place) J) ++ E) [

@@ -18,7 +18,9 @@ pub mod Filling
 pub mod Needles
 pub mod Searched
 pub mod Searching
-pub mod Texts
 pub mod Stepping
 pub mod Promised
 pub mod Served
+pub mod Fates
+pub mod Spelling
+pub mod Survival

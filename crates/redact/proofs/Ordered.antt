@@ -14,6 +14,7 @@ use Rattle.iodef_tree.specs.Sound.{SiblingPlace, may_stand_behind, may_stand_fir
 use Rattle.iodef_tree.specs.Laws.{AllSiblings}
 use Rattle.iodef_tree.proofs.Order.{is_false, bytes_eq-refl, bytes_eq-true, bytes_lt-trans, bytes_lt-ne}
 use Rattle.redact.specs.Kept.{Attribute, Verdicts}
+use Rattle.redact.proofs.Fates.{by_fate, put-keeps}
 use Rattle.redact.specs.Judged.{judge, judgment_at, Home, inside, keeps_plain, shows_label, left_before, new_place, left_with, moved, is_end, put_leaf, attribute_leaf, put_attributes, with_label, cut}
 
 -- ---- the order of names
@@ -118,12 +119,8 @@ trails-dropped (Some (a, Some j)) (Some (b, o')) n name (Some (suc k)) (inr t) h
 abbrev pub Lacks : Bytes → Forest → Type 0
 Lacks x f = AllSiblings (λ n o. bytes_eq n x ≡ false) f
 
-lacks-put : (x : Bytes) (y : Leaf) (f : Forest) → bytes_eq y.name x ≡ false → Lacks x f → Lacks x (put_leaf y f)
-lacks-put x y end h all = (h, tt)
-lacks-put x y (leaf i rest) h all =
-    elim (bytes_lt y.name i.name) as (λ b. Lacks x (if b then leaf y (leaf i rest) else leaf i (put_leaf y rest))) [ true ↦ (h, all) | false ↦ (all.0, lacks-put x y rest h all.1) ]
-lacks-put x y (branch name place kids rest) h all =
-    elim (bytes_lt y.name name) as (λ b. Lacks x (if b then leaf y (branch name place kids rest) else branch name place kids (put_leaf y rest))) [ true ↦ (h, all) | false ↦ (all.0, lacks-put x y rest h all.1) ]
+pub lacks-put : (x : Bytes) (y : Leaf) → bytes_eq y.name x ≡ false → (f : Forest) → Lacks x f → Lacks x (put_leaf y f)
+lacks-put x y differ = put-keeps (λ f g. Lacks x f → Lacks x g) y (λ f all. (differ, all)) (λ i f g h all. (all.0, h all.1)) (λ name place kids f g h all. (all.0, h all.1))
 
 -- what stood behind a sibling stands behind an attribute of an earlier name, which isn't put into the middle of an array
 stands-put : (before : Option SiblingPlace) (x name : Bytes) (place : Option ℕ) → may_stand before x None ≡ true → may_stand before name place ≡ true → bytes_lt x name ≡ true →
@@ -161,7 +158,7 @@ Fits (a ∷ rest) f = Lacks a.0 f × AllByRecursion (λ b. bytes_eq b.0 a.0 ≡ 
 
 lacks-attributes : (x : Bytes) (label : List Attribute) (f : Forest) → AllByRecursion (λ b. bytes_eq b.0 x ≡ false) label → Lacks x f → Lacks x (put_attributes label f)
 lacks-attributes x [] f differ all = all
-lacks-attributes x (a ∷ rest) f differ all = lacks-put x (attribute_leaf a) (put_attributes rest f) differ.0 (lacks-attributes x rest f differ.1 all)
+lacks-attributes x (a ∷ rest) f differ all = lacks-put x (attribute_leaf a) differ.0 (put_attributes rest f) (lacks-attributes x rest f differ.1 all)
 
 attributes-ordered : (label : List Attribute) (f : Forest) → IsOrdered f → Fits label f → IsOrdered (put_attributes label f)
 attributes-ordered [] f order fits = order
@@ -178,7 +175,7 @@ module _ (v : Verdicts) where
   LabelsFit p (branch name place kids rest) =
       let q = p ++ steps name place in (v.unmarked q ≡ true → Fits (v.label q) kids) × LabelsFit q kids × LabelsFit p rest
 
-  lacks-cut : (x : Bytes) (f : Forest) (h : Home) (p : Tokens) (n : ℕ) → Lacks x f → Lacks x (cut h n (judge v p f))
+  pub lacks-cut : (x : Bytes) (f : Forest) (h : Home) (p : Tokens) (n : ℕ) → Lacks x f → Lacks x (cut h n (judge v p f))
   lacks-cut x end h p n all = tt
   lacks-cut x (leaf i rest) h p n all =
       elim (keeps_plain h) as (λ b. Lacks x (if b then leaf (moved n i) (cut h (left_with n i.place) (judge v p rest)) else cut h (left_before n i.place) (judge v p rest))) [
@@ -186,16 +183,8 @@ module _ (v : Verdicts) where
         | false ↦ lacks-cut x rest h p (left_before n i.place) all.1
       ]
   lacks-cut x (branch name place kids rest) h p n all =
-      let J = judge v (p ++ steps name place) kids in
-      by_class (v.visible (p ++ steps name place)) (is_end (cut (inside false) 0 J)) (with_label h (judgment_at v (p ++ steps name place)) (cut (inside true) 0 J)) (cut (inside false) 0 J)
-      (lacks-cut x rest h p (left_with n place) all.1) (lacks-cut x rest h p (left_before n place) all.1)
-    where
-      by_class : (b e : Bool) (S F : Forest) → Lacks x (cut h (left_with n place) (judge v p rest)) → Lacks x (cut h (left_before n place) (judge v p rest)) →
-          Lacks x (if b then branch name (new_place n place) S (cut h (left_with n place) (judge v p rest))
-          else (if e then cut h (left_before n place) (judge v p rest) else branch name (new_place n place) F (cut h (left_with n place) (judge v p rest))))
-      by_class true e S F behind gone = (all.0, behind)
-      by_class false true S F behind gone = gone
-      by_class false false S F behind gone = (all.0, behind)
+      let after : (bytes_eq name x ≡ false) × Lacks x (cut h (left_with n place) (judge v p rest)) = (all.0, lacks-cut x rest h p (left_with n place) all.1) in
+      by_fate (Lacks x) (v.visible (p ++ steps name place)) (is_end (cut (inside false) 0 (judge v (p ++ steps name place) kids))) _ _ _ after after (lacks-cut x rest h p (left_before n place) all.1)
 
   fits-cut : (label : List Attribute) (f : Forest) (h : Home) (p : Tokens) (n : ℕ) → Fits label f → Fits label (cut h n (judge v p f))
   fits-cut [] f h p n fits = tt
@@ -223,16 +212,9 @@ module _ (v : Verdicts) where
   ordered-cut (branch name place kids rest) h p n before before' order fit t =
       let q = p ++ steps name place in
       let J = judge v q kids in
-      by_class (v.visible q) (is_end (cut (inside false) 0 J)) (with_label h (judgment_at v q) (cut (inside true) 0 J)) (cut (inside false) 0 J)
-      (label-ordered h q (cut (inside true) 0 J) (ordered-cut kids (inside true) q 0 None None order.1 fit.1 tt) (λ u. fits-cut (v.label q) kids (inside true) q 0 (fit.0 u)))
-      (ordered-cut kids (inside false) q 0 None None order.1 fit.1 tt)
-      (ordered-cut rest h p (left_with n place) (Some (name, place)) (Some (name, new_place n place)) order.2 fit.2 (trails-left n name place))
+      let stands = stands-left before before' n name place t order.0 in
+      let after = ordered-cut rest h p (left_with n place) (Some (name, place)) (Some (name, new_place n place)) order.2 fit.2 (trails-left n name place) in
+      by_fate (IsOrderedBehind before') (v.visible q) (is_end (cut (inside false) 0 J)) _ _ _
+      (stands, label-ordered h q (cut (inside true) 0 J) (ordered-cut kids (inside true) q 0 None None order.1 fit.1 tt) (λ u. fits-cut (v.label q) kids (inside true) q 0 (fit.0 u)), after)
+      (stands, ordered-cut kids (inside false) q 0 None None order.1 fit.1 tt, after)
       (ordered-cut rest h p (left_before n place) (Some (name, place)) before' order.2 fit.2 (trails-dropped before before' n name place t order.0))
-    where
-      by_class : (b e : Bool) (S F : Forest) → IsOrdered S → IsOrdered F → IsOrderedBehind (Some (name, new_place n place)) (cut h (left_with n place) (judge v p rest)) →
-          IsOrderedBehind before' (cut h (left_before n place) (judge v p rest)) →
-          IsOrderedBehind before' (if b then branch name (new_place n place) S (cut h (left_with n place) (judge v p rest))
-          else (if e then cut h (left_before n place) (judge v p rest) else branch name (new_place n place) F (cut h (left_with n place) (judge v p rest))))
-      by_class true e S F s f behind gone = (stands-left before before' n name place t order.0, s, behind)
-      by_class false true S F s f behind gone = gone
-      by_class false false S F s f behind gone = (stands-left before before' n name place t order.0, f, behind)

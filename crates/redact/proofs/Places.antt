@@ -5,7 +5,7 @@ use Rattle.std.specs.List.{zip, AllByRecursion, IsDistinct}
 use Rattle.std.proofs.lemmas.Bool.{false≢true, cond-true, cond-false}
 use Rattle.std.proofs.lemmas.List.{map-append, append-nil}
 use Rattle.std.proofs.lemmas.List.Elements.{filter-append}
-use Rattle.iodef_tree.specs.Text.{Tokens, bytes_lt, same_path, is_root}
+use Rattle.iodef_tree.specs.Text.{Tokens, same_path, is_root}
 use Rattle.iodef_tree.specs.Paths.{LocatedLine, is_class, class_paths, classes_of}
 use Rattle.iodef_tree.specs.Tree.{Leaf, Forest, end, leaf, branch, steps, lines}
 use Rattle.iodef_tree.specs.Sound.{IsSound}
@@ -17,7 +17,10 @@ use Rattle.iodef_tree.proofs.Distinct.{paths-distinct, distinct-filter}
 use Rattle.redact.specs.Kept.{Attribute, Verdicts, is_frame, is_kept, kept}
 use Rattle.redact.specs.Withheld.{beside, class_places, place_by}
 use Rattle.redact.specs.Judged.{Judged, none, plain, class, judge, Home, root, inside, keeps_plain, shows_label, home_at, left_before, new_place, left_with, moved, is_end, put_leaf, attribute_leaf, put_attributes, with_label, cut, places}
-use Rattle.redact.proofs.Keeping.{plain_kind, deep_path, home-class, SaysBelow, ends, kept-cut}
+use Rattle.marking.proofs.Bad.{no_class-kind, class_paths-leaf, class_paths-append}
+use Rattle.marking.proofs.Marked.{not_root}
+use Rattle.redact.proofs.Fates.{by_fate, by_fates, put-keeps}
+use Rattle.redact.proofs.Keeping.{home-class, SaysBelow, ends, kept-cut}
 
 abbrev here : Tokens × Tokens → Tokens
 here x = x.0
@@ -25,88 +28,54 @@ here x = x.0
 abbrev there : Tokens × Tokens → Tokens
 there x = x.1
 
-class_paths-append : (xs ys : List LocatedLine) → class_paths (xs ++ ys) ≡ class_paths xs ++ class_paths ys
-class_paths-append xs ys =
-    ap (map (λ e. e.path)) (filter-append is_class xs ys) ∙ map-append (λ e. e.path) (filter is_class xs) (filter is_class ys)
-
 -- ---- in the excerpt
 
 -- attributes bring no class
-paths-put : (x : Leaf) (f : Forest) (d : ℕ) (q : Tokens) → class_paths (walk d q (put_leaf x f)) ≡ class_paths (walk d q f)
-paths-put x end d q = ap (λ b. map (λ e. e.path) (if b then leaf_entry d q x ∷ [] else [])) (plain_kind x.content)
-paths-put x (leaf i rest) d q =
-    elim (bytes_lt x.name i.name) as (λ b. class_paths (walk d q (if b then leaf x (leaf i rest) else leaf i (put_leaf x rest))) ≡ class_paths (walk d q (leaf i rest))) [
-      | true ↦ ap (λ b. map (λ e. e.path) (if b then leaf_entry d q x ∷ filter is_class (walk d q (leaf i rest)) else filter is_class (walk d q (leaf i rest)))) (plain_kind x.content)
-      | false ↦
-          plain_first i d q (walk d q (put_leaf x rest)) ∙ paths-put x rest d q ∙ sym (plain_first i d q (walk d q rest))
-    ]
-  where
-    plain_first : (i : Leaf) (d : ℕ) (q : Tokens) (es : List LocatedLine) → class_paths (leaf_entry d q i ∷ es) ≡ class_paths es
-    plain_first i d q es = ap (λ b. map (λ e. e.path) (if b then leaf_entry d q i ∷ filter is_class es else filter is_class es)) (plain_kind i.content)
-paths-put x (branch name place kids rest) d q =
+paths-put : (x : Leaf) (d : ℕ) (q : Tokens) (f : Forest) → class_paths (walk d q (put_leaf x f)) ≡ class_paths (walk d q f)
+paths-put x d q = put-keeps (λ f g. class_paths (walk d q g) ≡ class_paths (walk d q f)) x
+    (λ f. plain_first x f)
+    (λ i f g h. plain_first i g ∙ h ∙ sym (plain_first i f))
+    (λ name place kids f g h.
     let r = q ++ steps name place in
     let K = walk (suc d) r kids in
-    elim (bytes_lt x.name name) as (λ b. class_paths (walk d q (if b then leaf x (branch name place kids rest) else branch name place kids (put_leaf x rest))) ≡ class_paths (walk d q (branch name place kids rest))) [
-      | true ↦ ap (λ b. map (λ e. e.path) (if b then leaf_entry d q x ∷ filter is_class (walk d q (branch name place kids rest)) else filter is_class (walk d q (branch name place kids rest)))) (plain_kind x.content)
-      | false ↦ ap (λ ps. r ∷ ps) (class_paths-append K (walk d q (put_leaf x rest)) ∙ ap (λ ps. class_paths K ++ ps) (paths-put x rest d q) ∙ sym (class_paths-append K (walk d q rest)))
-    ]
-
-paths-attributes : (label : List Attribute) (f : Forest) (d : ℕ) (q : Tokens) → class_paths (walk d q (put_attributes label f)) ≡ class_paths (walk d q f)
-paths-attributes [] f d q = refl
-paths-attributes (a ∷ rest) f d q = paths-put (attribute_leaf a) (put_attributes rest f) d q ∙ paths-attributes rest f d q
+    ap (λ ps. r ∷ ps) (class_paths-append K (walk d q g) ∙ ap (λ ps. class_paths K ++ ps) h ∙ sym (class_paths-append K (walk d q f))))
+  where
+    plain_first : (i : Leaf) (f : Forest) → class_paths (walk d q (leaf i f)) ≡ class_paths (walk d q f)
+    plain_first i f = class_paths-leaf (walk d q f) (leaf_entry d q i) (no_class-kind i.content)
 
 paths-label : (says : Bool) (label : List Attribute) (f : Forest) (d : ℕ) (q : Tokens) →
     class_paths (walk d q (if says then put_attributes label f else f)) ≡ class_paths (walk d q f)
-paths-label true label f d q = paths-attributes label f d q
 paths-label false label f d q = refl
+paths-label true [] f d q = refl
+paths-label true (a ∷ label) f d q = paths-put (attribute_leaf a) d q (put_attributes label f) ∙ paths-label true label f d q
 
 -- the classes of the excerpt stand at the places
-paths-cut : (J : Judged) (h : Home) (d : ℕ) (p q : Tokens) (n : ℕ) → class_paths (walk d q (cut h n J)) ≡ map there (places h p q n J)
+pub paths-cut : (J : Judged) (h : Home) (d : ℕ) (p q : Tokens) (n : ℕ) → class_paths (walk d q (cut h n J)) ≡ map there (places h p q n J)
 paths-cut none h d p q n = refl
 paths-cut (plain i rest) h d p q n =
     elim (keeps_plain h) as (λ b. class_paths (walk d q (if b then leaf (moved n i) (cut h (left_with n i.place) rest) else cut h (left_before n i.place) rest))
     ≡ map there (places h p q (if b then left_with n i.place else left_before n i.place) rest)) [
-      | true ↦ ap (λ b. map (λ e. e.path) (if b then leaf_entry d q (moved n i) ∷ filter is_class (walk d q (cut h (left_with n i.place) rest)) else filter is_class (walk d q (cut h (left_with n i.place) rest)))) (plain_kind i.content)
-          ∙ paths-cut rest h d p q (left_with n i.place)
+      | true ↦ class_paths-leaf (walk d q (cut h (left_with n i.place) rest)) (leaf_entry d q (moved n i)) (no_class-kind i.content) ∙ paths-cut rest h d p q (left_with n i.place)
       | false ↦ paths-cut rest h d p q (left_before n i.place)
     ]
 paths-cut (class name place j kids rest) h d p q n =
     let p' = p ++ steps name place in
     let r = q ++ steps name (new_place n place) in
-    by_class j.visible (is_end (cut (inside false) 0 kids)) (paths-cut kids (inside true) (suc d) p' r 0) (paths-cut kids (inside false) (suc d) p' r 0)
-    (paths-cut rest h d p q (left_with n place)) (paths-cut rest h d p q (left_before n place))
+    let K = λ (b : Bool). cut (inside b) 0 kids in
+    by_fates (λ f ps. class_paths (walk d q f) ≡ map there ps) j.visible (is_end (K false)) _ _ _ _ _ _
+    (λ _. left (with_label h j (K true)) (places (inside true) p' r 0 kids)
+    (paths-label (j.unmarked && not (shows_label h)) j.label (K true) (suc d) r ∙ paths-cut kids (inside true) (suc d) p' r 0) (paths-cut rest h d p q (left_with n place)))
+    (λ _. left (K false) (places (inside false) p' r 0 kids) (paths-cut kids (inside false) (suc d) p' r 0) (paths-cut rest h d p q (left_with n place)))
+    (λ _ _. paths-cut rest h d p q (left_before n place))
   where
-    by_class : (b e : Bool) →
-        class_paths (walk (suc d) (q ++ steps name (new_place n place)) (cut (inside true) 0 kids)) ≡ map there (places (inside true) (p ++ steps name place) (q ++ steps name (new_place n place)) 0 kids) →
-        class_paths (walk (suc d) (q ++ steps name (new_place n place)) (cut (inside false) 0 kids)) ≡ map there (places (inside false) (p ++ steps name place) (q ++ steps name (new_place n place)) 0 kids) →
+    left : (inner : Forest) (below : List (Tokens × Tokens)) → class_paths (walk (suc d) (q ++ steps name (new_place n place)) inner) ≡ map there below →
         class_paths (walk d q (cut h (left_with n place) rest)) ≡ map there (places h p q (left_with n place) rest) →
-        class_paths (walk d q (cut h (left_before n place) rest)) ≡ map there (places h p q (left_before n place) rest) →
-        class_paths (walk d q (
-        if b then branch name (new_place n place) (with_label h j (cut (inside true) 0 kids)) (cut h (left_with n place) rest)
-        else (if e then cut h (left_before n place) rest else branch name (new_place n place) (cut (inside false) 0 kids) (cut h (left_with n place) rest))))
-        ≡ map there (
-        if b then (p ++ steps name place, q ++ steps name (new_place n place)) ∷ (places (inside true) (p ++ steps name place) (q ++ steps name (new_place n place)) 0 kids ++ places h p q (left_with n place) rest)
-        else (if e then places h p q (left_before n place) rest
-        else (p ++ steps name place, q ++ steps name (new_place n place)) ∷ (places (inside false) (p ++ steps name place) (q ++ steps name (new_place n place)) 0 kids ++ places h p q (left_with n place) rest)))
-    by_class true e seen framed behind gone =
-        let r = q ++ steps name (new_place n place) in
-        let p' = p ++ steps name place in
-        let R = walk d q (cut h (left_with n place) rest) in
-        ap (λ ps. r ∷ ps) (
-        class_paths-append (walk (suc d) r (with_label h j (cut (inside true) 0 kids))) R
-        ∙ ap (λ ps. ps ++ class_paths R) (paths-label (j.unmarked && not (shows_label h)) j.label (cut (inside true) 0 kids) (suc d) r ∙ seen)
-        ∙ ap (λ ps. map there (places (inside true) p' r 0 kids) ++ ps) behind
-        ∙ sym (map-append there (places (inside true) p' r 0 kids) (places h p q (left_with n place) rest)))
-    by_class false true seen framed behind gone = gone
-    by_class false false seen framed behind gone =
-        let r = q ++ steps name (new_place n place) in
-        let p' = p ++ steps name place in
-        let R = walk d q (cut h (left_with n place) rest) in
-        ap (λ ps. r ∷ ps) (
-        class_paths-append (walk (suc d) r (cut (inside false) 0 kids)) R
-        ∙ ap (λ ps. ps ++ class_paths R) framed
-        ∙ ap (λ ps. map there (places (inside false) p' r 0 kids) ++ ps) behind
-        ∙ sym (map-append there (places (inside false) p' r 0 kids) (places h p q (left_with n place) rest)))
+        class_paths (walk d q (branch name (new_place n place) inner (cut h (left_with n place) rest)))
+        ≡ map there ((p ++ steps name place, q ++ steps name (new_place n place)) ∷ (below ++ places h p q (left_with n place) rest))
+    left inner below here_too after =
+        ap (λ ps. (q ++ steps name (new_place n place)) ∷ ps) (
+        class_paths-append (walk (suc d) (q ++ steps name (new_place n place)) inner) (walk d q (cut h (left_with n place) rest))
+        ∙ (λ i. here_too i ++ after i) ∙ sym (map-append there below (places h p q (left_with n place) rest)))
 
 -- ---- in the document
 
@@ -115,18 +84,8 @@ places-end : (J : Judged) (p q : Tokens) (n : ℕ) → is_end (cut (inside false
 places-end none p q n h = refl
 places-end (plain i rest) p q n h = places-end rest p q (left_before n i.place) h
 places-end (class name place j kids rest) p q n h =
-    by_class j.visible (is_end (cut (inside false) 0 kids)) h (places-end rest p q (left_before n place))
-  where
-    by_class : (b e : Bool) →
-        is_end (if b then branch name (new_place n place) (with_label (inside false) j (cut (inside true) 0 kids)) (cut (inside false) (left_with n place) rest)
-        else (if e then cut (inside false) (left_before n place) rest else branch name (new_place n place) (cut (inside false) 0 kids) (cut (inside false) (left_with n place) rest))) ≡ true →
-        (is_end (cut (inside false) (left_before n place) rest) ≡ true → places (inside false) p q (left_before n place) rest ≡ []) →
-        (if b then (p ++ steps name place, q ++ steps name (new_place n place)) ∷ (places (inside true) (p ++ steps name place) (q ++ steps name (new_place n place)) 0 kids ++ places (inside false) p q (left_with n place) rest)
-        else (if e then places (inside false) p q (left_before n place) rest
-        else (p ++ steps name place, q ++ steps name (new_place n place)) ∷ (places (inside false) (p ++ steps name place) (q ++ steps name (new_place n place)) 0 kids ++ places (inside false) p q (left_with n place) rest))) ≡ []
-    by_class true e h next = absurd (false≢true h)
-    by_class false true h next = next h
-    by_class false false h next = absurd (false≢true h)
+    by_fates (λ f ps. is_end f ≡ true → ps ≡ []) j.visible (is_end (cut (inside false) 0 kids)) _ _ _ _ _ _
+    (λ _ e. absurd (false≢true e)) (λ _ e. absurd (false≢true e)) (λ _ _. places-end rest p q (left_before n place)) h
 
 -- no class stands at the root's path
 places-deep : (J : Judged) (h : Home) (p q : Tokens) (n : ℕ) → AllByRecursion (λ x. is_root (here x) ≡ false) (places h p q n J)
@@ -135,17 +94,8 @@ places-deep (plain i rest) h p q n = places-deep rest h p q (if keeps_plain h th
 places-deep (class name place j kids rest) h p q n =
     let p' = p ++ steps name place in
     let r = q ++ steps name (new_place n place) in
-    by_class j.visible (is_end (cut (inside false) 0 kids)) (places (inside true) p' r 0 kids) (places (inside false) p' r 0 kids) (places h p q (left_with n place) rest) (places h p q (left_before n place) rest)
-    (places-deep kids (inside true) p' r 0) (places-deep kids (inside false) p' r 0) (places-deep rest h p q (left_with n place)) (places-deep rest h p q (left_before n place))
-  where
-    by_class : (b e : Bool) (S F B G : List (Tokens × Tokens)) → AllByRecursion (λ x. is_root (here x) ≡ false) S → AllByRecursion (λ x. is_root (here x) ≡ false) F →
-        AllByRecursion (λ x. is_root (here x) ≡ false) B → AllByRecursion (λ x. is_root (here x) ≡ false) G →
-        AllByRecursion (λ x. is_root (here x) ≡ false) (
-        if b then (p ++ steps name place, q ++ steps name (new_place n place)) ∷ (S ++ B)
-        else (if e then G else (p ++ steps name place, q ++ steps name (new_place n place)) ∷ (F ++ B)))
-    by_class true e S F B G s f b g = (deep_path p name place, all-append (λ x. is_root (here x) ≡ false) S B s b)
-    by_class false true S F B G s f b g = g
-    by_class false false S F B G s f b g = (deep_path p name place, all-append (λ x. is_root (here x) ≡ false) F B f b)
+    let left : (b : Bool) → AllByRecursion (λ x. is_root (here x) ≡ false) ((p', r) ∷ (places (inside b) p' r 0 kids ++ places h p q (left_with n place) rest)) = λ b. (not_root p name place, all-append (λ x. is_root (here x) ≡ false) (places (inside b) p' r 0 kids) _ (places-deep kids (inside b) p' r 0) (places-deep rest h p q (left_with n place))) in
+    by_fate (AllByRecursion (λ x. is_root (here x) ≡ false)) j.visible (is_end (cut (inside false) 0 kids)) _ _ _ (left true) (left false) (places-deep rest h p q (left_before n place))
 
 module _ (v : Verdicts) where
   -- the paths of the kept classes
@@ -184,10 +134,10 @@ module _ (v : Verdicts) where
       ap (λ ps. ps ++ R) (kids ∙ ap (map here) (bottom (bare refl))) ∙ past ∙ ap (map here) (sym (cond-true e gone ((p, r) ∷ (PK false ++ behind)) (bare refl)))
 
   -- the kept classes of the document have places
-  paths-kept : (f : Forest) (d : ℕ) (p q : Tokens) (n : ℕ) → SaysBelow v d p f → kept_paths (walk d p f) ≡ map here (places (home_at v p) p q n (judge v p f))
+  pub paths-kept : (f : Forest) (d : ℕ) (p q : Tokens) (n : ℕ) → SaysBelow v d p f → kept_paths (walk d p f) ≡ map here (places (home_at v p) p q n (judge v p f))
   paths-kept end d p q n says = refl
   paths-kept (leaf i rest) d p q n says =
-      kept_paths-plain (leaf_entry d p i) (walk d p rest) (plain_kind i.content)
+      kept_paths-plain (leaf_entry d p i) (walk d p rest) (no_class-kind i.content)
       ∙ paths-kept rest d p q (if keeps_plain (home_at v p) then left_with n i.place else left_before n i.place) says
   paths-kept (branch name place kids rest) d p q n says =
       let p' = p ++ steps name place in

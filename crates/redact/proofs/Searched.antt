@@ -9,7 +9,7 @@ use Rattle.iodef_tree.specs.Text.{Bytes, Tokens, same_path, is_under}
 use Rattle.iodef_tree.specs.Tree.{Content, text, value, Forest, end, leaf, branch, steps, lines, leaf_line}
 use Rattle.iodef_tree.specs.Paths.{LocatedLine, is_class, located, below}
 use Rattle.iodef_tree.specs.Sound.{IsSound}
-use Rattle.iodef_tree.specs.Walk.{walk, leaf_entry, AreBlocks}
+use Rattle.iodef_tree.specs.Walk.{walk, leaf_entry, class_entry, AreBlocks}
 use Rattle.iodef_tree.proofs.Blocks.{blocks-located, below-parents}
 use Rattle.iodef_tree.proofs.Located.{located-lines}
 use Rattle.iodef_tree.proofs.Order.{same_path-refl, same_path-true, same_path-longer, is_false}
@@ -24,7 +24,7 @@ use Rattle.policy.specs.declared.standing.Standing.{Standing}
 use Rattle.policy.specs.declared.case.Case.{Case}
 use Rattle.redact.specs.Told.{is_named, is_hit, holds_needle, finds, is_listed}
 use Rattle.redact.specs.Search.{content_hits, members_hit, holds_text, any_class, class_hits, found}
-use Rattle.redact.proofs.Keeping.{plain_kind}
+use Rattle.marking.proofs.Bad.{no_class-kind}
 use Rattle.redact.proofs.Passed.{enter-at}
 use Rattle.redact.proofs.Whole.{root-bare}
 
@@ -94,69 +94,52 @@ held-block es d q kids needle under block = any-below es q needle under ∙ ap (
 
 -- ---- all classes
 
-module _ (c : Case) (s : Standing) (needle : Bytes) (class : Option Bytes) where
-  -- a visible class of the name that holds the needle
+module _ (c : Case) (s : Standing) (asked : Bytes → Forest → Bool) (asks : List LocatedLine → LocatedLine → Bool) where
+  -- a visible class of which this is asked
   abbrev answers : List LocatedLine → LocatedLine → Bool
-  answers es e = (is_class e && is_visible es c s e.path) && (is_named class e.line.name && holds_needle es needle e.path)
+  answers es e = (is_class e && is_visible es c s e.path) && asks es e
 
-  found-walk : (es : List LocatedLine) (under : AreUnderParents es) (f : Forest) (d : ℕ) (p : Tokens) → AreBlocks es d p f → ArePlaced es p f →
-      list_any (answers es) (walk d p f) ≡ found c s (holds_text needle class) (inherited_at es c s p) f
-  found-walk es under end d p blocks there = refl
-  found-walk es under (leaf i rest) d p blocks there =
-      ap (λ b. ((b && is_visible es c s (leaf_entry d p i).path) && (is_named class i.name && holds_needle es needle (leaf_entry d p i).path)) || list_any (answers es) (walk d p rest)) (plain_kind i.content)
-      ∙ found-walk es under rest d p blocks there
-  found-walk es under (branch name place kids rest) d p blocks there =
+  -- what is asked of a class is asked of its name and its members
+  abbrev AsksMembers : List LocatedLine → Type 0
+  AsksMembers es = (e : LocatedLine) (d : ℕ) (kids : Forest) → below e.path es ≡ walk d e.path kids → asks es e ≡ asked e.line.name kids
+
+  found-walk : (es : List LocatedLine) (under : AreUnderParents es) → AsksMembers es → (f : Forest) (d : ℕ) (p : Tokens) → AreBlocks es d p f → ArePlaced es p f →
+      list_any (answers es) (walk d p f) ≡ found c s asked (inherited_at es c s p) f
+  found-walk es under members end d p blocks there = refl
+  found-walk es under members (leaf i rest) d p blocks there =
+      let e = leaf_entry d p i in
+      ap (λ b. ((b && is_visible es c s e.path) && asks es e) || list_any (answers es) (walk d p rest)) (no_class-kind i.content)
+      ∙ found-walk es under members rest d p blocks there
+  found-walk es under members (branch name place kids rest) d p blocks there =
       let q = p ++ steps name place in
       let w = spelled_in kids in
       let K = walk (suc d) q kids in
       let R = walk d p rest in
-      let C = class_hits c s (holds_text needle class) (inherited_at es c s q) name kids in
+      let C = class_hits c s asked (inherited_at es c s q) name kids in
       let written : written_label es q ≡ w = written-block es (suc d) q kids under blocks.0 there.0 in
-      ap (λ b. (is_visible es c s q && (is_named class name && b)) || list_any (answers es) (K ++ R)) (held-block es (suc d) q kids needle under blocks.0)
+      ap (λ b. (is_visible es c s q && b) || list_any (answers es) (K ++ R)) (members (class_entry d p name place) (suc d) kids blocks.0)
       ∙ ap (λ b. C || b) (list_any-append (answers es) K R)
-      ∙ ap (λ b. C || (b || list_any (answers es) R)) (found-walk es under kids (suc d) q blocks.1 there.2)
-      ∙ ap (λ b. C || (found c s (holds_text needle class) (inherited_at es c s q) kids || b)) (found-walk es under rest d p blocks.2 there.3)
-      ∙ ap (λ k. class_hits c s (holds_text needle class) k name kids || (found c s (holds_text needle class) k kids || found c s (holds_text needle class) (inherited_at es c s p) rest))
+      ∙ ap (λ b. C || (b || list_any (answers es) R)) (found-walk es under members kids (suc d) q blocks.1 there.2)
+      ∙ ap (λ b. C || (found c s asked (inherited_at es c s q) kids || b)) (found-walk es under members rest d p blocks.2 there.3)
+      ∙ ap (λ k. class_hits c s asked k name kids || (found c s asked k kids || found c s asked (inherited_at es c s p) rest))
       (sym (enter-at es c s under p name place w there.0 there.1 written))
 
-  -- in a whole document
-  pub found_all : (f : Forest) → IsSound f → finds (lines 1 f) c s needle class ≡ found c s (holds_text needle class) (at_root c s) f
-  found_all f sound =
+  found-lines : (f : Forest) → IsSound f → AsksMembers (located (lines 1 f)) → list_any (answers (located (lines 1 f))) (located (lines 1 f)) ≡ found c s asked (at_root c s) f
+  found-lines f sound members =
       let es = located (lines 1 f) in
       ap (list_any (answers es)) (located-lines f sound)
-      ∙ found-walk es (below-parents (lines 1 f)) f 1 [] (blocks-located f sound) (placed f sound)
-      ∙ ap (λ h. found c s (holds_text needle class) h f) (sym (at_root-is es c s (root-bare f sound)))
+      ∙ found-walk es (below-parents (lines 1 f)) members f 1 [] (blocks-located f sound) (placed f sound)
+      ∙ ap (λ h. found c s asked h f) (sym (at_root-is es c s (root-bare f sound)))
 
--- ---- whether any class is visible
+-- a search of a whole document
+pub found_all : (c : Case) (s : Standing) (needle : Bytes) (class : Option Bytes) (f : Forest) → IsSound f → finds (lines 1 f) c s needle class ≡ found c s (holds_text needle class) (at_root c s) f
+found_all c s needle class f sound =
+    found-lines c s (holds_text needle class) (λ es e. is_named class e.line.name && holds_needle es needle e.path) f sound
+    (λ e d kids block. ap (λ b. is_named class e.line.name && b) (held-block (located (lines 1 f)) d e.path kids needle (below-parents (lines 1 f)) block))
 
-module _ (c : Case) (s : Standing) where
-  abbrev is_seen_at : List LocatedLine → LocatedLine → Bool
-  is_seen_at es e = is_class e && is_visible es c s e.path
-
-  seen-walk : (es : List LocatedLine) (under : AreUnderParents es) (f : Forest) (d : ℕ) (p : Tokens) → AreBlocks es d p f → ArePlaced es p f →
-      list_any (is_seen_at es) (walk d p f) ≡ found c s any_class (inherited_at es c s p) f
-  seen-walk es under end d p blocks there = refl
-  seen-walk es under (leaf i rest) d p blocks there =
-      ap (λ b. (b && is_visible es c s (leaf_entry d p i).path) || list_any (is_seen_at es) (walk d p rest)) (plain_kind i.content)
-      ∙ seen-walk es under rest d p blocks there
-  seen-walk es under (branch name place kids rest) d p blocks there =
-      let q = p ++ steps name place in
-      let w = spelled_in kids in
-      let K = walk (suc d) q kids in
-      let R = walk d p rest in
-      let C = class_hits c s any_class (inherited_at es c s q) name kids in
-      let written : written_label es q ≡ w = written-block es (suc d) q kids under blocks.0 there.0 in
-      ap (λ b. b || list_any (is_seen_at es) (K ++ R)) (sym (and-true (is_visible es c s q)))
-      ∙ ap (λ b. C || b) (list_any-append (is_seen_at es) K R)
-      ∙ ap (λ b. C || (b || list_any (is_seen_at es) R)) (seen-walk es under kids (suc d) q blocks.1 there.2)
-      ∙ ap (λ b. C || (found c s any_class (inherited_at es c s q) kids || b)) (seen-walk es under rest d p blocks.2 there.3)
-      ∙ ap (λ k. class_hits c s any_class k name kids || (found c s any_class k kids || found c s any_class (inherited_at es c s p) rest))
-      (sym (enter-at es c s under p name place w there.0 there.1 written))
-
-  -- in a whole document
-  pub listed_all : (f : Forest) → IsSound f → is_listed (lines 1 f) c s ≡ found c s any_class (at_root c s) f
-  listed_all f sound =
-      let es = located (lines 1 f) in
-      ap (list_any (is_seen_at es)) (located-lines f sound)
-      ∙ seen-walk es (below-parents (lines 1 f)) f 1 [] (blocks-located f sound) (placed f sound)
-      ∙ ap (λ h. found c s any_class h f) (sym (at_root-is es c s (root-bare f sound)))
+-- whether any class of it is visible
+pub listed_all : (c : Case) (s : Standing) (f : Forest) → IsSound f → is_listed (lines 1 f) c s ≡ found c s any_class (at_root c s) f
+listed_all c s f sound =
+    let es = located (lines 1 f) in
+    ap (λ P. list_any P es) (λ i e. sym (and-true (is_class e && is_visible es c s e.path)) i)
+    ∙ found-lines c s any_class (λ es e. true) f sound (λ e d kids block. refl)

@@ -1,22 +1,20 @@
 -- A verdict tells what is served.
-use Rattle.std.proofs.Common.{◌≡◌, inl, inr, arith, ◌++◌, Bool, true, false, not, ◌&&◌, List, [], ◌∷◌, cond, refl, sym, ap, subst, ◌∙◌}
-use Rattle.std.specs.Prelude.{Option, Some, None, Contains}
+use Rattle.std.proofs.Common.{◌≡◌, inl, inr, arith, Bool, true, false, not, ◌&&◌, List, [], ◌∷◌, cond, refl, sym, ap, subst, ◌∙◌}
+use Rattle.std.specs.Prelude.{Option, Some, Contains}
 use Rattle.std.specs.List.{flat_map}
 use Rattle.std.proofs.lemmas.List.Concat.{flat_map-cons}
 use Rattle.std.proofs.lemmas.List.Elements.{Contains-append_left, Contains-append_right, Contains-append_cases, Contains-push_cases}
-use Rattle.std.proofs.lemmas.Bool.{true≢false}
 use Rattle.iodef_tree.specs.Text.{Tokens}
 use Rattle.iodef_tree.specs.Paths.{LocatedLine, is_class, located}
 use Rattle.iodef_tree.specs.declared.line.Line.{Line}
 use Rattle.policy.specs.declared.standing.Standing.{Standing}
 use Rattle.policy.specs.declared.case.Case.{Case}
 use Rattle.policy.specs.declared.rule.Rule.{Rule}
-use Rattle.policy.specs.declared.verdict.Verdict.{Verdict}
 use Rattle.policy.specs.declared.verdict.Verdict.TheVariants.{Shown, Hidden}
-use Rattle.policy.specs.Verdict.{is_visible, verdict_of, showing_rule, hiding_rule}
+use Rattle.policy.specs.Verdict.{is_visible}
 use Rattle.redact.specs.Kept.{Verdicts, is_frame, is_wholly_hidden}
-use Rattle.redact.specs.Withheld.{Withheld, told_at_place, withheld_at, withheld_among, class_places, place_by}
-use Rattle.redact.specs.Told.{verdicts_of, withheld_of}
+use Rattle.redact.specs.Withheld.{told_at_place, withheld_at, class_places, place_by}
+use Rattle.redact.specs.Told.{verdicts_of}
 use Rattle.redact.specs.Laws.{is_shown, VerdictIsServed}
 
 by_sight : (b : Bool) (x y : Rule) → is_shown (cond b (Shown x) (Hidden y)) ≡ b

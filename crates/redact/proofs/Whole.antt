@@ -55,10 +55,10 @@ module _ (f : Forest) (c : Case) (s : Standing) (sound : IsSound f) (ok : first_
   judged-is : judged ≡ judge v [] f
   judged-is = pass-all f c s sound (root-bare f sound)
 
-  says : SaysBelow v 1 [] f
+  pub says : SaysBelow v 1 [] f
   says = says-below v es (λ p. refl) f 1 [] (blocks-located f sound)
 
-  left-sound : IsSound (cut root 0 (judge v [] f))
+  pub left-sound : IsSound (cut root 0 (judge v [] f))
   left-sound =
       sound-cut v f sound
       (labels-fit es c s (below-parents (lines 1 f)) f 1 [] (blocks-located f sound) (classes-placed f sound) (sym (first_bad f sound) ∙ ok))
@@ -69,9 +69,11 @@ module _ (f : Forest) (c : Case) (s : Standing) (sound : IsSound f) (ok : first_
   excerpt-sound = subst (λ j. IsSound (cut root 0 j)) (sym judged-is) left-sound
 
   -- the kept outline is that of what the pass leaves
+  pub left-lines : kept_outline (lines 1 f) c s ≡ lines 1 (cut root 0 (judge v [] f))
+  left-lines = ap (kept v) (located-lines f sound) ∙ kept-lines v f sound says left-sound
+
   pub excerpt-lines : kept_outline (lines 1 f) c s ≡ lines 1 (cut root 0 judged)
-  excerpt-lines =
-      ap (kept v) (located-lines f sound) ∙ kept-lines v f sound says left-sound ∙ ap (λ j. lines 1 (cut root 0 j)) (sym judged-is)
+  excerpt-lines = left-lines ∙ ap (λ j. lines 1 (cut root 0 j)) (sym judged-is)
 
   -- the withheld pairs are those that the pass tells
   pub excerpt-told : withheld_of (lines 1 f) c s ≡ told root [] 0 judged

@@ -13,7 +13,9 @@ use Rattle.policy.specs.declared.rule.Rule.{Rule}
 use Rattle.redact.specs.Kept.{Verdicts, is_frame, is_wholly_hidden}
 use Rattle.redact.specs.Withheld.{Withheld, told_at_place, withheld_at, withheld_among}
 use Rattle.redact.specs.Judged.{judge, inside, keeps_plain, home_at, left_before, new_place, left_with, is_end, cut, told, places}
-use Rattle.redact.proofs.Keeping.{plain_kind, deep_path, home-class, is_seen, any_seen, SaysBelow, ends}
+use Rattle.marking.proofs.Bad.{no_class-kind}
+use Rattle.marking.proofs.Marked.{not_root}
+use Rattle.redact.proofs.Keeping.{home-class, is_seen, any_seen, SaysBelow, ends}
 
 module _ (v : Verdicts) (place : Tokens → Option Tokens) where
   -- a place by the pass is the place by the definitions
@@ -24,7 +26,7 @@ module _ (v : Verdicts) (place : Tokens → Option Tokens) where
   tells es = withheld_among v place es
 
   tells-plain : (d : ℕ) (p : Tokens) (i : Leaf) (es : List LocatedLine) → tells (leaf_entry d p i ∷ es) ≡ tells es
-  tells-plain d p i es = ap (λ ts. ts ++ tells es) (cond-true (not (is_class (leaf_entry d p i))) _ _ (ap not (plain_kind i.content)))
+  tells-plain d p i es = ap (λ ts. ts ++ tells es) (cond-true (not (is_class (leaf_entry d p i))) _ _ (ap not (no_class-kind i.content)))
 
   -- below a wholly hidden class nothing is told
   silent : (f : Forest) (d : ℕ) (p : Tokens) → SaysBelow v d p f → any_seen v (walk d p f) ≡ false → is_wholly_hidden v p ≡ true → tells (walk d p f) ≡ []
@@ -39,13 +41,21 @@ module _ (v : Verdicts) (place : Tokens → Option Tokens) where
       let below = or_parts (any_seen v K) (any_seen v R) (sym (list_any-append (is_seen v) K R) ∙ parts.1) in
       let closed : v.holds_visible q ≡ false = says.0 ∙ below.0 in
       let bare : is_wholly_hidden v q ≡ true =
-      ap (λ b. not b && (not (v.visible q) && not (v.holds_visible q))) (deep_path p name pl) ∙ ap (λ b. not b && not (v.holds_visible q)) parts.0 ∙ ap not closed in
+      ap (λ b. not b && (not (v.visible q) && not (v.holds_visible q))) (not_root p name pl) ∙ ap (λ b. not b && not (v.holds_visible q)) parts.0 ∙ ap not closed in
       ap (λ ts. ts ++ tells (K ++ R)) (
       cond-false (is_frame v q) _ _ (and_right (not (v.visible q)) (v.holds_visible q) closed)
       ∙ cond-false (is_wholly_hidden v q && not (is_wholly_hidden v p)) _ _ (and_right (is_wholly_hidden v q) _ (ap not hidden)))
       ∙ flat_map-append (withheld_at v place) K R
       ∙ ap (λ ts. ts ++ tells R) (silent kids (suc d) q says.1 below.0 bare)
       ∙ silent rest d p says.2 below.1 hidden
+
+  all_front : (xs ys : List (Tokens × Tokens)) → AllByRecursion IsRight (xs ++ ys) → AllByRecursion IsRight xs
+  all_front [] ys h = tt
+  all_front (x ∷ xs) ys h = (h.0, all_front xs ys h.1)
+
+  all_back : (xs ys : List (Tokens × Tokens)) → AllByRecursion IsRight (xs ++ ys) → AllByRecursion IsRight ys
+  all_back [] ys h = h
+  all_back (x ∷ xs) ys h = all_back xs ys h.1
 
   -- the three ways of a class
   choose_told : (visible holds hidden ended : Bool) (p' q r : Tokens) (rule : Rule) (K R : List Withheld)
@@ -60,27 +70,11 @@ module _ (v : Verdicts) (place : Tokens → Option Tokens) where
       ap (λ b. (if b && true then (q, rule) ∷ [] else []) ++ (K ++ R)) bare
       ∙ ap (λ k. k ++ R) (kids right.0 (all_front (PK true) PB right.1) bare)
       ∙ ap (λ ts. TK true ++ ts) (next (all_back (PK true) PB right.1))
-    where
-      all_front : (xs ys : List (Tokens × Tokens)) → AllByRecursion IsRight (xs ++ ys) → AllByRecursion IsRight xs
-      all_front [] ys h = tt
-      all_front (x ∷ xs) ys h = (h.0, all_front xs ys h.1)
-
-      all_back : (xs ys : List (Tokens × Tokens)) → AllByRecursion IsRight (xs ++ ys) → AllByRecursion IsRight ys
-      all_back [] ys h = h
-      all_back (x ∷ xs) ys h = all_back xs ys h.1
   choose_told false true hidden ended p' q r rule K R TK behind gone PK PB PG bare bottom right kids quiet next past =
       let all : AllByRecursion IsRight ((p', r) ∷ (PK false ++ PB)) = subst (AllByRecursion IsRight) (cond-false ended PG ((p', r) ∷ (PK false ++ PB)) (bottom refl)) right in
       ap (λ x. told_at_place x rule ++ (K ++ R)) all.0
       ∙ ap (λ ts. (r, rule) ∷ ts) (ap (λ k. k ++ R) (kids all.0 (all_front (PK false) PB all.1) bare) ∙ ap (λ ts. TK false ++ ts) (next (all_back (PK false) PB all.1)))
       ∙ sym (cond-false ended ((q, rule) ∷ gone) ((r, rule) ∷ (TK false ++ behind)) (bottom refl))
-    where
-      all_front : (xs ys : List (Tokens × Tokens)) → AllByRecursion IsRight (xs ++ ys) → AllByRecursion IsRight xs
-      all_front [] ys h = tt
-      all_front (x ∷ xs) ys h = (h.0, all_front xs ys h.1)
-
-      all_back : (xs ys : List (Tokens × Tokens)) → AllByRecursion IsRight (xs ++ ys) → AllByRecursion IsRight ys
-      all_back [] ys h = h
-      all_back (x ∷ xs) ys h = all_back xs ys h.1
   choose_told false false hidden ended p' q r rule K R TK behind gone PK PB PG bare bottom right kids quiet next past =
       let all : AllByRecursion IsRight PG = subst (AllByRecursion IsRight) (cond-true ended PG ((p', r) ∷ (PK false ++ PB)) (bottom refl)) right in
       ap (λ b. (if b && true then (q, rule) ∷ [] else []) ++ (K ++ R)) bare
@@ -102,7 +96,7 @@ module _ (v : Verdicts) (place : Tokens → Option Tokens) where
       let h = home_at v p in
       let rule = v.rule p' in
       let bare : is_wholly_hidden v p' ≡ (not (v.visible p') && not (v.holds_visible p')) =
-      ap (λ b. not b && (not (v.visible p') && not (v.holds_visible p'))) (deep_path p name pl) in
+      ap (λ b. not b && (not (v.visible p') && not (v.holds_visible p'))) (not_root p name pl) in
       let W = λ (x : Option Tokens) (o : Bool). (if is_frame v p' then told_at_place (place p') rule else (if is_wholly_hidden v p' && o then told_at_place x rule else [])) ++ tells (K ++ R) in
       ap (λ o. W (place p) (not o)) shown
       ∙ ap (λ x. W x true) here

@@ -10,8 +10,7 @@ use Rattle.policy.specs.declared.verdict.Verdict.{Verdict}
 use Rattle.policy.specs.declared.verdict.Verdict.TheVariants.{Shown, Hidden}
 use Rattle.policy.specs.Verdict.{is_visible, verdict_of}
 use Rattle.redact.specs.Kept.{Verdicts, is_kept, is_frame, kept}
-use Rattle.redact.specs.Withheld.{class_places, place_by}
-use Rattle.redact.specs.Told.{verdicts_of, withheld_of, visible_count, is_listed, finds}
+use Rattle.redact.specs.Told.{verdicts_of, excerpt_place, withheld_of, visible_count, is_listed, finds}
 
 -- an incident is listed exactly where an excerpt of it is served: where some class is visible
 abbrev pub ListedIsServed : Type 0
@@ -38,7 +37,7 @@ pub record VerdictIsServed (ls : List Line) (c : Case) (s : Standing) (e : Locat
   pub shown : is_shown (verdict_of (located ls) c s e.path) ≡ is_visible (located ls) c s e.path
   pub hidden : (r : Rule) → verdict_of (located ls) c s e.path ≡ Hidden r → r ≡ (verdicts_of (located ls) c s).rule e.path
   pub frame : (q : Tokens) → is_frame (verdicts_of (located ls) c s) e.path ≡ true →
-      place_by (class_places (verdicts_of (located ls) c s) (located ls)) e.path ≡ Some q →
+      excerpt_place ls c s e.path ≡ Some q →
       Contains (withheld_of ls c s) (q, (verdicts_of (located ls) c s).rule e.path)
 
 abbrev pub VerdictsAreServed : Type 0

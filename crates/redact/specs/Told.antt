@@ -7,18 +7,13 @@ use Rattle.iodef_tree.specs.Paths.{LocatedLine, is_class, located, below}
 use Rattle.iodef_tree.specs.declared.line.Line.{Line}
 use Rattle.iodef_tree.specs.declared.line.Kind.{Kind}
 use Rattle.iodef_tree.specs.declared.line.Kind.TheVariants as kind
-use Rattle.marking.specs.Label.{Marking, extended, text_of}
+use Rattle.marking.specs.Label.{Marking, extended, restriction_of}
 use Rattle.marking.specs.Marks.{written_label, label_at}
 use Rattle.policy.specs.Verdict.{is_visible, hiding_rule}
 use Rattle.policy.specs.declared.standing.Standing.{Standing}
 use Rattle.policy.specs.declared.case.Case.{Case}
 use Rattle.redact.specs.Kept.{Attribute, Verdicts, kept}
-use Rattle.redact.specs.Withheld.{Withheld, withheld_pairs}
-
--- the value of `restriction` (RFC 7970 section 3.3.1)
-abbrev pub restriction_of : Marking → Bytes
-restriction_of (extended t) = codes "ext-value"
-restriction_of l = text_of l
+use Rattle.redact.specs.Withheld.{Withheld, class_places, place_by, withheld_pairs}
 
 -- the value of `ext-restriction`, for an extended label (RFC 7970 section 5.1.1)
 abbrev pub ext_restriction_of : Marking → Option Bytes
@@ -29,7 +24,7 @@ abbrev pub attributes_by : Bytes → Option Bytes → List Attribute
 attributes_by restriction None = (codes "restriction", restriction) ∷ []
 attributes_by restriction (Some ext) = (codes "ext-restriction", ext) ∷ (codes "restriction", restriction) ∷ []
 
--- what a label is written as
+-- what a label is written as (RFC 7970 section 3.3.1)
 abbrev pub attributes_of : Marking → List Attribute
 attributes_of l = attributes_by (restriction_of l) (ext_restriction_of l)
 
@@ -96,6 +91,10 @@ module _ (ls : List Line) (c : Case) (s : Standing) where
   -- what is withheld, in stored order and with repeats
   abbrev pub withheld_of : List Withheld
   withheld_of = withheld_pairs (verdicts_of (located ls) c s) (located ls)
+
+  -- the place in the excerpt of the class at a path, if it is kept
+  abbrev pub excerpt_place : Tokens → Option Tokens
+  excerpt_place = place_by (class_places (verdicts_of (located ls) c s) (located ls))
 
   -- how many classes are visible
   abbrev pub visible_count : ℕ

@@ -5,7 +5,7 @@ ghost use Rattle.std.specs.List.{AllByRecursion};
 ghost use Rattle.iodef_tree.specs.View.{forest, named, members_forest};
 ghost use Rattle.marking.specs.Label.{marking_of};
 ghost use Rattle.redact.specs.Judged.{put_leaf, put_attributes, attribute_leaf};
-ghost use Rattle.redact.specs.Told.{attributes_of, restriction_of, ext_restriction_of};
+ghost use Rattle.redact.specs.Told.{attributes_of, ext_restriction_of};
 ghost use Rattle.iodef_tree.specs.Filled.{IsFilled, IsMemberFilled};
 ghost use Rattle.redact.specs.Filled.{saying};
 ghost use Rattle.iodef_tree.specs.View.{forest_of_members};
@@ -46,24 +46,6 @@ fn with_attribute(
     Ok(Object { members })
 }
 
-/// The value of `restriction`.
-fn restriction(label: Label<'_>) -> &'static str
-    ensures { result.now ≡ restriction_of (marking_of label.entry) }
-{
-    match label {
-        Label::Public => "public",
-        Label::White => "white",
-        Label::Partner => "partner",
-        Label::Green => "green",
-        Label::NeedToKnow => "need-to-know",
-        Label::Amber => "amber",
-        Label::Private => "private",
-        Label::Red => "red",
-        Label::Default => "default",
-        Label::Ext(_) => "ext-value",
-    }
-}
-
 /// The value of `ext-restriction`, for an extended label.
 fn ext_restriction<'a>(label: Label<'a>) -> Option<&'a str>
     ensures { option_map (λ t. t.now) result ≡ ext_restriction_of (marking_of label.entry) }
@@ -80,7 +62,7 @@ pub fn labelled(alloc: Global, object: Object, label: Label<'_>) -> Result<Objec
     ensures put { IfOk result (λ o. forest o ≡ put_attributes (attributes_of (marking_of label.entry)) (forest object)) }
     ensures filled { IfOk result (λ o. IsFilled o) }
 {
-    let object = with_attribute(alloc, object, "restriction", restriction(label))?;
+    let object = with_attribute(alloc, object, "restriction", label.restriction())?;
     match ext_restriction(label) {
         Some(text) => Ok(with_attribute(alloc, object, "ext-restriction", text)?),
         None => Ok(object),

@@ -1,9 +1,9 @@
 //! The excerpt of a whole document.
 
-ghost use Rattle.std.specs.Prelude.{◌≡◌, None, IfOk};
+ghost use Rattle.std.specs.Prelude.{◌≡◌, None, IfOk, IfSome};
 ghost use Rattle.iodef_tree.specs.Paths.{located};
 ghost use Rattle.marking.specs.Marks.{first_bad_marking};
-ghost use Rattle.redact.specs.Excerpts.{Gives};
+ghost use Rattle.redact.specs.Excerpts.{Gives, LabelsSurvive};
 ghost use Rattle.redact.specs.Withheld.{Lists};
 
 use crate::kept::Excerpt;
@@ -17,28 +17,18 @@ use std::mem::replace;
 
 /// What a reader may see of an incident: its visible classes with their plain members, the classes that hold such ones
 /// bare, and the header. A visible class whose label would not show any more says it itself. `None` exactly where no
-/// class is visible. The markings of the document were accepted by `check`.
-pub fn excerpt(
-    alloc: Global,
-    document: &Document,
-    case: &Case,
-    standing: &Standing,
-) -> Result<Option<Excerpt>, AllocError>
-    requires { first_bad_marking (located document.now) ≡ None }
-    ensures { IfOk result (λ r. Gives document.now case.now standing.now r) }
-{
-    let given = given(alloc, document, case, standing)?;
-    Ok(given)
-}
-
-fn given<'a>(
+/// class is visible. The markings of the document were accepted by `check`. So are those of the excerpt, and the label of
+/// each visible class is still the same.
+pub fn excerpt<'a>(
     alloc: Global,
     document: &'a Document,
     case: &'a Case,
     standing: &'a Standing,
 ) -> Result<Option<Excerpt>, AllocError>
     requires { first_bad_marking (located document.now) ≡ None }
-    ensures { IfOk result (λ r. Gives document.now case.now standing.now r) }
+    ensures told { IfOk result (λ r. Gives document.now case.now standing.now r) }
+    ensures checked { IfOk result (λ r. IfSome r (λ e. first_bad_marking (located e.document) ≡ None)) }
+    ensures labels { IfOk result (λ r. IfSome r (λ e. LabelsSurvive document.now case.now standing.now e.document)) }
 {
     let reader = Reader { case, standing };
     let mut state = State {

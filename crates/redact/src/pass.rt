@@ -4,7 +4,9 @@
 ghost use Rattle.std.specs.Prelude.{◌≡◌, ◌≤◌, ◌∷◌, ◌++◌, [], IfOk, OnOk, IfSome, List, ℕ, length, take, map, option_map, is_none, ◌&&◌, ◌+◌, not, true, false, if◌then◌else◌, Some, None};
 ghost use Rattle.iodef_tree.specs.View.{forest, bodies, body, named};
 ghost use Rattle.marking.specs.Members.{spelled_in};
-ghost use Rattle.redact.specs.Judged.{inside, is_end, with_label, keeps_plain as keeps, shows_label, cut as what_is_left, told, visible_classes};
+ghost use Rattle.marking.specs.Label.{marking_of};
+ghost use Rattle.redact.specs.Told.{attributes_of};
+ghost use Rattle.redact.specs.Judged.{inside, is_end, put_attributes, with_label, keeps_plain as keeps, shows_label, cut as what_is_left, told, visible_classes};
 ghost use Rattle.redact.specs.Pass.{judgment_by};
 ghost use Rattle.redact.specs.Here.{carries, judged_for, LiesAhead};
 ghost use Rattle.iodef_tree.specs.Text.{Tokens};
@@ -20,6 +22,7 @@ use crate::note::{Note, add};
 use crate::reader::Reader;
 use crate::trail::Token;
 use iodef_tree::{Item, Member, Object};
+use marking::Label;
 use marking::class::written;
 use policy::{Ahead, Carried, Rule};
 use std::alloc::{AllocError, Global};
@@ -68,6 +71,26 @@ fn needs_label(home: Home, object: &Object) -> bool
     ensures { result ≡ (is_none (spelled_in (forest object.now)) && not (shows_label (home_of home))) }
 {
     written(object).is_none() && !shows(home)
+}
+
+/// What is left of a visible class, with its label where it has to say it.
+fn with_own_label(
+    alloc: Global,
+    home: Home,
+    object: &Object,
+    kept: Object,
+    label: Label<'_>,
+) -> Result<Object, AllocError>
+    requires { IsFilled object.now × IsFilled kept }
+    ensures left { IfOk result (λ o. forest o ≡ (if is_none (spelled_in (forest object.now)) && not (shows_label (home_of home))
+        then put_attributes (attributes_of (marking_of label.entry)) (forest kept) else forest kept)) }
+    ensures filled { IfOk result (λ o. IsFilled o) }
+{
+    if needs_label(home, object) {
+        labelled(alloc, kept, label)
+    } else {
+        Ok(kept)
+    }
 }
 
 /// Notes each of the rules at the place where the pass is.
@@ -345,12 +368,8 @@ impl<'a> Reader<'a> {
         let kept = self.cut(state, Home::Class(true), ahead, at, object)?;
         let gone = replace(&mut state.gone, outside);
         tell(state, gone.as_slice())?;
-        if needs_label(home, object) {
-            let said = labelled(state.alloc, kept, at.label)?;
-            Ok(said)
-        } else {
-            Ok(kept)
-        }
+        let said = with_own_label(state.alloc, home, object, kept, at.label)?;
+        Ok(said)
     }
 
     /// What is left of a class that isn't visible: it is told at its place where something is, else at that of its parent.

@@ -1,3 +1,4 @@
+//! A document of a body, with what its incident is named by.
 ghost use Rattle.std.specs.Prelude.{◌≡◌, IfOk};
 ghost use Rattle.hub_core.specs.Documents.{ident_of};
 

@@ -1,4 +1,4 @@
 use Rattle.hub_store.proofs.directory_edits.remove_pair.Goals as goal
 
 pub returns-clause-ran : goal.returns-clause-ran
-returns-clause-ran g c clean inside = rw (c.params-to_sql.ensures, c.params-to_sql-2.ensures, c.params-to_sql-3.ensures) at (c.run.ensures.ran clean inside)
+returns-clause-ran g c clean inside = rw (c.params-to_sql.ensures, c.name.ensures, c.params-to_sql-2.ensures, c.params-to_sql-3.ensures) at (c.run.ensures.ran clean inside)

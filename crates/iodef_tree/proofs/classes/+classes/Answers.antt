@@ -1,11 +1,18 @@
-use Rattle.std.proofs.Common.{◌∙◌}
-use Rattle.iodef_tree.proofs.ClassesBelow.{classes-next}
+use Rattle.std.proofs.Common.{◌++◌, ◌∙◌, ap}
+use Rattle.iodef_tree.specs.Tree.{end, member_front}
+use Rattle.iodef_tree.specs.View.{bodies}
+use Rattle.iodef_tree.specs.Walk.{classes_below}
+use Rattle.iodef_tree.proofs.ClassesBelow.{classes-append}
+use Rattle.iodef_tree.proofs.Fronts.{list-next}
 use Rattle.iodef_tree.proofs.classes.+classes.Goals as goal
 
 pub push_object-loop-name-preserved : goal.push_object-loop-name-preserved
-push_object-loop-name-preserved t c = record {
-  pushed = classes-next c.deref-name-items.result.now c.loop-name.name-index c.loop-name-item.result c.args.above.now.items c.loop-name.above.items
-      c.push_member.new.paths.items c.loop-name.paths.items c.loop-name-test.true c.loop-name-item.is c.loop-name.invariant.kept c.in_ok-push_member.ensures.pushed
-      ∙ c.loop-name.invariant.pushed;
-  kept = c.in_ok-push_member.ensures.kept ∙ c.loop-name.invariant.kept;
-}
+push_object-loop-name-preserved t c =
+    let m = c.loop-name-item.result in
+    record {
+      pushed = list-next (classes_below c.args.above.now.items) (classes-append c.args.above.now.items) c.deref-name-items.result.now c.loop-name.name-index m c.push_member.new.paths.items c.loop-name.paths.items
+          c.loop-name-test.true c.loop-name-item.is
+          (c.in_ok-push_member.ensures.pushed ∙ ap (λ p. c.loop-name.paths.items ++ classes_below p (member_front m.0 (bodies m.1) end)) c.loop-name.invariant.kept)
+          ∙ c.loop-name.invariant.pushed;
+      kept = c.in_ok-push_member.ensures.kept ∙ c.loop-name.invariant.kept;
+    }

@@ -1,15 +1,14 @@
-use Rattle.std.proofs.Common.{◌≡◌, ◌==◌, true, false, ap, length, map, sym, ◌∙◌, subst}
+use Rattle.std.proofs.Common.{◌≡◌, ◌==◌, true, false, ap, length, map, sym, ◌∙◌, subst, None}
 use Rattle.serde_json.specs.View.{view, items_view}
 use Rattle.serde_json.specs.declared.value.Value.{Array}
 use Rattle.serde_json.proofs.Views.{view-Array}
-use Rattle.iodef_tree.specs.Fit.{HasBodyTexts, is_element_flat}
+use Rattle.iodef_tree.specs.FitValues.{HasBodyTexts, is_element_flat}
 use Rattle.iodef_tree.specs.Sound.{IsOrdered}
 use Rattle.iodef_tree.specs.Texts.{may_be_value, HasTexts}
 use Rattle.iodef_tree.specs.View.{body, named}
-use Rattle.std.proofs.Common.{None}
 use Rattle.iodef_tree.proofs.Filled.{made-filled, many-filled}
-use Rattle.iodef_tree.proofs.Given.{all_given, members_done, many_done, some_given}
-use Rattle.iodef_tree.proofs.Ordered.{Ascend, ascend_given, ordered_members}
+use Rattle.iodef_tree.proofs.FromValues.{all_given, members_done, many_done, some_given}
+use Rattle.iodef_tree.proofs.AscendingNames.{Ascend, ascend_given, ordered_members}
 use Rattle.iodef_tree.proofs.ValueTexts.{texts-members, inner-value, written-text}
 use Rattle.iodef_tree.proofs.Views.{body-Value, bodies-Many, forest-made}
 use Rattle.iodef_tree.proofs.convert.+convert.Goals as goal

@@ -1,5 +1,4 @@
-use Rattle.std.proofs.Common.{◌≡◌, true, sym, ◌∙◌, ap}
-use Rattle.std.specs.Str.{bytes_eq}
+use Rattle.std.proofs.Common.{◌≡◌, true, sym, ◌∙◌, ap, bytes_eq}
 use Rattle.iodef_tree.proofs.Filled.{member-at}
 use Rattle.iodef_tree.proofs.Members.{found-here, not-here, other-here}
 use Rattle.iodef_tree.proofs.lookup.item_at.Goals.{then-eq+else-is_some, else-eq}

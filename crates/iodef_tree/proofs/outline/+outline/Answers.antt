@@ -1,17 +1,18 @@
 use Rattle.std.proofs.Common.{◌∙◌, arith, rules}
 use Rattle.iodef_tree.specs.declared.object.Object.{the_lemmas}
-use Rattle.iodef_tree.proofs.Fronts.{lines_next, height_next}
+use Rattle.iodef_tree.proofs.Fronts.{lines-append, list-next, height-next}
 use Rattle.iodef_tree.proofs.outline.+outline.Goals as goal
+use Rattle.iodef_tree.specs.Tree.{lines}
 
 pub push_object-push_member-requires : goal.push_object-push_member-requires
 push_object-push_member-requires t c =
-    let high = height_next c.deref-name-items.result.now c.loop-name.name-index c.loop-name-item.result c.loop-name-test.true c.loop-name-item.is in
+    let high = height-next c.deref-name-items.result.now c.loop-name.name-index c.loop-name-item.result c.loop-name-test.true c.loop-name-item.is in
     (search (rules, the_lemmas), omega arith)
 
 pub push_object-loop-name-preserved : goal.push_object-loop-name-preserved
 push_object-loop-name-preserved t c = record {
-  lines = lines_next c.deref-name-items.result.now c.loop-name.name-index c.loop-name-item.result c.args.depth c.push_member.new.lines.items c.loop-name.lines.items
+  lines = list-next (lines c.args.depth) (lines-append c.args.depth) c.deref-name-items.result.now c.loop-name.name-index c.loop-name-item.result c.push_member.new.lines.items c.loop-name.lines.items
       c.loop-name-test.true c.loop-name-item.is c.in_ok-push_member.ensures
       ∙ c.loop-name.invariant.lines;
-  room = let high = height_next c.deref-name-items.result.now c.loop-name.name-index c.loop-name-item.result c.loop-name-test.true c.loop-name-item.is in omega arith;
+  room = let high = height-next c.deref-name-items.result.now c.loop-name.name-index c.loop-name-item.result c.loop-name-test.true c.loop-name-item.is in omega arith;
 }

@@ -1,5 +1,4 @@
-use Rattle.std.proofs.Common.{◌++◌, ap, sym, ◌∙◌, append_assoc, string_bytes}
-use Rattle.std.specs.Char.{encode_utf8}
+use Rattle.std.proofs.Common.{◌++◌, ap, sym, ◌∙◌, append_assoc, string_bytes, encode_utf8}
 use Rattle.std.specs.Str.Iter.{chars_rest}
 use Rattle.iodef_tree.specs.Pointer.{escaped}
 use Rattle.iodef_tree.proofs.Pointers.{escaped-append, escaped-encode}

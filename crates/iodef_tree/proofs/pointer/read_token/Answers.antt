@@ -1,5 +1,4 @@
-use Rattle.std.proofs.Common.{rules, ◌≡◌, ap, sym, ◌∙◌, ◌++◌, arith, string_bytes, Bool, false, Some, None}
-use Rattle.std.specs.Char.{encode_utf8}
+use Rattle.std.proofs.Common.{rules, ◌≡◌, ap, sym, ◌∙◌, ◌++◌, arith, string_bytes, Bool, false, Some, None, encode_utf8}
 use Rattle.std.specs.Str.Iter.{chars_rest}
 use Rattle.iodef_tree.specs.Pointer.{unescaped_from}
 use Rattle.iodef_tree.proofs.Unescaping.{made_then, made_then-nil, plain_step, tilde_step, code_step, no_code_step}

@@ -1,13 +1,13 @@
 use Rattle.std.proofs.Common.{◌<◌, ◌≤◌, ap, sym, ◌∙◌, subst, Ok}
 use Rattle.serde_json.specs.View.{view, members_view}
-use Rattle.iodef_tree.specs.Fit.{line_count}
+use Rattle.iodef_tree.specs.FitValues.{line_count}
 use Rattle.iodef_tree.specs.Reading.{document_of}
 use Rattle.iodef_tree.specs.Tree.{lines, height}
 use Rattle.iodef_tree.specs.Values.{forest_of_data}
 use Rattle.iodef_tree.specs.View.{forest}
 use Rattle.iodef_tree.specs.declared.TheConstants.{DEPTH_LIMIT, LINE_LIMIT}
 use Rattle.iodef_tree.proofs.Exchanged.{put_in}
-use Rattle.iodef_tree.proofs.Loop.{room_kept, room_lacks, short_enough, too_long, sound}
+use Rattle.iodef_tree.proofs.DocumentLists.{room_kept, room_lacks, short_enough, too_long, sound}
 use Rattle.iodef_tree.proofs.read.document_from.Goals as goal
 
 pub object_from-requires : goal.object_from-requires

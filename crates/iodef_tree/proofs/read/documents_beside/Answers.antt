@@ -1,12 +1,11 @@
-use Rattle.std.proofs.Common.{◌≡◌, sym, ◌∙◌, subst}
+use Rattle.std.proofs.Common.{◌≡◌, sym, ◌∙◌, subst, Ok}
 use Rattle.serde_json.specs.View.{view, items_view, members_view}
-use Rattle.iodef_tree.specs.Fit.{IsFit, AreFit}
+use Rattle.iodef_tree.specs.FitValues.{IsFit, AreFit}
 use Rattle.iodef_tree.specs.Reading.{Fails, documents, document_of, if_short}
 use Rattle.iodef_tree.specs.Tree.{lines}
-use Rattle.std.proofs.Common.{Ok}
 use Rattle.std.specs.Vec.Iter.{into_iter_items}
 use Rattle.iodef_tree.proofs.Exchanged.{cloned}
-use Rattle.iodef_tree.proofs.Loop.{with_front, gives_err, failed, next}
+use Rattle.iodef_tree.proofs.DocumentLists.{with_front, gives_err, failed, next}
 use Rattle.iodef_tree.proofs.read.documents_beside.Goals as goal
 
 pub document_from-requires : goal.document_from-requires

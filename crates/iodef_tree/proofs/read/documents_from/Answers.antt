@@ -1,8 +1,8 @@
 use Rattle.std.proofs.Common.{Ok, sym, ap, ◌∙◌, subst}
 use Rattle.serde_json.specs.View.{items_view, members_view}
-use Rattle.iodef_tree.specs.Fit.{AreFit}
+use Rattle.iodef_tree.specs.FitValues.{AreFit}
 use Rattle.iodef_tree.specs.Reading.{Fails, documents}
-use Rattle.iodef_tree.proofs.Loop.{gives_err, failed_front, failed_last, last_done, fit_parts}
+use Rattle.iodef_tree.proofs.DocumentLists.{gives_err, failed_front, failed_last, last_done, fit_parts}
 use Rattle.iodef_tree.proofs.read.documents_from.Goals as goal
 
 pub documents_beside-requires : goal.documents_beside-requires

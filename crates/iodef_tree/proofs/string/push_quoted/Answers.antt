@@ -1,7 +1,30 @@
-use Rattle.std.proofs.Common.{◌≡◌, [], ◌∷◌, ◌++◌, ◌∙◌, ap, sym, string_bytes}
+use Rattle.std.proofs.Common.{◌≡◌, [], ◌∷◌, ◌++◌, ◌∙◌, ap, sym, string_bytes, ℕ, false, List, refl, ap₂, append_assoc, ◌==◌}
 use Rattle.iodef_tree.specs.Text.{Bytes}
-use Rattle.iodef_tree.proofs.Quoted.{quoted-behind}
+use Rattle.std.proofs.lemmas.Bool.{or_parts, eqb-false, ltb-false}
+use Rattle.std.specs.List.{list_any}
+use Rattle.json.specs.Print.{escape, quoted}
+use Rattle.json.proofs.Printed.Strings.{escape_byte_plain}
+use Rattle.iodef_tree.specs.Written.{needs_escape}
 use Rattle.iodef_tree.proofs.string.push_quoted.Goals as goal
+
+-- a text that needs no escape
+escape-plain : (s : Bytes) → list_any needs_escape s ≡ false → escape s ≡ s
+escape-plain [] h = refl
+escape-plain (x ∷ xs) h =
+    let parts = or_parts (needs_escape x) (list_any needs_escape xs) h in
+    let tests = or_parts (x == 34) _ parts.0 in
+    let others = or_parts (x == 92) _ tests.1 in
+    ap₂ (λ (a b : List ℕ). a ++ b) (escape_byte_plain x (eqb-false x 34 tests.0) (eqb-false x 92 others.0) (ltb-false x 32 others.1)) (escape-plain xs parts.1)
+
+quoted-plain : (s : Bytes) → list_any needs_escape s ≡ false → quoted s ≡ 34 ∷ (s ++ 34 ∷ [])
+quoted-plain s h = ap (λ t. 34 ∷ (t ++ 34 ∷ [])) (escape-plain s h)
+
+-- behind other bytes, put there one after another
+quoted-behind : (out s : Bytes) → list_any needs_escape s ≡ false → ((out ++ 34 ∷ []) ++ s) ++ 34 ∷ [] ≡ out ++ quoted s
+quoted-behind out s h =
+    append_assoc (out ++ 34 ∷ []) s (34 ∷ [])
+    ∙ append_assoc out (34 ∷ []) (s ++ 34 ∷ [])
+    ∙ sym (ap (λ t. out ++ t) (quoted-plain s h))
 
 pub returns : goal.returns
 unfolding lib.Utf8.encode

@@ -1,5 +1,5 @@
 use Rattle.std.proofs.Common.{◌∙◌, ap, subst, rules}
-use Rattle.iodef_tree.specs.Fit.{AreBodiesOrdered}
+use Rattle.iodef_tree.specs.FitValues.{AreBodiesOrdered}
 use Rattle.iodef_tree.specs.Filled.{IsMemberFilled}
 use Rattle.iodef_tree.specs.View.{forest, bodies}
 use Rattle.iodef_tree.specs.Written.{members_of}

@@ -1,6 +1,6 @@
 use Rattle.iodef_tree.specs.View.{bodies, forest}
 use Rattle.iodef_tree.specs.Written.{members_of, bodies_data}
-use Rattle.iodef_tree.proofs.Found.{id-found}
+use Rattle.iodef_tree.proofs.MembersByName.{id-found}
 use Rattle.iodef_tree.proofs.value.id_in.Goals as goal
 
 pub returns-clause-found : goal.returns-clause-found

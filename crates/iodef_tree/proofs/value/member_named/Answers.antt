@@ -1,11 +1,10 @@
-use Rattle.std.proofs.Common.{◌≡◌, true, sym, ◌∙◌, ap}
-use Rattle.std.specs.Str.{bytes_eq}
+use Rattle.std.proofs.Common.{◌≡◌, true, sym, ◌∙◌, ap, bytes_eq}
 use Rattle.serde_json.specs.Find.{get_member}
-use Rattle.iodef_tree.specs.Kept.{AreKept}
+use Rattle.iodef_tree.specs.SoundParts.{AreKept}
 use Rattle.iodef_tree.specs.Written.{members_of}
 use Rattle.iodef_tree.proofs.Data.{all-left}
 use Rattle.iodef_tree.proofs.Filled.{member-at, member-elements}
-use Rattle.iodef_tree.proofs.Found.{object-members, kept-members, member-found, member-other}
+use Rattle.iodef_tree.proofs.MembersByName.{object-members, kept-members, member-found, member-other}
 use Rattle.iodef_tree.proofs.value.member_named.Goals as goal
 
 pub loop-own-init : goal.loop-own-init

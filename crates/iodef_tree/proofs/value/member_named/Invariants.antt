@@ -1,7 +1,7 @@
 use Rattle.std.proofs.Common.{◌≡◌, map, drop}
 use Rattle.std.specs.List.{AllByRecursion}
 use Rattle.serde_json.specs.Find.{get_member}
-use Rattle.iodef_tree.specs.Kept.{AreKept}
+use Rattle.iodef_tree.specs.SoundParts.{AreKept}
 use Rattle.iodef_tree.specs.View.{forest, named, members_forest}
 use Rattle.iodef_tree.specs.Written.{members_of}
 use Rattle.iodef_tree.proofs.value.member_named.Given as goal

@@ -3,9 +3,9 @@ use Rattle.serde_json.specs.View.{view}
 use Rattle.serde_json.specs.Written.{compact_text, has_float}
 use Rattle.iodef_tree.specs.View.{bodies}
 use Rattle.iodef_tree.specs.Written.{bodies_data}
-use Rattle.iodef_tree.proofs.Found.{kept-ordered}
+use Rattle.iodef_tree.proofs.MembersByName.{kept-ordered}
 use Rattle.iodef_tree.proofs.Spines.{if_ok}
-use Rattle.iodef_tree.proofs.Whole.{kept-whole}
+use Rattle.iodef_tree.proofs.NoFloat.{kept-whole}
 use Rattle.iodef_tree.proofs.value.member_text.Goals as goal
 
 pub member_value-requires-clause-ordered : goal.member_value-requires-clause-ordered

@@ -1,9 +1,8 @@
-use Rattle.std.proofs.Common.{◌≡◌, ◌&&◌, true, sym, ◌∙◌, ap}
-use Rattle.std.specs.Str.{bytes_eq}
+use Rattle.std.proofs.Common.{◌≡◌, ◌&&◌, true, sym, ◌∙◌, ap, bytes_eq}
 use Rattle.serde_json.specs.View.{view}
 use Rattle.serde_json.specs.Written.{compact_text}
 use Rattle.iodef_tree.specs.Texts.{may_be_value}
-use Rattle.iodef_tree.proofs.Plain.{value-no_float}
+use Rattle.iodef_tree.proofs.NoFloat.{value-no_float}
 use Rattle.iodef_tree.proofs.value_text.is_text_of.Goals as goal
 
 pub returns : goal.returns

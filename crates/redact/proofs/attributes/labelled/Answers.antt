@@ -2,8 +2,8 @@ use Rattle.std.proofs.Common.{◌∙◌, ap}
 use Rattle.std.specs.Prelude.{codes}
 use Rattle.iodef_tree.specs.View.{forest}
 use Rattle.redact.specs.Judged.{put_leaf, put_attributes, attribute_leaf}
-use Rattle.redact.specs.Told.{attributes_by, restriction_of}
-use Rattle.marking.specs.Label.{marking_of}
+use Rattle.redact.specs.Told.{attributes_by}
+use Rattle.marking.specs.Label.{marking_of, restriction_of}
 use Rattle.redact.proofs.attributes.labelled.Goals as goal
 
 pub returns-in_ok-with_attribute-in-Some-clause-put : goal.returns-in_ok-with_attribute-in-Some-clause-put

@@ -1,14 +1,30 @@
-use Rattle.std.proofs.Common.{◌≡◌, rules, sym, ◌∙◌}
+use Rattle.std.proofs.Common.{◌≡◌, rules, sym, subst, ◌∙◌}
+use Rattle.sqlite.specs.State.{HasCleanDisk}
 use Rattle.sqlite.specs.Held.{state}
+use Rattle.hub_core.specs.State.{State, empty}
+use Rattle.hub_store.specs.Content.{Has, MayLeave}
 use Rattle.hub_store.specs.Tables.{no_schema}
-use Rattle.hub_store.proofs.Empty.{has_empty}
+use Rattle.hub_store.proofs.Empty.{has_empty, sound_empty}
+use Rattle.hub_store.proofs.Left.{left_by_commit}
 use Rattle.hub_store.proofs.Runs.{kept_has}
 use Rattle.hub_store.proofs.sql_shelf.SqlShelf.create.Goals as goal
 
 pub returns-in-Ok-clause-made : goal.returns-in-Ok-clause-made
-returns-in-Ok-clause-made g c clean =
+returns-in-Ok-clause-made g c =
     let blank : (state g.S.Store c.args.conn).now.schema ≡ no_schema = sym c.schema.ensures.value ∙ c.is_blank.ensures.0 (search rules) in
-    has_empty (state g.S.Store c.make_store.new.conn) (c.in-Ok.ensures.made clean blank)
+    subst (λ h. HasCleanDisk (state g.S.Store h) → Has (state g.S.Store h) empty) (sym c.over.ensures.same)
+    (λ clean. has_empty (state g.S.Store c.make_store.new.conn) (c.in-Ok.ensures.made clean blank))
+
+pub returns-in-Ok-clause-durable : goal.returns-in-Ok-clause-durable
+returns-in-Ok-clause-durable g c =
+    let blank : (state g.S.Store c.args.conn).now.schema ≡ no_schema = sym c.schema.ensures.value ∙ c.is_blank.ensures.0 (search rules) in
+    subst (λ h. HasCleanDisk (state g.S.Store h) → (left : State) → MayLeave (state g.S.Store h) left → left ≡ empty) (sym c.over.ensures.same)
+    (λ clean left may. left_by_commit (state g.S.Store c.make_store.new.conn) empty left (c.in-Ok.ensures.made clean blank) sound_empty (λ db up may. g.met.S.Store.settled c.make_store.new.conn.store db up may) may)
 
 pub returns-in-Err-clause-back : goal.returns-in-Err-clause-back
 returns-in-Err-clause-back g c clean s has = kept_has (state g.S.Store c.args.conn) (state g.S.Store c.make_store.new.conn) s (c.in-Err.ensures.none clean) has
+
+pub returns-in-Err-clause-crash : goal.returns-in-Err-clause-crash
+returns-in-Err-clause-crash g c =
+    let blank : (state g.S.Store c.args.conn).now.schema ≡ no_schema = sym c.schema.ensures.value ∙ c.is_blank.ensures.0 (search rules) in
+    c.make_store.ensures.survives blank

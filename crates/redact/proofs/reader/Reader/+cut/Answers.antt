@@ -115,27 +115,6 @@ cut_seen-returns-clause-goes t c = λ q.
       classes = λ h. let more = c.saturating_add-state.ensures in let e = g.classes (omega (arith, more, h)) in omega (arith, more, e, c.in_ok-tell.ensures.classes, h);
     }
 
-pub cut_seen-returns-then-needs_label-clause-goes : goal.cut_seen-returns-then-needs_label-clause-goes
-cut_seen-returns-then-needs_label-clause-goes t c = λ q.
-    let st = c.args.state.now in
-    let b : State = record st { classes = c.saturating_add-state.result; gone = c.replace-outside.new.dest } in
-    let k = c.cut.new.state in
-    let d = c.tell.new.state in
-    let r = path_of st.place.items in
-    let J = pass c.args.self.now.case.now c.args.self.now.standing.now (carried (path_of st.path.items) c.args.at) (forest c.args.object.now) in
-    let g = c.in_ok-kept.ensures.goes in
-    let noted : d.withheld.items ≡ tells r k =
-    c.in_ok-tell.ensures.withheld
-    ∙ ap (λ ts. k.withheld.items ++ at_place (path_of ts) c.as_slice.result.now) g.place
-    ∙ ap (λ rs. k.withheld.items ++ at_place r rs) (c.as_slice.ensures.value ∙ ap (λ v. v.items) c.replace-gone.ensures.value) in
-    record {
-      path = c.in_ok-tell.ensures.path ∙ g.path;
-      place = c.in_ok-tell.ensures.place ∙ g.place;
-      withheld = told-seen q r st b k d (told (inside true) r 0 J) refl (ap (λ v. v.items) c.replace-outside.ensures.after ∙ c.new.ensures.items) g.withheld noted
-          (c.in_ok-tell.ensures.gone ∙ ap (λ v. v.items) (c.replace-gone.ensures.after ∙ c.replace-outside.ensures.value));
-      classes = λ h. let more = c.saturating_add-state.ensures in let e = g.classes (omega (arith, more, h)) in omega (arith, more, e, c.in_ok-tell.ensures.classes, h);
-    }
-
 pub cut_hidden-returns-in_ok-add-clause-goes : goal.cut_hidden-returns-in_ok-add-clause-goes
 cut_hidden-returns-in_ok-add-clause-goes t c =
     let o = c.in_ok-kept.kept in

@@ -1,13 +1,13 @@
 use Rattle.sqlite.specs.Held.{state}
 use Rattle.hub_core.specs.Edits.{after}
 use Rattle.hub_store.proofs.Left.{left_by_commit, left_by_apply}
-use Rattle.hub_store.proofs.Runs.{knows, kept_has}
+use Rattle.hub_store.proofs.Runs.{kept_has}
 use Rattle.hub_store.proofs.Telling.{err_only, ok_only}
 use Rattle.hub_store.proofs.sql_shelf.shelf.SqlShelfShelf.apply.Goals as goal
 
 pub returns-clause-none : goal.returns-clause-none
 returns-clause-none g c =
-    err_only c.apply-made.result c.told.result _ _ _ _ c.told.ensures.given c.apply-made.ensures.none (λ kept clean s has. kept_has (state g.S.Store c.args.self.now.conn) _ s (kept clean (knows _ s has)) has)
+    err_only c.apply-made.result c.told.result _ _ _ c.told.ensures.given c.apply-made.ensures.none (λ kept clean s has. kept_has (state g.S.Store c.args.self.now.conn) _ s (kept clean) has)
 
 pub returns-clause-durable : goal.returns-clause-durable
 returns-clause-durable g c clean s has sound =

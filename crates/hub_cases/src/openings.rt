@@ -1,0 +1,137 @@
+//! Stores that are made and opened.
+
+use crate::commands::key_of;
+use crate::tables::{begun, made, opened};
+use hub_core::{Shelf, ShelfFault};
+use hub_store::{OpenFault, SqlShelf};
+use sqlite::{Alter, Connection};
+use std::alloc::{AllocError, Global};
+
+fn fault_told(alloc: Global, fault: OpenFault) -> Result<String, AllocError> {
+    match fault {
+        OpenFault::NotOurs => String::from_str(alloc, "NotOurs"),
+        OpenFault::WrongVersion(n) => format!(in alloc; "WrongVersion({n})"),
+        OpenFault::Failed => String::from_str(alloc, "Failed"),
+        OpenFault::NoMemory => String::from_str(alloc, "NoMemory"),
+    }
+}
+
+/// What a store in memory is opened as, after these statements.
+fn told_of(alloc: Global, statements: &str, migrates: bool) -> Result<String, AllocError> {
+    let mut conn = Connection::open_in_memory(alloc)?;
+    if let Err(_) = conn.execute_batch(statements) {
+        return String::from_str(alloc, "the statements were refused");
+    }
+    match opened(alloc, conn, migrates) {
+        Ok(_) => String::from_str(alloc, "opened"),
+        Err((fault, _)) => fault_told(alloc, fault),
+    }
+}
+
+/// What the shelf holds of what it began with.
+fn held<S: Alter>(shelf: &mut SqlShelf<S>) -> &'static str {
+    match shelf.person_by_key(&key_of(1)) {
+        Ok(Some(_)) => "person 1 is there",
+        Ok(None) => "person 1 is missing",
+        Err(_) => "the tables failed",
+    }
+}
+
+/// The connection that a refused opening gave back takes new tables.
+fn made_after_refusal(alloc: Global) -> Result<&'static str, AllocError> {
+    match opened(alloc, Connection::open_in_memory(alloc)?, false) {
+        Ok(_) => Ok("opened"),
+        Err((_, conn)) => match made(alloc, conn) {
+            Ok(_) => Ok("made"),
+            Err(_) => Ok("not made"),
+        },
+    }
+}
+
+/// Tables are made once; the connection comes back with what it held.
+fn made_twice(alloc: Global) -> Result<&'static str, AllocError> {
+    let Some(shelf) = begun(alloc)? else {
+        return Ok("not made");
+    };
+    match made(alloc, shelf.release()) {
+        Ok(_) => Ok("made again"),
+        Err((ShelfFault::NoMemory, _)) => Ok("no memory"),
+        Err((ShelfFault::Failed, conn)) => match opened(alloc, conn, false) {
+            Ok(mut again) => Ok(held(&mut again)),
+            Err(_) => Ok("not opened"),
+        },
+    }
+}
+
+/// What was kept is there after a release and an opening.
+fn opened_again(alloc: Global, migrates: bool) -> Result<&'static str, AllocError> {
+    let Some(shelf) = begun(alloc)? else {
+        return Ok("not made");
+    };
+    match opened(alloc, shelf.release(), migrates) {
+        Ok(mut again) => Ok(held(&mut again)),
+        Err(_) => Ok("not opened"),
+    }
+}
+
+fn push(alloc: Global, all: &mut Vec<String>, what: &str, told: &str) -> Result<(), AllocError> {
+    all.push(format!(in alloc; "{what}: {told}")?)?;
+    Ok(())
+}
+
+/// Statements, and what they make.
+const STORES: [(&str, &str); 10] = [
+    ("an empty store", ""),
+    (
+        "no row",
+        "CREATE TABLE hub (version INTEGER NOT NULL) STRICT",
+    ),
+    (
+        "version 0",
+        "CREATE TABLE hub (version INTEGER NOT NULL) STRICT; INSERT INTO hub (version) VALUES (0)",
+    ),
+    (
+        "version 9",
+        "CREATE TABLE hub (version INTEGER NOT NULL) STRICT; INSERT INTO hub (version) VALUES (9)",
+    ),
+    (
+        "a version above a u32",
+        "CREATE TABLE hub (version INTEGER NOT NULL) STRICT; INSERT INTO hub (version) VALUES (4294967296)",
+    ),
+    (
+        "a version below 0",
+        "CREATE TABLE hub (version INTEGER NOT NULL) STRICT; INSERT INTO hub (version) VALUES (-1)",
+    ),
+    (
+        "two rows",
+        "CREATE TABLE hub (version INTEGER NOT NULL) STRICT; INSERT INTO hub (version) VALUES (1), (1)",
+    ),
+    (
+        "a text as version",
+        "CREATE TABLE hub (version TEXT NOT NULL) STRICT; INSERT INTO hub (version) VALUES ('1')",
+    ),
+    (
+        "no column of that name",
+        "CREATE TABLE hub (number INTEGER NOT NULL) STRICT; INSERT INTO hub (number) VALUES (1)",
+    ),
+    (
+        "a view",
+        "CREATE TABLE one (version INTEGER NOT NULL) STRICT; INSERT INTO one (version) VALUES (1); CREATE VIEW hub AS SELECT version FROM one",
+    ),
+];
+
+/// What is printed of stores that are made and opened.
+pub fn all(alloc: Global) -> Result<Vec<String>, AllocError> {
+    let mut all = Vec::new(alloc);
+    for (what, statements) in STORES {
+        let told = told_of(alloc, statements, false)?;
+        push(alloc, &mut all, what, told.as_str())?;
+        let told = told_of(alloc, statements, true)?;
+        push(alloc, &mut all, "migrated", told.as_str())?;
+    }
+    push(alloc, &mut all, "after NotOurs", made_after_refusal(alloc)?)?;
+    push(alloc, &mut all, "made twice", made_twice(alloc)?)?;
+    push(alloc, &mut all, "opened again", opened_again(alloc, false)?)?;
+    push(alloc, &mut all, "migrated", opened_again(alloc, true)?)?;
+    Ok(all)
+}

@@ -1,0 +1,70 @@
+//! The hub over SQL tables in memory.
+
+use crate::told::reply;
+use crate::world::{first_rows, requests_of};
+use hub::Hub;
+use hub_core::{Shelf, ShelfFault};
+use hub_store::{OpenFault, SqlShelf};
+use sqlite::{Alter, Connection, MemStore};
+use std::alloc::{AllocError, Global};
+
+/// New tables over the connection, which comes back where they aren't made.
+pub fn made<S: Alter + Drop>(
+    alloc: Global,
+    conn: Connection<S>,
+) -> Result<SqlShelf<S>, (ShelfFault, Connection<S>)> {
+    if conn.is_autocommit() {
+        SqlShelf::create(alloc, conn)
+    } else {
+        Err((ShelfFault::Failed, conn))
+    }
+}
+
+/// The tables of the connection, opened or brought to the newest version.
+pub fn opened<S: Alter + Drop>(
+    alloc: Global,
+    conn: Connection<S>,
+    migrates: bool,
+) -> Result<SqlShelf<S>, (OpenFault, Connection<S>)> {
+    if !conn.is_autocommit() {
+        return Err((OpenFault::Failed, conn));
+    }
+    if migrates {
+        SqlShelf::migrate(alloc, conn)
+    } else {
+        SqlShelf::open(alloc, conn)
+    }
+}
+
+/// New tables in memory with organisation 1 and person 1; none where they weren't made.
+pub fn begun(alloc: Global) -> Result<Option<SqlShelf<MemStore>>, AllocError> {
+    let Ok(mut shelf) = made(alloc, Connection::open_in_memory(alloc)?) else {
+        return Ok(None);
+    };
+    match shelf.apply(&first_rows(alloc)?) {
+        Ok(()) => Ok(Some(shelf)),
+        Err(_) => Ok(None),
+    }
+}
+
+/// What the requests are answered over tables that are released and opened anew behind each; none where the tables failed
+/// or the memory doesn't suffice.
+pub fn replies(alloc: Global, lines: &[&str]) -> Result<Option<Vec<String>>, AllocError> {
+    let Some(mut shelf) = begun(alloc)? else {
+        return Ok(None);
+    };
+    let mut told = Vec::new(alloc);
+    for (now, key, request) in &requests_of(alloc, lines, None)? {
+        let mut hub = Hub::new(shelf);
+        told.push(reply(alloc, &hub.answer(alloc, *now, key, request))?)?;
+        let asked = hub.into_shelf();
+        if asked.failures() > 0 {
+            return Ok(None);
+        }
+        let Ok(again) = opened(alloc, asked.release(), false) else {
+            return Ok(None);
+        };
+        shelf = again;
+    }
+    Ok(Some(told))
+}

@@ -1,0 +1,50 @@
+//! One thing that is asked of the hub over a store.
+ghost use Rattle.std.specs.Prelude.{◌≡◌};
+ghost use Rattle.hub_core.specs.State.{State};
+ghost use Rattle.hub_core.specs.Sound.{IsSound};
+ghost use Rattle.hub.specs.Machine.{IsStep};
+ghost use Rattle.hub_cli.specs.Keys as spec;
+
+use crate::clock::seconds;
+use crate::fault::Fault;
+use crate::input::read_line;
+use crate::keys::line_key;
+use crate::output::print;
+use crate::replies::{printed, status_of};
+use crate::status::Status;
+use crate::store::{close, open_store};
+use hub::Hub;
+use hub_core::{Reply, Request, Shelf};
+use std::alloc::Global;
+use std::io::{Read, Write};
+
+/// What the hub replies to who has this line as key.
+fn reply_to<Sh: Shelf>(
+    alloc: Global,
+    hub: &mut Hub<Sh>,
+    now: i64,
+    line: &[u8],
+    request: &Request,
+) -> Reply
+    ensures step { Sh.doubts hub.new ≡ 0 → (s : State) → Sh.has hub.old s → IsSound s → (left : State) × IsStep s (now, spec.line_key line.now, request.now) result left × Sh.has hub.new left }
+{
+    hub.answer(alloc, now, &line_key(line), request)
+}
+
+/// Asks this at the present moment for who has the first line of the input as key, and prints the reply.
+pub fn ask<R: Read, W: Write>(
+    rt: &HostRuntime,
+    store: &str,
+    request: &Request,
+    reader: &mut R,
+    writer: &mut W,
+) -> Result<Status, Fault> {
+    let alloc = rt.alloc();
+    let mut hub = Hub::new(open_store(rt, store)?);
+    let line = read_line(alloc, reader)?;
+    let now = seconds(rt)?;
+    let reply = reply_to(alloc, &mut hub, now, &line, request);
+    close(hub.into_shelf());
+    print(writer, printed(alloc, &reply)?.as_str())?;
+    Ok(status_of(&reply))
+}

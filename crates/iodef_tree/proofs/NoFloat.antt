@@ -1,0 +1,95 @@
+-- No float is in what a part of a document means.
+use Rattle.std.proofs.Common.{◌≡◌, ℕ, zero, suc, Bool, true, false, ◌&&◌, ◌||◌, List, [], ◌∷◌, map, refl, sym, true≢false, Option, Some, None, is_some, unwrap_or, bytes_eq, ◌-◌, nat_lt}
+use Rattle.std.specs.List.{AllByRecursion}
+use Rattle.std.specs.Option.{option_map_or}
+use Rattle.std.proofs.lemmas.Bool.{and_parts, or_from, not-true}
+use Rattle.serde_json.specs.Data as json
+use Rattle.serde_json.specs.Data.{Data}
+use Rattle.serde_json.specs.Read.{read}
+use Rattle.serde_json.specs.View.{items_of as listed}
+use Rattle.serde_json.specs.Written.{compact_text, has_float, items_have_float, members_have_float}
+use Rattle.iodef_tree.specs.SoundParts.{IsBodyKept, AreKept}
+use Rattle.iodef_tree.specs.Text.{Bytes}
+use Rattle.iodef_tree.specs.Texts.{may_be_value, may_be_text, HasTexts, is_plain, are_plain, is_empty}
+use Rattle.iodef_tree.specs.Tree.{Content, text, value, Forest, end, leaf, branch, Body, holds, says, Bodies, one, many, kind_of, text_of}
+use Rattle.iodef_tree.specs.Written.{content_data, placed_member, placed_item, members_of, items_of, body_data, bodies_data}
+use Rattle.serde_json.specs.Find.{is_float}
+use Rattle.iodef_tree.specs.declared.TheConstants.{DEPTH_LIMIT}
+
+-- ---- a value
+
+mutual
+  plain-no_float : (deep : ℕ) (d : Data) → is_plain deep d ≡ true → has_float d ≡ false
+  plain-no_float deep (json.number n) h = not-true (is_float n) h
+  plain-no_float deep (json.array ds) h = are_plain-no_float (deep - 1) ds ((and_parts (nat_lt 0 deep) (are_plain (deep - 1) ds) h).1)
+  plain-no_float deep (json.object ms) h = absurd (true≢false (sym h))
+  plain-no_float deep _ h = refl
+
+  are_plain-no_float : (deep : ℕ) (ds : json.Items) → are_plain deep ds ≡ true → items_have_float ds ≡ false
+  are_plain-no_float deep json.no_items h = refl
+  are_plain-no_float deep (json.item d ds) h =
+      let parts = and_parts (is_plain deep d) (are_plain deep ds) h in
+      or_from (has_float d) (items_have_float ds) (plain-no_float deep d parts.0) (are_plain-no_float deep ds parts.1)
+
+-- a line's value has no float
+pub value-no_float : (in_array : Bool) (d : Data) → may_be_value in_array d ≡ true → has_float d ≡ false
+value-no_float in_array (json.number n) h = not-true (is_float n) h
+value-no_float in_array (json.array ds) h =
+    plain-no_float DEPTH_LIMIT (json.array ds) ((and_parts (is_empty ds || in_array) (is_plain DEPTH_LIMIT (json.array ds)) h).1)
+value-no_float in_array (json.object ms) h = absurd (true≢false (sym h))
+value-no_float in_array _ h = refl
+
+-- ---- a tree
+
+value-whole : (a : Bool) (s : Bytes) (o : Option Data) → option_map_or (λ d. may_be_value a d && bytes_eq (compact_text d) s) o false ≡ true → has_float (unwrap_or o json.null) ≡ false
+value-whole a s None h = absurd (true≢false (sym h))
+value-whole a s (Some d) h = value-no_float a d ((and_parts (may_be_value a d) (bytes_eq (compact_text d) s) h).0)
+
+content-whole : (a : Bool) (c : Content) → may_be_text (kind_of c) a (text_of c) ≡ true → has_float (content_data c) ≡ false
+content-whole a (text s) h = refl
+content-whole a (value s) h = value-whole a s (read s) h
+
+placed-member-whole : (n : Bytes) (p : Option ℕ) (d : Data) (ds : json.Items) (ms : json.Members) → has_float d ≡ false → items_have_float ds ≡ false → members_have_float ms ≡ false →
+    members_have_float (placed_member n p d ds ms) ≡ false
+placed-member-whole n None d ds ms h k l = or_from (has_float d) _ h l
+placed-member-whole n (Some zero) d ds ms h k l = or_from (has_float d || items_have_float ds) _ (or_from (has_float d) _ h k) l
+placed-member-whole n (Some (suc j)) d ds ms h k l = l
+
+placed-item-whole : (p : Option ℕ) (d : Data) (ds : json.Items) → has_float d ≡ false → items_have_float ds ≡ false → items_have_float (placed_item p d ds) ≡ false
+placed-item-whole (Some (suc j)) d ds h k = or_from (has_float d) _ h k
+placed-item-whole _ d ds h k = refl
+
+pub record IsWhole (f : Forest) : Type 0 where
+  pub members : members_have_float (members_of f) ≡ false
+  pub items : items_have_float (items_of f) ≡ false
+
+pub whole : (f : Forest) → HasTexts f → IsWhole f
+whole end h = record { members = refl; items = refl }
+whole (leaf i rest) h =
+    let r = whole rest h.1 in
+    let d = content-whole (is_some i.place) i.content h.0 in
+    record {
+      members = placed-member-whole i.name i.place (content_data i.content) (items_of rest) (members_of rest) d r.items r.members;
+      items = placed-item-whole i.place (content_data i.content) (items_of rest) d r.items;
+    }
+whole (branch n p kids rest) h =
+    let k = whole kids h.0 in
+    let r = whole rest h.1 in
+    record {
+      members = placed-member-whole n p (json.object (members_of kids)) (items_of rest) (members_of rest) k.members r.items r.members;
+      items = placed-item-whole p (json.object (members_of kids)) (items_of rest) k.members r.items;
+    }
+
+-- ---- what stands at one place
+
+body-whole : (a : Bool) (b : Body) → IsBodyKept a b → has_float (body_data b) ≡ false
+body-whole a (holds f) k = (whole f k.texts).members
+body-whole a (says c) k = content-whole a c k
+
+pub kept-whole : (m : Bodies) → AreKept m → has_float (bodies_data m) ≡ false
+kept-whole (one b) k = body-whole false b k
+kept-whole (many bs) k = each bs k
+  where
+    each : (xs : List Body) → AllByRecursion (IsBodyKept true) xs → items_have_float (listed (map body_data xs)) ≡ false
+    each [] all = refl
+    each (x ∷ xs) all = or_from (has_float (body_data x)) _ (body-whole true x all.0) (each xs all.1)

@@ -1,0 +1,74 @@
+-- What a body that can be read has passed.
+use Rattle.std.proofs.Common.{◌≡◌, List, Bool, true, false, cond, length, nat_lt, refl, sym, ◌∙◌, ap, subst, Option, Some, None, Result, Ok, Err, option_and_then, codes}
+use Rattle.std.specs.Str.{is_utf8}
+use Rattle.serde_json.specs.Data as json
+use Rattle.serde_json.specs.Data.{Data}
+use Rattle.serde_json.specs.Find.{get_member, as_array, as_object}
+use Rattle.serde_json.specs.Read.{read}
+use Rattle.iodef_tree.specs.Reading.{◌>>=◌, or_fault, parsed, are_incidents, if_incidents, incidents_of, all_complete, all_fit, if_short, documents, reading}
+use Rattle.iodef_tree.specs.Text.{Bytes}
+use Rattle.iodef_tree.specs.declared.TheConstants.{LINE_LIMIT}
+use Rattle.iodef_tree.specs.declared.fault.ReadFault.{ReadFault}
+use Rattle.iodef_tree.specs.declared.fault.ReadFault.TheVariants.{NotJson, NotDocument, TooManyLines}
+use Rattle.iodef_tree.specs.declared.line.Line.{Line}
+use Rattle.iodef_tree.proofs.Bodies.{found_array, chosen}
+use Rattle.iodef_tree.proofs.Fitness.{IsPlain, plain_ok}
+
+pub bind-ok : {A B : Type 0} (r : Result A ReadFault) (f : A → Result B ReadFault) (y : B) → (r >>= f) ≡ Ok y → (x : A) × (r ≡ Ok x) × (f x ≡ Ok y)
+bind-ok (Ok x) f y h = (x, refl, h)
+bind-ok (Err e) f y h = absurd (cc)
+
+or-ok : {A : Type 0} (e : ReadFault) (o : Option A) (x : A) → or_fault e o ≡ Ok x → o ≡ Some x
+or-ok e None x h = absurd (cc)
+or-ok e (Some y) x h = let same : y ≡ x = cc in ap Some same
+
+parsed-ok : (bytes : Bytes) (d : Data) → parsed bytes ≡ Ok d → read bytes ≡ Some d
+parsed-ok bytes d h = step (is_utf8 bytes) (or-ok NotJson (cond (is_utf8 bytes) (read bytes) None) d h)
+  where
+    step : (b : Bool) → cond b (read bytes) None ≡ Some d → read bytes ≡ Some d
+    step true e = e
+    step false e = absurd (cc)
+
+object-of : (d : Data) (root : json.Members) → as_object d ≡ Some root → d ≡ json.object root
+object-of (json.object ms) root h = let same : ms ≡ root = cc in ap json.object same
+object-of _ root h = absurd (cc)
+
+pub short-ok : (ls : List Line) (d : List Line) → if_short ls ≡ Ok d → ls ≡ d
+short-ok ls d h = step (nat_lt LINE_LIMIT (length ls)) h
+  where
+    step : (b : Bool) → cond b (Err TooManyLines) (Ok ls) ≡ Ok d → ls ≡ d
+    step true e = absurd (cc)
+    step false e = cc
+
+-- what was found in it on the way
+pub record Passed (bytes : Bytes) (docs : List (List Line)) : Type 0 where
+  pub root : json.Members
+  pub incidents : json.Items
+  pub was : read bytes ≡ Some (json.object root)
+  pub at : get_member (codes "Incident") root ≡ Some (json.array incidents)
+  pub are : are_incidents incidents ≡ true
+  pub complete : all_complete 0 incidents ≡ Ok tt
+  pub plain : IsPlain (json.object root)
+  pub gives : documents root incidents ≡ Ok docs
+
+pub passed : (bytes : Bytes) (docs : List (List Line)) → reading bytes ≡ Ok docs → Passed bytes docs
+unfolding reading
+passed bytes docs h =
+    let body = bind-ok (parsed bytes) _ docs h in
+    let root = bind-ok (or_fault NotDocument (as_object body.0)) _ docs body.2 in
+    let incidents = bind-ok (or_fault NotDocument (incidents_of root.0)) _ docs root.2 in
+    let complete = bind-ok (all_complete 0 incidents.0) _ docs incidents.2 in
+    let fine = bind-ok (all_fit body.0) _ docs complete.2 in
+    let is : body.0 ≡ json.object root.0 = object-of body.0 root.0 (or-ok NotDocument (as_object body.0) root.0 root.1) in
+    let picked : incidents_of root.0 ≡ Some incidents.0 = or-ok NotDocument (incidents_of root.0) incidents.0 incidents.1 in
+    let at = found_array (get_member (codes "Incident") root.0) incidents.0 picked in
+    record {
+      root = root.0;
+      incidents = incidents.0;
+      was = parsed-ok bytes body.0 body.1 ∙ ap Some is;
+      at = at;
+      are = (chosen incidents.0 incidents.0 (sym (ap (λ o. option_and_then if_incidents (option_and_then as_array o)) at) ∙ picked)).1;
+      complete = complete.1;
+      plain = subst IsPlain is (plain_ok body.0 fine.1);
+      gives = fine.2;
+    }

@@ -1,0 +1,147 @@
+//! The values of a body that no document can hold.
+
+ghost use Rattle.std.specs.Prelude.{◌≡◌, ◌+◌, ◌<◌, ◌^◌, not, IfOk, option_map};
+ghost use Rattle.serde_json.specs.Data.{depth as nesting, items_depth, members_depth};
+ghost use Rattle.serde_json.specs.View.{view, items_view, members_view};
+ghost use Rattle.iodef_tree.specs.Values.{nodes, item_nodes, member_nodes, first_at};
+ghost use Rattle.iodef_tree.specs.FitValues.{any_at, is_refused, is_sought};
+
+use crate::DEPTH_LIMIT;
+use crate::text::Text;
+use serde_json::{Map, Value};
+use std::alloc::{AllocError, Global};
+
+/// What is looked for.
+#[derive(Clone, Copy, Debug, PartialEq, Eq)]
+pub(crate) enum Sought {
+    NotWhole,
+    NestedClass,
+    TooDeep,
+}
+
+impl Sought {
+    ghost use Rattle.iodef_tree.specs.Values.{node};
+
+    /// Whether it is this value, inside so many objects, and so many arrays of the nearest.
+    fn is(self, objects: u32, arrays: u32, value: &Value) -> bool
+        ensures { result ≡ is_sought self (node objects arrays (view value.now)).seen }
+    {
+        match self {
+            Sought::NotWhole => value.is_f64(),
+            Sought::NestedClass => arrays > 1 && value.is_object(),
+            Sought::TooDeep => objects > DEPTH_LIMIT || (arrays > DEPTH_LIMIT && value.is_array()),
+        }
+    }
+}
+
+/// Whether nothing that is looked for is at the value or inside it; takes no memory.
+#[cycle(plain)]
+pub(crate) fn is_plain(objects: u32, arrays: u32, value: &Value) -> bool
+    requires { (objects + arrays) + nesting (view value.now) < 2 ^ 32 }
+    ensures { result ≡ not (any_at is_refused (nodes objects arrays (view value.now))) }
+{
+    if Sought::NotWhole.is(objects, arrays, value) {
+        return false;
+    }
+    if Sought::NestedClass.is(objects, arrays, value) {
+        return false;
+    }
+    if Sought::TooDeep.is(objects, arrays, value) {
+        return false;
+    }
+    match value {
+        Value::Array(items) => are_items_plain(objects, arrays + 1, items),
+        Value::Object(members) => are_members_plain(objects + 1, members),
+        Value::Null | Value::Bool(_) | Value::Number(_) | Value::String(_) => true,
+    }
+}
+
+#[cycle(plain)]
+fn are_items_plain(objects: u32, arrays: u32, items: &Vec<Value>) -> bool
+    requires { (objects + arrays) + items_depth (items_view items.now.items) < 2 ^ 32 }
+    ensures { result ≡ not (any_at is_refused (item_nodes objects arrays 0 (items_view items.now.items))) }
+{
+    for item in items {
+        if !is_plain(objects, arrays, item) {
+            return false;
+        }
+    }
+    true
+}
+
+#[cycle(plain)]
+fn are_members_plain(objects: u32, members: &Map<String, Value>) -> bool
+    requires { objects + members_depth (members_view members.now.entries) < 2 ^ 32 }
+    ensures { result ≡ not (any_at is_refused (member_nodes objects (members_view members.now.entries))) }
+{
+    for (_name, value) in members.iter() {
+        if !is_plain(objects, 0, value) {
+            return false;
+        }
+    }
+    true
+}
+
+/// The pointer of the first that is looked for, at the value or inside it; takes memory only where there is one.
+#[cycle(seek)]
+pub(crate) fn first_in(
+    alloc: Global,
+    sought: Sought,
+    objects: u32,
+    arrays: u32,
+    value: &Value,
+) -> Result<Option<Vec<Text>>, AllocError>
+    requires { (objects + arrays) + nesting (view value.now) < 2 ^ 32 }
+    ensures { IfOk result (λ o. option_map (λ p. p.items) o
+        ≡ first_at (is_sought sought) (nodes objects arrays (view value.now))) }
+{
+    if sought.is(objects, arrays, value) {
+        return Ok(Some(Vec::new(alloc)));
+    }
+    match value {
+        Value::Array(items) => first_in_items(alloc, sought, objects, arrays + 1, items),
+        Value::Object(members) => first_in_members(alloc, sought, objects + 1, members),
+        Value::Null | Value::Bool(_) | Value::Number(_) | Value::String(_) => Ok(None),
+    }
+}
+
+#[cycle(seek)]
+fn first_in_items(
+    alloc: Global,
+    sought: Sought,
+    objects: u32,
+    arrays: u32,
+    items: &Vec<Value>,
+) -> Result<Option<Vec<Text>>, AllocError>
+    requires { (objects + arrays) + items_depth (items_view items.now.items) < 2 ^ 32 }
+    ensures { IfOk result (λ o. option_map (λ p. p.items) o
+        ≡ first_at (is_sought sought) (item_nodes objects arrays 0 (items_view items.now.items))) }
+{
+    for (index, item) in items.iter().enumerate() {
+        if let Some(mut pointer) = first_in(alloc, sought, objects, arrays, item)? {
+            pointer.insert(0, Text::new(format!(in alloc; "{index}")?))?;
+            return Ok(Some(pointer));
+        }
+    }
+    Ok(None)
+}
+
+#[cycle(seek)]
+fn first_in_members(
+    alloc: Global,
+    sought: Sought,
+    objects: u32,
+    members: &Map<String, Value>,
+) -> Result<Option<Vec<Text>>, AllocError>
+    requires { objects + members_depth (members_view members.now.entries) < 2 ^ 32 }
+    ensures { IfOk result (λ o. option_map (λ p. p.items) o
+        ≡ first_at (is_sought sought) (member_nodes objects (members_view members.now.entries))) }
+{
+    for (name, value) in members.iter() {
+        if let Some(mut pointer) = first_in(alloc, sought, objects, 0, value)? {
+            pointer.insert(0, Text::new(name.clone()?))?;
+            return Ok(Some(pointer));
+        }
+    }
+    Ok(None)
+}

@@ -1,5 +1,0 @@
-use Rattle.std.proofs.Common.{length}
-use Rattle.marking.proofs.nearest.+nearest.Given as goal
-
-abbrev pub decreases-nearest : goal.decreases-nearest
-decreases-nearest l = length l.path

@@ -1,0 +1,41 @@
+-- What becomes of members and of classes in the pass: a class is shown, framed, or gone.
+use Rattle.std.proofs.Common.{◌≡◌, ℕ, Bool, true, false, refl, if◌then◌else◌}
+use Rattle.std.specs.Prelude.{Option}
+use Rattle.iodef_tree.specs.Text.{Bytes, bytes_lt}
+use Rattle.iodef_tree.specs.Tree.{Leaf, Forest, end, leaf, branch}
+use Rattle.redact.specs.Judged.{put_leaf}
+
+-- ---- one class
+
+-- what is so by each fate is so of the class
+pub by_fate : {X : Type 0} (P : X → Type 0) (visible ended : Bool) (shown framed gone : X) → P shown → P framed → P gone →
+    P (if visible then shown else (if ended then gone else framed))
+by_fate P true ended shown framed gone s f g = s
+by_fate P false true shown framed gone s f g = g
+by_fate P false false shown framed gone s f g = f
+
+-- the same of two things that the fate tells
+pub by_fates : {X Y : Type 0} (P : X → Y → Type 0) (visible ended : Bool) (shown framed gone : X) (shown' framed' gone' : Y) →
+    (visible ≡ true → P shown shown') → (visible ≡ false → P framed framed') → (visible ≡ false → ended ≡ true → P gone gone') →
+    P (if visible then shown else (if ended then gone else framed)) (if visible then shown' else (if ended then gone' else framed'))
+by_fates P true ended shown framed gone shown' framed' gone' s f g = s refl
+by_fates P false true shown framed gone shown' framed' gone' s f g = g refl refl
+by_fates P false false shown framed gone shown' framed' gone' s f g = f refl
+
+-- ---- all members
+
+-- How members stand to the same with an attribute put in, for a relation that the attribute in front of members brings, and
+-- that more members in front keep.
+pub put-keeps : (P : Forest → Forest → Type 0) (x : Leaf) → ((f : Forest) → P f (leaf x f)) → ((i : Leaf) (f g : Forest) → P f g → P (leaf i f) (leaf i g)) →
+    ((name : Bytes) (place : Option ℕ) (kids f g : Forest) → P f g → P (branch name place kids f) (branch name place kids g)) → (f : Forest) → P f (put_leaf x f)
+put-keeps P x first behind_leaf behind_class end = first end
+put-keeps P x first behind_leaf behind_class (leaf i rest) =
+    elim (bytes_lt x.name i.name) as (λ b. P (leaf i rest) (if b then leaf x (leaf i rest) else leaf i (put_leaf x rest))) [
+      | true ↦ first (leaf i rest)
+      | false ↦ behind_leaf i rest (put_leaf x rest) (put-keeps P x first behind_leaf behind_class rest)
+    ]
+put-keeps P x first behind_leaf behind_class (branch name place kids rest) =
+    elim (bytes_lt x.name name) as (λ b. P (branch name place kids rest) (if b then leaf x (branch name place kids rest) else branch name place kids (put_leaf x rest))) [
+      | true ↦ first (branch name place kids rest)
+      | false ↦ behind_class name place kids rest (put_leaf x rest) (put-keeps P x first behind_leaf behind_class rest)
+    ]

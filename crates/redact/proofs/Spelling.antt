@@ -1,0 +1,163 @@
+-- What is spelled in what is left of a class.
+use Rattle.std.proofs.Common.{◌≡◌, ℕ, Bool, true, false, not, [], ◌∷◌, ◌++◌, refl, sym, ◌∙◌, ap, subst, if◌then◌else◌, ◌&&◌}
+use Rattle.std.specs.Prelude.{Option, Some, None, is_some, is_none, codes}
+use Rattle.std.specs.Str.{bytes_eq}
+use Rattle.std.proofs.lemmas.Bool.{cond-false, or_right, true≢false, false≢true}
+use Rattle.iodef_tree.specs.Text.{Bytes, Tokens, is_prefix}
+use Rattle.iodef_tree.specs.Tree.{Forest, end, leaf, branch, steps, kind_of, text_of}
+use Rattle.iodef_tree.specs.Laws.{AreApart, HasApart}
+use Rattle.iodef_tree.proofs.Order.{bytes_eq-refl, bytes_eq-true, is_false}
+use Rattle.iodef_tree.proofs.Siblings.{siblings-map}
+use Rattle.marking.specs.Label.{Marking, public, white, partner, green, need_to_know, amber, private, red, by_arrangement, extended, spelled, restriction_of}
+use Rattle.marking.specs.Marks.{Held, absent, plain, other, held_by_kind, held_by_line, spelled_by, is_rule_kept}
+use Rattle.marking.specs.Members.{held_by_leaf, held_in, spelled_in, is_rule_kept_in}
+use Rattle.redact.specs.Kept.{Attribute, Verdicts}
+use Rattle.redact.specs.Judged.{judge, judgment_at, Home, inside, shows_label, left_before, left_with, is_end, put_leaf, attribute_leaf, put_attributes, with_label, cut}
+use Rattle.redact.specs.Told.{ext_restriction_of, attributes_by, attributes_of}
+use Rattle.redact.proofs.Fates.{by_fate, put-keeps}
+use Rattle.redact.proofs.Fitting.{absent-lacks, unmarked-absent}
+use Rattle.redact.proofs.Keeping.{leaf_line-moved}
+use Rattle.redact.proofs.Ordered.{Lacks, lacks-put, lacks-cut}
+
+lacks-absent : (name : Bytes) (f : Forest) → Lacks name f → held_in name f ≡ absent
+lacks-absent name end h = refl
+lacks-absent name (leaf i rest) h = cond-false (bytes_eq i.name name) _ _ h.0 ∙ lacks-absent name rest h.1
+lacks-absent name (branch n place kids rest) h = cond-false (bytes_eq n name) _ _ h.0 ∙ lacks-absent name rest h.1
+
+-- ---- a label that is put in
+
+swap : (a b : Bool) (x y z : Held) → (b ≡ true → a ≡ false) → (if a then y else (if b then x else z)) ≡ (if b then x else (if a then y else z))
+swap true true x y z h = absurd (true≢false (h refl))
+swap true false x y z h = refl
+swap false b x y z h = refl
+
+-- an attribute that is put in is held under its name
+held-put : (name : Bytes) (a : Attribute) (f : Forest) → (bytes_eq a.0 name ≡ true → Lacks name f) →
+    held_in name (put_leaf (attribute_leaf a) f) ≡ (if bytes_eq a.0 name then plain a.1 else held_in name f)
+held-put name a = put-keeps (λ f g. (bytes_eq a.0 name ≡ true → Lacks name f) → held_in name g ≡ (if bytes_eq a.0 name then plain a.1 else held_in name f)) (attribute_leaf a)
+    (λ f lacks. refl)
+    (λ i f g h lacks. ap (λ x. if bytes_eq i.name name then held_by_leaf i else x) (h (λ e. (lacks e).1)) ∙ swap (bytes_eq i.name name) (bytes_eq a.0 name) (plain a.1) (held_by_leaf i) (held_in name f) (λ e. (lacks e).0))
+    (λ n place kids f g h lacks. ap (λ x. if bytes_eq n name then other else x) (h (λ e. (lacks e).1)) ∙ swap (bytes_eq n name) (bytes_eq a.0 name) (plain a.1) other (held_in name f) (λ e. (lacks e).0))
+
+spelled-attributes : (restriction : Bytes) (ext : Option Bytes) (f : Forest) → Lacks (codes "restriction") f → Lacks (codes "ext-restriction") f →
+    spelled_in (put_attributes (attributes_by restriction ext) f) ≡ spelled restriction ext
+spelled-attributes restriction None f r e =
+    let own : Attribute = (codes "restriction", restriction) in
+    ap (λ h. spelled_by h (held_in (codes "ext-restriction") (put_leaf (attribute_leaf own) f))) (held-put (codes "restriction") own f (λ _. r))
+    ∙ ap (spelled_by (plain restriction)) (held-put (codes "ext-restriction") own f (λ h. absurd (false≢true h)) ∙ lacks-absent (codes "ext-restriction") f e)
+spelled-attributes restriction (Some ext) f r e =
+    let own : Attribute = (codes "restriction", restriction) in
+    let beside : Attribute = (codes "ext-restriction", ext) in
+    let g = put_leaf (attribute_leaf own) f in
+    ap (λ h. spelled_by h (held_in (codes "ext-restriction") (put_leaf (attribute_leaf beside) g)))
+    (held-put (codes "restriction") beside g (λ h. absurd (false≢true h)) ∙ held-put (codes "restriction") own f (λ _. r))
+    ∙ ap (spelled_by (plain restriction)) (held-put (codes "ext-restriction") beside g (λ _. lacks-put (codes "ext-restriction") (attribute_leaf own) refl f e))
+
+spelled-again : (l : Marking) → spelled (restriction_of l) (ext_restriction_of l) ≡ Some l
+spelled-again public = refl
+spelled-again white = refl
+spelled-again partner = refl
+spelled-again green = refl
+spelled-again need_to_know = refl
+spelled-again amber = refl
+spelled-again private = refl
+spelled-again red = refl
+spelled-again by_arrangement = refl
+spelled-again (extended t) = refl
+
+-- ---- what is left of the members
+
+abbrev is_other : Held → Bool
+is_other absent = false
+is_other (plain t) = false
+is_other other = true
+
+-- where the marking rule is kept, what is held under the two names is a text or nothing
+no-other : (r e : Held) → is_rule_kept r e ≡ true → (is_other r ≡ false) × (is_other e ≡ false)
+no-other absent absent h = (refl, refl)
+no-other absent (plain t) h = absurd (false≢true h)
+no-other absent other h = absurd (false≢true h)
+no-other (plain r) absent h = (refl, refl)
+no-other (plain r) (plain e) h = (refl, refl)
+no-other (plain r) other h = absurd (false≢true h)
+no-other other e h = absurd (false≢true h)
+
+behind : (b : Bool) (x y z : Held) → is_other (if b then x else y) ≡ false → (is_other y ≡ false → z ≡ y) → (if b then x else z) ≡ (if b then x else y)
+behind true x y z h next = refl
+behind false x y z h next = next h
+
+past : (b : Bool) (y z : Held) → is_other (if b then other else y) ≡ false → (is_other y ≡ false → z ≡ y) → z ≡ (if b then other else y)
+past true y z h next = absurd (true≢false h)
+past false y z h next = next h
+
+-- a plain member outside arrays is the only one of its name
+alone : (x : Bytes) (o : Option ℕ) (m : Bytes) (o' : Option ℕ) → is_some o ≡ false → AreApart x o m o' → bytes_eq m x ≡ false
+alone x None m o' h apart = is_false (bytes_eq m x) (λ same. true≢false (sym (by_place o' (ap (bytes_eq x) (bytes_eq-true m x same) ∙ bytes_eq-refl x)) ∙ apart.left []))
+  where
+    by_place : (p : Option ℕ) → bytes_eq x m ≡ true → is_prefix (x ∷ []) (steps m p ++ []) ≡ true
+    by_place None h = ap (λ b. b && true) h
+    by_place (Some k) h = ap (λ b. b && true) h
+alone x (Some k) m o' h apart = absurd (true≢false h)
+
+module _ (v : Verdicts) where
+  -- a visible class holds what it held
+  held-seen : (name : Bytes) (f : Forest) (p : Tokens) (n : ℕ) → is_other (held_in name f) ≡ false → held_in name (cut (inside true) n (judge v p f)) ≡ held_in name f
+  held-seen name end p n h = refl
+  held-seen name (leaf i rest) p n h =
+      ap (λ l. if bytes_eq i.name name then held_by_line l else held_in name (cut (inside true) (left_with n i.place) (judge v p rest))) (leaf_line-moved 0 n i)
+      ∙ behind (bytes_eq i.name name) (held_by_leaf i) (held_in name rest) _ h (held-seen name rest p (left_with n i.place))
+  held-seen name (branch m place kids rest) p n h =
+      let after = behind (bytes_eq m name) other (held_in name rest) _ h (held-seen name rest p (left_with n place)) in
+      by_fate (λ f. held_in name f ≡ held_in name (branch m place kids rest)) (v.visible (p ++ steps m place)) (is_end (cut (inside false) 0 (judge v (p ++ steps m place) kids))) _ _ _
+      after after (past (bytes_eq m name) (held_in name rest) _ h (held-seen name rest p (left_before n place)))
+
+  -- a frame has no member of a name under which the class held a text or nothing
+  lacks-framed : (name : Bytes) (f : Forest) (p : Tokens) (n : ℕ) → HasApart f → is_other (held_in name f) ≡ false → Lacks name (cut (inside false) n (judge v p f))
+  lacks-framed name end p n apart h = tt
+  lacks-framed name (leaf i rest) p n apart h = by_name (bytes_eq i.name name) refl h (lacks-framed name rest p (left_before n i.place) apart.1)
+    where
+      by_name : (b : Bool) → bytes_eq i.name name ≡ b → is_other (if b then held_by_leaf i else held_in name rest) ≡ false →
+          (is_other (held_in name rest) ≡ false → Lacks name (cut (inside false) (left_before n i.place) (judge v p rest))) → Lacks name (cut (inside false) (left_before n i.place) (judge v p rest))
+      by_name true e h next =
+          let single : is_some i.place ≡ false = is_false (is_some i.place) (λ s. true≢false (sym (ap (λ b. is_other (if b then other else held_by_kind (kind_of i.content) (text_of i.content))) s) ∙ h)) in
+          lacks-cut v name rest (inside false) p (left_before n i.place)
+          (siblings-map (AreApart i.name i.place) (λ m o. bytes_eq m name ≡ false) rest (λ m o a. subst (λ x. bytes_eq m x ≡ false) (bytes_eq-true i.name name e) (alone i.name i.place m o single a)) apart.0)
+      by_name false e h next = next h
+  lacks-framed name (branch m place kids rest) p n apart h =
+      let differs : bytes_eq m name ≡ false = is_false (bytes_eq m name) (λ same. true≢false (sym (ap (λ b. is_other (if b then other else held_in name rest)) same) ∙ h)) in
+      let next : is_other (held_in name rest) ≡ false = ap (λ b. is_other (if b then other else held_in name rest)) (sym differs) ∙ h in
+      let after : (bytes_eq m name ≡ false) × Lacks name (cut (inside false) (left_with n place) (judge v p rest)) = (differs, lacks-framed name rest p (left_with n place) apart.2 next) in
+      by_fate (Lacks name) (v.visible (p ++ steps m place)) (is_end (cut (inside false) 0 (judge v (p ++ steps m place) kids))) _ _ _
+      after after (lacks-framed name rest p (left_before n place) apart.2 next)
+
+  -- a frame keeps the marking rule, as it holds neither
+  pub framed-rule : (f : Forest) (p : Tokens) → HasApart f → is_rule_kept_in f ≡ true → is_rule_kept_in (cut (inside false) 0 (judge v p f)) ≡ true
+  framed-rule f p apart rule =
+      let held = no-other (held_in (codes "restriction") f) (held_in (codes "ext-restriction") f) rule in
+      let F = cut (inside false) 0 (judge v p f) in
+      ap (λ r. is_rule_kept r (held_in (codes "ext-restriction") F)) (lacks-absent (codes "restriction") F (lacks-framed (codes "restriction") f p 0 apart held.0))
+      ∙ ap (is_rule_kept absent) (lacks-absent (codes "ext-restriction") F (lacks-framed (codes "ext-restriction") f p 0 apart held.1))
+
+  -- a visible class keeps it, and spells the label that it has to say, or else what was spelled in it
+  pub seen-spells : (f : Forest) (h : Home) (p : Tokens) (l : Marking) → is_rule_kept_in f ≡ true → v.unmarked p ≡ is_none (spelled_in f) → v.label p ≡ attributes_of l →
+      let S = with_label h (judgment_at v p) (cut (inside true) 0 (judge v p f)) in
+      (is_rule_kept_in S ≡ true) × (spelled_in S ≡ (if v.unmarked p && not (shows_label h) then Some l else spelled_in f))
+  seen-spells f h p l rule unmarked label =
+      let held = no-other (held_in (codes "restriction") f) (held_in (codes "ext-restriction") f) rule in
+      by_label (v.unmarked p) (shows_label h) unmarked (held-seen (codes "restriction") f p 0 held.0) (held-seen (codes "ext-restriction") f p 0 held.1)
+    where
+      F : Forest
+      F = cut (inside true) 0 (judge v p f)
+
+      by_label : (u t : Bool) → u ≡ is_none (spelled_in f) → held_in (codes "restriction") F ≡ held_in (codes "restriction") f → held_in (codes "ext-restriction") F ≡ held_in (codes "ext-restriction") f →
+          let S = if u && not t then put_attributes (v.label p) F else F in
+          (is_rule_kept_in S ≡ true) × (spelled_in S ≡ (if u && not t then Some l else spelled_in f))
+      by_label true false e r x =
+          let none = unmarked-absent (held_in (codes "restriction") f) (held_in (codes "ext-restriction") f) rule (sym e) in
+          let says : spelled_in (put_attributes (v.label p) F) ≡ Some l =
+          ap (λ a. spelled_in (put_attributes a F)) label
+          ∙ spelled-attributes (restriction_of l) (ext_restriction_of l) F (absent-lacks (codes "restriction") F (r ∙ none.0)) (absent-lacks (codes "ext-restriction") F (x ∙ none.1))
+          ∙ spelled-again l in
+          (or_right _ _ (ap is_some says), says)
+      by_label true true e r x = ((λ i. is_rule_kept (r i) (x i)) ∙ rule, λ i. spelled_by (r i) (x i))
+      by_label false t e r x = ((λ i. is_rule_kept (r i) (x i)) ∙ rule, λ i. spelled_by (r i) (x i))
