@@ -6,7 +6,7 @@ use crate::directory::{
 use crate::text::Text;
 
 /// What an administrator (as far as `Unlink`) or a coordinator asks to change.
-#[derive(Clone, Debug, PartialEq, Eq, Drop)]
+#[derive(Drop)]
 pub enum CircleCommand {
     AddOrg {
         name: Text,
@@ -100,7 +100,7 @@ pub struct CircleFacts {
 }
 
 /// The whole change that a command makes.
-#[derive(Clone, Debug, PartialEq, Eq, Drop)]
+#[derive(Debug, Drop)]
 pub enum Edit {
     Row(RowEdit),
     /// The group, and its owner as a member that may extend it.
@@ -108,7 +108,7 @@ pub enum Edit {
 }
 
 /// One row put or taken out, or one flag exchanged.
-#[derive(Clone, Debug, PartialEq, Eq, Drop)]
+#[derive(Clone, Debug, Drop)]
 pub enum RowEdit {
     PutOrg(Org),
     PutAccount(Account),

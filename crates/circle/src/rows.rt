@@ -9,7 +9,7 @@ use std::alloc::{AllocError, Global};
 use std::marker::Model;
 
 /// A directory in memory, which contracts see as its nine lists of rows, each in the order of its key.
-#[derive(Debug, Drop)]
+#[derive(Drop)]
 pub struct DirectoryRows {
     pub(crate) sets: Sets,
 }

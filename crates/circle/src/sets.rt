@@ -11,7 +11,7 @@ use crate::directory::{
 use crate::keyed::{Keyed, put_row, take_rows};
 use std::alloc::{AllocError, Global};
 
-#[derive(Debug, Drop)]
+#[derive(Drop)]
 pub(crate) struct Sets {
     pub orgs: Vec<Org>,
     pub accounts: Vec<Account>,

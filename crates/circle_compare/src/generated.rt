@@ -5,10 +5,11 @@ use crate::dice::Dice;
 use crate::reads::agree_on_reads;
 use crate::rows::World;
 use crate::tally::Tally;
-use circle::command::CircleCommand;
+use circle::command::{CircleCommand, Edit};
 use circle::directory::{Person, Role};
 use circle::judge::judge;
 use circle::name::Name;
+use circle::refusal::{Code, Refusal};
 use circle::rows::DirectoryRows;
 use circle::text::Text;
 use std::alloc::{AllocError, Global};
@@ -23,30 +24,49 @@ struct Pair {
     plain: World,
 }
 
-/// Has both change their rows by an administrator's or coordinator's command, whoever asks. Whether it is let through.
-fn obey_both(
-    alloc: Global,
-    pair: &mut Pair,
-    role: Role,
-    org: u32,
-    command: &CircleCommand,
-) -> Result<bool, AllocError> {
-    let Some(name) = Name::of(alloc, "setter")? else {
-        return Ok(false);
-    };
-    let actor = Person {
+impl Pair {
+    fn new(alloc: Global) -> Pair {
+        Pair {
+            judged: DirectoryRows::new(alloc),
+            plain: World::new(alloc),
+        }
+    }
+
+    /// Has both change their rows: the one by the edit, the plain one by the command.
+    fn change(
+        &mut self,
+        alloc: Global,
+        edit: Edit,
+        org: u32,
+        command: &CircleCommand,
+    ) -> Result<(), AllocError> {
+        self.judged.apply(edit.into_rows(alloc)?)?;
+        obey(&mut self.plain, alloc, org, command)
+    }
+}
+
+fn setter(alloc: Global, role: Role, org: u32) -> Result<Option<Person>, AllocError> {
+    Ok(Name::of(alloc, "setter")?.map(|name| Person {
         number: 0,
         org,
         name,
         role,
         active: true,
         nominated: false,
-    };
-    let facts = pair.judged.facts(&actor, command);
-    match judge(alloc, &actor, &facts, command) {
+    }))
+}
+
+/// Has both change their rows by an administrator's or coordinator's command, whoever asks. Whether it is let through.
+fn obey_both(
+    alloc: Global,
+    pair: &mut Pair,
+    actor: &Person,
+    command: &CircleCommand,
+) -> Result<bool, AllocError> {
+    let facts = pair.judged.facts(actor, command);
+    match judge(alloc, actor, &facts, command) {
         Ok(edit) => {
-            pair.judged.apply(edit.into_rows(alloc)?)?;
-            obey(&mut pair.plain, alloc, org, command)?;
+            pair.change(alloc, edit, actor.org, command)?;
             Ok(true)
         }
         Err(_) => Ok(false),
@@ -96,7 +116,63 @@ fn beginnings(
     Ok(commands)
 }
 
-/// Asks for one command of a random person, and has both change their rows. Whether they agree.
+/// Has both directories begin. Whether each command is let through.
+fn begins(alloc: Global, dice: &mut Dice, pair: &mut Pair) -> Result<bool, AllocError> {
+    for (role, org, command) in beginnings(alloc, dice)?.iter() {
+        let is_done = match setter(alloc, *role, *org)? {
+            Some(actor) => obey_both(alloc, pair, &actor, command)?,
+            None => false,
+        };
+        if !is_done {
+            return Ok(false);
+        }
+    }
+    Ok(true)
+}
+
+/// Who asks: as a rule the administrator or a coordinator, as the kind wants it; anybody in one of four.
+fn any_place(dice: &mut Dice, kind: u32) -> usize {
+    if dice.once_in(4) {
+        dice.place(6)
+    } else if kind < ADMINISTRATORS {
+        0
+    } else {
+        1 + dice.place(2).min(1)
+    }
+}
+
+fn is_told(wanted: Option<(Code, &'static str)>, refusal: &Refusal) -> bool {
+    wanted == Some((refusal.code, refusal.detail.as_str()))
+}
+
+/// Has both judge the command, and change their rows where it is let through. Whether they agree.
+fn agree_on_command(
+    alloc: Global,
+    pair: &mut Pair,
+    tally: &mut Tally,
+    kind: u32,
+    actor: &Person,
+    command: &CircleCommand,
+) -> Result<bool, AllocError> {
+    let facts = pair.judged.facts(actor, command);
+    if facts != pair.plain.facts(actor, command) {
+        return Ok(false);
+    }
+    let wanted = pair.plain.refusal(actor, command);
+    match judge(alloc, actor, &facts, command) {
+        Ok(edit) => {
+            tally.note(kind, None)?;
+            pair.change(alloc, edit, actor.org, command)?;
+            Ok(wanted.is_none())
+        }
+        Err(refusal) => {
+            tally.note(kind, Some(refusal.code))?;
+            Ok(is_told(wanted, &refusal))
+        }
+    }
+}
+
+/// Asks for one command of a random person. Whether both agree on it, and on the rows behind it.
 fn step(
     alloc: Global,
     dice: &mut Dice,
@@ -105,57 +181,38 @@ fn step(
 ) -> Result<bool, AllocError> {
     let kind = dice.roll(KINDS);
     let command = any_command(alloc, dice, kind)?;
-    let place = if dice.once_in(4) {
-        dice.place(6)
-    } else if kind < ADMINISTRATORS {
-        0
-    } else {
-        1 + dice.place(2).min(1)
+    let place = any_place(dice, kind);
+    let actor = match pair.plain.accounts.get(place) {
+        Some(account) => account.person.clone()?,
+        None => return Ok(false),
     };
-    let Some(account) = pair.plain.accounts.get(place) else {
-        return Ok(false);
-    };
-    let actor = account.person.clone()?;
-    let facts = pair.judged.facts(&actor, &command);
-    if facts != pair.plain.facts(&actor, &command) {
-        return Ok(false);
-    }
-    let wanted = pair.plain.refusal(&actor, &command);
-    match judge(alloc, &actor, &facts, &command) {
-        Ok(edit) => {
-            if wanted.is_some() {
-                return Ok(false);
-            }
-            pair.judged.apply(edit.into_rows(alloc)?)?;
-            obey(&mut pair.plain, alloc, actor.org, &command)?;
-            tally.note(kind, None)?;
-        }
-        Err(refusal) => {
-            if wanted != Some((refusal.code, refusal.detail.as_str())) {
-                return Ok(false);
-            }
-            tally.note(kind, Some(refusal.code))?;
+    Ok(
+        agree_on_command(alloc, pair, tally, kind, &actor, &command)?
+            && pair.plain.is_same(&pair.judged),
+    )
+}
+
+fn agree_on_steps(
+    alloc: Global,
+    dice: &mut Dice,
+    pair: &mut Pair,
+    tally: &mut Tally,
+) -> Result<bool, AllocError> {
+    for _ in 0..STEPS {
+        if !step(alloc, dice, pair, tally)? {
+            return Ok(false);
         }
     }
-    Ok(pair.plain.is_same(&pair.judged))
+    Ok(true)
 }
 
 /// Whether the crate and the plain program agree on a directory of this seed.
 pub fn agrees_at(alloc: Global, tally: &mut Tally, seed: u64) -> Result<bool, AllocError> {
     let mut dice = Dice::new(seed);
-    let mut pair = Pair {
-        judged: DirectoryRows::new(alloc),
-        plain: World::new(alloc),
-    };
-    for (role, org, command) in beginnings(alloc, &mut dice)?.iter() {
-        if !obey_both(alloc, &mut pair, *role, *org, command)? {
-            return Ok(false);
-        }
-    }
-    for _ in 0..STEPS {
-        if !step(alloc, &mut dice, &mut pair, tally)? {
-            return Ok(false);
-        }
-    }
-    agree_on_reads(alloc, &pair.judged, &pair.plain)
+    let mut pair = Pair::new(alloc);
+    Ok(
+        begins(alloc, &mut dice, &mut pair)?
+            && agree_on_steps(alloc, &mut dice, &mut pair, tally)?
+            && agree_on_reads(alloc, &pair.judged, &pair.plain)?,
+    )
 }

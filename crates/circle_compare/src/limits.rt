@@ -76,27 +76,27 @@ fn is_last(world: &World, edit: &Edit) -> bool {
     }
 }
 
-/// Whether the command is done so, or refused.
-fn is_outcome(
-    alloc: Global,
-    world: &mut World,
-    role: Role,
-    command: &CircleCommand,
-    wanted: Option<Code>,
-) -> Result<bool, AllocError> {
-    let Some(name) = Name::of(alloc, "anna")? else {
-        return Ok(false);
-    };
-    let actor = Person {
+fn anna(alloc: Global, role: Role) -> Result<Option<Person>, AllocError> {
+    Ok(Name::of(alloc, "anna")?.map(|name| Person {
         number: 1,
         org: 1,
         name,
         role,
         active: true,
         nominated: false,
-    };
-    let plain = world.refusal(&actor, command).map(|told| told.0);
-    match judge(alloc, &actor, &world.facts(&actor, command), command) {
+    }))
+}
+
+/// Whether the command is done so, or refused.
+fn is_outcome(
+    alloc: Global,
+    world: &mut World,
+    actor: &Person,
+    command: &CircleCommand,
+    wanted: Option<Code>,
+) -> Result<bool, AllocError> {
+    let plain = world.refusal(actor, command).map(|told| told.0);
+    match judge(alloc, actor, &world.facts(actor, command), command) {
         Ok(edit) => {
             obey(world, alloc, actor.org, command)?;
             Ok(wanted.is_none() && plain.is_none() && is_last(world, &edit))
@@ -105,7 +105,7 @@ fn is_outcome(
     }
 }
 
-fn naming(alloc: Global, kind: u32, name: &str) -> Result<CircleCommand, AllocError> {
+fn naming(alloc: Global, kind: u32, name: &str, key: u8) -> Result<CircleCommand, AllocError> {
     let name = Text::of(alloc, name)?;
     match kind {
         0 => Ok(CircleCommand::AddOrg { name }),
@@ -113,7 +113,7 @@ fn naming(alloc: Global, kind: u32, name: &str) -> Result<CircleCommand, AllocEr
             org: 1,
             name,
             role: Role::Reader,
-            key: [1; 32],
+            key: [key; 32],
         }),
         2 => Ok(CircleCommand::AddCommunity { name }),
         _ => Ok(CircleCommand::NewGroup {
@@ -123,40 +123,55 @@ fn naming(alloc: Global, kind: u32, name: &str) -> Result<CircleCommand, AllocEr
     }
 }
 
+/// Whether the last row of this kind is let in, and the next is refused.
+fn holds_limit(alloc: Global, world: &mut World, kind: u32) -> Result<bool, AllocError> {
+    let role = if kind < 3 {
+        Role::Administrator
+    } else {
+        Role::Coordinator
+    };
+    let Some(actor) = anna(alloc, role)? else {
+        return Ok(false);
+    };
+    let last = naming(alloc, kind, "last", 1)?;
+    let more = naming(alloc, kind, "one more", 2)?;
+    Ok(
+        is_outcome(alloc, world, &actor, &last, None)?
+            && is_outcome(alloc, world, &actor, &more, Some(Code::L1))?,
+    )
+}
+
+fn is_last_named(number: u32, name: &Name, limit: u32) -> bool {
+    number == limit && name.as_str() == "last"
+}
+
+/// Whether each kind has its last row under its number.
+fn has_last_rows(world: &World) -> bool {
+    world
+        .orgs
+        .iter()
+        .any(|o| is_last_named(o.number, &o.name, 1000))
+        && world
+            .accounts
+            .iter()
+            .any(|a| is_last_named(a.person.number, &a.person.name, 10_000))
+        && world
+            .communities
+            .iter()
+            .any(|c| is_last_named(c.number, &c.name, 1000))
+        && world
+            .groups
+            .iter()
+            .any(|g| is_last_named(g.number, &g.name, 1000))
+}
+
 /// Whether the last row of each kind is let in under its number, and the next is refused.
 pub fn hold_limits(alloc: Global) -> Result<bool, AllocError> {
     let mut world = nearly_full(alloc)?;
     for kind in 0..4u32 {
-        let role = if kind < 3 {
-            Role::Administrator
-        } else {
-            Role::Coordinator
-        };
-        let last = naming(alloc, kind, "last")?;
-        if !is_outcome(alloc, &mut world, role, &last, None)? {
-            return Ok(false);
-        }
-        let mut more = naming(alloc, kind, "one more")?;
-        if let CircleCommand::AddPerson { key, .. } = &mut more {
-            *key = [2; 32];
-        }
-        if !is_outcome(alloc, &mut world, role, &more, Some(Code::L1))? {
+        if !holds_limit(alloc, &mut world, kind)? {
             return Ok(false);
         }
     }
-    let is_last = world
-        .orgs
-        .iter()
-        .any(|o| o.number == 1000 && o.name.as_str() == "last");
-    let is_person = world.accounts.iter().any(|a| a.person.number == 10_000
-        && a.person.name.as_str() == "last");
-    let is_community = world
-        .communities
-        .iter()
-        .any(|c| c.number == 1000 && c.name.as_str() == "last");
-    let is_group = world
-        .groups
-        .iter()
-        .any(|g| g.number == 1000 && g.name.as_str() == "last");
-    Ok(is_last && is_person && is_community && is_group)
+    Ok(has_last_rows(&world))
 }

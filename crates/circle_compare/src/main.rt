@@ -16,32 +16,42 @@ mod tally;
 
 use std::process::ExitCode;
 use std::{env, io};
+use tally::Tally;
 
 /// How many directories, where the words name no number.
 const SEEDS: u64 = 192;
 
+/// Compares over so many directories. Whether there is no difference.
+fn compare(rt: &HostRuntime, tally: &mut Tally, seeds: u64) -> io::Result<bool> {
+    for seed in 0..seeds {
+        if !generated::agrees_at(rt.alloc(), tally, seed)? {
+            println!(rt; "seed {seed}: a difference")?;
+            return Ok(false);
+        }
+    }
+    println!(rt; "{seeds} directories of 200 commands, no difference")?;
+    for line in tally.lines(rt.alloc())?.iter() {
+        println!(rt; "{line}")?;
+    }
+    Ok(true)
+}
+
+fn compare_at_limits(rt: &HostRuntime) -> io::Result<bool> {
+    if !limits::hold_limits(rt.alloc())? {
+        println!(rt; "at the limits: a difference")?;
+        return Ok(false);
+    }
+    println!(rt; "at the limits: as expected")?;
+    Ok(true)
+}
+
 fn main(rt: HostRuntime) -> io::Result<ExitCode> {
-    let alloc = rt.alloc();
-    let words: Vec<String> = env::args(&rt)?.skip(1).collect(alloc)?;
+    let words: Vec<String> = env::args(&rt)?.skip(1).collect(rt.alloc())?;
     let seeds = words
         .first()
         .and_then(|word| word.parse::<u64>().ok())
         .unwrap_or(SEEDS);
-    let mut tally = tally::Tally::new(alloc);
-    for seed in 0..seeds {
-        if !generated::agrees_at(alloc, &mut tally, seed)? {
-            println!(rt; "seed {seed}: a difference")?;
-            return Ok(ExitCode::from(1));
-        }
-    }
-    println!(rt; "{seeds} directories of 200 commands, no difference")?;
-    for line in tally.lines(alloc)?.iter() {
-        println!(rt; "{line}")?;
-    }
-    if !limits::hold_limits(alloc)? {
-        println!(rt; "at the limits: a difference")?;
-        return Ok(ExitCode::from(1));
-    }
-    println!(rt; "at the limits: as expected")?;
-    Ok(ExitCode::from(0))
+    let mut tally = Tally::new(rt.alloc());
+    let is_same = compare(&rt, &mut tally, seeds)? && compare_at_limits(&rt)?;
+    Ok(ExitCode::from(u8::from(!is_same)))
 }

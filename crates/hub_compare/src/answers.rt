@@ -5,6 +5,7 @@ use crate::changes::{Done, change};
 use crate::excerpts::{Excerpt, count_visible, excerpt_of, finds, verdicts};
 use crate::grounds::Told;
 use crate::rows::{Report, Rows};
+use crate::sheet::Body;
 use crate::sight::Sight;
 use crate::traces::{Trace, trace_of};
 use circle::directory::{Group, Person};
@@ -142,6 +143,48 @@ fn groups(alloc: Global, rows: &Rows, caller: &Person) -> Result<Answer, AllocEr
     Ok(Answer::Groups(groups))
 }
 
+/// What a request that reads is answered; it isn't refused.
+fn read_by(
+    alloc: Global,
+    rows: &Rows,
+    caller: &Person,
+    request: &Request,
+) -> Result<Option<Answer>, AllocError> {
+    Ok(Some(
+        match request {
+            Request::View { incident } => view(alloc, rows, caller, *incident)?,
+            Request::List { after }
+            | Request::Search { after, .. }
+            | Request::Addressed { after } => page(alloc, rows, caller, request, *after)?,
+            Request::MyGroups => groups(alloc, rows, caller)?,
+            Request::WhoAmI => Answer::Caller(caller.clone()?),
+            Request::Explain {
+                person,
+                incident,
+                path,
+            } => trace(alloc, rows, *person, *incident, path.as_str())?,
+            _ => return Ok(None),
+        },
+    ))
+}
+
+/// What a request is answered, with what its body is read as; the rows are changed.
+fn answer_with(
+    alloc: Global,
+    rows: &mut Rows,
+    caller: &Person,
+    request: &Request,
+    body: Body,
+) -> Result<Answer, AllocError> {
+    if let Some(told) = refusal(alloc, rows, caller, request, &body)? {
+        return Ok(Answer::Refused(told));
+    }
+    match read_by(alloc, rows, caller, request)? {
+        Some(answer) => Ok(answer),
+        None => Ok(Answer::Changed(change(rows, alloc, caller.org, request, body)?)),
+    }
+}
+
 /// What the caller, a person that is active, is answered; the rows are changed.
 fn answer_to(
     alloc: Global,
@@ -150,21 +193,14 @@ fn answer_to(
     request: &Request,
 ) -> Result<Answer, AllocError> {
     let body = body_in(alloc, request)?;
-    if let Some(told) = refusal(alloc, rows, caller, request, &body)? {
-        return Ok(Answer::Refused(told));
-    }
-    match request {
-        Request::View { incident } => view(alloc, rows, caller, *incident),
-        Request::List { after } | Request::Search { after, .. } | Request::Addressed { after } =>
-            page(alloc, rows, caller, request, *after),
-        Request::MyGroups => groups(alloc, rows, caller),
-        Request::WhoAmI => Ok(Answer::Caller(caller.clone()?)),
-        Request::Explain {
-            person,
-            incident,
-            path,
-        } => trace(alloc, rows, *person, *incident, path.as_str()),
-        _ => Ok(Answer::Changed(change(rows, alloc, caller.org, request, body)?)),
+    answer_with(alloc, rows, caller, request, body)
+}
+
+/// The active person who has this key.
+fn caller_of(rows: &Rows, key: Option<[u8; 32]>) -> Result<Option<Person>, AllocError> {
+    match key.and_then(|key| rows.account_of_key(&key)) {
+        Some(account) if account.person.active => Ok(Some(account.person.clone()?)),
+        _ => Ok(None),
     }
 }
 
@@ -175,15 +211,7 @@ pub fn answered(
     key: Option<[u8; 32]>,
     request: &Request,
 ) -> Result<Answer, AllocError> {
-    let mut caller = None;
-    if let Some(key) = key {
-        if let Some(account) = rows.account_of_key(&key) {
-            if account.person.active {
-                caller = Some(account.person.clone()?);
-            }
-        }
-    }
-    match caller {
+    match caller_of(rows, key)? {
         Some(caller) => answer_to(alloc, rows, &caller, request),
         None => Ok(refused(alloc, Code::K1)),
     }

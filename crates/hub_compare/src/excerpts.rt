@@ -99,43 +99,37 @@ fn copied(alloc: Global, spot: &Spot) -> Result<Line, AllocError> {
     Ok(copy)
 }
 
-/// The lines with this one among the first class's members, in the order of names.
-fn with_member(alloc: Global, lines: Vec<Line>, member: Line) -> Result<Vec<Line>, AllocError> {
-    let mut before = Vec::new(alloc);
-    let mut behind = Vec::new(alloc);
-    for other in lines {
-        let is_later = other.depth < member.depth
-            || (other.depth == member.depth && member.name.as_str() < other.name.as_str());
-        if is_later || !behind.is_empty() {
-            behind.push(other)?;
-        } else {
-            before.push(other)?;
-        }
-    }
-    before.push(member)?;
-    for other in behind {
-        before.push(other)?;
-    }
-    Ok(before)
+/// Whether the line isn't of a member of this one's class, or of a later name.
+fn comes_behind(line: &Line, member: &Line) -> bool {
+    line.depth < member.depth
+        || (line.depth == member.depth && member.name.as_str() < line.name.as_str())
 }
 
-/// The lines of a class's members and of what follows it, with its label among its members.
-fn with_label(
+/// Puts this line among the first class's members, in the order of names.
+fn put_member(lines: &mut Vec<Line>, member: Line) -> Result<(), AllocError> {
+    let place = lines.iter().position(|other| comes_behind(other, &member));
+    let place = place.unwrap_or(lines.len()).min(lines.len());
+    lines.insert(place, member)?;
+    Ok(())
+}
+
+/// Puts the label of a class among its members, which the lines begin with.
+fn put_label(
     alloc: Global,
     sight: &Sight<'_>,
     spot: &Spot,
-    lines: Vec<Line>,
-) -> Result<Vec<Line>, AllocError> {
+    lines: &mut Vec<Line>,
+) -> Result<(), AllocError> {
     let label = nearest_label(sight.spots(), spot.path.as_str());
     let depth = spot.depth.saturating_add(1);
     let word = line(alloc, depth, "restriction", Kind::Text, label.word)?;
-    let lines = with_member(alloc, lines, word)?;
+    put_member(lines, word)?;
     match label.ext {
         Some(text) if label.word == "ext-value" => {
             let ext = line(alloc, depth, "ext-restriction", Kind::Text, text)?;
-            with_member(alloc, lines, ext)
+            put_member(lines, ext)
         }
-        _ => Ok(lines),
+        _ => Ok(()),
     }
 }
 
@@ -149,7 +143,7 @@ fn kept_lines(
     for verdict in list.iter().rev() {
         if is_kept(list, verdict) {
             if says_label(sight, list, verdict) {
-                lines = with_label(alloc, sight, verdict.spot, lines)?;
+                put_label(alloc, sight, verdict.spot, &mut lines)?;
             }
             lines.insert(0, copied(alloc, verdict.spot)?)?;
         }

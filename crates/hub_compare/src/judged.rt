@@ -10,12 +10,13 @@ use crate::grounds::Told;
 use crate::reads::{agree_on_reads, same_document};
 use crate::requests::{Subject, any_kind, any_request};
 use crate::rows::{Report, Rows};
+use crate::sheet::Body;
 use crate::shelves::in_memory;
 use crate::sound::is_sound;
 use crate::tally::Tally;
 use crate::worlds::any_rows;
 use circle::directory::{Person, Role};
-use hub_core::{Code, Facts, Known, ListShelf, Request, Shelf, judge};
+use hub_core::{Code, Facts, Known, ListShelf, Refusal, Request, Shelf, judge};
 use std::alloc::{AllocError, Global};
 
 /// How many requests are made of one state.
@@ -86,6 +87,65 @@ pub fn outcome_of(alloc: Global, told: &Option<Told>) -> Result<String, AllocErr
     format!(in alloc; "{code} {word}")
 }
 
+/// What the shelf finds out about the request, which is what the rows say.
+fn facts_of(
+    alloc: Global,
+    both: &mut Both,
+    actor: &Person,
+    request: &Request,
+    body: &Body,
+) -> Result<Facts, Fault> {
+    let facts = both.shelf.facts(actor, request)?;
+    let wanted = both.rows.facts(actor, request, body);
+    agree(same_facts(alloc, &facts, &wanted)?, "facts")?;
+    Ok(facts)
+}
+
+fn is_told(told: &Option<Told>, refused: &Refusal) -> bool {
+    match told {
+        Some(told) => told.code == refused.code && told.detail.as_str() == refused.detail.as_str(),
+        None => false,
+    }
+}
+
+/// Has the request judged, and the shelf make the change. Whether it is let through, as it is where nothing is told.
+fn judged(
+    alloc: Global,
+    both: &mut Both,
+    actor: &Person,
+    request: &Request,
+    facts: &Facts,
+    told: &Option<Told>,
+) -> Result<bool, Fault> {
+    match judge(alloc, actor, facts, request) {
+        Ok(edits) => {
+            agree(told.is_none(), "a refusal that is missing")?;
+            both.shelf.apply(edits.as_slice())?;
+            Ok(true)
+        }
+        Err(refused) => {
+            agree(is_told(told, &refused), "a refusal")?;
+            Ok(false)
+        }
+    }
+}
+
+/// Asks both for the request of the person, with what its body is read as, and has both make the change.
+fn ask_with(
+    alloc: Global,
+    both: &mut Both,
+    actor: &Person,
+    request: &Request,
+    body: Body,
+) -> Result<Option<Told>, Fault> {
+    let facts = facts_of(alloc, both, actor, request, &body)?;
+    let told = refusal(alloc, &both.rows, actor, request, &body)?;
+    if judged(alloc, both, actor, request, &facts, &told)? {
+        change(&mut both.rows, alloc, actor.org, request, body)?;
+    }
+    Ok(told)
+}
+
 /// Asks both for the request of the person, and has both make the change.
 pub fn ask(
     alloc: Global,
@@ -94,27 +154,7 @@ pub fn ask(
     request: &Request,
 ) -> Result<Option<Told>, Fault> {
     let body = body_in(alloc, request)?;
-    let facts = both.shelf.facts(actor, request)?;
-    let wanted = both.rows.facts(actor, request, &body);
-    agree(same_facts(alloc, &facts, &wanted)?, "facts")?;
-    let told = refusal(alloc, &both.rows, actor, request, &body)?;
-    match judge(alloc, actor, &facts, request) {
-        Ok(edits) => {
-            agree(told.is_none(), "a refusal that is missing")?;
-            both.shelf.apply(edits.as_slice())?;
-            change(&mut both.rows, alloc, actor.org, request, body)?;
-        }
-        Err(refused) => {
-            let alike = match &told {
-                Some(told) => {
-                    told.code == refused.code && told.detail.as_str() == refused.detail.as_str()
-                }
-                None => false,
-            };
-            agree(alike, "a refusal")?;
-        }
-    }
-    Ok(told)
+    ask_with(alloc, both, actor, request, body)
 }
 
 /// Whether this is a person for the request: of a role that may make it and, where an incident is named, of its source.
@@ -186,18 +226,46 @@ fn agree_afterwards(alloc: Global, both: &mut Both) -> Result<(), Fault> {
     agree_on_reads(alloc, &mut both.shelf, &both.rows)
 }
 
-fn step(alloc: Global, dice: &mut Dice, both: &mut Both, tally: &mut Tally) -> Result<(), Fault> {
-    let kind = any_kind(dice);
-    let Some((actor, request)) = any_asked(alloc, dice, &both.rows, kind)? else {
-        return Ok(());
-    };
-    let told = ask(alloc, both, &actor, &request)?;
+/// Asks both, and counts the outcome. Whether the rows may have changed.
+fn ask_and_note(
+    alloc: Global,
+    both: &mut Both,
+    tally: &mut Tally,
+    kind: u32,
+    asked: &(Person, Request),
+) -> Result<bool, Fault> {
+    let (actor, request) = asked;
+    let told = ask(alloc, both, actor, request)?;
     let outcome = outcome_of(alloc, &told)?;
     tally.note(alloc, kind, outcome.as_str())?;
-    if told.is_none() && kind < 25 {
+    Ok(told.is_none() && kind < 25)
+}
+
+fn step(alloc: Global, dice: &mut Dice, both: &mut Both, tally: &mut Tally) -> Result<(), Fault> {
+    let kind = any_kind(dice);
+    let is_changed = match any_asked(alloc, dice, &both.rows, kind)? {
+        Some(asked) => ask_and_note(alloc, both, tally, kind, &asked)?,
+        None => false,
+    };
+    if is_changed {
         agree_afterwards(alloc, both)?;
     }
     Ok(())
+}
+
+/// Compares both over the requests that are made of a state.
+fn agree_on_steps(
+    alloc: Global,
+    dice: &mut Dice,
+    both: &mut Both,
+    tally: &mut Tally,
+) -> Result<(), Fault> {
+    agree_on_reads(alloc, &mut both.shelf, &both.rows)?;
+    for _ in 0..STEPS {
+        step(alloc, dice, both, tally)?;
+    }
+    agree_on_reads(alloc, &mut both.shelf, &both.rows)?;
+    agree(both.shelf.failures() == 0, "how often the shelf failed")
 }
 
 /// Compares both over a state of this seed and the requests made of it; one state in three is at the limits.
@@ -206,10 +274,5 @@ pub fn agree_at(alloc: Global, tally: &mut Tally, seed: u64) -> Result<(), Fault
     let rows = any_rows(alloc, &mut dice, seed % 3 == 0)?;
     agree(is_sound(alloc, &rows)?, "first rows that aren't sound")?;
     let mut both = Both::new(alloc, rows)?;
-    agree_on_reads(alloc, &mut both.shelf, &both.rows)?;
-    for _ in 0..STEPS {
-        step(alloc, &mut dice, &mut both, tally)?;
-    }
-    agree_on_reads(alloc, &mut both.shelf, &both.rows)?;
-    agree(both.shelf.failures() == 0, "how often the shelf failed")
+    agree_on_steps(alloc, &mut dice, &mut both, tally)
 }

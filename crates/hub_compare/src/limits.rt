@@ -104,20 +104,33 @@ fn command(alloc: Global, kind: u32, time: u32) -> Result<CircleCommand, AllocEr
     }
 }
 
+/// Asks for one more row of this kind. Whether it is the last that there may be, or refused behind it.
+fn ask_once(
+    alloc: Global,
+    both: &mut Both,
+    tally: &mut Tally,
+    actor: &Person,
+    kind: u32,
+    time: u32,
+) -> Result<(), Fault> {
+    let request = Request::Circle(command(alloc, kind, time)?);
+    let told = ask(alloc, both, actor, &request)?;
+    let outcome = outcome_of(alloc, &told)?;
+    let wanted = if time == 0 { "done" } else { "L1" };
+    agree(outcome.as_str() == wanted, "an outcome at a limit")?;
+    tally.note(alloc, kind, outcome.as_str())?;
+    Ok(())
+}
+
 fn ask_for(alloc: Global, both: &mut Both, tally: &mut Tally, kind: u32) -> Result<(), Fault> {
     let role = if kind < 10 {
         Role::Administrator
     } else {
         Role::Coordinator
     };
-    for time in 0..TIMES {
-        if let Some(actor) = person(alloc, 1, role)? {
-            let request = Request::Circle(command(alloc, kind, time)?);
-            let told = ask(alloc, both, &actor, &request)?;
-            let outcome = outcome_of(alloc, &told)?;
-            let wanted = if time == 0 { "done" } else { "L1" };
-            agree(outcome.as_str() == wanted, "an outcome at a limit")?;
-            tally.note(alloc, kind, outcome.as_str())?;
+    if let Some(actor) = person(alloc, 1, role)? {
+        for time in 0..TIMES {
+            ask_once(alloc, both, tally, &actor, kind, time)?;
         }
     }
     Ok(())

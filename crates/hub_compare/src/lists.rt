@@ -64,6 +64,21 @@ fn subject_of(rows: &Rows, place: usize, incident: u32) -> Subject {
     Subject { who, own, incident }
 }
 
+/// A request of somebody, and the key that it is asked with.
+fn any_made(
+    alloc: Global,
+    dice: &mut Dice,
+    rows: &Rows,
+    paged: bool,
+) -> Result<(Option<[u8; 32]>, Request), AllocError> {
+    let kind = any_kind_in_list(dice, paged);
+    let incident = any_incident(dice, rows);
+    let place = any_actor(dice, rows, kind, incident).unwrap_or(0);
+    let subject = subject_of(rows, place, incident);
+    let request = any_request(alloc, dice, rows, kind, subject)?;
+    Ok((any_key(dice, rows, place), request))
+}
+
 /// A request of somebody, and what the plain hub answers to it.
 fn add_request(
     alloc: Global,
@@ -72,20 +87,12 @@ fn add_request(
     story: &mut Story,
     paged: bool,
 ) -> Result<(), AllocError> {
-    let kind = any_kind_in_list(dice, paged);
-    let incident = any_incident(dice, rows);
-    let place = any_actor(dice, rows, kind, incident).unwrap_or(0);
-    let subject = subject_of(rows, place, incident);
-    let request = any_request(alloc, dice, rows, kind, subject)?;
-    let digest = any_key(dice, rows, place);
+    let (digest, request) = any_made(alloc, dice, rows, paged)?;
     let told = answered(alloc, rows, digest, &request)?;
-    let key = match digest {
-        Some(digest) => Key::Digest(digest),
-        None => Key::Absent,
-    };
+    story.answers.push(told)?;
+    let key = digest.map_or(Key::Absent, Key::Digest);
     let now = i64::from(dice.roll(1_000_000));
     story.asked.push((now, key, request))?;
-    story.answers.push(told)?;
     Ok(())
 }
 
@@ -160,6 +167,32 @@ fn agree_in_tables(
     Ok(())
 }
 
+/// So many requests of the list, and what the plain hub answers to each.
+fn story_of(
+    alloc: Global,
+    dice: &mut Dice,
+    rows: &mut Rows,
+    paged: bool,
+) -> Result<Story, AllocError> {
+    let mut story = Story {
+        asked: Vec::new(alloc),
+        answers: Vec::new(alloc),
+    };
+    for _ in 0..REQUESTS {
+        add_request(alloc, dice, rows, &mut story, paged)?;
+    }
+    Ok(story)
+}
+
+/// The rows that a list begins with.
+fn first_rows(alloc: Global, dice: &mut Dice, seed: u64) -> Result<Rows, AllocError> {
+    let mut rows = any_rows(alloc, dice, seed % 10 == 1)?;
+    if seed % PAGED == 0 {
+        many_reports(&mut rows, alloc)?;
+    }
+    Ok(rows)
+}
+
 /// Compares the hub with the plain one over a list of this seed, over SQL tables too where that is asked; one in ten begins
 /// at the limits.
 pub fn agree_on_list(
@@ -169,19 +202,9 @@ pub fn agree_on_list(
     has_tables: bool,
 ) -> Result<(), Fault> {
     let mut dice = Dice::new(seed.saturating_add(1_000_000));
-    let paged = seed % PAGED == 0;
-    let mut rows = any_rows(alloc, &mut dice, seed % 10 == 1)?;
-    if paged {
-        many_reports(&mut rows, alloc)?;
-    }
+    let mut rows = first_rows(alloc, &mut dice, seed)?;
     let edits = edits_of(alloc, &rows)?;
-    let mut story = Story {
-        asked: Vec::new(alloc),
-        answers: Vec::new(alloc),
-    };
-    for _ in 0..REQUESTS {
-        add_request(alloc, &mut dice, &mut rows, &mut story, paged)?;
-    }
+    let story = story_of(alloc, &mut dice, &mut rows, seed % PAGED == 0)?;
     note_answers(alloc, tally, &story)?;
     agree_in_memory(alloc, edits.as_slice(), &rows, &story)?;
     if has_tables {

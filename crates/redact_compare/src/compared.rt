@@ -96,6 +96,34 @@ fn is_expected(
     )
 }
 
+/// Whether the text stands somewhere in the stored document.
+fn is_stored(list: &[Judged<'_>], needle: &str) -> bool {
+    list.iter().any(|line| line.line.kind == Kind::Text && line.line.text.as_str().contains(needle))
+}
+
+/// Whether both find it, or neither does.
+fn agrees_on_search(
+    tally: &mut Tally,
+    world: &World<'_, '_>,
+    list: &[Judged<'_>],
+    document: &Document,
+    needle: &str,
+    class: Option<&str>,
+) -> Result<bool, AllocError> {
+    let found = search(list, needle, class);
+    tally.note("needles found", found);
+    tally.note("needles hidden", is_stored(list, needle) && !found);
+    let answer = finds(
+        world.alloc,
+        document,
+        world.case,
+        world.standing,
+        needle,
+        class,
+    )?;
+    Ok(answer == found)
+}
+
 /// Whether the searches agree.
 fn agrees_on_searches(
     tally: &mut Tally,
@@ -103,30 +131,12 @@ fn agrees_on_searches(
     list: &[Judged<'_>],
     document: &Document,
 ) -> Result<bool, AllocError> {
-    for (needle, class) in [
-        ("needle", None),
-        ("needles", Some("Node")),
-        ("", Some("Flow")),
-        ("private", None),
-    ] {
-        let found = search(list, needle, class);
-        let stored = list.iter().any(|line| line.line.kind == Kind::Text
-            && line.line.text.as_str().contains(needle));
-        tally.note("needles found", found);
-        tally.note("needles hidden", stored && !found);
-        let answer = finds(
-            world.alloc,
-            document,
-            world.case,
-            world.standing,
-            needle,
-            class,
-        )?;
-        if answer != found {
-            return Ok(false);
-        }
-    }
-    Ok(true)
+    Ok(
+        agrees_on_search(tally, world, list, document, "needle", None)?
+            && agrees_on_search(tally, world, list, document, "needles", Some("Node"))?
+            && agrees_on_search(tally, world, list, document, "", Some("Flow"))?
+            && agrees_on_search(tally, world, list, document, "private", None)?,
+    )
 }
 
 /// Whether both agree on a document for a reader.

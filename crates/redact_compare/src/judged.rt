@@ -98,42 +98,34 @@ fn text_line(alloc: Global, depth: u32, name: &str, text: &str) -> Result<Line, 
     })
 }
 
-/// Puts a line in front of the first that isn't below its class or is a member of a later name.
-fn put(alloc: Global, line: Line, lines: Vec<Line>) -> Result<Vec<Line>, AllocError> {
-    let mut before = Vec::new(alloc);
-    let mut behind = Vec::new(alloc);
-    for other in lines {
-        let later = other.depth < line.depth
-            || (other.depth == line.depth && line.name.as_str() < other.name.as_str());
-        if later || !behind.is_empty() {
-            behind.push(other)?;
-        } else {
-            before.push(other)?;
-        }
-    }
-    before.push(line)?;
-    for other in behind {
-        before.push(other)?;
-    }
-    Ok(before)
+/// Whether the line isn't below the class of the other, or is a member of a later name.
+fn comes_behind(line: &Line, other: &Line) -> bool {
+    line.depth < other.depth
+        || (line.depth == other.depth && other.name.as_str() < line.name.as_str())
 }
 
-/// The line of a class in front of those behind it, with its label among these.
-fn with_label(
+/// Puts a line in front of the first that comes behind it.
+fn put(lines: &mut Vec<Line>, line: Line) -> Result<(), AllocError> {
+    let place = lines.iter().position(|other| comes_behind(other, &line));
+    let place = place.unwrap_or(lines.len()).min(lines.len());
+    lines.insert(place, line)?;
+    Ok(())
+}
+
+/// Puts the label of a class among the lines behind the class's own.
+fn add_label(
     world: &World<'_, '_>,
     judged: &Judged<'_>,
-    lines: Vec<Line>,
-) -> Result<Vec<Line>, AllocError> {
+    lines: &mut Vec<Line>,
+) -> Result<(), AllocError> {
     let label = world.label(judged.path.tokens())?;
     let depth = judged.line.depth.saturating_add(1);
-    let restriction = text_line(world.alloc, depth, "restriction", label.word)?;
-    let lines = put(world.alloc, restriction, lines)?;
+    put(lines, text_line(world.alloc, depth, "restriction", label.word)?)?;
     match label.ext {
         Some(text) if label.word == "ext-value" => {
-            let ext = text_line(world.alloc, depth, "ext-restriction", text)?;
-            put(world.alloc, ext, lines)
+            put(lines, text_line(world.alloc, depth, "ext-restriction", text)?)
         }
-        _ => Ok(lines),
+        _ => Ok(()),
     }
 }
 
@@ -143,7 +135,7 @@ pub fn kept_outline(world: &World<'_, '_>, list: &[Judged<'_>]) -> Result<Vec<Li
     for judged in list.iter().rev() {
         if is_kept(list, judged) {
             if says_label(world, list, judged) {
-                lines = with_label(world, judged, lines)?;
+                add_label(world, judged, &mut lines)?;
             }
             lines.insert(0, copy(judged.line)?)?;
         }
@@ -216,28 +208,20 @@ fn is_before(one: &Told, other: &Told) -> bool {
 }
 
 /// Puts a pair at its place in order, unless it is there.
-fn put_told(alloc: Global, pair: Told, list: Vec<Told>) -> Result<Vec<Told>, AllocError> {
-    let mut before = Vec::new(alloc);
-    let mut behind = Vec::new(alloc);
-    for other in list {
-        if is_before(&other, &pair) {
-            before.push(other)?;
-        } else if is_before(&pair, &other) {
-            behind.push(other)?;
-        }
+fn put_told(list: &mut Vec<Told>, pair: Told) -> Result<(), AllocError> {
+    let place = list.iter().position(|other| !is_before(other, &pair));
+    let place = place.unwrap_or(list.len()).min(list.len());
+    if list.get(place).is_none_or(|other| is_before(&pair, other)) {
+        list.insert(place, pair)?;
     }
-    before.push(pair)?;
-    for other in behind {
-        before.push(other)?;
-    }
-    Ok(before)
+    Ok(())
 }
 
 /// The pairs by place and rule, without repeats.
 pub fn in_order(alloc: Global, pairs: Vec<Told>) -> Result<Vec<Told>, AllocError> {
     let mut list = Vec::new(alloc);
     for pair in pairs {
-        list = put_told(alloc, pair, list)?;
+        put_told(&mut list, pair)?;
     }
     Ok(list)
 }

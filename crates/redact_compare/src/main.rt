@@ -25,34 +25,49 @@ use tally::Tally;
 /// How many cases, where the words name no number.
 const CASES: u64 = 2048;
 
-fn main(rt: HostRuntime) -> io::Result<ExitCode> {
-    let alloc = rt.alloc();
-    let words: Vec<String> = env::args(&rt)?.skip(1).collect(alloc)?;
-    let cases = words
-        .first()
-        .and_then(|word| word.parse::<u64>().ok())
-        .unwrap_or(CASES);
-    let mut tally = Tally::new(alloc)?;
+/// Compares so many cases. Whether there is no difference.
+fn compare(rt: &HostRuntime, tally: &mut Tally, cases: u64) -> io::Result<bool> {
     for seed in 0..cases {
-        if !agrees_at(alloc, &mut tally, seed)? {
+        if !agrees_at(rt.alloc(), tally, seed)? {
             println!(rt; "seed {seed}: a difference")?;
-            return Ok(ExitCode::from(1));
+            return Ok(false);
         }
     }
     println!(rt; "{cases} cases, no difference")?;
+    Ok(true)
+}
+
+/// Tells what the cases showed. Whether nothing of it is rare.
+fn tell(rt: &HostRuntime, tally: &Tally) -> io::Result<bool> {
     if let Some(rare) = tally.rare() {
         let (name, count) = (rare.name, rare.count);
         println!(rt; "{name}: only {count}")?;
-        return Ok(ExitCode::from(1));
+        return Ok(false);
     }
     for count in tally.counts() {
         let name = count.name;
         println!(rt; "covered: {name}")?;
     }
-    if !holds_at_limits(alloc)? {
+    Ok(true)
+}
+
+fn compare_at_limits(rt: &HostRuntime) -> io::Result<bool> {
+    if !holds_at_limits(rt.alloc())? {
         println!(rt; "at the limits: a difference")?;
-        return Ok(ExitCode::from(1));
+        return Ok(false);
     }
     println!(rt; "at the limits: as expected")?;
-    Ok(ExitCode::from(0))
+    Ok(true)
+}
+
+fn main(rt: HostRuntime) -> io::Result<ExitCode> {
+    let words: Vec<String> = env::args(&rt)?.skip(1).collect(rt.alloc())?;
+    let cases = words
+        .first()
+        .and_then(|word| word.parse::<u64>().ok())
+        .unwrap_or(CASES);
+    let mut tally = Tally::new(rt.alloc())?;
+    let is_same =
+        compare(&rt, &mut tally, cases)? && tell(&rt, &tally)? && compare_at_limits(&rt)?;
+    Ok(ExitCode::from(u8::from(!is_same)))
 }
