@@ -13,27 +13,39 @@ use std::alloc::{AllocError, Global};
 /// The moment of the first request, in seconds since 1970; each comes a second behind the one before.
 const FIRST_MOMENT: i64 = 1_700_000_000;
 
+/// The administrator of organisation 1, person 1.
+fn administrator(name: Name) -> Account {
+    Account {
+        person: Person {
+            number: 1,
+            org: 1,
+            name,
+            role: Role::Administrator,
+            active: true,
+            nominated: false,
+        },
+        key: key_of(1),
+    }
+}
+
 /// Organisation 1 and its administrator, person 1.
 pub fn first_rows(alloc: Global) -> Result<Vec<Edit>, AllocError> {
     let mut edits = Vec::new(alloc);
-    if let (Some(hub), Some(admin)) = (Name::of(alloc, "Hub")?, Name::of(alloc, "admin")?) {
-        edits.push(Edit::Directory(RowEdit::PutOrg(Org {
-            number: 1,
-            name: hub,
-        })))?;
-        edits.push(Edit::Directory(RowEdit::PutAccount(Account {
-            person: Person {
-                number: 1,
-                org: 1,
-                name: admin,
-                role: Role::Administrator,
-                active: true,
-                nominated: false,
-            },
-            key: key_of(1),
-        })))?;
+    if let Some(name) = Name::of(alloc, "Hub")? {
+        edits.push(Edit::Directory(RowEdit::PutOrg(Org { number: 1, name })))?;
+    }
+    if let Some(name) = Name::of(alloc, "admin")? {
+        let account = administrator(name);
+        edits.push(Edit::Directory(RowEdit::PutAccount(account)))?;
     }
     Ok(edits)
+}
+
+fn push_lines<'a>(lines: &mut Vec<&'a str>, block: &'a Block) -> Result<(), AllocError> {
+    for line in block.lines.iter() {
+        lines.push(line.as_str())?;
+    }
+    Ok(())
 }
 
 /// The lines of a case: those of the world, and its own behind them.
@@ -43,9 +55,8 @@ pub fn lines_of<'a>(
     block: &'a Block,
 ) -> Result<Vec<&'a str>, AllocError> {
     let mut lines = Vec::new(alloc);
-    for line in world.lines.iter().chain(block.lines.iter()) {
-        lines.push(line.as_str())?;
-    }
+    push_lines(&mut lines, world)?;
+    push_lines(&mut lines, block)?;
     Ok(lines)
 }
 

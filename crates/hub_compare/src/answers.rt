@@ -150,22 +150,19 @@ fn read_by(
     caller: &Person,
     request: &Request,
 ) -> Result<Option<Answer>, AllocError> {
-    Ok(Some(
-        match request {
-            Request::View { incident } => view(alloc, rows, caller, *incident)?,
-            Request::List { after }
-            | Request::Search { after, .. }
-            | Request::Addressed { after } => page(alloc, rows, caller, request, *after)?,
-            Request::MyGroups => groups(alloc, rows, caller)?,
-            Request::WhoAmI => Answer::Caller(caller.clone()?),
-            Request::Explain {
-                person,
-                incident,
-                path,
-            } => trace(alloc, rows, *person, *incident, path.as_str())?,
-            _ => return Ok(None),
-        },
-    ))
+    Ok(Some(match request {
+        Request::View { incident } => view(alloc, rows, caller, *incident)?,
+        Request::List { after } | Request::Search { after, .. } | Request::Addressed { after } =>
+            page(alloc, rows, caller, request, *after)?,
+        Request::MyGroups => groups(alloc, rows, caller)?,
+        Request::WhoAmI => Answer::Caller(caller.clone()?),
+        Request::Explain {
+            person,
+            incident,
+            path,
+        } => trace(alloc, rows, *person, *incident, path.as_str())?,
+        _ => return Ok(None),
+    }))
 }
 
 /// What a request is answered, with what its body is read as; the rows are changed.
@@ -198,7 +195,10 @@ fn answer_to(
 
 /// The active person who has this key.
 fn caller_of(rows: &Rows, key: Option<[u8; 32]>) -> Result<Option<Person>, AllocError> {
-    match key.and_then(|key| rows.account_of_key(&key)) {
+    let Some(key) = key else {
+        return Ok(None);
+    };
+    match rows.account_of_key(&key) {
         Some(account) if account.person.active => Ok(Some(account.person.clone()?)),
         _ => Ok(None),
     }

@@ -120,10 +120,16 @@ fn add_label(
 ) -> Result<(), AllocError> {
     let label = world.label(judged.path.tokens())?;
     let depth = judged.line.depth.saturating_add(1);
-    put(lines, text_line(world.alloc, depth, "restriction", label.word)?)?;
+    put(
+        lines,
+        text_line(world.alloc, depth, "restriction", label.word)?,
+    )?;
     match label.ext {
         Some(text) if label.word == "ext-value" => {
-            put(lines, text_line(world.alloc, depth, "ext-restriction", text)?)
+            put(
+                lines,
+                text_line(world.alloc, depth, "ext-restriction", text)?,
+            )
         }
         _ => Ok(()),
     }

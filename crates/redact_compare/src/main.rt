@@ -67,7 +67,6 @@ fn main(rt: HostRuntime) -> io::Result<ExitCode> {
         .and_then(|word| word.parse::<u64>().ok())
         .unwrap_or(CASES);
     let mut tally = Tally::new(rt.alloc())?;
-    let is_same =
-        compare(&rt, &mut tally, cases)? && tell(&rt, &tally)? && compare_at_limits(&rt)?;
+    let is_same = compare(&rt, &mut tally, cases)? && tell(&rt, &tally)? && compare_at_limits(&rt)?;
     Ok(ExitCode::from(u8::from(!is_same)))
 }
