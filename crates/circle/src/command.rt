@@ -6,7 +6,7 @@ use crate::directory::{
 use crate::text::Text;
 
 /// What an administrator (as far as `Unlink`) or a coordinator asks to change.
-#[derive(Drop)]
+#[derive(Debug, Drop)]
 pub enum CircleCommand {
     AddOrg {
         name: Text,
