@@ -10,18 +10,20 @@ ghost use Rattle.redact.specs.Judged.{inside, is_end, put_attributes, with_label
 ghost use Rattle.redact.specs.Pass.{judgment_by};
 ghost use Rattle.redact.specs.Here.{carries, judged_for, LiesAhead};
 ghost use Rattle.iodef_tree.specs.Text.{Tokens};
-ghost use Rattle.iodef_tree.specs.Tree.{many};
+ghost use Rattle.iodef_tree.specs.Tree.{many, says};
+ghost use Rattle.iodef_tree.specs.Tree.{Content};
 ghost use Rattle.policy.specs.Inherited.{hides};
 ghost use Rattle.std.specs.List.{AllByRecursion};
 ghost use Rattle.iodef_tree.specs.Filled.{IsFilled, IsMemberFilled, IsItemFilled};
 ghost use Rattle.redact.specs.Tokens.{token_of, path_of};
+ghost use Rattle.redact.specs.Withheld.{at_place};
 ghost use Rattle.redact.specs.Left.{home_of, class_left, class_told, class_count, left_at, told_at, count_at, left_items, told_items, count_items, left_member, told_member, count_member, Goes, Tells};
 
 use crate::attributes::labelled;
 use crate::note::{Note, add};
 use crate::reader::Reader;
 use crate::trail::Token;
-use iodef_tree::{Item, Member, Object};
+use iodef_tree::{Item, Member, Object, Text};
 use marking::Label;
 use marking::class::written;
 use policy::{Ahead, Carried, Rule};
@@ -104,6 +106,45 @@ pub fn tell(state: &mut State<'_>, rules: &[Rule]) -> Result<(), AllocError>
     Ok(())
 }
 
+/// Puts what is left of a member behind what is left of those before it.
+fn push_member(
+    members: &mut Vec<(Text, Member)>,
+    name: &Text,
+    kept: Member,
+) -> Result<(), AllocError>
+    ensures { OnOk result (members.new.items ≡ members.old.items ++ (name.now, kept) ∷ []) }
+{
+    members.push((name.clone()?, kept))?;
+    Ok(())
+}
+
+/// What is left of a text or another value, which stands in its class.
+fn plain_left(home: Home, item: &Item) -> Result<Option<Item>, AllocError>
+    ensures left { IfOk result (λ r. (c : Content) → body item.now ≡ says c → option_map body r ≡ (if keeps (home_of home) then Some (says c) else None)) }
+    ensures filled { IfOk result (λ r. IfSome r (λ i. IsItemFilled i)) }
+{
+    if !keeps_plain(home) {
+        return Ok(None);
+    }
+    match item {
+        Item::Class(_) => Ok(None),
+        Item::Text(text) => Ok(Some(Item::Text(text.clone()?))),
+        Item::Value(text) => Ok(Some(Item::Value(text.clone()?))),
+    }
+}
+
+/// Takes back the rules that the class around this one had met, and tells those met in this one.
+fn tell_and_leave(state: &mut State<'_>, outside: Vec<Rule>) -> Result<(), AllocError>
+    ensures withheld { OnOk result (state.new.withheld.items ≡ state.old.withheld.items ++ at_place (path_of state.old.place.items) state.old.gone.items) }
+    ensures gone { OnOk result (state.new.gone.items ≡ outside.items) }
+    ensures path { OnOk result (state.new.path.items ≡ state.old.path.items) }
+    ensures place { OnOk result (state.new.place.items ≡ state.old.place.items) }
+    ensures classes { OnOk result (state.new.classes ≡ state.old.classes) }
+{
+    let gone = replace(&mut state.gone, outside);
+    tell(state, gone.as_slice())
+}
+
 impl<'a> Reader<'a> {
     /// What is left of the members of the class at `above`.
     #[cycle(cut)]
@@ -128,7 +169,7 @@ impl<'a> Reader<'a> {
         let mut members = Vec::new(state.alloc);
         for (name, member) in &object.members {
             if let Some(kept) = self.cut_member(state, home, ahead, above, name.as_str(), member)? {
-                members.push((name.clone()?, kept))?;
+                push_member(&mut members, name, kept)?;
             }
         }
         Ok(Object { members })
@@ -289,20 +330,7 @@ impl<'a> Reader<'a> {
                     None => Ok(None),
                 }
             }
-            Item::Text(text) => {
-                if keeps_plain(home) {
-                    Ok(Some(Item::Text(text.clone()?)))
-                } else {
-                    Ok(None)
-                }
-            }
-            Item::Value(text) => {
-                if keeps_plain(home) {
-                    Ok(Some(Item::Value(text.clone()?)))
-                } else {
-                    Ok(None)
-                }
-            }
+            _ => plain_left(home, item),
         }
     }
 
@@ -366,8 +394,7 @@ impl<'a> Reader<'a> {
         state.classes = state.classes.saturating_add(1);
         let outside = replace(&mut state.gone, Vec::new(state.alloc));
         let kept = self.cut(state, Home::Class(true), ahead, at, object)?;
-        let gone = replace(&mut state.gone, outside);
-        tell(state, gone.as_slice())?;
+        tell_and_leave(state, outside)?;
         let said = with_own_label(state.alloc, home, object, kept, at.label)?;
         Ok(said)
     }

@@ -1,7 +1,6 @@
 use Rattle.std.proofs.Common.{Vec, Global, List, Bool, ◌||◌, ◌≡◌, ℕ, suc, ◌+◌, ◌<◌, [], ◌∷◌, ◌++◌, map, length, get_or, drop, take, length-append, refl, sym, ◌∙◌, ap, subst, arith, add-one, decimal, true, false, rules, if◌then◌else◌}
 use Rattle.std.specs.Prelude.{Option, Some, None, option_map, is_some, IfSome}
 use Rattle.std.proofs.lemmas.List.{drop_all, append-nil, map-append, at_drop_more}
-use Rattle.iodef_tree.specs.Tree.{Bodies}
 use Rattle.iodef_tree.specs.declared.text.Text.{Text}
 use Rattle.iodef_tree.specs.declared.object.Member.{Member}
 use Rattle.iodef_tree.specs.declared.object.Object.{the_lemmas}
@@ -31,7 +30,7 @@ use Rattle.redact.proofs.Fronts.{members-cut, members-told, members-count}
 use Rattle.redact.proofs.Filling.{filled-end, filled-none}
 use Rattle.redact.proofs.Going.{goes-item, goes-member, items-step, members-step, told-seen, told-frame, told-gone}
 use Rattle.redact.proofs.reader.Reader.+cut.Goals as goal
-use Rattle.redact.proofs.reader.Reader.+cut.Goals.{cut_items-in-Some+in_ok-push, cut_items-in_default, cut-in-Some+in_ok-clone+in_ok-push, cut-in_default}
+use Rattle.redact.proofs.reader.Reader.+cut.Goals.{cut_items-in-Some+in_ok-push, cut_items-in_default, cut-in-Some+in_ok-push_member, cut-in_default}
 
 pub cut-returns-clause-left : goal.cut-returns-clause-left
 cut-returns-clause-left t c =
@@ -99,20 +98,18 @@ cut_seen-returns-clause-goes t c = λ q.
     let st = c.args.state.now in
     let b : State = record st { classes = c.saturating_add-state.result; gone = c.replace-outside.new.dest } in
     let k = c.cut.new.state in
-    let d = c.tell.new.state in
+    let d = c.tell_and_leave.new.state in
     let r = path_of st.place.items in
     let J = pass c.args.self.now.case.now c.args.self.now.standing.now (carried (path_of st.path.items) c.args.at) (forest c.args.object.now) in
     let g = c.in_ok-kept.ensures.goes in
-    let noted : d.withheld.items ≡ tells r k =
-    c.in_ok-tell.ensures.withheld
-    ∙ ap (λ ts. k.withheld.items ++ at_place (path_of ts) c.as_slice.result.now) g.place
-    ∙ ap (λ rs. k.withheld.items ++ at_place r rs) (c.as_slice.ensures.value ∙ ap (λ v. v.items) c.replace-gone.ensures.value) in
+    let left = c.in_ok-tell_and_leave.ensures in
+    let noted : d.withheld.items ≡ tells r k = left.withheld ∙ ap (λ ts. k.withheld.items ++ at_place (path_of ts) k.gone.items) g.place in
     record {
-      path = c.in_ok-tell.ensures.path ∙ g.path;
-      place = c.in_ok-tell.ensures.place ∙ g.place;
+      path = left.path ∙ g.path;
+      place = left.place ∙ g.place;
       withheld = told-seen q r st b k d (told (inside true) r 0 J) refl (ap (λ v. v.items) c.replace-outside.ensures.after ∙ c.new.ensures.items) g.withheld noted
-          (c.in_ok-tell.ensures.gone ∙ ap (λ v. v.items) (c.replace-gone.ensures.after ∙ c.replace-outside.ensures.value));
-      classes = λ h. let more = c.saturating_add-state.ensures in let e = g.classes (omega (arith, more, h)) in omega (arith, more, e, c.in_ok-tell.ensures.classes, h);
+          (left.gone ∙ ap (λ v. v.items) c.replace-outside.ensures.value);
+      classes = λ h. let more = c.saturating_add-state.ensures in let e = g.classes (omega (arith, more, h)) in omega (arith, more, e, left.classes, h);
     }
 
 pub cut_hidden-returns-in_ok-add-clause-goes : goal.cut_hidden-returns-in_ok-add-clause-goes
@@ -239,14 +236,13 @@ cut-loop-name-preserved t c =
     let stepped : Goes Q st new X (told_members C S H A Q R) M (count_members C S A R) =
     goes-member C S H c.args.above st now new (named m) R X M G (subst own c.as_str.ensures c.in_ok-kept.ensures.goes) in
     elim c.match-branch-2.branch [
-      | cut-in-Some+in_ok-clone+in_ok-push w ↦ (
-          let e : Text × Member = (w.in_ok-clone.field-0, w.in-Some.kept) in
-          let items_is : c.match-branch-2.members.items ≡ ks ++ e ∷ [] = ap (λ v. v.items) w.members-is ∙ w.in_ok-push.ensures.items in
+      | cut-in-Some+in_ok-push_member w ↦ (
+          let e : Text × Member = (c.loop-name-item.result.0, w.in-Some.kept) in
+          let items_is : c.match-branch-2.members.items ≡ ks ++ e ∷ [] = ap (λ v. v.items) w.members-is ∙ w.in_ok-push_member.ensures in
           let is : left_member C S H A m.0 (bodies m.1) ≡ Some (bodies w.in-Some.kept) = sym O ∙ ap (option_map bodies) w.in-Some.is in
-          let named_is : named e ≡ (m.0, bodies w.in-Some.kept) = ap (λ (n : Bytes). let y : Bytes × Bodies = (n, bodies w.in-Some.kept) in y) w.in_ok-clone.ensures.cases in
           record {
             left = ap (λ ys. map named ys ++ left_members C S H A R) items_is
-                ∙ ap (λ bs. bs ++ left_members C S H A R) (map-append named ks (e ∷ []) ∙ ap (λ y. map named ks ++ y ∷ []) named_is)
+                ∙ ap (λ bs. bs ++ left_members C S H A R) (map-append named ks (e ∷ []))
                 ∙ members-step C S H A (map named ks) (named m) R (left_members C S H A (map named D)) (Some (bodies w.in-Some.kept)) is L;
             filled = subst (λ (ys : List (Text × Member)). AllByRecursion (λ y. IsMemberFilled y.1) ys) (sym items_is)
                 (all-append (λ (y : Text × Member). IsMemberFilled y.1) ks (e ∷ []) c.loop-name.invariant.filled (member-kept c.in_ok-kept.field-0 w.in-Some.kept w.in-Some.is c.in_ok-kept.ensures.filled, tt));
