@@ -121,14 +121,28 @@ fn write_item<W: MarkWriter>(
     match item {
         Item::Class(object) => {
             let path = path_below(alloc, above.path, name, index)?;
-            let own = own_below(path.as_str(), object);
-            let here = below(above, path.as_str(), own);
-            writer.write(alloc, here)?;
-            write_members(alloc, writer, here, object)
+            write_class(alloc, writer, above, path.as_str(), object)
         }
-        Item::Text(_) => Ok(()),
-        Item::Value(_) => Ok(()),
+        _ => Ok(()),
     }
+}
+
+#[cycle(marks)]
+#[tactic(auto, using(crate::proofs::Fronts::marked_steps))]
+fn write_class<W: MarkWriter>(
+    alloc: Global,
+    writer: &mut W,
+    above: Mark<'_>,
+    path: &str,
+    object: &Object,
+) -> Result<(), AllocError>
+    requires filled { IsFilled object.now }
+    ensures { OnOk result (let here = marked_step (marked_by above.entry) path.now (own_label_below path.now (forest object.now)) in
+        W.text writer.new ≡ W.text writer.old ++ W.line here ++ flat_map W.line (marked_below here (forest object.now))) }
+{
+    let here = below(above, path, own_below(path, object));
+    writer.write(alloc, here)?;
+    write_members(alloc, writer, here, object)
 }
 
 fn path_below(
