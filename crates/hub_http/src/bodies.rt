@@ -145,31 +145,29 @@ fn caller(alloc: Global, person: &Person) -> Result<Value, AllocError>
     })
 }
 
+/// An object of one member.
+fn sole(alloc: Global, name: &str, value: Value) -> Result<Value, AllocError>
+    ensures { IfOk result (λ v. view v ≡ spec.sole name.now (view value)) }
+{
+    json!(in alloc; {name: value})
+}
+
 /// The body of a reply.
 pub(crate) fn body(alloc: Global, reply: &Reply) -> Result<Value, AllocError>
     ensures value { IfOk result (λ v. view v ≡ spec.body_of reply.now) }
     ensures whole { IfOk result (λ _. spec.HasWholeDocument reply.now) }
 {
     match reply {
-        Reply::Done => json!(in alloc; {"done": true}),
-        Reply::Numbers(list) => {
-            let list = numbers(alloc, list.as_slice())?;
-            json!(in alloc; {"numbers": list})
-        }
-        Reply::Revision(revision) => json!(in alloc; {"revision": *revision}),
+        Reply::Done => sole(alloc, "done", Value::Bool(true)),
+        Reply::Numbers(list) => sole(alloc, "numbers", numbers(alloc, list.as_slice())?),
+        Reply::Revision(revision) => sole(alloc, "revision", Value::from(*revision)),
         Reply::View(told) => view_body(alloc, told),
-        Reply::Incidents(list) => {
-            let list = entries(alloc, list.as_slice())?;
-            json!(in alloc; {"incidents": list})
-        }
-        Reply::Groups(list) => {
-            let list = groups(alloc, list.as_slice())?;
-            json!(in alloc; {"groups": list})
-        }
+        Reply::Incidents(list) => sole(alloc, "incidents", entries(alloc, list.as_slice())?),
+        Reply::Groups(list) => sole(alloc, "groups", groups(alloc, list.as_slice())?),
         Reply::Caller(person) => caller(alloc, person),
         Reply::Trace(text) => {
-            let text = text.as_str();
-            json!(in alloc; {"trace": text})
+            let text = String::from_str(alloc, text.as_str())?;
+            sole(alloc, "trace", Value::String(text))
         }
         Reply::Refused(why) => refusal(
             alloc,
