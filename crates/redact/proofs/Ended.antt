@@ -1,6 +1,5 @@
 -- What the state of the pass says when a whole document is done.
-use Rattle.std.proofs.Common.{◌≡◌, ◌<◌, ◌^◌, ℕ, ◌+◌, Bool, List, [], ◌++◌, sym, ◌∙◌, ap, append-nil, arith}
-use Rattle.std.specs.Prelude.{None}
+use Rattle.std.proofs.Common.{◌≡◌, ◌<◌, ◌^◌, ℕ, ◌+◌, Bool, List, [], ◌++◌, sym, ◌∙◌, ap, append-nil, arith, None}
 use Rattle.iodef_tree.specs.Text.{Tokens}
 use Rattle.iodef_tree.specs.Tree.{Forest, lines}
 use Rattle.iodef_tree.specs.Paths.{located}

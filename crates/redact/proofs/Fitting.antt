@@ -1,8 +1,6 @@
 -- Where the markings of a document were accepted, a class in which no label is written has no attribute of one.
-use Rattle.std.proofs.Common.{◌≡◌, ℕ, suc, Bool, true, false, List, [], ◌++◌, refl, sym, ◌∙◌, ap, if◌then◌else◌}
-use Rattle.std.specs.Prelude.{Option, Some, None, is_some, is_none, option_map, codes}
+use Rattle.std.proofs.Common.{arith, ◌≡◌, ℕ, suc, Bool, true, false, List, [], ◌++◌, refl, sym, ◌∙◌, ap, if◌then◌else◌, Option, Some, None, is_some, is_none, option_map, codes, bytes_eq}
 use Rattle.std.specs.Option.{option_or}
-use Rattle.std.specs.Str.{bytes_eq}
 use Rattle.std.proofs.lemmas.Bool.{false≢true}
 use Rattle.iodef_tree.specs.Text.{Bytes, Tokens}
 use Rattle.iodef_tree.specs.Tree.{Content, text, value, Forest, end, leaf, branch, steps, kind_of, text_of}
@@ -21,9 +19,7 @@ use Rattle.redact.proofs.Ordered.{Lacks, Fits, LabelsFit}
 use Rattle.redact.proofs.Sizes.{AreLabelNames}
 
 held-kind : (in_array : Bool) (c : Content) → (if in_array then other else held_by_kind (kind_of c) (text_of c)) ≡ absent → ⊥
-held-kind true c h = cc
-held-kind false (text s) h = cc
-held-kind false (value s) h = cc
+held-kind in_array c h = grind arith
 
 -- what is held under no name isn't there
 pub absent-lacks : (name : Bytes) (f : Forest) → held_in name f ≡ absent → Lacks name f
@@ -39,16 +35,8 @@ absent-lacks name (branch n place kids rest) h = by_name (bytes_eq n name) refl 
     by_name true e k next = cc
     by_name false e k next = (e, next k)
 
-some-none : {X : Type 0} (o : Option X) → is_some o ≡ true → is_none o ≡ true → ⊥
-some-none None h k = false≢true h
-some-none (Some x) h k = false≢true k
-
 pub unmarked-absent : (r e : Held) → is_rule_kept r e ≡ true → is_none (spelled_by r e) ≡ true → (r ≡ absent) × (e ≡ absent)
-unmarked-absent absent absent h k = (refl, refl)
-unmarked-absent absent (plain t) h k = absurd (false≢true h)
-unmarked-absent absent other h k = absurd (false≢true h)
-unmarked-absent (plain t) e h k = absurd (some-none (spelled_by (plain t) e) h k)
-unmarked-absent other e h k = absurd (false≢true h)
+unmarked-absent r e h k = grind arith
 
 -- a label fits where its attributes are lacking
 fits-by : (restriction : Bytes) (ext : Option Bytes) (f : Forest) → Lacks (codes "restriction") f → Lacks (codes "ext-restriction") f → Fits (attributes_by restriction ext) f

@@ -1,11 +1,9 @@
 -- What is left of a document is in order: names ascend, and the elements of an array are numbered.
-use Rattle.std.proofs.Common.{◌≡◌, ℕ, zero, suc, Bool, true, false, not, List, [], ◌∷◌, ◌++◌, refl, sym, ◌∙◌, ap, subst, if◌then◌else◌, ◌&&◌, ◌==◌, ◌⊎◌, inl, inr, Ordering, Less, Equal, Greater, is_eq}
-use Rattle.std.specs.Prelude.{Option, Some, None}
+use Rattle.std.proofs.Common.{◌≡◌, ℕ, zero, suc, Bool, true, false, not, List, [], ◌∷◌, ◌++◌, refl, sym, ◌∙◌, ap, subst, if◌then◌else◌, ◌&&◌, ◌==◌, ◌⊎◌, inl, inr, Ordering, Less, Equal, Greater, is_eq, Option, Some, None, bytes_eq, nat_cmp, is_lt, true≢false, eq-eqb}
 use Rattle.std.specs.List.{AllByRecursion}
-use Rattle.std.specs.Str.{bytes_eq}
-use Rattle.std.specs.Ordering.{nat_cmp, is_lt, ordering_reverse}
+use Rattle.std.specs.Ordering.{ordering_reverse}
 use Rattle.std.specs.Cmp.Lexicographic.{slice_cmp}
-use Rattle.std.proofs.lemmas.Bool.{true≢false, false≢true, and_parts, eq-eqb}
+use Rattle.std.proofs.lemmas.Bool.{false≢true, and_parts}
 use Rattle.std.proofs.lemmas.Cmp.{nat_list_cmp_total}
 use Rattle.std.proofs.lemmas.Map.Text.{is_eq-slice_cmp}
 use Rattle.iodef_tree.specs.Text.{Bytes, Tokens, bytes_lt}

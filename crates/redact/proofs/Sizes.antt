@@ -1,8 +1,6 @@
 -- What is left of a document is no deeper, has no more lines that count, and its plain lines have texts of their kinds.
-use Rattle.std.proofs.Common.{◌≡◌, ◌≤◌, ℕ, suc, Bool, true, false, not, List, ◌∷◌, ◌++◌, [], cond, refl, ◌∙◌, ap, arith, if◌then◌else◌, ◌&&◌, ◌||◌}
-use Rattle.std.specs.Prelude.{Option, max, codes}
+use Rattle.std.proofs.Common.{◌≡◌, ◌≤◌, ℕ, suc, Bool, true, false, not, List, ◌∷◌, ◌++◌, [], cond, refl, ◌∙◌, ap, arith, if◌then◌else◌, ◌&&◌, ◌||◌, Option, max, codes, bytes_eq}
 use Rattle.std.specs.List.{AllByRecursion}
-use Rattle.std.specs.Str.{bytes_eq}
 use Rattle.iodef_tree.specs.Text.{Bytes, Tokens}
 use Rattle.iodef_tree.specs.Texts.{HasTexts, may_be_text}
 use Rattle.iodef_tree.specs.Tree.{Leaf, Forest, end, leaf, branch, steps, height, lines, leaf_line, class_line}

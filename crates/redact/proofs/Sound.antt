@@ -1,6 +1,5 @@
 -- What is left of a sound tree is sound.
-use Rattle.std.proofs.Common.{[], arith}
-use Rattle.std.specs.Prelude.{None}
+use Rattle.std.proofs.Common.{[], arith, None}
 use Rattle.iodef_tree.specs.Text.{Tokens}
 use Rattle.iodef_tree.specs.Tree.{Forest}
 use Rattle.iodef_tree.specs.Sound.{IsSound}

@@ -1,8 +1,6 @@
 -- What is spelled in what is left of a class.
-use Rattle.std.proofs.Common.{◌≡◌, ℕ, Bool, true, false, not, [], ◌∷◌, ◌++◌, refl, sym, ◌∙◌, ap, subst, if◌then◌else◌, ◌&&◌}
-use Rattle.std.specs.Prelude.{Option, Some, None, is_some, is_none, codes}
-use Rattle.std.specs.Str.{bytes_eq}
-use Rattle.std.proofs.lemmas.Bool.{cond-false, or_right, true≢false, false≢true}
+use Rattle.std.proofs.Common.{arith, ◌≡◌, ℕ, Bool, true, false, not, [], ◌∷◌, ◌++◌, refl, sym, ◌∙◌, ap, subst, if◌then◌else◌, ◌&&◌, Option, Some, None, is_some, is_none, codes, bytes_eq, true≢false}
+use Rattle.std.proofs.lemmas.Bool.{cond-false, or_right, false≢true}
 use Rattle.iodef_tree.specs.Text.{Bytes, Tokens, is_prefix}
 use Rattle.iodef_tree.specs.Tree.{Forest, end, leaf, branch, steps, kind_of, text_of}
 use Rattle.iodef_tree.specs.Laws.{AreApart, HasApart}
@@ -27,9 +25,7 @@ lacks-absent name (branch n place kids rest) h = cond-false (bytes_eq n name) _ 
 -- ---- a label that is put in
 
 swap : (a b : Bool) (x y z : Held) → (b ≡ true → a ≡ false) → (if a then y else (if b then x else z)) ≡ (if b then x else (if a then y else z))
-swap true true x y z h = absurd (true≢false (h refl))
-swap true false x y z h = refl
-swap false b x y z h = refl
+swap a b x y z h = grind arith
 
 -- an attribute that is put in is held under its name
 held-put : (name : Bytes) (a : Attribute) (f : Forest) → (bytes_eq a.0 name ≡ true → Lacks name f) →
@@ -55,15 +51,7 @@ spelled-attributes restriction (Some ext) f r e =
 
 spelled-again : (l : Marking) → spelled (restriction_of l) (ext_restriction_of l) ≡ Some l
 spelled-again public = refl
-spelled-again white = refl
-spelled-again partner = refl
-spelled-again green = refl
-spelled-again need_to_know = refl
-spelled-again amber = refl
-spelled-again private = refl
-spelled-again red = refl
-spelled-again by_arrangement = refl
-spelled-again (extended t) = refl
+spelled-again _ = refl
 
 -- ---- what is left of the members
 
@@ -74,13 +62,7 @@ is_other other = true
 
 -- where the marking rule is kept, what is held under the two names is a text or nothing
 no-other : (r e : Held) → is_rule_kept r e ≡ true → (is_other r ≡ false) × (is_other e ≡ false)
-no-other absent absent h = (refl, refl)
-no-other absent (plain t) h = absurd (false≢true h)
-no-other absent other h = absurd (false≢true h)
-no-other (plain r) absent h = (refl, refl)
-no-other (plain r) (plain e) h = (refl, refl)
-no-other (plain r) other h = absurd (false≢true h)
-no-other other e h = absurd (false≢true h)
+no-other r e h = grind arith
 
 behind : (b : Bool) (x y z : Held) → is_other (if b then x else y) ≡ false → (is_other y ≡ false → z ≡ y) → (if b then x else z) ≡ (if b then x else y)
 behind true x y z h next = refl

@@ -1,6 +1,5 @@
 -- The pass over a whole document: what it leaves, what it tells and what it counts are as the definitions say.
-use Rattle.std.proofs.Common.{◌≡◌, ℕ, false, List, [], ◌++◌, refl, sym, ◌∙◌, ap, subst, ◌≤◌, arith}
-use Rattle.std.specs.Prelude.{Option, Some, None, count_by}
+use Rattle.std.proofs.Common.{◌≡◌, ℕ, false, List, [], ◌++◌, refl, sym, ◌∙◌, ap, subst, ◌≤◌, arith, Option, Some, None, count_by}
 use Rattle.iodef_tree.specs.Text.{Bytes, Tokens, same_path}
 use Rattle.iodef_tree.specs.Tree.{Forest, steps, lines}
 use Rattle.iodef_tree.specs.Paths.{LocatedLine, has_class, located}

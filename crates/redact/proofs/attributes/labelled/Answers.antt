@@ -1,5 +1,4 @@
-use Rattle.std.proofs.Common.{◌∙◌, ap}
-use Rattle.std.specs.Prelude.{codes}
+use Rattle.std.proofs.Common.{◌∙◌, ap, codes}
 use Rattle.iodef_tree.specs.View.{forest}
 use Rattle.redact.specs.Judged.{put_leaf, put_attributes, attribute_leaf}
 use Rattle.redact.specs.Told.{attributes_by}

@@ -1,5 +1,4 @@
-use Rattle.std.proofs.Common.{◌≡◌, List, [], ◌++◌, sym, ◌∙◌, ap, subst, arith}
-use Rattle.std.specs.Prelude.{None}
+use Rattle.std.proofs.Common.{◌≡◌, List, [], ◌++◌, sym, ◌∙◌, ap, subst, arith, None}
 use Rattle.iodef_tree.specs.Tree.{lines}
 use Rattle.iodef_tree.specs.Paths.{located}
 use Rattle.iodef_tree.specs.Sound.{IsSound}
