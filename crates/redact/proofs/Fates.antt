@@ -1,8 +1,15 @@
 -- What becomes of members and of classes in the pass: a class is shown, framed, or gone.
-use Rattle.std.proofs.Common.{◌≡◌, ℕ, Bool, true, false, not, refl, sym, subst, if◌then◌else◌, Option}
+use Rattle.std.proofs.Common.{◌≡◌, ℕ, zero, suc, Some, Bool, true, false, not, refl, sym, subst, if◌then◌else◌, Option}
 use Rattle.iodef_tree.specs.Text.{Bytes, bytes_lt}
 use Rattle.iodef_tree.specs.Tree.{Leaf, Forest, end, leaf, branch}
-use Rattle.redact.specs.Judged.{put_leaf}
+use Rattle.redact.specs.Judged.{left_before, new_place, put_leaf}
+
+-- ---- one sibling
+
+-- the place of an element by how many of its array are left before it
+pub new_place-before : (n k : ℕ) → new_place n (Some k) ≡ Some (left_before n (Some k))
+new_place-before n zero = refl
+new_place-before n (suc k) = refl
 
 -- ---- one class
 

@@ -1,5 +1,5 @@
 -- The pass over members side by side: what is left, told and counted of each, and then of the others.
-use Rattle.std.proofs.Common.{◌≡◌, ℕ, zero, suc, ◌+◌, Bool, true, false, List, [], ◌∷◌, ◌++◌, refl, sym, ◌∙◌, ap, map, append_assoc, add_assoc, zero-add, if◌then◌else◌, decimal, Option, Some, None, is_some, option_map}
+use Rattle.std.proofs.Common.{◌≡◌, ℕ, suc, ◌+◌, Bool, true, false, List, [], ◌∷◌, ◌++◌, refl, sym, ◌∙◌, ap, map, append_assoc, add_assoc, zero-add, if◌then◌else◌, decimal, Option, Some, None, is_some, option_map}
 use Rattle.std.specs.List.{cons_option}
 use Rattle.iodef_tree.specs.Text.{Bytes, Tokens}
 use Rattle.iodef_tree.specs.Tree.{Forest, leaf, branch, Body, holds, says, Bodies, one, many, in_front, elements, steps}
@@ -17,6 +17,7 @@ use Rattle.policy.specs.declared.case.Case.{Case}
 use Rattle.redact.specs.Withheld.{Withheld}
 use Rattle.redact.specs.Judged.{Home, inside, keeps_plain, left_before, new_place, left_with, moved, is_end, with_label, cut, visible_classes, told}
 use Rattle.redact.specs.Pass.{enter, judgment_by, pass}
+use Rattle.redact.proofs.Fates.{new_place-before}
 use Rattle.redact.specs.Left.{left_at, told_at, count_at, left_items, told_items, count_items, many_or_none, left_members, told_members, count_members}
 
 -- what is left of some members, what is told of them, and how many classes they count
@@ -33,11 +34,6 @@ or_front (Some b) name place behind = in_front name place b behind
 -- one more in front
 abbrev joined : Option Body → Bytes → Option ℕ → List Withheld → ℕ → Outcome → Outcome
 joined o name place ts m behind = record { left = or_front o name place behind.left; pairs = ts ++ behind.pairs; classes = m + behind.classes }
-
--- the place of an element by how many of its array are left before it
-new_place-before : (n k : ℕ) → new_place n (Some k) ≡ Some (left_before n (Some k))
-new_place-before n zero = refl
-new_place-before n (suc k) = refl
 
 module _ (c : Case) (s : Standing) (h : Home) (a : Inherited) (q : Tokens) where
   -- what the pass makes of members

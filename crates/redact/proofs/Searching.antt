@@ -35,9 +35,11 @@ module _ (needle : Bytes) where
   hit-member name (many bs) rest = hit-elements name 0 bs rest
 
   -- one more member
-  pub hit_next : (ms : List (Text × Member)) (i : ℕ) (m : Text × Member) → i < length ms → m ≡ get_or ms i m →
-      members_hit needle (members_forest (drop i ms)) ≡ (bodies_hit needle (bodies m.1) || members_hit needle (members_forest (drop (i + 1) ms)))
-  hit_next ms i m h is = ap (members_hit needle) (members-next ms i m h is) ∙ hit-member m.0 (bodies m.1) (members_forest (drop (i + 1) ms))
+  pub hit_next : (ms : List (Text × Member)) (i : ℕ) (m : Text × Member) {hit whole : Bool} → i < length ms → m ≡ get_or ms i m → hit ≡ bodies_hit needle (bodies m.1) →
+      members_hit needle (members_forest (drop i ms)) ≡ whole → (hit || members_hit needle (members_forest (drop (i + 1) ms))) ≡ whole
+  hit_next ms i m h is here all =
+      let behind = members_forest (drop (i + 1) ms) in
+      ap (λ b. b || members_hit needle behind) here ∙ sym (ap (members_hit needle) (members-next ms i m h is) ∙ hit-member m.0 (bodies m.1) behind) ∙ all
 
 module _ (c : Case) (s : Standing) (asked : Bytes → Forest → Bool) (a : Inherited) where
   -- a sibling that is entered from the class or array at d by the token t
@@ -58,6 +60,9 @@ module _ (c : Case) (s : Standing) (asked : Bytes → Forest → Bool) (a : Inhe
   found-front name (many bs) rest = found-elements name 0 bs rest
 
   -- one more member
-  pub found_next : (ms : List (Text × Member)) (i : ℕ) (m : Text × Member) → i < length ms → m ≡ get_or ms i m →
-      found c s asked a (members_forest (drop i ms)) ≡ (found_member c s asked a m.0 (bodies m.1) || found c s asked a (members_forest (drop (i + 1) ms)))
-  found_next ms i m h is = ap (found c s asked a) (members-next ms i m h is) ∙ found-front m.0 (bodies m.1) (members_forest (drop (i + 1) ms))
+  pub found_next : (ms : List (Text × Member)) (i : ℕ) (m : Text × Member) {a' : Inherited} {name : Bytes} {one whole : Bool} → i < length ms → m ≡ get_or ms i m → a' ≡ a → name ≡ m.0 →
+      one ≡ found_member c s asked a' name (bodies m.1) → found c s asked a (members_forest (drop i ms)) ≡ whole → (one || found c s asked a (members_forest (drop (i + 1) ms))) ≡ whole
+  found_next ms i m h is at named here all =
+      let behind = members_forest (drop (i + 1) ms) in
+      ap (λ b. b || found c s asked a behind) (here ∙ (λ k. found_member c s asked (at k) (named k) (bodies m.1)))
+      ∙ sym (ap (found c s asked a) (members-next ms i m h is) ∙ found-front m.0 (bodies m.1) behind) ∙ all
