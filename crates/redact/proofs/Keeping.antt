@@ -83,37 +83,23 @@ end-lines d end h = refl
 end-lines d _ h = absurd (false≢true h)
 
 module _ (v : Verdicts) where
-  kept-plain : (e : LocatedLine) (es : List LocatedLine) → is_class e ≡ false →
-      kept v (e ∷ es) ≡ (if is_root e.parent || v.visible e.parent then e.line ∷ kept v es else kept v es)
-  kept-plain e es h =
-      ap (λ b. labelled v (if b then e ∷ filter (is_kept v) es else filter (is_kept v) es)) (cond-false (is_class e) _ _ h)
-      ∙ elim (is_root e.parent || v.visible e.parent) as (λ b. labelled v (if b then e ∷ filter (is_kept v) es else filter (is_kept v) es) ≡ (if b then e.line ∷ kept v es else kept v es)) [
-        | true ↦ ap (λ b. e.line ∷ put_all (if b then attribute_lines (suc e.line.depth) (v.label e.path) else []) (kept v es)) (and_left (is_class e) _ h)
-        | false ↦ refl
-      ]
-
-  kept-class : (e : LocatedLine) (es : List LocatedLine) → is_class e ≡ true →
-      kept v (e ∷ es) ≡ (if v.visible e.path || is_frame v e.path then e.line ∷ put_all (added v e) (kept v es) else kept v es)
-  kept-class e es h =
-      ap (λ b. labelled v (if b then e ∷ filter (is_kept v) es else filter (is_kept v) es)) (cond-true (is_class e) _ _ h)
-      ∙ elim (v.visible e.path || is_frame v e.path) as (λ b. labelled v (if b then e ∷ filter (is_kept v) es else filter (is_kept v) es) ≡ (if b then e.line ∷ put_all (added v e) (kept v es) else kept v es)) [ true ↦ refl | false ↦ refl ]
+  kept-next : (e : LocatedLine) (es : List LocatedLine) → kept v (e ∷ es) ≡ (if is_kept v e then e.line ∷ put_all (added v e) (kept v es) else kept v es)
+  kept-next e es =
+      elim (is_kept v e) as (λ b. labelled v (if b then e ∷ filter (is_kept v) es else filter (is_kept v) es) ≡ (if b then e.line ∷ put_all (added v e) (kept v es) else kept v es)) [ true ↦ refl | false ↦ refl ]
 
   pub kept-cut : (f : Forest) (d : ℕ) (p : Tokens) (n : ℕ) (es : List LocatedLine) → SaysBelow v d p f → IsShallow d (kept v es) →
       kept v (walk d p f ++ es) ≡ lines d (cut (home_at v p) n (judge v p f)) ++ kept v es
   kept-cut end d p n es says shallow = refl
   kept-cut (leaf i rest) d p n es says shallow =
-      let e = leaf_entry d p i in
       let h = home_at v p in
-      let E = kept v es in
       let W = kept v (walk d p rest ++ es) in
       let J = judge v p rest in
-      kept-plain e (walk d p rest ++ es) (no_class-kind i.content)
-      ∙ ap (λ b. if b then leaf_line d i ∷ W else W) (keeps-home v p)
-      ∙ elim (keeps_plain h) as (λ b. (if b then leaf_line d i ∷ W else W)
-      ≡ lines d (if b then leaf (moved n i) (cut h (left_with n i.place) J) else cut h (left_before n i.place) J) ++ E) [
-        | true ↦ ap (λ l. l ∷ W) (sym (leaf_line-moved d n i)) ∙ ap (λ ls. leaf_line d (moved n i) ∷ ls) (kept-cut rest d p (left_with n i.place) es says shallow)
+      kept-next (leaf_entry d p i) (walk d p rest ++ es)
+      ∙ rw (no_class-kind i.content, keeps-home v p)
+      (elim (keeps_plain h) as (λ b. (if b then leaf_line d i ∷ W else W) ≡ lines d (if b then leaf (moved n i) (cut h (left_with n i.place) J) else cut h (left_before n i.place) J) ++ kept v es) [
+        | true ↦ rw (leaf_line-moved d n i, kept-cut rest d p (left_with n i.place) es says shallow)
         | false ↦ kept-cut rest d p (left_before n i.place) es says shallow
-      ]
+      ])
   kept-cut (branch name place kids rest) d p n es says shallow =
       let q = p ++ steps name place in
       let h = home_at v p in
@@ -128,7 +114,7 @@ module _ (v : Verdicts) where
       let all : (m : ℕ) → X ≡ lines (suc d) (inner (v.visible q)) ++ (lines d (behind m) ++ E) = λ m.
       let after : kept v (R ++ es) ≡ lines d (behind m) ++ E = kept-cut rest d p m es says.2 shallow in
       rw (append_assoc K R es, kept-cut kids (suc d) q 0 (R ++ es) says.1 (subst (IsShallow (suc d)) (sym after) (lines-shallow (behind m) d E shallow)), after, home-class v p name place) in
-      kept-class (class_entry d p name place) ((K ++ R) ++ es) refl
+      kept-next (class_entry d p name place) ((K ++ R) ++ es)
       ∙ rw (shows-home v p)
       (by_verdict (λ visible holds ended. is_end (inner false) ≡ ended → ((m : ℕ) → X ≡ lines (suc d) (inner visible) ++ (lines d (behind m) ++ E)) →
       (if visible || (not visible && holds) then line ∷ put_all (if visible && own then attribute_lines (suc d) (v.label q) else []) X else X)
