@@ -1,10 +1,7 @@
 -- How many classes are visible.
-use Rattle.std.proofs.Common.{◌≡◌, ◌≤◌, ◌||◌, not, arith, ℕ, suc, ◌+◌, Bool, true, false, List, ◌∷◌, ◌++◌, cond, refl, ◌∙◌, ap, zero-add, if◌then◌else◌, ◌&&◌}
-use Rattle.std.specs.Prelude.{count_by}
+use Rattle.std.proofs.Common.{◌≡◌, ◌≤◌, ◌||◌, not, arith, ℕ, suc, ◌+◌, Bool, true, false, List, ◌∷◌, ◌++◌, cond, refl, ◌∙◌, ap, zero-add, if◌then◌else◌, ◌&&◌, count_by, codes, is_some, bytes_eq}
 use Rattle.std.proofs.lemmas.List.Sums.{sum_by-append, sum_by-cons}
 use Rattle.iodef_tree.specs.Text.{Tokens}
-use Rattle.std.specs.Prelude.{codes, is_some}
-use Rattle.std.specs.Str.{bytes_eq}
 use Rattle.std.proofs.lemmas.Bool.{and_right}
 use Rattle.iodef_tree.specs.Sound.{counted, is_label_line}
 use Rattle.iodef_tree.specs.Tree.{Forest, end, leaf, branch, steps, lines, leaf_line, class_line}

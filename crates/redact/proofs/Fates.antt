@@ -1,9 +1,15 @@
 -- What becomes of members and of classes in the pass: a class is shown, framed, or gone.
-use Rattle.std.proofs.Common.{◌≡◌, ℕ, Bool, true, false, refl, if◌then◌else◌}
-use Rattle.std.specs.Prelude.{Option}
+use Rattle.std.proofs.Common.{◌≡◌, ℕ, zero, suc, Some, Bool, true, false, not, refl, sym, subst, if◌then◌else◌, Option}
 use Rattle.iodef_tree.specs.Text.{Bytes, bytes_lt}
 use Rattle.iodef_tree.specs.Tree.{Leaf, Forest, end, leaf, branch}
-use Rattle.redact.specs.Judged.{put_leaf}
+use Rattle.redact.specs.Judged.{left_before, new_place, put_leaf}
+
+-- ---- one sibling
+
+-- the place of an element by how many of its array are left before it
+pub new_place-before : (n k : ℕ) → new_place n (Some k) ≡ Some (left_before n (Some k))
+new_place-before n zero = refl
+new_place-before n (suc k) = refl
 
 -- ---- one class
 
@@ -21,6 +27,14 @@ pub by_fates : {X Y : Type 0} (P : X → Y → Type 0) (visible ended : Bool) (s
 by_fates P true ended shown framed gone shown' framed' gone' s f g = s refl
 by_fates P false true shown framed gone shown' framed' gone' s f g = g refl refl
 by_fates P false false shown framed gone shown' framed' gone' s f g = f refl
+
+-- What is so by each fate, where a class that isn't visible is gone just where no visible class lies below it, is so by what is
+-- decided of the class: it is visible, it holds a visible one.
+pub by_verdict : (P : Bool → Bool → Bool → Type 0) (visible holds ended : Bool) → (visible ≡ false → ended ≡ not holds) → ((h e : Bool) → P true h e) → P false true false → P false false true →
+    P visible holds ended
+by_verdict P true holds ended says shown framed gone = shown holds ended
+by_verdict P false true ended says shown framed gone = subst (P false true) (sym (says refl)) framed
+by_verdict P false false ended says shown framed gone = subst (P false false) (sym (says refl)) gone
 
 -- ---- all members
 

@@ -1,9 +1,8 @@
 -- Where an attribute goes among members, by its name.
-use Rattle.std.proofs.Common.{◌≡◌, ℕ, zero, suc, ◌<◌, ◌≤◌, true, false, List, [], ◌∷◌, ◌++◌, map, length, get_or, take, drop, refl, ◌∙◌, ap, arith, sym}
+use Rattle.std.proofs.Common.{◌≡◌, ℕ, zero, suc, ◌<◌, ◌≤◌, true, false, List, [], ◌∷◌, ◌++◌, map, length, get_or, take, drop, refl, ◌∙◌, ap, arith, sym, Option, Some, None, true≢false}
 use Rattle.std.specs.List.{AllByRecursion}
 use Rattle.iodef_tree.specs.Filled.{IsMemberFilled}
-use Rattle.std.specs.Prelude.{Option, Some, None}
-use Rattle.std.proofs.lemmas.Bool.{cond-true, cond-false, true≢false}
+use Rattle.std.proofs.lemmas.Bool.{cond-true, cond-false}
 use Rattle.iodef_tree.specs.Text.{Bytes, bytes_lt}
 use Rattle.iodef_tree.specs.Tree.{Leaf, Forest, leaf, Body, holds, says, Bodies, one, many, in_front, elements, member_front}
 use Rattle.iodef_tree.specs.View.{bodies, named, members_forest, forest_of_members}

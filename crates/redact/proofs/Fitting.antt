@@ -1,9 +1,7 @@
 -- Where the markings of a document were accepted, a class in which no label is written has no attribute of one.
-use Rattle.std.proofs.Common.{◌≡◌, ℕ, suc, Bool, true, false, List, [], ◌++◌, refl, sym, ◌∙◌, ap, if◌then◌else◌}
-use Rattle.std.specs.Prelude.{Option, Some, None, is_some, is_none, option_map, codes}
+use Rattle.std.proofs.Common.{arith, ◌≡◌, ℕ, suc, Bool, true, false, List, [], ◌++◌, refl, sym, ◌∙◌, ap, if◌then◌else◌, Option, Some, None, is_some, is_none, option_map, codes, bytes_eq}
 use Rattle.std.specs.Option.{option_or}
-use Rattle.std.specs.Str.{bytes_eq}
-use Rattle.std.proofs.lemmas.Bool.{false≢true}
+use Rattle.std.proofs.lemmas.Bool.{cond_both}
 use Rattle.iodef_tree.specs.Text.{Bytes, Tokens}
 use Rattle.iodef_tree.specs.Tree.{Content, text, value, Forest, end, leaf, branch, steps, kind_of, text_of}
 use Rattle.iodef_tree.specs.Paths.{LocatedLine}
@@ -21,34 +19,18 @@ use Rattle.redact.proofs.Ordered.{Lacks, Fits, LabelsFit}
 use Rattle.redact.proofs.Sizes.{AreLabelNames}
 
 held-kind : (in_array : Bool) (c : Content) → (if in_array then other else held_by_kind (kind_of c) (text_of c)) ≡ absent → ⊥
-held-kind true c h = cc
-held-kind false (text s) h = cc
-held-kind false (value s) h = cc
+held-kind in_array c h = grind arith
 
 -- what is held under no name isn't there
 pub absent-lacks : (name : Bytes) (f : Forest) → held_in name f ≡ absent → Lacks name f
 absent-lacks name end h = tt
-absent-lacks name (leaf i rest) h = by_name (bytes_eq i.name name) refl h (absent-lacks name rest)
-  where
-    by_name : (b : Bool) → bytes_eq i.name name ≡ b → (if b then held_by_leaf i else held_in name rest) ≡ absent → (held_in name rest ≡ absent → Lacks name rest) → Lacks name (leaf i rest)
-    by_name true e k next = absurd (held-kind (is_some i.place) i.content k)
-    by_name false e k next = (e, next k)
-absent-lacks name (branch n place kids rest) h = by_name (bytes_eq n name) refl h (absent-lacks name rest)
-  where
-    by_name : (b : Bool) → bytes_eq n name ≡ b → (if b then other else held_in name rest) ≡ absent → (held_in name rest ≡ absent → Lacks name rest) → Lacks name (branch n place kids rest)
-    by_name true e k next = cc
-    by_name false e k next = (e, next k)
-
-some-none : {X : Type 0} (o : Option X) → is_some o ≡ true → is_none o ≡ true → ⊥
-some-none None h k = false≢true h
-some-none (Some x) h k = false≢true k
+absent-lacks name (leaf i rest) h =
+    cond_both (bytes_eq i.name name) _ _ (λ held. held ≡ absent → Lacks name (leaf i rest)) (λ e k. absurd (held-kind (is_some i.place) i.content k)) (λ e k. (e, absent-lacks name rest k)) h
+absent-lacks name (branch n place kids rest) h =
+    cond_both (bytes_eq n name) _ _ (λ held. held ≡ absent → Lacks name (branch n place kids rest)) (λ e k. cc) (λ e k. (e, absent-lacks name rest k)) h
 
 pub unmarked-absent : (r e : Held) → is_rule_kept r e ≡ true → is_none (spelled_by r e) ≡ true → (r ≡ absent) × (e ≡ absent)
-unmarked-absent absent absent h k = (refl, refl)
-unmarked-absent absent (plain t) h k = absurd (false≢true h)
-unmarked-absent absent other h k = absurd (false≢true h)
-unmarked-absent (plain t) e h k = absurd (some-none (spelled_by (plain t) e) h k)
-unmarked-absent other e h k = absurd (false≢true h)
+unmarked-absent r e h k = grind arith
 
 -- a label fits where its attributes are lacking
 fits-by : (restriction : Bytes) (ext : Option Bytes) (f : Forest) → Lacks (codes "restriction") f → Lacks (codes "ext-restriction") f → Fits (attributes_by restriction ext) f
@@ -69,9 +51,7 @@ accepted name place kids rest h = by_rule (is_rule_kept_in kids) (bad_below kids
   where
     by_rule : (b : Bool) (k r : Option Tokens) → option_or (option_map (λ t. steps name place ++ t) (if b then k else Some [])) r ≡ None →
         (b ≡ true) × (k ≡ None) × (r ≡ None)
-    by_rule true None r h = (refl, refl, h)
-    by_rule true (Some t) r h = cc
-    by_rule false k r h = cc
+    by_rule b k r h = grind arith
 
 module _ (es : List LocatedLine) (c : Case) (s : Standing) (under : AreUnderParents es) where
   pub labels-fit : (f : Forest) (d : ℕ) (p : Tokens) → AreBlocks es d p f → ArePlaced es p f → bad_below f ≡ None → LabelsFit (verdicts_of es c s) p f

@@ -1,8 +1,7 @@
 -- The kept outline is what the pass leaves.
-use Rattle.std.proofs.Common.{◌≡◌, ℕ, zero, suc, Bool, true, false, not, List, [], ◌∷◌, ◌++◌, refl, sym, ◌∙◌, ap, subst, append_assoc, arith, filter, if◌then◌else◌, ◌&&◌, ◌||◌}
-use Rattle.std.specs.Prelude.{Option, Some, None, is_some}
+use Rattle.std.proofs.Common.{◌≡◌, ℕ, zero, suc, Bool, true, false, not, List, [], ◌∷◌, ◌++◌, refl, sym, ◌∙◌, ap, subst, append_assoc, arith, filter, if◌then◌else◌, ◌&&◌, ◌||◌, Option, Some, None, is_some, true≢false}
 use Rattle.std.specs.List.{list_any}
-use Rattle.std.proofs.lemmas.Bool.{false≢true, true≢false, and_left, cond-true, cond-false}
+use Rattle.std.proofs.lemmas.Bool.{false≢true, and_left, cond-true, cond-false}
 use Rattle.std.proofs.lemmas.List.Folds.{list_any-append}
 use Rattle.iodef_tree.specs.Text.{Bytes, Tokens, is_root}
 use Rattle.iodef_tree.specs.Paths.{LocatedLine, is_class}
@@ -14,12 +13,11 @@ use Rattle.marking.proofs.Bad.{no_class-kind}
 use Rattle.marking.proofs.Marked.{not_root}
 use Rattle.redact.specs.Kept.{Attribute, Verdicts, put_all, attribute_lines, is_frame, is_visible_class, is_kept, added, labelled, kept}
 use Rattle.redact.specs.Judged.{judge, inside, keeps_plain, shows_label, home_at, left_before, new_place, left_with, moved, is_end, put_attributes, cut}
-use Rattle.redact.proofs.Puts.{IsShallow, attributes-append, attributes-lines}
+use Rattle.redact.proofs.Fates.{by_verdict}
+use Rattle.redact.proofs.Puts.{IsShallow, label-lines}
 
 in_array-kept : (n : ℕ) (place : Option ℕ) → is_some (new_place n place) ≡ is_some place
-in_array-kept n None = refl
-in_array-kept n (Some zero) = refl
-in_array-kept n (Some (suc k)) = refl
+in_array-kept n place = grind arith
 
 pub leaf_line-moved : (d n : ℕ) (i : Leaf) → leaf_line d (moved n i) ≡ leaf_line d i
 leaf_line-moved d n i =
@@ -78,93 +76,53 @@ module _ (v : Verdicts) where
     where
       ends-class : (visible ended below behind : Bool) (shown framed gone : Forest) → is_end shown ≡ false → is_end framed ≡ false → ended ≡ not below → is_end gone ≡ not behind →
           is_end (if visible then shown else (if ended then gone else framed)) ≡ not (visible || (below || behind))
-      ends-class true ended below behind shown framed gone s f e g = s
-      ends-class false true true behind shown framed gone s f e g = absurd (true≢false e)
-      ends-class false true false behind shown framed gone s f e g = g
-      ends-class false false true behind shown framed gone s f e g = f
-      ends-class false false false behind shown framed gone s f e g = absurd (false≢true e)
+      ends-class visible ended below behind shown framed gone s f e g = grind arith
 
 end-lines : (d : ℕ) (f : Forest) → is_end f ≡ true → lines d f ≡ []
 end-lines d end h = refl
-end-lines d (leaf i rest) h = absurd (false≢true h)
-end-lines d (branch name place kids rest) h = absurd (false≢true h)
-
--- a class line with the lines behind it, where the class is visible, is a frame, or is wholly hidden
-choose_class : (visible holds says : Bool) (d n : ℕ) (name : Bytes) (place : Option ℕ) (label : List Attribute) (X E : List Line) (inner : Bool → Forest) (dropped behind : Forest) →
-    IsShallow d E → (visible ≡ false → is_end (inner false) ≡ not holds) →
-    X ≡ lines (suc d) (inner visible) ++ (lines d behind ++ E) → X ≡ lines (suc d) (inner visible) ++ (lines d dropped ++ E) →
-    (if visible || (not visible && holds) then class_line d name place ∷ put_all (if visible && says then attribute_lines (suc d) label else []) X else X)
-    ≡ lines d (if visible then branch name (new_place n place) (if says then put_attributes label (inner true) else inner true) behind
-    else (if is_end (inner false) then dropped else branch name (new_place n place) (inner false) behind)) ++ E
-choose_class true holds true d n name place label X E inner dropped behind shallow bare here gone =
-    ap (λ l. l ∷ put_all (attribute_lines (suc d) label) X) (sym (class_line-moved d n name place))
-    ∙ ap (λ ls. class_line d name (new_place n place) ∷ ls) (
-    ap (put_all (attribute_lines (suc d) label)) here
-    ∙ attributes-append (suc d) label (lines (suc d) (inner true)) (lines d behind ++ E) (lines-shallow behind d E shallow)
-    ∙ ap (λ ls. ls ++ (lines d behind ++ E)) (attributes-lines (suc d) label (inner true))
-    ∙ sym (append_assoc (lines (suc d) (put_attributes label (inner true))) (lines d behind) E))
-choose_class true holds false d n name place label X E inner dropped behind shallow bare here gone =
-    ap (λ l. l ∷ X) (sym (class_line-moved d n name place))
-    ∙ ap (λ ls. class_line d name (new_place n place) ∷ ls) (here ∙ sym (append_assoc (lines (suc d) (inner true)) (lines d behind) E))
-choose_class false true says d n name place label X E inner dropped behind shallow bare here gone =
-    ap (λ l. l ∷ X) (sym (class_line-moved d n name place))
-    ∙ ap (λ ls. class_line d name (new_place n place) ∷ ls) (here ∙ sym (append_assoc (lines (suc d) (inner false)) (lines d behind) E))
-    ∙ ap (λ f. lines d f ++ E) (sym (cond-false (is_end (inner false)) dropped (branch name (new_place n place) (inner false) behind) (bare refl)))
-choose_class false false says d n name place label X E inner dropped behind shallow bare here gone =
-    gone ∙ ap (λ ls. ls ++ (lines d dropped ++ E)) (end-lines (suc d) (inner false) (bare refl))
-    ∙ ap (λ f. lines d f ++ E) (sym (cond-true (is_end (inner false)) dropped (branch name (new_place n place) (inner false) behind) (bare refl)))
+end-lines d _ h = absurd (false≢true h)
 
 module _ (v : Verdicts) where
-  kept-plain : (e : LocatedLine) (es : List LocatedLine) → is_class e ≡ false →
-      kept v (e ∷ es) ≡ (if is_root e.parent || v.visible e.parent then e.line ∷ kept v es else kept v es)
-  kept-plain e es h =
-      ap (λ b. labelled v (if b then e ∷ filter (is_kept v) es else filter (is_kept v) es)) (cond-false (is_class e) _ _ h)
-      ∙ elim (is_root e.parent || v.visible e.parent) as (λ b. labelled v (if b then e ∷ filter (is_kept v) es else filter (is_kept v) es) ≡ (if b then e.line ∷ kept v es else kept v es)) [
-        | true ↦ ap (λ b. e.line ∷ put_all (if b then attribute_lines (suc e.line.depth) (v.label e.path) else []) (kept v es)) (and_left (is_class e) _ h)
-        | false ↦ refl
-      ]
-
-  kept-class : (e : LocatedLine) (es : List LocatedLine) → is_class e ≡ true →
-      kept v (e ∷ es) ≡ (if v.visible e.path || is_frame v e.path then e.line ∷ put_all (added v e) (kept v es) else kept v es)
-  kept-class e es h =
-      ap (λ b. labelled v (if b then e ∷ filter (is_kept v) es else filter (is_kept v) es)) (cond-true (is_class e) _ _ h)
-      ∙ elim (v.visible e.path || is_frame v e.path) as (λ b. labelled v (if b then e ∷ filter (is_kept v) es else filter (is_kept v) es) ≡ (if b then e.line ∷ put_all (added v e) (kept v es) else kept v es)) [ true ↦ refl | false ↦ refl ]
+  kept-next : (e : LocatedLine) (es : List LocatedLine) → kept v (e ∷ es) ≡ (if is_kept v e then e.line ∷ put_all (added v e) (kept v es) else kept v es)
+  kept-next e es =
+      elim (is_kept v e) as (λ b. labelled v (if b then e ∷ filter (is_kept v) es else filter (is_kept v) es) ≡ (if b then e.line ∷ put_all (added v e) (kept v es) else kept v es)) [ true ↦ refl | false ↦ refl ]
 
   pub kept-cut : (f : Forest) (d : ℕ) (p : Tokens) (n : ℕ) (es : List LocatedLine) → SaysBelow v d p f → IsShallow d (kept v es) →
       kept v (walk d p f ++ es) ≡ lines d (cut (home_at v p) n (judge v p f)) ++ kept v es
   kept-cut end d p n es says shallow = refl
   kept-cut (leaf i rest) d p n es says shallow =
-      let e = leaf_entry d p i in
       let h = home_at v p in
-      let E = kept v es in
       let W = kept v (walk d p rest ++ es) in
       let J = judge v p rest in
-      kept-plain e (walk d p rest ++ es) (no_class-kind i.content)
-      ∙ ap (λ b. if b then leaf_line d i ∷ W else W) (keeps-home v p)
-      ∙ elim (keeps_plain h) as (λ b. (if b then leaf_line d i ∷ W else W)
-      ≡ lines d (if b then leaf (moved n i) (cut h (left_with n i.place) J) else cut h (left_before n i.place) J) ++ E) [
-        | true ↦ ap (λ l. l ∷ W) (sym (leaf_line-moved d n i)) ∙ ap (λ ls. leaf_line d (moved n i) ∷ ls) (kept-cut rest d p (left_with n i.place) es says shallow)
+      kept-next (leaf_entry d p i) (walk d p rest ++ es)
+      ∙ rw (no_class-kind i.content, keeps-home v p)
+      (elim (keeps_plain h) as (λ b. (if b then leaf_line d i ∷ W else W) ≡ lines d (if b then leaf (moved n i) (cut h (left_with n i.place) J) else cut h (left_before n i.place) J) ++ kept v es) [
+        | true ↦ rw (leaf_line-moved d n i, kept-cut rest d p (left_with n i.place) es says shallow)
         | false ↦ kept-cut rest d p (left_before n i.place) es says shallow
-      ]
+      ])
   kept-cut (branch name place kids rest) d p n es says shallow =
-      let e = class_entry d p name place in
       let q = p ++ steps name place in
       let h = home_at v p in
       let K = walk (suc d) q kids in
       let R = walk d p rest in
       let E = kept v es in
-      let J = judge v p rest in
+      let X = kept v ((K ++ R) ++ es) in
       let inner = λ (b : Bool). cut (inside b) 0 (judge v q kids) in
-      let behind = λ (m : ℕ). cut h m J in
-      let all : (m : ℕ) → kept v ((K ++ R) ++ es) ≡ lines (suc d) (inner (v.visible q)) ++ (lines d (behind m) ++ E) = λ m.
+      let behind = λ (m : ℕ). cut h m (judge v p rest) in
+      let own = v.unmarked q && not (shows_label h) in
+      let line = class_line d name place in
+      let all : (m : ℕ) → X ≡ lines (suc d) (inner (v.visible q)) ++ (lines d (behind m) ++ E) = λ m.
       let after : kept v (R ++ es) ≡ lines d (behind m) ++ E = kept-cut rest d p m es says.2 shallow in
-      ap (kept v) (append_assoc K R es)
-      ∙ kept-cut kids (suc d) q 0 (R ++ es) says.1 (subst (IsShallow (suc d)) (sym after) (lines-shallow (behind m) d E shallow))
-      ∙ ap (λ g. lines (suc d) (cut g 0 (judge v q kids)) ++ kept v (R ++ es)) (home-class v p name place)
-      ∙ ap (λ ls. lines (suc d) (inner (v.visible q)) ++ ls) after in
-      kept-class e ((K ++ R) ++ es) refl
-      ∙ ap (λ b. if v.visible q || is_frame v q then class_line d name place ∷ put_all (if v.visible q && (v.unmarked q && not b) then attribute_lines (suc d) (v.label q) else []) (kept v ((K ++ R) ++ es)) else kept v ((K ++ R) ++ es)) (shows-home v p)
-      ∙ choose_class (v.visible q) (v.holds_visible q) (v.unmarked q && not (shows_label h)) d n name place (v.label q) (kept v ((K ++ R) ++ es)) E
-      inner (behind (left_before n place)) (behind (left_with n place)) shallow
-      (λ hidden. ends v kids (suc d) q 0 ∙ ap not (sym says.0))
-      (all (left_with n place)) (all (left_before n place))
+      rw (append_assoc K R es, kept-cut kids (suc d) q 0 (R ++ es) says.1 (subst (IsShallow (suc d)) (sym after) (lines-shallow (behind m) d E shallow)), after, home-class v p name place) in
+      kept-next (class_entry d p name place) ((K ++ R) ++ es)
+      ∙ rw (shows-home v p)
+      (by_verdict (λ visible holds ended. is_end (inner false) ≡ ended → ((m : ℕ) → X ≡ lines (suc d) (inner visible) ++ (lines d (behind m) ++ E)) →
+      (if visible || (not visible && holds) then line ∷ put_all (if visible && own then attribute_lines (suc d) (v.label q) else []) X else X)
+      ≡ lines d (if visible then branch name (new_place n place) (if own then put_attributes (v.label q) (inner true) else inner true) (behind (left_with n place))
+      else (if ended then behind (left_before n place) else branch name (new_place n place) (inner false) (behind (left_with n place)))) ++ E)
+      (v.visible q) (v.holds_visible q) (is_end (inner false)) (λ hidden. ends v kids (suc d) q 0 ∙ ap not (sym says.0))
+      (λ holds ended _ left. rw (left (left_with n place), class_line-moved d n name place, append_assoc)
+      (ap (λ ls. line ∷ ls) (label-lines own (suc d) (v.label q) (inner true) _ (lines-shallow (behind (left_with n place)) d E shallow))))
+      (λ _ left. rw (left (left_with n place), class_line-moved d n name place, append_assoc))
+      (λ none left. rw (left (left_before n place), end-lines (suc d) (inner false) none))
+      refl all)

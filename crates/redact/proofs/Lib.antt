@@ -3,14 +3,10 @@ pub mod Keeping
 pub mod Places
 pub mod Withheld
 pub mod Counts
-pub mod Below
 pub mod Ordered
 pub mod Sizes
-pub mod Sound
-pub mod Passed
 pub mod Fitting
 pub mod Whole
-pub mod Ended
 pub mod Listing
 pub mod Fronts
 pub mod Going

@@ -1,11 +1,8 @@
 -- The order in which what is withheld is listed.
-use Rattle.std.proofs.Common.{◌≡◌, Bool, List, [], ◌∷◌, true, false, ◌||◌, refl, arith, sym, ◌∙◌, ap, rules, if◌then◌else◌}
-use Rattle.std.specs.Prelude.{codes, Some, Contains}
+use Rattle.std.proofs.Common.{◌≡◌, Bool, List, [], ◌∷◌, true, false, ◌||◌, refl, arith, sym, ◌∙◌, ap, rules, if◌then◌else◌, codes, Some, Contains, bytes_eq, IsPermutation, IsSorted}
 use Rattle.std.specs.List.{dedup, list_any}
 use Rattle.std.specs.Cmp.{IsTotalOrder, IsEquivalence}
 use Rattle.std.specs.Cmp.Rules.{comparing}
-use Rattle.std.specs.Str.{bytes_eq}
-use Rattle.std.specs.List.Sorted.{IsPermutation, IsSorted}
 use Rattle.std.proofs.lemmas.Bool.{and_parts, false≢true}
 use Rattle.std.proofs.lemmas.Map.Views.{Contains-from_any, list_any-from_Contains}
 use Rattle.std.proofs.lemmas.List.Sorted.{Contains-permutation, IsPermutation-sym}
@@ -36,21 +33,7 @@ named t =
 
 named-name : (r : Rule) → named (name_of r) ≡ r
 named-name Src = refl
-named-name P = refl
-named-name O = refl
-named-name C = refl
-named-name M = refl
-named-name A = refl
-named-name X = refl
-named-name G0 = refl
-named-name G1 = refl
-named-name G2 = refl
-named-name G4 = refl
-named-name G4X = refl
-named-name HGreen = refl
-named-name HAmber = refl
-named-name HStrict = refl
-named-name HRed = refl
+named-name _ = refl
 
 from_some : (p q : Tokens) → pointer_text p ≡ pointer_text q → p ≡ q
 from_some p q e =
@@ -92,14 +75,8 @@ any-known test r (x ∷ rs) e = step (bytes_eq (name_of x) (name_of r)) refl e (
     same : bytes_eq (name_of x) (name_of r) ≡ true → x ≡ r
     same h = sym (named-name x) ∙ ap named (bytes_eq-true (name_of x) (name_of r) h) ∙ named-name r
 
-    twice : (a b : Bool) → (a || b) ≡ ((a || b) || a)
-    twice a b = grind arith
-
-    later : (a b d : Bool) → b ≡ (b || d) → (a || b) ≡ ((a || b) || d)
-    later a b d h = grind arith
-
     step : (k : Bool) → bytes_eq (name_of x) (name_of r) ≡ k → (k || list_any (λ y. bytes_eq (name_of y) (name_of r)) rs) ≡ true →
         (list_any (λ y. bytes_eq (name_of y) (name_of r)) rs ≡ true → list_any test rs ≡ (list_any test rs || test r)) →
         (test x || list_any test rs) ≡ ((test x || list_any test rs) || test r)
-    step true is h behind = twice (test x) (list_any test rs) ∙ ap (λ y. (test x || list_any test rs) || test y) (same is)
-    step false is h behind = later (test x) (list_any test rs) (test r) (behind h)
+    step true is h behind = let e = ap test (same is) in grind (arith, e)
+    step false is h behind = let e = behind h in grind (arith, e)

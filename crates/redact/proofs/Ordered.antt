@@ -1,117 +1,71 @@
 -- What is left of a document is in order: names ascend, and the elements of an array are numbered.
-use Rattle.std.proofs.Common.{◌≡◌, ℕ, zero, suc, Bool, true, false, not, List, [], ◌∷◌, ◌++◌, refl, sym, ◌∙◌, ap, subst, if◌then◌else◌, ◌&&◌, ◌==◌, ◌⊎◌, inl, inr, Ordering, Less, Equal, Greater, is_eq}
-use Rattle.std.specs.Prelude.{Option, Some, None}
+use Rattle.std.proofs.Common.{◌≡◌, ℕ, zero, suc, Bool, true, false, not, List, [], ◌∷◌, ◌++◌, refl, sym, ◌∙◌, ap, subst, ◌&&◌, ◌==◌, Ordering, Less, Equal, Greater, is_eq, is_lt, nat_cmp, Option, Some, None, bytes_eq, true≢false, eq-eqb}
 use Rattle.std.specs.List.{AllByRecursion}
-use Rattle.std.specs.Str.{bytes_eq}
-use Rattle.std.specs.Ordering.{nat_cmp, is_lt, ordering_reverse}
+use Rattle.std.specs.Ordering.{ordering_reverse}
 use Rattle.std.specs.Cmp.Lexicographic.{slice_cmp}
-use Rattle.std.proofs.lemmas.Bool.{true≢false, false≢true, and_parts, eq-eqb}
+use Rattle.std.proofs.lemmas.Bool.{false≢true, and_parts, cond_both}
 use Rattle.std.proofs.lemmas.Cmp.{nat_list_cmp_total}
 use Rattle.std.proofs.lemmas.Map.Text.{is_eq-slice_cmp}
 use Rattle.iodef_tree.specs.Text.{Bytes, Tokens, bytes_lt}
 use Rattle.iodef_tree.specs.Tree.{Leaf, Forest, end, leaf, branch, steps}
-use Rattle.iodef_tree.specs.Sound.{SiblingPlace, may_stand_behind, may_stand_first, may_stand, IsOrderedBehind, IsOrdered}
+use Rattle.iodef_tree.specs.Sound.{SiblingPlace, may_stand, IsOrderedBehind, IsOrdered}
 use Rattle.iodef_tree.specs.Laws.{AllSiblings}
-use Rattle.iodef_tree.proofs.Order.{is_false, bytes_eq-refl, bytes_eq-true, bytes_lt-trans, bytes_lt-ne}
+use Rattle.iodef_tree.proofs.Order.{bytes_eq-true, bytes_lt-less, bytes_lt-trans}
 use Rattle.redact.specs.Kept.{Attribute, Verdicts}
-use Rattle.redact.proofs.Fates.{by_fate, put-keeps}
-use Rattle.redact.specs.Judged.{judge, judgment_at, Home, inside, keeps_plain, shows_label, left_before, new_place, left_with, moved, is_end, put_leaf, attribute_leaf, put_attributes, with_label, cut}
+use Rattle.redact.specs.Judged.{judge, judgment_at, Home, inside, keeps_plain, shows_label, left_before, new_place, left_with, is_end, put_leaf, attribute_leaf, put_attributes, with_label, cut}
+use Rattle.redact.proofs.Fates.{new_place-before, by_fate, put-keeps}
 
 -- ---- the order of names
 
-lt-self : (x : Bytes) → bytes_lt x x ≡ false
-lt-self x = is_false (bytes_lt x x) (λ h. true≢false (sym (bytes_eq-refl x) ∙ bytes_lt-ne x x h))
-
 lt-back : (x y : Bytes) → bytes_lt x y ≡ true → bytes_lt y x ≡ false
-lt-back x y h = is_false (bytes_lt y x) (λ k. true≢false (sym (bytes_lt-trans x y x h k) ∙ lt-self x))
+lt-back x y h = ap is_lt (nat_list_cmp_total.antisymm y x ∙ ap ordering_reverse (bytes_lt-less x y h))
 
--- of two texts, the first isn't before the other: it is the same, or behind
-not-lt : (x y : Bytes) → bytes_lt x y ≡ false → (x ≡ y) ⊎ (bytes_lt y x ≡ true)
-not-lt x y h = by_order (slice_cmp nat_cmp x y) refl h
-  where
-    by_order : (o : Ordering) → slice_cmp nat_cmp x y ≡ o → is_lt o ≡ false → (x ≡ y) ⊎ (bytes_lt y x ≡ true)
-    by_order Less e k = absurd (true≢false k)
-    by_order Equal e k = inl (bytes_eq-true x y (sym (is_eq-slice_cmp x y) ∙ ap is_eq e))
-    by_order Greater e k = inr (ap is_lt (nat_list_cmp_total.antisymm y x ∙ ap ordering_reverse e))
-
-le-lt : (x y z : Bytes) → bytes_lt y x ≡ false → bytes_lt y z ≡ true → bytes_lt x z ≡ true
-le-lt x y z h k = by_order (not-lt y x h)
-  where
-    by_order : (y ≡ x) ⊎ (bytes_lt x y ≡ true) → bytes_lt x z ≡ true
-    by_order (inl e) = subst (λ w. bytes_lt w z ≡ true) e k
-    by_order (inr l) = bytes_lt-trans x y z l k
-
+-- of two names that differ, the first is before the other or behind it
 later : (x y : Bytes) → bytes_eq x y ≡ false → bytes_lt y x ≡ false → bytes_lt x y ≡ true
-later x y differ h = by_order (not-lt y x h)
+later x y differ h = by_order (slice_cmp nat_cmp x y) refl
   where
-    by_order : (y ≡ x) ⊎ (bytes_lt x y ≡ true) → bytes_lt x y ≡ true
-    by_order (inl e) = absurd (true≢false (sym (bytes_eq-refl x) ∙ ap (bytes_eq x) (sym e) ∙ differ))
-    by_order (inr l) = l
+    by_order : (o : Ordering) → slice_cmp nat_cmp x y ≡ o → bytes_lt x y ≡ true
+    by_order Less e = ap is_lt e
+    by_order Equal e = absurd (true≢false (sym (sym (is_eq-slice_cmp x y) ∙ ap is_eq e) ∙ differ))
+    by_order Greater e = absurd (true≢false (sym (ap is_lt (nat_list_cmp_total.antisymm y x ∙ ap ordering_reverse e)) ∙ h))
 
 -- ---- siblings that are left out
 
--- How the last sibling that is left stands to the last one of the document, with so many elements of its array left.
+-- What may stand behind the last sibling of the document, when n elements of its array are left, may stand at its new place
+-- behind the last one that is left.
 abbrev pub Trails : Option SiblingPlace → Option SiblingPlace → ℕ → Type 0
-Trails None None n = Unit {0}
-Trails None (Some s) n = ⊥
-Trails (Some (a, None)) None n = Unit {0}
-Trails (Some (a, Some k)) None n = n ≡ 0
-Trails (Some (a, None)) (Some (b, o)) n = bytes_lt a b ≡ false
-Trails (Some (a, Some k)) (Some (b, o)) n = ((n ≡ 0) × (bytes_lt b a ≡ true)) ⊎ ((m : ℕ) × ((n ≡ suc m) × (o ≡ Some m) × (b ≡ a)))
+Trails before before' n = (name : Bytes) (place : Option ℕ) → may_stand before name place ≡ true → may_stand before' name (new_place n place) ≡ true
 
--- the name of what is left isn't behind that of what stands in the document
-lt-after : (a b name : Bytes) (o o' : Option ℕ) (n : ℕ) → Trails (Some (a, o)) (Some (b, o')) n → bytes_lt a name ≡ true → bytes_lt b name ≡ true
-lt-after a b name None o' n t h = le-lt b a name t h
-lt-after a b name (Some k) o' n (inl t) h = bytes_lt-trans b a name t.1 h
-lt-after a b name (Some k) o' n (inr t) h = subst (λ x. bytes_lt x name ≡ true) (sym t.1.2) h
+pub trails-none : Trails None None 0
+trails-none name None h = refl
+trails-none name (Some zero) h = refl
+trails-none name (Some (suc k)) h = refl
 
--- a sibling may stand where it comes behind fewer
-pub stands-left : (before before' : Option SiblingPlace) (n : ℕ) (name : Bytes) (place : Option ℕ) →
-    Trails before before' n → may_stand before name place ≡ true → may_stand before' name (new_place n place) ≡ true
-stands-left None None n name None t h = refl
-stands-left None None n name (Some zero) t h = refl
-stands-left None None n name (Some (suc k)) t h = absurd (false≢true h)
-stands-left None (Some s) n name place t h = absurd t
-stands-left (Some (a, o)) None n name None t h = refl
-stands-left (Some (a, o)) None n name (Some zero) t h = refl
-stands-left (Some (a, None)) None n name (Some (suc k)) t h = absurd (false≢true h)
-stands-left (Some (a, Some j)) None n name (Some (suc k)) t h = ap (λ m. may_stand_first (Some m)) t
-stands-left (Some (a, o)) (Some (b, o')) n name None t h = lt-after a b name o o' n t h
-stands-left (Some (a, o)) (Some (b, o')) n name (Some zero) t h = lt-after a b name o o' n t h
-stands-left (Some (a, None)) (Some (b, o')) n name (Some (suc k)) t h = absurd (false≢true h)
-stands-left (Some (a, Some j)) (Some (b, o')) n name (Some (suc k)) (inl t) h =
-    let parts = and_parts (bytes_eq a name) (j == k) h in
-    ap (λ m. may_stand_behind (b, o') name (Some m)) t.0 ∙ subst (λ x. bytes_lt b x ≡ true) (bytes_eq-true a name parts.0) t.1
-stands-left (Some (a, Some j)) (Some (b, o')) n name (Some (suc k)) (inr t) h =
-    let parts = and_parts (bytes_eq a name) (j == k) h in
-    ap (λ m. may_stand_behind (b, o') name (Some m)) t.1.0
-    ∙ ap (λ o. may_stand_behind (b, o) name (Some (suc t.0))) t.1.1
-    ∙ ap (λ x. bytes_eq x name && (t.0 == t.0)) t.1.2
-    ∙ ap (λ x. x && (t.0 == t.0)) parts.0
-    ∙ eq-eqb t.0 t.0 refl
+-- behind one that is left
+trails-left : (n : ℕ) (a : Bytes) (o : Option ℕ) → Trails (Some (a, o)) (Some (a, new_place n o)) (left_with n o)
+trails-left n a o name None h = h
+trails-left n a o name (Some zero) h = h
+trails-left n a None name (Some (suc k)) h = absurd (false≢true h)
+trails-left n a (Some zero) name (Some (suc k)) h = rw (and_parts (bytes_eq a name) (0 == k) h).0
+trails-left n a (Some (suc j)) name (Some (suc k)) h = rw ((and_parts (bytes_eq a name) (suc j == k) h).0, eq-eqb n n refl)
 
-pub trails-left : (n : ℕ) (name : Bytes) (place : Option ℕ) → Trails (Some (name, place)) (Some (name, new_place n place)) (left_with n place)
-trails-left n name None = lt-self name
-trails-left n name (Some zero) = inr (0, (refl, refl, refl))
-trails-left n name (Some (suc k)) = inr (n, (refl, refl, refl))
+-- what begins with a later name may stand where a sibling may
+may-later : (before : Option SiblingPlace) (a : Bytes) (o : Option ℕ) (name : Bytes) → may_stand before a o ≡ true → bytes_lt a name ≡ true →
+    (may_stand before name None ≡ true) × (may_stand before name (Some 0) ≡ true)
+may-later None a o name h lt = (refl, refl)
+may-later (Some (b, o')) a None name h lt = let k = bytes_lt-trans b a name h lt in (k, k)
+may-later (Some (b, o')) a (Some zero) name h lt = let k = bytes_lt-trans b a name h lt in (k, k)
+may-later (Some (b, None)) a (Some (suc i)) name h lt = absurd (false≢true h)
+may-later (Some (b, Some j)) a (Some (suc i)) name h lt =
+    let k = subst (λ x. bytes_lt x name ≡ true) (sym (bytes_eq-true b a (and_parts (bytes_eq b a) (j == i) h).0)) lt in (k, k)
 
-pub trails-dropped : (before before' : Option SiblingPlace) (n : ℕ) (name : Bytes) (place : Option ℕ) →
-    Trails before before' n → may_stand before name place ≡ true → Trails (Some (name, place)) before' (left_before n place)
-trails-dropped None None n name None t h = tt
-trails-dropped None None n name (Some zero) t h = refl
-trails-dropped None None n name (Some (suc k)) t h = absurd (false≢true h)
-trails-dropped None (Some s) n name place t h = absurd t
-trails-dropped (Some (a, o)) None n name None t h = tt
-trails-dropped (Some (a, o)) None n name (Some zero) t h = refl
-trails-dropped (Some (a, None)) None n name (Some (suc k)) t h = absurd (false≢true h)
-trails-dropped (Some (a, Some j)) None n name (Some (suc k)) t h = t
-trails-dropped (Some (a, o)) (Some (b, o')) n name None t h = lt-back b name (lt-after a b name o o' n t h)
-trails-dropped (Some (a, o)) (Some (b, o')) n name (Some zero) t h = inl (refl, lt-after a b name o o' n t h)
-trails-dropped (Some (a, None)) (Some (b, o')) n name (Some (suc k)) t h = absurd (false≢true h)
-trails-dropped (Some (a, Some j)) (Some (b, o')) n name (Some (suc k)) (inl t) h =
-    let parts = and_parts (bytes_eq a name) (j == k) h in inl (t.0, subst (λ x. bytes_lt b x ≡ true) (bytes_eq-true a name parts.0) t.1)
-trails-dropped (Some (a, Some j)) (Some (b, o')) n name (Some (suc k)) (inr t) h =
-    let parts = and_parts (bytes_eq a name) (j == k) h in inr (t.0, (t.1.0, t.1.1, t.1.2 ∙ bytes_eq-true a name parts.0))
+-- behind one that isn't
+trails-dropped : (before before' : Option SiblingPlace) (n : ℕ) (a : Bytes) (o : Option ℕ) → Trails before before' n → may_stand before a o ≡ true → Trails (Some (a, o)) before' (left_before n o)
+trails-dropped before before' n a o t h name None lt = t name None (may-later before a o name h lt).0
+trails-dropped before before' n a o t h name (Some zero) lt = t name (Some 0) (may-later before a o name h lt).1
+trails-dropped before before' n a None t h name (Some (suc k)) lt = absurd (false≢true lt)
+trails-dropped before before' n a (Some j) t h name (Some (suc k)) lt =
+    subst (λ x. may_stand before' x (Some (left_before n (Some j))) ≡ true) (bytes_eq-true a name (and_parts (bytes_eq a name) (j == k) lt).0) (rw (new_place-before n j) at (t a (Some j) h))
 
 -- ---- attributes that are put in
 
@@ -137,19 +91,13 @@ put-ordered : (f : Forest) (before : Option SiblingPlace) (a : Attribute) → Is
     IsOrderedBehind before (put_leaf (attribute_leaf a) f)
 put-ordered end before a order all h = (h, tt)
 put-ordered (leaf i rest) before a order all h =
-    by_name (bytes_lt a.0 i.name) refl (λ k. put-ordered rest (Some (i.name, i.place)) a order.1 all.1 (later i.name a.0 all.0 k))
-  where
-    by_name : (b : Bool) → bytes_lt a.0 i.name ≡ b → (bytes_lt a.0 i.name ≡ false → IsOrderedBehind (Some (i.name, i.place)) (put_leaf (attribute_leaf a) rest)) →
-        IsOrderedBehind before (if b then leaf (attribute_leaf a) (leaf i rest) else leaf i (put_leaf (attribute_leaf a) rest))
-    by_name true e next = (h, (stands-put before a.0 i.name i.place h order.0 e, order.1))
-    by_name false e next = (order.0, next e)
+    cond_both (bytes_lt a.0 i.name) _ _ (IsOrderedBehind before)
+    (λ lt. (h, (stands-put before a.0 i.name i.place h order.0 lt, order.1)))
+    (λ ge. (order.0, put-ordered rest (Some (i.name, i.place)) a order.1 all.1 (later i.name a.0 all.0 ge)))
 put-ordered (branch name place kids rest) before a order all h =
-    by_name (bytes_lt a.0 name) refl (λ k. put-ordered rest (Some (name, place)) a order.2 all.1 (later name a.0 all.0 k))
-  where
-    by_name : (b : Bool) → bytes_lt a.0 name ≡ b → (bytes_lt a.0 name ≡ false → IsOrderedBehind (Some (name, place)) (put_leaf (attribute_leaf a) rest)) →
-        IsOrderedBehind before (if b then leaf (attribute_leaf a) (branch name place kids rest) else branch name place kids (put_leaf (attribute_leaf a) rest))
-    by_name true e next = (h, (stands-put before a.0 name place h order.0 e, order.1, order.2))
-    by_name false e next = (order.0, order.1, next e)
+    cond_both (bytes_lt a.0 name) _ _ (IsOrderedBehind before)
+    (λ lt. (h, (stands-put before a.0 name place h order.0 lt, order.1, order.2)))
+    (λ ge. (order.0, order.1, put-ordered rest (Some (name, place)) a order.2 all.1 (later name a.0 all.0 ge)))
 
 -- the members lack the attributes of the label, whose names differ
 abbrev pub Fits : List Attribute → Forest → Type 0
@@ -178,10 +126,7 @@ module _ (v : Verdicts) where
   pub lacks-cut : (x : Bytes) (f : Forest) (h : Home) (p : Tokens) (n : ℕ) → Lacks x f → Lacks x (cut h n (judge v p f))
   lacks-cut x end h p n all = tt
   lacks-cut x (leaf i rest) h p n all =
-      elim (keeps_plain h) as (λ b. Lacks x (if b then leaf (moved n i) (cut h (left_with n i.place) (judge v p rest)) else cut h (left_before n i.place) (judge v p rest))) [
-        | true ↦ (all.0, lacks-cut x rest h p (left_with n i.place) all.1)
-        | false ↦ lacks-cut x rest h p (left_before n i.place) all.1
-      ]
+      cond_both (keeps_plain h) _ _ (Lacks x) (λ _. (all.0, lacks-cut x rest h p (left_with n i.place) all.1)) (λ _. lacks-cut x rest h p (left_before n i.place) all.1)
   lacks-cut x (branch name place kids rest) h p n all =
       let after : (bytes_eq name x ≡ false) × Lacks x (cut h (left_with n place) (judge v p rest)) = (all.0, lacks-cut x rest h p (left_with n place) all.1) in
       by_fate (Lacks x) (v.visible (p ++ steps name place)) (is_end (cut (inside false) 0 (judge v (p ++ steps name place) kids))) _ _ _ after after (lacks-cut x rest h p (left_before n place) all.1)
@@ -191,30 +136,23 @@ module _ (v : Verdicts) where
   fits-cut (a ∷ rest) f h p n fits = (lacks-cut a.0 f h p n fits.0, fits.1, fits-cut rest f h p n fits.2)
 
   label-ordered : (h : Home) (p : Tokens) (f : Forest) → IsOrdered f → (v.unmarked p ≡ true → Fits (v.label p) f) → IsOrdered (with_label h (judgment_at v p) f)
-  label-ordered h p f order fits = by_label (v.unmarked p) (shows_label h) fits
-    where
-      by_label : (u s : Bool) → (u ≡ true → Fits (v.label p) f) → IsOrdered (if u && not s then put_attributes (v.label p) f else f)
-      by_label true false fits = attributes-ordered (v.label p) f order (fits refl)
-      by_label true true fits = order
-      by_label false s fits = order
+  label-ordered h p f order fits =
+      cond_both (v.unmarked p && not (shows_label h)) _ _ IsOrdered (λ says. attributes-ordered (v.label p) f order (fits (and_parts (v.unmarked p) _ says).0)) (λ _. order)
 
   pub ordered-cut : (f : Forest) (h : Home) (p : Tokens) (n : ℕ) (before before' : Option SiblingPlace) → IsOrderedBehind before f → LabelsFit p f → Trails before before' n →
       IsOrderedBehind before' (cut h n (judge v p f))
   ordered-cut end h p n before before' order fit t = tt
   ordered-cut (leaf i rest) h p n before before' order fit t =
-      elim (keeps_plain h) as (λ b. IsOrderedBehind before' (if b then leaf (moved n i) (cut h (left_with n i.place) (judge v p rest)) else cut h (left_before n i.place) (judge v p rest))) [
-        | true ↦ (
-          stands-left before before' n i.name i.place t order.0,
-          ordered-cut rest h p (left_with n i.place) (Some (i.name, i.place)) (Some (i.name, new_place n i.place)) order.1 fit (trails-left n i.name i.place),
-        )
-        | false ↦ ordered-cut rest h p (left_before n i.place) (Some (i.name, i.place)) before' order.1 fit (trails-dropped before before' n i.name i.place t order.0)
-      ]
+      cond_both (keeps_plain h) _ _ (IsOrderedBehind before')
+      (λ _. (t i.name i.place order.0, ordered-cut rest h p (left_with n i.place) (Some (i.name, i.place)) (Some (i.name, new_place n i.place)) order.1 fit (trails-left n i.name i.place)))
+      (λ _. ordered-cut rest h p (left_before n i.place) (Some (i.name, i.place)) before' order.1 fit (trails-dropped before before' n i.name i.place t order.0))
   ordered-cut (branch name place kids rest) h p n before before' order fit t =
       let q = p ++ steps name place in
       let J = judge v q kids in
-      let stands = stands-left before before' n name place t order.0 in
+      let below : (b : Bool) → IsOrdered (cut (inside b) 0 J) = λ b. ordered-cut kids (inside b) q 0 None None order.1 fit.1 trails-none in
+      let stands = t name place order.0 in
       let after = ordered-cut rest h p (left_with n place) (Some (name, place)) (Some (name, new_place n place)) order.2 fit.2 (trails-left n name place) in
       by_fate (IsOrderedBehind before') (v.visible q) (is_end (cut (inside false) 0 J)) _ _ _
-      (stands, label-ordered h q (cut (inside true) 0 J) (ordered-cut kids (inside true) q 0 None None order.1 fit.1 tt) (λ u. fits-cut (v.label q) kids (inside true) q 0 (fit.0 u)), after)
-      (stands, ordered-cut kids (inside false) q 0 None None order.1 fit.1 tt, after)
+      (stands, label-ordered h q (cut (inside true) 0 J) (below true) (λ u. fits-cut (v.label q) kids (inside true) q 0 (fit.0 u)), after)
+      (stands, below false, after)
       (ordered-cut rest h p (left_before n place) (Some (name, place)) before' order.2 fit.2 (trails-dropped before before' n name place t order.0))

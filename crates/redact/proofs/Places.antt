@@ -1,9 +1,8 @@
 -- Where the kept classes of a document stand in its excerpt.
-use Rattle.std.proofs.Common.{◌≡◌, ℕ, suc, Bool, true, false, not, List, [], ◌∷◌, ◌++◌, refl, sym, ◌∙◌, ap, subst, map, filter, if◌then◌else◌, ◌&&◌, ◌||◌}
-use Rattle.std.specs.Prelude.{Some}
-use Rattle.std.specs.List.{zip, AllByRecursion, IsDistinct}
-use Rattle.std.proofs.lemmas.Bool.{false≢true, cond-true, cond-false}
-use Rattle.std.proofs.lemmas.List.{map-append, append-nil}
+use Rattle.std.proofs.Common.{◌≡◌, ℕ, suc, Bool, true, false, not, List, [], ◌∷◌, ◌++◌, refl, sym, ◌∙◌, ap, subst, map, filter, if◌then◌else◌, ◌&&◌, ◌||◌, Some, zip, append-nil}
+use Rattle.std.specs.List.{AllByRecursion, IsDistinct}
+use Rattle.std.proofs.lemmas.Bool.{false≢true, cond-true, cond-false, cond_both}
+use Rattle.std.proofs.lemmas.List.{map-append}
 use Rattle.std.proofs.lemmas.List.Elements.{filter-append}
 use Rattle.iodef_tree.specs.Text.{Tokens, same_path, is_root}
 use Rattle.iodef_tree.specs.Paths.{LocatedLine, is_class, class_paths, classes_of}
@@ -19,7 +18,7 @@ use Rattle.redact.specs.Withheld.{beside, class_places, place_by}
 use Rattle.redact.specs.Judged.{Judged, none, plain, class, judge, Home, root, inside, keeps_plain, shows_label, home_at, left_before, new_place, left_with, moved, is_end, put_leaf, attribute_leaf, put_attributes, with_label, cut, places}
 use Rattle.marking.proofs.Bad.{no_class-kind, class_paths-leaf, class_paths-append}
 use Rattle.marking.proofs.Marked.{not_root}
-use Rattle.redact.proofs.Fates.{by_fate, by_fates, put-keeps}
+use Rattle.redact.proofs.Fates.{by_fate, by_fates, by_verdict, put-keeps}
 use Rattle.redact.proofs.Keeping.{home-class, SaysBelow, ends, kept-cut}
 
 abbrev here : Tokens × Tokens → Tokens
@@ -105,39 +104,12 @@ module _ (v : Verdicts) where
   kept_paths-append : (xs ys : List LocatedLine) → kept_paths (xs ++ ys) ≡ kept_paths xs ++ kept_paths ys
   kept_paths-append xs ys = ap class_paths (filter-append (is_kept v) xs ys) ∙ class_paths-append (filter (is_kept v) xs) (filter (is_kept v) ys)
 
-  kept_paths-plain : (e : LocatedLine) (es : List LocatedLine) → is_class e ≡ false → kept_paths (e ∷ es) ≡ kept_paths es
-  kept_paths-plain e es h =
-      elim (is_kept v e) as (λ b. class_paths (if b then e ∷ filter (is_kept v) es else filter (is_kept v) es) ≡ kept_paths es) [
-        | true ↦ ap (map (λ e. e.path)) (cond-false (is_class e) (e ∷ filter is_class (filter (is_kept v) es)) (filter is_class (filter (is_kept v) es)) h)
-        | false ↦ refl
-      ]
-
-  kept_paths-class : (e : LocatedLine) (es : List LocatedLine) → is_class e ≡ true →
-      kept_paths (e ∷ es) ≡ (if v.visible e.path || (not (v.visible e.path) && v.holds_visible e.path) then e.path ∷ kept_paths es else kept_paths es)
-  kept_paths-class e es h =
-      ap (λ b. class_paths (if b then e ∷ filter (is_kept v) es else filter (is_kept v) es)) (cond-true (is_class e) _ _ h)
-      ∙ elim (v.visible e.path || is_frame v e.path) as (λ b. class_paths (if b then e ∷ filter (is_kept v) es else filter (is_kept v) es) ≡ (if b then e.path ∷ kept_paths es else kept_paths es)) [
-        | true ↦ ap (map (λ e. e.path)) (cond-true (is_class e) (e ∷ filter is_class (filter (is_kept v) es)) (filter is_class (filter (is_kept v) es)) h)
-        | false ↦ refl
-      ]
-
-  choose_path : (visible holds e : Bool) (p : Tokens) (r : Tokens) (K R : List Tokens) (PK : Bool → List (Tokens × Tokens)) (behind gone : List (Tokens × Tokens)) →
-      (visible ≡ false → e ≡ not holds) → (e ≡ true → PK false ≡ []) → K ≡ map here (PK visible) → R ≡ map here behind → R ≡ map here gone →
-      (if visible || (not visible && holds) then p ∷ (K ++ R) else K ++ R) ≡
-      map here (if visible then (p, r) ∷ (PK true ++ behind) else (if e then gone else (p, r) ∷ (PK false ++ behind)))
-  choose_path true holds e p r K R PK behind gone bare bottom kids next past =
-      ap (λ ps. p ∷ ps) (ap (λ ps. ps ++ R) kids ∙ ap (λ ps. map here (PK true) ++ ps) next ∙ sym (map-append here (PK true) behind))
-  choose_path false true e p r K R PK behind gone bare bottom kids next past =
-      ap (λ ps. p ∷ ps) (ap (λ ps. ps ++ R) kids ∙ ap (λ ps. map here (PK false) ++ ps) next ∙ sym (map-append here (PK false) behind))
-      ∙ ap (map here) (sym (cond-false e gone ((p, r) ∷ (PK false ++ behind)) (bare refl)))
-  choose_path false false e p r K R PK behind gone bare bottom kids next past =
-      ap (λ ps. ps ++ R) (kids ∙ ap (map here) (bottom (bare refl))) ∙ past ∙ ap (map here) (sym (cond-true e gone ((p, r) ∷ (PK false ++ behind)) (bare refl)))
-
   -- the kept classes of the document have places
   pub paths-kept : (f : Forest) (d : ℕ) (p q : Tokens) (n : ℕ) → SaysBelow v d p f → kept_paths (walk d p f) ≡ map here (places (home_at v p) p q n (judge v p f))
   paths-kept end d p q n says = refl
   paths-kept (leaf i rest) d p q n says =
-      kept_paths-plain (leaf_entry d p i) (walk d p rest) (no_class-kind i.content)
+      let e = leaf_entry d p i in
+      cond_both (is_kept v e) _ _ (λ es. class_paths es ≡ kept_paths (walk d p rest)) (λ _. class_paths-leaf (filter (is_kept v) (walk d p rest)) e (no_class-kind i.content)) (λ _. refl)
       ∙ paths-kept rest d p q (if keeps_plain (home_at v p) then left_with n i.place else left_before n i.place) says
   paths-kept (branch name place kids rest) d p q n says =
       let p' = p ++ steps name place in
@@ -145,15 +117,17 @@ module _ (v : Verdicts) where
       let K = walk (suc d) p' kids in
       let R = walk d p rest in
       let J = judge v p' kids in
-      kept_paths-class (class_entry d p name place) (K ++ R) refl
-      ∙ ap (λ ps. if v.visible p' || (not (v.visible p') && v.holds_visible p') then p' ∷ ps else ps) (kept_paths-append K R)
-      ∙ choose_path (v.visible p') (v.holds_visible p') (is_end (cut (inside false) 0 J)) p' r (kept_paths K) (kept_paths R) (λ b. places (inside b) p' r 0 J)
-      (places (home_at v p) p q (left_with n place) (judge v p rest)) (places (home_at v p) p q (left_before n place) (judge v p rest))
-      (λ hidden. ends v kids (suc d) p' 0 ∙ ap not (sym says.0))
-      (places-end J p' r 0)
-      (paths-kept kids (suc d) p' r 0 says.1 ∙ ap (λ h. map here (places h p' r 0 J)) (home-class v p name place))
-      (paths-kept rest d p q (left_with n place) says.2)
-      (paths-kept rest d p q (left_before n place) says.2)
+      let PK = λ (b : Bool). places (inside b) p' r 0 J in
+      let PB = λ (m : ℕ). places (home_at v p) p q m (judge v p rest) in
+      let left : (b : Bool) → kept_paths K ≡ map here (PK b) → p' ∷ kept_paths (K ++ R) ≡ map here ((p', r) ∷ (PK b ++ PB (left_with n place))) = λ b kept.
+      rw (kept_paths-append K R, kept, paths-kept rest d p q (left_with n place) says.2, map-append here (PK b) (PB (left_with n place))) in
+      by_verdict (λ visible holds ended. kept_paths K ≡ map here (PK visible) → (ended ≡ true → PK false ≡ []) →
+      class_paths (if visible || (not visible && holds) then class_entry d p name place ∷ filter (is_kept v) (K ++ R) else filter (is_kept v) (K ++ R)) ≡
+      map here (if visible then (p', r) ∷ (PK true ++ PB (left_with n place)) else (if ended then PB (left_before n place) else (p', r) ∷ (PK false ++ PB (left_with n place)))))
+      (v.visible p') (v.holds_visible p') (is_end (cut (inside false) 0 J)) (λ hidden. ends v kids (suc d) p' 0 ∙ ap not (sym says.0))
+      (λ holds ended kept empty. left true kept) (λ kept empty. left false kept)
+      (λ kept empty. rw (kept_paths-append K R, kept, empty refl, paths-kept rest d p q (left_before n place) says.2))
+      (paths-kept kids (suc d) p' r 0 says.1 ∙ ap (λ h. map here (places h p' r 0 J)) (home-class v p name place)) (places-end J p' r 0)
 
 -- ---- both
 

@@ -1,8 +1,7 @@
 -- The laws of excerpts and searches.
-use Rattle.std.proofs.Common.{◌≡◌, ◌==◌, ℕ, suc, ◌+◌, Bool, true, false, not, ◌&&◌, ◌||◌, List, [], ◌∷◌, map, cond, if◌then◌else◌, refl, sym, ◌∙◌, ap, arith}
-use Rattle.std.specs.Prelude.{Option, filter, count_by}
+use Rattle.std.proofs.Common.{◌≡◌, ◌==◌, ℕ, suc, ◌+◌, Bool, true, false, not, ◌&&◌, ◌||◌, List, [], ◌∷◌, map, cond, if◌then◌else◌, refl, sym, ◌∙◌, ap, arith, Option, filter, count_by, eqb-true}
 use Rattle.std.specs.List.{list_any}
-use Rattle.std.proofs.lemmas.Bool.{false_from_ne_true, eqb-true}
+use Rattle.std.proofs.lemmas.Bool.{false_from_ne_true}
 use Rattle.iodef_tree.specs.Text.{Bytes}
 use Rattle.iodef_tree.specs.Paths.{LocatedLine, is_class, is_class_kind, located}
 use Rattle.iodef_tree.specs.declared.line.Line.{Line}
@@ -16,19 +15,17 @@ use Rattle.redact.specs.Told.{is_seen_class, is_named, holds_needle, visible_cou
 
 any-count : {X : Type 0} (P : X → Bool) (xs : List X) → list_any P xs ≡ not (count_by P xs == 0)
 any-count P [] = refl
-any-count P (x ∷ xs) = by_test (P x) (any-count P xs) ∙ ap (λ n. not (n == 0)) (sym (count_by-cons P x xs))
+any-count P (x ∷ xs) = by_test (P x) (list_any P xs) (count_by P xs) (any-count P xs) ∙ ap (λ n. not (n == 0)) (sym (count_by-cons P x xs))
   where
-    by_test : (b : Bool) → list_any P xs ≡ not (count_by P xs == 0) → (b || list_any P xs) ≡ not ((cond b 1 0 + count_by P xs) == 0)
-    by_test true h = sym (ap not (false_from_ne_true ((1 + count_by P xs) == 0) (λ e. let k = eqb-true (1 + count_by P xs) 0 e in omega (arith, k))))
-    by_test false h = h ∙ ap (λ n. not (n == 0)) (let e : count_by P xs ≡ 0 + count_by P xs = omega arith in e)
+    by_test : (b later : Bool) (n : ℕ) → later ≡ not (n == 0) → (b || later) ≡ not ((cond b 1 0 + n) == 0)
+    by_test b later n h = grind arith
 
 any-less : {X : Type 0} (P Q : X → Bool) (xs : List X) → list_any (λ x. P x && Q x) xs ≡ true → list_any P xs ≡ true
 any-less P Q [] h = h
-any-less P Q (x ∷ xs) h = by_tests (P x) (Q x) h (any-less P Q xs)
+any-less P Q (x ∷ xs) h = by_tests (P x) (Q x) _ _ h (any-less P Q xs)
   where
-    by_tests : (p q : Bool) → ((p && q) || list_any (λ y. P y && Q y) xs) ≡ true → (list_any (λ y. P y && Q y) xs ≡ true → list_any P xs ≡ true) → (p || list_any P xs) ≡ true
-    by_tests true q h later = refl
-    by_tests false q h later = later h
+    by_tests : (p q both one : Bool) → ((p && q) || both) ≡ true → (both ≡ true → one ≡ true) → (p || one) ≡ true
+    by_tests p q both one h later = grind arith
 
 pub listed-served : (ls : List Line) (c : Case) (s : Standing) → is_listed ls c s ≡ not (visible_count ls c s == 0)
 listed-served ls c s = any-count (is_seen_class ls c s) (located ls)

@@ -1,8 +1,7 @@
 -- A search by one pass down a document finds what the definition finds among its lines.
-use Rattle.std.proofs.Common.{◌≡◌, ℕ, suc, Bool, true, false, ◌&&◌, ◌||◌, List, [], ◌∷◌, ◌++◌, cond, refl, sym, ◌∙◌, ap, append_assoc, append-nil}
-use Rattle.std.specs.Prelude.{Option}
+use Rattle.std.proofs.Common.{◌≡◌, ℕ, suc, Bool, true, false, ◌&&◌, ◌||◌, List, [], ◌∷◌, ◌++◌, cond, refl, sym, ◌∙◌, ap, append_assoc, append-nil, Option, true≢false}
 use Rattle.std.specs.List.{list_any}
-use Rattle.std.proofs.lemmas.Bool.{cond-true, cond-false, and_left, and_right, true≢false}
+use Rattle.std.proofs.lemmas.Bool.{cond-true, cond-false, and_left, and_right}
 use Rattle.std.proofs.Math.Bool.{and-true}
 use Rattle.std.proofs.lemmas.List.Folds.{list_any-append}
 use Rattle.iodef_tree.specs.Text.{Bytes, Tokens, same_path, is_under}
@@ -17,7 +16,8 @@ use Rattle.marking.specs.Marks.{written_label}
 use Rattle.marking.specs.Members.{spelled_in}
 use Rattle.marking.proofs.Written.{AreUnderParents, written-block}
 use Rattle.marking.proofs.Placed.{ArePlaced, placed}
-use Rattle.policy.specs.Inherited.{inherited_at, at_root}
+use Rattle.iodef_tree.specs.declared.line.Line.{Line}
+use Rattle.policy.specs.Inherited.{Inherited, inherited_at, at_root}
 use Rattle.policy.specs.Verdict.{is_visible}
 use Rattle.policy.proofs.Steps.{at_root-is}
 use Rattle.policy.specs.declared.standing.Standing.{Standing}
@@ -25,8 +25,7 @@ use Rattle.policy.specs.declared.case.Case.{Case}
 use Rattle.redact.specs.Told.{is_named, is_hit, holds_needle, finds, is_listed}
 use Rattle.redact.specs.Search.{content_hits, members_hit, holds_text, any_class, class_hits, found}
 use Rattle.marking.proofs.Bad.{no_class-kind}
-use Rattle.redact.proofs.Passed.{enter-at}
-use Rattle.redact.proofs.Whole.{root-bare}
+use Rattle.redact.proofs.Whole.{enter-at, root-bare}
 
 -- ---- what a class holds, by the lines directly in it
 
@@ -132,14 +131,14 @@ module _ (c : Case) (s : Standing) (asked : Bytes → Forest → Bool) (asks : L
       ∙ ap (λ h. found c s asked h f) (sym (at_root-is es c s (root-bare f sound)))
 
 -- a search of a whole document
-pub found_all : (c : Case) (s : Standing) (needle : Bytes) (class : Option Bytes) (f : Forest) → IsSound f → finds (lines 1 f) c s needle class ≡ found c s (holds_text needle class) (at_root c s) f
-found_all c s needle class f sound =
+pub found_all : (c : Case) (s : Standing) (needle : Bytes) (class : Option Bytes) (f : Forest) {ls : List Line} {h : Inherited} {n : Bytes} → IsSound f → lines 1 f ≡ ls → h ≡ at_root c s → n ≡ needle →
+    found c s (holds_text n class) h f ≡ finds ls c s needle class
+found_all c s needle class f {ls} {h} {n} sound is at same = rw (← is, at, same) (sym (
     found-lines c s (holds_text needle class) (λ es e. is_named class e.line.name && holds_needle es needle e.path) f sound
-    (λ e d kids block. ap (λ b. is_named class e.line.name && b) (held-block (located (lines 1 f)) d e.path kids needle (below-parents (lines 1 f)) block))
+    (λ e d kids block. ap (λ b. is_named class e.line.name && b) (held-block (located (lines 1 f)) d e.path kids needle (below-parents (lines 1 f)) block))))
 
 -- whether any class of it is visible
-pub listed_all : (c : Case) (s : Standing) (f : Forest) → IsSound f → is_listed (lines 1 f) c s ≡ found c s any_class (at_root c s) f
-listed_all c s f sound =
+pub listed_all : (c : Case) (s : Standing) (f : Forest) {ls : List Line} {h : Inherited} → IsSound f → lines 1 f ≡ ls → h ≡ at_root c s → found c s any_class h f ≡ is_listed ls c s
+listed_all c s f {ls} {h} sound is at =
     let es = located (lines 1 f) in
-    ap (λ P. list_any P es) (λ i e. sym (and-true (is_class e && is_visible es c s e.path)) i)
-    ∙ found-lines c s any_class (λ es e. true) f sound (λ e d kids block. refl)
+    rw (← is, at) (sym (ap (λ P. list_any P es) (λ i e. sym (and-true (is_class e && is_visible es c s e.path)) i) ∙ found-lines c s any_class (λ es e. true) f sound (λ e d kids block. refl)))

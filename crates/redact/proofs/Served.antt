@@ -1,7 +1,5 @@
 -- A verdict tells what is served.
-use Rattle.std.proofs.Common.{◌≡◌, inl, inr, arith, Bool, true, false, not, ◌&&◌, List, [], ◌∷◌, cond, refl, sym, ap, subst, ◌∙◌}
-use Rattle.std.specs.Prelude.{Option, Some, Contains}
-use Rattle.std.specs.List.{flat_map}
+use Rattle.std.proofs.Common.{◌≡◌, inl, inr, arith, Bool, true, false, not, ◌&&◌, List, [], ◌∷◌, cond, refl, sym, ap, subst, ◌∙◌, Option, Some, Contains, flat_map}
 use Rattle.std.proofs.lemmas.List.Concat.{flat_map-cons}
 use Rattle.std.proofs.lemmas.List.Elements.{Contains-append_left, Contains-append_right, Contains-append_cases, Contains-push_cases}
 use Rattle.iodef_tree.specs.Text.{Tokens}

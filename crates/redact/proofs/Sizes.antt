@@ -1,8 +1,7 @@
 -- What is left of a document is no deeper, has no more lines that count, and its plain lines have texts of their kinds.
-use Rattle.std.proofs.Common.{◌≡◌, ◌≤◌, ℕ, suc, Bool, true, false, not, List, ◌∷◌, ◌++◌, [], cond, refl, ◌∙◌, ap, arith, if◌then◌else◌, ◌&&◌, ◌||◌}
-use Rattle.std.specs.Prelude.{Option, max, codes}
+use Rattle.std.proofs.Common.{◌≡◌, ◌≤◌, ℕ, suc, Bool, true, false, not, List, ◌∷◌, ◌++◌, [], cond, refl, ◌∙◌, ap, arith, if◌then◌else◌, ◌&&◌, ◌||◌, Option, max, codes, bytes_eq}
 use Rattle.std.specs.List.{AllByRecursion}
-use Rattle.std.specs.Str.{bytes_eq}
+use Rattle.std.proofs.lemmas.Bool.{cond_both}
 use Rattle.iodef_tree.specs.Text.{Bytes, Tokens}
 use Rattle.iodef_tree.specs.Texts.{HasTexts, may_be_text}
 use Rattle.iodef_tree.specs.Tree.{Leaf, Forest, end, leaf, branch, steps, height, lines, leaf_line, class_line}
@@ -102,10 +101,9 @@ within-label true (a ∷ label) f names =
 pub within-cut : (v : Verdicts) → ((p : Tokens) → AreLabelNames (v.label p)) → (f : Forest) (h : Home) (p : Tokens) (n : ℕ) → IsWithin f (cut h n (judge v p f))
 within-cut v names end h p n = within-self end
 within-cut v names (leaf i rest) h p n =
-    elim (keeps_plain h) as (λ b. IsWithin (leaf i rest) (if b then leaf (moved n i) (cut h (left_with n i.place) (judge v p rest)) else cut h (left_before n i.place) (judge v p rest))) [
-      | true ↦ within-leaf i (moved n i) rest _ (λ d. leaf_line-moved d n i) (within-cut v names rest h p (left_with n i.place))
-      | false ↦ without-leaf i rest _ (within-cut v names rest h p (left_before n i.place))
-    ]
+    cond_both (keeps_plain h) _ _ (IsWithin (leaf i rest))
+    (λ _. within-leaf i (moved n i) rest _ (λ d. leaf_line-moved d n i) (within-cut v names rest h p (left_with n i.place)))
+    (λ _. without-leaf i rest _ (within-cut v names rest h p (left_before n i.place)))
 within-cut v names (branch name place kids rest) h p n =
     let q = p ++ steps name place in
     let K = cut (inside true) 0 (judge v q kids) in

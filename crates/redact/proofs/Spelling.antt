@@ -1,8 +1,6 @@
 -- What is spelled in what is left of a class.
-use Rattle.std.proofs.Common.{◌≡◌, ℕ, Bool, true, false, not, [], ◌∷◌, ◌++◌, refl, sym, ◌∙◌, ap, subst, if◌then◌else◌, ◌&&◌}
-use Rattle.std.specs.Prelude.{Option, Some, None, is_some, is_none, codes}
-use Rattle.std.specs.Str.{bytes_eq}
-use Rattle.std.proofs.lemmas.Bool.{cond-false, or_right, true≢false, false≢true}
+use Rattle.std.proofs.Common.{arith, ◌≡◌, ℕ, Bool, true, false, not, [], ◌∷◌, ◌++◌, refl, sym, ◌∙◌, ap, subst, if◌then◌else◌, ◌&&◌, Option, Some, None, is_some, is_none, codes, bytes_eq, true≢false}
+use Rattle.std.proofs.lemmas.Bool.{cond-false, cond_both, and_parts, or_right, false≢true}
 use Rattle.iodef_tree.specs.Text.{Bytes, Tokens, is_prefix}
 use Rattle.iodef_tree.specs.Tree.{Forest, end, leaf, branch, steps, kind_of, text_of}
 use Rattle.iodef_tree.specs.Laws.{AreApart, HasApart}
@@ -27,9 +25,7 @@ lacks-absent name (branch n place kids rest) h = cond-false (bytes_eq n name) _ 
 -- ---- a label that is put in
 
 swap : (a b : Bool) (x y z : Held) → (b ≡ true → a ≡ false) → (if a then y else (if b then x else z)) ≡ (if b then x else (if a then y else z))
-swap true true x y z h = absurd (true≢false (h refl))
-swap true false x y z h = refl
-swap false b x y z h = refl
+swap a b x y z h = grind arith
 
 -- an attribute that is put in is held under its name
 held-put : (name : Bytes) (a : Attribute) (f : Forest) → (bytes_eq a.0 name ≡ true → Lacks name f) →
@@ -55,15 +51,7 @@ spelled-attributes restriction (Some ext) f r e =
 
 spelled-again : (l : Marking) → spelled (restriction_of l) (ext_restriction_of l) ≡ Some l
 spelled-again public = refl
-spelled-again white = refl
-spelled-again partner = refl
-spelled-again green = refl
-spelled-again need_to_know = refl
-spelled-again amber = refl
-spelled-again private = refl
-spelled-again red = refl
-spelled-again by_arrangement = refl
-spelled-again (extended t) = refl
+spelled-again _ = refl
 
 -- ---- what is left of the members
 
@@ -74,21 +62,13 @@ is_other other = true
 
 -- where the marking rule is kept, what is held under the two names is a text or nothing
 no-other : (r e : Held) → is_rule_kept r e ≡ true → (is_other r ≡ false) × (is_other e ≡ false)
-no-other absent absent h = (refl, refl)
-no-other absent (plain t) h = absurd (false≢true h)
-no-other absent other h = absurd (false≢true h)
-no-other (plain r) absent h = (refl, refl)
-no-other (plain r) (plain e) h = (refl, refl)
-no-other (plain r) other h = absurd (false≢true h)
-no-other other e h = absurd (false≢true h)
+no-other r e h = grind arith
 
 behind : (b : Bool) (x y z : Held) → is_other (if b then x else y) ≡ false → (is_other y ≡ false → z ≡ y) → (if b then x else z) ≡ (if b then x else y)
-behind true x y z h next = refl
-behind false x y z h next = next h
+behind b x y z h next = grind arith
 
 past : (b : Bool) (y z : Held) → is_other (if b then other else y) ≡ false → (is_other y ≡ false → z ≡ y) → z ≡ (if b then other else y)
-past true y z h next = absurd (true≢false h)
-past false y z h next = next h
+past b y z h next = grind arith
 
 -- a plain member outside arrays is the only one of its name
 alone : (x : Bytes) (o : Option ℕ) (m : Bytes) (o' : Option ℕ) → is_some o ≡ false → AreApart x o m o' → bytes_eq m x ≡ false
@@ -114,21 +94,19 @@ module _ (v : Verdicts) where
   -- a frame has no member of a name under which the class held a text or nothing
   lacks-framed : (name : Bytes) (f : Forest) (p : Tokens) (n : ℕ) → HasApart f → is_other (held_in name f) ≡ false → Lacks name (cut (inside false) n (judge v p f))
   lacks-framed name end p n apart h = tt
-  lacks-framed name (leaf i rest) p n apart h = by_name (bytes_eq i.name name) refl h (lacks-framed name rest p (left_before n i.place) apart.1)
-    where
-      by_name : (b : Bool) → bytes_eq i.name name ≡ b → is_other (if b then held_by_leaf i else held_in name rest) ≡ false →
-          (is_other (held_in name rest) ≡ false → Lacks name (cut (inside false) (left_before n i.place) (judge v p rest))) → Lacks name (cut (inside false) (left_before n i.place) (judge v p rest))
-      by_name true e h next =
-          let single : is_some i.place ≡ false = is_false (is_some i.place) (λ s. true≢false (sym (ap (λ b. is_other (if b then other else held_by_kind (kind_of i.content) (text_of i.content))) s) ∙ h)) in
-          lacks-cut v name rest (inside false) p (left_before n i.place)
-          (siblings-map (AreApart i.name i.place) (λ m o. bytes_eq m name ≡ false) rest (λ m o a. subst (λ x. bytes_eq m x ≡ false) (bytes_eq-true i.name name e) (alone i.name i.place m o single a)) apart.0)
-      by_name false e h next = next h
+  lacks-framed name (leaf i rest) p n apart h =
+      let R = cut (inside false) (left_before n i.place) (judge v p rest) in
+      cond_both (bytes_eq i.name name) _ _ (λ held. is_other held ≡ false → Lacks name R)
+      (λ e k.
+      let single : is_some i.place ≡ false = is_false (is_some i.place) (λ s. true≢false (sym (ap (λ b. is_other (if b then other else held_by_kind (kind_of i.content) (text_of i.content))) s) ∙ k)) in
+      lacks-cut v name rest (inside false) p (left_before n i.place)
+      (siblings-map (AreApart i.name i.place) (λ m o. bytes_eq m name ≡ false) rest (λ m o a. subst (λ x. bytes_eq m x ≡ false) (bytes_eq-true i.name name e) (alone i.name i.place m o single a)) apart.0))
+      (λ e k. lacks-framed name rest p (left_before n i.place) apart.1 k) h
   lacks-framed name (branch m place kids rest) p n apart h =
-      let differs : bytes_eq m name ≡ false = is_false (bytes_eq m name) (λ same. true≢false (sym (ap (λ b. is_other (if b then other else held_in name rest)) same) ∙ h)) in
-      let next : is_other (held_in name rest) ≡ false = ap (λ b. is_other (if b then other else held_in name rest)) (sym differs) ∙ h in
-      let after : (bytes_eq m name ≡ false) × Lacks name (cut (inside false) (left_with n place) (judge v p rest)) = (differs, lacks-framed name rest p (left_with n place) apart.2 next) in
+      let differs = cond_both (bytes_eq m name) _ _ (λ held. is_other held ≡ false → (bytes_eq m name ≡ false) × (is_other (held_in name rest) ≡ false)) (λ e k. absurd (true≢false k)) (λ e k. (e, k)) h in
+      let after : (bytes_eq m name ≡ false) × Lacks name (cut (inside false) (left_with n place) (judge v p rest)) = (differs.0, lacks-framed name rest p (left_with n place) apart.2 differs.1) in
       by_fate (Lacks name) (v.visible (p ++ steps m place)) (is_end (cut (inside false) 0 (judge v (p ++ steps m place) kids))) _ _ _
-      after after (lacks-framed name rest p (left_before n place) apart.2 next)
+      after after (lacks-framed name rest p (left_before n place) apart.2 differs.1)
 
   -- a frame keeps the marking rule, as it holds neither
   pub framed-rule : (f : Forest) (p : Tokens) → HasApart f → is_rule_kept_in f ≡ true → is_rule_kept_in (cut (inside false) 0 (judge v p f)) ≡ true
@@ -144,20 +122,18 @@ module _ (v : Verdicts) where
       (is_rule_kept_in S ≡ true) × (spelled_in S ≡ (if v.unmarked p && not (shows_label h) then Some l else spelled_in f))
   seen-spells f h p l rule unmarked label =
       let held = no-other (held_in (codes "restriction") f) (held_in (codes "ext-restriction") f) rule in
-      by_label (v.unmarked p) (shows_label h) unmarked (held-seen (codes "restriction") f p 0 held.0) (held-seen (codes "ext-restriction") f p 0 held.1)
-    where
-      F : Forest
-      F = cut (inside true) 0 (judge v p f)
-
-      by_label : (u t : Bool) → u ≡ is_none (spelled_in f) → held_in (codes "restriction") F ≡ held_in (codes "restriction") f → held_in (codes "ext-restriction") F ≡ held_in (codes "ext-restriction") f →
-          let S = if u && not t then put_attributes (v.label p) F else F in
-          (is_rule_kept_in S ≡ true) × (spelled_in S ≡ (if u && not t then Some l else spelled_in f))
-      by_label true false e r x =
-          let none = unmarked-absent (held_in (codes "restriction") f) (held_in (codes "ext-restriction") f) rule (sym e) in
+      let F = cut (inside true) 0 (judge v p f) in
+      let r = held-seen (codes "restriction") f p 0 held.0 in
+      let x = held-seen (codes "ext-restriction") f p 0 held.1 in
+      elim (v.unmarked p && not (shows_label h)) as (λ b. (v.unmarked p && not (shows_label h)) ≡ b →
+      let S = if b then put_attributes (v.label p) F else F in
+      (is_rule_kept_in S ≡ true) × (spelled_in S ≡ (if b then Some l else spelled_in f))) [
+        | true ↦ λ e.
+          let none = unmarked-absent (held_in (codes "restriction") f) (held_in (codes "ext-restriction") f) rule (sym unmarked ∙ (and_parts (v.unmarked p) _ e).0) in
           let says : spelled_in (put_attributes (v.label p) F) ≡ Some l =
           ap (λ a. spelled_in (put_attributes a F)) label
           ∙ spelled-attributes (restriction_of l) (ext_restriction_of l) F (absent-lacks (codes "restriction") F (r ∙ none.0)) (absent-lacks (codes "ext-restriction") F (x ∙ none.1))
           ∙ spelled-again l in
           (or_right _ _ (ap is_some says), says)
-      by_label true true e r x = ((λ i. is_rule_kept (r i) (x i)) ∙ rule, λ i. spelled_by (r i) (x i))
-      by_label false t e r x = ((λ i. is_rule_kept (r i) (x i)) ∙ rule, λ i. spelled_by (r i) (x i))
+        | false ↦ λ e. ((λ i. is_rule_kept (r i) (x i)) ∙ rule, λ i. spelled_by (r i) (x i))
+      ] refl

@@ -1,9 +1,8 @@
 -- The markings of a document survive in its excerpt.
-use Rattle.std.proofs.Common.{◌≡◌, ◌+◌, ◌≤◌, ℕ, zero, suc, Bool, true, false, not, List, [], ◌∷◌, ◌++◌, refl, sym, ◌∙◌, ap, subst, map, filter, length, length-append, arith, if◌then◌else◌, ◌&&◌}
-use Rattle.std.specs.Prelude.{Option, Some, None, is_none, unwrap_or, option_map, find}
+use Rattle.std.proofs.Common.{◌≡◌, ◌+◌, ◌≤◌, ℕ, zero, suc, Bool, true, false, not, List, [], ◌∷◌, ◌++◌, refl, sym, ◌∙◌, ap, subst, map, filter, length, length-append, arith, if◌then◌else◌, ◌&&◌, Option, Some, None, is_none, unwrap_or, option_map, find, true≢false}
 use Rattle.std.specs.Option.{option_or}
 use Rattle.std.specs.List.{AllByRecursion}
-use Rattle.std.proofs.lemmas.Bool.{cond-false, cond-true, and_parts, or_right, or_left, true≢false, false≢true}
+use Rattle.std.proofs.lemmas.Bool.{cond-false, cond-true, and_parts, or_right, or_left, false≢true}
 use Rattle.std.proofs.lemmas.List.Elements.{All-contains, All-from_recursion}
 use Rattle.iodef_tree.specs.Text.{Bytes, Tokens, same_path, is_root}
 use Rattle.iodef_tree.specs.Tree.{Leaf, Forest, end, leaf, branch, steps, lines}

@@ -1,35 +1,68 @@
 -- The pass over a whole document: what it leaves, what it tells and what it counts are as the definitions say.
-use Rattle.std.proofs.Common.{◌≡◌, ℕ, false, List, [], ◌++◌, refl, sym, ◌∙◌, ap, subst, ◌≤◌, arith}
-use Rattle.std.specs.Prelude.{Option, Some, None, count_by}
+use Rattle.std.proofs.Common.{◌≡◌, ◌<◌, ◌^◌, ℕ, suc, ◌+◌, false, true, Bool, List, [], ◌∷◌, ◌++◌, refl, sym, ◌∙◌, ap, subst, append-nil, append_assoc, arith, decimal, Option, Some, None, is_some, count_by}
 use Rattle.iodef_tree.specs.Text.{Bytes, Tokens, same_path}
-use Rattle.iodef_tree.specs.Tree.{Forest, steps, lines}
-use Rattle.iodef_tree.specs.Paths.{LocatedLine, has_class, located}
-use Rattle.iodef_tree.specs.Sound.{IsSound, counted}
-use Rattle.iodef_tree.specs.declared.TheConstants.{LINE_LIMIT}
-use Rattle.iodef_tree.specs.Walk.{walk}
+use Rattle.iodef_tree.specs.Tree.{Forest, end, leaf, branch, steps, lines}
+use Rattle.iodef_tree.specs.Paths.{LocatedLine, has_class, located, below}
+use Rattle.iodef_tree.specs.Sound.{IsSound}
+use Rattle.iodef_tree.specs.Walk.{walk, AreBlocks}
 use Rattle.iodef_tree.proofs.Blocks.{blocks-located, below-parents}
 use Rattle.iodef_tree.proofs.Located.{located-lines}
 use Rattle.iodef_tree.proofs.Siblings.{siblings-all, walk-all}
-use Rattle.marking.specs.Marks.{first_bad_marking}
+use Rattle.marking.specs.Label.{Marking}
+use Rattle.marking.specs.Marks.{first_bad_marking, written_label, label_at}
+use Rattle.marking.specs.Members.{spelled_in}
 use Rattle.marking.proofs.Bad.{first_bad}
-use Rattle.marking.proofs.Placed.{no_class, placed as classes-placed}
-use Rattle.policy.specs.Inherited.{at_root}
+use Rattle.marking.proofs.Placed.{ArePlaced, no_class, placed as classes-placed}
+use Rattle.marking.proofs.Written.{AreUnderParents, written-block}
+use Rattle.policy.specs.Inherited.{inherited_at, enter_class, at_root}
+use Rattle.policy.proofs.Steps.{enter_class-at, enter_array-at, at_root-is}
 use Rattle.policy.specs.declared.standing.Standing.{Standing}
 use Rattle.policy.specs.declared.case.Case.{Case}
 use Rattle.redact.specs.Kept.{Verdicts, kept}
-use Rattle.redact.specs.Withheld.{place_by, class_places, withheld_pairs}
-use Rattle.redact.specs.Judged.{Judged, judge, root, cut, visible_classes, told}
+use Rattle.redact.specs.Withheld.{Withheld, is_among, place_by, class_places, withheld_pairs}
+use Rattle.redact.specs.Judged.{Judged, plain, class, judge, judgment_at, root, cut, visible_classes, told}
 use Rattle.redact.specs.Told.{verdicts_of, kept_outline, withheld_of, visible_count}
-use Rattle.redact.specs.Pass.{pass}
-use Rattle.redact.proofs.Keeping.{is_seen, SaysBelow}
+use Rattle.redact.specs.Pass.{enter, judgment_by, pass}
+use Rattle.redact.proofs.Keeping.{is_seen, any_seen, SaysBelow}
+use Rattle.redact.proofs.Ordered.{trails-none, ordered-cut}
+use Rattle.redact.proofs.Sizes.{within-cut}
 use Rattle.redact.proofs.Places.{kept-lines, placed}
 use Rattle.redact.proofs.Withheld.{withheld-walk}
 use Rattle.redact.proofs.Counts.{count-walk, few-seen}
-use Rattle.redact.proofs.Below.{says-below}
-use Rattle.redact.proofs.Sound.{sound-cut}
-use Rattle.redact.proofs.Passed.{pass-all}
 use Rattle.redact.proofs.Fitting.{label-names, labels-fit}
-use Rattle.marking.specs.Marks.{label_at}
+
+-- ---- each class is judged as the definitions judge its path
+
+module _ (es : List LocatedLine) (c : Case) (s : Standing) (under : AreUnderParents es) where
+  pub enter-at : (p : Tokens) (name : Bytes) (place : Option ℕ) (w : Option Marking) → has_class es (p ++ steps name place) ≡ true →
+      (is_some place ≡ true → has_class es (p ++ name ∷ []) ≡ false) → written_label es (p ++ steps name place) ≡ w →
+      enter c s (inherited_at es c s p) name place w ≡ inherited_at es c s (p ++ steps name place)
+  enter-at p name None w here bare is = enter_class-at es c s p name w here is
+  enter-at p name (Some k) w here bare is =
+      let two : (p ++ name ∷ []) ++ decimal k ∷ [] ≡ p ++ name ∷ decimal k ∷ [] = append_assoc p (name ∷ []) (decimal k ∷ []) in
+      ap (λ h. enter_class c s h (decimal k) w) (enter_array-at es c s p name (bare refl))
+      ∙ enter_class-at es c s (p ++ name ∷ []) (decimal k) w (ap (has_class es) two ∙ here) (ap (written_label es) two ∙ is)
+      ∙ ap (inherited_at es c s) two
+
+  pass-judge : (f : Forest) (d : ℕ) (p : Tokens) → AreBlocks es d p f → ArePlaced es p f →
+      pass c s (inherited_at es c s p) f ≡ judge (verdicts_of es c s) p f
+  pass-judge end d p blocks there = refl
+  pass-judge (leaf i rest) d p blocks there = ap (plain i) (pass-judge rest d p blocks there)
+  pass-judge (branch name place kids rest) d p blocks there =
+      let q = p ++ steps name place in
+      let written : written_label es q ≡ spelled_in kids = written-block es (suc d) q kids under blocks.0 there.0 in
+      rw (enter-at p name place (spelled_in kids) there.0 there.1 written, ← written, pass-judge kids (suc d) q blocks.1 there.2, pass-judge rest d p blocks.2 there.3)
+
+-- ---- where the verdicts look
+
+-- where they look at all lines below a class, they look at its members
+says-below : (v : Verdicts) (es : List LocatedLine) → ((p : Tokens) → v.holds_visible p ≡ any_seen v (below p es)) →
+    (f : Forest) (d : ℕ) (p : Tokens) → AreBlocks es d p f → SaysBelow v d p f
+says-below v es looks end d p blocks = tt
+says-below v es looks (leaf i rest) d p blocks = says-below v es looks rest d p blocks
+says-below v es looks (branch name place kids rest) d p blocks =
+    let q = p ++ steps name place in
+    (looks q ∙ ap (any_seen v) blocks.0, says-below v es looks kids (suc d) q blocks.1, says-below v es looks rest d p blocks.2)
 
 -- no line of a document has the root's path
 pub root-bare : (f : Forest) → IsSound f → has_class (located (lines 1 f)) [] ≡ false
@@ -41,6 +74,8 @@ root-bare f sound =
     deep n None z = refl
     deep n (Some k) z = refl
 
+-- ---- a whole document
+
 module _ (f : Forest) (c : Case) (s : Standing) (sound : IsSound f) (ok : first_bad_marking (located (lines 1 f)) ≡ None) where
   abbrev es : List LocatedLine
   es = located (lines 1 f)
@@ -48,47 +83,52 @@ module _ (f : Forest) (c : Case) (s : Standing) (sound : IsSound f) (ok : first_
   abbrev v : Verdicts
   v = verdicts_of (located (lines 1 f)) c s
 
-  -- what the pass has judged
-  abbrev pub judged : Judged
-  judged = pass c s (at_root c s) f
-
-  judged-is : judged ≡ judge v [] f
-  judged-is = pass-all f c s sound (root-bare f sound)
-
   pub says : SaysBelow v 1 [] f
   says = says-below v es (λ p. refl) f 1 [] (blocks-located f sound)
 
+  -- what the pass leaves is a document
   pub left-sound : IsSound (cut root 0 (judge v [] f))
   left-sound =
-      sound-cut v f sound
-      (labels-fit es c s (below-parents (lines 1 f)) f 1 [] (blocks-located f sound) (classes-placed f sound) (sym (first_bad f sound) ∙ ok))
-      (λ p. label-names (label_at es p))
-
-  -- what the pass leaves is a document
-  pub excerpt-sound : IsSound (cut root 0 judged)
-  excerpt-sound = subst (λ j. IsSound (cut root 0 j)) (sym judged-is) left-sound
+      let within = within-cut v (λ p. label-names (label_at es p)) f root [] 0 in
+      let fit = labels-fit es c s (below-parents (lines 1 f)) f 1 [] (blocks-located f sound) (classes-placed f sound) (sym (first_bad f sound) ∙ ok) in
+      record {
+        ordered = ordered-cut v f root [] 0 None None sound.ordered fit trails-none;
+        classes = omega (arith, within.classes, sound.classes);
+        shallow = omega (arith, within.depth, sound.shallow, sound.classes);
+        short = omega (arith, within.counts 1, sound.short);
+        texts = within.texts sound.texts;
+      }
 
   -- the kept outline is that of what the pass leaves
   pub left-lines : kept_outline (lines 1 f) c s ≡ lines 1 (cut root 0 (judge v [] f))
   left-lines = ap (kept v) (located-lines f sound) ∙ kept-lines v f sound says left-sound
 
-  pub excerpt-lines : kept_outline (lines 1 f) c s ≡ lines 1 (cut root 0 judged)
-  excerpt-lines = left-lines ∙ ap (λ j. lines 1 (cut root 0 j)) (sym judged-is)
+  -- the same of what the program's pass has judged
+  module _ (j : Judged) (is : j ≡ pass c s (at_root c s) f) where
+    judged-is : j ≡ judge v [] f
+    judged-is = is ∙ ap (λ h. pass c s h f) (at_root-is es c s (root-bare f sound)) ∙ pass-judge es c s (below-parents (lines 1 f)) f 1 [] (blocks-located f sound) (classes-placed f sound)
 
-  -- the withheld pairs are those that the pass tells
-  pub excerpt-told : withheld_of (lines 1 f) c s ≡ told root [] 0 judged
-  excerpt-told =
-      ap (withheld_pairs v) (located-lines f sound)
-      ∙ withheld-walk v (place_by (class_places v (walk 1 [] f))) f 1 [] [] 0 says (placed v f sound says left-sound) refl refl
-      ∙ ap (told root [] 0) (sym judged-is)
+    pub excerpt-sound : IsSound (cut root 0 j)
+    excerpt-sound = rw judged-is left-sound
 
-  -- the visible classes are those that the pass counts
-  pub excerpt-count : visible_count (lines 1 f) c s ≡ visible_classes judged
-  excerpt-count = ap (count_by (is_seen v)) (located-lines f sound) ∙ count-walk v f 1 [] ∙ ap visible_classes (sym judged-is)
+    pub excerpt-lines : kept_outline (lines 1 f) c s ≡ lines 1 (cut root 0 j)
+    excerpt-lines = rw judged-is left-lines
 
-  -- and they are few
-  pub excerpt-few : visible_classes judged ≤ LINE_LIMIT
-  excerpt-few =
-      let short = sound.short in
-      let few : visible_classes judged ≤ counted (lines 1 f) = subst (λ j. visible_classes j ≤ counted (lines 1 f)) (sym judged-is) (few-seen v f 1 []) in
-      omega (arith, short, few)
+    -- the withheld pairs are those that the pass tells
+    pub excerpt-told : (ws : List Withheld) (q : Tokens) → q ≡ [] → is_among (ws ++ []) ≡ is_among (told root q 0 j) →
+        (x : Withheld) → is_among ws x ≡ is_among (withheld_of (lines 1 f) c s) x
+    excerpt-told ws q at told_all x =
+        let pairs : withheld_of (lines 1 f) c s ≡ told root [] 0 (judge v [] f) =
+        ap (withheld_pairs v) (located-lines f sound)
+        ∙ withheld-walk v (place_by (class_places v (walk 1 [] f))) f 1 [] [] 0 says (placed v f sound says left-sound) refl refl in
+        let same : told root q 0 j ≡ withheld_of (lines 1 f) c s = cc (at, judged-is, pairs) in
+        ap (λ (among : Withheld → Bool). among x) (ap is_among (sym (append-nil ws)) ∙ told_all ∙ ap is_among same)
+
+    -- the visible classes are those that the pass counts, which are few
+    pub excerpt-count : (n : ℕ) → (0 + visible_classes j < 2 ^ 32 → n + 0 ≡ 0 + visible_classes j) → n ≡ visible_count (lines 1 f) c s
+    excerpt-count n counts =
+        let same = ap visible_classes judged-is in
+        let all : visible_count (lines 1 f) c s ≡ visible_classes (judge v [] f) = ap (count_by (is_seen v)) (located-lines f sound) ∙ count-walk v f 1 [] in
+        let few = few-seen v f 1 [] in
+        let short = sound.short in
+        omega (arith, counts (omega (arith, same, few, short)), same, all)

@@ -1,6 +1,5 @@
 -- What the pass tells as withheld is what the definitions say.
-use Rattle.std.proofs.Common.{◌≡◌, ℕ, suc, Bool, true, false, not, List, [], ◌∷◌, ◌++◌, refl, sym, ◌∙◌, ap, subst, if◌then◌else◌, ◌&&◌}
-use Rattle.std.specs.Prelude.{Option, Some}
+use Rattle.std.proofs.Common.{◌≡◌, ℕ, suc, Bool, true, false, not, List, [], ◌∷◌, ◌++◌, refl, sym, ◌∙◌, ap, subst, if◌then◌else◌, ◌&&◌, Option, Some}
 use Rattle.std.specs.List.{AllByRecursion}
 use Rattle.std.proofs.lemmas.Bool.{and_right, or_parts, cond-true, cond-false}
 use Rattle.std.proofs.lemmas.List.Concat.{flat_map-append}
@@ -15,6 +14,7 @@ use Rattle.redact.specs.Withheld.{Withheld, told_at_place, withheld_at, withheld
 use Rattle.redact.specs.Judged.{judge, inside, keeps_plain, home_at, left_before, new_place, left_with, is_end, cut, told, places}
 use Rattle.marking.proofs.Bad.{no_class-kind}
 use Rattle.marking.proofs.Marked.{not_root}
+use Rattle.redact.proofs.Fates.{by_verdict}
 use Rattle.redact.proofs.Keeping.{home-class, is_seen, any_seen, SaysBelow, ends}
 
 module _ (v : Verdicts) (place : Tokens → Option Tokens) where
@@ -49,37 +49,9 @@ module _ (v : Verdicts) (place : Tokens → Option Tokens) where
       ∙ ap (λ ts. ts ++ tells R) (silent kids (suc d) q says.1 below.0 bare)
       ∙ silent rest d p says.2 below.1 hidden
 
-  all_front : (xs ys : List (Tokens × Tokens)) → AllByRecursion IsRight (xs ++ ys) → AllByRecursion IsRight xs
-  all_front [] ys h = tt
-  all_front (x ∷ xs) ys h = (h.0, all_front xs ys h.1)
-
-  all_back : (xs ys : List (Tokens × Tokens)) → AllByRecursion IsRight (xs ++ ys) → AllByRecursion IsRight ys
-  all_back [] ys h = h
-  all_back (x ∷ xs) ys h = all_back xs ys h.1
-
-  -- the three ways of a class
-  choose_told : (visible holds hidden ended : Bool) (p' q r : Tokens) (rule : Rule) (K R : List Withheld)
-      (TK : Bool → List Withheld) (behind gone : List Withheld) (PK : Bool → List (Tokens × Tokens)) (PB PG : List (Tokens × Tokens)) →
-      hidden ≡ (not visible && not holds) → (visible ≡ false → ended ≡ not holds) →
-      AllByRecursion IsRight (if visible then (p', r) ∷ (PK true ++ PB) else (if ended then PG else (p', r) ∷ (PK false ++ PB))) →
-      (place p' ≡ Some r → AllByRecursion IsRight (PK visible) → hidden ≡ false → K ≡ TK visible) → (visible ≡ false → holds ≡ false → K ≡ []) →
-      (AllByRecursion IsRight PB → R ≡ behind) → (AllByRecursion IsRight PG → R ≡ gone) →
-      (if not visible && holds then told_at_place (place p') rule else (if hidden && true then (q, rule) ∷ [] else [])) ++ (K ++ R) ≡
-      (if visible then TK true ++ behind else (if ended then (q, rule) ∷ gone else (r, rule) ∷ (TK false ++ behind)))
-  choose_told true holds hidden ended p' q r rule K R TK behind gone PK PB PG bare bottom right kids quiet next past =
-      ap (λ b. (if b && true then (q, rule) ∷ [] else []) ++ (K ++ R)) bare
-      ∙ ap (λ k. k ++ R) (kids right.0 (all_front (PK true) PB right.1) bare)
-      ∙ ap (λ ts. TK true ++ ts) (next (all_back (PK true) PB right.1))
-  choose_told false true hidden ended p' q r rule K R TK behind gone PK PB PG bare bottom right kids quiet next past =
-      let all : AllByRecursion IsRight ((p', r) ∷ (PK false ++ PB)) = subst (AllByRecursion IsRight) (cond-false ended PG ((p', r) ∷ (PK false ++ PB)) (bottom refl)) right in
-      ap (λ x. told_at_place x rule ++ (K ++ R)) all.0
-      ∙ ap (λ ts. (r, rule) ∷ ts) (ap (λ k. k ++ R) (kids all.0 (all_front (PK false) PB all.1) bare) ∙ ap (λ ts. TK false ++ ts) (next (all_back (PK false) PB all.1)))
-      ∙ sym (cond-false ended ((q, rule) ∷ gone) ((r, rule) ∷ (TK false ++ behind)) (bottom refl))
-  choose_told false false hidden ended p' q r rule K R TK behind gone PK PB PG bare bottom right kids quiet next past =
-      let all : AllByRecursion IsRight PG = subst (AllByRecursion IsRight) (cond-true ended PG ((p', r) ∷ (PK false ++ PB)) (bottom refl)) right in
-      ap (λ b. (if b && true then (q, rule) ∷ [] else []) ++ (K ++ R)) bare
-      ∙ ap (λ ts. (q, rule) ∷ ts) (ap (λ k. k ++ R) (quiet refl refl) ∙ past all)
-      ∙ sym (cond-true ended ((q, rule) ∷ gone) ((r, rule) ∷ (TK false ++ behind)) (bottom refl))
+  all_parts : (xs ys : List (Tokens × Tokens)) → AllByRecursion IsRight (xs ++ ys) → AllByRecursion IsRight xs × AllByRecursion IsRight ys
+  all_parts [] ys h = (tt, h)
+  all_parts (x ∷ xs) ys h = let parts = all_parts xs ys h.1 in ((h.0, parts.0), parts.1)
 
   pub withheld-walk : (f : Forest) (d : ℕ) (p q : Tokens) (n : ℕ) → SaysBelow v d p f → AllByRecursion IsRight (places (home_at v p) p q n (judge v p f)) →
       place p ≡ Some q → is_wholly_hidden v p ≡ false → tells (walk d p f) ≡ told (home_at v p) q n (judge v p f)
@@ -95,21 +67,24 @@ module _ (v : Verdicts) (place : Tokens → Option Tokens) where
       let J = judge v p' kids in
       let h = home_at v p in
       let rule = v.rule p' in
-      let bare : is_wholly_hidden v p' ≡ (not (v.visible p') && not (v.holds_visible p')) =
-      ap (λ b. not b && (not (v.visible p') && not (v.holds_visible p'))) (not_root p name pl) in
-      let W = λ (x : Option Tokens) (o : Bool). (if is_frame v p' then told_at_place (place p') rule else (if is_wholly_hidden v p' && o then told_at_place x rule else [])) ++ tells (K ++ R) in
-      ap (λ o. W (place p) (not o)) shown
-      ∙ ap (λ x. W x true) here
-      ∙ ap (λ ts. (if is_frame v p' then told_at_place (place p') rule else (if is_wholly_hidden v p' && true then (q, rule) ∷ [] else [])) ++ ts) (flat_map-append (withheld_at v place) K R)
-      ∙ choose_told (v.visible p') (v.holds_visible p') (is_wholly_hidden v p') (is_end (cut (inside false) 0 J)) p' q r rule (tells K) (tells R)
-      (λ b. told (inside b) r 0 J) (told h q (left_with n pl) (judge v p rest)) (told h q (left_before n pl) (judge v p rest))
-      (λ b. places (inside b) p' r 0 J) (places h p q (left_with n pl) (judge v p rest)) (places h p q (left_before n pl) (judge v p rest))
-      bare
-      (λ hidden. ends v kids (suc d) p' 0 ∙ ap not (sym says.0))
+      let TK = λ (b : Bool). told (inside b) r 0 J in
+      let TB = λ (m : ℕ). told h q m (judge v p rest) in
+      let PK = λ (b : Bool). places (inside b) p' r 0 J in
+      let PB = λ (m : ℕ). places h p q m (judge v p rest) in
+      let bare : is_wholly_hidden v p' ≡ (not (v.visible p') && not (v.holds_visible p')) = rw (not_root p name pl) in
+      let behind : (m : ℕ) → AllByRecursion IsRight (PB m) → tells R ≡ TB m = λ m all. withheld-walk rest d p q m says.2 all here shown in
+      rw (shown, here, bare, flat_map-append (withheld_at v place) K R)
+      (by_verdict (λ visible holds ended.
+      AllByRecursion IsRight (if visible then (p', r) ∷ (PK true ++ PB (left_with n pl)) else (if ended then PB (left_before n pl) else (p', r) ∷ (PK false ++ PB (left_with n pl)))) →
+      (place p' ≡ Some r → AllByRecursion IsRight (PK visible) → (not visible && not holds) ≡ false → tells K ≡ TK visible) → (visible ≡ false → holds ≡ false → tells K ≡ []) →
+      (if not visible && holds then told_at_place (place p') rule else (if (not visible && not holds) && true then (q, rule) ∷ [] else [])) ++ (tells K ++ tells R) ≡
+      (if visible then TK true ++ TB (left_with n pl) else (if ended then (q, rule) ∷ TB (left_before n pl) else (r, rule) ∷ (TK false ++ TB (left_with n pl)))))
+      (v.visible p') (v.holds_visible p') (is_end (cut (inside false) 0 J)) (λ hidden. ends v kids (suc d) p' 0 ∙ ap not (sym says.0))
+      (λ holds ended all kept none. let parts = all_parts (PK true) (PB (left_with n pl)) all.1 in rw (kept all.0 parts.0 refl, behind (left_with n pl) parts.1))
+      (λ all kept none. let parts = all_parts (PK false) (PB (left_with n pl)) all.1 in rw (all.0, kept all.0 parts.0 refl, behind (left_with n pl) parts.1))
+      (λ all kept none. rw (none refl refl, behind (left_before n pl) all))
       right
       (λ at all open'.
-      withheld-walk kids (suc d) p' r 0 says.1 (subst (λ g. AllByRecursion IsRight (places g p' r 0 J)) (sym (home-class v p name pl)) all) at open'
+      withheld-walk kids (suc d) p' r 0 says.1 (subst (λ g. AllByRecursion IsRight (places g p' r 0 J)) (sym (home-class v p name pl)) all) at (bare ∙ open')
       ∙ ap (λ g. told g r 0 J) (home-class v p name pl))
-      (λ hidden closed. silent kids (suc d) p' says.1 (sym says.0 ∙ closed) (bare ∙ ap (λ b. not b && not (v.holds_visible p')) hidden ∙ ap not closed))
-      (λ all. withheld-walk rest d p q (left_with n pl) says.2 all here shown)
-      (λ all. withheld-walk rest d p q (left_before n pl) says.2 all here shown)
+      (λ hidden closed. silent kids (suc d) p' says.1 (sym says.0 ∙ closed) (bare ∙ ap (λ b. not b && not (v.holds_visible p')) hidden ∙ ap not closed)))

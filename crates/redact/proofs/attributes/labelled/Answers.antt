@@ -1,5 +1,4 @@
-use Rattle.std.proofs.Common.{◌∙◌, ap}
-use Rattle.std.specs.Prelude.{codes}
+use Rattle.std.proofs.Common.{◌∙◌, ap, codes}
 use Rattle.iodef_tree.specs.View.{forest}
 use Rattle.redact.specs.Judged.{put_leaf, put_attributes, attribute_leaf}
 use Rattle.redact.specs.Told.{attributes_by}
@@ -13,10 +12,3 @@ returns-in_ok-with_attribute-in-Some-clause-put c =
     c.in_ok-with_attribute-in-Some.ensures.put
     ∙ ap (put_leaf (attribute_leaf (codes "ext-restriction", t))) (c.in_ok-object.ensures.put ∙ ap (λ r. put_leaf (attribute_leaf (codes "restriction", r)) f) c.restriction.ensures)
     ∙ ap (λ o. put_attributes (attributes_by (restriction_of (marking_of c.args.label)) o) f) c.in-Some.ensures
-
-pub returns-in-None-clause-put : goal.returns-in-None-clause-put
-returns-in-None-clause-put c =
-    let f = forest c.args.object in
-    c.in_ok-object.ensures.put
-    ∙ ap (λ r. put_leaf (attribute_leaf (codes "restriction", r)) f) c.restriction.ensures
-    ∙ ap (λ o. put_attributes (attributes_by (restriction_of (marking_of c.args.label)) o) f) c.in-None.ensures

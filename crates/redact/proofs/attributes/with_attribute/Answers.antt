@@ -26,13 +26,15 @@ returns-clause-put c =
     let said : bodies (One (Text value)) ≡ saying text = bodies-One (Text value) ∙ ap one (body-Text value) ∙ ap saying (c.new.ensures ∙ c.in_ok-from_str.ensures.ok) in
     let named_is : named e ≡ (name, saying text) =
     ap (λ (n : Bytes). let m : Bytes × Bodies = (n, bodies (One (Text value))) in m) (c.new-2.ensures ∙ c.in_ok-from_str-2.ensures.ok) ∙ ap (λ (b : Bodies). let m : Bytes × Bodies = (name, b) in m) said in
-    forest-made c.insert.new.self
-    ∙ ap members_forest (c.in_ok-insert.ensures.items ∙ ap (λ zs. take r zs ++ e ∷ drop r zs) (sym c.deref.ensures.value))
-    ∙ ap forest_of_members (map-append named (take r D) (e ∷ drop r D))
-    ∙ ap (λ n. forest_of_members (map named (take r D) ++ n ∷ map named (drop r D))) named_is
-    ∙ sym (c.place_for-at.ensures.splits text)
-    ∙ ap (λ zs. put_leaf x (members_forest zs)) c.deref.ensures.value
-    ∙ ap (put_leaf x) (sym (forest-members c.args.object))
+    cc (
+      forest-made c.insert.new.self,
+      forest-members c.args.object,
+      c.in_ok-insert.ensures.items,
+      c.deref.ensures.value,
+      map-append named (take r D) (e ∷ drop r D),
+      named_is,
+      c.place_for-at.ensures.splits text,
+    )
 
 pub place_for-at-requires : goal.place_for-at-requires
 place_for-at-requires c = subst (λ (ms : List (Bytes × Member)). AllByRecursion (λ m. IsMemberFilled m.1) ms) (sym c.deref.ensures.value) (members-filled c.args.object c.requires)

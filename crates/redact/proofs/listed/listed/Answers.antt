@@ -1,6 +1,5 @@
-use Rattle.std.proofs.Common.{◌≡◌, List, sym, ◌∙◌, subst}
+use Rattle.std.proofs.Common.{◌≡◌, List, sym, ◌∙◌, subst, IsPermutation}
 use Rattle.std.specs.List.{dedup}
-use Rattle.std.specs.List.Sorted.{IsPermutation}
 use Rattle.std.proofs.lemmas.List.Filters.{dedup_is}
 use Rattle.redact.specs.Withheld.{Withheld, same_withheld, Lists}
 use Rattle.redact.proofs.Listing.{lists-dedup}

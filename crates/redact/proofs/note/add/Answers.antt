@@ -1,6 +1,5 @@
-use Rattle.std.proofs.Common.{sym, ◌∙◌, ap}
+use Rattle.std.proofs.Common.{sym, ◌∙◌, ap, bytes_eq}
 use Rattle.std.specs.List.{list_any}
-use Rattle.std.specs.Str.{bytes_eq}
 use Rattle.policy.specs.Rule.{name_of}
 use Rattle.redact.proofs.Listing.{any-known}
 use Rattle.redact.proofs.note.add.Goals as goal

@@ -1,34 +1,29 @@
-use Rattle.std.proofs.Common.{Vec, Global, List, Bool, ◌||◌, ◌≡◌, ℕ, suc, ◌+◌, ◌<◌, [], ◌∷◌, ◌++◌, map, length, get_or, drop, take, length-append, refl, sym, ◌∙◌, ap, subst, arith, add-one, decimal, true, false, rules, if◌then◌else◌}
-use Rattle.std.specs.Prelude.{Option, Some, None, option_map, is_some, IfSome}
-use Rattle.std.proofs.lemmas.List.{drop_all, append-nil, map-append, at_drop_more}
+use Rattle.std.proofs.Common.{vec_len, List, Bool, ◌||◌, ◌≡◌, ◌==◌, ℕ, suc, ◌+◌, [], ◌∷◌, ◌++◌, map, length, get_or, drop, take, refl, sym, ◌∙◌, ap, subst, arith, add-one, decimal, false, true, rules, if◌then◌else◌, Option, Some, None, option_map, is_some, append-nil, eqb-true}
+use Rattle.std.proofs.lemmas.List.{drop_all, map-append, at_drop_more}
+use Rattle.std.proofs.lemmas.Bool.{eqb-false}
+use Rattle.std.specs.List.{AllByRecursion, cons_option, list_any}
 use Rattle.iodef_tree.specs.declared.text.Text.{Text}
 use Rattle.iodef_tree.specs.declared.object.Member.{Member}
-use Rattle.iodef_tree.specs.declared.object.Object.{the_lemmas}
-use Rattle.policy.specs.Ahead.{ahead_of}
-use Rattle.redact.specs.declared.trail.Token.{Token}
-use Rattle.std.proofs.lemmas.Bool.{eqb-false, eqb-true, cond-false, cond-true}
-use Rattle.iodef_tree.specs.Text.{Bytes}
-use Rattle.iodef_tree.specs.View.{forest, body, bodies, named, members_forest, forest_of_members}
-use Rattle.std.specs.List.{AllByRecursion}
-use Rattle.iodef_tree.specs.Filled.{has_some, IsItemFilled, IsMemberFilled}
 use Rattle.iodef_tree.specs.declared.object.Item.{Item}
+use Rattle.iodef_tree.specs.declared.object.Object.{Object, the_lemmas}
+use Rattle.iodef_tree.specs.Text.{Bytes}
+use Rattle.iodef_tree.specs.Tree.{Forest}
+use Rattle.iodef_tree.specs.View.{forest, body, bodies, named, forest_of_members}
+use Rattle.iodef_tree.specs.Filled.{has_some, IsFilled, IsItemFilled, IsMemberFilled}
 use Rattle.iodef_tree.proofs.Filled.{made-filled, many-filled, members-filled, member-at, elements-kept}
-use Rattle.iodef_tree.proofs.Siblings.{all-append}
 use Rattle.iodef_tree.proofs.Views.{forest-members, forest-made}
-use Rattle.policy.specs.Inherited.{carried, hides}
+use Rattle.policy.specs.Ahead.{ahead_of}
+use Rattle.policy.specs.Inherited.{carried, is_seen, hides}
 use Rattle.policy.specs.declared.rule.Rule.{Rule}
-use Rattle.redact.specs.Withheld.{at_rule, at_place}
+use Rattle.redact.specs.Judged.{inside, is_end, cut, told}
+use Rattle.redact.specs.Pass.{pass}
+use Rattle.redact.specs.Tokens.{token_of, path_of}
+use Rattle.redact.specs.Left.{home_of, left_at, told_at, count_at, left_member, told_member, count_member, left_members, told_members, count_members, left_items, told_items, count_items, Goes}
 use Rattle.redact.specs.declared.pass.State.{State}
-use Rattle.redact.specs.declared.trail.Token.TheVariants.{Index}
-use Rattle.redact.specs.Judged.{inside, is_end, cut, told, visible_classes}
-use Rattle.redact.specs.Pass.{pass, judgment_by}
-use Rattle.marking.specs.Members.{spelled_in}
-use Rattle.std.specs.List.{list_any}
-use Rattle.redact.specs.Tokens.{path_of}
-use Rattle.redact.specs.Left.{home_of, left_at, left_member, told_member, count_member, left_members, told_members, count_members, left_items, told_items, count_items, tells, Goes}
-use Rattle.redact.proofs.Fronts.{members-cut, members-told, members-count}
+use Rattle.redact.specs.declared.trail.Token.{Token}
+use Rattle.redact.proofs.Fronts.{Outcome, of_object}
 use Rattle.redact.proofs.Filling.{filled-end, filled-none}
-use Rattle.redact.proofs.Going.{goes-item, goes-member, items-step, members-step, told-seen, told-frame, told-gone}
+use Rattle.redact.proofs.Going.{goes-step, told-seen, told-frame, told-gone, pushed, pushed-left, pushed-all, pushed-none, length-pushed}
 use Rattle.redact.proofs.reader.Reader.+cut.Goals as goal
 use Rattle.redact.proofs.reader.Reader.+cut.Goals.{cut_items-in-Some+in_ok-push, cut_items-in_default, cut-in-Some+in_ok-push_member, cut-in_default}
 
@@ -36,36 +31,22 @@ pub cut-returns-clause-left : goal.cut-returns-clause-left
 cut-returns-clause-left t c =
     let C = c.args.self.now.case.now in
     let S = c.args.self.now.standing.now in
-    let H = home_of c.args.home in
     let A = carried (path_of c.args.state.now.path.items) c.args.above in
     let D = c.deref-name-items.result.now in
-    let o = c.args.object.now in
-    let done : map named c.loop-name.members.items ≡ left_members C S H A (map named D) =
-    sym (append-nil (map named c.loop-name.members.items))
-    ∙ ap (λ xs. map named c.loop-name.members.items ++ left_members C S H A (map named xs)) (sym (drop_all c.loop-name.name-index D (omega arith)))
-    ∙ c.loop-name.invariant.left in
     forest-made c.loop-name.members
-    ∙ ap forest_of_members done
-    ∙ members-cut C S H A (map named D)
-    ∙ ap (λ ms. cut H 0 (pass C S A (members_forest ms))) c.deref-name-items.ensures.value
-    ∙ ap (λ f. cut H 0 (pass C S A f)) (sym (forest-members o))
+    ∙ ap forest_of_members (sym (append-nil (map named c.loop-name.members.items)) ∙ (rw (drop_all c.loop-name.name-index D (omega arith)) at c.loop-name.invariant.left))
+    ∙ sym (ap (λ (x : Outcome). x.left) (of_object C S (home_of c.args.home) A (path_of c.args.state.now.place.items) c.args.object.now D c.deref-name-items.ensures.value))
 
 pub cut-returns-clause-goes : goal.cut-returns-clause-goes
 cut-returns-clause-goes t c =
     let C = c.args.self.now.case.now in
     let S = c.args.self.now.standing.now in
-    let H = home_of c.args.home in
     let A = carried (path_of c.args.state.now.path.items) c.args.above in
     let Q = path_of c.args.state.now.place.items in
     let D = c.deref-name-items.result.now in
-    let o = c.args.object.now in
-    let whole : members_forest D ≡ forest o = ap members_forest c.deref-name-items.ensures.value ∙ sym (forest-members o) in
-    let over : Goes Q c.args.state.now c.loop-name.state (told_members C S H A Q (map named D)) [] (count_members C S A (map named D)) 0 =
-    subst (λ xs. Goes Q c.args.state.now c.loop-name.state (told_members C S H A Q (map named D)) (told_members C S H A Q (map named xs)) (count_members C S A (map named D)) (count_members C S A (map named xs)))
-    (drop_all c.loop-name.name-index D (omega arith)) c.loop-name.invariant.goes in
-    subst (λ f. Goes Q c.args.state.now c.loop-name.state (told H Q 0 (pass C S A f)) [] (visible_classes (pass C S A f)) 0) whole
-    (subst (λ n. Goes Q c.args.state.now c.loop-name.state (told H Q 0 (pass C S A (members_forest D))) [] n 0) (members-count C S H A (map named D))
-    (subst (λ ts. Goes Q c.args.state.now c.loop-name.state ts [] (count_members C S A (map named D)) 0) (members-told C S H A Q (map named D)) over))
+    subst (λ (x : Outcome). Goes Q c.args.state.now c.loop-name.state x.pairs [] x.classes 0)
+    (sym (of_object C S (home_of c.args.home) A Q c.args.object.now D c.deref-name-items.ensures.value))
+    (rw (drop_all c.loop-name.name-index D (omega arith)) at c.loop-name.invariant.goes)
 
 pub cut-returns-clause-filled : goal.cut-returns-clause-filled
 cut-returns-clause-filled t c = made-filled c.loop-name.members c.loop-name.invariant.filled
@@ -98,111 +79,74 @@ cut_seen-returns-clause-goes t c = λ q.
     let st = c.args.state.now in
     let b : State = record st { classes = c.saturating_add-state.result; gone = c.replace-outside.new.dest } in
     let k = c.cut.new.state in
-    let d = c.tell_and_leave.new.state in
     let r = path_of st.place.items in
     let J = pass c.args.self.now.case.now c.args.self.now.standing.now (carried (path_of st.path.items) c.args.at) (forest c.args.object.now) in
     let g = c.in_ok-kept.ensures.goes in
-    let left = c.in_ok-tell_and_leave.ensures in
-    let noted : d.withheld.items ≡ tells r k = left.withheld ∙ ap (λ ts. k.withheld.items ++ at_place (path_of ts) k.gone.items) g.place in
+    let told_all = c.in_ok-tell_and_leave.ensures in
     record {
-      path = left.path ∙ g.path;
-      place = left.place ∙ g.place;
-      withheld = told-seen q r st b k d (told (inside true) r 0 J) refl (ap (λ v. v.items) c.replace-outside.ensures.after ∙ c.new.ensures.items) g.withheld noted
-          (left.gone ∙ ap (λ v. v.items) c.replace-outside.ensures.value);
-      classes = λ h. let more = c.saturating_add-state.ensures in let e = g.classes (omega (arith, more, h)) in omega (arith, more, e, left.classes, h);
+      path = told_all.path ∙ g.path;
+      place = told_all.place ∙ g.place;
+      withheld = told-seen q r st b k c.tell_and_leave.new.state (told (inside true) r 0 J) refl (ap (λ v. v.items) c.replace-outside.ensures.after ∙ c.new.ensures.items) g.withheld
+          (cc (told_all.withheld, g.place)) (cc (told_all.gone, c.replace-outside.ensures.value));
+      classes = λ h. let more = c.saturating_add-state.ensures in let e = g.classes (omega (arith, more, h)) in omega (arith, more, e, told_all.classes, h);
     }
 
 pub cut_hidden-returns-in_ok-add-clause-goes : goal.cut_hidden-returns-in_ok-add-clause-goes
 cut_hidden-returns-in_ok-add-clause-goes t c =
     let o = c.in_ok-kept.kept in
     let st = c.args.state.now in
-    let b : State = record st { gone = c.replace-outside.new.dest } in
-    let k = c.cut.new.state in
-    let J = pass c.args.self.now.case.now c.args.self.now.standing.now (carried (path_of st.path.items) c.args.at) (forest c.args.object.now) in
-    let I = cut (inside false) 0 J in
-    let r = path_of st.place.items in
+    let d : State = record c.cut.new.state { gone = c.add.new.rules } in
     let q = path_of (take c.args.base st.place.items) in
-    let T = told (inside false) r 0 J in
+    let J = pass c.args.self.now.case.now c.args.self.now.standing.now (carried (path_of st.path.items) c.args.at) (forest c.args.object.now) in
     let rule = hides c.args.self.now.standing.now (carried (path_of st.path.items) c.args.at) in
     let g = c.in_ok-kept.ensures.goes in
-    let d : State = record k { gone = c.add.new.rules } in
     let empty : length o.members.items ≡ 0 = sym o.members.ok.0 ∙ eqb-true _ 0 (sym c.if-is_empty.ensures) in
-    let none : is_end I ≡ true = ap is_end (sym c.in_ok-kept.ensures.left ∙ forest-members o) ∙ filled-none o.members.items empty in
+    let none : is_end (cut (inside false) 0 J) ≡ true = ap is_end (sym c.in_ok-kept.ensures.left ∙ forest-members o) ∙ filled-none o.members.items empty in
     let added : (test : Rule → Bool) → list_any test d.gone.items ≡ (list_any test st.gone.items || test rule) = λ test.
-    c.in_ok-add.ensures test
-    ∙ ap (λ v. list_any test v.items || test c.hides-rule.result) (c.replace-gone.ensures.after ∙ c.replace-outside.ensures.value)
-    ∙ ap (λ l. list_any test st.gone.items || test l) c.hides-rule.ensures in
-    subst (λ ts. Goes q st d ts [] (visible_classes J) 0)
-    (sym (cond-true (is_end I) (at_rule q rule ∷ []) (at_rule r rule ∷ T) none))
-    (record {
-      path = g.path;
-      place = g.place;
-      withheld = told-gone q st d rule (c.in_ok-kept.ensures.quiet empty) added;
-      classes = g.classes;
-    })
+    cc (c.in_ok-add.ensures test, c.replace-gone.ensures.after, c.replace-outside.ensures.value, c.hides-rule.ensures) in
+    rw none (record { path = g.path; place = g.place; withheld = told-gone q st d rule (c.in_ok-kept.ensures.quiet empty) added; classes = g.classes })
+
+-- what is left of the members has no end where there are some
+some-left : (o : Object) (left : Forest) → IsFilled o → forest o ≡ left → false ≡ (vec_len o.members == 0) → is_end left ≡ false
+some-left o left filled is some = ap is_end (sym is ∙ forest-members o) ∙ filled-end o.members.items (members-filled o filled) (λ e. eqb-false _ 0 (sym some) (o.members.ok.0 ∙ e))
 
 pub cut_hidden-returns-in_ok-tell-clause-left : goal.cut_hidden-returns-in_ok-tell-clause-left
 cut_hidden-returns-in_ok-tell-clause-left t c =
-    let o = c.in_ok-kept.kept in
-    let I = cut (inside false) 0 (pass c.args.self.now.case.now c.args.self.now.standing.now (carried (path_of c.args.state.now.path.items) c.args.at) (forest c.args.object.now)) in
-    let some : is_end I ≡ false =
-    ap is_end (sym c.in_ok-kept.ensures.left ∙ forest-members o)
-    ∙ filled-end o.members.items (members-filled o c.in_ok-kept.ensures.filled) (λ e. eqb-false _ 0 (sym c.if-is_empty.ensures) (o.members.ok.0 ∙ e)) in
-    ap Some c.in_ok-kept.ensures.left ∙ sym (cond-false (is_end I) None (Some I) some)
+    let kept = c.in_ok-kept.ensures in
+    rw (some-left c.in_ok-kept.kept _ kept.filled kept.left c.if-is_empty.ensures) (ap Some kept.left)
 
 pub cut_hidden-returns-in_ok-tell-clause-goes : goal.cut_hidden-returns-in_ok-tell-clause-goes
 cut_hidden-returns-in_ok-tell-clause-goes t c =
-    let o = c.in_ok-kept.kept in
     let st = c.args.state.now in
     let b : State = record st { gone = c.replace-outside.new.dest } in
     let k = c.cut.new.state in
     let J = pass c.args.self.now.case.now c.args.self.now.standing.now (carried (path_of st.path.items) c.args.at) (forest c.args.object.now) in
-    let I = cut (inside false) 0 J in
     let r = path_of st.place.items in
     let q = path_of (take c.args.base st.place.items) in
-    let T = told (inside false) r 0 J in
     let rule = hides c.args.self.now.standing.now (carried (path_of st.path.items) c.args.at) in
-    let g = c.in_ok-kept.ensures.goes in
-    let d = c.tell.new.state in
+    let kept = c.in_ok-kept.ensures in
+    let told_all = c.in_ok-tell.ensures in
     let gs = c.add-else-is_empty.new.rules.items in
-    let some : is_end I ≡ false =
-    ap is_end (sym c.in_ok-kept.ensures.left ∙ forest-members o)
-    ∙ filled-end o.members.items (members-filled o c.in_ok-kept.ensures.filled) (λ e. eqb-false _ 0 (sym c.if-is_empty.ensures) (o.members.ok.0 ∙ e)) in
     let added : (test : Rule → Bool) → list_any test gs ≡ (list_any test k.gone.items || test rule) = λ test.
-    c.in_ok-add-2.ensures test
-    ∙ ap (λ v. list_any test v.items || test c.hides-rule.result) c.replace-gone.ensures.value
-    ∙ ap (λ l. list_any test k.gone.items || test l) c.hides-rule.ensures in
-    let noted : d.withheld.items ≡ k.withheld.items ++ at_place r gs =
-    c.in_ok-tell.ensures.withheld
-    ∙ ap (λ ts. k.withheld.items ++ at_place (path_of ts) c.as_slice.result.now) g.place
-    ∙ ap (λ rs. k.withheld.items ++ at_place r rs) c.as_slice.ensures.value in
-    subst (λ ts. Goes q st d ts [] (visible_classes J) 0)
-    (sym (cond-false (is_end I) (at_rule q rule ∷ []) (at_rule r rule ∷ T) some))
-    (record {
-      path = c.in_ok-tell.ensures.path ∙ g.path;
-      place = c.in_ok-tell.ensures.place ∙ g.place;
-      withheld = told-frame q r st b k d T refl (ap (λ v. v.items) c.replace-outside.ensures.after ∙ c.new.ensures.items) g.withheld rule gs added noted
-          (c.in_ok-tell.ensures.gone ∙ ap (λ v. v.items) (c.replace-gone.ensures.after ∙ c.replace-outside.ensures.value));
-      classes = λ h. let e = g.classes h in omega (arith, e, c.in_ok-tell.ensures.classes);
+    cc (c.in_ok-add-2.ensures test, c.replace-gone.ensures.value, c.hides-rule.ensures) in
+    rw (some-left c.in_ok-kept.kept _ kept.filled kept.left c.if-is_empty.ensures) (record {
+      path = told_all.path ∙ kept.goes.path;
+      place = told_all.place ∙ kept.goes.place;
+      withheld = told-frame q r st b k c.tell.new.state (told (inside false) r 0 J) refl (ap (λ v. v.items) c.replace-outside.ensures.after ∙ c.new.ensures.items) kept.goes.withheld rule gs added
+          (cc (told_all.withheld, kept.goes.place, c.as_slice.ensures.value)) (cc (told_all.gone, c.replace-gone.ensures.after, c.replace-outside.ensures.value));
+      classes = λ h. let e = kept.goes.classes h in omega (arith, e, told_all.classes);
     })
 
 pub cut_class-returns-in_ok-kept-clause-goes : goal.cut_class-returns-in_ok-kept-clause-goes
 cut_class-returns-in_ok-kept-clause-goes t c =
-    let C = c.args.self.now.case.now in
     let S = c.args.self.now.standing.now in
     let st = c.args.state.now in
-    let at = carried (path_of st.path.items) c.args.at in
-    let J = pass C S at (forest c.args.object.now) in
-    let j = judgment_by C S at (spelled_in (forest c.args.object.now)) in
-    let r = path_of st.place.items in
-    let q = path_of (take c.args.base st.place.items) in
-    let seen : true ≡ j.visible = sym (sym c.sees.ensures ∙ c.if-sees.true) in
-    subst (λ v. Goes q st c.cut_seen.new.state
-    (if v then told (inside true) r 0 J else (if is_end (cut (inside false) 0 J) then at_rule q j.rule ∷ [] else at_rule r j.rule ∷ told (inside false) r 0 J))
-    [] ((if v then 1 else 0) + visible_classes J) 0) seen (c.in_ok-kept.ensures.goes q)
+    let seen : is_seen S (carried (path_of st.path.items) c.args.at) ≡ true = sym c.sees.ensures ∙ c.if-sees.true in
+    rw seen (c.in_ok-kept.ensures.goes (path_of (take c.args.base st.place.items)))
 
-member-kept : (r : Option Member) (m : Member) → r ≡ Some m → IfSome r (λ x. IsMemberFilled x) → IsMemberFilled m
-member-kept r m is h = subst (λ (o : Option Member). IfSome o (λ x. IsMemberFilled x)) is h
+named-bodies : (n : Bytes) (o : Option Member) → option_map (λ (x : Member). let y : Text × Member = (n, x) in named y) o ≡ option_map (λ b. (n, b)) (option_map bodies o)
+named-bodies n None = refl
+named-bodies n (Some x) = refl
 
 pub cut-loop-name-preserved : goal.cut-loop-name-preserved
 cut-loop-name-preserved t c =
@@ -210,113 +154,73 @@ cut-loop-name-preserved t c =
     let S = c.args.self.now.standing.now in
     let H = home_of c.args.home in
     let st = c.args.state.now in
-    let now = c.loop-name.state in
-    let new = c.cut_member.new.state in
     let A = carried (path_of st.path.items) c.args.above in
     let Q = path_of st.place.items in
     let D = c.deref-name-items.result.now in
     let i = c.loop-name.name-index in
     let m = c.loop-name-item.result in
     let ks = c.loop-name.members.items in
+    let inv = c.loop-name.invariant in
+    let o = c.in_ok-kept.field-0 in
     let R = map named (drop (i + 1) D) in
-    let X = told_members C S H A Q (map named D) in
-    let M = count_members C S A (map named D) in
+    let named' = λ (x : Member). let y : Text × Member = (m.0, x) in y in
     let split : drop i D ≡ m ∷ drop (i + 1) D = at_drop_more (λ ys. ys) D i m (omega arith) ∙ ap (λ y. y ∷ drop (i + 1) D) (sym c.loop-name-item.is) in
-    let L : map named ks ++ left_members C S H A (named m ∷ R) ≡ left_members C S H A (map named D) =
-    subst (λ ys. map named ks ++ left_members C S H A (map named ys) ≡ left_members C S H A (map named D)) split c.loop-name.invariant.left in
-    let G : Goes Q st now X (told_members C S H A Q (named m ∷ R)) M (count_members C S A (named m ∷ R)) =
-    subst (λ ys. Goes Q st now X (told_members C S H A Q (map named ys)) M (count_members C S A (map named ys))) split c.loop-name.invariant.goes in
-    let O : option_map bodies c.in_ok-kept.field-0 ≡ left_member C S H A m.0 (bodies m.1) =
-    c.in_ok-kept.ensures.left
-    ∙ ap (λ ps. left_member C S H (carried (path_of ps) c.args.above) c.as_str.result.now (bodies m.1)) c.loop-name.invariant.goes.path
-    ∙ ap (λ name. left_member C S H A name (bodies m.1)) c.as_str.ensures in
-    let own = λ (name : Bytes). Goes (path_of now.place.items) now new
-    (told_member C S H (carried (path_of now.path.items) c.args.above) (path_of now.place.items) name (bodies m.1)) []
-    (count_member C S (carried (path_of now.path.items) c.args.above) name (bodies m.1)) 0 in
-    let stepped : Goes Q st new X (told_members C S H A Q R) M (count_members C S A R) =
-    goes-member C S H c.args.above st now new (named m) R X M G (subst own c.as_str.ensures c.in_ok-kept.ensures.goes) in
-    elim c.match-branch-2.branch [
-      | cut-in-Some+in_ok-push_member w ↦ (
-          let e : Text × Member = (c.loop-name-item.result.0, w.in-Some.kept) in
-          let items_is : c.match-branch-2.members.items ≡ ks ++ e ∷ [] = ap (λ v. v.items) w.members-is ∙ w.in_ok-push_member.ensures in
-          let is : left_member C S H A m.0 (bodies m.1) ≡ Some (bodies w.in-Some.kept) = sym O ∙ ap (option_map bodies) w.in-Some.is in
-          record {
-            left = ap (λ ys. map named ys ++ left_members C S H A R) items_is
-                ∙ ap (λ bs. bs ++ left_members C S H A R) (map-append named ks (e ∷ []))
-                ∙ members-step C S H A (map named ks) (named m) R (left_members C S H A (map named D)) (Some (bodies w.in-Some.kept)) is L;
-            filled = subst (λ (ys : List (Text × Member)). AllByRecursion (λ y. IsMemberFilled y.1) ys) (sym items_is)
-                (all-append (λ (y : Text × Member). IsMemberFilled y.1) ks (e ∷ []) c.loop-name.invariant.filled (member-kept c.in_ok-kept.field-0 w.in-Some.kept w.in-Some.is c.in_ok-kept.ensures.filled, tt));
-            goes = stepped;
-            quiet = λ none. absurd (let some = ap length items_is ∙ length-append ks (e ∷ []) in omega (arith, some, none));
-          })
-      | cut-in_default w ↦ (
-          let is : left_member C S H A m.0 (bodies m.1) ≡ None = sym O ∙ ap (option_map bodies) w.in_default.is in
-          record {
-            left = ap (λ v. map named v.items ++ left_members C S H A R) w.members-is
-                ∙ members-step C S H A (map named ks) (named m) R (left_members C S H A (map named D)) None is L;
-            filled = subst (λ (v : Vec (Text × Member) Global). AllByRecursion (λ y. IsMemberFilled y.1) v.items) (sym w.members-is) c.loop-name.invariant.filled;
-            goes = stepped;
-            quiet = λ none. c.in_ok-kept.ensures.quiet w.in_default.is ∙ c.loop-name.invariant.quiet (ap (λ v. length v.items) (sym w.members-is) ∙ none);
-          })
-    ]
-
-found-filled : (r : Option Item) (i : Item) → r ≡ Some i → IfSome r (λ x. IsItemFilled x) → IsItemFilled i
-found-filled r i is h = subst (λ (o : Option Item). IfSome o (λ x. IsItemFilled x)) is h
+    let O : option_map bodies o ≡ left_member C S H A m.0 (bodies m.1) = rw (inv.goes.path, c.as_str.ensures) at c.in_ok-kept.ensures.left in
+    let grown : c.match-branch-2.members.items ≡ pushed named' ks o = elim c.match-branch-2.branch [
+      | cut-in-Some+in_ok-push_member w ↦ ap (λ v. v.items) w.members-is ∙ w.in_ok-push_member.ensures ∙ ap (pushed named' ks) (sym w.in-Some.is)
+      | cut-in_default w ↦ ap (λ v. v.items) w.members-is ∙ ap (pushed named' ks) (sym w.in_default.is)
+    ] in
+    record {
+      left = ap (λ ys. map named ys ++ left_members C S H A R) grown
+          ∙ pushed-left named' named ks o (left_members C S H A R)
+          ∙ ap (λ p. map named ks ++ cons_option p (left_members C S H A R)) (named-bodies m.0 o ∙ ap (option_map (λ b. (m.0, b))) O)
+          ∙ (rw split at inv.left);
+      filled = subst (λ (ys : List (Text × Member)). AllByRecursion (λ y. IsMemberFilled y.1) ys) (sym grown)
+          (pushed-all (λ (y : Text × Member). IsMemberFilled y.1) named' ks o inv.filled c.in_ok-kept.ensures.filled);
+      goes = goes-step Q st c.loop-name.state c.cut_member.new.state (told_members C S H A Q (map named D)) (told_member C S H A Q m.0 (bodies m.1)) (told_members C S H A Q R)
+          (count_members C S A (map named D)) (count_member C S A m.0 (bodies m.1)) (count_members C S A R)
+          (rw split at inv.goes) (simp (inv.goes.path, inv.goes.place, c.as_str.ensures) at c.in_ok-kept.ensures.goes);
+      quiet = λ none. let z = pushed-none named' ks o (ap length (sym grown) ∙ none) in c.in_ok-kept.ensures.quiet z.0 ∙ inv.quiet z.1;
+    }
 
 pub cut_items-loop-i-preserved : goal.cut_items-loop-i-preserved
 cut_items-loop-i-preserved t c =
     let C = c.args.self.now.case.now in
     let S = c.args.self.now.standing.now in
     let H = home_of c.args.home in
-    let A = carried (path_of c.args.state.now.path.items) c.args.array in
-    let q = path_of (take c.args.base c.args.state.now.place.items) in
-    let r = path_of c.args.state.now.place.items in
+    let st = c.args.state.now in
+    let A = carried (path_of st.path.items) c.args.array in
+    let q = path_of (take c.args.base st.place.items) in
+    let r = path_of st.place.items in
     let xs = c.args.items.now.items in
     let i = c.loop-i.i in
     let x = c.item-item.result in
     let ks = c.loop-i.kept.items in
-    let st = c.args.state.now in
-    let new = c.cut_item.new.state in
-    let n = length ks in
+    let inv = c.loop-i.invariant in
+    let o = c.in_ok-x.field-0 in
+    let new = c.match-branch-2.kept.items in
     let R = map body (drop (i + 1) xs) in
-    let X = told_items C S H A q r 0 0 (map body xs) in
-    let M = count_items C S A 0 (map body xs) in
-    let inside' : i < length xs = omega (arith, ap length c.deref-item-items.ensures.value) in
+    let own = λ (y : Item). y in
     let here : x ≡ get_or xs i x = c.item-item.is ∙ ap (λ ys. get_or ys i x) c.deref-item-items.ensures.value in
-    let split : drop i xs ≡ x ∷ drop (i + 1) xs = at_drop_more (λ ys. ys) xs i x inside' ∙ ap (λ y. y ∷ drop (i + 1) xs) (sym here) in
-    let L : map body ks ++ left_items C S H A i (body x ∷ R) ≡ left_items C S H A 0 (map body xs) =
-    subst (λ ys. map body ks ++ left_items C S H A i (map body ys) ≡ left_items C S H A 0 (map body xs)) split c.loop-i.invariant.left in
-    let O : option_map body c.in_ok-x.field-0 ≡ left_at C S H A (decimal i) (body x) =
-    c.in_ok-x.ensures.left ∙ ap (λ ps. left_at C S H (carried (path_of ps) c.args.array) (decimal i) (body x)) c.loop-i.invariant.goes.path in
-    let G : Goes q st c.loop-i.state X (told_items C S H A q r i n (body x ∷ R)) M (count_items C S A i (body x ∷ R)) =
-    subst (λ ys. Goes q st c.loop-i.state X (told_items C S H A q r i n (map body ys)) M (count_items C S A i (map body ys))) split c.loop-i.invariant.goes in
-    let F = λ (j m : ℕ). Goes q st new X (told_items C S H A q r j m R) M (count_items C S A j R) in
-    let stepped : F (i + 1) (if is_some (left_at C S H A (decimal i) (body x)) then suc n else n) =
-    subst (λ j. F j (if is_some (left_at C S H A (decimal i) (body x)) then suc n else n)) (sym (add-one i))
-    (goes-item C S H c.args.array st c.loop-i.state new c.args.base i n (body x) R (Index c.len-n.result) X M (ap decimal (c.len-n.ensures ∙ c.loop-i.kept.ok.0)) G c.in_ok-x.ensures.goes) in
-    elim c.match-branch-2.branch [
-      | cut_items-in-Some+in_ok-push w ↦ (
-          let k = w.in-Some.x in
-          let items_is : c.match-branch-2.kept.items ≡ ks ++ k ∷ [] = ap (λ v. v.items) w.kept-is ∙ w.in_ok-push.ensures.items in
-          let e : left_at C S H A (decimal i) (body x) ≡ Some (body k) = sym O ∙ ap (option_map body) w.in-Some.is in
-          record {
-            left = ap (λ ys. map body ys ++ left_items C S H A (i + 1) R) items_is
-                ∙ ap (λ bs. bs ++ left_items C S H A (i + 1) R) (map-append body ks (k ∷ []))
-                ∙ ap (λ j. (map body ks ++ body k ∷ []) ++ left_items C S H A j R) (add-one i)
-                ∙ items-step C S H A (map body ks) i (body x) R (left_items C S H A 0 (map body xs)) (Some (body k)) e L;
-            filled = subst (λ (ys : List Item). AllByRecursion IsItemFilled ys) (sym items_is) (all-append IsItemFilled ks (k ∷ []) c.loop-i.invariant.filled (found-filled c.in_ok-x.field-0 k w.in-Some.is c.in_ok-x.ensures.filled, tt));
-            goes = subst (λ m. F (i + 1) m)
-                (ap (λ o. if is_some o then suc n else n) e ∙ omega (arith, ap length items_is, length-append ks (k ∷ []))) stepped;
-            quiet = λ none. absurd (let some = ap length items_is ∙ length-append ks (k ∷ []) in omega (arith, some, none));
-          })
-      | cut_items-in_default w ↦ (
-          let e : left_at C S H A (decimal i) (body x) ≡ None = sym O ∙ ap (option_map body) w.in_default.is in
-          record {
-            left = ap (λ v. map body v.items ++ left_items C S H A (i + 1) R) w.kept-is
-                ∙ ap (λ j. map body ks ++ left_items C S H A j R) (add-one i)
-                ∙ items-step C S H A (map body ks) i (body x) R (left_items C S H A 0 (map body xs)) None e L;
-            filled = subst (λ (v : Vec Item Global). AllByRecursion IsItemFilled v.items) (sym w.kept-is) c.loop-i.invariant.filled;
-            goes = subst (λ m. F (i + 1) m) (ap (λ o. if is_some o then suc n else n) e ∙ ap (λ v. length v.items) (sym w.kept-is)) stepped;
-            quiet = λ none. c.in_ok-x.ensures.quiet w.in_default.is ∙ c.loop-i.invariant.quiet (ap (λ v. length v.items) (sym w.kept-is) ∙ none);
-          })
-    ]
+    let split : drop i xs ≡ x ∷ drop (i + 1) xs = at_drop_more (λ ys. ys) xs i x (omega (arith, ap length c.deref-item-items.ensures.value)) ∙ ap (λ y. y ∷ drop (i + 1) xs) (sym here) in
+    let O : option_map body o ≡ left_at C S H A (decimal i) (body x) = rw inv.goes.path at c.in_ok-x.ensures.left in
+    let grown : new ≡ pushed own ks o = elim c.match-branch-2.branch [
+      | cut_items-in-Some+in_ok-push w ↦ ap (λ v. v.items) w.kept-is ∙ w.in_ok-push.ensures.items ∙ ap (pushed own ks) (sym w.in-Some.is)
+      | cut_items-in_default w ↦ ap (λ v. v.items) w.kept-is ∙ ap (pushed own ks) (sym w.in_default.is)
+    ] in
+    let size : (if is_some (left_at C S H A (decimal i) (body x)) then suc (length ks) else length ks) ≡ length new =
+    ap (λ p. if is_some p then suc (length ks) else length ks) (sym O) ∙ sym (ap length grown ∙ length-pushed own body ks o) in
+    let F = λ (j n : ℕ). Goes q st c.cut_item.new.state (told_items C S H A q r 0 0 (map body xs)) (told_items C S H A q r j n R) (count_items C S A 0 (map body xs)) (count_items C S A j R) in
+    record {
+      left = ap (λ ys. map body ys ++ left_items C S H A (i + 1) R) grown
+          ∙ pushed-left own body ks o (left_items C S H A (i + 1) R)
+          ∙ ap (λ j. map body ks ++ cons_option (option_map body o) (left_items C S H A j R)) (add-one i)
+          ∙ ap (λ p. map body ks ++ cons_option p (left_items C S H A (suc i) R)) O
+          ∙ (rw split at inv.left);
+      filled = subst (λ (ys : List Item). AllByRecursion IsItemFilled ys) (sym grown) (pushed-all IsItemFilled own ks o inv.filled c.in_ok-x.ensures.filled);
+      goes = subst (λ j. F j (length new)) (sym (add-one i)) (subst (F (suc i)) size
+          (goes-step q st c.loop-i.state c.cut_item.new.state _ (told_at C S A q (r ++ decimal (length ks) ∷ []) (decimal i) (body x)) (told_items C S H A q r (suc i) (if is_some (left_at C S H A (decimal i) (body x)) then suc (length ks) else length ks) R)
+          _ (count_at C S A (decimal i) (body x)) (count_items C S A (suc i) R)
+          (rw split at inv.goes) (simp (inv.goes.path, inv.goes.place, map-append token_of st.place.items, c.len-n.ensures ∙ c.loop-i.kept.ok.0) at c.in_ok-x.ensures.goes)));
+      quiet = λ none. let z = pushed-none own ks o (ap length (sym grown) ∙ none) in c.in_ok-x.ensures.quiet z.0 ∙ inv.quiet z.1;
+    }

@@ -16,42 +16,16 @@ use Rattle.redact.proofs.search.Search.+search.Goals as goal
 
 pub among-returns-then-branch-clause-found : goal.among-returns-then-branch-clause-found
 among-returns-then-branch-clause-found t c =
-    let C = c.args.self.now.reader.case.now in
-    let S = c.args.self.now.reader.standing.now in
-    let T = asked_of c.args.self.now.asked in
-    let A = λ (ts : List Token). carried (path_of ts) c.args.above in
-    let D = c.deref-name-items.result.now in
-    let i = c.loop-name.name-index in
-    let m = c.loop-name-item.result in
-    let before = c.args.trail.now.items in
-    let behind = found C S T (A before) (members_forest (drop (i + 1) D)) in
-    let here : found_member C S T (A before) m.0 (bodies m.1) ≡ true =
-    ap (λ (name : Bytes). found_member C S T (A before) name (bodies m.1)) (sym c.as_str.ensures)
-    ∙ ap (λ (ts : List Token). found_member C S T (A ts) c.as_str.result.now (bodies m.1)) (sym c.loop-name.invariant.trail)
-    ∙ sym c.in_ok-in_member.ensures.found ∙ c.if-branch.true in
-    sym (or_left (found_member C S T (A before) m.0 (bodies m.1)) behind here)
-    ∙ sym (found_next C S T (A before) D i m (omega arith) c.loop-name-item.is)
-    ∙ c.loop-name.invariant.found
+    found_next c.args.self.now.reader.case.now c.args.self.now.reader.standing.now (asked_of c.args.self.now.asked) (carried (path_of c.args.trail.now.items) c.args.above)
+    c.deref-name-items.result.now c.loop-name.name-index c.loop-name-item.result (omega arith) c.loop-name-item.is
+    (ap (λ (ts : List Token). carried (path_of ts) c.args.above) c.loop-name.invariant.trail) c.as_str.ensures (sym c.if-branch.true ∙ c.in_ok-in_member.ensures.found) c.loop-name.invariant.found
 
 pub among-loop-name-preserved : goal.among-loop-name-preserved
 among-loop-name-preserved t c =
-    let C = c.args.self.now.reader.case.now in
-    let S = c.args.self.now.reader.standing.now in
-    let T = asked_of c.args.self.now.asked in
-    let A = λ (ts : List Token). carried (path_of ts) c.args.above in
-    let D = c.deref-name-items.result.now in
-    let i = c.loop-name.name-index in
-    let m = c.loop-name-item.result in
-    let before = c.args.trail.now.items in
-    let behind = found C S T (A before) (members_forest (drop (i + 1) D)) in
-    let here : found_member C S T (A before) m.0 (bodies m.1) ≡ false =
-    ap (λ (name : Bytes). found_member C S T (A before) name (bodies m.1)) (sym c.as_str.ensures)
-    ∙ ap (λ (ts : List Token). found_member C S T (A ts) c.as_str.result.now (bodies m.1)) (sym c.loop-name.invariant.trail)
-    ∙ sym c.in_ok-in_member.ensures.found ∙ c.if-branch.false in
     record {
-      found = ap (λ (b : Bool). b || behind) (sym here)
-          ∙ sym (found_next C S T (A before) D i m (omega arith) c.loop-name-item.is)
-          ∙ c.loop-name.invariant.found;
+      found = found_next c.args.self.now.reader.case.now c.args.self.now.reader.standing.now (asked_of c.args.self.now.asked) (carried (path_of c.args.trail.now.items) c.args.above)
+          c.deref-name-items.result.now c.loop-name.name-index c.loop-name-item.result (omega arith) c.loop-name-item.is
+          (ap (λ (ts : List Token). carried (path_of ts) c.args.above) c.loop-name.invariant.trail) c.as_str.ensures (sym c.if-branch.false ∙ c.in_ok-in_member.ensures.found) c.loop-name.invariant.found;
       trail = c.in_ok-in_member.ensures.trail ∙ c.loop-name.invariant.trail;
     }
 
