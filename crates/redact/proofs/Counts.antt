@@ -20,17 +20,11 @@ count_by-cons test x xs = sum_by-cons (λ x. cond (test x) 1 0) x xs
 -- the visible classes by the pass are those by their paths
 pub count-walk : (v : Verdicts) (f : Forest) (d : ℕ) (p : Tokens) → count_by (is_seen v) (walk d p f) ≡ visible_classes (judge v p f)
 count-walk v end d p = refl
-count-walk v (leaf i rest) d p =
-    count_by-cons (is_seen v) (leaf_entry d p i) (walk d p rest)
-    ∙ ap (λ b. cond (b && v.visible (leaf_entry d p i).path) 1 0 + count_by (is_seen v) (walk d p rest)) (no_class-kind i.content)
-    ∙ zero-add (count_by (is_seen v) (walk d p rest)) ∙ count-walk v rest d p
+count-walk v (leaf i rest) d p = rw (count_by-cons (is_seen v) (leaf_entry d p i) (walk d p rest), no_class-kind i.content, count-walk v rest d p, zero-add)
 count-walk v (branch name place kids rest) d p =
     let q = p ++ steps name place in
-    count_by-cons (is_seen v) (class_entry d p name place) (walk (suc d) q kids ++ walk d p rest)
-    ∙ ap (λ n. cond (v.visible q) 1 0 + n) (
-    count_by-append (is_seen v) (walk (suc d) q kids) (walk d p rest)
-    ∙ ap (λ n. n + count_by (is_seen v) (walk d p rest)) (count-walk v kids (suc d) q)
-    ∙ ap (λ n. visible_classes (judge v q kids) + n) (count-walk v rest d p))
+    let K = walk (suc d) q kids in
+    rw (count_by-cons (is_seen v) (class_entry d p name place) (K ++ walk d p rest), count_by-append (is_seen v) K (walk d p rest), count-walk v kids (suc d) q, count-walk v rest d p)
 
 -- the visible classes are no more than the lines that count
 pub few-seen : (v : Verdicts) (f : Forest) (d : ℕ) (p : Tokens) → visible_classes (judge v p f) ≤ counted (lines d f)

@@ -2,6 +2,7 @@
 use Rattle.std.proofs.Common.{◌≡◌, ◌==◌, ℕ, suc, ◌+◌, Bool, true, false, not, ◌&&◌, ◌||◌, List, [], ◌∷◌, map, cond, if◌then◌else◌, refl, sym, ◌∙◌, ap, arith, Option, filter, count_by, eqb-true}
 use Rattle.std.specs.List.{list_any}
 use Rattle.std.proofs.lemmas.Bool.{false_from_ne_true}
+use Rattle.std.proofs.lemmas.Bool.{cond_both}
 use Rattle.iodef_tree.specs.Text.{Bytes}
 use Rattle.iodef_tree.specs.Paths.{LocatedLine, is_class, is_class_kind, located}
 use Rattle.iodef_tree.specs.declared.line.Line.{Line}
@@ -41,11 +42,8 @@ class_lines ls = filter (λ l. is_class_kind l.kind) ls
 
 put-plain : (x : Line) (ls : List Line) → is_class_kind x.kind ≡ false → class_lines (put x ls) ≡ class_lines ls
 put-plain x [] plain = ap (λ b. if b then x ∷ [] else []) plain
-put-plain x (l ∷ ls) plain = by_place (comes_after x l) (put-plain x ls plain)
-  where
-    by_place : (b : Bool) → class_lines (put x ls) ≡ class_lines ls → class_lines (if b then x ∷ l ∷ ls else l ∷ put x ls) ≡ class_lines (l ∷ ls)
-    by_place true h = ap (λ k. if k then x ∷ class_lines (l ∷ ls) else class_lines (l ∷ ls)) plain
-    by_place false h = ap (λ ys. if is_class_kind l.kind then l ∷ ys else ys) h
+put-plain x (l ∷ ls) plain =
+    cond_both (comes_after x l) _ _ (λ ys. class_lines ys ≡ class_lines (l ∷ ls)) (λ _. rw plain) (λ _. ap (λ ys. if is_class_kind l.kind then l ∷ ys else ys) (put-plain x ls plain))
 
 attributes-plain : (d : ℕ) (xs : List Attribute) (ls : List Line) → class_lines (put_all (attribute_lines d xs) ls) ≡ class_lines ls
 attributes-plain d [] ls = refl
@@ -53,21 +51,15 @@ attributes-plain d (x ∷ xs) ls = put-plain (attribute_line d x) (put_all (attr
 
 module _ (v : Verdicts) where
   added-plain : (e : LocatedLine) (ls : List Line) → class_lines (put_all (added v e) ls) ≡ class_lines ls
-  added-plain e ls = by_saying (says_label v e)
-    where
-      by_saying : (b : Bool) → class_lines (put_all (if b then attribute_lines (suc e.line.depth) (v.label e.path) else []) ls) ≡ class_lines ls
-      by_saying true = attributes-plain (suc e.line.depth) (v.label e.path) ls
-      by_saying false = refl
+  added-plain e ls =
+      cond_both (says_label v e) _ _ (λ xs. class_lines (put_all xs ls) ≡ class_lines ls) (λ _. attributes-plain (suc e.line.depth) (v.label e.path) ls) (λ _. refl)
 
   labelled-classes : (es : List LocatedLine) → class_lines (labelled v es) ≡ map (λ e. e.line) (filter is_class es)
   labelled-classes [] = refl
-  labelled-classes (e ∷ es) = by_kind (is_class e) (added-plain e (labelled v es) ∙ labelled-classes es)
-    where
-      by_kind : (b : Bool) → class_lines (put_all (added v e) (labelled v es)) ≡ map (λ e. e.line) (filter is_class es) →
-          (if b then e.line ∷ class_lines (put_all (added v e) (labelled v es)) else class_lines (put_all (added v e) (labelled v es)))
-          ≡ map (λ e. e.line) (if b then e ∷ filter is_class es else filter is_class es)
-      by_kind true h = ap (λ ls. e.line ∷ ls) h
-      by_kind false h = h
+  labelled-classes (e ∷ es) =
+      rw (added-plain e (labelled v es), labelled-classes es)
+      (cond_both (is_class e) _ _ (λ xs. (if is_class e then e.line ∷ map (λ e. e.line) (filter is_class es) else map (λ e. e.line) (filter is_class es)) ≡ map (λ e. e.line) xs)
+      (λ k. rw k) (λ k. rw k))
 
 pub classes-stay : (v : Verdicts) (es : List LocatedLine) → class_lines (kept v es) ≡ map (λ e. e.line) (filter is_class (filter (is_kept v) es))
 classes-stay v es = labelled-classes v (filter (is_kept v) es)

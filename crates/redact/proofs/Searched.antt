@@ -1,7 +1,7 @@
 -- A search by one pass down a document finds what the definition finds among its lines.
 use Rattle.std.proofs.Common.{◌≡◌, ℕ, suc, Bool, true, false, ◌&&◌, ◌||◌, List, [], ◌∷◌, ◌++◌, cond, refl, sym, ◌∙◌, ap, append_assoc, append-nil, Option, true≢false}
 use Rattle.std.specs.List.{list_any}
-use Rattle.std.proofs.lemmas.Bool.{cond-true, cond-false, and_left, and_right}
+use Rattle.std.proofs.lemmas.Bool.{cond_both}
 use Rattle.std.proofs.Math.Bool.{and-true}
 use Rattle.std.proofs.lemmas.List.Folds.{list_any-append}
 use Rattle.iodef_tree.specs.Text.{Bytes, Tokens, same_path, is_under}
@@ -35,33 +35,21 @@ is_hit_in needle q e = same_path e.parent q && is_hit needle e.line
 
 any-below : (es : List LocatedLine) (q : Tokens) (needle : Bytes) → AreUnderParents es → list_any (is_hit_in needle q) es ≡ list_any (is_hit_in needle q) (below q es)
 any-below [] q needle h = refl
-any-below (e ∷ es) q needle h = by_cases (is_under q e.path) refl (any-below es q needle h.1)
-  where
-    by_cases : (b : Bool) → is_under q e.path ≡ b → list_any (is_hit_in needle q) es ≡ list_any (is_hit_in needle q) (below q es) →
-        list_any (is_hit_in needle q) (e ∷ es) ≡ list_any (is_hit_in needle q) (cond (is_under q e.path) (e ∷ below q es) (below q es))
-    by_cases true u ih =
-        ap (λ o. is_hit_in needle q e || o) ih ∙ ap (list_any (is_hit_in needle q)) (sym (cond-true (is_under q e.path) (e ∷ below q es) (below q es) u))
-    by_cases false u ih =
-        let elsewhere : same_path e.parent q ≡ false =
-        is_false (same_path e.parent q) (λ same. true≢false (sym h.0 ∙ ap (λ r. is_under r e.path) (same_path-true e.parent q same) ∙ u)) in
-        ap (λ b. b || list_any (is_hit_in needle q) es) (and_left (same_path e.parent q) _ elsewhere)
-        ∙ ih ∙ ap (list_any (is_hit_in needle q)) (sym (cond-false (is_under q e.path) (e ∷ below q es) (below q es) u))
+any-below (e ∷ es) q needle h =
+    let later = any-below es q needle h.1 in
+    cond_both (is_under q e.path) _ _ (λ ws. list_any (is_hit_in needle q) (e ∷ es) ≡ list_any (is_hit_in needle q) ws) (λ u. ap (λ o. is_hit_in needle q e || o) later) (λ u.
+    let elsewhere : same_path e.parent q ≡ false =
+    is_false (same_path e.parent q) (λ same. true≢false (sym h.0 ∙ ap (λ r. is_under r e.path) (same_path-true e.parent q same) ∙ u)) in
+    rw (elsewhere, later))
 
 -- nothing stands directly in q where no path at or below p is q
 none-held : (f : Forest) (d : ℕ) (p q : Tokens) (needle : Bytes) → ((z : Tokens) → same_path (p ++ z) q ≡ false) → list_any (is_hit_in needle q) (walk d p f) ≡ false
 none-held end d p q needle h = refl
-none-held (leaf i rest) d p q needle h =
-    ap (λ b. b || list_any (is_hit_in needle q) (walk d p rest)) (and_left (same_path p q) _ (ap (λ r. same_path r q) (sym (append-nil p)) ∙ h []))
-    ∙ none-held rest d p q needle h
+none-held (leaf i rest) d p q needle h = rw (rw append-nil at (h []), none-held rest d p q needle h)
 none-held (branch n o kids rest) d p q needle h =
     let r = p ++ steps n o in
-    let K = walk (suc d) r kids in
-    let R = walk d p rest in
-    ap (λ b. b || list_any (is_hit_in needle q) (K ++ R)) (and_left (same_path p q) _ (ap (λ r. same_path r q) (sym (append-nil p)) ∙ h []))
-    ∙ list_any-append (is_hit_in needle q) K R
-    ∙ ap (λ a. a || list_any (is_hit_in needle q) R)
-    (none-held kids (suc d) r q needle (λ z. ap (λ x. same_path x q) (append_assoc p (steps n o) z) ∙ h (steps n o ++ z)))
-    ∙ none-held rest d p q needle h
+    let below = none-held kids (suc d) r q needle (λ z. ap (λ x. same_path x q) (append_assoc p (steps n o) z) ∙ h (steps n o ++ z)) in
+    rw (rw append-nil at (h []), list_any-append (is_hit_in needle q) (walk (suc d) r kids) (walk d p rest), below, none-held rest d p q needle h)
 
 leaf-hit : (needle : Bytes) (d : ℕ) (name : Bytes) (place : Option ℕ) (x : Content) → is_hit needle (leaf_line d (record { name = name; place = place; content = x })) ≡ content_hits needle x
 leaf-hit needle d name place (text t) = refl
@@ -72,20 +60,13 @@ apart p q h = is_false (same_path q p) (λ same. true≢false (sym (same_path-re
 
 held-walk : (f : Forest) (d : ℕ) (q : Tokens) (needle : Bytes) → list_any (is_hit_in needle q) (walk d q f) ≡ members_hit needle f
 held-walk end d q needle = refl
-held-walk (leaf i rest) d q needle =
-    ap (λ b. (b && is_hit needle (leaf_line d i)) || list_any (is_hit_in needle q) (walk d q rest)) (same_path-refl q)
-    ∙ ap (λ b. b || list_any (is_hit_in needle q) (walk d q rest)) (leaf-hit needle d i.name i.place i.content)
-    ∙ ap (λ b. content_hits needle i.content || b) (held-walk rest d q needle)
+held-walk (leaf i rest) d q needle = rw (same_path-refl q, leaf-hit needle d i.name i.place i.content, held-walk rest d q needle)
 held-walk (branch n o kids rest) d q needle =
     let r = q ++ steps n o in
     let K = walk (suc d) r kids in
-    let R = walk d q rest in
     let none : list_any (is_hit_in needle q) K ≡ false =
     none-held kids (suc d) r q needle (λ z. apart q (r ++ z) (ap (same_path q) (append_assoc q (steps n o) z) ∙ same_path-longer q n o z)) in
-    ap (λ b. b || list_any (is_hit_in needle q) (K ++ R)) (and_right (same_path q q) false refl)
-    ∙ list_any-append (is_hit_in needle q) K R
-    ∙ ap (λ a. a || list_any (is_hit_in needle q) R) none
-    ∙ held-walk rest d q needle
+    rw (same_path-refl q, list_any-append (is_hit_in needle q) K (walk d q rest), none, held-walk rest d q needle)
 
 held-block : (es : List LocatedLine) (d : ℕ) (q : Tokens) (kids : Forest) (needle : Bytes) → AreUnderParents es → below q es ≡ walk d q kids →
     holds_needle es needle q ≡ members_hit needle kids
@@ -105,23 +86,12 @@ module _ (c : Case) (s : Standing) (asked : Bytes → Forest → Bool) (asks : L
   found-walk : (es : List LocatedLine) (under : AreUnderParents es) → AsksMembers es → (f : Forest) (d : ℕ) (p : Tokens) → AreBlocks es d p f → ArePlaced es p f →
       list_any (answers es) (walk d p f) ≡ found c s asked (inherited_at es c s p) f
   found-walk es under members end d p blocks there = refl
-  found-walk es under members (leaf i rest) d p blocks there =
-      let e = leaf_entry d p i in
-      ap (λ b. ((b && is_visible es c s e.path) && asks es e) || list_any (answers es) (walk d p rest)) (no_class-kind i.content)
-      ∙ found-walk es under members rest d p blocks there
+  found-walk es under members (leaf i rest) d p blocks there = rw (no_class-kind i.content, found-walk es under members rest d p blocks there)
   found-walk es under members (branch name place kids rest) d p blocks there =
       let q = p ++ steps name place in
-      let w = spelled_in kids in
-      let K = walk (suc d) q kids in
-      let R = walk d p rest in
-      let C = class_hits c s asked (inherited_at es c s q) name kids in
-      let written : written_label es q ≡ w = written-block es (suc d) q kids under blocks.0 there.0 in
-      ap (λ b. (is_visible es c s q && b) || list_any (answers es) (K ++ R)) (members (class_entry d p name place) (suc d) kids blocks.0)
-      ∙ ap (λ b. C || b) (list_any-append (answers es) K R)
-      ∙ ap (λ b. C || (b || list_any (answers es) R)) (found-walk es under members kids (suc d) q blocks.1 there.2)
-      ∙ ap (λ b. C || (found c s asked (inherited_at es c s q) kids || b)) (found-walk es under members rest d p blocks.2 there.3)
-      ∙ ap (λ k. class_hits c s asked k name kids || (found c s asked k kids || found c s asked (inherited_at es c s p) rest))
-      (sym (enter-at es c s under p name place w there.0 there.1 written))
+      let written : written_label es q ≡ spelled_in kids = written-block es (suc d) q kids under blocks.0 there.0 in
+      rw (members (class_entry d p name place) (suc d) kids blocks.0, list_any-append (answers es) (walk (suc d) q kids) (walk d p rest))
+      (rw (found-walk es under members kids (suc d) q blocks.1 there.2, found-walk es under members rest d p blocks.2 there.3, enter-at es c s under p name place (spelled_in kids) there.0 there.1 written))
 
   found-lines : (f : Forest) → IsSound f → AsksMembers (located (lines 1 f)) → list_any (answers (located (lines 1 f))) (located (lines 1 f)) ≡ found c s asked (at_root c s) f
   found-lines f sound members =

@@ -16,12 +16,10 @@ use Rattle.redact.specs.Told.{verdicts_of}
 use Rattle.redact.specs.Laws.{is_shown, VerdictIsServed}
 
 by_sight : (b : Bool) (x y : Rule) → is_shown (cond b (Shown x) (Hidden y)) ≡ b
-by_sight true x y = refl
-by_sight false x y = refl
+by_sight b x y = grind arith
 
 by_rule : (b : Bool) (x y r : Rule) → cond b (Shown x) (Hidden y) ≡ Hidden r → r ≡ y
-by_rule true x y r h = cc
-by_rule false x y r h = cc
+by_rule b x y r h = grind arith
 
 -- what one element gives is among what all give
 among : {X Y : Type 0} (f : X → List Y) (xs : List X) (x : X) (y : Y) → Contains xs x → Contains (f x) y → Contains (flat_map f xs) y
@@ -36,10 +34,7 @@ among f (z ∷ zs) x y in_xs in_fx = rw (flat_map-cons f z zs) (elim (Contains-a
 
 -- a frame is told at its place
 told_frame : (v : Verdicts) (place : Tokens → Option Tokens) (e : LocatedLine) (q : Tokens) → is_class e ≡ true → is_frame v e.path ≡ true → place e.path ≡ Some q → Contains (withheld_at v place e) (q, v.rule e.path)
-told_frame v place e q class frame there =
-    subst (λ ws. Contains ws (q, v.rule e.path)) (sym (ap (λ b. cond (not b) [] (cond (is_frame v e.path) (told_at_place (place e.path) (v.rule e.path)) (cond (is_wholly_hidden v e.path && not (is_wholly_hidden v e.parent)) (told_at_place (place e.parent) (v.rule e.path)) []))) class
-    ∙ ap (λ b. cond b (told_at_place (place e.path) (v.rule e.path)) (cond (is_wholly_hidden v e.path && not (is_wholly_hidden v e.parent)) (told_at_place (place e.parent) (v.rule e.path)) [])) frame
-    ∙ ap (λ o. told_at_place o (v.rule e.path)) there)) (0, omega arith, refl)
+told_frame v place e q class frame there = rw (class, frame, there) (0, omega arith, refl)
 
 pub verdicts-served : (ls : List Line) (c : Case) (s : Standing) (e : LocatedLine) → Contains (located ls) e → is_class e ≡ true → VerdictIsServed ls c s e
 verdicts-served ls c s e here class =

@@ -61,17 +61,20 @@ within-class name place place' kids inner f g same k h = record {
 
 -- without the first
 without-leaf : (i : Leaf) (f g : Forest) → IsWithin f g → IsWithin (leaf i f) g
-without-leaf i f g h = within-then (leaf i f) f g
-    (record { classes = omega arith; depth = omega arith; counts = λ d. omega (arith, count_by-cons counts (leaf_line d i) (lines d f)); texts = λ t. t.1 }) h
+without-leaf i f g h = record {
+  classes = h.classes;
+  depth = omega (arith, h.depth);
+  counts = λ d. omega (arith, h.counts d, count_by-cons counts (leaf_line d i) (lines d f));
+  texts = λ t. h.texts t.1;
+}
 
 without-class : (name : Bytes) (place : Option ℕ) (kids f g : Forest) → IsWithin f g → IsWithin (branch name place kids f) g
-without-class name place kids f g h = within-then (branch name place kids f) f g
-    (record {
-      classes = omega arith;
-      depth = omega arith;
-      counts = λ d. omega (arith, count_by-cons counts (class_line d name place) (lines (suc d) kids ++ lines d f), count_by-append counts (lines (suc d) kids) (lines d f));
-      texts = λ t. t.1;
-    }) h
+without-class name place kids f g h = record {
+  classes = omega (arith, h.classes);
+  depth = omega (arith, h.depth);
+  counts = λ d. omega (arith, h.counts d, count_by-cons counts (class_line d name place) (lines (suc d) kids ++ lines d f), count_by-append counts (lines (suc d) kids) (lines d f));
+  texts = λ t. h.texts t.1;
+}
 
 -- ---- a label
 

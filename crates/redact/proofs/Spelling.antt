@@ -129,11 +129,11 @@ module _ (v : Verdicts) where
       let S = if b then put_attributes (v.label p) F else F in
       (is_rule_kept_in S ≡ true) × (spelled_in S ≡ (if b then Some l else spelled_in f))) [
         | true ↦ λ e.
-          let none = unmarked-absent (held_in (codes "restriction") f) (held_in (codes "ext-restriction") f) rule (sym unmarked ∙ (and_parts (v.unmarked p) _ e).0) in
-          let says : spelled_in (put_attributes (v.label p) F) ≡ Some l =
-          ap (λ a. spelled_in (put_attributes a F)) label
-          ∙ spelled-attributes (restriction_of l) (ext_restriction_of l) F (absent-lacks (codes "restriction") F (r ∙ none.0)) (absent-lacks (codes "ext-restriction") F (x ∙ none.1))
-          ∙ spelled-again l in
-          (or_right _ _ (ap is_some says), says)
+            let none = unmarked-absent (held_in (codes "restriction") f) (held_in (codes "ext-restriction") f) rule (sym unmarked ∙ (and_parts (v.unmarked p) _ e).0) in
+            let says : spelled_in (put_attributes (v.label p) F) ≡ Some l =
+            ap (λ a. spelled_in (put_attributes a F)) label
+            ∙ spelled-attributes (restriction_of l) (ext_restriction_of l) F (absent-lacks (codes "restriction") F (r ∙ none.0)) (absent-lacks (codes "ext-restriction") F (x ∙ none.1))
+            ∙ spelled-again l in
+            (or_right _ _ (ap is_some says), says)
         | false ↦ λ e. ((λ i. is_rule_kept (r i) (x i)) ∙ rule, λ i. spelled_by (r i) (x i))
       ] refl

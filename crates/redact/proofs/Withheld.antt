@@ -40,14 +40,8 @@ module _ (v : Verdicts) (place : Tokens → Option Tokens) where
       let parts = or_parts (v.visible q) _ unseen in
       let below = or_parts (any_seen v K) (any_seen v R) (sym (list_any-append (is_seen v) K R) ∙ parts.1) in
       let closed : v.holds_visible q ≡ false = says.0 ∙ below.0 in
-      let bare : is_wholly_hidden v q ≡ true =
-      ap (λ b. not b && (not (v.visible q) && not (v.holds_visible q))) (not_root p name pl) ∙ ap (λ b. not b && not (v.holds_visible q)) parts.0 ∙ ap not closed in
-      ap (λ ts. ts ++ tells (K ++ R)) (
-      cond-false (is_frame v q) _ _ (and_right (not (v.visible q)) (v.holds_visible q) closed)
-      ∙ cond-false (is_wholly_hidden v q && not (is_wholly_hidden v p)) _ _ (and_right (is_wholly_hidden v q) _ (ap not hidden)))
-      ∙ flat_map-append (withheld_at v place) K R
-      ∙ ap (λ ts. ts ++ tells R) (silent kids (suc d) q says.1 below.0 bare)
-      ∙ silent rest d p says.2 below.1 hidden
+      rw (parts.0, closed, hidden, not_root p name pl, flat_map-append (withheld_at v place) K R)
+      (rw (silent kids (suc d) q says.1 below.0 (rw (not_root p name pl, parts.0, closed)), silent rest d p says.2 below.1 hidden))
 
   all_parts : (xs ys : List (Tokens × Tokens)) → AllByRecursion IsRight (xs ++ ys) → AllByRecursion IsRight xs × AllByRecursion IsRight ys
   all_parts [] ys h = (tt, h)
