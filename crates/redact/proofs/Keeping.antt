@@ -20,18 +20,15 @@ in_array-kept : (n : ℕ) (place : Option ℕ) → is_some (new_place n place) �
 in_array-kept n place = grind arith
 
 pub leaf_line-moved : (d n : ℕ) (i : Leaf) → leaf_line d (moved n i) ≡ leaf_line d i
-leaf_line-moved d n i =
-    ap (λ b. let l : Line = record { depth = d; name = i.name; in_array = b; kind = kind_of i.content; text = text_of i.content } in l) (in_array-kept n i.place)
+leaf_line-moved d n i = rw (in_array-kept n i.place)
 
 pub class_line-moved : (d n : ℕ) (name : Bytes) (place : Option ℕ) → class_line d name (new_place n place) ≡ class_line d name place
-class_line-moved d n name place =
-    ap (λ b. let l : Line = record { depth = d; name = name; in_array = b; kind = kind.Class; text = [] } in l) (in_array-kept n place)
+class_line-moved d n name place = rw (in_array-kept n place)
 
 lines-shallow : (f : Forest) (d : ℕ) (ls : List Line) → IsShallow d ls → IsShallow (suc d) (lines d f ++ ls)
 lines-shallow end d [] h = tt
 lines-shallow end d (l ∷ ls) h = omega arith
-lines-shallow (leaf i rest) d ls h = omega arith
-lines-shallow (branch name place kids rest) d ls h = omega arith
+lines-shallow _ d ls h = omega arith
 
 module _ (v : Verdicts) where
   -- a line of a visible class
@@ -64,9 +61,7 @@ module _ (v : Verdicts) where
   -- below a class that isn't visible nothing is left just where no visible class lies below
   pub ends : (f : Forest) (d : ℕ) (p : Tokens) (n : ℕ) → is_end (cut (inside false) n (judge v p f)) ≡ not (any_seen (walk d p f))
   ends end d p n = refl
-  ends (leaf i rest) d p n =
-      ends rest d p (left_before n i.place)
-      ∙ ap (λ b. not ((b && v.visible (leaf_entry d p i).path) || any_seen (walk d p rest))) (sym (no_class-kind i.content))
+  ends (leaf i rest) d p n = rw (no_class-kind i.content) (ends rest d p (left_before n i.place))
   ends (branch name place kids rest) d p n =
       let q = p ++ steps name place in
       let K = walk (suc d) q kids in

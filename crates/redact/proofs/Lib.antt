@@ -16,7 +16,6 @@ pub mod Searched
 pub mod Searching
 pub mod Stepping
 pub mod Promised
-pub mod Served
 pub mod Fates
 pub mod Spelling
 pub mod Survival

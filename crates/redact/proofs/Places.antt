@@ -34,10 +34,7 @@ paths-put : (x : Leaf) (d : ℕ) (q : Tokens) (f : Forest) → class_paths (walk
 paths-put x d q = put-keeps (λ f g. class_paths (walk d q g) ≡ class_paths (walk d q f)) x
     (λ f. plain_first x f)
     (λ i f g h. plain_first i g ∙ h ∙ sym (plain_first i f))
-    (λ name place kids f g h.
-    let r = q ++ steps name place in
-    let K = walk (suc d) r kids in
-    ap (λ ps. r ∷ ps) (class_paths-append K (walk d q g) ∙ ap (λ ps. class_paths K ++ ps) h ∙ sym (class_paths-append K (walk d q f))))
+    (λ name place kids f g h. let K = walk (suc d) (q ++ steps name place) kids in rw (class_paths-append K (walk d q g), class_paths-append K (walk d q f), h))
   where
     plain_first : (i : Leaf) (f : Forest) → class_paths (walk d q (leaf i f)) ≡ class_paths (walk d q f)
     plain_first i f = class_paths-leaf (walk d q f) (leaf_entry d q i) (no_class-kind i.content)
@@ -61,20 +58,14 @@ paths-cut (class name place j kids rest) h d p q n =
     let p' = p ++ steps name place in
     let r = q ++ steps name (new_place n place) in
     let K = λ (b : Bool). cut (inside b) 0 kids in
+    let R = places h p q (left_with n place) rest in
+    let W = walk d q (cut h (left_with n place) rest) in
+    let left : (b : Bool) (inner : Forest) → class_paths (walk (suc d) r inner) ≡ map there (places (inside b) p' r 0 kids) → r ∷ class_paths (walk (suc d) r inner ++ W) ≡ r ∷ map there (places (inside b) p' r 0 kids ++ R) = λ b inner below.
+    rw (class_paths-append (walk (suc d) r inner) W, below, paths-cut rest h d p q (left_with n place), map-append there (places (inside b) p' r 0 kids) R) in
     by_fates (λ f ps. class_paths (walk d q f) ≡ map there ps) j.visible (is_end (K false)) _ _ _ _ _ _
-    (λ _. left (with_label h j (K true)) (places (inside true) p' r 0 kids)
-    (paths-label (j.unmarked && not (shows_label h)) j.label (K true) (suc d) r ∙ paths-cut kids (inside true) (suc d) p' r 0) (paths-cut rest h d p q (left_with n place)))
-    (λ _. left (K false) (places (inside false) p' r 0 kids) (paths-cut kids (inside false) (suc d) p' r 0) (paths-cut rest h d p q (left_with n place)))
+    (λ _. left true (with_label h j (K true)) (paths-label (j.unmarked && not (shows_label h)) j.label (K true) (suc d) r ∙ paths-cut kids (inside true) (suc d) p' r 0))
+    (λ _. left false (K false) (paths-cut kids (inside false) (suc d) p' r 0))
     (λ _ _. paths-cut rest h d p q (left_before n place))
-  where
-    left : (inner : Forest) (below : List (Tokens × Tokens)) → class_paths (walk (suc d) (q ++ steps name (new_place n place)) inner) ≡ map there below →
-        class_paths (walk d q (cut h (left_with n place) rest)) ≡ map there (places h p q (left_with n place) rest) →
-        class_paths (walk d q (branch name (new_place n place) inner (cut h (left_with n place) rest)))
-        ≡ map there ((p ++ steps name place, q ++ steps name (new_place n place)) ∷ (below ++ places h p q (left_with n place) rest))
-    left inner below here_too after =
-        ap (λ ps. (q ++ steps name (new_place n place)) ∷ ps) (
-        class_paths-append (walk (suc d) (q ++ steps name (new_place n place)) inner) (walk d q (cut h (left_with n place) rest))
-        ∙ (λ i. here_too i ++ after i) ∙ sym (map-append there below (places h p q (left_with n place) rest)))
 
 -- ---- in the document
 

@@ -39,15 +39,13 @@ spelled-attributes : (restriction : Bytes) (ext : Option Bytes) (f : Forest) →
     spelled_in (put_attributes (attributes_by restriction ext) f) ≡ spelled restriction ext
 spelled-attributes restriction None f r e =
     let own : Attribute = (codes "restriction", restriction) in
-    ap (λ h. spelled_by h (held_in (codes "ext-restriction") (put_leaf (attribute_leaf own) f))) (held-put (codes "restriction") own f (λ _. r))
-    ∙ ap (spelled_by (plain restriction)) (held-put (codes "ext-restriction") own f (λ h. absurd (false≢true h)) ∙ lacks-absent (codes "ext-restriction") f e)
+    rw (held-put (codes "restriction") own f (λ _. r), held-put (codes "ext-restriction") own f (λ h. absurd (false≢true h)), lacks-absent (codes "ext-restriction") f e)
 spelled-attributes restriction (Some ext) f r e =
     let own : Attribute = (codes "restriction", restriction) in
     let beside : Attribute = (codes "ext-restriction", ext) in
     let g = put_leaf (attribute_leaf own) f in
-    ap (λ h. spelled_by h (held_in (codes "ext-restriction") (put_leaf (attribute_leaf beside) g)))
-    (held-put (codes "restriction") beside g (λ h. absurd (false≢true h)) ∙ held-put (codes "restriction") own f (λ _. r))
-    ∙ ap (spelled_by (plain restriction)) (held-put (codes "ext-restriction") beside g (λ _. lacks-put (codes "ext-restriction") (attribute_leaf own) refl f e))
+    rw (held-put (codes "restriction") beside g (λ h. absurd (false≢true h)), held-put (codes "ext-restriction") beside g (λ _. lacks-put (codes "ext-restriction") (attribute_leaf own) refl f e))
+    (rw (held-put (codes "restriction") own f (λ _. r)))
 
 spelled-again : (l : Marking) → spelled (restriction_of l) (ext_restriction_of l) ≡ Some l
 spelled-again public = refl

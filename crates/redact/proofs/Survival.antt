@@ -97,19 +97,13 @@ steps-some name (Some k) = omega arith
 far : (p : Tokens) → 3 ≤ length p → is_incident p ≡ false
 far p h = is_false (is_incident p) (λ same. let e : length p ≡ 2 = ap length (same_path-true p incident_path same) in absurd (omega (arith, h, e)))
 
+far-below : (p : Tokens) (a b : Bytes) (o o' : Option ℕ) → 3 ≤ length p + (length (steps a o) + length (steps b o')) → is_incident ((p ++ steps a o) ++ steps b o') ≡ false
+far-below p a b o o' h = far ((p ++ steps a o) ++ steps b o') (omega (arith, h, length-append (p ++ steps a o) (steps b o'), length-append p (steps a o)))
+
 both-far : (p q : Tokens) (a b : Bytes) (o o' : Option ℕ) (n m : ℕ) → length q ≡ length p → 3 ≤ length p + (length (steps a o) + length (steps b o')) →
     is_incident ((q ++ steps a (new_place n o)) ++ steps b (new_place m o')) ≡ is_incident ((p ++ steps a o) ++ steps b o')
 both-far p q a b o o' n m same h =
-    far ((q ++ steps a (new_place n o)) ++ steps b (new_place m o')) (omega (
-      arith,
-      h,
-      same,
-      same_length a o n,
-      same_length b o' m,
-      length-append (q ++ steps a (new_place n o)) (steps b (new_place m o')),
-      length-append q (steps a (new_place n o)),
-    ))
-    ∙ sym (far ((p ++ steps a o) ++ steps b o') (omega (arith, h, length-append (p ++ steps a o) (steps b o'), length-append p (steps a o))))
+    far-below q a b (new_place n o) (new_place m o') (omega (arith, h, same, same_length a o n, same_length b o' m)) ∙ sym (far-below p a b o o' h)
 
 alike-below : (p q : Tokens) (a : Bytes) (o : Option ℕ) (n : ℕ) → length q ≡ length p → AreAlike (p ++ steps a o) (q ++ steps a (new_place n o))
 alike-below p q a (Some k) n same b None m = both-far p q a b (Some k) None n m same (omega arith)
