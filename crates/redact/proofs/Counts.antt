@@ -1,5 +1,5 @@
 -- How many classes are visible.
-use Rattle.std.proofs.Common.{◌≡◌, ◌≤◌, ◌||◌, not, arith, ℕ, suc, ◌+◌, Bool, true, false, List, ◌∷◌, ◌++◌, cond, refl, ◌∙◌, ap, zero-add, if◌then◌else◌, ◌&&◌, count_by, codes, is_some, bytes_eq}
+use Rattle.std.proofs.Common.{◌≡◌, ◌≤◌, ◌||◌, not, arith, ℕ, suc, ◌+◌, Bool, true, false, List, ◌∷◌, ◌++◌, cond, refl, ap, zero-add, if◌then◌else◌, ◌&&◌, count_by, codes, is_some, bytes_eq}
 use Rattle.std.proofs.lemmas.List.Sums.{sum_by-append, sum_by-cons}
 use Rattle.iodef_tree.specs.Text.{Tokens}
 use Rattle.std.proofs.lemmas.Bool.{and_right}

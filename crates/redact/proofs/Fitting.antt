@@ -1,14 +1,14 @@
 -- Where the markings of a document were accepted, a class in which no label is written has no attribute of one.
-use Rattle.std.proofs.Common.{arith, ◌≡◌, ℕ, suc, Bool, true, false, List, [], ◌++◌, refl, sym, ◌∙◌, ap, if◌then◌else◌, Option, Some, None, is_some, is_none, option_map, codes, bytes_eq}
+use Rattle.std.proofs.Common.{arith, ◌≡◌, ℕ, suc, Bool, true, List, [], ◌++◌, refl, sym, ◌∙◌, ap, if◌then◌else◌, Option, Some, None, is_some, is_none, option_map, codes, bytes_eq}
 use Rattle.std.specs.Option.{option_or}
 use Rattle.std.proofs.lemmas.Bool.{cond_both}
 use Rattle.iodef_tree.specs.Text.{Bytes, Tokens}
-use Rattle.iodef_tree.specs.Tree.{Content, text, value, Forest, end, leaf, branch, steps, kind_of, text_of}
+use Rattle.iodef_tree.specs.Tree.{Content, Forest, end, leaf, branch, steps, kind_of, text_of}
 use Rattle.iodef_tree.specs.Paths.{LocatedLine}
 use Rattle.iodef_tree.specs.Walk.{AreBlocks}
 use Rattle.marking.specs.Label.{Marking, restriction_of}
-use Rattle.marking.specs.Marks.{Held, absent, plain, other, held_by_kind, spelled_by, is_rule_kept}
-use Rattle.marking.specs.Members.{held_by_leaf, held_in, is_rule_kept_in}
+use Rattle.marking.specs.Marks.{Held, absent, other, held_by_kind, spelled_by, is_rule_kept}
+use Rattle.marking.specs.Members.{held_in, is_rule_kept_in}
 use Rattle.marking.specs.Pass.{bad_below}
 use Rattle.marking.proofs.Written.{AreUnderParents, written-block}
 use Rattle.marking.proofs.Placed.{ArePlaced}

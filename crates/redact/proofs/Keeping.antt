@@ -1,17 +1,16 @@
 -- The kept outline is what the pass leaves.
-use Rattle.std.proofs.Common.{◌≡◌, ℕ, zero, suc, Bool, true, false, not, List, [], ◌∷◌, ◌++◌, refl, sym, ◌∙◌, ap, subst, append_assoc, arith, filter, if◌then◌else◌, ◌&&◌, ◌||◌, Option, Some, None, is_some, true≢false}
+use Rattle.std.proofs.Common.{◌≡◌, ℕ, suc, Bool, true, false, not, List, [], ◌∷◌, ◌++◌, refl, sym, ◌∙◌, ap, subst, append_assoc, arith, filter, if◌then◌else◌, ◌&&◌, ◌||◌, Option, is_some}
 use Rattle.std.specs.List.{list_any}
-use Rattle.std.proofs.lemmas.Bool.{false≢true, and_left, cond-true, cond-false}
+use Rattle.std.proofs.lemmas.Bool.{false≢true, cond-false}
 use Rattle.std.proofs.lemmas.List.Folds.{list_any-append}
 use Rattle.iodef_tree.specs.Text.{Bytes, Tokens, is_root}
 use Rattle.iodef_tree.specs.Paths.{LocatedLine, is_class}
-use Rattle.iodef_tree.specs.Tree.{Leaf, Forest, end, leaf, branch, steps, kind_of, text_of, leaf_line, class_line, lines}
+use Rattle.iodef_tree.specs.Tree.{Leaf, Forest, end, leaf, branch, steps, leaf_line, class_line, lines}
 use Rattle.iodef_tree.specs.Walk.{walk, leaf_entry, class_entry}
 use Rattle.iodef_tree.specs.declared.line.Line.{Line}
-use Rattle.iodef_tree.specs.declared.line.Kind.TheVariants as kind
 use Rattle.marking.proofs.Bad.{no_class-kind}
 use Rattle.marking.proofs.Marked.{not_root}
-use Rattle.redact.specs.Kept.{Attribute, Verdicts, put_all, attribute_lines, is_frame, is_visible_class, is_kept, added, labelled, kept}
+use Rattle.redact.specs.Kept.{Verdicts, put_all, attribute_lines, is_visible_class, is_kept, added, labelled, kept}
 use Rattle.redact.specs.Judged.{judge, inside, keeps_plain, shows_label, home_at, left_before, new_place, left_with, moved, is_end, put_attributes, cut}
 use Rattle.redact.proofs.Fates.{by_verdict}
 use Rattle.redact.proofs.Puts.{IsShallow, label-lines}

@@ -13,7 +13,7 @@ use Rattle.iodef_tree.proofs.Order.{same_path-refl}
 use Rattle.iodef_tree.proofs.Siblings.{all-append}
 use Rattle.iodef_tree.proofs.Located.{located-lines}
 use Rattle.iodef_tree.proofs.Distinct.{paths-distinct, distinct-filter}
-use Rattle.redact.specs.Kept.{Attribute, Verdicts, is_frame, is_kept, kept}
+use Rattle.redact.specs.Kept.{Attribute, Verdicts, is_kept, kept}
 use Rattle.redact.specs.Withheld.{beside, class_places, place_by}
 use Rattle.redact.specs.Judged.{Judged, none, plain, class, judge, Home, root, inside, keeps_plain, shows_label, home_at, left_before, new_place, left_with, moved, is_end, put_leaf, attribute_leaf, put_attributes, with_label, cut, places}
 use Rattle.marking.proofs.Bad.{no_class-kind, class_paths-leaf, class_paths-append}

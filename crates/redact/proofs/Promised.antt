@@ -1,5 +1,5 @@
 -- The laws of excerpts and searches.
-use Rattle.std.proofs.Common.{◌≡◌, ◌==◌, ℕ, suc, ◌+◌, Bool, true, false, not, ◌&&◌, ◌||◌, List, [], ◌∷◌, map, cond, if◌then◌else◌, refl, sym, ◌∙◌, ap, arith, Option, filter, count_by, eqb-true, inl, inr, subst, Some, Contains, flat_map}
+use Rattle.std.proofs.Common.{◌≡◌, ◌==◌, ℕ, suc, ◌+◌, Bool, true, false, not, ◌&&◌, ◌||◌, List, [], ◌∷◌, map, cond, if◌then◌else◌, refl, sym, ◌∙◌, ap, arith, Option, filter, count_by, inl, inr, subst, Some, Contains, flat_map}
 use Rattle.std.specs.List.{list_any}
 use Rattle.std.proofs.lemmas.Bool.{cond_both}
 use Rattle.iodef_tree.specs.Text.{Bytes, Tokens}
@@ -8,14 +8,14 @@ use Rattle.iodef_tree.specs.declared.line.Line.{Line}
 use Rattle.policy.specs.declared.standing.Standing.{Standing}
 use Rattle.policy.specs.declared.case.Case.{Case}
 use Rattle.redact.proofs.Counts.{count_by-cons}
-use Rattle.redact.specs.Kept.{Attribute, Verdicts, comes_after, put, put_all, attribute_line, attribute_lines, is_kept, says_label, added, labelled, kept, is_frame, is_wholly_hidden}
+use Rattle.redact.specs.Kept.{Attribute, Verdicts, comes_after, put, put_all, attribute_line, attribute_lines, is_kept, says_label, added, labelled, kept, is_frame}
 use Rattle.redact.specs.Told.{is_seen_class, is_named, holds_needle, visible_count, is_listed, finds, verdicts_of}
 use Rattle.std.proofs.lemmas.List.Concat.{flat_map-cons}
 use Rattle.std.proofs.lemmas.List.Elements.{Contains-append_left, Contains-append_right, Contains-append_cases, Contains-push_cases}
 use Rattle.policy.specs.declared.rule.Rule.{Rule}
 use Rattle.policy.specs.declared.verdict.Verdict.TheVariants.{Shown, Hidden}
 use Rattle.policy.specs.Verdict.{is_visible}
-use Rattle.redact.specs.Withheld.{told_at_place, withheld_at, class_places, place_by}
+use Rattle.redact.specs.Withheld.{withheld_at, class_places, place_by}
 use Rattle.redact.specs.Laws.{is_shown, VerdictIsServed}
 
 -- ---- listed, served, found

@@ -1,5 +1,5 @@
 -- A search by one pass down a document finds what the definition finds among its lines.
-use Rattle.std.proofs.Common.{◌≡◌, ℕ, suc, Bool, true, false, ◌&&◌, ◌||◌, List, [], ◌∷◌, ◌++◌, cond, refl, sym, ◌∙◌, ap, append_assoc, append-nil, Option, true≢false}
+use Rattle.std.proofs.Common.{◌≡◌, ℕ, suc, Bool, true, false, ◌&&◌, ◌||◌, List, [], ◌∷◌, ◌++◌, refl, sym, ◌∙◌, ap, append_assoc, append-nil, Option, true≢false}
 use Rattle.std.specs.List.{list_any}
 use Rattle.std.proofs.lemmas.Bool.{cond_both}
 use Rattle.std.proofs.Math.Bool.{and-true}
@@ -8,7 +8,7 @@ use Rattle.iodef_tree.specs.Text.{Bytes, Tokens, same_path, is_under}
 use Rattle.iodef_tree.specs.Tree.{Content, text, value, Forest, end, leaf, branch, steps, lines, leaf_line}
 use Rattle.iodef_tree.specs.Paths.{LocatedLine, is_class, located, below}
 use Rattle.iodef_tree.specs.Sound.{IsSound}
-use Rattle.iodef_tree.specs.Walk.{walk, leaf_entry, class_entry, AreBlocks}
+use Rattle.iodef_tree.specs.Walk.{walk, class_entry, AreBlocks}
 use Rattle.iodef_tree.proofs.Blocks.{blocks-located, below-parents}
 use Rattle.iodef_tree.proofs.Located.{located-lines}
 use Rattle.iodef_tree.proofs.Order.{same_path-refl, same_path-true, same_path-longer, is_false}
@@ -23,7 +23,7 @@ use Rattle.policy.proofs.Steps.{at_root-is}
 use Rattle.policy.specs.declared.standing.Standing.{Standing}
 use Rattle.policy.specs.declared.case.Case.{Case}
 use Rattle.redact.specs.Told.{is_named, is_hit, holds_needle, finds, is_listed}
-use Rattle.redact.specs.Search.{content_hits, members_hit, holds_text, any_class, class_hits, found}
+use Rattle.redact.specs.Search.{content_hits, members_hit, holds_text, any_class, found}
 use Rattle.marking.proofs.Bad.{no_class-kind}
 use Rattle.redact.proofs.Whole.{enter-at, root-bare}
 

@@ -6,7 +6,7 @@ use Rattle.iodef_tree.specs.Tree.{Forest, end, leaf, branch, steps, kind_of, tex
 use Rattle.iodef_tree.specs.Laws.{AreApart, HasApart}
 use Rattle.iodef_tree.proofs.Order.{bytes_eq-refl, bytes_eq-true, is_false}
 use Rattle.iodef_tree.proofs.Siblings.{siblings-map}
-use Rattle.marking.specs.Label.{Marking, public, white, partner, green, need_to_know, amber, private, red, by_arrangement, extended, spelled, restriction_of}
+use Rattle.marking.specs.Label.{Marking, public, spelled, restriction_of}
 use Rattle.marking.specs.Marks.{Held, absent, plain, other, held_by_kind, held_by_line, spelled_by, is_rule_kept}
 use Rattle.marking.specs.Members.{held_by_leaf, held_in, spelled_in, is_rule_kept_in}
 use Rattle.redact.specs.Kept.{Attribute, Verdicts}

@@ -1,5 +1,5 @@
 -- The pass over a whole document: what it leaves, what it tells and what it counts are as the definitions say.
-use Rattle.std.proofs.Common.{◌≡◌, ◌<◌, ◌^◌, ℕ, suc, ◌+◌, false, true, Bool, List, [], ◌∷◌, ◌++◌, refl, sym, ◌∙◌, ap, subst, append-nil, append_assoc, arith, decimal, Option, Some, None, is_some, count_by}
+use Rattle.std.proofs.Common.{◌≡◌, ◌<◌, ◌^◌, ℕ, suc, ◌+◌, false, true, Bool, List, [], ◌∷◌, ◌++◌, refl, sym, ◌∙◌, ap, append-nil, append_assoc, arith, decimal, Option, Some, None, is_some, count_by}
 use Rattle.iodef_tree.specs.Text.{Bytes, Tokens, same_path}
 use Rattle.iodef_tree.specs.Tree.{Forest, end, leaf, branch, steps, lines}
 use Rattle.iodef_tree.specs.Paths.{LocatedLine, has_class, located, below}
@@ -20,9 +20,9 @@ use Rattle.policy.specs.declared.standing.Standing.{Standing}
 use Rattle.policy.specs.declared.case.Case.{Case}
 use Rattle.redact.specs.Kept.{Verdicts, kept}
 use Rattle.redact.specs.Withheld.{Withheld, is_among, place_by, class_places, withheld_pairs}
-use Rattle.redact.specs.Judged.{Judged, plain, class, judge, judgment_at, root, cut, visible_classes, told}
+use Rattle.redact.specs.Judged.{Judged, plain, judge, root, cut, visible_classes, told}
 use Rattle.redact.specs.Told.{verdicts_of, kept_outline, withheld_of, visible_count}
-use Rattle.redact.specs.Pass.{enter, judgment_by, pass}
+use Rattle.redact.specs.Pass.{enter, pass}
 use Rattle.redact.proofs.Keeping.{is_seen, any_seen, SaysBelow}
 use Rattle.redact.proofs.Ordered.{trails-none, ordered-cut}
 use Rattle.redact.proofs.Sizes.{within-cut}

@@ -1,15 +1,14 @@
 -- What the pass tells as withheld is what the definitions say.
 use Rattle.std.proofs.Common.{◌≡◌, ℕ, suc, Bool, true, false, not, List, [], ◌∷◌, ◌++◌, refl, sym, ◌∙◌, ap, subst, if◌then◌else◌, ◌&&◌, Option, Some}
 use Rattle.std.specs.List.{AllByRecursion}
-use Rattle.std.proofs.lemmas.Bool.{and_right, or_parts, cond-true, cond-false}
+use Rattle.std.proofs.lemmas.Bool.{or_parts, cond-true}
 use Rattle.std.proofs.lemmas.List.Concat.{flat_map-append}
 use Rattle.std.proofs.lemmas.List.Folds.{list_any-append}
 use Rattle.iodef_tree.specs.Text.{Tokens}
 use Rattle.iodef_tree.specs.Paths.{LocatedLine, is_class}
 use Rattle.iodef_tree.specs.Tree.{Leaf, Forest, end, leaf, branch, steps}
 use Rattle.iodef_tree.specs.Walk.{walk, leaf_entry}
-use Rattle.policy.specs.declared.rule.Rule.{Rule}
-use Rattle.redact.specs.Kept.{Verdicts, is_frame, is_wholly_hidden}
+use Rattle.redact.specs.Kept.{Verdicts, is_wholly_hidden}
 use Rattle.redact.specs.Withheld.{Withheld, told_at_place, withheld_at, withheld_among}
 use Rattle.redact.specs.Judged.{judge, inside, keeps_plain, home_at, left_before, new_place, left_with, is_end, cut, told, places}
 use Rattle.marking.proofs.Bad.{no_class-kind}

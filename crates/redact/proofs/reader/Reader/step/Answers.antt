@@ -1,5 +1,3 @@
-use Rattle.std.proofs.Common.{sym, ◌∙◌, ap}
-use Rattle.policy.specs.Ahead.{ahead_of}
 use Rattle.redact.specs.Tokens.{path_of}
 use Rattle.redact.proofs.Stepping.{further}
 use Rattle.redact.proofs.reader.Reader.step.Goals as goal

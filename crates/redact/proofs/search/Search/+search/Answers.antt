@@ -1,14 +1,12 @@
-use Rattle.std.proofs.Common.{◌≡◌, ◌+◌, ◌||◌, List, Bool, map, drop, true, false, sym, ◌∙◌, ap, arith, rules}
-use Rattle.std.proofs.lemmas.Bool.{or_left}
-use Rattle.iodef_tree.specs.Text.{Bytes}
-use Rattle.iodef_tree.specs.View.{body, bodies, members_forest}
+use Rattle.std.proofs.Common.{List, map, sym, ◌∙◌, ap, arith, rules}
+use Rattle.iodef_tree.specs.View.{body, bodies}
 use Rattle.iodef_tree.specs.declared.object.Object.{the_lemmas}
 use Rattle.iodef_tree.proofs.Filled.{member-at, elements-kept}
 use Rattle.iodef_tree.proofs.Views.{bodies-Many}
 use Rattle.policy.specs.Ahead.{ahead_of}
 use Rattle.policy.specs.Inherited.{carried}
 use Rattle.redact.specs.Tokens.{path_of}
-use Rattle.redact.specs.Search.{asked_of, found, found_items, found_member}
+use Rattle.redact.specs.Search.{asked_of, found_items, found_member}
 use Rattle.redact.specs.declared.trail.Token.{Token}
 use Rattle.redact.proofs.Searching.{found_next}
 use Rattle.redact.proofs.Stepping.{array-door}
