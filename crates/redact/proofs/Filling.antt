@@ -1,5 +1,5 @@
 -- Where an attribute goes among members, by its name.
-use Rattle.std.proofs.Common.{◌≡◌, if◌then◌else◌, ℕ, zero, suc, ◌<◌, ◌≤◌, true, false, List, [], ◌∷◌, ◌++◌, map, length, get_or, take, drop, refl, ◌∙◌, ap, arith, sym, Option, Some, None, true≢false}
+use Rattle.std.proofs.Common.{◌==◌, ne_eqb, ◌≡◌, if◌then◌else◌, ℕ, zero, suc, ◌<◌, ◌≤◌, true, false, List, [], ◌∷◌, ◌++◌, map, length, get_or, take, drop, refl, ◌∙◌, ap, arith, sym, Option, Some, None, true≢false}
 use Rattle.std.specs.List.{AllByRecursion}
 use Rattle.iodef_tree.specs.Filled.{IsMemberFilled}
 use Rattle.iodef_tree.specs.Text.{Bytes, bytes_lt}
@@ -55,13 +55,9 @@ member-end n (many []) rest h = absurd (true≢false (sym h))
 member-end n (many (b ∷ bs)) rest h = front-end n (Some 0) b _
 
 -- members that have lines have an end only where there are none
-pub filled-end : (ms : List Pair) → AllByRecursion (λ m. IsMemberFilled m.1) ms → (length ms ≡ 0 → ⊥) → is_end (members_forest ms) ≡ false
-filled-end [] all h = absurd (h refl)
-filled-end (m ∷ ms) all h = member-end m.0 (bodies m.1) (members_forest ms) (member-elements m.1 all.0)
-
-pub filled-none : (ms : List Pair) → length ms ≡ 0 → is_end (members_forest ms) ≡ true
-filled-none [] none = refl
-filled-none (m ∷ ms) none = absurd (omega (arith, none))
+pub filled-end : (ms : List Pair) → AllByRecursion (λ m. IsMemberFilled m.1) ms → is_end (members_forest ms) ≡ (length ms == 0)
+filled-end [] all = refl
+filled-end (m ∷ ms) all = member-end m.0 (bodies m.1) (members_forest ms) (member-elements m.1 all.0) ∙ sym (ne_eqb (length (m ∷ ms)) 0 (omega arith))
 
 -- what is filled stays so with one member more
 pub inserted-filled : (ms : List Pair) (i : ℕ) (e : Pair) → AllByRecursion (λ m. IsMemberFilled m.1) ms → IsMemberFilled e.1 → AllByRecursion (λ m. IsMemberFilled m.1) (take i ms ++ e ∷ drop i ms)

@@ -5,14 +5,12 @@ pub mod Withheld
 pub mod Counts
 pub mod Ordered
 pub mod Sizes
-pub mod Fitting
 pub mod Whole
 pub mod Listing
 pub mod Fronts
 pub mod Going
 pub mod Filling
 pub mod Needles
-pub mod Searched
 pub mod Searching
 pub mod Stepping
 pub mod Promised

@@ -29,7 +29,7 @@ use Rattle.redact.proofs.Sizes.{within-cut}
 use Rattle.redact.proofs.Places.{kept-lines, placed}
 use Rattle.redact.proofs.Withheld.{withheld-walk}
 use Rattle.redact.proofs.Counts.{count-walk, few-seen}
-use Rattle.redact.proofs.Fitting.{label-names, labels-fit}
+use Rattle.redact.proofs.Spelling.{label-names, labels-fit}
 
 -- ---- each class is judged as the definitions judge its path
 
