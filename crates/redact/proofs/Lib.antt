@@ -1,10 +1,8 @@
-pub mod Puts
 pub mod Keeping
 pub mod Places
 pub mod Withheld
 pub mod Counts
 pub mod Ordered
-pub mod Sizes
 pub mod Whole
 pub mod Listing
 pub mod Fronts

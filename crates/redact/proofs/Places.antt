@@ -156,11 +156,7 @@ module _ (v : Verdicts) (f : Forest) (sound : IsSound f) (says : SaysBelow v 1 [
   -- the places by the pass are those by the kept outline
   pub class_places-pass : class_places v (walk 1 [] f) ≡ all_places
   class_places-pass =
-      ap (λ ps. zip ps (classes_of (kept v (walk 1 [] f)))) (paths-kept v f 1 [] [] 0 says)
-      ∙ ap (λ ls. zip (map here all_places) (classes_of ls)) kept-lines
-      ∙ ap (λ es. zip (map here all_places) (class_paths es)) (located-lines (cut root 0 (judge v [] f)) left_sound)
-      ∙ ap (zip (map here all_places)) (paths-cut (judge v [] f) root 1 [] [] 0)
-      ∙ zip-both all_places
+      rw (paths-kept v f 1 [] [] 0 says, kept-lines, located-lines (cut root 0 (judge v [] f)) left_sound, paths-cut (judge v [] f) root 1 [] [] 0) (zip-both all_places)
 
   pub placed : AllByRecursion (λ x. place_by (class_places v (walk 1 [] f)) (here x) ≡ Some (there x)) all_places
   placed =

@@ -1,5 +1,5 @@
 -- A search over members side by side, and by one pass down a document, which finds what the definition finds among its lines.
-use Rattle.std.proofs.Common.{◌≡◌, ℕ, suc, ◌+◌, ◌<◌, Bool, ◌||◌, List, [], ◌∷◌, refl, sym, ◌∙◌, ap, decimal, length, get_or, drop, map, Option, Some, None, true, false, ◌&&◌, ◌++◌, append_assoc, append-nil, true≢false}
+use Rattle.std.proofs.Common.{arith, ◌≡◌, ℕ, suc, ◌+◌, ◌<◌, Bool, ◌||◌, List, [], ◌∷◌, refl, sym, ◌∙◌, ap, decimal, length, get_or, drop, map, Option, Some, None, true, false, ◌&&◌, ◌++◌, append_assoc, append-nil, true≢false}
 use Rattle.std.specs.List.{list_any}
 use Rattle.std.proofs.Math.Bool.{or_assoc, and-true}
 use Rattle.std.proofs.lemmas.Bool.{cond_both}
@@ -111,8 +111,7 @@ none-held (branch n o kids rest) d p q needle h =
     rw (rw append-nil at (h []), list_any-append (is_hit_in needle q) (walk (suc d) r kids) (walk d p rest), below, none-held rest d p q needle h)
 
 leaf-hit : (needle : Bytes) (d : ℕ) (name : Bytes) (place : Option ℕ) (x : Content) → is_hit needle (leaf_line d (record { name = name; place = place; content = x })) ≡ content_hits needle x
-leaf-hit needle d name place (text t) = refl
-leaf-hit needle d name place (value t) = refl
+leaf-hit needle d name place x = grind arith
 
 apart : (p q : Tokens) → same_path p q ≡ false → same_path q p ≡ false
 apart p q h = is_false (same_path q p) (λ same. true≢false (sym (same_path-refl p) ∙ ap (same_path p) (sym (same_path-true q p same)) ∙ h))

@@ -22,7 +22,7 @@ use Rattle.redact.specs.Told.{ext_restriction_of, attributes_by, attributes_of, 
 use Rattle.redact.specs.Kept.{Attribute, Verdicts}
 use Rattle.redact.specs.Judged.{judge, judgment_at, Home, inside, shows_label, left_before, left_with, is_end, put_leaf, attribute_leaf, put_attributes, with_label, cut}
 use Rattle.redact.proofs.Ordered.{Lacks, Fits, LabelsFit, lacks-put, lacks-cut}
-use Rattle.redact.proofs.Sizes.{AreLabelNames}
+use Rattle.redact.proofs.Counts.{AreLabelNames}
 use Rattle.redact.proofs.Fates.{by_fate, put-keeps}
 use Rattle.redact.proofs.Keeping.{leaf_line-moved}
 

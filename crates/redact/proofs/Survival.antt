@@ -200,9 +200,8 @@ module _ (f : Forest) (c : Case) (s : Standing) (sound : IsSound f) (ok : first_
 
   pub markings-accepted : first_bad_marking (located (kept_outline (lines 1 f) c s)) ≡ None
   markings-accepted =
-      ap (λ ls. first_bad_marking (located ls)) (left-lines f c s sound ok)
-      ∙ ap (find (λ p. not (is_well_marked es' p))) (ap class_paths (located-lines left (left-sound f c s sound ok)) ∙ paths-cut (judge verdicts [] f) root 1 [] [] 0)
-      ∙ none-bad all_places survived
+      rw (left-lines f c s sound ok, located-lines left (left-sound f c s sound ok), paths-cut (judge verdicts [] f) root 1 [] [] 0)
+      (rw (← located-lines left (left-sound f c s sound ok)) (none-bad all_places survived))
 
   -- at the place of the class there is its label
   abbrev HasLabel : Tokens → Type 0

@@ -25,10 +25,9 @@ use Rattle.redact.specs.Told.{verdicts_of, kept_outline, withheld_of, visible_co
 use Rattle.redact.specs.Pass.{enter, pass}
 use Rattle.redact.proofs.Keeping.{is_seen, any_seen, SaysBelow}
 use Rattle.redact.proofs.Ordered.{trails-none, ordered-cut}
-use Rattle.redact.proofs.Sizes.{within-cut}
+use Rattle.redact.proofs.Counts.{within-cut, count-walk, few-seen}
 use Rattle.redact.proofs.Places.{kept-lines, placed}
 use Rattle.redact.proofs.Withheld.{withheld-walk}
-use Rattle.redact.proofs.Counts.{count-walk, few-seen}
 use Rattle.redact.proofs.Spelling.{label-names, labels-fit}
 
 -- ---- each class is judged as the definitions judge its path
@@ -68,11 +67,7 @@ says-below v es looks (branch name place kids rest) d p blocks =
 pub root-bare : (f : Forest) → IsSound f → has_class (located (lines 1 f)) [] ≡ false
 root-bare f sound =
     ap (λ es. has_class es []) (located-lines f sound)
-    ∙ no_class (walk 1 [] f) [] (walk-all (λ p. same_path p [] ≡ false) f 1 [] (siblings-all (λ n o. (z : Tokens) → same_path (steps n o ++ z) [] ≡ false) f deep))
-  where
-    deep : (n : Bytes) (o : Option ℕ) (z : Tokens) → same_path (steps n o ++ z) [] ≡ false
-    deep n None z = refl
-    deep n (Some k) z = refl
+    ∙ no_class (walk 1 [] f) [] (walk-all (λ p. same_path p [] ≡ false) f 1 [] (siblings-all (λ n o. (z : Tokens) → same_path (steps n o ++ z) [] ≡ false) f (λ n o z. grind arith)))
 
 -- ---- a whole document
 

@@ -24,14 +24,10 @@ module _ (v : Verdicts) (place : Tokens → Option Tokens) where
   abbrev tells : List LocatedLine → List Withheld
   tells es = withheld_among v place es
 
-  tells-plain : (d : ℕ) (p : Tokens) (i : Leaf) (es : List LocatedLine) → tells (leaf_entry d p i ∷ es) ≡ tells es
-  tells-plain d p i es = ap (λ ts. ts ++ tells es) (cond-true (not (is_class (leaf_entry d p i))) _ _ (ap not (no_class-kind i.content)))
-
   -- below a wholly hidden class nothing is told
   silent : (f : Forest) (d : ℕ) (p : Tokens) → SaysBelow v d p f → any_seen v (walk d p f) ≡ false → is_wholly_hidden v p ≡ true → tells (walk d p f) ≡ []
   silent end d p says unseen hidden = refl
-  silent (leaf i rest) d p says unseen hidden =
-      tells-plain d p i (walk d p rest) ∙ silent rest d p says (or_parts (is_seen v (leaf_entry d p i)) _ unseen).1 hidden
+  silent (leaf i rest) d p says unseen hidden = rw (no_class-kind i.content) (silent rest d p says (or_parts (is_seen v (leaf_entry d p i)) _ unseen).1 hidden)
   silent (branch name pl kids rest) d p says unseen hidden =
       let q = p ++ steps name pl in
       let K = walk (suc d) q kids in
@@ -50,8 +46,7 @@ module _ (v : Verdicts) (place : Tokens → Option Tokens) where
       place p ≡ Some q → is_wholly_hidden v p ≡ false → tells (walk d p f) ≡ told (home_at v p) q n (judge v p f)
   withheld-walk end d p q n says right here shown = refl
   withheld-walk (leaf i rest) d p q n says right here shown =
-      tells-plain d p i (walk d p rest)
-      ∙ withheld-walk rest d p q (if keeps_plain (home_at v p) then left_with n i.place else left_before n i.place) says right here shown
+      rw (no_class-kind i.content) (withheld-walk rest d p q (if keeps_plain (home_at v p) then left_with n i.place else left_before n i.place) says right here shown)
   withheld-walk (branch name pl kids rest) d p q n says right here shown =
       let p' = p ++ steps name pl in
       let r = q ++ steps name (new_place n pl) in
