@@ -10,7 +10,6 @@ pub mod Going
 pub mod Filling
 pub mod Needles
 pub mod Searching
-pub mod Stepping
 pub mod Promised
 pub mod Fates
 pub mod Spelling

@@ -20,7 +20,6 @@ returns-clause-put c =
     let r = c.place_for-at.result in
     let name = c.args.name.now in
     let text = c.args.text.now in
-    let x = attribute_leaf (name, text) in
     let value = c.new.result in
     let e : Bytes × Member = (c.new-2.result, One (Text value)) in
     let said : bodies (One (Text value)) ≡ saying text = bodies-One (Text value) ∙ ap one (body-Text value) ∙ ap saying (c.new.ensures ∙ c.in_ok-from_str.ensures.ok) in
