@@ -1,5 +1,5 @@
 -- The order in which what is withheld is listed.
-use Rattle.std.proofs.Common.{inl, inr, ◌≡◌, Bool, List, [], ◌∷◌, true, false, ◌||◌, refl, arith, sym, ◌∙◌, ap, rules, if◌then◌else◌, codes, Some, Contains, bytes_eq, IsPermutation, IsSorted}
+use Rattle.std.proofs.Common.{inl, inr, ◌≡◌, Bool, List, [], ◌∷◌, true, ◌||◌, refl, arith, sym, ◌∙◌, ap, rules, if◌then◌else◌, codes, Some, Contains, bytes_eq, IsPermutation, IsSorted}
 use Rattle.std.specs.List.{dedup, list_any}
 use Rattle.std.specs.Cmp.{IsTotalOrder, IsEquivalence}
 use Rattle.std.specs.Cmp.Rules.{comparing}

@@ -5,7 +5,7 @@ use Rattle.std.proofs.lemmas.Bool.{false≢true, cond-true, cond-false, cond_bot
 use Rattle.std.proofs.lemmas.List.{map-append}
 use Rattle.std.proofs.lemmas.List.Elements.{filter-append}
 use Rattle.iodef_tree.specs.Text.{Tokens, same_path, is_root}
-use Rattle.iodef_tree.specs.Paths.{LocatedLine, is_class, class_paths, classes_of}
+use Rattle.iodef_tree.specs.Paths.{LocatedLine, is_class, class_paths}
 use Rattle.iodef_tree.specs.Tree.{Leaf, Forest, end, leaf, branch, steps, lines}
 use Rattle.iodef_tree.specs.Sound.{IsSound}
 use Rattle.iodef_tree.specs.Walk.{walk, leaf_entry, class_entry}

@@ -3,7 +3,7 @@ use Rattle.std.proofs.Common.{decimal, arith, ◌≡◌, ℕ, suc, Bool, true, L
 use Rattle.std.specs.Option.{option_or}
 use Rattle.std.proofs.Math.Bool.{and-true}
 use Rattle.std.proofs.lemmas.Bool.{cond_both, cond-false, and_parts, or_right, false≢true}
-use Rattle.iodef_tree.specs.Text.{Bytes, Tokens, is_prefix}
+use Rattle.iodef_tree.specs.Text.{Bytes, Tokens}
 use Rattle.iodef_tree.specs.Tree.{Content, Forest, end, leaf, branch, steps, kind_of, text_of}
 use Rattle.iodef_tree.specs.Paths.{LocatedLine}
 use Rattle.iodef_tree.specs.Walk.{AreBlocks}

@@ -1,5 +1,5 @@
 -- The markings of a document survive in its excerpt.
-use Rattle.std.proofs.Common.{◌≡◌, ◌+◌, ◌≤◌, ℕ, zero, suc, Bool, true, false, not, List, [], ◌∷◌, ◌++◌, refl, sym, ◌∙◌, ap, subst, map, filter, length, length-append, arith, if◌then◌else◌, ◌&&◌, Option, Some, None, is_none, unwrap_or, option_map, find, true≢false}
+use Rattle.std.proofs.Common.{◌≡◌, ◌+◌, ◌≤◌, ℕ, suc, Bool, true, false, not, List, [], ◌∷◌, ◌++◌, refl, sym, ◌∙◌, ap, subst, map, filter, length, length-append, arith, if◌then◌else◌, ◌&&◌, Option, Some, None, is_none, unwrap_or, option_map, find, true≢false}
 use Rattle.std.specs.Option.{option_or}
 use Rattle.std.specs.List.{AllByRecursion}
 use Rattle.std.proofs.lemmas.Bool.{cond_both, cond-false, cond-true, and_parts, or_right, or_left, false≢true}

@@ -1,12 +1,12 @@
 -- What the pass tells as withheld is what the definitions say.
 use Rattle.std.proofs.Common.{◌≡◌, ℕ, suc, Bool, true, false, not, List, [], ◌∷◌, ◌++◌, refl, sym, ◌∙◌, ap, subst, if◌then◌else◌, ◌&&◌, Option, Some}
 use Rattle.std.specs.List.{AllByRecursion}
-use Rattle.std.proofs.lemmas.Bool.{or_parts, cond-true}
+use Rattle.std.proofs.lemmas.Bool.{or_parts}
 use Rattle.std.proofs.lemmas.List.Concat.{flat_map-append}
 use Rattle.std.proofs.lemmas.List.Folds.{list_any-append}
 use Rattle.iodef_tree.specs.Text.{Tokens}
-use Rattle.iodef_tree.specs.Paths.{LocatedLine, is_class}
-use Rattle.iodef_tree.specs.Tree.{Leaf, Forest, end, leaf, branch, steps}
+use Rattle.iodef_tree.specs.Paths.{LocatedLine}
+use Rattle.iodef_tree.specs.Tree.{Forest, end, leaf, branch, steps}
 use Rattle.iodef_tree.specs.Walk.{walk, leaf_entry}
 use Rattle.redact.specs.Kept.{Verdicts, is_wholly_hidden}
 use Rattle.redact.specs.Withheld.{Withheld, told_at_place, withheld_at, withheld_among}
