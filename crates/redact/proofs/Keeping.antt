@@ -37,18 +37,21 @@ put-skip x (branch name place kids rest) n ys h =
     rw (deeper n x.depth (bytes_lt x.name name) h, append_assoc (lines (suc n) kids) (lines n rest) ys, append_assoc (lines (suc n) kids) (lines n rest) (put x ys))
     (rw (put-skip x kids (suc n) (lines n rest ++ ys) (omega arith), put-skip x rest n ys h))
 
+-- lines with one in front, or not
+in_front-lines : (b : Bool) (d : ℕ) (x : Leaf) (f g : Forest) (ys : List Line) → (if b then leaf_line d x ∷ (lines d f ++ ys) else lines d g ++ ys) ≡ lines d (if b then leaf x f else g) ++ ys
+in_front-lines true d x f g ys = refl
+in_front-lines false d x f g ys = refl
+
 -- an attribute put in among the lines of a class, and of what stands behind it, is put in among its members
 put-lines : (d : ℕ) (x : Leaf) (f : Forest) (ys : List Line) → IsShallow d ys → put (leaf_line d x) (lines d f ++ ys) ≡ lines d (put_leaf x f) ++ ys
 put-lines d x end ys h = put-first (leaf_line d x) ys h
 put-lines d x (leaf i rest) ys h =
-    rw (after_same d (bytes_lt x.name i.name), put-lines d x rest ys h)
-    (elim (bytes_lt x.name i.name) as (λ b. (if b then leaf_line d x ∷ leaf_line d i ∷ (lines d rest ++ ys) else leaf_line d i ∷ (lines d (put_leaf x rest) ++ ys)) ≡ lines d (if b then leaf x (leaf i rest) else leaf i (put_leaf x rest)) ++ ys) [ true ↦ refl | false ↦ refl ])
+    rw (after_same d (bytes_lt x.name i.name), put-lines d x rest ys h) (in_front-lines (bytes_lt x.name i.name) d x (leaf i rest) (leaf i (put_leaf x rest)) ys)
 put-lines d x (branch name place kids rest) ys h =
     let K = lines (suc d) kids in
     let past : put (leaf_line d x) ((K ++ lines d rest) ++ ys) ≡ (K ++ lines d (put_leaf x rest)) ++ ys =
     rw (append_assoc, append_assoc K (lines d (put_leaf x rest)) ys, put-skip (leaf_line d x) kids (suc d) (lines d rest ++ ys) (omega arith), put-lines d x rest ys h) in
-    rw (after_same d (bytes_lt x.name name), past)
-    (elim (bytes_lt x.name name) as (λ b. (if b then leaf_line d x ∷ class_line d name place ∷ ((K ++ lines d rest) ++ ys) else class_line d name place ∷ ((K ++ lines d (put_leaf x rest)) ++ ys)) ≡ lines d (if b then leaf x (branch name place kids rest) else branch name place kids (put_leaf x rest)) ++ ys) [ true ↦ refl | false ↦ refl ])
+    rw (after_same d (bytes_lt x.name name), past) (in_front-lines (bytes_lt x.name name) d x (branch name place kids rest) (branch name place kids (put_leaf x rest)) ys)
 
 attributes-lines : (d : ℕ) (label : List Attribute) (f : Forest) (ys : List Line) → IsShallow d ys → put_all (attribute_lines d label) (lines d f ++ ys) ≡ lines d (put_attributes label f) ++ ys
 attributes-lines d [] f ys h = refl
@@ -124,7 +127,8 @@ end-lines d _ h = absurd (false≢true h)
 module _ (v : Verdicts) where
   kept-next : (e : LocatedLine) (es : List LocatedLine) → kept v (e ∷ es) ≡ (if is_kept v e then e.line ∷ put_all (added v e) (kept v es) else kept v es)
   kept-next e es =
-      elim (is_kept v e) as (λ b. labelled v (if b then e ∷ filter (is_kept v) es else filter (is_kept v) es) ≡ (if b then e.line ∷ put_all (added v e) (kept v es) else kept v es)) [ true ↦ refl | false ↦ refl ]
+      elim (is_kept v e) as (λ b. labelled v (if b then e ∷ filter (is_kept v) es else filter (is_kept v) es)
+      ≡ (if b then e.line ∷ put_all (added v e) (kept v es) else kept v es)) [ true ↦ refl | false ↦ refl ]
 
   pub kept-cut : (f : Forest) (d : ℕ) (p : Tokens) (n : ℕ) (es : List LocatedLine) → SaysBelow v d p f → IsShallow d (kept v es) →
       kept v (walk d p f ++ es) ≡ lines d (cut (home_at v p) n (judge v p f)) ++ kept v es

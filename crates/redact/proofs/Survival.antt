@@ -11,6 +11,7 @@ use Rattle.iodef_tree.specs.Sound.{IsSound}
 use Rattle.iodef_tree.specs.Walk.{AreBlocks}
 use Rattle.iodef_tree.specs.Laws.{HasApart}
 use Rattle.iodef_tree.proofs.Apart.{sound-apart}
+use Rattle.iodef_tree.proofs.ClassesBelow.{classes-lines}
 use Rattle.iodef_tree.proofs.Blocks.{blocks-located, below-parents}
 use Rattle.iodef_tree.proofs.Located.{located-lines}
 use Rattle.iodef_tree.proofs.Order.{same_path-true, is_false}
@@ -103,9 +104,8 @@ alike-below p q a (Some k) n same b None m = both-far p q a b (Some k) None n m 
 alike-below p q a (Some j) n same b (Some k) m = both-far p q a b (Some j) (Some k) n m same (omega arith)
 alike-below p q a None n same b (Some k) m = both-far p q a b None (Some k) n m same (omega arith)
 alike-below [] [] a None n same b None m = refl
-alike-below (x ∷ p) (y ∷ q) a None n same b None m = both-far (x ∷ p) (y ∷ q) a b None None n m same (omega arith)
+alike-below (x ∷ p) q a None n same b None m = both-far (x ∷ p) q a b None None n m same (omega arith)
 alike-below [] (y ∷ q) a None n same b None m = absurd (omega (arith, same))
-alike-below (x ∷ p) [] a None n same b None m = absurd (omega (arith, same))
 
 -- ---- one class
 
@@ -200,8 +200,7 @@ module _ (f : Forest) (c : Case) (s : Standing) (sound : IsSound f) (ok : first_
 
   pub markings-accepted : first_bad_marking (located (kept_outline (lines 1 f) c s)) ≡ None
   markings-accepted =
-      rw (left-lines f c s sound ok, located-lines left (left-sound f c s sound ok), paths-cut (judge verdicts [] f) root 1 [] [] 0)
-      (rw (← located-lines left (left-sound f c s sound ok)) (none-bad all_places survived))
+      rw (left-lines f c s sound ok, classes-lines left (left-sound f c s sound ok), paths-cut (judge verdicts [] f) root [] [] 0) (none-bad all_places survived)
 
   -- at the place of the class there is its label
   abbrev HasLabel : Tokens → Type 0

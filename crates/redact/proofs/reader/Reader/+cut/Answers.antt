@@ -209,8 +209,8 @@ cut_items-loop-i-preserved t c =
       | cut_items-in-Some+in_ok-push w ↦ ap (λ v. v.items) w.kept-is ∙ w.in_ok-push.ensures.items ∙ ap (pushed own ks) (sym w.in-Some.is)
       | cut_items-in_default w ↦ ap (λ v. v.items) w.kept-is ∙ ap (pushed own ks) (sym w.in_default.is)
     ] in
-    let size : (if is_some (left_at C S H A (decimal i) (body x)) then suc (length ks) else length ks) ≡ length new =
-    ap (λ p. if is_some p then suc (length ks) else length ks) (sym O) ∙ sym (ap length grown ∙ length-pushed own body ks o) in
+    let m = if is_some (left_at C S H A (decimal i) (body x)) then suc (length ks) else length ks in
+    let size : m ≡ length new = ap (λ p. if is_some p then suc (length ks) else length ks) (sym O) ∙ sym (ap length grown ∙ length-pushed own body ks o) in
     let F = λ (j n : ℕ). Goes q st c.cut_item.new.state (told_items C S H A q r 0 0 (map body xs)) (told_items C S H A q r j n R) (count_items C S A 0 (map body xs)) (count_items C S A j R) in
     record {
       left = ap (λ ys. map body ys ++ left_items C S H A (i + 1) R) grown
@@ -220,7 +220,7 @@ cut_items-loop-i-preserved t c =
           ∙ (rw split at inv.left);
       filled = subst (λ (ys : List Item). AllByRecursion IsItemFilled ys) (sym grown) (pushed-all IsItemFilled own ks o inv.filled c.in_ok-x.ensures.filled);
       goes = subst (λ j. F j (length new)) (sym (add-one i)) (subst (F (suc i)) size
-          (goes-step q st c.loop-i.state c.cut_item.new.state _ (told_at C S A q (r ++ decimal (length ks) ∷ []) (decimal i) (body x)) (told_items C S H A q r (suc i) (if is_some (left_at C S H A (decimal i) (body x)) then suc (length ks) else length ks) R)
+          (goes-step q st c.loop-i.state c.cut_item.new.state _ (told_at C S A q (r ++ decimal (length ks) ∷ []) (decimal i) (body x)) (told_items C S H A q r (suc i) m R)
           _ (count_at C S A (decimal i) (body x)) (count_items C S A (suc i) R)
           (rw split at inv.goes) (simp (inv.goes.path, inv.goes.place, map-append token_of st.place.items, c.len-n.ensures ∙ c.loop-i.kept.ok.0) at c.in_ok-x.ensures.goes)));
       quiet = λ none. let z = pushed-none own ks o (ap length (sym grown) ∙ none) in c.in_ok-x.ensures.quiet z.0 ∙ inv.quiet z.1;
