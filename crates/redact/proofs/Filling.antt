@@ -1,8 +1,7 @@
 -- Where an attribute goes among members, by its name.
-use Rattle.std.proofs.Common.{◌≡◌, ℕ, zero, suc, ◌<◌, ◌≤◌, true, false, List, [], ◌∷◌, ◌++◌, map, length, get_or, take, drop, refl, ◌∙◌, ap, arith, sym, Option, Some, None, true≢false}
+use Rattle.std.proofs.Common.{◌==◌, ne_eqb, ◌≡◌, if◌then◌else◌, ℕ, zero, suc, ◌<◌, ◌≤◌, true, false, List, [], ◌∷◌, ◌++◌, map, length, get_or, take, drop, refl, ◌∙◌, ap, arith, sym, Option, Some, None, true≢false}
 use Rattle.std.specs.List.{AllByRecursion}
 use Rattle.iodef_tree.specs.Filled.{IsMemberFilled}
-use Rattle.std.proofs.lemmas.Bool.{cond-true, cond-false}
 use Rattle.iodef_tree.specs.Text.{Bytes, bytes_lt}
 use Rattle.iodef_tree.specs.Tree.{Leaf, Forest, leaf, Body, holds, says, Bodies, one, many, in_front, elements, member_front}
 use Rattle.iodef_tree.specs.View.{bodies, named, members_forest, forest_of_members}
@@ -11,26 +10,23 @@ use Rattle.redact.specs.Judged.{put_leaf, attribute_leaf, is_end}
 use Rattle.iodef_tree.proofs.Filled.{has_elements, member-elements}
 use Rattle.redact.specs.Filled.{saying}
 
-past_front : (x : Leaf) (n : Bytes) (p : Option ℕ) (b : Body) (rest : Forest) → bytes_lt x.name n ≡ false → put_leaf x (in_front n p b rest) ≡ in_front n p b (put_leaf x rest)
-past_front x n p (holds kids) rest h = cond-false (bytes_lt x.name n) _ _ h
-past_front x n p (says content) rest h = cond-false (bytes_lt x.name n) _ _ h
+put-front : (x : Leaf) (n : Bytes) (p : Option ℕ) (b : Body) (rest : Forest) →
+    put_leaf x (in_front n p b rest) ≡ (if bytes_lt x.name n then leaf x (in_front n p b rest) else in_front n p b (put_leaf x rest))
+put-front x n p (holds kids) rest = refl
+put-front x n p (says content) rest = refl
 
 past_elements : (x : Leaf) (n : Bytes) (k : ℕ) (bs : List Body) (rest : Forest) → bytes_lt x.name n ≡ false → put_leaf x (elements n k bs rest) ≡ elements n k bs (put_leaf x rest)
 past_elements x n k [] rest h = refl
-past_elements x n k (b ∷ bs) rest h = past_front x n (Some k) b _ h ∙ ap (in_front n (Some k) b) (past_elements x n (suc k) bs rest h)
+past_elements x n k (b ∷ bs) rest h = put-front x n (Some k) b _ ∙ rw (h, past_elements x n (suc k) bs rest h)
 
 past_member : (x : Leaf) (n : Bytes) (b : Bodies) (rest : Forest) → bytes_lt x.name n ≡ false → put_leaf x (member_front n b rest) ≡ member_front n b (put_leaf x rest)
-past_member x n (one b) rest h = past_front x n None b rest h
+past_member x n (one b) rest h = put-front x n None b rest ∙ rw h
 past_member x n (many bs) rest h = past_elements x n 0 bs rest h
 
-stops_front : (x : Leaf) (n : Bytes) (p : Option ℕ) (b : Body) (rest : Forest) → bytes_lt x.name n ≡ true → put_leaf x (in_front n p b rest) ≡ leaf x (in_front n p b rest)
-stops_front x n p (holds kids) rest h = cond-true (bytes_lt x.name n) _ _ h
-stops_front x n p (says content) rest h = cond-true (bytes_lt x.name n) _ _ h
-
 stops_member : (x : Leaf) (n : Bytes) (b : Bodies) (rest : Forest) → has_elements b ≡ true → bytes_lt x.name n ≡ true → put_leaf x (member_front n b rest) ≡ leaf x (member_front n b rest)
-stops_member x n (one b) rest filled h = stops_front x n None b rest h
+stops_member x n (one b) rest filled h = put-front x n None b rest ∙ rw h
 stops_member x n (many []) rest filled h = absurd (true≢false (sym filled))
-stops_member x n (many (b ∷ bs)) rest filled h = stops_front x n (Some 0) b _ h
+stops_member x n (many (b ∷ bs)) rest filled h = put-front x n (Some 0) b _ ∙ rw h
 
 abbrev Pair : Type 0
 Pair = Bytes × Member
@@ -59,13 +55,9 @@ member-end n (many []) rest h = absurd (true≢false (sym h))
 member-end n (many (b ∷ bs)) rest h = front-end n (Some 0) b _
 
 -- members that have lines have an end only where there are none
-pub filled-end : (ms : List Pair) → AllByRecursion (λ m. IsMemberFilled m.1) ms → (length ms ≡ 0 → ⊥) → is_end (members_forest ms) ≡ false
-filled-end [] all h = absurd (h refl)
-filled-end (m ∷ ms) all h = member-end m.0 (bodies m.1) (members_forest ms) (member-elements m.1 all.0)
-
-pub filled-none : (ms : List Pair) → length ms ≡ 0 → is_end (members_forest ms) ≡ true
-filled-none [] none = refl
-filled-none (m ∷ ms) none = absurd (omega (arith, none))
+pub filled-end : (ms : List Pair) → AllByRecursion (λ m. IsMemberFilled m.1) ms → is_end (members_forest ms) ≡ (length ms == 0)
+filled-end [] all = refl
+filled-end (m ∷ ms) all = member-end m.0 (bodies m.1) (members_forest ms) (member-elements m.1 all.0) ∙ sym (ne_eqb (length (m ∷ ms)) 0 (omega arith))
 
 -- what is filled stays so with one member more
 pub inserted-filled : (ms : List Pair) (i : ℕ) (e : Pair) → AllByRecursion (λ m. IsMemberFilled m.1) ms → IsMemberFilled e.1 → AllByRecursion (λ m. IsMemberFilled m.1) (take i ms ++ e ∷ drop i ms)

@@ -2,7 +2,7 @@
 use Rattle.std.proofs.Common.{◌≡◌, ℕ, suc, ◌+◌, Bool, true, false, List, [], ◌∷◌, ◌++◌, refl, sym, ◌∙◌, ap, map, append_assoc, add_assoc, zero-add, if◌then◌else◌, decimal, Option, Some, None, is_some, option_map}
 use Rattle.std.specs.List.{cons_option}
 use Rattle.iodef_tree.specs.Text.{Bytes, Tokens}
-use Rattle.iodef_tree.specs.Tree.{Forest, leaf, branch, Body, holds, says, Bodies, one, many, in_front, elements, steps}
+use Rattle.iodef_tree.specs.Tree.{Leaf, Forest, leaf, branch, Body, holds, says, Bodies, one, many, in_front, elements, steps}
 use Rattle.iodef_tree.specs.View.{forest, named, members_forest, forest_of_members}
 use Rattle.iodef_tree.specs.declared.text.Text.{Text}
 use Rattle.iodef_tree.specs.declared.object.Object.{Object}
@@ -49,21 +49,13 @@ module _ (c : Case) (s : Standing) (h : Home) (a : Inherited) (q : Tokens) where
       let o = left_at c s h d t b in
       made n (in_front name place b rest)
       ≡ joined o name (new_place n place) (told_at c s d q (q ++ steps name (new_place n place)) t b) (count_at c s d t b) (made (passed n place o) rest)
-  front d t name place enters n (says content) rest = rw zero-add (by_home (keeps_plain h))
-    where
-      by_home : (k : Bool) → ◌≡◌ {A = Outcome}
-          (record {
-            left = if k then leaf (moved n (record { name = name; place = place; content = content })) (cut h (left_with n place) (pass c s a rest)) else cut h (left_before n place) (pass c s a rest);
-            pairs = told h q (if k then left_with n place else left_before n place) (pass c s a rest);
-            classes = visible_classes (pass c s a rest);
-          })
-          (record {
-            left = or_front (if k then Some (says content) else None) name (new_place n place) (cut h (passed n place (if k then Some (says content) else None)) (pass c s a rest));
-            pairs = told h q (passed n place (if k then Some (says content) else None)) (pass c s a rest);
-            classes = visible_classes (pass c s a rest);
-          })
-      by_home true = refl
-      by_home false = refl
+  front d t name place enters n (says content) rest =
+      let i : Leaf = record { name = name; place = place; content = content } in
+      let L = made (left_with n place) rest in
+      let G = made (left_before n place) rest in
+      elim (keeps_plain h) as (λ k. ◌≡◌ {A = Outcome}
+      (record { left = if k then leaf (moved n i) L.left else G.left; pairs = told h q (if k then left_with n place else left_before n place) (pass c s a rest); classes = L.classes })
+      (joined (if k then Some (says content) else None) name (new_place n place) [] 0 (made (passed n place (if k then Some (says content) else None)) rest))) [ true ↦ rw zero-add | false ↦ rw zero-add ]
   front d t name place enters n (holds kids) rest =
       let k = enter_class c s d t (spelled_in kids) in
       let r = q ++ steps name (new_place n place) in

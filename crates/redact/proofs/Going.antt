@@ -11,19 +11,21 @@ use Rattle.redact.specs.Left.{tells, Goes}
 use Rattle.redact.specs.declared.pass.State.{State}
 use Rattle.redact.proofs.Searching.{any_map}
 
+-- pairs are the same where each is among both or neither
+alike : (xs ys : List Withheld) → ((x : Withheld) → is_among xs x ≡ is_among ys x) → is_among xs ≡ is_among ys
+alike xs ys h = λ i x. h x i
+
 -- one more step, which tells T and counts m
 pub goes-step : (q : Tokens) (a b d : State) (X T Z : List Withheld) (M m k : ℕ) → Goes q a b X (T ++ Z) M (m + k) → Goes q b d T [] m 0 → Goes q a d X Z M k
 goes-step q a b d X T Z M m k g step = record {
   path = step.path ∙ g.path;
   place = step.place ∙ g.place;
-  withheld = (λ i x. behind x i) ∙ g.withheld;
+  withheld = alike (tells q d ++ Z) (tells q b ++ (T ++ Z)) (λ x.
+      let told = simp (append-nil, list_any-append) at (ap (λ (f : Withheld → Bool). f x) step.withheld) in
+      simp list_any-append (grind (arith, told)))
+      ∙ g.withheld;
   classes = λ l. let e = g.classes l in let f = step.classes (omega (arith, e, l)) in omega (arith, e, f);
 }
-  where
-    behind : (x : Withheld) → is_among (tells q d ++ Z) x ≡ is_among (tells q b ++ (T ++ Z)) x
-    behind x =
-        let told = simp (append-nil, list_any-append) at (ap (λ (f : Withheld → Bool). f x) step.withheld) in
-        simp list_any-append (grind (arith, told))
 
 -- ---- what a class tells when its members are done
 
@@ -39,33 +41,26 @@ module _ (q r : Tokens) (a b k d : State) (T : List Withheld)
     (below : is_among (tells r k ++ []) ≡ is_among (tells r b ++ T)) where
   -- a visible class
   pub told-seen : d.withheld.items ≡ tells r k → d.gone.items ≡ a.gone.items → is_among (tells q d ++ []) ≡ is_among (tells q a ++ T)
-  told-seen noted kept = λ i x. at x i
-    where
-      at : (x : Withheld) → is_among (tells q d ++ []) x ≡ is_among (tells q a ++ T) x
-      at x =
-          let told = simp (append-nil, list_any-append, begins, bare) at (ap (λ (f : Withheld → Bool). f x) below) in
-          simp (append-nil, list_any-append, noted, kept) (grind (arith, told))
+  told-seen noted kept = alike (tells q d ++ []) (tells q a ++ T) (λ x.
+      let told = simp (append-nil, list_any-append, begins, bare) at (ap (λ (f : Withheld → Bool). f x) below) in
+      simp (append-nil, list_any-append, noted, kept) (grind (arith, told)))
 
   -- a frame, which tells its own rule too
   pub told-frame : (rule : Rule) (gs : List Rule) → ((test : Rule → Bool) → list_any test gs ≡ (list_any test k.gone.items || test rule)) →
       d.withheld.items ≡ k.withheld.items ++ at_place r gs → d.gone.items ≡ a.gone.items →
       is_among (tells q d ++ []) ≡ is_among (tells q a ++ at_rule r rule ∷ T)
-  told-frame rule gs added noted kept = λ i x. at x i
-    where
-      at : (x : Withheld) → is_among (tells q d ++ []) x ≡ is_among (tells q a ++ at_rule r rule ∷ T) x
-      at x =
-          let told = simp (append-nil, list_any-append, begins, bare, any_map) at (ap (λ (f : Withheld → Bool). f x) below) in
-          simp (append-nil, list_any-append, noted, kept, any_map, added) (framed (is_among k.withheld.items x) (list_any (λ l. same_withheld x (at_rule r l)) k.gone.items)
-          (is_among a.withheld.items x) (list_any (λ l. same_withheld x (at_rule q l)) a.gone.items) (is_among T x) (same_withheld x (at_rule r rule)) told)
+  told-frame rule gs added noted kept = alike (tells q d ++ []) (tells q a ++ at_rule r rule ∷ T) (λ x.
+      let told = simp (append-nil, list_any-append, begins, bare, any_map) at (ap (λ (f : Withheld → Bool). f x) below) in
+      simp (append-nil, list_any-append, noted, kept, any_map, added) (framed (is_among k.withheld.items x) (list_any (λ l. same_withheld x (at_rule r l)) k.gone.items)
+      (is_among a.withheld.items x) (list_any (λ l. same_withheld x (at_rule q l)) a.gone.items) (is_among T x) (same_withheld x (at_rule r rule)) told))
 
 -- a class of which nothing is left tells its rule at the place of its parent
 pub told-gone : (q : Tokens) (a d : State) (rule : Rule) → d.withheld.items ≡ a.withheld.items →
     ((test : Rule → Bool) → list_any test d.gone.items ≡ (list_any test a.gone.items || test rule)) →
     is_among (tells q d ++ []) ≡ is_among (tells q a ++ at_rule q rule ∷ [])
-told-gone q a d rule noted added = λ i x. at x i
-  where
-    at : (x : Withheld) → is_among (tells q d ++ []) x ≡ is_among (tells q a ++ at_rule q rule ∷ []) x
-    at x = simp (append-nil, list_any-append, noted, any_map, added) (dropped (is_among a.withheld.items x) (list_any (λ l. same_withheld x (at_rule q l)) a.gone.items) (same_withheld x (at_rule q rule)))
+told-gone q a d rule noted added = alike (tells q d ++ []) (tells q a ++ at_rule q rule ∷ []) (λ x.
+    simp (append-nil, list_any-append, noted, any_map, added)
+    (dropped (is_among a.withheld.items x) (list_any (λ l. same_withheld x (at_rule q l)) a.gone.items) (same_withheld x (at_rule q rule))))
 
 -- ---- a loop that pushes what is left, if something is
 

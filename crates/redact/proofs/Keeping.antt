@@ -1,37 +1,81 @@
--- The kept outline is what the pass leaves.
-use Rattle.std.proofs.Common.{◌≡◌, ℕ, zero, suc, Bool, true, false, not, List, [], ◌∷◌, ◌++◌, refl, sym, ◌∙◌, ap, subst, append_assoc, arith, filter, if◌then◌else◌, ◌&&◌, ◌||◌, Option, Some, None, is_some, true≢false}
+-- The kept outline is what the pass leaves, with the attributes of labels put in among its lines and its members.
+use Rattle.std.proofs.Common.{◌≡◌, ℕ, suc, ◌<◌, Bool, true, false, List, [], ◌∷◌, ◌++◌, refl, ◌∙◌, ap, append_assoc, arith, if◌then◌else◌, ◌&&◌, ◌||◌, ◌==◌, nat_lt, lt-ltb, not, sym, subst, filter, Option, is_some}
+use Rattle.std.proofs.lemmas.Bool.{or_left, cond-true, false≢true, cond-false}
 use Rattle.std.specs.List.{list_any}
-use Rattle.std.proofs.lemmas.Bool.{false≢true, and_left, cond-true, cond-false}
 use Rattle.std.proofs.lemmas.List.Folds.{list_any-append}
-use Rattle.iodef_tree.specs.Text.{Bytes, Tokens, is_root}
-use Rattle.iodef_tree.specs.Paths.{LocatedLine, is_class}
-use Rattle.iodef_tree.specs.Tree.{Leaf, Forest, end, leaf, branch, steps, kind_of, text_of, leaf_line, class_line, lines}
-use Rattle.iodef_tree.specs.Walk.{walk, leaf_entry, class_entry}
+use Rattle.iodef_tree.specs.Text.{bytes_lt, Bytes, Tokens, is_root}
+use Rattle.iodef_tree.specs.Tree.{Leaf, Forest, end, leaf, branch, leaf_line, class_line, lines, steps}
 use Rattle.iodef_tree.specs.declared.line.Line.{Line}
-use Rattle.iodef_tree.specs.declared.line.Kind.TheVariants as kind
+use Rattle.iodef_tree.specs.Paths.{LocatedLine, is_class}
+use Rattle.iodef_tree.specs.Walk.{walk, leaf_entry, class_entry}
 use Rattle.marking.proofs.Bad.{no_class-kind}
 use Rattle.marking.proofs.Marked.{not_root}
-use Rattle.redact.specs.Kept.{Attribute, Verdicts, put_all, attribute_lines, is_frame, is_visible_class, is_kept, added, labelled, kept}
-use Rattle.redact.specs.Judged.{judge, inside, keeps_plain, shows_label, home_at, left_before, new_place, left_with, moved, is_end, put_attributes, cut}
+use Rattle.redact.specs.Kept.{Attribute, comes_after, put, put_all, attribute_line, attribute_lines, Verdicts, is_visible_class, is_kept, added, labelled, kept}
+use Rattle.redact.specs.Judged.{put_leaf, attribute_leaf, put_attributes, judge, inside, keeps_plain, shows_label, home_at, left_before, new_place, left_with, moved, is_end, cut}
 use Rattle.redact.proofs.Fates.{by_verdict}
-use Rattle.redact.proofs.Puts.{IsShallow, label-lines}
+
+-- the first line is less deep than d, or there is none
+abbrev pub IsShallow : ℕ → List Line → Type 0
+IsShallow d [] = Unit {0}
+IsShallow d (l ∷ ls) = l.depth < d
+
+put-first : (x : Line) (ys : List Line) → IsShallow x.depth ys → put x ys ≡ x ∷ ys
+put-first x [] h = refl
+put-first x (y ∷ ys) h = cond-true (comes_after x y) _ _ (or_left (nat_lt y.depth x.depth) _ (lt-ltb y.depth x.depth h))
+
+after_same : (d : ℕ) (b : Bool) → (nat_lt d d || ((d == d) && b)) ≡ b
+after_same d b = grind arith
+
+deeper : (n d : ℕ) (b : Bool) → d < n → (nat_lt n d || ((n == d) && b)) ≡ false
+deeper n d b h = grind arith
+
+-- a member of depth d goes past what lies deeper
+put-skip : (x : Line) (f : Forest) (n : ℕ) (ys : List Line) → x.depth < n → put x (lines n f ++ ys) ≡ lines n f ++ put x ys
+put-skip x end n ys h = refl
+put-skip x (leaf i rest) n ys h = rw (deeper n x.depth (bytes_lt x.name i.name) h, put-skip x rest n ys h)
+put-skip x (branch name place kids rest) n ys h =
+    rw (deeper n x.depth (bytes_lt x.name name) h, append_assoc (lines (suc n) kids) (lines n rest) ys, append_assoc (lines (suc n) kids) (lines n rest) (put x ys))
+    (rw (put-skip x kids (suc n) (lines n rest ++ ys) (omega arith), put-skip x rest n ys h))
+
+-- lines with one in front, or not
+in_front-lines : (b : Bool) (d : ℕ) (x : Leaf) (f g : Forest) (ys : List Line) → (if b then leaf_line d x ∷ (lines d f ++ ys) else lines d g ++ ys) ≡ lines d (if b then leaf x f else g) ++ ys
+in_front-lines true d x f g ys = refl
+in_front-lines false d x f g ys = refl
+
+-- an attribute put in among the lines of a class, and of what stands behind it, is put in among its members
+put-lines : (d : ℕ) (x : Leaf) (f : Forest) (ys : List Line) → IsShallow d ys → put (leaf_line d x) (lines d f ++ ys) ≡ lines d (put_leaf x f) ++ ys
+put-lines d x end ys h = put-first (leaf_line d x) ys h
+put-lines d x (leaf i rest) ys h =
+    rw (after_same d (bytes_lt x.name i.name), put-lines d x rest ys h) (in_front-lines (bytes_lt x.name i.name) d x (leaf i rest) (leaf i (put_leaf x rest)) ys)
+put-lines d x (branch name place kids rest) ys h =
+    let K = lines (suc d) kids in
+    let past : put (leaf_line d x) ((K ++ lines d rest) ++ ys) ≡ (K ++ lines d (put_leaf x rest)) ++ ys =
+    rw (append_assoc, append_assoc K (lines d (put_leaf x rest)) ys, put-skip (leaf_line d x) kids (suc d) (lines d rest ++ ys) (omega arith), put-lines d x rest ys h) in
+    rw (after_same d (bytes_lt x.name name), past) (in_front-lines (bytes_lt x.name name) d x (branch name place kids rest) (branch name place kids (put_leaf x rest)) ys)
+
+attributes-lines : (d : ℕ) (label : List Attribute) (f : Forest) (ys : List Line) → IsShallow d ys → put_all (attribute_lines d label) (lines d f ++ ys) ≡ lines d (put_attributes label f) ++ ys
+attributes-lines d [] f ys h = refl
+attributes-lines d (a ∷ label) f ys h = ap (put (attribute_line d a)) (attributes-lines d label f ys h) ∙ put-lines d (attribute_leaf a) (put_attributes label f) ys h
+
+-- a label that is said is put into the lines of its class alone
+pub label-lines : (says : Bool) (d : ℕ) (label : List Attribute) (f : Forest) (ys : List Line) → IsShallow d ys →
+    put_all (if says then attribute_lines d label else []) (lines d f ++ ys) ≡ lines d (if says then put_attributes label f else f) ++ ys
+label-lines true d label f ys h = attributes-lines d label f ys h
+label-lines false d label f ys h = refl
 
 in_array-kept : (n : ℕ) (place : Option ℕ) → is_some (new_place n place) ≡ is_some place
 in_array-kept n place = grind arith
 
 pub leaf_line-moved : (d n : ℕ) (i : Leaf) → leaf_line d (moved n i) ≡ leaf_line d i
-leaf_line-moved d n i =
-    ap (λ b. let l : Line = record { depth = d; name = i.name; in_array = b; kind = kind_of i.content; text = text_of i.content } in l) (in_array-kept n i.place)
+leaf_line-moved d n i = rw (in_array-kept n i.place)
 
 pub class_line-moved : (d n : ℕ) (name : Bytes) (place : Option ℕ) → class_line d name (new_place n place) ≡ class_line d name place
-class_line-moved d n name place =
-    ap (λ b. let l : Line = record { depth = d; name = name; in_array = b; kind = kind.Class; text = [] } in l) (in_array-kept n place)
+class_line-moved d n name place = rw (in_array-kept n place)
 
 lines-shallow : (f : Forest) (d : ℕ) (ls : List Line) → IsShallow d ls → IsShallow (suc d) (lines d f ++ ls)
 lines-shallow end d [] h = tt
 lines-shallow end d (l ∷ ls) h = omega arith
-lines-shallow (leaf i rest) d ls h = omega arith
-lines-shallow (branch name place kids rest) d ls h = omega arith
+lines-shallow _ d ls h = omega arith
 
 module _ (v : Verdicts) where
   -- a line of a visible class
@@ -64,9 +108,7 @@ module _ (v : Verdicts) where
   -- below a class that isn't visible nothing is left just where no visible class lies below
   pub ends : (f : Forest) (d : ℕ) (p : Tokens) (n : ℕ) → is_end (cut (inside false) n (judge v p f)) ≡ not (any_seen (walk d p f))
   ends end d p n = refl
-  ends (leaf i rest) d p n =
-      ends rest d p (left_before n i.place)
-      ∙ ap (λ b. not ((b && v.visible (leaf_entry d p i).path) || any_seen (walk d p rest))) (sym (no_class-kind i.content))
+  ends (leaf i rest) d p n = rw (no_class-kind i.content) (ends rest d p (left_before n i.place))
   ends (branch name place kids rest) d p n =
       let q = p ++ steps name place in
       let K = walk (suc d) q kids in
@@ -85,7 +127,8 @@ end-lines d _ h = absurd (false≢true h)
 module _ (v : Verdicts) where
   kept-next : (e : LocatedLine) (es : List LocatedLine) → kept v (e ∷ es) ≡ (if is_kept v e then e.line ∷ put_all (added v e) (kept v es) else kept v es)
   kept-next e es =
-      elim (is_kept v e) as (λ b. labelled v (if b then e ∷ filter (is_kept v) es else filter (is_kept v) es) ≡ (if b then e.line ∷ put_all (added v e) (kept v es) else kept v es)) [ true ↦ refl | false ↦ refl ]
+      elim (is_kept v e) as (λ b. labelled v (if b then e ∷ filter (is_kept v) es else filter (is_kept v) es)
+      ≡ (if b then e.line ∷ put_all (added v e) (kept v es) else kept v es)) [ true ↦ refl | false ↦ refl ]
 
   pub kept-cut : (f : Forest) (d : ℕ) (p : Tokens) (n : ℕ) (es : List LocatedLine) → SaysBelow v d p f → IsShallow d (kept v es) →
       kept v (walk d p f ++ es) ≡ lines d (cut (home_at v p) n (judge v p f)) ++ kept v es

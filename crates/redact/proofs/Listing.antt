@@ -1,9 +1,9 @@
 -- The order in which what is withheld is listed.
-use Rattle.std.proofs.Common.{◌≡◌, Bool, List, [], ◌∷◌, true, false, ◌||◌, refl, arith, sym, ◌∙◌, ap, rules, if◌then◌else◌, codes, Some, Contains, bytes_eq, IsPermutation, IsSorted}
+use Rattle.std.proofs.Common.{inl, inr, ◌≡◌, Bool, List, [], ◌∷◌, true, ◌||◌, refl, arith, sym, ◌∙◌, ap, rules, if◌then◌else◌, codes, Some, Contains, bytes_eq, IsPermutation, IsSorted}
 use Rattle.std.specs.List.{dedup, list_any}
 use Rattle.std.specs.Cmp.{IsTotalOrder, IsEquivalence}
 use Rattle.std.specs.Cmp.Rules.{comparing}
-use Rattle.std.proofs.lemmas.Bool.{and_parts, false≢true}
+use Rattle.std.proofs.lemmas.Bool.{and_parts, or_cases, false≢true}
 use Rattle.std.proofs.lemmas.Map.Views.{Contains-from_any, list_any-from_Contains}
 use Rattle.std.proofs.lemmas.List.Sorted.{Contains-permutation, IsPermutation-sym}
 use Rattle.std.proofs.lemmas.List.Kept.{Contains-dedup, Contains-from_dedup, IsStrictlySortedBy-dedup}
@@ -35,6 +35,9 @@ named-name : (r : Rule) → named (name_of r) ≡ r
 named-name Src = refl
 named-name _ = refl
 
+named-same : (r s : Rule) → bytes_eq (name_of r) (name_of s) ≡ true → r ≡ s
+named-same r s h = sym (named-name r) ∙ ap named (bytes_eq-true (name_of r) (name_of s) h) ∙ named-name s
+
 from_some : (p q : Tokens) → pointer_text p ≡ pointer_text q → p ≡ q
 from_some p q e =
     let both : Some p ≡ Some q = sym (pointer_tokens-pointer_text p) ∙ ap pointer_tokens e ∙ pointer_tokens-pointer_text q in cc
@@ -44,8 +47,7 @@ pub withheld-same : (x y : Withheld) → same_withheld x y ≡ true → x ≡ y
 withheld-same x y h =
     let parts = and_parts (bytes_eq (pointer_text x.0) (pointer_text y.0)) (bytes_eq (name_of x.1) (name_of y.1)) h in
     let places : x.0 ≡ y.0 = from_some x.0 y.0 (bytes_eq-true (pointer_text x.0) (pointer_text y.0) parts.0) in
-    let ruled : x.1 ≡ y.1 = sym (named-name x.1) ∙ ap named (bytes_eq-true (name_of x.1) (name_of y.1) parts.1) ∙ named-name y.1 in
-    λ i. (places i, ruled i)
+    λ i. (places i, named-same x.1 y.1 parts.1 i)
 
 -- sorted and without repeats
 pub lists-dedup : (xs ys : List Withheld) → IsPermutation xs ys → IsSorted withheld_cmp ys → Lists xs (dedup same_withheld ys)
@@ -70,13 +72,13 @@ lists-same ps qs xs same l = record {
 pub any-known : (test : Rule → Bool) (r : Rule) (rs : List Rule) → list_any (λ x. bytes_eq (name_of x) (name_of r)) rs ≡ true →
     list_any test rs ≡ (list_any test rs || test r)
 any-known test r [] e = absurd (false≢true e)
-any-known test r (x ∷ rs) e = step (bytes_eq (name_of x) (name_of r)) refl e (any-known test r rs)
+any-known test r (x ∷ rs) e = elim (or_cases (bytes_eq (name_of x) (name_of r)) _ e) [
+  | inl is ↦ here (test x) (test r) (list_any test rs) (ap test (named-same x r is))
+  | inr among ↦ behind (test x) (test r) (list_any test rs) (any-known test r rs among)
+]
   where
-    same : bytes_eq (name_of x) (name_of r) ≡ true → x ≡ r
-    same h = sym (named-name x) ∙ ap named (bytes_eq-true (name_of x) (name_of r) h) ∙ named-name r
+    here : (a b d : Bool) → a ≡ b → (a || d) ≡ ((a || d) || b)
+    here a b d h = grind arith
 
-    step : (k : Bool) → bytes_eq (name_of x) (name_of r) ≡ k → (k || list_any (λ y. bytes_eq (name_of y) (name_of r)) rs) ≡ true →
-        (list_any (λ y. bytes_eq (name_of y) (name_of r)) rs ≡ true → list_any test rs ≡ (list_any test rs || test r)) →
-        (test x || list_any test rs) ≡ ((test x || list_any test rs) || test r)
-    step true is h behind = let e = ap test (same is) in grind (arith, e)
-    step false is h behind = let e = behind h in grind (arith, e)
+    behind : (a b d : Bool) → d ≡ (d || b) → (a || d) ≡ ((a || d) || b)
+    behind a b d h = grind arith

@@ -1,6 +1,6 @@
 -- A text contains a needle just where a search of it finds one.
-use Rattle.std.proofs.Common.{◌≡◌, ℕ, zero, suc, ◌+◌, ◌<◌, Bool, true, false, ◌&&◌, ◌||◌, ◌==◌, [], ◌∷◌, length, refl, sym, ◌∙◌, ap, arith, suc-add, Option, Some, None, is_some, slice_index, eqb-true, eq-eqb, true≢false}
-use Rattle.std.proofs.lemmas.Bool.{and_parts, and_from, or_left, or_right}
+use Rattle.std.proofs.Common.{◌≡◌, ℕ, zero, suc, ◌+◌, ◌<◌, true, false, ◌==◌, [], ◌∷◌, length, refl, sym, ◌∙◌, ap, arith, suc-add, Option, Some, None, is_some, slice_index, eqb-true, eq-eqb, true≢false}
+use Rattle.std.proofs.lemmas.Bool.{and_parts, and_from, or_left, or_right, or_from}
 use Rattle.memchr.specs.Find.{OccursAt, FindsNeedle}
 use Rattle.iodef_tree.specs.Text.{Bytes}
 use Rattle.iodef_tree.proofs.Order.{is_false}
@@ -39,27 +39,12 @@ has-occurs needle (y ∷ t) zero o = or_left (begins_with needle (y ∷ t)) (has
 has-occurs needle (y ∷ t) (suc k) o =
     or_right (begins_with needle (y ∷ t)) (has_needle needle t) (has-occurs needle t k (record { fits = omega (arith, o.fits); reads = λ j low. ap (slice_index (y ∷ t)) (sym (suc-add k j)) ∙ o.reads j low }))
 
--- a place in a text at which the needle occurs
-record Place (needle t : Bytes) : Type 0 where
-  at : ℕ
-  within : at < length t + 1
-  occurs : OccursAt t needle at
-
-occurs-has : (needle t : Bytes) → has_needle needle t ≡ true → Place needle t
-occurs-has needle [] h = record { at = 0; within = omega arith; occurs = occurs-front needle [] h }
-occurs-has needle (y ∷ t) h = by_front (begins_with needle (y ∷ t)) refl (occurs-has needle t) h
-  where
-    by_front : (b : Bool) → begins_with needle (y ∷ t) ≡ b → (has_needle needle t ≡ true → Place needle t) → (b || has_needle needle t) ≡ true → Place needle (y ∷ t)
-    by_front true is later h = record { at = 0; within = omega arith; occurs = occurs-front needle (y ∷ t) is }
-    by_front false is later h =
-        let p = later h in
-        record {
-          at = suc p.at;
-          within = omega (arith, p.within);
-          occurs = record { fits = omega (arith, p.occurs.fits); reads = λ j low. ap (slice_index (y ∷ t)) (suc-add p.at j) ∙ p.occurs.reads j low };
-        }
+never-has : (needle t : Bytes) → ((k : ℕ) → k < length t + 1 → OccursAt t needle k → ⊥) → has_needle needle t ≡ false
+never-has needle [] h = is_false (begins_with needle []) (λ b. h 0 (omega arith) (occurs-front needle [] b))
+never-has needle (y ∷ t) h =
+    or_from (begins_with needle (y ∷ t)) (has_needle needle t) (is_false (begins_with needle (y ∷ t)) (λ b. h 0 (omega arith) (occurs-front needle (y ∷ t) b)))
+    (never-has needle t (λ k low o. h (suc k) (omega (arith, low)) (record { fits = omega (arith, o.fits); reads = λ j low. ap (slice_index (y ∷ t)) (suc-add k j) ∙ o.reads j low })))
 
 pub finds_has : (needle t : Bytes) (r : Option ℕ) → FindsNeedle t needle 0 r → is_some r ≡ has_needle needle t
-finds_has needle t None h =
-    sym (is_false (has_needle needle t) (λ yes. let p = occurs-has needle t yes in h p.at (omega arith) p.within p.occurs))
+finds_has needle t None h = sym (never-has needle t (λ k low o. h k (omega arith) low o))
 finds_has needle t (Some k) h = sym (has-occurs needle t k h.1)

@@ -5,15 +5,16 @@ use Rattle.std.proofs.lemmas.Bool.{false≢true, cond-true, cond-false, cond_bot
 use Rattle.std.proofs.lemmas.List.{map-append}
 use Rattle.std.proofs.lemmas.List.Elements.{filter-append}
 use Rattle.iodef_tree.specs.Text.{Tokens, same_path, is_root}
-use Rattle.iodef_tree.specs.Paths.{LocatedLine, is_class, class_paths, classes_of}
+use Rattle.iodef_tree.specs.Paths.{LocatedLine, is_class, class_paths}
 use Rattle.iodef_tree.specs.Tree.{Leaf, Forest, end, leaf, branch, steps, lines}
 use Rattle.iodef_tree.specs.Sound.{IsSound}
-use Rattle.iodef_tree.specs.Walk.{walk, leaf_entry, class_entry}
+use Rattle.iodef_tree.specs.Walk.{classes_below, walk, leaf_entry, class_entry}
+use Rattle.iodef_tree.proofs.ClassesBelow.{classes-lines}
 use Rattle.iodef_tree.proofs.Order.{same_path-refl}
 use Rattle.iodef_tree.proofs.Siblings.{all-append}
 use Rattle.iodef_tree.proofs.Located.{located-lines}
 use Rattle.iodef_tree.proofs.Distinct.{paths-distinct, distinct-filter}
-use Rattle.redact.specs.Kept.{Attribute, Verdicts, is_frame, is_kept, kept}
+use Rattle.redact.specs.Kept.{Attribute, Verdicts, is_kept, kept}
 use Rattle.redact.specs.Withheld.{beside, class_places, place_by}
 use Rattle.redact.specs.Judged.{Judged, none, plain, class, judge, Home, root, inside, keeps_plain, shows_label, home_at, left_before, new_place, left_with, moved, is_end, put_leaf, attribute_leaf, put_attributes, with_label, cut, places}
 use Rattle.marking.proofs.Bad.{no_class-kind, class_paths-leaf, class_paths-append}
@@ -30,51 +31,37 @@ there x = x.1
 -- ---- in the excerpt
 
 -- attributes bring no class
-paths-put : (x : Leaf) (d : ℕ) (q : Tokens) (f : Forest) → class_paths (walk d q (put_leaf x f)) ≡ class_paths (walk d q f)
-paths-put x d q = put-keeps (λ f g. class_paths (walk d q g) ≡ class_paths (walk d q f)) x
-    (λ f. plain_first x f)
-    (λ i f g h. plain_first i g ∙ h ∙ sym (plain_first i f))
-    (λ name place kids f g h.
-    let r = q ++ steps name place in
-    let K = walk (suc d) r kids in
-    ap (λ ps. r ∷ ps) (class_paths-append K (walk d q g) ∙ ap (λ ps. class_paths K ++ ps) h ∙ sym (class_paths-append K (walk d q f))))
-  where
-    plain_first : (i : Leaf) (f : Forest) → class_paths (walk d q (leaf i f)) ≡ class_paths (walk d q f)
-    plain_first i f = class_paths-leaf (walk d q f) (leaf_entry d q i) (no_class-kind i.content)
+paths-put : (x : Leaf) (q : Tokens) (f : Forest) → classes_below q (put_leaf x f) ≡ classes_below q f
+paths-put x q = put-keeps (λ f g. classes_below q g ≡ classes_below q f) x
+    (λ f. refl) (λ i f g h. h) (λ name place kids f g h. let r = q ++ steps name place in ap (λ ps. r ∷ (classes_below r kids ++ ps)) h)
 
-paths-label : (says : Bool) (label : List Attribute) (f : Forest) (d : ℕ) (q : Tokens) →
-    class_paths (walk d q (if says then put_attributes label f else f)) ≡ class_paths (walk d q f)
-paths-label false label f d q = refl
-paths-label true [] f d q = refl
-paths-label true (a ∷ label) f d q = paths-put (attribute_leaf a) d q (put_attributes label f) ∙ paths-label true label f d q
+paths-label : (says : Bool) (label : List Attribute) (f : Forest) (q : Tokens) → classes_below q (if says then put_attributes label f else f) ≡ classes_below q f
+paths-label false label f q = refl
+paths-label true [] f q = refl
+paths-label true (a ∷ label) f q = paths-put (attribute_leaf a) q (put_attributes label f) ∙ paths-label true label f q
 
 -- the classes of the excerpt stand at the places
-pub paths-cut : (J : Judged) (h : Home) (d : ℕ) (p q : Tokens) (n : ℕ) → class_paths (walk d q (cut h n J)) ≡ map there (places h p q n J)
-paths-cut none h d p q n = refl
-paths-cut (plain i rest) h d p q n =
-    elim (keeps_plain h) as (λ b. class_paths (walk d q (if b then leaf (moved n i) (cut h (left_with n i.place) rest) else cut h (left_before n i.place) rest))
+pub paths-cut : (J : Judged) (h : Home) (p q : Tokens) (n : ℕ) → classes_below q (cut h n J) ≡ map there (places h p q n J)
+paths-cut none h p q n = refl
+paths-cut (plain i rest) h p q n =
+    elim (keeps_plain h) as (λ b. classes_below q (if b then leaf (moved n i) (cut h (left_with n i.place) rest) else cut h (left_before n i.place) rest)
     ≡ map there (places h p q (if b then left_with n i.place else left_before n i.place) rest)) [
-      | true ↦ class_paths-leaf (walk d q (cut h (left_with n i.place) rest)) (leaf_entry d q (moved n i)) (no_class-kind i.content) ∙ paths-cut rest h d p q (left_with n i.place)
-      | false ↦ paths-cut rest h d p q (left_before n i.place)
+      | true ↦ paths-cut rest h p q (left_with n i.place)
+      | false ↦ paths-cut rest h p q (left_before n i.place)
     ]
-paths-cut (class name place j kids rest) h d p q n =
+paths-cut (class name place j kids rest) h p q n =
     let p' = p ++ steps name place in
     let r = q ++ steps name (new_place n place) in
     let K = λ (b : Bool). cut (inside b) 0 kids in
-    by_fates (λ f ps. class_paths (walk d q f) ≡ map there ps) j.visible (is_end (K false)) _ _ _ _ _ _
-    (λ _. left (with_label h j (K true)) (places (inside true) p' r 0 kids)
-    (paths-label (j.unmarked && not (shows_label h)) j.label (K true) (suc d) r ∙ paths-cut kids (inside true) (suc d) p' r 0) (paths-cut rest h d p q (left_with n place)))
-    (λ _. left (K false) (places (inside false) p' r 0 kids) (paths-cut kids (inside false) (suc d) p' r 0) (paths-cut rest h d p q (left_with n place)))
-    (λ _ _. paths-cut rest h d p q (left_before n place))
-  where
-    left : (inner : Forest) (below : List (Tokens × Tokens)) → class_paths (walk (suc d) (q ++ steps name (new_place n place)) inner) ≡ map there below →
-        class_paths (walk d q (cut h (left_with n place) rest)) ≡ map there (places h p q (left_with n place) rest) →
-        class_paths (walk d q (branch name (new_place n place) inner (cut h (left_with n place) rest)))
-        ≡ map there ((p ++ steps name place, q ++ steps name (new_place n place)) ∷ (below ++ places h p q (left_with n place) rest))
-    left inner below here_too after =
-        ap (λ ps. (q ++ steps name (new_place n place)) ∷ ps) (
-        class_paths-append (walk (suc d) (q ++ steps name (new_place n place)) inner) (walk d q (cut h (left_with n place) rest))
-        ∙ (λ i. here_too i ++ after i) ∙ sym (map-append there below (places h p q (left_with n place) rest)))
+    let PK = λ (b : Bool). places (inside b) p' r 0 kids in
+    let R = places h p q (left_with n place) rest in
+    let W = classes_below q (cut h (left_with n place) rest) in
+    let left : (b : Bool) (inner : Forest) → classes_below r inner ≡ map there (PK b) → r ∷ (classes_below r inner ++ W) ≡ r ∷ map there (PK b ++ R) = λ b inner below.
+    rw (below, paths-cut rest h p q (left_with n place), map-append there (PK b) R) in
+    by_fates (λ f ps. classes_below q f ≡ map there ps) j.visible (is_end (K false)) _ _ _ _ _ _
+    (λ _. left true (with_label h j (K true)) (paths-label (j.unmarked && not (shows_label h)) j.label (K true) r ∙ paths-cut kids (inside true) p' r 0))
+    (λ _. left false (K false) (paths-cut kids (inside false) p' r 0))
+    (λ _ _. paths-cut rest h p q (left_before n place))
 
 -- ---- in the document
 
@@ -93,8 +80,10 @@ places-deep (plain i rest) h p q n = places-deep rest h p q (if keeps_plain h th
 places-deep (class name place j kids rest) h p q n =
     let p' = p ++ steps name place in
     let r = q ++ steps name (new_place n place) in
-    let left : (b : Bool) → AllByRecursion (λ x. is_root (here x) ≡ false) ((p', r) ∷ (places (inside b) p' r 0 kids ++ places h p q (left_with n place) rest)) = λ b. (not_root p name place, all-append (λ x. is_root (here x) ≡ false) (places (inside b) p' r 0 kids) _ (places-deep kids (inside b) p' r 0) (places-deep rest h p q (left_with n place))) in
-    by_fate (AllByRecursion (λ x. is_root (here x) ≡ false)) j.visible (is_end (cut (inside false) 0 kids)) _ _ _ (left true) (left false) (places-deep rest h p q (left_before n place))
+    let Deep = AllByRecursion (λ (x : Tokens × Tokens). is_root (here x) ≡ false) in
+    let left : (b : Bool) → Deep ((p', r) ∷ (places (inside b) p' r 0 kids ++ places h p q (left_with n place) rest)) = λ b.
+    (not_root p name place, all-append (λ x. is_root (here x) ≡ false) (places (inside b) p' r 0 kids) _ (places-deep kids (inside b) p' r 0) (places-deep rest h p q (left_with n place))) in
+    by_fate Deep j.visible (is_end (cut (inside false) 0 kids)) _ _ _ (left true) (left false) (places-deep rest h p q (left_before n place))
 
 module _ (v : Verdicts) where
   -- the paths of the kept classes
@@ -165,11 +154,7 @@ module _ (v : Verdicts) (f : Forest) (sound : IsSound f) (says : SaysBelow v 1 [
   -- the places by the pass are those by the kept outline
   pub class_places-pass : class_places v (walk 1 [] f) ≡ all_places
   class_places-pass =
-      ap (λ ps. zip ps (classes_of (kept v (walk 1 [] f)))) (paths-kept v f 1 [] [] 0 says)
-      ∙ ap (λ ls. zip (map here all_places) (classes_of ls)) kept-lines
-      ∙ ap (λ es. zip (map here all_places) (class_paths es)) (located-lines (cut root 0 (judge v [] f)) left_sound)
-      ∙ ap (zip (map here all_places)) (paths-cut (judge v [] f) root 1 [] [] 0)
-      ∙ zip-both all_places
+      rw (paths-kept v f 1 [] [] 0 says, kept-lines, classes-lines (cut root 0 (judge v [] f)) left_sound, paths-cut (judge v [] f) root [] [] 0) (zip-both all_places)
 
   pub placed : AllByRecursion (λ x. place_by (class_places v (walk 1 [] f)) (here x) ≡ Some (there x)) all_places
   placed =

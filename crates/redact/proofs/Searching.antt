@@ -1,20 +1,39 @@
--- A search over members side by side: each, and then the others.
-use Rattle.std.proofs.Common.{◌≡◌, ℕ, suc, ◌+◌, ◌<◌, Bool, ◌||◌, List, [], ◌∷◌, refl, sym, ◌∙◌, ap, decimal, length, get_or, drop, map, Option, Some, None}
+-- A search over members side by side, and by one pass down a document, which finds what the definition finds among its lines.
+use Rattle.std.proofs.Common.{arith, ◌≡◌, ℕ, suc, ◌+◌, ◌<◌, Bool, ◌||◌, List, [], ◌∷◌, refl, sym, ◌∙◌, ap, decimal, length, get_or, drop, map, Option, Some, None, true, false, ◌&&◌, ◌++◌, append_assoc, append-nil, true≢false}
 use Rattle.std.specs.List.{list_any}
-use Rattle.std.proofs.Math.Bool.{or_assoc}
-use Rattle.iodef_tree.specs.Text.{Bytes}
-use Rattle.iodef_tree.specs.Tree.{Forest, Body, holds, says, Bodies, one, many, in_front, elements, member_front}
+use Rattle.std.proofs.Math.Bool.{or_assoc, and-true}
+use Rattle.std.proofs.lemmas.Bool.{cond_both}
+use Rattle.std.proofs.lemmas.List.Folds.{list_any-append}
+use Rattle.iodef_tree.specs.Text.{Bytes, Tokens, same_path, is_under}
+use Rattle.iodef_tree.specs.Tree.{Forest, Body, holds, says, Bodies, one, many, in_front, elements, member_front, Content, end, leaf, branch, steps, lines, leaf_line}
 use Rattle.iodef_tree.specs.View.{bodies, members_forest}
 use Rattle.iodef_tree.specs.declared.text.Text.{Text}
 use Rattle.iodef_tree.specs.declared.object.Member.{Member}
 use Rattle.iodef_tree.proofs.Members.{members-next}
+use Rattle.iodef_tree.specs.Paths.{LocatedLine, is_class, located, below}
+use Rattle.iodef_tree.specs.Sound.{IsSound}
+use Rattle.iodef_tree.specs.Walk.{walk, class_entry, AreBlocks}
+use Rattle.iodef_tree.proofs.Blocks.{blocks-located, below-parents}
+use Rattle.iodef_tree.proofs.Located.{located-lines}
+use Rattle.iodef_tree.proofs.Order.{same_path-refl, same_path-true, same_path-longer, is_false}
+use Rattle.iodef_tree.specs.declared.line.Line.{Line}
 use Rattle.marking.specs.Label.{Marking}
 use Rattle.marking.specs.Members.{spelled_in}
-use Rattle.policy.specs.Inherited.{Inherited, enter_array, enter_class}
+use Rattle.marking.specs.Marks.{written_label}
+use Rattle.marking.proofs.Written.{AreUnderParents, written-block}
+use Rattle.marking.proofs.Placed.{ArePlaced, placed}
+use Rattle.marking.proofs.Bad.{no_class-kind}
+use Rattle.policy.specs.Inherited.{Inherited, enter_array, enter_class, inherited_at, at_root}
 use Rattle.policy.specs.declared.standing.Standing.{Standing}
 use Rattle.policy.specs.declared.case.Case.{Case}
+use Rattle.policy.specs.Verdict.{is_visible}
+use Rattle.policy.proofs.Steps.{at_root-is}
 use Rattle.redact.specs.Pass.{enter}
-use Rattle.redact.specs.Search.{body_hits, bodies_hit, members_hit, found, found_at, found_items, found_member}
+use Rattle.redact.specs.Search.{body_hits, bodies_hit, members_hit, found, found_at, found_items, found_member, content_hits, holds_text, any_class}
+use Rattle.redact.specs.Told.{is_named, is_hit, holds_needle, finds, is_listed}
+use Rattle.redact.proofs.Whole.{enter-at, root-bare}
+
+-- ---- members side by side: each, and then the others
 
 pub any_map : {X Y : Type 0} (P : Y → Bool) (h : X → Y) (xs : List X) → list_any P (map h xs) ≡ list_any (λ x. P (h x)) xs
 any_map P h [] = refl
@@ -66,3 +85,88 @@ module _ (c : Case) (s : Standing) (asked : Bytes → Forest → Bool) (a : Inhe
       let behind = members_forest (drop (i + 1) ms) in
       ap (λ b. b || found c s asked a behind) (here ∙ (λ k. found_member c s asked (at k) (named k) (bodies m.1)))
       ∙ sym (ap (found c s asked a) (members-next ms i m h is) ∙ found-front m.0 (bodies m.1) behind) ∙ all
+
+-- ---- what a class holds, by the lines directly in it
+
+-- a line directly in the class at q that is a text which contains the needle
+abbrev is_hit_in : Bytes → Tokens → LocatedLine → Bool
+is_hit_in needle q e = same_path e.parent q && is_hit needle e.line
+
+any-below : (es : List LocatedLine) (q : Tokens) (needle : Bytes) → AreUnderParents es → list_any (is_hit_in needle q) es ≡ list_any (is_hit_in needle q) (below q es)
+any-below [] q needle h = refl
+any-below (e ∷ es) q needle h =
+    let later = any-below es q needle h.1 in
+    cond_both (is_under q e.path) _ _ (λ ws. list_any (is_hit_in needle q) (e ∷ es) ≡ list_any (is_hit_in needle q) ws) (λ u. ap (λ o. is_hit_in needle q e || o) later) (λ u.
+    let elsewhere : same_path e.parent q ≡ false =
+    is_false (same_path e.parent q) (λ same. true≢false (sym h.0 ∙ ap (λ r. is_under r e.path) (same_path-true e.parent q same) ∙ u)) in
+    rw (elsewhere, later))
+
+-- nothing stands directly in q where no path at or below p is q
+none-held : (f : Forest) (d : ℕ) (p q : Tokens) (needle : Bytes) → ((z : Tokens) → same_path (p ++ z) q ≡ false) → list_any (is_hit_in needle q) (walk d p f) ≡ false
+none-held end d p q needle h = refl
+none-held (leaf i rest) d p q needle h = rw (rw append-nil at (h []), none-held rest d p q needle h)
+none-held (branch n o kids rest) d p q needle h =
+    let r = p ++ steps n o in
+    let below = none-held kids (suc d) r q needle (λ z. ap (λ x. same_path x q) (append_assoc p (steps n o) z) ∙ h (steps n o ++ z)) in
+    rw (rw append-nil at (h []), list_any-append (is_hit_in needle q) (walk (suc d) r kids) (walk d p rest), below, none-held rest d p q needle h)
+
+leaf-hit : (needle : Bytes) (d : ℕ) (name : Bytes) (place : Option ℕ) (x : Content) → is_hit needle (leaf_line d (record { name = name; place = place; content = x })) ≡ content_hits needle x
+leaf-hit needle d name place x = grind arith
+
+apart : (p q : Tokens) → same_path p q ≡ false → same_path q p ≡ false
+apart p q h = is_false (same_path q p) (λ same. true≢false (sym (same_path-refl p) ∙ ap (same_path p) (sym (same_path-true q p same)) ∙ h))
+
+held-walk : (f : Forest) (d : ℕ) (q : Tokens) (needle : Bytes) → list_any (is_hit_in needle q) (walk d q f) ≡ members_hit needle f
+held-walk end d q needle = refl
+held-walk (leaf i rest) d q needle = rw (same_path-refl q, leaf-hit needle d i.name i.place i.content, held-walk rest d q needle)
+held-walk (branch n o kids rest) d q needle =
+    let r = q ++ steps n o in
+    let K = walk (suc d) r kids in
+    let none : list_any (is_hit_in needle q) K ≡ false =
+    none-held kids (suc d) r q needle (λ z. apart q (r ++ z) (ap (same_path q) (append_assoc q (steps n o) z) ∙ same_path-longer q n o z)) in
+    rw (same_path-refl q, list_any-append (is_hit_in needle q) K (walk d q rest), none, held-walk rest d q needle)
+
+held-block : (es : List LocatedLine) (d : ℕ) (q : Tokens) (kids : Forest) (needle : Bytes) → AreUnderParents es → below q es ≡ walk d q kids →
+    holds_needle es needle q ≡ members_hit needle kids
+held-block es d q kids needle under block = any-below es q needle under ∙ ap (list_any (is_hit_in needle q)) block ∙ held-walk kids d q needle
+
+-- ---- all classes
+
+module _ (c : Case) (s : Standing) (asked : Bytes → Forest → Bool) (asks : List LocatedLine → LocatedLine → Bool) where
+  -- a visible class of which this is asked
+  abbrev answers : List LocatedLine → LocatedLine → Bool
+  answers es e = (is_class e && is_visible es c s e.path) && asks es e
+
+  -- what is asked of a class is asked of its name and its members
+  abbrev AsksMembers : List LocatedLine → Type 0
+  AsksMembers es = (e : LocatedLine) (d : ℕ) (kids : Forest) → below e.path es ≡ walk d e.path kids → asks es e ≡ asked e.line.name kids
+
+  found-walk : (es : List LocatedLine) (under : AreUnderParents es) → AsksMembers es → (f : Forest) (d : ℕ) (p : Tokens) → AreBlocks es d p f → ArePlaced es p f →
+      list_any (answers es) (walk d p f) ≡ found c s asked (inherited_at es c s p) f
+  found-walk es under members end d p blocks there = refl
+  found-walk es under members (leaf i rest) d p blocks there = rw (no_class-kind i.content, found-walk es under members rest d p blocks there)
+  found-walk es under members (branch name place kids rest) d p blocks there =
+      let q = p ++ steps name place in
+      let written : written_label es q ≡ spelled_in kids = written-block es (suc d) q kids under blocks.0 there.0 in
+      rw (members (class_entry d p name place) (suc d) kids blocks.0, list_any-append (answers es) (walk (suc d) q kids) (walk d p rest))
+      (rw (found-walk es under members kids (suc d) q blocks.1 there.2, found-walk es under members rest d p blocks.2 there.3, enter-at es c s under p name place (spelled_in kids) there.0 there.1 written))
+
+  found-lines : (f : Forest) → IsSound f → AsksMembers (located (lines 1 f)) → list_any (answers (located (lines 1 f))) (located (lines 1 f)) ≡ found c s asked (at_root c s) f
+  found-lines f sound members =
+      let es = located (lines 1 f) in
+      ap (list_any (answers es)) (located-lines f sound)
+      ∙ found-walk es (below-parents (lines 1 f)) members f 1 [] (blocks-located f sound) (placed f sound)
+      ∙ ap (λ h. found c s asked h f) (sym (at_root-is es c s (root-bare f sound)))
+
+-- a search of a whole document
+pub found_all : (c : Case) (s : Standing) (needle : Bytes) (class : Option Bytes) (f : Forest) {ls : List Line} {h : Inherited} {n : Bytes} → IsSound f → lines 1 f ≡ ls → h ≡ at_root c s → n ≡ needle →
+    found c s (holds_text n class) h f ≡ finds ls c s needle class
+found_all c s needle class f {ls} {h} {n} sound is at same = rw (← is, at, same) (sym (
+    found-lines c s (holds_text needle class) (λ es e. is_named class e.line.name && holds_needle es needle e.path) f sound
+    (λ e d kids block. ap (λ b. is_named class e.line.name && b) (held-block (located (lines 1 f)) d e.path kids needle (below-parents (lines 1 f)) block))))
+
+-- whether any class of it is visible
+pub listed_all : (c : Case) (s : Standing) (f : Forest) {ls : List Line} {h : Inherited} → IsSound f → lines 1 f ≡ ls → h ≡ at_root c s → found c s any_class h f ≡ is_listed ls c s
+listed_all c s f {ls} {h} sound is at =
+    let es = located (lines 1 f) in
+    rw (← is, at) (sym (ap (λ P. list_any P es) (λ i e. sym (and-true (is_class e && is_visible es c s e.path)) i) ∙ found-lines c s any_class (λ es e. true) f sound (λ e d kids block. refl)))

@@ -1,21 +1,80 @@
--- What is spelled in what is left of a class.
-use Rattle.std.proofs.Common.{arith, ◌≡◌, ℕ, Bool, true, false, not, [], ◌∷◌, ◌++◌, refl, sym, ◌∙◌, ap, subst, if◌then◌else◌, ◌&&◌, Option, Some, None, is_some, is_none, codes, bytes_eq, true≢false}
-use Rattle.std.proofs.lemmas.Bool.{cond-false, cond_both, and_parts, or_right, false≢true}
-use Rattle.iodef_tree.specs.Text.{Bytes, Tokens, is_prefix}
-use Rattle.iodef_tree.specs.Tree.{Forest, end, leaf, branch, steps, kind_of, text_of}
+-- What is spelled in a class and in what is left of it. A class in which nothing is spelled has no attribute of a label.
+use Rattle.std.proofs.Common.{decimal, arith, ◌≡◌, ℕ, suc, Bool, true, List, [], ◌++◌, refl, sym, ◌∙◌, ap, if◌then◌else◌, Option, Some, None, is_some, is_none, option_map, codes, bytes_eq, false, not, ◌∷◌, subst, ◌&&◌, true≢false}
+use Rattle.std.specs.Option.{option_or}
+use Rattle.std.proofs.Math.Bool.{and-true}
+use Rattle.std.proofs.lemmas.Bool.{cond_both, cond-false, and_parts, or_right, false≢true}
+use Rattle.iodef_tree.specs.Text.{Bytes, Tokens}
+use Rattle.iodef_tree.specs.Tree.{Content, Forest, end, leaf, branch, steps, kind_of, text_of}
+use Rattle.iodef_tree.specs.Paths.{LocatedLine}
+use Rattle.iodef_tree.specs.Walk.{AreBlocks}
 use Rattle.iodef_tree.specs.Laws.{AreApart, HasApart}
 use Rattle.iodef_tree.proofs.Order.{bytes_eq-refl, bytes_eq-true, is_false}
 use Rattle.iodef_tree.proofs.Siblings.{siblings-map}
-use Rattle.marking.specs.Label.{Marking, public, white, partner, green, need_to_know, amber, private, red, by_arrangement, extended, spelled, restriction_of}
-use Rattle.marking.specs.Marks.{Held, absent, plain, other, held_by_kind, held_by_line, spelled_by, is_rule_kept}
-use Rattle.marking.specs.Members.{held_by_leaf, held_in, spelled_in, is_rule_kept_in}
+use Rattle.marking.specs.Label.{Marking, restriction_of, public, spelled}
+use Rattle.marking.specs.Marks.{Held, absent, other, held_by_kind, spelled_by, is_rule_kept, plain, held_by_line}
+use Rattle.marking.specs.Members.{held_in, is_rule_kept_in, held_by_leaf, spelled_in}
+use Rattle.marking.specs.Pass.{bad_below}
+use Rattle.marking.proofs.Written.{AreUnderParents, written-block}
+use Rattle.marking.proofs.Placed.{ArePlaced}
+use Rattle.policy.specs.declared.standing.Standing.{Standing}
+use Rattle.policy.specs.declared.case.Case.{Case}
+use Rattle.redact.specs.Told.{ext_restriction_of, attributes_by, attributes_of, verdicts_of}
 use Rattle.redact.specs.Kept.{Attribute, Verdicts}
 use Rattle.redact.specs.Judged.{judge, judgment_at, Home, inside, shows_label, left_before, left_with, is_end, put_leaf, attribute_leaf, put_attributes, with_label, cut}
-use Rattle.redact.specs.Told.{ext_restriction_of, attributes_by, attributes_of}
+use Rattle.redact.proofs.Ordered.{Lacks, Fits, LabelsFit, lacks-put, lacks-cut}
+use Rattle.redact.proofs.Counts.{AreLabelNames}
 use Rattle.redact.proofs.Fates.{by_fate, put-keeps}
-use Rattle.redact.proofs.Fitting.{absent-lacks, unmarked-absent}
 use Rattle.redact.proofs.Keeping.{leaf_line-moved}
-use Rattle.redact.proofs.Ordered.{Lacks, lacks-put, lacks-cut}
+
+held-kind : (in_array : Bool) (c : Content) → (if in_array then other else held_by_kind (kind_of c) (text_of c)) ≡ absent → ⊥
+held-kind in_array c h = grind arith
+
+-- what is held under no name isn't there
+pub absent-lacks : (name : Bytes) (f : Forest) → held_in name f ≡ absent → Lacks name f
+absent-lacks name end h = tt
+absent-lacks name (leaf i rest) h =
+    cond_both (bytes_eq i.name name) _ _ (λ held. held ≡ absent → Lacks name (leaf i rest)) (λ e k. absurd (held-kind (is_some i.place) i.content k)) (λ e k. (e, absent-lacks name rest k)) h
+absent-lacks name (branch n place kids rest) h =
+    cond_both (bytes_eq n name) _ _ (λ held. held ≡ absent → Lacks name (branch n place kids rest)) (λ e k. cc) (λ e k. (e, absent-lacks name rest k)) h
+
+pub unmarked-absent : (r e : Held) → is_rule_kept r e ≡ true → is_none (spelled_by r e) ≡ true → (r ≡ absent) × (e ≡ absent)
+unmarked-absent r e h k = grind arith
+
+-- a label fits where its attributes are lacking
+fits-by : (restriction : Bytes) (ext : Option Bytes) (f : Forest) → Lacks (codes "restriction") f → Lacks (codes "ext-restriction") f → Fits (attributes_by restriction ext) f
+fits-by restriction None f r e = (r, tt, tt)
+fits-by restriction (Some ext) f r e = (e, (refl, tt), (r, tt, tt))
+
+names-by : (restriction : Bytes) (ext : Option Bytes) → AreLabelNames (attributes_by restriction ext)
+names-by restriction None = (refl, tt)
+names-by restriction (Some ext) = (refl, (refl, tt))
+
+pub label-names : (l : Marking) → AreLabelNames (attributes_of l)
+label-names l = names-by (restriction_of l) (ext_restriction_of l)
+
+-- what the marking rule says of a class, of those below it and of those behind it
+pub accepted : (name : Bytes) (place : Option ℕ) (kids rest : Forest) → bad_below (branch name place kids rest) ≡ None →
+    (is_rule_kept_in kids ≡ true) × (bad_below kids ≡ None) × (bad_below rest ≡ None)
+accepted name place kids rest h = by_rule (is_rule_kept_in kids) (bad_below kids) (bad_below rest) h
+  where
+    by_rule : (b : Bool) (k r : Option Tokens) → option_or (option_map (λ t. steps name place ++ t) (if b then k else Some [])) r ≡ None →
+        (b ≡ true) × (k ≡ None) × (r ≡ None)
+    by_rule b k r h = grind arith
+
+module _ (es : List LocatedLine) (c : Case) (s : Standing) (under : AreUnderParents es) where
+  pub labels-fit : (f : Forest) (d : ℕ) (p : Tokens) → AreBlocks es d p f → ArePlaced es p f → bad_below f ≡ None → LabelsFit (verdicts_of es c s) p f
+  labels-fit end d p blocks there ok = tt
+  labels-fit (leaf i rest) d p blocks there ok = labels-fit rest d p blocks there ok
+  labels-fit (branch name place kids rest) d p blocks there ok =
+      let q = p ++ steps name place in
+      let parts = accepted name place kids rest ok in
+      let written = written-block es (suc d) q kids under blocks.0 there.0 in (
+        (λ u.
+            let gone = unmarked-absent (held_in (codes "restriction") kids) (held_in (codes "ext-restriction") kids) parts.0 (ap is_none (sym written) ∙ u) in
+            fits-by _ _ kids (absent-lacks (codes "restriction") kids gone.0) (absent-lacks (codes "ext-restriction") kids gone.1)),
+        labels-fit kids (suc d) q blocks.1 there.2 parts.1,
+        labels-fit rest d p blocks.2 there.3 parts.2,
+      )
 
 lacks-absent : (name : Bytes) (f : Forest) → Lacks name f → held_in name f ≡ absent
 lacks-absent name end h = refl
@@ -39,15 +98,13 @@ spelled-attributes : (restriction : Bytes) (ext : Option Bytes) (f : Forest) →
     spelled_in (put_attributes (attributes_by restriction ext) f) ≡ spelled restriction ext
 spelled-attributes restriction None f r e =
     let own : Attribute = (codes "restriction", restriction) in
-    ap (λ h. spelled_by h (held_in (codes "ext-restriction") (put_leaf (attribute_leaf own) f))) (held-put (codes "restriction") own f (λ _. r))
-    ∙ ap (spelled_by (plain restriction)) (held-put (codes "ext-restriction") own f (λ h. absurd (false≢true h)) ∙ lacks-absent (codes "ext-restriction") f e)
+    rw (held-put (codes "restriction") own f (λ _. r), held-put (codes "ext-restriction") own f (λ h. absurd (false≢true h)), lacks-absent (codes "ext-restriction") f e)
 spelled-attributes restriction (Some ext) f r e =
     let own : Attribute = (codes "restriction", restriction) in
     let beside : Attribute = (codes "ext-restriction", ext) in
     let g = put_leaf (attribute_leaf own) f in
-    ap (λ h. spelled_by h (held_in (codes "ext-restriction") (put_leaf (attribute_leaf beside) g)))
-    (held-put (codes "restriction") beside g (λ h. absurd (false≢true h)) ∙ held-put (codes "restriction") own f (λ _. r))
-    ∙ ap (spelled_by (plain restriction)) (held-put (codes "ext-restriction") beside g (λ _. lacks-put (codes "ext-restriction") (attribute_leaf own) refl f e))
+    rw (held-put (codes "restriction") beside g (λ h. absurd (false≢true h)), held-put (codes "ext-restriction") beside g (λ _. lacks-put (codes "ext-restriction") (attribute_leaf own) refl f e))
+    (rw (held-put (codes "restriction") own f (λ _. r)))
 
 spelled-again : (l : Marking) → spelled (restriction_of l) (ext_restriction_of l) ≡ Some l
 spelled-again public = refl
@@ -72,11 +129,8 @@ past b y z h next = grind arith
 
 -- a plain member outside arrays is the only one of its name
 alone : (x : Bytes) (o : Option ℕ) (m : Bytes) (o' : Option ℕ) → is_some o ≡ false → AreApart x o m o' → bytes_eq m x ≡ false
-alone x None m o' h apart = is_false (bytes_eq m x) (λ same. true≢false (sym (by_place o' (ap (bytes_eq x) (bytes_eq-true m x same) ∙ bytes_eq-refl x)) ∙ apart.left []))
-  where
-    by_place : (p : Option ℕ) → bytes_eq x m ≡ true → is_prefix (x ∷ []) (steps m p ++ []) ≡ true
-    by_place None h = ap (λ b. b && true) h
-    by_place (Some k) h = ap (λ b. b && true) h
+alone x None m None h apart = sym (and-true (bytes_eq m x)) ∙ apart.right []
+alone x None m (Some k) h apart = sym (and-true (bytes_eq m x)) ∙ (rw (bytes_eq-refl (decimal k)) at (apart.right (decimal k ∷ [])))
 alone x (Some k) m o' h apart = absurd (true≢false h)
 
 module _ (v : Verdicts) where
@@ -129,11 +183,11 @@ module _ (v : Verdicts) where
       let S = if b then put_attributes (v.label p) F else F in
       (is_rule_kept_in S ≡ true) × (spelled_in S ≡ (if b then Some l else spelled_in f))) [
         | true ↦ λ e.
-          let none = unmarked-absent (held_in (codes "restriction") f) (held_in (codes "ext-restriction") f) rule (sym unmarked ∙ (and_parts (v.unmarked p) _ e).0) in
-          let says : spelled_in (put_attributes (v.label p) F) ≡ Some l =
-          ap (λ a. spelled_in (put_attributes a F)) label
-          ∙ spelled-attributes (restriction_of l) (ext_restriction_of l) F (absent-lacks (codes "restriction") F (r ∙ none.0)) (absent-lacks (codes "ext-restriction") F (x ∙ none.1))
-          ∙ spelled-again l in
-          (or_right _ _ (ap is_some says), says)
+            let none = unmarked-absent (held_in (codes "restriction") f) (held_in (codes "ext-restriction") f) rule (sym unmarked ∙ (and_parts (v.unmarked p) _ e).0) in
+            let says : spelled_in (put_attributes (v.label p) F) ≡ Some l =
+            ap (λ a. spelled_in (put_attributes a F)) label
+            ∙ spelled-attributes (restriction_of l) (ext_restriction_of l) F (absent-lacks (codes "restriction") F (r ∙ none.0)) (absent-lacks (codes "ext-restriction") F (x ∙ none.1))
+            ∙ spelled-again l in
+            (or_right _ _ (ap is_some says), says)
         | false ↦ λ e. ((λ i. is_rule_kept (r i) (x i)) ∙ rule, λ i. spelled_by (r i) (x i))
       ] refl

@@ -1,8 +1,8 @@
 -- The markings of a document survive in its excerpt.
-use Rattle.std.proofs.Common.{◌≡◌, ◌+◌, ◌≤◌, ℕ, zero, suc, Bool, true, false, not, List, [], ◌∷◌, ◌++◌, refl, sym, ◌∙◌, ap, subst, map, filter, length, length-append, arith, if◌then◌else◌, ◌&&◌, Option, Some, None, is_none, unwrap_or, option_map, find, true≢false}
+use Rattle.std.proofs.Common.{◌≡◌, ◌+◌, ◌≤◌, ℕ, suc, Bool, true, false, not, List, [], ◌∷◌, ◌++◌, refl, sym, ◌∙◌, ap, subst, map, filter, length, length-append, arith, if◌then◌else◌, ◌&&◌, Option, Some, None, is_none, unwrap_or, option_map, find, true≢false}
 use Rattle.std.specs.Option.{option_or}
 use Rattle.std.specs.List.{AllByRecursion}
-use Rattle.std.proofs.lemmas.Bool.{cond-false, cond-true, and_parts, or_right, or_left, false≢true}
+use Rattle.std.proofs.lemmas.Bool.{cond_both, cond-false, cond-true, and_parts, or_right, or_left, false≢true}
 use Rattle.std.proofs.lemmas.List.Elements.{All-contains, All-from_recursion}
 use Rattle.iodef_tree.specs.Text.{Bytes, Tokens, same_path, is_root}
 use Rattle.iodef_tree.specs.Tree.{Leaf, Forest, end, leaf, branch, steps, lines}
@@ -11,6 +11,7 @@ use Rattle.iodef_tree.specs.Sound.{IsSound}
 use Rattle.iodef_tree.specs.Walk.{AreBlocks}
 use Rattle.iodef_tree.specs.Laws.{HasApart}
 use Rattle.iodef_tree.proofs.Apart.{sound-apart}
+use Rattle.iodef_tree.proofs.ClassesBelow.{classes-lines}
 use Rattle.iodef_tree.proofs.Blocks.{blocks-located, below-parents}
 use Rattle.iodef_tree.proofs.Located.{located-lines}
 use Rattle.iodef_tree.proofs.Order.{same_path-true, is_false}
@@ -34,9 +35,8 @@ use Rattle.redact.specs.Withheld.{class_places, place_by}
 use Rattle.redact.specs.Told.{verdicts_of, kept_outline}
 use Rattle.redact.specs.Excerpts.{LabelsSurvive}
 use Rattle.redact.proofs.Fates.{by_fates, put-keeps}
-use Rattle.redact.proofs.Fitting.{accepted}
+use Rattle.redact.proofs.Spelling.{accepted, framed-rule, seen-spells}
 use Rattle.redact.proofs.Places.{paths-cut, paths-kept, placed}
-use Rattle.redact.proofs.Spelling.{framed-rule, seen-spells}
 use Rattle.redact.proofs.Whole.{says, left-sound, left-lines}
 
 -- ---- how the classes of a document are marked, by its tree
@@ -79,9 +79,7 @@ marked-label true es p (a ∷ label) f h = marked-label true es p label f (marke
 
 -- as many tokens, in an array and at its place in the excerpt
 same_length : (name : Bytes) (place : Option ℕ) (n : ℕ) → length (steps name (new_place n place)) ≡ length (steps name place)
-same_length name None n = refl
-same_length name (Some zero) n = refl
-same_length name (Some (suc k)) n = refl
+same_length name place n = grind arith
 
 abbrev is_incident : Tokens → Bool
 is_incident p = same_path p incident_path
@@ -90,34 +88,24 @@ is_incident p = same_path p incident_path
 abbrev AreAlike : Tokens → Tokens → Type 0
 AreAlike p q = (name : Bytes) (place : Option ℕ) (n : ℕ) → is_incident (q ++ steps name (new_place n place)) ≡ is_incident (p ++ steps name place)
 
-steps-some : (name : Bytes) (place : Option ℕ) → 1 ≤ length (steps name place)
-steps-some name None = omega arith
-steps-some name (Some k) = omega arith
-
 far : (p : Tokens) → 3 ≤ length p → is_incident p ≡ false
 far p h = is_false (is_incident p) (λ same. let e : length p ≡ 2 = ap length (same_path-true p incident_path same) in absurd (omega (arith, h, e)))
+
+far-below : (p : Tokens) (a b : Bytes) (o o' : Option ℕ) → 3 ≤ length p + (length (steps a o) + length (steps b o')) → is_incident ((p ++ steps a o) ++ steps b o') ≡ false
+far-below p a b o o' h = far ((p ++ steps a o) ++ steps b o') (omega (arith, h, length-append (p ++ steps a o) (steps b o'), length-append p (steps a o)))
 
 both-far : (p q : Tokens) (a b : Bytes) (o o' : Option ℕ) (n m : ℕ) → length q ≡ length p → 3 ≤ length p + (length (steps a o) + length (steps b o')) →
     is_incident ((q ++ steps a (new_place n o)) ++ steps b (new_place m o')) ≡ is_incident ((p ++ steps a o) ++ steps b o')
 both-far p q a b o o' n m same h =
-    far ((q ++ steps a (new_place n o)) ++ steps b (new_place m o')) (omega (
-      arith,
-      h,
-      same,
-      same_length a o n,
-      same_length b o' m,
-      length-append (q ++ steps a (new_place n o)) (steps b (new_place m o')),
-      length-append q (steps a (new_place n o)),
-    ))
-    ∙ sym (far ((p ++ steps a o) ++ steps b o') (omega (arith, h, length-append (p ++ steps a o) (steps b o'), length-append p (steps a o))))
+    far-below q a b (new_place n o) (new_place m o') (omega (arith, h, same, same_length a o n, same_length b o' m)) ∙ sym (far-below p a b o o' h)
 
 alike-below : (p q : Tokens) (a : Bytes) (o : Option ℕ) (n : ℕ) → length q ≡ length p → AreAlike (p ++ steps a o) (q ++ steps a (new_place n o))
 alike-below p q a (Some k) n same b None m = both-far p q a b (Some k) None n m same (omega arith)
-alike-below p q a o n same b (Some k) m = both-far p q a b o (Some k) n m same (omega (arith, steps-some a o))
+alike-below p q a (Some j) n same b (Some k) m = both-far p q a b (Some j) (Some k) n m same (omega arith)
+alike-below p q a None n same b (Some k) m = both-far p q a b None (Some k) n m same (omega arith)
 alike-below [] [] a None n same b None m = refl
-alike-below (x ∷ p) (y ∷ q) a None n same b None m = both-far (x ∷ p) (y ∷ q) a b None None n m same (omega arith)
+alike-below (x ∷ p) q a None n same b None m = both-far (x ∷ p) q a b None None n m same (omega arith)
 alike-below [] (y ∷ q) a None n same b None m = absurd (omega (arith, same))
-alike-below (x ∷ p) [] a None n same b None m = absurd (omega (arith, same))
 
 -- ---- one class
 
@@ -125,11 +113,7 @@ alike-below (x ∷ p) [] a None n same b None m = absurd (omega (arith, same))
 same-label : (w : Option Marking) (u shows incident incident' : Bool) (above above' label : Marking) → u ≡ is_none w →
     label ≡ unwrap_or (option_or w (if incident then Some private else None)) above → (shows ≡ true → (above' ≡ above) × (incident' ≡ incident)) →
     unwrap_or (option_or (if u && not shows then Some label else w) (if incident' then Some private else None)) above' ≡ label
-same-label (Some m) true t a b x y l e is same = absurd (true≢false e)
-same-label (Some m) false t a b x y l e is same = sym is
-same-label None true false a b x y l e is same = refl
-same-label None true true a b x y l e is same = let s = same refl in (λ i. unwrap_or (if s.1 i then Some private else None) (s.0 i)) ∙ sym is
-same-label None false t a b x y l e is same = absurd (false≢true e)
+same-label w u shows incident incident' above above' label e is same = grind arith
 
 module _ (es es' : List LocatedLine) (c : Case) (s : Standing) where
   abbrev v : Verdicts
@@ -183,12 +167,9 @@ all-of_map Q g (x ∷ xs) h = (h.0, all-of_map Q g xs h.1)
 
 all-of_filter : {X : Type 0} (Q : X → Type 0) (P : X → Bool) (xs : List X) → AllByRecursion Q (filter P xs) → AllByRecursion (λ x. P x ≡ true → Q x) xs
 all-of_filter Q P [] h = tt
-all-of_filter Q P (x ∷ xs) h = by_test (P x) refl h (all-of_filter Q P xs)
-  where
-    by_test : (b : Bool) → P x ≡ b → AllByRecursion Q (if b then x ∷ filter P xs else filter P xs) → (AllByRecursion Q (filter P xs) → AllByRecursion (λ x. P x ≡ true → Q x) xs) →
-        (P x ≡ true → Q x) × AllByRecursion (λ x. P x ≡ true → Q x) xs
-    by_test true e h next = ((λ _. h.0), next h.1)
-    by_test false e h next = ((λ t. absurd (true≢false (sym t ∙ e))), next h)
+all-of_filter Q P (x ∷ xs) h =
+    cond_both (P x) _ _ (λ ys. AllByRecursion Q ys → (P x ≡ true → Q x) × AllByRecursion (λ x. P x ≡ true → Q x) xs)
+    (λ e all. ((λ _. all.0), all-of_filter Q P xs all.1)) (λ e all. ((λ t. absurd (true≢false (sym t ∙ e))), all-of_filter Q P xs all)) h
 
 -- ---- a whole document
 
@@ -219,9 +200,7 @@ module _ (f : Forest) (c : Case) (s : Standing) (sound : IsSound f) (ok : first_
 
   pub markings-accepted : first_bad_marking (located (kept_outline (lines 1 f) c s)) ≡ None
   markings-accepted =
-      ap (λ ls. first_bad_marking (located ls)) (left-lines f c s sound ok)
-      ∙ ap (find (λ p. not (is_well_marked es' p))) (ap class_paths (located-lines left (left-sound f c s sound ok)) ∙ paths-cut (judge verdicts [] f) root 1 [] [] 0)
-      ∙ none-bad all_places survived
+      rw (left-lines f c s sound ok, classes-lines left (left-sound f c s sound ok), paths-cut (judge verdicts [] f) root [] [] 0) (none-bad all_places survived)
 
   -- at the place of the class there is its label
   abbrev HasLabel : Tokens → Type 0

@@ -1,5 +1,5 @@
 -- The pass over a whole document: what it leaves, what it tells and what it counts are as the definitions say.
-use Rattle.std.proofs.Common.{◌≡◌, ◌<◌, ◌^◌, ℕ, suc, ◌+◌, false, true, Bool, List, [], ◌∷◌, ◌++◌, refl, sym, ◌∙◌, ap, subst, append-nil, append_assoc, arith, decimal, Option, Some, None, is_some, count_by}
+use Rattle.std.proofs.Common.{◌≡◌, ◌<◌, ◌^◌, ℕ, suc, ◌+◌, false, true, Bool, List, [], ◌∷◌, ◌++◌, refl, sym, ◌∙◌, ap, append-nil, append_assoc, arith, decimal, Option, Some, None, is_some, count_by}
 use Rattle.iodef_tree.specs.Text.{Bytes, Tokens, same_path}
 use Rattle.iodef_tree.specs.Tree.{Forest, end, leaf, branch, steps, lines}
 use Rattle.iodef_tree.specs.Paths.{LocatedLine, has_class, located, below}
@@ -20,16 +20,15 @@ use Rattle.policy.specs.declared.standing.Standing.{Standing}
 use Rattle.policy.specs.declared.case.Case.{Case}
 use Rattle.redact.specs.Kept.{Verdicts, kept}
 use Rattle.redact.specs.Withheld.{Withheld, is_among, place_by, class_places, withheld_pairs}
-use Rattle.redact.specs.Judged.{Judged, plain, class, judge, judgment_at, root, cut, visible_classes, told}
+use Rattle.redact.specs.Judged.{Judged, plain, judge, root, cut, visible_classes, told}
 use Rattle.redact.specs.Told.{verdicts_of, kept_outline, withheld_of, visible_count}
-use Rattle.redact.specs.Pass.{enter, judgment_by, pass}
+use Rattle.redact.specs.Pass.{enter, pass}
 use Rattle.redact.proofs.Keeping.{is_seen, any_seen, SaysBelow}
 use Rattle.redact.proofs.Ordered.{trails-none, ordered-cut}
-use Rattle.redact.proofs.Sizes.{within-cut}
+use Rattle.redact.proofs.Counts.{within-cut, count-walk, few-seen}
 use Rattle.redact.proofs.Places.{kept-lines, placed}
 use Rattle.redact.proofs.Withheld.{withheld-walk}
-use Rattle.redact.proofs.Counts.{count-walk, few-seen}
-use Rattle.redact.proofs.Fitting.{label-names, labels-fit}
+use Rattle.redact.proofs.Spelling.{label-names, labels-fit}
 
 -- ---- each class is judged as the definitions judge its path
 
@@ -68,11 +67,7 @@ says-below v es looks (branch name place kids rest) d p blocks =
 pub root-bare : (f : Forest) → IsSound f → has_class (located (lines 1 f)) [] ≡ false
 root-bare f sound =
     ap (λ es. has_class es []) (located-lines f sound)
-    ∙ no_class (walk 1 [] f) [] (walk-all (λ p. same_path p [] ≡ false) f 1 [] (siblings-all (λ n o. (z : Tokens) → same_path (steps n o ++ z) [] ≡ false) f deep))
-  where
-    deep : (n : Bytes) (o : Option ℕ) (z : Tokens) → same_path (steps n o ++ z) [] ≡ false
-    deep n None z = refl
-    deep n (Some k) z = refl
+    ∙ no_class (walk 1 [] f) [] (walk-all (λ p. same_path p [] ≡ false) f 1 [] (siblings-all (λ n o. (z : Tokens) → same_path (steps n o ++ z) [] ≡ false) f (λ n o z. grind arith)))
 
 -- ---- a whole document
 

@@ -1,15 +1,14 @@
 -- What the pass tells as withheld is what the definitions say.
 use Rattle.std.proofs.Common.{◌≡◌, ℕ, suc, Bool, true, false, not, List, [], ◌∷◌, ◌++◌, refl, sym, ◌∙◌, ap, subst, if◌then◌else◌, ◌&&◌, Option, Some}
 use Rattle.std.specs.List.{AllByRecursion}
-use Rattle.std.proofs.lemmas.Bool.{and_right, or_parts, cond-true, cond-false}
+use Rattle.std.proofs.lemmas.Bool.{or_parts}
 use Rattle.std.proofs.lemmas.List.Concat.{flat_map-append}
 use Rattle.std.proofs.lemmas.List.Folds.{list_any-append}
 use Rattle.iodef_tree.specs.Text.{Tokens}
-use Rattle.iodef_tree.specs.Paths.{LocatedLine, is_class}
-use Rattle.iodef_tree.specs.Tree.{Leaf, Forest, end, leaf, branch, steps}
+use Rattle.iodef_tree.specs.Paths.{LocatedLine}
+use Rattle.iodef_tree.specs.Tree.{Forest, end, leaf, branch, steps}
 use Rattle.iodef_tree.specs.Walk.{walk, leaf_entry}
-use Rattle.policy.specs.declared.rule.Rule.{Rule}
-use Rattle.redact.specs.Kept.{Verdicts, is_frame, is_wholly_hidden}
+use Rattle.redact.specs.Kept.{Verdicts, is_wholly_hidden}
 use Rattle.redact.specs.Withheld.{Withheld, told_at_place, withheld_at, withheld_among}
 use Rattle.redact.specs.Judged.{judge, inside, keeps_plain, home_at, left_before, new_place, left_with, is_end, cut, told, places}
 use Rattle.marking.proofs.Bad.{no_class-kind}
@@ -25,14 +24,10 @@ module _ (v : Verdicts) (place : Tokens → Option Tokens) where
   abbrev tells : List LocatedLine → List Withheld
   tells es = withheld_among v place es
 
-  tells-plain : (d : ℕ) (p : Tokens) (i : Leaf) (es : List LocatedLine) → tells (leaf_entry d p i ∷ es) ≡ tells es
-  tells-plain d p i es = ap (λ ts. ts ++ tells es) (cond-true (not (is_class (leaf_entry d p i))) _ _ (ap not (no_class-kind i.content)))
-
   -- below a wholly hidden class nothing is told
   silent : (f : Forest) (d : ℕ) (p : Tokens) → SaysBelow v d p f → any_seen v (walk d p f) ≡ false → is_wholly_hidden v p ≡ true → tells (walk d p f) ≡ []
   silent end d p says unseen hidden = refl
-  silent (leaf i rest) d p says unseen hidden =
-      tells-plain d p i (walk d p rest) ∙ silent rest d p says (or_parts (is_seen v (leaf_entry d p i)) _ unseen).1 hidden
+  silent (leaf i rest) d p says unseen hidden = rw (no_class-kind i.content) (silent rest d p says (or_parts (is_seen v (leaf_entry d p i)) _ unseen).1 hidden)
   silent (branch name pl kids rest) d p says unseen hidden =
       let q = p ++ steps name pl in
       let K = walk (suc d) q kids in
@@ -40,14 +35,8 @@ module _ (v : Verdicts) (place : Tokens → Option Tokens) where
       let parts = or_parts (v.visible q) _ unseen in
       let below = or_parts (any_seen v K) (any_seen v R) (sym (list_any-append (is_seen v) K R) ∙ parts.1) in
       let closed : v.holds_visible q ≡ false = says.0 ∙ below.0 in
-      let bare : is_wholly_hidden v q ≡ true =
-      ap (λ b. not b && (not (v.visible q) && not (v.holds_visible q))) (not_root p name pl) ∙ ap (λ b. not b && not (v.holds_visible q)) parts.0 ∙ ap not closed in
-      ap (λ ts. ts ++ tells (K ++ R)) (
-      cond-false (is_frame v q) _ _ (and_right (not (v.visible q)) (v.holds_visible q) closed)
-      ∙ cond-false (is_wholly_hidden v q && not (is_wholly_hidden v p)) _ _ (and_right (is_wholly_hidden v q) _ (ap not hidden)))
-      ∙ flat_map-append (withheld_at v place) K R
-      ∙ ap (λ ts. ts ++ tells R) (silent kids (suc d) q says.1 below.0 bare)
-      ∙ silent rest d p says.2 below.1 hidden
+      rw (parts.0, closed, hidden, not_root p name pl, flat_map-append (withheld_at v place) K R)
+      (rw (silent kids (suc d) q says.1 below.0 (rw (not_root p name pl, parts.0, closed)), silent rest d p says.2 below.1 hidden))
 
   all_parts : (xs ys : List (Tokens × Tokens)) → AllByRecursion IsRight (xs ++ ys) → AllByRecursion IsRight xs × AllByRecursion IsRight ys
   all_parts [] ys h = (tt, h)
@@ -57,8 +46,7 @@ module _ (v : Verdicts) (place : Tokens → Option Tokens) where
       place p ≡ Some q → is_wholly_hidden v p ≡ false → tells (walk d p f) ≡ told (home_at v p) q n (judge v p f)
   withheld-walk end d p q n says right here shown = refl
   withheld-walk (leaf i rest) d p q n says right here shown =
-      tells-plain d p i (walk d p rest)
-      ∙ withheld-walk rest d p q (if keeps_plain (home_at v p) then left_with n i.place else left_before n i.place) says right here shown
+      rw (no_class-kind i.content) (withheld-walk rest d p q (if keeps_plain (home_at v p) then left_with n i.place else left_before n i.place) says right here shown)
   withheld-walk (branch name pl kids rest) d p q n says right here shown =
       let p' = p ++ steps name pl in
       let r = q ++ steps name (new_place n pl) in

@@ -1,16 +1,15 @@
 use Rattle.std.specs.List.{AllByRecursion}
-use Rattle.std.proofs.Common.{List, subst, ◌≡◌, ◌∷◌, ◌++◌, map, take, drop, sym, ◌∙◌, ap}
+use Rattle.std.proofs.Common.{List, subst, ◌≡◌, ◌∷◌, take, drop, sym, ◌∙◌, ap}
 use Rattle.std.proofs.lemmas.List.{map-append}
 use Rattle.iodef_tree.specs.Text.{Bytes}
 use Rattle.iodef_tree.specs.Tree.{Bodies, one}
-use Rattle.iodef_tree.specs.View.{bodies, named, members_forest, forest_of_members}
+use Rattle.iodef_tree.specs.View.{bodies, named}
 use Rattle.iodef_tree.specs.declared.object.Item.{Text}
 use Rattle.iodef_tree.specs.declared.object.Member.{Member, One}
 use Rattle.iodef_tree.specs.Filled.{IsMemberFilled}
 use Rattle.iodef_tree.proofs.Filled.{made-filled, members-filled, filled-One, filled-Text}
 use Rattle.redact.proofs.Filling.{inserted-filled}
 use Rattle.iodef_tree.proofs.Views.{forest-members, forest-made, bodies-One, body-Text}
-use Rattle.redact.specs.Judged.{put_leaf, attribute_leaf}
 use Rattle.redact.specs.Filled.{saying}
 use Rattle.redact.proofs.attributes.with_attribute.Goals as goal
 
@@ -20,7 +19,6 @@ returns-clause-put c =
     let r = c.place_for-at.result in
     let name = c.args.name.now in
     let text = c.args.text.now in
-    let x = attribute_leaf (name, text) in
     let value = c.new.result in
     let e : Bytes × Member = (c.new-2.result, One (Text value)) in
     let said : bodies (One (Text value)) ≡ saying text = bodies-One (Text value) ∙ ap one (body-Text value) ∙ ap saying (c.new.ensures ∙ c.in_ok-from_str.ensures.ok) in

@@ -1,12 +1,18 @@
-use Rattle.std.proofs.Common.{[], ◌∷◌, ◌++◌, sym, ◌∙◌, ap}
-use Rattle.policy.specs.Ahead.{ahead_of}
+use Rattle.std.proofs.Common.{◌≡◌, [], ◌∷◌, ◌++◌, sym, ◌∙◌, ap, append_assoc}
+use Rattle.iodef_tree.specs.Text.{Bytes, Tokens}
+use Rattle.policy.specs.Ahead.{Met, met_at, ahead_of, nothing_met}
+use Rattle.policy.specs.declared.standing.Standing.{Standing}
+use Rattle.policy.specs.declared.case.Case.{Case}
 use Rattle.redact.specs.Tokens.{token_of}
-use Rattle.redact.proofs.Stepping.{still-nothing}
 use Rattle.redact.proofs.reader.further.Goals as goal
+
+-- where nothing can be met, nothing can further down
+still-nothing : (c : Case) (s : Standing) (p : Tokens) (x : Bytes) → nothing_met ≡ ahead_of c s p → (z : Tokens) → nothing_met z ≡ ahead_of c s (p ++ x ∷ []) z
+still-nothing c s p x e z = ap (λ (f : Tokens → Met). f (x ∷ z)) e ∙ ap (met_at c s) (sym (append_assoc p (x ∷ []) z))
 
 pub returns-then-is_empty : goal.returns-then-is_empty
 returns-then-is_empty c = λ k s p at.
-    c.none.ensures ∙ still-nothing k s p (token_of c.args.token) (sym (c.is_empty.ensures c.if-is_empty.true) ∙ at)
+    c.none.ensures ∙ (λ i z. still-nothing k s p (token_of c.args.token) (sym (c.is_empty.ensures c.if-is_empty.true) ∙ at) z i)
 
 pub returns-in_ok-below-in-Name : goal.returns-in_ok-below-in-Name
 returns-in_ok-below-in-Name c = λ k s p at.

@@ -22,7 +22,7 @@ use Rattle.redact.specs.Left.{home_of, left_at, told_at, count_at, left_member, 
 use Rattle.redact.specs.declared.pass.State.{State}
 use Rattle.redact.specs.declared.trail.Token.{Token}
 use Rattle.redact.proofs.Fronts.{Outcome, of_object}
-use Rattle.redact.proofs.Filling.{filled-end, filled-none}
+use Rattle.redact.proofs.Filling.{filled-end}
 use Rattle.redact.proofs.Going.{goes-step, told-seen, told-frame, told-gone, pushed, pushed-left, pushed-all, pushed-none, length-pushed}
 use Rattle.redact.proofs.reader.Reader.+cut.Goals as goal
 use Rattle.redact.proofs.reader.Reader.+cut.Goals.{cut_items-in-Some+in_ok-push, cut_items-in_default, cut-in-Some+in_ok-push_member, cut-in_default}
@@ -91,6 +91,10 @@ cut_seen-returns-clause-goes t c = λ q.
       classes = λ h. let more = c.saturating_add-state.ensures in let e = g.classes (omega (arith, more, h)) in omega (arith, more, e, told_all.classes, h);
     }
 
+-- what is left of the members has an end only where there are none
+ended : (o : Object) (left : Forest) → IsFilled o → forest o ≡ left → is_end left ≡ (vec_len o.members == 0)
+ended o left filled is = ap is_end (sym is ∙ forest-members o) ∙ filled-end o.members.items (members-filled o filled) ∙ ap (λ n. n == 0) (sym o.members.ok.0)
+
 pub cut_hidden-returns-in_ok-add-clause-goes : goal.cut_hidden-returns-in_ok-add-clause-goes
 cut_hidden-returns-in_ok-add-clause-goes t c =
     let o = c.in_ok-kept.kept in
@@ -101,19 +105,15 @@ cut_hidden-returns-in_ok-add-clause-goes t c =
     let rule = hides c.args.self.now.standing.now (carried (path_of st.path.items) c.args.at) in
     let g = c.in_ok-kept.ensures.goes in
     let empty : length o.members.items ≡ 0 = sym o.members.ok.0 ∙ eqb-true _ 0 (sym c.if-is_empty.ensures) in
-    let none : is_end (cut (inside false) 0 J) ≡ true = ap is_end (sym c.in_ok-kept.ensures.left ∙ forest-members o) ∙ filled-none o.members.items empty in
+    let none : is_end (cut (inside false) 0 J) ≡ true = ended o _ c.in_ok-kept.ensures.filled c.in_ok-kept.ensures.left ∙ sym c.if-is_empty.ensures in
     let added : (test : Rule → Bool) → list_any test d.gone.items ≡ (list_any test st.gone.items || test rule) = λ test.
     cc (c.in_ok-add.ensures test, c.replace-gone.ensures.after, c.replace-outside.ensures.value, c.hides-rule.ensures) in
     rw none (record { path = g.path; place = g.place; withheld = told-gone q st d rule (c.in_ok-kept.ensures.quiet empty) added; classes = g.classes })
 
--- what is left of the members has no end where there are some
-some-left : (o : Object) (left : Forest) → IsFilled o → forest o ≡ left → false ≡ (vec_len o.members == 0) → is_end left ≡ false
-some-left o left filled is some = ap is_end (sym is ∙ forest-members o) ∙ filled-end o.members.items (members-filled o filled) (λ e. eqb-false _ 0 (sym some) (o.members.ok.0 ∙ e))
-
 pub cut_hidden-returns-in_ok-tell-clause-left : goal.cut_hidden-returns-in_ok-tell-clause-left
 cut_hidden-returns-in_ok-tell-clause-left t c =
     let kept = c.in_ok-kept.ensures in
-    rw (some-left c.in_ok-kept.kept _ kept.filled kept.left c.if-is_empty.ensures) (ap Some kept.left)
+    rw (ended c.in_ok-kept.kept _ kept.filled kept.left ∙ sym c.if-is_empty.ensures) (ap Some kept.left)
 
 pub cut_hidden-returns-in_ok-tell-clause-goes : goal.cut_hidden-returns-in_ok-tell-clause-goes
 cut_hidden-returns-in_ok-tell-clause-goes t c =
@@ -129,7 +129,7 @@ cut_hidden-returns-in_ok-tell-clause-goes t c =
     let gs = c.add-else-is_empty.new.rules.items in
     let added : (test : Rule → Bool) → list_any test gs ≡ (list_any test k.gone.items || test rule) = λ test.
     cc (c.in_ok-add-2.ensures test, c.replace-gone.ensures.value, c.hides-rule.ensures) in
-    rw (some-left c.in_ok-kept.kept _ kept.filled kept.left c.if-is_empty.ensures) (record {
+    rw (ended c.in_ok-kept.kept _ kept.filled kept.left ∙ sym c.if-is_empty.ensures) (record {
       path = told_all.path ∙ kept.goes.path;
       place = told_all.place ∙ kept.goes.place;
       withheld = told-frame q r st b k c.tell.new.state (told (inside false) r 0 J) refl (ap (λ v. v.items) c.replace-outside.ensures.after ∙ c.new.ensures.items) kept.goes.withheld rule gs added
@@ -208,8 +208,8 @@ cut_items-loop-i-preserved t c =
       | cut_items-in-Some+in_ok-push w ↦ ap (λ v. v.items) w.kept-is ∙ w.in_ok-push.ensures.items ∙ ap (pushed own ks) (sym w.in-Some.is)
       | cut_items-in_default w ↦ ap (λ v. v.items) w.kept-is ∙ ap (pushed own ks) (sym w.in_default.is)
     ] in
-    let size : (if is_some (left_at C S H A (decimal i) (body x)) then suc (length ks) else length ks) ≡ length new =
-    ap (λ p. if is_some p then suc (length ks) else length ks) (sym O) ∙ sym (ap length grown ∙ length-pushed own body ks o) in
+    let m = if is_some (left_at C S H A (decimal i) (body x)) then suc (length ks) else length ks in
+    let size : m ≡ length new = ap (λ p. if is_some p then suc (length ks) else length ks) (sym O) ∙ sym (ap length grown ∙ length-pushed own body ks o) in
     let F = λ (j n : ℕ). Goes q st c.cut_item.new.state (told_items C S H A q r 0 0 (map body xs)) (told_items C S H A q r j n R) (count_items C S A 0 (map body xs)) (count_items C S A j R) in
     record {
       left = ap (λ ys. map body ys ++ left_items C S H A (i + 1) R) grown
@@ -219,7 +219,7 @@ cut_items-loop-i-preserved t c =
           ∙ (rw split at inv.left);
       filled = subst (λ (ys : List Item). AllByRecursion IsItemFilled ys) (sym grown) (pushed-all IsItemFilled own ks o inv.filled c.in_ok-x.ensures.filled);
       goes = subst (λ j. F j (length new)) (sym (add-one i)) (subst (F (suc i)) size
-          (goes-step q st c.loop-i.state c.cut_item.new.state _ (told_at C S A q (r ++ decimal (length ks) ∷ []) (decimal i) (body x)) (told_items C S H A q r (suc i) (if is_some (left_at C S H A (decimal i) (body x)) then suc (length ks) else length ks) R)
+          (goes-step q st c.loop-i.state c.cut_item.new.state _ (told_at C S A q (r ++ decimal (length ks) ∷ []) (decimal i) (body x)) (told_items C S H A q r (suc i) m R)
           _ (count_at C S A (decimal i) (body x)) (count_items C S A (suc i) R)
           (rw split at inv.goes) (simp (inv.goes.path, inv.goes.place, map-append token_of st.place.items, c.len-n.ensures ∙ c.loop-i.kept.ok.0) at c.in_ok-x.ensures.goes)));
       quiet = λ none. let z = pushed-none own ks o (ap length (sym grown) ∙ none) in c.in_ok-x.ensures.quiet z.0 ∙ inv.quiet z.1;

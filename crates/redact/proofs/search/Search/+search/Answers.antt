@@ -1,17 +1,18 @@
-use Rattle.std.proofs.Common.{◌≡◌, ◌+◌, ◌||◌, List, Bool, map, drop, true, false, sym, ◌∙◌, ap, arith, rules}
-use Rattle.std.proofs.lemmas.Bool.{or_left}
-use Rattle.iodef_tree.specs.Text.{Bytes}
-use Rattle.iodef_tree.specs.View.{body, bodies, members_forest}
+use Rattle.std.proofs.Common.{◌≡◌, [], ◌∷◌, ◌++◌, List, map, sym, ◌∙◌, ap, arith, rules}
+use Rattle.std.proofs.lemmas.List.{map-append}
+use Rattle.iodef_tree.specs.View.{body, bodies}
 use Rattle.iodef_tree.specs.declared.object.Object.{the_lemmas}
 use Rattle.iodef_tree.proofs.Filled.{member-at, elements-kept}
 use Rattle.iodef_tree.proofs.Views.{bodies-Many}
 use Rattle.policy.specs.Ahead.{ahead_of}
-use Rattle.policy.specs.Inherited.{carried}
-use Rattle.redact.specs.Tokens.{path_of}
-use Rattle.redact.specs.Search.{asked_of, found, found_items, found_member}
+use Rattle.policy.specs.Inherited.{carried, array_step, enter_array}
+use Rattle.policy.specs.declared.inherited.Carried.{Carried}
+use Rattle.policy.specs.declared.standing.Standing.{Standing}
+use Rattle.policy.specs.declared.case.Case.{Case}
+use Rattle.redact.specs.Tokens.{token_of, path_of}
+use Rattle.redact.specs.Search.{asked_of, found_items, found_member}
 use Rattle.redact.specs.declared.trail.Token.{Token}
 use Rattle.redact.proofs.Searching.{found_next}
-use Rattle.redact.proofs.Stepping.{array-door}
 use Rattle.redact.proofs.search.Search.+search.Goals as goal
 
 pub among-returns-then-branch-clause-found : goal.among-returns-then-branch-clause-found
@@ -30,15 +31,13 @@ among-loop-name-preserved t c =
     }
 
 pub among-in_member-requires : goal.among-in_member-requires
-among-in_member-requires t c =
-    let C = c.args.self.now.reader.case.now in
-    let S = c.args.self.now.reader.standing.now in (
-      search (rules, the_lemmas),
-      (
-        member-at c.args.object.now c.deref-name-items.result.now c.loop-name.name-index c.loop-name-item.result c.requires.filled c.deref-name-items.ensures.value c.loop-name-test.true c.loop-name-item.is,
-        c.requires.ahead ∙ ap (λ (ts : List Token). ahead_of C S (path_of ts)) (sym c.loop-name.invariant.trail),
-      ),
-    )
+among-in_member-requires t c = (
+  search (rules, the_lemmas),
+  (
+    member-at c.args.object.now c.deref-name-items.result.now c.loop-name.name-index c.loop-name-item.result c.requires.filled c.deref-name-items.ensures.value c.loop-name-test.true c.loop-name-item.is,
+    c.requires.ahead ∙ ap (λ (ts : List Token). ahead_of c.args.self.now.reader.case.now c.args.self.now.reader.standing.now (path_of ts)) (sym c.loop-name.invariant.trail),
+  ),
+)
 
 pub in_member-in_array-requires : goal.in_member-in_array-requires
 in_member-in_array-requires t c = (
@@ -46,15 +45,19 @@ in_member-in_array-requires t c = (
   (elements-kept c.args.member.now c.in-Many.items c.requires.1.1.0 c.in-Many.is, c.in_ok-inside-in-Many.ensures.ahead),
 )
 
+-- what is carried at an array is what the definitions say, entering it from above
+array-door : (c : Case) (s : Standing) (above array : Carried) (old new seen : List Token) (t : Token) → seen ≡ new → new ≡ old ++ t ∷ [] →
+    carried (path_of seen) array ≡ array_step c s (carried (path_of seen) above) (path_of seen) → carried (path_of new) array ≡ enter_array c s (carried (path_of old) above) (token_of t)
+array-door c s above array old new seen t same grown step =
+    ap (λ ts. carried (path_of ts) array) (sym same) ∙ step ∙ ap (array_step c s (carried (path_of old) above)) (ap path_of (same ∙ grown) ∙ map-append token_of old (t ∷ []))
+
 pub in_member-returns-in_ok-found-in-Many-clause-found : goal.in_member-returns-in_ok-found-in-Many-clause-found
 in_member-returns-in_ok-found-in-Many-clause-found t c =
     let C = c.args.self.now.reader.case.now in
     let S = c.args.self.now.reader.standing.now in
     let T = asked_of c.args.self.now.asked in
-    let A = carried (path_of c.args.trail.now.items) c.args.above in
-    let name = c.args.name.now in
     let items = c.in-Many.items in
     c.in_ok-found-in-Many.ensures.found
-    ∙ ap (λ h. found_items C S T h name 0 (map body items.items))
+    ∙ ap (λ h. found_items C S T h c.args.name.now 0 (map body items.items))
     (array-door C S c.args.above c.at_array-array.result c.args.trail.now.items _ _ _ c.as_slice.ensures.value c.in_ok-inside-in-Many.ensures.trail c.at_array-array.ensures)
-    ∙ ap (found_member C S T A name) (sym (ap bodies c.in-Many.is ∙ bodies-Many items))
+    ∙ ap (found_member C S T (carried (path_of c.args.trail.now.items) c.args.above) c.args.name.now) (sym (ap bodies c.in-Many.is ∙ bodies-Many items))
