@@ -1,6 +1,7 @@
 -- The Incidents of a body in which nothing is refused fit its documents.
-use Rattle.std.proofs.Common.{◌≡◌, ℕ, ◌+◌, ◌≤◌, List, Bool, true, false, cond, ◌&&◌, Option, Some, None, Result, Ok, Err, option_and_then, refl, sym, ap, ◌∙◌, subst, arith, codes}
+use Rattle.std.proofs.Common.{◌≡◌, ℕ, ◌+◌, ◌≤◌, List, true, false, ◌&&◌, Option, Some, None, Result, Ok, option_and_then, refl, sym, ap, ◌∙◌, subst, arith, codes}
 use Rattle.std.proofs.lemmas.Bool.{and_parts, or_from, or_parts}
+use Rattle.std.proofs.lemmas.Option.{cond_some, some_pair_parts}
 use Rattle.serde_json.specs.Data as json
 use Rattle.serde_json.specs.Data.{Data, put}
 use Rattle.serde_json.specs.Find.{get_member, as_array, as_object}
@@ -8,12 +9,12 @@ use Rattle.serde_json.specs.Written.{has_float, items_have_float, members_have_f
 use Rattle.iodef_tree.specs.FitValues.{AreFit, taken, is_element_flat, are_flat, are_members_flat}
 use Rattle.iodef_tree.specs.Reading.{◌>>=◌, or_fault, are_incidents, if_incidents, incidents_of, documents, parsed, all_complete, all_fit, reading}
 use Rattle.iodef_tree.specs.Tree.{height}
-use Rattle.iodef_tree.specs.Values.{node, member_nodes, is_too_deep, items_of_data, forest_of_data, body_of_data}
+use Rattle.iodef_tree.specs.Values.{items_of_data, forest_of_data, body_of_data}
 use Rattle.iodef_tree.specs.declared.TheConstants.{DEPTH_LIMIT}
 use Rattle.iodef_tree.specs.declared.fault.ReadFault.{ReadFault}
 use Rattle.iodef_tree.specs.declared.fault.ReadFault.TheVariants.{NotDocument}
 use Rattle.iodef_tree.proofs.Exchanged.{put_twice}
-use Rattle.iodef_tree.proofs.Fitness.{head, whole, IsPlain, plain_ok}
+use Rattle.iodef_tree.proofs.Fitness.{whole, IsPlain, plain_ok}
 use Rattle.iodef_tree.proofs.Flat.{plain-flat, flats}
 use Rattle.iodef_tree.proofs.Shallow.{tallest, low_members, heights, tallest_le}
 use Rattle.iodef_tree.proofs.Each.{IsEach, put-each, get-each}
@@ -42,25 +43,18 @@ array_of : (e : Data) (ds : json.Items) → as_array e ≡ Some ds → e ≡ jso
 array_of (json.array es) ds h = let same : es ≡ ds = cc in ap json.array same
 array_of _ ds h = cc
 
-pub chosen : (ds es : json.Items) → if_incidents ds ≡ Some es → (ds ≡ es) × (are_incidents ds ≡ true)
-chosen ds es h = step (are_incidents ds) h
-  where
-    step : (b : Bool) → cond b (Some ds) None ≡ Some es → (ds ≡ es) × (b ≡ true)
-    step true e = let same : ds ≡ es = cc in (same, refl)
-    step false e = absurd (cc)
-
 pub found_array : (o : Option Data) (ds : json.Items) → option_and_then if_incidents (option_and_then as_array o) ≡ Some ds → o ≡ Some (json.array ds)
 found_array None ds e = cc
 found_array (Some x) ds e = step (as_array x) refl e
   where
     step : (o : Option json.Items) → as_array x ≡ o → option_and_then if_incidents o ≡ Some ds → Some x ≡ Some (json.array ds)
     step None is e = cc
-    step (Some es) is e = let same : es ≡ ds = (chosen es ds e).0 in ap Some (array_of x ds (is ∙ ap Some same))
+    step (Some es) is e = let same : es ≡ ds = (cond_some (are_incidents es) es ds e).1 in ap Some (array_of x ds (is ∙ ap Some same))
 
 pub fit_object : (ms : json.Members) (ds : json.Items) → IsPlain (json.object ms) → get_member (codes "Incident") ms ≡ Some (json.array ds) → AreFit ms ds
 fit_object ms ds p at =
-    let free = whole (json.object ms) 0 0 p.whole in
-    let low : 1 + height (forest_of_data ms) ≤ 33 = low_members ms 1 (omega arith) (head is_too_deep (node 0 0 (json.object ms)) (member_nodes 1 ms) p.shallow).1 in
+    let free = whole (json.object ms) 0 0 p in
+    let low : 1 + height (forest_of_data ms) ≤ 33 = low_members ms 1 (omega arith) p in
     let tall = get-each _ _ (heights (height (forest_of_data ms))) (codes "Incident") ms (json.array ds) (omega arith) at in
     let taller = tallest_le (body_of_data (json.array ds)) (items_of_data ds) in
     let flat = plain-flat ms p in
@@ -94,29 +88,14 @@ taken_found d ds f = rw (f.is, f.at)
 abbrev pub Taken : Type 0
 Taken = Result (Option (json.Members × json.Items)) ReadFault
 
-first_of : Taken → json.Members
-first_of (Err e) = json.no_members
-first_of (Ok None) = json.no_members
-first_of (Ok (Some p)) = p.0
-
-second_of : Taken → json.Items
-second_of (Err e) = json.no_items
-second_of (Ok None) = json.no_items
-second_of (Ok (Some p)) = p.1
-
-same_root : (d : Data) (ds : json.Items) (f : Found d ds) (ms : json.Members) (es : json.Items) (t : Taken) → t ≡ Ok (taken d) → t ≡ Ok (Some (ms, es)) → put (codes "Incident") json.null f.root ≡ ms
-unfolding first_of
-same_root d ds f ms es t e h = ap first_of (ap Ok (sym (taken_found d ds f)) ∙ sym e ∙ h)
-
-same_items : (d : Data) (ds : json.Items) (f : Found d ds) (ms : json.Members) (es : json.Items) (t : Taken) → t ≡ Ok (taken d) → t ≡ Ok (Some (ms, es)) → ds ≡ es
-unfolding second_of
-same_items d ds f ms es t e h = ap second_of (ap Ok (sym (taken_found d ds f)) ∙ sym e ∙ h)
+same_taken : (d : Data) (ds : json.Items) (f : Found d ds) (ms : json.Members) (es : json.Items) (t : Taken) → t ≡ Ok (taken d) → t ≡ Ok (Some (ms, es)) → (put (codes "Incident") json.null f.root ≡ ms) × (ds ≡ es)
+same_taken d ds f ms es t e h = let was = taken_found d ds f in some_pair_parts _ _ _ _ (cc)
 
 -- what was taken out of a plain body is fit
 pub fit_taken : (d : Data) (ds : json.Items) (f : Found d ds) (ms : json.Members) (es : json.Items) (t : Taken) → t ≡ Ok (taken d) → t ≡ Ok (Some (ms, es)) → all_fit d ≡ Ok tt → AreFit ms es
 fit_taken d ds f ms es t e h p =
     let here = fit_beside f.root json.null ds (fit_object f.root ds (subst IsPlain f.is (plain_ok d p)) f.at) in
-    subst (AreFit ms) (same_items d ds f ms es t e h) (subst (λ m. AreFit m ds) (same_root d ds f ms es t e h) here)
+    subst (AreFit ms) (same_taken d ds f ms es t e h).1 (subst (λ m. AreFit m ds) (same_taken d ds f ms es t e h).0 here)
 
 some_found : {A : Type 0} (d : Data) (ds : json.Items) (k : json.Members → json.Items → Result A ReadFault) (f : Found d ds)
     → (or_fault NotDocument (as_object d) >>= λ root. or_fault NotDocument (incidents_of root) >>= k root) ≡ k f.root ds
@@ -127,4 +106,4 @@ pub reading_taken : (bytes : List ℕ) (d : Data) (ds : json.Items) (f : Found d
 unfolding reading
 reading_taken bytes d ds f ms es t e h read whole fine =
     rw read (some_found d ds (λ root incidents. all_complete 0 incidents >>= λ _. all_fit d >>= λ _. documents root incidents) f
-    ∙ rw (whole, fine) (sym (documents_beside f.root json.null ds) ∙ ap (λ m. documents m ds) (same_root d ds f ms es t e h) ∙ ap (documents ms) (same_items d ds f ms es t e h)))
+    ∙ rw (whole, fine) (sym (documents_beside f.root json.null ds) ∙ ap (λ m. documents m ds) (same_taken d ds f ms es t e h).0 ∙ ap (documents ms) (same_taken d ds f ms es t e h).1))

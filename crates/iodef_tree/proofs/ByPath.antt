@@ -2,7 +2,7 @@
 use Rattle.std.proofs.Common.{◌≡◌, ℕ, zero, suc, ◌+◌, ◌^◌, ◌<◌, ◌≤◌, List, [], ◌∷◌, ◌++◌, Bool, true, false, cond, ◌&&◌, ◌||◌, length, decimal, refl, sym, ◌∙◌, ap, arith, append-nil, append_assoc, true≢false, Option, Some, None, is_some, option_map, bytes_eq}
 use Rattle.std.specs.Option.{option_map_or}
 use Rattle.std.specs.List.{AllByRecursion, slice_get}
-use Rattle.std.proofs.lemmas.Bool.{and_left, and_right, cond-true, cond-false}
+use Rattle.std.proofs.lemmas.Bool.{and_left, and_right, cond-true, cond-false, cond_both}
 use Rattle.std.proofs.lemmas.List.Folds.{list_any-append}
 use Rattle.iodef_tree.specs.Text.{Bytes, Tokens, same_path, is_root, is_prefix}
 use Rattle.iodef_tree.specs.Tree.{Content, text, value, Forest, end, leaf, branch, Body, holds, says, Bodies, one, many, in_front, elements, member_front, steps, kind_of}
@@ -145,11 +145,9 @@ class_at-element n k (says c) rest x p = refl
 elements-short : (bs : List Body) (n : Bytes) (k : ℕ) (rest : Forest) (x : Bytes) → class_at (elements n k bs rest) (x ∷ []) ≡ class_at rest (x ∷ [])
 elements-short [] n k rest x = refl
 elements-short (b ∷ bs) n k rest x =
-    class_at-element n k b (elements n (suc k) bs rest) x [] ∙ step (bytes_eq n x) ∙ elements-short bs n (suc k) rest x
-  where
-    step : (t : Bool) → option_map_or (object_in b) (cond t None None) (class_at (elements n (suc k) bs rest) (x ∷ [])) ≡ class_at (elements n (suc k) bs rest) (x ∷ [])
-    step true = refl
-    step false = refl
+    class_at-element n k b (elements n (suc k) bs rest) x []
+    ∙ cond_both (bytes_eq n x) None None (λ o. option_map_or (object_in b) o (class_at (elements n (suc k) bs rest) (x ∷ [])) ≡ class_at (elements n (suc k) bs rest) (x ∷ [])) (λ _. refl) (λ _. refl)
+    ∙ elements-short bs n (suc k) rest x
 
 elements-other : (bs : List Body) (n : Bytes) (k : ℕ) (rest : Forest) (x : Bytes) (p : Tokens) → bytes_eq n x ≡ false → class_at (elements n k bs rest) (x ∷ p) ≡ class_at rest (x ∷ p)
 elements-other [] n k rest x p h = refl

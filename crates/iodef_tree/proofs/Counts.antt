@@ -1,6 +1,7 @@
 -- How many lines the parts of a tree have.
 use Rattle.std.proofs.Common.{◌≡◌, ℕ, suc, ◌+◌, List, [], ◌∷◌, length, sum_by, refl, ap, arith, Option, Some, None, length-append}
 use Rattle.std.proofs.lemmas.List.Sums.{sum_by-cons}
+use Rattle.std.proofs.lemmas.Grind.{common_steps}
 use Rattle.iodef_tree.specs.Text.{Bytes}
 use Rattle.iodef_tree.specs.Tree.{Forest, end, leaf, branch, Body, holds, says, Bodies, one, many, in_front, elements, member_front, lines}
 use Rattle.iodef_tree.specs.FitValues.{line_count, body_count, bodies_count}
@@ -29,3 +30,6 @@ length-lines (branch name place kids rest) d =
     let r = length-lines rest d in
     let both = length-append (lines (suc d) kids) (lines d rest) in
     omega (arith, k, r, both)
+
+-- for the walk that counts against a limit
+pub ruleset counting = (common_steps, line_count-member_front)

@@ -1,5 +1,5 @@
 -- A tree as data, member by member.
-use Rattle.std.proofs.Common.{◌≡◌, ℕ, suc, ◌+◌, ◌<◌, true, List, [], ◌∷◌, map, length, drop, drop-cons, get_or, refl, sym, ◌∙◌, ap, subst, arith, true≢false, Greater, String, Global, string_bytes, string_cmp, Option, Some, None, ◌==◌, bytes_eq}
+use Rattle.std.proofs.Common.{◌≡◌, ℕ, suc, ◌+◌, ◌<◌, Bool, true, false, List, [], ◌∷◌, map, length, drop, drop-cons, get_or, refl, sym, ◌∙◌, ap, subst, arith, true≢false, Greater, String, Global, string_bytes, string_cmp, Option, Some, None, is_some, ◌==◌, bytes_eq}
 use Rattle.std.specs.List.{AllByRecursion}
 use Rattle.std.specs.Ordering.{nat_cmp, match_ordering, ordering_reverse}
 use Rattle.std.specs.Cmp.Lexicographic.{slice_cmp}
@@ -66,22 +66,24 @@ front-ordered : (o : Option SiblingPlace) (n : Bytes) (p : Option ℕ) (b : Body
 front-ordered o n p (holds f) rest h = (h.1, h.2)
 front-ordered o n p (says c) rest h = (tt, h.1)
 
-record Inside (bs : List Body) (rest : Forest) : Type 0 where
-  pub each : AllByRecursion IsBodyOrdered bs
-  pub before : Option SiblingPlace
-  pub behind : IsOrderedBehind before rest
+-- What holds of members, one in front of the other, holds inside each: where it holds inside the one in front, and of those
+-- behind it.
+module _ (R : Option SiblingPlace → Forest → Type 0) (B : Bool → Body → Type 0)
+    (front : (o : Option SiblingPlace) (n : Bytes) (p : Option ℕ) (b : Body) (rest : Forest) → R o (in_front n p b rest) → B (is_some p) b × R (Some (n, p)) rest) where
+  elements-each : (o : Option SiblingPlace) (n : Bytes) (k : ℕ) (bs : List Body) (rest : Forest) → R o (elements n k bs rest) → AllByRecursion (B true) bs × ((s : Option SiblingPlace) × R s rest)
+  elements-each o n k [] rest h = (tt, (o, h))
+  elements-each o n k (b ∷ bs) rest h =
+      let parts = front o n (Some k) b (elements n (suc k) bs rest) h in
+      let more = elements-each (Some (n, Some k)) n (suc k) bs rest parts.1 in
+      ((parts.0, more.0), more.1)
 
-elements-ordered : (o : Option SiblingPlace) (n : Bytes) (k : ℕ) (bs : List Body) (rest : Forest) → IsOrderedBehind o (elements n k bs rest) → Inside bs rest
-elements-ordered o n k [] rest h = record { each = tt; before = o; behind = h }
-elements-ordered o n k (b ∷ bs) rest h =
-    let parts = front-ordered o n (Some k) b (elements n (suc k) bs rest) h in
-    let more = elements-ordered (Some (n, Some k)) n (suc k) bs rest parts.1 in
-    record { each = (parts.0, more.each); before = more.before; behind = more.behind }
-
-members-ordered : (ms : List (Bytes × Bodies)) (o : Option SiblingPlace) → IsOrderedBehind o (forest_of_members ms) → AllByRecursion (λ m. AreBodiesOrdered m.1) ms
-members-ordered [] o h = tt
-members-ordered ((n, one b) ∷ ms) o h = let parts = front-ordered o n None b (forest_of_members ms) h in (parts.0, members-ordered ms (Some (n, None)) parts.1)
-members-ordered ((n, many bs) ∷ ms) o h = let parts = elements-ordered o n 0 bs (forest_of_members ms) h in (parts.each, members-ordered ms parts.before parts.behind)
+  pub members-each : (C : Bodies → Type 0) → ((b : Body) → B false b → C (one b)) → ((bs : List Body) → AllByRecursion (B true) bs → C (many bs)) →
+      (ms : List (Bytes × Bodies)) (o : Option SiblingPlace) → R o (forest_of_members ms) → AllByRecursion (λ m. C m.1) ms
+  members-each C of_one of_many [] o h = tt
+  members-each C of_one of_many ((n, one b) ∷ ms) o h =
+      let parts = front o n None b (forest_of_members ms) h in (of_one b parts.0, members-each C of_one of_many ms (Some (n, None)) parts.1)
+  members-each C of_one of_many ((n, many bs) ∷ ms) o h =
+      let parts = elements-each o n 0 bs (forest_of_members ms) h in (of_many bs parts.0, members-each C of_one of_many ms parts.1.0 parts.1.1)
 
 -- ---- names that ascend
 
@@ -92,14 +94,6 @@ AreAfter n (json.member l d ms) = (bytes_lt n l ≡ true) × AreAfter n ms
 abbrev pub Ascend : json.Members → Type 0
 Ascend json.no_members = Unit {0}
 Ascend (json.member l d ms) = AreAfter l ms × Ascend ms
-
-abbrev AreBefore : json.Members → Bytes → Type 0
-AreBefore json.no_members n = Unit {0}
-AreBefore (json.member l d ms) n = (bytes_lt l n ≡ true) × AreBefore ms n
-
-abbrev AreBelow : json.Members → json.Members → Type 0
-AreBelow found json.no_members = Unit {0}
-AreBelow found (json.member n d ms) = AreBefore found n × AreBelow found ms
 
 abbrev joined : json.Members → json.Members → json.Members
 joined json.no_members others = others
@@ -134,40 +128,33 @@ ascend (branch name p kids rest) o h = placed-ascend name p (json.object (member
 greater : (l n : Bytes) → bytes_lt l n ≡ true → slice_cmp nat_cmp n l ≡ Greater
 greater l n h = nat_list_cmp_total.antisymm n l ∙ ap ordering_reverse (bytes_lt-less l n h)
 
-put-last : (found : json.Members) (n : Bytes) (d : Data) → AreBefore found n → put n d found ≡ joined found (json.member n d json.no_members)
-put-last json.no_members n d h = refl
-put-last (json.member l e ms) n d h =
-    ap (λ o. match_ordering o (json.member n d (json.member l e ms)) (json.member l d ms) (json.member l e (put n d ms))) (greater l n h.0)
-    ∙ ap (json.member l e) (put-last ms n d h.1)
+-- one name is behind another, in whatever comes behind it
+after-joined : (l : Bytes) (found : json.Members) (n : Bytes) (d : Data) (ms : json.Members) → AreAfter l (joined found (json.member n d ms)) → bytes_lt l n ≡ true
+after-joined l json.no_members n d ms h = h.0
+after-joined l (json.member k e found) n d ms h = after-joined l found n d ms h.1
+
+put-last : (found : json.Members) (n : Bytes) (d : Data) (ms : json.Members) → Ascend (joined found (json.member n d ms)) → put n d found ≡ joined found (json.member n d json.no_members)
+put-last json.no_members n d ms h = refl
+put-last (json.member l e found) n d ms h =
+    ap (λ o. match_ordering o (json.member n d (json.member l e found)) (json.member l d found) (json.member l e (put n d found))) (greater l n (after-joined l found n d ms h.0))
+    ∙ ap (json.member l e) (put-last found n d ms h.1)
 
 joined-one : (found : json.Members) (n : Bytes) (d : Data) (ms : json.Members) → joined (joined found (json.member n d json.no_members)) ms ≡ joined found (json.member n d ms)
 joined-one json.no_members n d ms = refl
 joined-one (json.member l e more) n d ms = ap (json.member l e) (joined-one more n d ms)
 
-before-one : (found : json.Members) (n m : Bytes) (d : Data) → AreBefore found m → bytes_lt n m ≡ true → AreBefore (joined found (json.member n d json.no_members)) m
-before-one json.no_members n m d h k = (k, tt)
-before-one (json.member l e ms) n m d h k = (h.0, before-one ms n m d h.1 k)
-
-below-one : (found : json.Members) (n : Bytes) (d : Data) (ms : json.Members) → AreBelow found ms → AreAfter n ms → AreBelow (joined found (json.member n d json.no_members)) ms
-below-one found n d json.no_members h k = tt
-below-one found n d (json.member m e ms) h k = (before-one found n m d h.0 k.0, below-one found n d ms h.1 k.1)
-
-put-joined : (ms found : json.Members) → Ascend ms → AreBelow found ms → put_all ms found ≡ joined found ms
-put-joined json.no_members found h k = sym (joined-none found)
+put-joined : (ms found : json.Members) → Ascend (joined found ms) → put_all ms found ≡ joined found ms
+put-joined json.no_members found h = sym (joined-none found)
   where
     joined-none : (xs : json.Members) → joined xs json.no_members ≡ xs
     joined-none json.no_members = refl
     joined-none (json.member l e xs) = ap (json.member l e) (joined-none xs)
-put-joined (json.member n d ms) found h k =
+put-joined (json.member n d ms) found h =
     let more = joined found (json.member n d json.no_members) in
-    ap (put_all ms) (put-last found n d k.0) ∙ put-joined ms more h.1 (below-one found n d ms k.1 h.0) ∙ joined-one found n d ms
-
-none-below : (ms : json.Members) → AreBelow json.no_members ms
-none-below json.no_members = tt
-none-below (json.member n d ms) = (tt, none-below ms)
+    ap (put_all ms) (put-last found n d ms h) ∙ put-joined ms more (subst Ascend (sym (joined-one found n d ms)) h) ∙ joined-one found n d ms
 
 pub put-ascending : (ms : json.Members) → Ascend ms → put_all ms json.no_members ≡ ms
-put-ascending ms h = put-joined ms json.no_members h (none-below ms)
+put-ascending ms h = put-joined ms json.no_members h
 
 put-ordered : (f : Forest) → IsOrdered f → put_all (members_of f) json.no_members ≡ members_of f
 put-ordered f h = put-ascending (members_of f) (ascend f None h)
@@ -202,4 +189,5 @@ put-started o xs es h is none =
     ∙ put-ordered (forest o) h
 
 pub object-ordered : (o : Object) (xs : List (Text × Member)) → IsOrdered (forest o) → xs ≡ o.members.items → AllByRecursion (λ m. AreBodiesOrdered m.1) (map named xs)
-object-ordered o xs h is = members-ordered (map named xs) None (subst IsOrdered (forest-members o ∙ ap members_forest (sym is)) h)
+object-ordered o xs h is =
+    members-each IsOrderedBehind (λ a b. IsBodyOrdered b) front-ordered AreBodiesOrdered (λ b k. k) (λ bs k. k) (map named xs) None (subst IsOrdered (forest-members o ∙ ap members_forest (sym is)) h)

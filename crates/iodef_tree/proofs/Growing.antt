@@ -13,7 +13,7 @@ use Rattle.iodef_tree.specs.declared.text.Text.{Text}
 use Rattle.iodef_tree.specs.declared.object.Item.{Item}
 use Rattle.iodef_tree.specs.declared.object.Member.{Member}
 use Rattle.iodef_tree.specs.declared.object.Member.TheVariants.{One, Many}
-use Rattle.iodef_tree.proofs.Filled.{filled-One, many-filled, many-kept}
+use Rattle.iodef_tree.proofs.Filled.{filled-One, has_some-map, many-filled, many-kept}
 use Rattle.iodef_tree.proofs.Siblings.{all-append, all-split}
 use Rattle.iodef_tree.proofs.Views.{bodies-One, bodies-Many}
 use Rattle.iodef_tree.proofs.Order.{bytes_eq-refl}
@@ -72,16 +72,6 @@ lines-front : (d : ℕ) (n : Bytes) (j k : ℕ) (b : Body) → lines d (in_front
 lines-front d n j k (holds kids) = refl
 lines-front d n j k (says c) = refl
 
--- the last of members that are filled
-last-filled : (P : List (Text × Member)) (m : Text × Member) → IsGrown (P ++ m ∷ []) → IsMemberFilled m.1
-last-filled P m h = (all-split (λ x. IsMemberFilled x.1) P m h.filled).1
-
-others-filled : (P : List (Text × Member)) (m : Text × Member) → IsGrown (P ++ m ∷ []) → AllByRecursion (λ x. IsMemberFilled x.1) P
-others-filled P m h = (all-split (λ x. IsMemberFilled x.1) P m h.filled).0
-
-all-push : (P : List (Text × Member)) (m : Text × Member) → AllByRecursion (λ x. IsMemberFilled x.1) P → IsMemberFilled m.1 → AllByRecursion (λ x. IsMemberFilled x.1) (P ++ m ∷ [])
-all-push P m all h = all-append (λ x. IsMemberFilled x.1) P (m ∷ []) all (h, tt)
-
 -- ---- one thing more at the end
 
 -- whatever is put behind the members
@@ -102,7 +92,7 @@ grows-one old n i h k full =
     grows old (old ++ (n, One i) ∷ []) n None false (body i)
     (members-push old (n, One i) ∙ ap (λ m. append (members_forest old) (member_front n m end)) (bodies-One i))
     (λ d. refl) h k refl
-    (all-push old (n, One i) h.filled (filled-One i ∙ full))
+    (all-append (λ x. IsMemberFilled x.1) old ((n, One i) ∷ []) h.filled (filled-One i ∙ full, tt))
 
 -- an array of one element
 pub grows-array : (old : List (Text × Member)) (n : Text) (i : Item) (v : Vec Item Global) → v.items ≡ i ∷ [] → IsGrown old → IsBodyNumbered (body i) → IsItemFilled i →
@@ -112,7 +102,7 @@ grows-array old n i v is h k full fits =
     grows old (old ++ (n, Many v) ∷ []) n (Some 0) true (body i)
     (members-push old (n, Many v) ∙ ap (λ m. append (members_forest old) (member_front n m end)) held)
     (λ d. refl) h k fits
-    (all-push old (n, Many v) h.filled (many-filled v (ap has_some is) (subst (AllByRecursion IsItemFilled) (sym is) (full, tt))))
+    (all-append (λ x. IsMemberFilled x.1) old ((n, Many v) ∷ []) h.filled (many-filled v (ap has_some is) (subst (AllByRecursion IsItemFilled) (sym is) (full, tt)), tt))
 
 -- what the last member is
 last-push : (P : List (Text × Member)) (m : Text × Member) →
@@ -134,16 +124,12 @@ last-array : (o : Option SiblingPlace) (n : Bytes) (bs : List Body) → has_some
 last-array o n [] h = absurd (true≢false (sym h))
 last-array o n (b ∷ bs) h = last-elements o n 0 b bs ∙ ap (λ j. Some (n, Some j)) (omega arith)
 
-some-bodies : (xs : List Item) → has_some xs ≡ true → has_some (map body xs) ≡ true
-some-bodies [] h = h
-some-bodies (x ∷ xs) h = refl
-
 last-many : (P : List (Text × Member)) (n : Text) (v : Vec Item Global) → IsGrown (P ++ (n, Many v) ∷ []) →
     last_place None (members_forest (P ++ (n, Many v) ∷ [])) ≡ Some (n, Some (length (map body v.items) - 1))
 last-many P n v h =
     last-push P (n, Many v)
     ∙ ap (λ m. last_place (last_place None (members_forest P)) (member_front n m end)) (bodies-Many v)
-    ∙ last-array (last_place None (members_forest P)) n (map body v.items) (some-bodies v.items (many-kept v (last-filled P (n, Many v) h)).0)
+    ∙ last-array (last_place None (members_forest P)) n (map body v.items) (has_some-map body v.items ∙ (many-kept v (all-split (λ x. IsMemberFilled x.1) P (n, Many v) h.filled).1).0)
 
 -- an array may begin behind one of another name
 pub first-behind_many : (P : List (Text × Member)) (n : Text) (v : Vec Item Global) (name : Bytes) → IsGrown (P ++ (n, Many v) ∷ []) → bytes_eq n name ≡ false →
@@ -169,8 +155,9 @@ grows-element P n i v w is h k inside =
     let b = body i in
     let F = members_forest P in
     let k' = length bs in
-    let kept = many-kept v (last-filled P (n, Many v) h) in
-    let full : has_some bs ≡ true = some-bodies v.items kept.0 in
+    let all = all-split (λ x. IsMemberFilled x.1) P (n, Many v) h.filled in
+    let kept = many-kept v all.1 in
+    let full : has_some bs ≡ true = has_some-map body v.items ∙ kept.0 in
     let held : bodies (Many w) ≡ many (bs ++ b ∷ []) = bodies-Many w ∙ ap (λ xs. many (map body xs)) is ∙ ap many (map-append body v.items (i ∷ [])) in
     grows (P ++ (n, Many v) ∷ []) (P ++ (n, Many w) ∷ []) n (Some k') true b
     (members-push P (n, Many w)
@@ -181,5 +168,5 @@ grows-element P n i v w is h k inside =
     ∙ ap (λ f. append f (in_front n (Some k') b end)) (sym (members-push P (n, Many v))))
     (λ d. lines-front d n k' 0 b) h k
     (ap (λ o. is_numbered o n (Some k')) (last-many P n v h) ∙ next-fits n (k' - 1) k' (filled-length bs full))
-    (all-push P (n, Many w) (others-filled P (n, Many v) h)
-    (many-filled w (ap has_some is ∙ some-push v.items i) (subst (AllByRecursion IsItemFilled) (sym is) (all-append IsItemFilled v.items (i ∷ []) kept.1 (inside, tt)))))
+    (all-append (λ x. IsMemberFilled x.1) P ((n, Many w) ∷ []) all.0
+    (many-filled w (ap has_some is ∙ some-push v.items i) (subst (AllByRecursion IsItemFilled) (sym is) (all-append IsItemFilled v.items (i ∷ []) kept.1 (inside, tt))), tt))

@@ -13,7 +13,8 @@ use Rattle.iodef_tree.specs.Tree.{lines}
 use Rattle.iodef_tree.specs.declared.fault.Required.{Required}
 use Rattle.iodef_tree.specs.declared.fault.Required.TheVariants as required
 use Rattle.iodef_tree.specs.declared.line.Line.{Line}
-use Rattle.iodef_tree.proofs.Passed.{bind-ok, passed}
+use Rattle.iodef_tree.proofs.Fitness.{bind-ok}
+use Rattle.iodef_tree.proofs.Passed.{passed}
 use Rattle.iodef_tree.proofs.ReadBack.{IsRoot, HasLines, means, each-document}
 
 abbrev id_name : Bytes

@@ -12,6 +12,8 @@ mod Writing
 mod Data
 mod Each
 mod Passed
+mod Proven
+mod Computed
 pub mod NoFloat
 pub mod Meaning
 pub mod Order

@@ -1,10 +1,8 @@
 -- The text of a tree is that of the JSON object which its lines mean.
-use Rattle.std.proofs.Common.{◌≡◌, ℕ, zero, suc, ◌<◌, Bool, true, false, ◌&&◌, List, [], ◌∷◌, ◌++◌, refl, sym, ◌∙◌, ap, append_assoc, append-nil, arith, if◌then◌else◌, ◌==◌, true≢false, Ordering, Less, Option, Some, None, is_some, unwrap_or, nat_cmp, is_lt, is_eq, bytes_eq}
+use Rattle.std.proofs.Common.{◌≡◌, ℕ, zero, suc, ◌<◌, Bool, true, false, ◌&&◌, List, [], ◌∷◌, ◌++◌, refl, sym, ◌∙◌, ap, append_assoc, append-nil, arith, if◌then◌else◌, ◌==◌, true≢false, Option, Some, None, is_some, unwrap_or, bytes_eq}
 use Rattle.std.specs.Option.{option_map_or}
-use Rattle.std.specs.Cmp.Lexicographic.{slice_cmp}
 use Rattle.std.proofs.lemmas.Bool.{cond-true, cond-false, and_parts, and_right}
 use Rattle.std.proofs.lemmas.Slice.Eq.{bytes_eq-Decides}
-use Rattle.std.proofs.lemmas.Map.Text.{is_eq-slice_cmp}
 use Rattle.json.specs.Print.{quoted}
 use Rattle.serde_json.specs.Data as json
 use Rattle.serde_json.specs.Data.{Data}
@@ -19,7 +17,9 @@ use Rattle.iodef_tree.specs.Json.{continues, datum, members_from, items_from, da
 use Rattle.iodef_tree.specs.Written.{content_text, front_text, is_later_place, goes_on, close_text, written, content_data, placed_member, placed_item, members_of, items_of}
 use Rattle.iodef_tree.specs.declared.line.Line.{Line}
 use Rattle.iodef_tree.specs.declared.shape.Sibling.{Sibling}
+use Rattle.iodef_tree.proofs.Order.{bytes_lt-ne}
 use Rattle.iodef_tree.proofs.Sounds.{as_sibling}
+use Rattle.iodef_tree.proofs.Writing.{named-front}
 use Rattle.iodef_tree.proofs.Outlines.{above-line, at-line, past-line}
 
 -- ---- the text of the value that a tree is
@@ -56,9 +56,6 @@ record Means (w : Bool → Bytes) (goes : Bool) (close : Bytes) (ds : json.Items
 inner : (a t c w e : Bytes) → (a ++ (t ++ (c ++ w))) ++ e ≡ a ++ (t ++ (c ++ (w ++ e)))
 inner a t c w e =
     append_assoc a (t ++ (c ++ w)) e ∙ ap (λ x. a ++ x) (append_assoc t (c ++ w) e ∙ ap (λ x. t ++ x) (append_assoc c w e))
-
-named-front : (later : Bool) (n s t : Bytes) → (comma_if later ++ (quoted n ++ 58 ∷ s)) ++ t ≡ comma_if later ++ (quoted n ++ 58 ∷ (s ++ t))
-named-front later n s t = append_assoc (comma_if later) (quoted n ++ 58 ∷ s) t ∙ ap (λ x. comma_if later ++ x) (append_assoc (quoted n) (58 ∷ s) t)
 
 abbrev closing : Bool → Bytes
 closing goes = if goes then [] else 93 ∷ []
@@ -107,20 +104,13 @@ means (branch n p kids rest) o h k =
 
 -- ---- the value that the lines mean
 
-lt-ne : (o : Ordering) → is_lt o ≡ true → is_eq o ≡ false
-lt-ne Less h = refl
-lt-ne _ h = absurd (true≢false (sym h))
-
-other-name : (x y : Bytes) → bytes_lt x y ≡ true → bytes_eq x y ≡ false
-other-name x y h = sym (is_eq-slice_cmp x y) ∙ lt-ne (slice_cmp nat_cmp x y) h
-
 -- a line goes on with its sibling's array where its place is a later one
 continues-is : (o : Option SiblingPlace) (l : Line) (p : Option ℕ) → l.in_array ≡ is_some p → may_stand o l.name p ≡ true → continues (as_sibling o) l ≡ is_later_place p
 continues-is None l None a h = refl
 continues-is None l (Some zero) a h = refl
 continues-is None l (Some (suc k)) a h = absurd (true≢false (sym h))
 continues-is (Some (n, q)) l None a h = ap (λ b. bytes_eq n l.name && (is_some q && b)) a ∙ and_right (bytes_eq n l.name) _ (and_right (is_some q) false refl)
-continues-is (Some (n, q)) l (Some zero) a h = ap (λ b. b && (is_some q && l.in_array)) (other-name n l.name (first-stands q h))
+continues-is (Some (n, q)) l (Some zero) a h = ap (λ b. b && (is_some q && l.in_array)) (bytes_lt-ne n l.name (first-stands q h))
   where
     first-stands : (r : Option ℕ) → may_stand (Some (n, r)) l.name (Some zero) ≡ true → bytes_lt n l.name ≡ true
     first-stands None k = k

@@ -1,5 +1,5 @@
 -- The member of a name, and the IncidentID.
-use Rattle.std.proofs.Common.{◌≡◌, ℕ, suc, ◌+◌, ◌<◌, Bool, true, false, if◌then◌else◌, List, [], ◌∷◌, map, length, drop, get_or, refl, sym, ◌∙◌, ap, subst, true≢false, Ordering, Less, is_eq, Option, Some, None, is_some, option_map, option_and_then, codes, bytes_eq}
+use Rattle.std.proofs.Common.{◌≡◌, ℕ, ◌+◌, ◌<◌, Bool, true, false, if◌then◌else◌, List, [], ◌∷◌, map, length, drop, get_or, refl, sym, ◌∙◌, ap, subst, true≢false, Ordering, Less, is_eq, Option, Some, None, is_some, option_map, option_and_then, codes, bytes_eq}
 use Rattle.std.specs.List.{AllByRecursion}
 use Rattle.std.specs.Ordering.{nat_cmp, match_ordering}
 use Rattle.std.specs.Cmp.Lexicographic.{slice_cmp}
@@ -14,14 +14,14 @@ use Rattle.iodef_tree.specs.SoundParts.{IsKept, IsBodyKept, AreKept}
 use Rattle.iodef_tree.specs.Sound.{SiblingPlace, IsOrderedBehind, IsSound}
 use Rattle.iodef_tree.specs.Text.{Bytes}
 use Rattle.iodef_tree.specs.Texts.{HasTexts}
-use Rattle.iodef_tree.specs.Tree.{Forest, Body, holds, says, Bodies, one, many, in_front, elements, lines}
-use Rattle.iodef_tree.specs.View.{forest, bodies, named, forest_of_members, members_forest}
+use Rattle.iodef_tree.specs.Tree.{Forest, Body, holds, says, Bodies, one, many, in_front, lines}
+use Rattle.iodef_tree.specs.View.{forest, bodies, named, members_forest}
 use Rattle.iodef_tree.specs.Written.{members_of, bodies_data}
 use Rattle.iodef_tree.specs.declared.line.Line.{Line}
 use Rattle.iodef_tree.specs.declared.text.Text.{Text}
 use Rattle.iodef_tree.specs.declared.object.Member.{Member}
 use Rattle.iodef_tree.specs.declared.object.Object.{Object}
-use Rattle.iodef_tree.proofs.Data.{no-items, member-data}
+use Rattle.iodef_tree.proofs.Data.{members-each, no-items, member-data}
 use Rattle.iodef_tree.proofs.Filled.{has_elements}
 use Rattle.iodef_tree.proofs.Meaning.{data-is}
 use Rattle.iodef_tree.proofs.Members.{members-next}
@@ -41,50 +41,26 @@ same x k false h = is_false (bytes_eq k x) (λ e. true≢false (sym (bytes_eq-re
 get-first : (k n : Bytes) (b : Bool) (d : Data) (ms : json.Members) → bytes_eq n k ≡ b → get_member k (json.member n d ms) ≡ (if b then Some d else get_member k ms)
 get-first k n b d ms h = chosen (slice_cmp nat_cmp k n) b (get_member k ms) d (is_eq-slice_cmp k n ∙ same n k b h)
 
-pub member-found : (k : Bytes) (xs : List (Text × Member)) (i : ℕ) (m : Text × Member) → i < length xs → m ≡ get_or xs i m → bytes_eq m.0 k ≡ true → has_elements (bodies m.1) ≡ true →
-    Some (bodies_data (bodies m.1)) ≡ get_member k (members_of (members_forest (drop i xs)))
-member-found k xs i m h e is filled =
+-- the first of these members has the name, or it is one of the others
+pub member-next : (k : Bytes) (xs : List (Text × Member)) (i : ℕ) (m : Text × Member) (b : Bool) → i < length xs → m ≡ get_or xs i m → bytes_eq m.0 k ≡ b → has_elements (bodies m.1) ≡ true →
+    get_member k (members_of (members_forest (drop i xs))) ≡ (if b then Some (bodies_data (bodies m.1)) else get_member k (members_of (members_forest (drop (i + 1) xs))))
+member-next k xs i m b h e is filled =
     let rest = members_forest (drop (i + 1) xs) in
-    sym (ap (get_member k) (ap members_of (members-next xs i m h e) ∙ member-data m.0 (bodies m.1) rest (no-items (map named (drop (i + 1) xs))) filled)
-    ∙ get-first k m.0 true (bodies_data (bodies m.1)) (members_of rest) is)
-
-pub member-other : (k : Bytes) (xs : List (Text × Member)) (i : ℕ) (m : Text × Member) → i < length xs → m ≡ get_or xs i m → bytes_eq m.0 k ≡ false → has_elements (bodies m.1) ≡ true →
-    get_member k (members_of (members_forest (drop (i + 1) xs))) ≡ get_member k (members_of (members_forest (drop i xs)))
-member-other k xs i m h e other filled =
-    let rest = members_forest (drop (i + 1) xs) in
-    sym (ap (get_member k) (ap members_of (members-next xs i m h e) ∙ member-data m.0 (bodies m.1) rest (no-items (map named (drop (i + 1) xs))) filled)
-    ∙ get-first k m.0 false (bodies_data (bodies m.1)) (members_of rest) other)
+    ap (get_member k) (ap members_of (members-next xs i m h e) ∙ member-data m.0 (bodies m.1) rest (no-items (map named (drop (i + 1) xs))) filled)
+    ∙ get-first k m.0 b (bodies_data (bodies m.1)) (members_of rest) is
 
 -- ---- what is kept in each member
 
-front-kept : (o : Option SiblingPlace) (n : Bytes) (p : Option ℕ) (b : Body) (rest : Forest) → IsOrderedBehind o (in_front n p b rest) → HasTexts (in_front n p b rest) →
-    IsBodyKept (is_some p) b × IsOrderedBehind (Some (n, p)) rest × HasTexts rest
-front-kept o n p (holds f) rest h k = (record { ordered = h.1; texts = k.0 }, h.2, k.1)
-front-kept o n p (says c) rest h k = (k.0, h.1, k.1)
-
-record Kept (bs : List Body) (rest : Forest) : Type 0 where
-  pub each : AllByRecursion (IsBodyKept true) bs
-  pub before : Option SiblingPlace
-  pub behind : IsOrderedBehind before rest
-  pub texts : HasTexts rest
-
-elements-kept : (o : Option SiblingPlace) (n : Bytes) (k : ℕ) (bs : List Body) (rest : Forest) → IsOrderedBehind o (elements n k bs rest) → HasTexts (elements n k bs rest) → Kept bs rest
-elements-kept o n k [] rest h t = record { each = tt; before = o; behind = h; texts = t }
-elements-kept o n k (b ∷ bs) rest h t =
-    let parts = front-kept o n (Some k) b (elements n (suc k) bs rest) h t in
-    let more = elements-kept (Some (n, Some k)) n (suc k) bs rest parts.1 parts.2 in
-    record { each = (parts.0, more.each); before = more.before; behind = more.behind; texts = more.texts }
-
-members-kept : (ms : List (Bytes × Bodies)) (o : Option SiblingPlace) → IsOrderedBehind o (forest_of_members ms) → HasTexts (forest_of_members ms) → AllByRecursion (λ m. AreKept m.1) ms
-members-kept [] o h t = tt
-members-kept ((n, one b) ∷ ms) o h t = let parts = front-kept o n None b (forest_of_members ms) h t in (parts.0, members-kept ms (Some (n, None)) parts.1 parts.2)
-members-kept ((n, many bs) ∷ ms) o h t = let parts = elements-kept o n 0 bs (forest_of_members ms) h t in (parts.each, members-kept ms parts.before parts.behind parts.texts)
+front-kept : (o : Option SiblingPlace) (n : Bytes) (p : Option ℕ) (b : Body) (rest : Forest) → IsOrderedBehind o (in_front n p b rest) × HasTexts (in_front n p b rest) →
+    IsBodyKept (is_some p) b × (IsOrderedBehind (Some (n, p)) rest × HasTexts rest)
+front-kept o n p (holds f) rest h = (record { ordered = h.0.1; texts = h.1.0 }, (h.0.2, h.1.1))
+front-kept o n p (says c) rest h = (h.1.0, (h.0.1, h.1.1))
 
 pub object-members : (o : Object) (xs : List (Text × Member)) → xs ≡ o.members.items → members_forest xs ≡ forest o
 object-members o xs is = ap members_forest is ∙ sym (forest-members o)
 
 pub kept-members : (o : Object) (xs : List (Text × Member)) → IsKept (forest o) → xs ≡ o.members.items → AllByRecursion (λ m. AreKept m.1) (map named xs)
-kept-members o xs k is = let inside : IsKept (members_forest xs) = subst IsKept (sym (object-members o xs is)) k in members-kept (map named xs) None inside.ordered inside.texts
+kept-members o xs k is = let inside : IsKept (members_forest xs) = subst IsKept (sym (object-members o xs is)) k in members-each (λ s f. IsOrderedBehind s f × HasTexts f) IsBodyKept front-kept AreKept (λ b h. h) (λ bs h. h) (map named xs) None (inside.ordered, inside.texts)
 
 body-ordered : (a : Bool) (b : Body) → IsBodyKept a b → IsBodyOrdered b
 body-ordered a (holds f) k = k.ordered

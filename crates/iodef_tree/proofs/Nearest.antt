@@ -2,7 +2,7 @@
 use Rattle.std.proofs.Common.{◌≡◌, ℕ, suc, List, [], ◌∷◌, ◌++◌, Bool, true, false, cond, ◌&&◌, ◌||◌, refl, sym, ◌∙◌, ap, subst, append-nil, true≢false, ◌⊎◌, inl, inr, decimal, Option, Some, None, is_some, bytes_eq}
 use Rattle.std.specs.Option.{option_map_or}
 use Rattle.std.specs.List.{AllByRecursion}
-use Rattle.std.proofs.lemmas.Bool.{and_parts, and_right, cond-false, or_left, or_right}
+use Rattle.std.proofs.lemmas.Bool.{and_parts, and_right, cond-false, cond_both, or_left, or_right}
 use Rattle.std.proofs.lemmas.List.Folds.{list_any-append}
 use Rattle.iodef_tree.specs.Text.{Bytes, Tokens, same_path, is_root, is_prefix, is_under}
 use Rattle.iodef_tree.specs.Tree.{Forest, end, leaf, branch, steps, lines}
@@ -80,11 +80,7 @@ all-differ (branch m p kids rest) apart = (
 
 past-bare : (n' : Bytes) (o' : Option ℕ) (n : Bytes) → (o' ≡ None → bytes_eq n' n ≡ false) → past (steps n' o') (n ∷ []) ≡ None
 past-bare n' None n h = cond-false (bytes_eq n' n) _ _ (h refl)
-past-bare n' (Some k) n h = either (bytes_eq n' n)
-  where
-    either : (b : Bool) → cond b (past (decimal k ∷ []) []) None ≡ None
-    either true = refl
-    either false = refl
+past-bare n' (Some k) n h = cond_both (bytes_eq n' n) (past (decimal k ∷ []) []) None (λ o. o ≡ None) (λ _. refl) (λ _. refl)
 
 none-bare : (f : Forest) (n : Bytes) (o : Option ℕ) → is_some o ≡ true → AllSiblings (Differs n o) f → class_at f (n ∷ []) ≡ None
 none-bare end n o some h = refl

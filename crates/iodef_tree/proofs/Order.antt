@@ -2,17 +2,13 @@
 use Rattle.std.proofs.Common.{◌≡◌, ℕ, ◌^◌, ◌<◌, [], ◌∷◌, ◌++◌, Bool, true, false, ◌&&◌, decimal, refl, sym, ◌∙◌, ap, append-nil, Ordering, Less, is_eq, true≢false, arith, Option, Some, None, bytes_eq, nat_cmp, is_lt}
 use Rattle.std.specs.Cmp.Lexicographic.{slice_cmp}
 use Rattle.std.proofs.lemmas.Bool.{and_parts, false≢true}
+pub use Rattle.std.proofs.lemmas.Bool.{false_from_ne_true as is_false}
 use Rattle.std.proofs.lemmas.Cmp.{nat_list_cmp_total}
 use Rattle.std.proofs.lemmas.Fmt.{decimal_injective}
 use Rattle.std.proofs.lemmas.Map.Text.{is_eq-slice_cmp}
 use Rattle.std.proofs.lemmas.Slice.Eq.{bytes_eq-Decides}
 use Rattle.iodef_tree.specs.Text.{Bytes, Tokens, bytes_lt, same_path, is_prefix, is_under}
 use Rattle.iodef_tree.specs.Tree.{steps}
-
--- a test that is not true
-pub is_false : (b : Bool) → (b ≡ true → ⊥) → b ≡ false
-is_false true h = absurd (h refl)
-is_false false h = refl
 
 -- ---- texts
 
@@ -105,16 +101,12 @@ is_under-weaker (a ∷ p) y (c ∷ x) h =
 
 -- a member stands below its parent, and all below it
 pub is_under-steps : (p : Tokens) (name : Bytes) (place : Option ℕ) (z : Tokens) → is_under p (p ++ (steps name place ++ z)) ≡ true
-is_under-steps p name place z = ap (λ r. is_under r (p ++ (steps name place ++ z))) (sym (append-nil p)) ∙ is_under-common p [] (steps name place ++ z) ∙ by_place place
-  where
-    by_place : (o : Option ℕ) → is_under [] (steps name o ++ z) ≡ true
-    by_place None = refl
-    by_place (Some k) = refl
+is_under-steps [] name None z = refl
+is_under-steps [] name (Some k) z = refl
+is_under-steps (x ∷ p) name place z = ap (λ b. b && is_under p (p ++ (steps name place ++ z))) (bytes_eq-refl x) ∙ is_under-steps p name place z
 
 -- it is not its parent
 pub same_path-longer : (p : Tokens) (name : Bytes) (place : Option ℕ) (z : Tokens) → same_path p (p ++ (steps name place ++ z)) ≡ false
-same_path-longer p name place z = ap (λ r. same_path r (p ++ (steps name place ++ z))) (sym (append-nil p)) ∙ same_path-common p [] (steps name place ++ z) ∙ by_place place
-  where
-    by_place : (o : Option ℕ) → same_path [] (steps name o ++ z) ≡ false
-    by_place None = refl
-    by_place (Some k) = refl
+same_path-longer [] name None z = refl
+same_path-longer [] name (Some k) z = refl
+same_path-longer (x ∷ p) name place z = ap (λ b. b && same_path p (p ++ (steps name place ++ z))) (bytes_eq-refl x) ∙ same_path-longer p name place z

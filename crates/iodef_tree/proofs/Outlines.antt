@@ -11,7 +11,7 @@ use Rattle.iodef_tree.specs.declared.TheConstants.{LINE_LIMIT}
 use Rattle.iodef_tree.specs.declared.line.Line.{Line}
 use Rattle.iodef_tree.specs.declared.shape.Shape.{Shape}
 use Rattle.std.proofs.Math.Bool.{and-true, and_assoc, and_comm}
-use Rattle.std.proofs.lemmas.Option.{slice_get_past}
+use Rattle.std.proofs.lemmas.Option.{cond_some, slice_get_past}
 
 -- ---- lists of lines, appended and turned round
 
@@ -168,13 +168,6 @@ counted-cons l ls = sum_by-cons (λ (x : Line). cond (not (is_label_line x)) 1 0
     by_test true n = refl
     by_test false n = omega arith
 
-short_if : (n m : ℕ) → if_short n ≡ Some m → (m ≡ n) × (nat_le n LINE_LIMIT ≡ true)
-short_if n m h = by_test (nat_le n LINE_LIMIT) h
-  where
-    by_test : (b : Bool) → (if b then Some n else None) ≡ Some m → (m ≡ n) × (b ≡ true)
-    by_test true e = let k : m ≡ n = cc in (k, refl)
-    by_test false e = cc
-
 short_else : (n : ℕ) → if_short n ≡ None → nat_le n LINE_LIMIT ≡ false
 short_else n h = by_test (nat_le n LINE_LIMIT) h
   where
@@ -193,7 +186,7 @@ pub fits_is : (s : Shape) (before : List Line) (l : Line) (n : ℕ) → Shows s 
 fits_is s before l n shows few =
     ap (λ e. fits_edge e s.deepest l) shows.edges
     ∙ ap (λ m. fits_edge (edge before) m l) shows.depth
-    ∙ sym (ap (λ b. b && fits_edge (edge before) (deepest before) l) (ap (λ m. nat_le m LINE_LIMIT) (counted-cons l before) ∙ (short_if (counted_with l (counted before)) n (sym (ap (λ m. if_short (counted_with l m)) shows.count) ∙ few)).1))
+    ∙ sym (ap (λ b. b && fits_edge (edge before) (deepest before) l) (ap (λ m. nat_le m LINE_LIMIT) (counted-cons l before) ∙ (cond_some (nat_le (counted_with l (counted before)) LINE_LIMIT) (counted_with l (counted before)) n (sym (ap (λ m. if_short (counted_with l m)) shows.count) ∙ few)).0))
     ∙ ap (λ b. is_short (l ∷ before) && b) (guarded (nat_lt 0 l.depth) (nat_le l.depth (deepest before)) _ _ (is_sound_line l) (λ a b.
     let positive = ltb-true 0 l.depth a in
     let reached = leb-true l.depth (deepest before) b in
@@ -208,6 +201,6 @@ shows_more s t before l shows fits edges depth count =
     record {
       edges = edges ∙ ap (λ e. take (l.depth - 1) e ++ sibling l ∷ []) shows.edges;
       depth = depth;
-      count = (short_if (counted_with l s.counted) t.counted count).0 ∙ ap (counted_with l) shows.count ∙ sym (counted-cons l before);
+      count = sym (cond_some (nat_le (counted_with l s.counted) LINE_LIMIT) (counted_with l s.counted) t.counted count).1 ∙ ap (counted_with l) shows.count ∙ sym (counted-cons l before);
       outline = ap (λ b. b && is_outline_back before) fits ∙ shows.outline;
     }

@@ -1,5 +1,6 @@
 -- The first of some values that passes a test, those of one value in front of the others.
 use Rattle.std.proofs.Common.{◌≡◌, List, [], ◌∷◌, ◌++◌, Bool, true, false, cond, ◌||◌, Some, None, refl}
+use Rattle.std.proofs.lemmas.Grind.{common_steps}
 use Rattle.iodef_tree.specs.FitValues.{any_at}
 use Rattle.iodef_tree.specs.Text.{Bytes, Tokens}
 use Rattle.iodef_tree.specs.Values.{Surrounded, Node, beneath, first_at}
@@ -27,3 +28,6 @@ any_at-beneath f t (n ∷ a) b = step (f n.seen) (any_at-beneath f t a b)
     step : (c : Bool) → any_at f (beneath t a ++ b) ≡ (any_at f a || any_at f b) → (c || any_at f (beneath t a ++ b)) ≡ ((c || any_at f a) || any_at f b)
     step true e = refl
     step false e = e
+
+-- for the walks over all values
+pub ruleset seeking = (common_steps, first_at-none, first_at-some, any_at-beneath)

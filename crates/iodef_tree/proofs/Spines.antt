@@ -1,5 +1,5 @@
 -- The open classes of a document under construction.
-use Rattle.std.proofs.Common.{◌≡◌, ℕ, suc, ◌+◌, ◌-◌, Bool, true, false, List, [], ◌∷◌, ◌++◌, length, refl, sym, ◌∙◌, ap, subst, append_assoc, arith, true≢false, is_some, Result, Ok, Err, IfOk}
+use Rattle.std.proofs.Common.{◌≡◌, ℕ, suc, ◌+◌, ◌-◌, Bool, true, false, List, [], ◌∷◌, ◌++◌, length, refl, sym, ◌∙◌, ap, subst, append_assoc, arith, true≢false, is_some}
 use Rattle.std.specs.List.{AllByRecursion}
 use Rattle.std.proofs.lemmas.Bool.{and_parts}
 use Rattle.std.proofs.lemmas.List.{append-nil, length_push}
@@ -23,12 +23,6 @@ use Rattle.iodef_tree.proofs.Outlines.{came, back-push}
 use Rattle.iodef_tree.proofs.Filled.{object-filled}
 use Rattle.iodef_tree.proofs.Siblings.{all-append, all-split}
 use Rattle.iodef_tree.proofs.Sounds.{outline-sound}
-
--- ---- results and lists
-
-pub if_ok : {A E : Type 0} (r : Result A E) (P Q : A → Type 0) → ((x : A) → P x → Q x) → IfOk r P → IfOk r Q
-if_ok (Ok x) P Q f h = f x h
-if_ok (Err e) P Q f h = h
 
 one-longer : (xs : List Open) (x : Open) → length (xs ++ x ∷ []) ≡ suc (length xs)
 one-longer xs x = search (arith, length_push)
@@ -166,13 +160,14 @@ has-class s t u l fits is e g =
     (ap (λ (j : Kind). deepest ((let x : Line = record { depth = l.depth; name = l.name; in_array = l.in_array; kind = j; text = l.text } in x) ∷ [])) is ∙ ap suc (sym deep))
 
 -- a plain line
-pub has-plain : (s t u : Spine) (l : Line) (c : Content) → may_come (back (lines_of s)) l ≡ true → l.kind ≡ kind_of c → l.text ≡ text_of c →
-    Extends s [] (l.depth - 1) t → Extends t (lines (suc (length t.classes.items)) (in_front l.name (place_of l.in_array 0) (says c) end)) (length t.classes.items) u → HasLine s l u
-has-plain s t u l c fits is said e g =
+pub has-plain : (s t u : Spine) (l : Line) (c : Content) (b : Body) → may_come (back (lines_of s)) l ≡ true → l.kind ≡ kind_of c → l.text ≡ text_of c → b ≡ says c →
+    Extends s [] (l.depth - 1) t → Extends t (lines (suc (length t.classes.items)) (in_front l.name (place_of l.in_array 0) b end)) (length t.classes.items) u → HasLine s l u
+has-plain s t u l c b fits is said held e g =
     let k = came (back (lines_of s)) l fits in
     let deep : suc (length t.classes.items) ≡ l.depth = ap suc e.depth ∙ omega (arith, k.positive) in
     has-line s t u l (length t.classes.items) _ e.lines g
-    (ap (λ x. x ∷ []) (line-is (suc (length t.classes.items)) l.in_array l (kind_of c) (text_of c) deep is said))
+    (ap (λ x. lines (suc (length t.classes.items)) (in_front l.name (place_of l.in_array 0) x end)) held
+    ∙ ap (λ x. x ∷ []) (line-is (suc (length t.classes.items)) l.in_array l (kind_of c) (text_of c) deep is said))
     (ap (λ (j : Kind). deepest ((let x : Line = record { depth = l.depth; name = l.name; in_array = l.in_array; kind = j; text = l.text } in x) ∷ [])) is ∙ no-class c ∙ sym deep)
   where
     no-class : (b : Content) → deepest ((let x : Line = record { depth = l.depth; name = l.name; in_array = l.in_array; kind = kind_of b; text = l.text } in x) ∷ []) ≡ l.depth

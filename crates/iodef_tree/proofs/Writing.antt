@@ -31,24 +31,24 @@ written-elements n k (b ∷ bs) rest fresh =
     ∙ ap (λ s. 44 ∷ (body_text b ++ s)) (written-elements n (suc k) bs rest fresh)
     ∙ ap (λ s. 44 ∷ s) (sym (append_assoc (body_text b) (array_text true bs) (written true rest)))
 
-front-append : (later : Bool) (n s t : Bytes) → (comma_if later ++ (quoted n ++ 58 ∷ s)) ++ t ≡ comma_if later ++ (quoted n ++ 58 ∷ (s ++ t))
-front-append later n s t =
+pub named-front : (later : Bool) (n s t : Bytes) → (comma_if later ++ (quoted n ++ 58 ∷ s)) ++ t ≡ comma_if later ++ (quoted n ++ 58 ∷ (s ++ t))
+named-front later n s t =
     append_assoc (comma_if later) (quoted n ++ 58 ∷ s) t ∙ ap (λ x. comma_if later ++ x) (append_assoc (quoted n) (58 ∷ s) t)
 
 pub written-member : (later : Bool) (n : Bytes) (m : Bodies) (rest : Forest) → goes_on rest ≡ false → has_elements m ≡ true →
     written later (member_front n m rest) ≡ member_text later n m ++ written true rest
 written-member later n (one b) rest fresh filled =
     written-front later n None b rest
-    ∙ front-append later n [] (body_text b ++ written true rest)
-    ∙ sym (front-append later n (body_text b) (written true rest))
+    ∙ named-front later n [] (body_text b ++ written true rest)
+    ∙ sym (named-front later n (body_text b) (written true rest))
 written-member later n (many []) rest fresh filled = absurd (true≢false (sym filled))
 written-member later n (many (b ∷ bs)) rest fresh filled =
     let more = elements n 1 bs rest in
     written-front later n (Some 0) b more
-    ∙ front-append later n (91 ∷ []) (body_text b ++ (close_text (Some 0) more ++ written true more))
+    ∙ named-front later n (91 ∷ []) (body_text b ++ (close_text (Some 0) more ++ written true more))
     ∙ ap (λ s. comma_if later ++ (quoted n ++ 58 ∷ 91 ∷ (body_text b ++ s))) (written-elements n 0 bs rest fresh)
     ∙ ap (λ s. comma_if later ++ (quoted n ++ 58 ∷ 91 ∷ s)) (sym (append_assoc (body_text b) (array_text true bs) (written true rest)))
-    ∙ sym (front-append later n (91 ∷ (body_text b ++ array_text true bs)) (written true rest))
+    ∙ sym (named-front later n (91 ∷ (body_text b ++ array_text true bs)) (written true rest))
 
 goes_on-one : (n : Bytes) (b : Body) (rest : Forest) → goes_on (in_front n None b rest) ≡ false
 goes_on-one n (holds f) rest = refl

@@ -1,10 +1,10 @@
-use Rattle.std.proofs.Common.{◌≡◌, false, string_bytes, ◌∙◌, ap}
+use Rattle.std.proofs.Common.{◌≡◌, ◌∙◌, ap}
 use Rattle.serde_json.specs.View.{view}
 use Rattle.serde_json.specs.Written.{compact_text, has_float}
 use Rattle.iodef_tree.specs.View.{bodies}
 use Rattle.iodef_tree.specs.Written.{bodies_data}
 use Rattle.iodef_tree.proofs.MembersByName.{kept-ordered}
-use Rattle.iodef_tree.proofs.Spines.{if_ok}
+use Rattle.std.proofs.lemmas.Result.{IfOk-weaker}
 use Rattle.iodef_tree.proofs.NoFloat.{kept-whole}
 use Rattle.iodef_tree.proofs.value.member_text.Goals as goal
 
@@ -16,5 +16,4 @@ returns c =
     let m = bodies c.args.member.now in
     let v = c.in_ok-member_value.field-0 in
     let is : view v ≡ bodies_data m = c.in_ok-member_value.ensures in
-    if_ok c.to_string.result (λ s. has_float (view v) ≡ false → string_bytes s ≡ compact_text (view v)) (λ s. string_bytes s ≡ compact_text (bodies_data m))
-    (λ s h. h (ap has_float is ∙ kept-whole m c.requires.kept) ∙ ap compact_text is) c.to_string.ensures.text
+    IfOk-weaker c.to_string.result _ _ (λ s h. h (ap has_float is ∙ kept-whole m c.requires.kept) ∙ ap compact_text is) c.to_string.ensures.text
