@@ -1,10 +1,10 @@
 -- Siblings stand apart, since their names ascend and the elements of an array are numbered.
-use Rattle.std.proofs.Common.{◌≡◌, ℕ, zero, suc, ◌+◌, ◌^◌, ◌<◌, ◌≤◌, List, ◌∷◌, ◌++◌, true, false, not, cond, ◌&&◌, ◌||◌, ◌==◌, decimal, refl, sym, ◌∙◌, ap, subst, arith, ◌⊎◌, inl, inr, Option, Some, None, is_some, codes, bytes_eq}
+use Rattle.std.proofs.Common.{◌≡◌, ℕ, zero, suc, ◌+◌, ◌^◌, ◌<◌, ◌≤◌, List, ◌∷◌, ◌++◌, true, false, not, cond, ◌&&◌, ◌==◌, decimal, refl, sym, ◌∙◌, ap, subst, arith, ◌⊎◌, inl, inr, Option, Some, None, is_some, bytes_eq}
 use Rattle.std.proofs.lemmas.Bool.{and_parts, and_left, and_right, false≢true, eqb-true}
 use Rattle.std.proofs.lemmas.List.Sums.{sum_by-cons, sum_by-append}
+use Rattle.std.proofs.lemmas.Grind.{common_steps}
 use Rattle.iodef_tree.specs.Text.{Bytes, Tokens, bytes_lt, is_prefix}
 use Rattle.iodef_tree.specs.Tree.{Leaf, Forest, end, leaf, branch, steps, lines, leaf_line, class_line}
-use Rattle.iodef_tree.specs.Paths.{is_class_kind}
 use Rattle.iodef_tree.specs.Sound.{SiblingPlace, may_stand, may_stand_behind, IsOrderedBehind, is_label_line, counted, IsSound}
 use Rattle.iodef_tree.specs.Laws.{AllSiblings, AreApart, HasApart}
 use Rattle.iodef_tree.specs.declared.line.Line.{Line}
@@ -45,15 +45,10 @@ counted-one l ls h = sum_by-cons (λ (x : Line). cond (not (is_label_line x)) 1 
 step_room : (s : Option SiblingPlace) (name : Bytes) (o : Option ℕ) (l : Line) (ls : List Line) (n : ℕ) → may_stand s name o ≡ true → (is_some o ≡ true → is_label_line l ≡ false) →
     next_place s + counted (l ∷ ls) ≤ n → IsSmall n o × (next_place (Some (name, o)) + counted ls ≤ n)
 step_room s name None l ls n h counts room = let k = counted-le l ls in (tt, omega arith)
-step_room s name (Some k) l ls n h counts room =
-    let e = counted-one l ls (counts refl) in
-    let f = place-next s name k h in
-    (omega arith, omega arith)
+step_room s name (Some k) l ls n h counts room = grind (arith, common_steps, counted-one, place-next)
 
 leaf-counts : (d : ℕ) (i : Leaf) → is_some i.place ≡ true → is_label_line (leaf_line d i) ≡ false
-leaf-counts d i h =
-    let l = leaf_line d i in
-    ap (λ b. (not b && not (is_class_kind l.kind)) && (bytes_eq i.name (codes "restriction") || bytes_eq i.name (codes "ext-restriction"))) h
+leaf-counts d i h = grind (arith, common_steps)
 
 class-counts : (d : ℕ) (name : Bytes) (place : Option ℕ) → is_label_line (class_line d name place) ≡ false
 class-counts d name place = and_left (not (is_some place) && false) _ (and_right (not (is_some place)) false refl)
@@ -83,11 +78,7 @@ later-next : (n : Bytes) (o : Option ℕ) (n' : Bytes) (o' : Option ℕ) → may
 later-next n o n' None h = inl h
 later-next n o n' (Some zero) h = inl h
 later-next n None n' (Some (suc k)) h = absurd (false≢true h)
-later-next n (Some j) n' (Some (suc k)) h =
-    let parts = and_parts (bytes_eq n n') (j == k) h in
-    let e = eqb-true j k parts.1 in
-    let lt : j < suc k = omega arith in
-    inr (bytes_eq-true n n' parts.0, lt)
+later-next n (Some j) n' (Some (suc k)) h = grind (arith, common_steps, and_parts, bytes_eq-true, eqb-true)
 
 place_later-trans : (a b c : Option ℕ) → IsPlaceLater a b → IsPlaceLater b c → IsPlaceLater a c
 place_later-trans None b c h k = absurd h
@@ -137,10 +128,8 @@ apart-behind (branch m p kids rest) n o later small = (later-apart n o m p later
 
 apart-ordered : (f : Forest) (s : Option SiblingPlace) → IsOrderedBehind s f → AreSmall (2 ^ 64) f → HasApart f
 apart-ordered end s ordered small = tt
-apart-ordered (leaf i rest) s ordered small =
-    (apart-behind rest i.name i.place (later-behind rest i.name i.place ordered.1) small.1, apart-ordered rest (Some (i.name, i.place)) ordered.1 small.1)
-apart-ordered (branch n p kids rest) s ordered small =
-    (apart-behind rest n p (later-behind rest n p ordered.2) small.2, apart-ordered kids None ordered.1 small.1, apart-ordered rest (Some (n, p)) ordered.2 small.2)
+apart-ordered (leaf i rest) s ordered small = grind (arith, common_steps, apart-behind, later-behind, small, (apart-ordered rest (Some (i.name, i.place)) ordered.1 small.1))
+apart-ordered (branch n p kids rest) s ordered small = grind (arith, common_steps, apart-behind, later-behind, small, (apart-ordered kids None ordered.1 small.1), (apart-ordered rest (Some (n, p)) ordered.2 small.2))
 
 pub sound-apart : (f : Forest) → IsSound f → HasApart f
 sound-apart f sound = let short = sound.short in apart-ordered f None sound.ordered (small f 1 None (2 ^ 64) sound.ordered (omega arith))

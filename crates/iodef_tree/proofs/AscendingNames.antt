@@ -4,6 +4,7 @@ use Rattle.std.specs.List.{AllByRecursion}
 use Rattle.std.specs.List.Sorted.{IsStrictlySortedBy}
 use Rattle.std.specs.Map.{keys_of}
 use Rattle.std.proofs.lemmas.Bool.Decides.{nat_tests}
+use Rattle.std.proofs.lemmas.Grind.{common_steps}
 use Rattle.iodef_tree.specs.Text.{Bytes, bytes_lt}
 use Rattle.iodef_tree.specs.Tree.{Forest, Body, holds, says, Bodies, one, many, in_front, elements}
 use Rattle.iodef_tree.specs.Sound.{SiblingPlace, may_stand, IsOrderedBehind}
@@ -45,8 +46,7 @@ elements_ordered : (name : Bytes) (bs : List Body) (k : ℕ) (before : Option Si
     → may_stand before name (Some k) ≡ true → AllByRecursion IsBodyOrdered bs → ((j : ℕ) → IsOrderedBehind (Some (name, Some j)) rest) → IsOrderedBehind before rest
     → IsOrderedBehind before (elements name k bs rest)
 elements_ordered name [] k before rest h all each r = r
-elements_ordered name (b ∷ bs) k before rest h all each r =
-    in_front_ordered before name (Some k) b (elements name (suc k) bs rest) h all.0 (elements_ordered name bs (suc k) (Some (name, Some k)) rest (next_stands name k) all.1 each (each k))
+elements_ordered name (b ∷ bs) k before rest h all each r = grind (arith, common_steps, next_stands, (elements_ordered name bs (suc k) (Some (name, Some k)) rest (next_stands name k) all.1 each (each k)))
 
 stands : (before : Option SiblingPlace) (name : Bytes) (m : Bodies) (ms : List (Bytes × Bodies)) → AreAboveAll before ((name, m) ∷ ms) → may_stand before name None ≡ true
 stands None name m ms h = refl

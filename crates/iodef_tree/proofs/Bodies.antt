@@ -1,13 +1,14 @@
 -- The Incidents of a body in which nothing is refused fit its documents.
-use Rattle.std.proofs.Common.{◌≡◌, ℕ, ◌+◌, ◌≤◌, List, true, false, ◌&&◌, Option, Some, None, Result, Ok, option_and_then, refl, sym, ap, ◌∙◌, subst, arith, codes}
+use Rattle.std.proofs.Common.{◌≡◌, ℕ, ◌+◌, ◌≤◌, List, true, false, ◌&&◌, Option, Some, None, Result, Ok, option_and_then, refl, ap, subst, arith, codes}
 use Rattle.std.proofs.lemmas.Bool.{and_parts, or_from, or_parts}
 use Rattle.std.proofs.lemmas.Option.{cond_some, some_pair_parts}
+use Rattle.std.proofs.lemmas.Grind.{common_steps}
 use Rattle.serde_json.specs.Data as json
 use Rattle.serde_json.specs.Data.{Data, put}
 use Rattle.serde_json.specs.Find.{get_member, as_array, as_object}
 use Rattle.serde_json.specs.Written.{has_float, items_have_float, members_have_float}
 use Rattle.iodef_tree.specs.FitValues.{AreFit, taken, is_element_flat, are_flat, are_members_flat}
-use Rattle.iodef_tree.specs.Reading.{◌>>=◌, or_fault, are_incidents, if_incidents, incidents_of, documents, parsed, all_complete, all_fit, reading}
+use Rattle.iodef_tree.specs.Reading.{◌>>=◌, or_fault, if_incidents, incidents_of, documents, parsed, all_complete, all_fit, reading}
 use Rattle.iodef_tree.specs.Tree.{height}
 use Rattle.iodef_tree.specs.Values.{items_of_data, forest_of_data, body_of_data}
 use Rattle.iodef_tree.specs.declared.TheConstants.{DEPTH_LIMIT}
@@ -20,11 +21,7 @@ use Rattle.iodef_tree.proofs.Shallow.{tallest, low_members, heights, tallest_le}
 use Rattle.iodef_tree.proofs.Each.{IsEach, put-each, get-each}
 
 floatless : IsEach (λ d. has_float d ≡ false) (λ ms. members_have_float ms ≡ false)
-floatless = record {
-  made = λ k d ms. or_from (has_float d) (members_have_float ms);
-  first = λ k d ms h. (or_parts (has_float d) (members_have_float ms) h).0;
-  others = λ k d ms h. (or_parts (has_float d) (members_have_float ms) h).1;
-}
+floatless = grind (arith, common_steps, or_from, or_parts)
 
 each_fit : (ms : json.Members) (ds : json.Items) → height (forest_of_data ms) ≤ DEPTH_LIMIT → members_have_float ms ≡ false → items_have_float ds ≡ false → are_members_flat ms ≡ true → are_flat ds ≡ true → tallest (items_of_data ds) ≤ DEPTH_LIMIT → AreFit ms ds
 each_fit ms json.no_items low free f flat g h = tt
@@ -45,11 +42,7 @@ array_of _ ds h = cc
 
 pub found_array : (o : Option Data) (ds : json.Items) → option_and_then if_incidents (option_and_then as_array o) ≡ Some ds → o ≡ Some (json.array ds)
 found_array None ds e = cc
-found_array (Some x) ds e = step (as_array x) refl e
-  where
-    step : (o : Option json.Items) → as_array x ≡ o → option_and_then if_incidents o ≡ Some ds → Some x ≡ Some (json.array ds)
-    step None is e = cc
-    step (Some es) is e = let same : es ≡ ds = (cond_some (are_incidents es) es ds e).1 in ap Some (array_of x ds (is ∙ ap Some same))
+found_array (Some x) ds e = grind (arith, common_steps, array_of, cond_some)
 
 pub fit_object : (ms : json.Members) (ds : json.Items) → IsPlain (json.object ms) → get_member (codes "Incident") ms ≡ Some (json.array ds) → AreFit ms ds
 fit_object ms ds p at =
@@ -63,9 +56,7 @@ fit_object ms ds p at =
 -- the same documents, whatever stands in place of the Incidents
 fit_beside : (ms : json.Members) (v : Data) (ds : json.Items) → AreFit ms ds → AreFit (put (codes "Incident") v ms) ds
 fit_beside ms v json.no_items h = tt
-fit_beside ms v (json.item d ds) h =
-    let same = put_twice (codes "Incident") v (json.array (json.item d json.no_items)) ms in
-    (record { whole = rw same h.0.whole; shallow = rw same h.0.shallow; flat = rw same h.0.flat }, fit_beside ms v ds h.1)
+fit_beside ms v (json.item d ds) h = grind (arith, common_steps, put_twice, (fit_beside ms v ds h.1))
 
 pub documents_beside : (ms : json.Members) (v : Data) (ds : json.Items) → documents (put (codes "Incident") v ms) ds ≡ documents ms ds
 documents_beside ms v json.no_items = refl
@@ -104,6 +95,4 @@ some_found d ds k f = rw (f.is, f.chosen)
 pub reading_taken : (bytes : List ℕ) (d : Data) (ds : json.Items) (f : Found d ds) (ms : json.Members) (es : json.Items) (t : Taken) → t ≡ Ok (taken d) → t ≡ Ok (Some (ms, es))
     → parsed bytes ≡ Ok d → all_complete 0 ds ≡ Ok tt → all_fit d ≡ Ok tt → reading bytes ≡ documents ms es
 unfolding reading
-reading_taken bytes d ds f ms es t e h read whole fine =
-    rw read (some_found d ds (λ root incidents. all_complete 0 incidents >>= λ _. all_fit d >>= λ _. documents root incidents) f
-    ∙ rw (whole, fine) (sym (documents_beside f.root json.null ds) ∙ ap (λ m. documents m ds) (same_taken d ds f ms es t e h).0 ∙ ap (documents ms) (same_taken d ds f ms es t e h).1))
+reading_taken bytes d ds f ms es t e h read whole fine = grind (arith, common_steps, documents_beside, same_taken, some_found)

@@ -15,6 +15,7 @@ use Rattle.iodef_tree.proofs.Distinct.{apart-differ}
 use Rattle.iodef_tree.proofs.Order.{is_false, bytes_eq-refl, bytes_eq-true, decimals_differ, same_path-refl, same_path-true, same_path-common, same_path-is_prefix, same_path-longer, is_prefix-append}
 use Rattle.iodef_tree.proofs.Siblings.{siblings-all, siblings-map, walk-all}
 use Rattle.std.proofs.Math.Bool.{or-false}
+use Rattle.std.proofs.lemmas.Grind.{common_steps}
 
 -- ---- what is left of a path
 
@@ -30,11 +31,7 @@ past-some (x ∷ q) (y ∷ p) r e = step (bytes_eq x y) refl e (past-some q p r)
 past-none : (q p : Tokens) → past q p ≡ None → is_prefix q p ≡ false
 past-none [] p e = cc
 past-none (x ∷ q) [] e = refl
-past-none (x ∷ q) (y ∷ p) e = step (bytes_eq x y) e (past-none q p)
-  where
-    step : (b : Bool) → cond b (past q p) None ≡ None → (past q p ≡ None → is_prefix q p ≡ false) → (b && is_prefix q p) ≡ false
-    step true h later = later h
-    step false h later = refl
+past-none (x ∷ q) (y ∷ p) e = grind (arith, common_steps, (past-none q p))
 
 -- ---- whether there is a class
 
@@ -126,16 +123,8 @@ part_or m p rest = option_map_or (λ (r : Body × Tokens). object_in r.0 r.1) (p
 
 class_at-in_front : (n : Bytes) (b : Body) (rest : Forest) (x : Bytes) (p : Tokens) →
     class_at (in_front n None b rest) (x ∷ p) ≡ cond (bytes_eq n x) (object_in b p) (class_at rest (x ∷ p))
-class_at-in_front n (holds kids) rest x p = step (bytes_eq n x)
-  where
-    step : (t : Bool) → option_map_or (λ r. cond (is_root r) (Some kids) (class_at kids r)) (cond t (Some p) None) (class_at rest (x ∷ p)) ≡ cond t (cond (is_root p) (Some kids) (class_at kids p)) (class_at rest (x ∷ p))
-    step true = refl
-    step false = refl
-class_at-in_front n (says c) rest x p = step (bytes_eq n x)
-  where
-    step : (t : Bool) → option_map_or {T = Tokens} {U = Option Forest} (λ r. None) (cond t (Some p) None) (class_at rest (x ∷ p)) ≡ cond t None (class_at rest (x ∷ p))
-    step true = refl
-    step false = refl
+class_at-in_front n (holds kids) rest x p = grind (arith, common_steps)
+class_at-in_front n (says c) rest x p = grind (arith, common_steps)
 
 class_at-element : (n : Bytes) (k : ℕ) (b : Body) (rest : Forest) (x : Bytes) (p : Tokens) →
     class_at (in_front n (Some k) b rest) (x ∷ p) ≡ option_map_or (object_in b) (past (n ∷ decimal k ∷ []) (x ∷ p)) (class_at rest (x ∷ p))
@@ -144,32 +133,16 @@ class_at-element n k (says c) rest x p = refl
 
 elements-short : (bs : List Body) (n : Bytes) (k : ℕ) (rest : Forest) (x : Bytes) → class_at (elements n k bs rest) (x ∷ []) ≡ class_at rest (x ∷ [])
 elements-short [] n k rest x = refl
-elements-short (b ∷ bs) n k rest x =
-    class_at-element n k b (elements n (suc k) bs rest) x []
-    ∙ cond_both (bytes_eq n x) None None (λ o. option_map_or (object_in b) o (class_at (elements n (suc k) bs rest) (x ∷ [])) ≡ class_at (elements n (suc k) bs rest) (x ∷ [])) (λ _. refl) (λ _. refl)
-    ∙ elements-short bs n (suc k) rest x
+elements-short (b ∷ bs) n k rest x = grind (arith, common_steps, class_at-element, cond_both, (elements-short bs n (suc k) rest x))
 
 elements-other : (bs : List Body) (n : Bytes) (k : ℕ) (rest : Forest) (x : Bytes) (p : Tokens) → bytes_eq n x ≡ false → class_at (elements n k bs rest) (x ∷ p) ≡ class_at rest (x ∷ p)
 elements-other [] n k rest x p h = refl
-elements-other (b ∷ bs) n k rest x p h =
-    class_at-element n k b (elements n (suc k) bs rest) x p
-    ∙ ap (λ t. option_map_or (object_in b) (cond t (past (decimal k ∷ []) p) None) (class_at (elements n (suc k) bs rest) (x ∷ p))) h
-    ∙ elements-other bs n (suc k) rest x p h
+elements-other (b ∷ bs) n k rest x p h = grind (arith, common_steps, class_at-element, (elements-other bs n (suc k) rest x p h))
 
 elements-here : (bs : List Body) (n : Bytes) (k : ℕ) (rest : Forest) (x y : Bytes) (p : Tokens) → bytes_eq n x ≡ true →
     class_at (elements n k bs rest) (x ∷ y ∷ p) ≡ option_map_or (λ (r : Body × Tokens). object_in r.0 r.1) (option_map (λ b. (b, p)) (element_at y k bs)) (class_at rest (x ∷ y ∷ p))
 elements-here [] n k rest x y p h = refl
-elements-here (b ∷ bs) n k rest x y p h =
-    class_at-element n k b (elements n (suc k) bs rest) x (y ∷ p)
-    ∙ ap (λ t. option_map_or (object_in b) (cond t (cond (bytes_eq (decimal k) y) (Some p) None) None) (class_at (elements n (suc k) bs rest) (x ∷ y ∷ p))) h
-    ∙ step (bytes_eq (decimal k) y) (elements-here bs n (suc k) rest x y p h)
-  where
-    step : (t : Bool) →
-        class_at (elements n (suc k) bs rest) (x ∷ y ∷ p) ≡ option_map_or (λ (r : Body × Tokens). object_in r.0 r.1) (option_map (λ c. (c, p)) (element_at y (suc k) bs)) (class_at rest (x ∷ y ∷ p)) →
-        option_map_or (object_in b) (cond t (Some p) None) (class_at (elements n (suc k) bs rest) (x ∷ y ∷ p))
-        ≡ option_map_or (λ (r : Body × Tokens). object_in r.0 r.1) (option_map (λ c. (c, p)) (cond t (Some b) (element_at y (suc k) bs))) (class_at rest (x ∷ y ∷ p))
-    step true later = refl
-    step false later = later
+elements-here (b ∷ bs) n k rest x y p h = grind (arith, common_steps, class_at-element, (elements-here bs n (suc k) rest x y p h))
 
 pub class_at-here : (m : Bodies) (n : Bytes) (rest : Forest) (x : Bytes) (p : Tokens) → bytes_eq n x ≡ true → class_at (member_front n m rest) (x ∷ p) ≡ part_or m p (class_at rest (x ∷ p))
 class_at-here (one b) n rest x p h = class_at-in_front n b rest x p ∙ cond-true (bytes_eq n x) _ _ h

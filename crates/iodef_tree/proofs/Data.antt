@@ -1,11 +1,12 @@
 -- A tree as data, member by member.
 use Rattle.std.proofs.Common.{◌≡◌, ℕ, suc, ◌+◌, ◌<◌, Bool, true, false, List, [], ◌∷◌, map, length, drop, drop-cons, get_or, refl, sym, ◌∙◌, ap, subst, arith, true≢false, Greater, String, Global, string_bytes, string_cmp, Option, Some, None, is_some, ◌==◌, bytes_eq}
 use Rattle.std.specs.List.{AllByRecursion}
-use Rattle.std.specs.Ordering.{nat_cmp, match_ordering, ordering_reverse}
+use Rattle.std.specs.Ordering.{nat_cmp, ordering_reverse}
 use Rattle.std.specs.Cmp.Lexicographic.{slice_cmp}
 use Rattle.std.specs.BTreeMap.{insert_entry}
 use Rattle.std.proofs.lemmas.Bool.{and_parts}
 use Rattle.std.proofs.lemmas.Cmp.{nat_list_cmp_total}
+use Rattle.std.proofs.lemmas.Grind.{common_steps}
 use Rattle.serde_json.specs.Data as json
 use Rattle.serde_json.specs.Data.{Data, put}
 use Rattle.serde_json.specs.View.{view, members_view, items_of as listed}
@@ -55,10 +56,7 @@ no-items ((n, many (b ∷ bs)) ∷ ms) = front-items n (Some 0) b (elements n 1 
 pub member-data : (n : Bytes) (m : Bodies) (rest : Forest) → items_of rest ≡ json.no_items → has_elements m ≡ true → members_of (member_front n m rest) ≡ json.member n (bodies_data m) (members_of rest)
 member-data n (one b) rest fresh filled = front-members n None b rest
 member-data n (many []) rest fresh filled = absurd (true≢false (sym filled))
-member-data n (many (b ∷ bs)) rest fresh filled =
-    front-members n (Some 0) b (elements n 1 bs rest)
-    ∙ ap (λ ds. json.member n (json.array (json.item (body_data b) ds)) (members_of (elements n 1 bs rest))) (later-items n 0 bs rest fresh)
-    ∙ ap (json.member n (json.array (json.item (body_data b) (listed (map body_data bs))))) (later-members n 0 bs rest)
+member-data n (many (b ∷ bs)) rest fresh filled = grind (arith, common_steps, front-members, later-items, later-members)
 
 -- ---- what is ordered is so inside
 
@@ -135,9 +133,7 @@ after-joined l (json.member k e found) n d ms h = after-joined l found n d ms h.
 
 put-last : (found : json.Members) (n : Bytes) (d : Data) (ms : json.Members) → Ascend (joined found (json.member n d ms)) → put n d found ≡ joined found (json.member n d json.no_members)
 put-last json.no_members n d ms h = refl
-put-last (json.member l e found) n d ms h =
-    ap (λ o. match_ordering o (json.member n d (json.member l e found)) (json.member l d found) (json.member l e (put n d found))) (greater l n (after-joined l found n d ms h.0))
-    ∙ ap (json.member l e) (put-last found n d ms h.1)
+put-last (json.member l e found) n d ms h = grind (arith, common_steps, after-joined, greater, (put-last found n d ms h.1))
 
 joined-one : (found : json.Members) (n : Bytes) (d : Data) (ms : json.Members) → joined (joined found (json.member n d json.no_members)) ms ≡ joined found (json.member n d ms)
 joined-one json.no_members n d ms = refl
@@ -167,26 +163,17 @@ one-more i = omega arith
 pub put-member : (old new : List MapEntry) (name : String Global) (v : Value) (R : json.Members) (xs : List (Text × Member)) (i : ℕ) (m : Text × Member) → i < length xs → m ≡ get_or xs i m →
     has_elements (bodies m.1) ≡ true → string_bytes name ≡ m.0 → view v ≡ bodies_data (bodies m.1) → new ≡ insert_entry string_cmp old name v →
     put_all (members_of (members_forest (drop i xs))) (members_view old) ≡ R → put_all (members_of (members_forest (drop (i + 1) xs))) (members_view new) ≡ R
-put-member old new name v R xs i m h e filled is means put_in left =
-    let rest = members_forest (drop (i + 1) xs) in
-    ap (put_all (members_of rest)) (ap members_view put_in ∙ members_view-insert_entry old name v ∙ ap (λ n. put n (view v) (members_view old)) is ∙ ap (λ d. put m.0 d (members_view old)) means)
-    ∙ sym (ap (λ ms. put_all ms (members_view old)) (ap members_of (members-next xs i m h e) ∙ member-data m.0 (bodies m.1) rest (no-items (map named (drop (i + 1) xs))) filled))
-    ∙ left
+put-member old new name v R xs i m h e filled is means put_in left = grind (arith, common_steps, member-data, members-next, members_view-insert_entry, no-items)
 
 -- what holds of each member that is left
 pub all-left : (P : Bytes × Bodies → Type 0) (xs : List (Text × Member)) (i : ℕ) (m : Text × Member) → i < length xs → m ≡ get_or xs i m → AllByRecursion P (map named (drop i xs)) →
     P (named m) × AllByRecursion P (map named (drop (i + 1) xs))
-all-left P xs i m h e all =
-    let parts = subst (λ (ys : List (Text × Member)). AllByRecursion P (map named ys)) (drop-cons xs i m h ∙ ap (λ y. y ∷ drop (suc i) xs) (sym e)) all in
-    (parts.0, subst (λ k. AllByRecursion P (map named (drop k xs))) (one-more i) parts.1)
+all-left P xs i m h e all = grind (arith, common_steps, drop-cons, one-more)
 
 -- ---- at the start
 
 pub put-started : (o : Object) (xs : List (Text × Member)) (es : List MapEntry) → IsOrdered (forest o) → xs ≡ o.members.items → es ≡ [] → put_all (members_of (members_forest xs)) (members_view es) ≡ members_of (forest o)
-put-started o xs es h is none =
-    ap (λ found. put_all (members_of (members_forest xs)) (members_view found)) none
-    ∙ ap (λ f. put_all (members_of f) json.no_members) (ap members_forest is ∙ sym (forest-members o))
-    ∙ put-ordered (forest o) h
+put-started o xs es h is none = grind (arith, common_steps, forest-members, put-ordered)
 
 pub object-ordered : (o : Object) (xs : List (Text × Member)) → IsOrdered (forest o) → xs ≡ o.members.items → AllByRecursion (λ m. AreBodiesOrdered m.1) (map named xs)
 object-ordered o xs h is =

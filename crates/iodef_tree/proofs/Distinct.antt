@@ -1,9 +1,10 @@
 -- No two lines of a sound document have one path.
-use Rattle.std.proofs.Common.{◌≡◌, ℕ, suc, List, [], ◌∷◌, ◌++◌, Bool, false, map, filter, sym, ◌∙◌, ap, subst, append-nil, append_assoc, true≢false, Option}
+use Rattle.std.proofs.Common.{◌≡◌, ℕ, suc, List, [], ◌∷◌, ◌++◌, Bool, false, map, filter, sym, subst, append-nil, append_assoc, Option, arith}
 use Rattle.std.specs.List.{AllByRecursion, IsDistinct}
 use Rattle.std.proofs.lemmas.Bool.{cond_both}
 use Rattle.std.proofs.lemmas.List.{map-append}
-use Rattle.iodef_tree.specs.Text.{Bytes, Tokens, same_path, is_prefix}
+use Rattle.std.proofs.lemmas.Grind.{common_steps}
+use Rattle.iodef_tree.specs.Text.{Bytes, Tokens, same_path}
 use Rattle.iodef_tree.specs.Tree.{Forest, end, leaf, branch, steps, lines}
 use Rattle.iodef_tree.specs.Paths.{LocatedLine, is_class, located, classes_of}
 use Rattle.iodef_tree.specs.Sound.{IsSound}
@@ -28,10 +29,7 @@ distinct-append (x ∷ xs) ys h k cross = (all-append (λ q. same_path x q ≡ f
 
 -- two paths of which one goes on from what the other does not go on from
 pub apart-differ : (p : Tokens) (n : Bytes) (o : Option ℕ) (n' : Bytes) (o' : Option ℕ) → AreApart n o n' o' → (z z' : Tokens) → same_path (p ++ (steps n o ++ z)) (p ++ (steps n' o' ++ z')) ≡ false
-apart-differ p n o n' o' h z z' =
-    same_path-common p (steps n o ++ z) (steps n' o' ++ z')
-    ∙ is_false (same_path (steps n o ++ z) (steps n' o' ++ z'))
-    (λ same. true≢false (sym (is_prefix-append (steps n o) z) ∙ ap (is_prefix (steps n o)) (same_path-true (steps n o ++ z) (steps n' o' ++ z') same) ∙ h.left z'))
+apart-differ p n o n' o' h z z' = grind (arith, common_steps, is_false, is_prefix-append, same_path-common, same_path-true)
 
 -- what goes on from a sibling is none of the paths behind it
 fresh-behind : (f : Forest) (d : ℕ) (p : Tokens) (n : Bytes) (o : Option ℕ) (z : Tokens) → AllSiblings (AreApart n o) f → IsFresh (p ++ (steps n o ++ z)) (map path_of (walk d p f))

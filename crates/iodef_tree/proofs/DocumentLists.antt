@@ -6,7 +6,7 @@ use Rattle.serde_json.specs.View.{view, items_view}
 use Rattle.serde_json.specs.declared.value.Value.{Value}
 use Rattle.std.proofs.lemmas.List.Sums.{count_by-le-length}
 use Rattle.iodef_tree.specs.Reading.{◌>>=◌, if_short, document_of, documents, Fails, Returns}
-use Rattle.iodef_tree.specs.Sound.{IsOrdered, IsSound, class_height, is_label_line}
+use Rattle.iodef_tree.specs.Sound.{IsOrdered, IsSound, class_height}
 use Rattle.iodef_tree.specs.Texts.{HasTexts}
 use Rattle.iodef_tree.specs.Tree.{Forest, end, leaf, branch, lines, height}
 use Rattle.iodef_tree.specs.declared.TheConstants.{DEPTH_LIMIT, LINE_LIMIT}
@@ -15,6 +15,7 @@ use Rattle.iodef_tree.specs.declared.fault.ReadFault.{ReadFault}
 use Rattle.iodef_tree.specs.declared.fault.ReadFault.TheVariants.{TooManyLines, NoMemory}
 use Rattle.iodef_tree.proofs.Counts.{length-lines}
 use Rattle.std.proofs.lemmas.Bool.{le-ltb, lt-ltb}
+use Rattle.std.proofs.lemmas.Grind.{common_steps}
 
 abbrev pub with_front : {A : Type 0} → List A → Result (List A) ReadFault → Result (List A) ReadFault
 with_front front r = r >>= λ x. Ok (front ++ x)
@@ -45,13 +46,7 @@ classes-low (leaf i rest) = let a = classes-low rest in omega (arith, a)
 classes-low (branch name place kids rest) = let a = classes-low kids in let b = classes-low rest in omega (arith, a, b)
 
 pub sound : (f : Forest) → IsOrdered f → height f ≤ DEPTH_LIMIT → line_count f ≤ LINE_LIMIT → HasTexts f → IsSound f
-sound f o h n t = record {
-  ordered = o;
-  classes = let a = classes-low f in omega (arith, h, a);
-  shallow = omega (arith, h);
-  short = let all = length-lines f 1 in let some = count_by-le-length (λ l. not (is_label_line l)) (lines 1 f) in omega (arith, all, some, n);
-  texts = t;
-}
+sound f o h n t = grind (arith, common_steps, classes-low, count_by-le-length, length-lines)
 
 -- one document more, behind the others
 one_more : {A : Type 0} (s d : Result A ReadFault) (front rest : Result (List A) ReadFault) → rest ≡ (front >>= λ xs. d >>= λ x. Ok (xs ++ x ∷ []))
@@ -64,8 +59,7 @@ one_more (Ok x) d (Err y) rest is = rw is
 pub documents_then : (root : json.Members) (vs : List Value) (v : Value)
     → documents root (items_view (vs ++ v ∷ [])) ≡ (documents root (items_view vs) >>= λ front. if_short (lines 1 (document_of (view v) root)) >>= λ d. Ok (front ++ d ∷ []))
 documents_then root [] v = refl
-documents_then root (w ∷ vs) v =
-    one_more (if_short (lines 1 (document_of (view w) root))) (if_short (lines 1 (document_of (view v) root))) (documents root (items_view vs)) (documents root (items_view (vs ++ v ∷ []))) (documents_then root vs v)
+documents_then root (w ∷ vs) v = grind (arith, common_steps, one_more, (documents_then root vs v))
 
 pub fails_then : {A B : Type 0} (e : ReadFault) (r : Result A ReadFault) (f : A → Result B ReadFault) → Fails e r → Fails e (r >>= f)
 fails_then NoMemory r f h = tt
@@ -91,8 +85,7 @@ failed_front root vs v e h = subst (Fails e) (sym (documents_then root vs v)) (f
 
 pub failed_last : (root : json.Members) (vs : List Value) (v : Value) (front : List (List Line)) (e : ReadFault) → documents root (items_view vs) ≡ Ok front → Fails e (if_short (lines 1 (document_of (view v) root)))
     → Fails e (documents root (items_view (vs ++ v ∷ [])))
-failed_last root vs v front e h k =
-    subst (Fails e) (sym (documents_then root vs v)) (subst (λ r. Fails e (r >>= λ xs. if_short (lines 1 (document_of (view v) root)) >>= λ d. Ok (xs ++ d ∷ []))) (sym h) (fails_then e (if_short (lines 1 (document_of (view v) root))) (λ d. Ok (front ++ d ∷ [])) k))
+failed_last root vs v front e h k = grind (arith, common_steps, documents_then, fails_then)
 
 pub fit_parts : (root : json.Members) (vs : List Value) (v : Value) → AreFit root (items_view (vs ++ v ∷ [])) → AreFit root (items_view vs) × IsFit root (view v)
 fit_parts root [] v h = (tt, h.0)

@@ -2,6 +2,7 @@
 use Rattle.std.proofs.Common.{◌≡◌, ℕ, zero, suc, ◌<◌, Bool, true, ◌&&◌, List, [], ◌∷◌, map, length, get_or, refl, sym, ◌∙◌, ap, subst, Vec, Global, rules, arith}
 use Rattle.std.specs.List.{AllByRecursion, list_all}
 use Rattle.std.proofs.lemmas.Bool.{and_parts, and_from}
+use Rattle.std.proofs.lemmas.Grind.{common_steps}
 use Rattle.iodef_tree.specs.Tree.{Forest, Body, Bodies, one, many}
 use Rattle.iodef_tree.specs.View.{item_step, member_step, object_step, forest, bodies, body}
 use Rattle.iodef_tree.specs.Filled.{has_some, item_filled, member_filled, object_filled, is_object_filled, is_member_filled, is_item_filled, IsFilled, IsMemberFilled, IsItemFilled}
@@ -80,9 +81,7 @@ pub item-at : (xs : List Item) (i : ℕ) (x : Item) → AllByRecursion IsItemFil
 item-at xs i x all h is = subst IsItemFilled (sym is) (all-at IsItemFilled xs i x h all)
 
 pub member-at : (o : Object) (xs : List (Bytes × Member)) (i : ℕ) (m : Bytes × Member) → IsFilled o → xs ≡ o.members.items → i < length xs → m ≡ get_or xs i m → IsMemberFilled m.1
-member-at o xs i m filled same h is =
-    let all = subst (AllByRecursion (λ x. IsMemberFilled x.1)) (sym same) (members-filled o filled) in
-    subst (λ (x : Bytes × Member). IsMemberFilled x.1) (sym is) (all-at (λ x. IsMemberFilled x.1) xs i m h all)
+member-at o xs i m filled same h is = grind (arith, common_steps, all-at, members-filled)
 
 -- ---- as it is seen
 

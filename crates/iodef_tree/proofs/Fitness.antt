@@ -1,6 +1,7 @@
 -- What a body keeps in which nothing is refused.
-use Rattle.std.proofs.Common.{◌≡◌, ℕ, suc, List, [], ◌∷◌, ◌++◌, Bool, false, cond, ◌||◌, Option, Some, None, Result, Ok, Err, refl, sym, ◌∙◌, decimal}
+use Rattle.std.proofs.Common.{◌≡◌, ℕ, suc, List, [], ◌∷◌, ◌++◌, Bool, false, Option, Some, None, Result, Ok, Err, refl, sym, ◌∙◌, decimal, arith}
 use Rattle.std.proofs.lemmas.Bool.{or_from, or_parts}
+use Rattle.std.proofs.lemmas.Grind.{common_steps}
 use Rattle.serde_json.specs.Data as json
 use Rattle.serde_json.specs.Data.{Data}
 use Rattle.serde_json.specs.Written.{has_float, items_have_float, members_have_float}
@@ -9,7 +10,6 @@ use Rattle.iodef_tree.specs.Text.{Bytes}
 use Rattle.iodef_tree.specs.Values.{Surrounded, Node, node, beneath, nodes, item_nodes, member_nodes, first_at, is_not_whole, is_nested_class, is_too_deep}
 use Rattle.iodef_tree.specs.Reading.{unless, ◌>>=◌, all_fit}
 use Rattle.iodef_tree.specs.declared.fault.ReadFault.{ReadFault}
-use Rattle.iodef_tree.specs.declared.fault.ReadFault.TheVariants.{NotWhole, NestedClass, TooDeep}
 use Rattle.iodef_tree.proofs.Seeking.{any_at-beneath}
 
 -- no value of the list is refused
@@ -33,10 +33,7 @@ pub record IsAllowed (s : Surrounded) : Type 0 where
   pub shallow : is_too_deep s ≡ false
 
 allowed : (s : Surrounded) → is_refused s ≡ false → IsAllowed s
-allowed s h =
-    let others = or_parts (is_not_whole s) (is_nested_class s || is_too_deep s) h in
-    let last = or_parts (is_nested_class s) (is_too_deep s) others.1 in
-    record { whole = others.0; nested = last.0; shallow = last.1 }
+allowed s h = grind (arith, common_steps, or_parts)
 
 pub head : (n : Node) (ns : List Node) → AreClear (n ∷ ns) → IsAllowed n.seen × AreClear ns
 head n ns h = let parts = or_parts (is_refused n.seen) (any_at is_refused ns) h in (allowed n.seen parts.0, parts.1)
@@ -73,19 +70,11 @@ none_if_ok f (Some x) e = cc
 -- nothing is refused where none of the three is found
 none-refused : (ns : List Node) → first_at is_not_whole ns ≡ None → first_at is_nested_class ns ≡ None → first_at is_too_deep ns ≡ None → AreClear ns
 none-refused [] a b c = refl
-none-refused (n ∷ ns) a b c = step (is_not_whole n.seen) (is_nested_class n.seen) (is_too_deep n.seen) a b c (none-refused ns)
-  where
-    step : (x y z : Bool) → cond x (Some n.pointer) (first_at is_not_whole ns) ≡ None → cond y (Some n.pointer) (first_at is_nested_class ns) ≡ None → cond z (Some n.pointer) (first_at is_too_deep ns) ≡ None →
-        (first_at is_not_whole ns ≡ None → first_at is_nested_class ns ≡ None → first_at is_too_deep ns ≡ None → AreClear ns) → ((x || (y || z)) || any_at is_refused ns) ≡ false
-    step false false false a b c later = later a b c
-    step x y z a b c later = cc
+none-refused (n ∷ ns) a b c = grind (arith, common_steps, (none-refused ns))
 
 pub plain_ok : (d : Data) → all_fit d ≡ Ok tt → IsPlain d
 unfolding all_fit
-plain_ok d e =
-    let w = bind-ok (unless NotWhole (first_at is_not_whole (nodes 0 0 d))) _ tt e in
-    let n = bind-ok (unless NestedClass (first_at is_nested_class (nodes 0 0 d))) _ tt w.2 in
-    none-refused (nodes 0 0 d) (none_if_ok NotWhole _ w.1) (none_if_ok NestedClass _ n.1) (none_if_ok (λ _. TooDeep) _ n.2)
+plain_ok d e = grind (arith, common_steps, bind-ok, none-refused, none_if_ok)
 
 -- where no value is refused, none of the three is found
 none_found : (f : Surrounded → Bool) → ((s : Surrounded) → IsAllowed s → f s ≡ false) → (ns : List Node) → AreClear ns → first_at f ns ≡ None
@@ -94,6 +83,4 @@ none_found f h (n ∷ ns) e = let parts = head n ns e in let here : f n.seen ≡
 
 pub plain_at_once : (d : Data) → IsPlain d → all_fit d ≡ Ok tt
 unfolding all_fit
-plain_at_once d h =
-    let found = λ (f : Surrounded → Bool) (k : (s : Surrounded) → IsAllowed s → f s ≡ false). none_found f k (nodes 0 0 d) h in
-    rw (found is_not_whole (λ s a. a.whole), found is_nested_class (λ s a. a.nested), found is_too_deep (λ s a. a.shallow))
+plain_at_once d h = grind (arith, common_steps, none_found)

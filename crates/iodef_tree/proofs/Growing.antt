@@ -3,11 +3,12 @@ use Rattle.std.proofs.Common.{◌≡◌, ℕ, suc, ◌+◌, ◌-◌, Bool, true,
 use Rattle.std.specs.List.{AllByRecursion}
 use Rattle.std.proofs.lemmas.List.{map-append}
 use Rattle.std.proofs.lemmas.Bool.{eq-eqb}
+use Rattle.std.proofs.lemmas.Grind.{common_steps}
 use Rattle.iodef_tree.specs.Text.{Bytes}
 use Rattle.iodef_tree.specs.Tree.{Forest, end, leaf, branch, Body, holds, says, Bodies, many, in_front, elements, member_front, place_of, lines}
 use Rattle.iodef_tree.specs.Sound.{SiblingPlace}
 use Rattle.iodef_tree.specs.View.{forest_of_members, body, bodies, named, members_forest}
-use Rattle.iodef_tree.specs.Built.{is_numbered, IsNumberedBehind, IsNumbered, IsBodyNumbered, last_place, IsGrown, Grows}
+use Rattle.iodef_tree.specs.Built.{is_numbered, IsNumberedBehind, IsBodyNumbered, last_place, IsGrown, Grows}
 use Rattle.iodef_tree.specs.Filled.{has_some, IsMemberFilled, IsItemFilled}
 use Rattle.iodef_tree.specs.declared.text.Text.{Text}
 use Rattle.iodef_tree.specs.declared.object.Item.{Item}
@@ -35,22 +36,14 @@ numbered-append o (branch n p kids rest) g h k = (h.0, h.1, numbered-append (Som
 
 pub members-append : (xs ys : List (Bytes × Bodies)) → forest_of_members (xs ++ ys) ≡ append (forest_of_members xs) (forest_of_members ys)
 members-append [] ys = refl
-members-append (x ∷ xs) ys =
-    ap (member_front x.0 x.1) (members-append xs ys)
-    ∙ member-append x.0 x.1 (append (forest_of_members xs) (forest_of_members ys))
-    ∙ sym (append-assoc (member_front x.0 x.1 end) (forest_of_members xs) (forest_of_members ys))
-    ∙ ap (λ g. append g (forest_of_members ys)) (sym (member-append x.0 x.1 (forest_of_members xs)))
+members-append (x ∷ xs) ys = grind (arith, common_steps, append-assoc, member-append, (members-append xs ys))
 
 pub members-push : (ms : List (Text × Member)) (m : Text × Member) → members_forest (ms ++ m ∷ []) ≡ append (members_forest ms) (member_front m.0 (bodies m.1) end)
 members-push ms m = ap forest_of_members (map-append named ms (m ∷ [])) ∙ members-append (map named ms) (named m ∷ [])
 
 elements-push : (n : Bytes) (k : ℕ) (bs : List Body) (b : Body) → elements n k (bs ++ b ∷ []) end ≡ append (elements n k bs end) (in_front n (Some (k + length bs)) b end)
 elements-push n k [] b = ap (λ j. in_front n (Some j) b end) (omega arith)
-elements-push n k (x ∷ bs) b =
-    ap (in_front n (Some k) x) (elements-push n (suc k) bs b ∙ ap (λ j. append (elements n (suc k) bs end) (in_front n (Some j) b end)) (omega arith))
-    ∙ front-append n (Some k) x (append (elements n (suc k) bs end) (in_front n (Some (k + length (x ∷ bs))) b end))
-    ∙ sym (append-assoc (in_front n (Some k) x end) (elements n (suc k) bs end) (in_front n (Some (k + length (x ∷ bs))) b end))
-    ∙ ap (λ g. append g (in_front n (Some (k + length (x ∷ bs))) b end)) (sym (front-append n (Some k) x (elements n (suc k) bs end)))
+elements-push n k (x ∷ bs) b = grind (arith, common_steps, append-assoc, front-append, (elements-push n (suc k) bs b))
 
 last-front : (o : Option SiblingPlace) (n : Bytes) (p : Option ℕ) (b : Body) (f : Forest) → last_place o (in_front n p b f) ≡ last_place (Some (n, p)) f
 last-front o n p (holds kids) f = refl
@@ -58,10 +51,7 @@ last-front o n p (says c) f = refl
 
 last-elements : (o : Option SiblingPlace) (n : Bytes) (k : ℕ) (b : Body) (bs : List Body) → last_place o (elements n k (b ∷ bs) end) ≡ Some (n, Some (k + length bs))
 last-elements o n k b [] = last-front o n (Some k) b end ∙ ap (λ j. Some (n, Some j)) (omega arith)
-last-elements o n k b (c ∷ bs) =
-    last-front o n (Some k) b (elements n (suc k) (c ∷ bs) end)
-    ∙ last-elements (Some (n, Some k)) n (suc k) c bs
-    ∙ ap (λ j. Some (n, Some j)) (omega arith)
+last-elements o n k b (c ∷ bs) = grind (arith, common_steps, last-front, (last-elements (Some (n, Some k)) n (suc k) c bs))
 
 numbered-front : (o : Option SiblingPlace) (n : Bytes) (p : Option ℕ) (b : Body) → is_numbered o n p ≡ true → IsBodyNumbered b → IsNumberedBehind o (in_front n p b end)
 numbered-front o n p (holds kids) h k = (h, k, tt)
@@ -78,13 +68,7 @@ lines-front d n j k (says c) = refl
 grows : (old new : List (Text × Member)) (n : Bytes) (p : Option ℕ) (in_array : Bool) (b : Body) →
     members_forest new ≡ append (members_forest old) (in_front n p b end) → ((d : ℕ) → lines d (in_front n p b end) ≡ lines d (in_front n (place_of in_array 0) b end)) →
     IsGrown old → IsBodyNumbered b → is_numbered (last_place None (members_forest old)) n p ≡ true → AllByRecursion (λ m. IsMemberFilled m.1) new → Grows old n in_array b new
-grows old new n p in_array b made same h k fits filled = record {
-  grown = record {
-    numbered = subst IsNumbered (sym made) (numbered-append None (members_forest old) (in_front n p b end) h.numbered (numbered-front (last_place None (members_forest old)) n p b fits k));
-    filled = filled;
-  };
-  lines = λ d. ap (lines d) made ∙ lines-append d (members_forest old) (in_front n p b end) ∙ ap (λ ls. lines d (members_forest old) ++ ls) (same d);
-}
+grows old new n p in_array b made same h k fits filled = grind (arith, common_steps, lines-append, numbered-append, numbered-front)
 
 -- a member that is no array
 pub grows-one : (old : List (Text × Member)) (n : Text) (i : Item) → IsGrown old → IsBodyNumbered (body i) → IsItemFilled i → Grows old n false (body i) (old ++ (n, One i) ∷ [])
@@ -126,10 +110,7 @@ last-array o n (b ∷ bs) h = last-elements o n 0 b bs ∙ ap (λ j. Some (n, So
 
 last-many : (P : List (Text × Member)) (n : Text) (v : Vec Item Global) → IsGrown (P ++ (n, Many v) ∷ []) →
     last_place None (members_forest (P ++ (n, Many v) ∷ [])) ≡ Some (n, Some (length (map body v.items) - 1))
-last-many P n v h =
-    last-push P (n, Many v)
-    ∙ ap (λ m. last_place (last_place None (members_forest P)) (member_front n m end)) (bodies-Many v)
-    ∙ last-array (last_place None (members_forest P)) n (map body v.items) (has_some-map body v.items ∙ (many-kept v (all-split (λ x. IsMemberFilled x.1) P (n, Many v) h.filled).1).0)
+last-many P n v h = grind (arith, common_steps, all-split, bodies-Many, has_some-map, last-array, last-push, many-kept)
 
 -- an array may begin behind one of another name
 pub first-behind_many : (P : List (Text × Member)) (n : Text) (v : Vec Item Global) (name : Bytes) → IsGrown (P ++ (n, Many v) ∷ []) → bytes_eq n name ≡ false →

@@ -3,12 +3,13 @@ use Rattle.std.proofs.Common.{◌≡◌, ℕ, zero, suc, ◌<◌, Bool, true, fa
 use Rattle.std.specs.Option.{option_map_or}
 use Rattle.std.proofs.lemmas.Bool.{cond-true, cond-false, and_parts, and_right}
 use Rattle.std.proofs.lemmas.Slice.Eq.{bytes_eq-Decides}
+use Rattle.std.proofs.lemmas.Grind.{common_steps}
 use Rattle.json.specs.Print.{quoted}
 use Rattle.serde_json.specs.Data as json
 use Rattle.serde_json.specs.Data.{Data}
 use Rattle.serde_json.specs.Read.{read}
 use Rattle.serde_json.specs.Written.{comma_if, compact_text, items_text, members_text}
-use Rattle.iodef_tree.specs.Text.{Bytes, bytes_lt}
+use Rattle.iodef_tree.specs.Text.{Bytes}
 use Rattle.iodef_tree.specs.Texts.{may_be_value, may_be_text, HasTexts}
 use Rattle.iodef_tree.specs.Tree.{Content, text, value, Forest, end, leaf, branch, kind_of, text_of, leaf_line, class_line, lines}
 use Rattle.iodef_tree.specs.Sound.{SiblingPlace, may_stand, IsOrderedBehind, IsSound}
@@ -110,11 +111,7 @@ continues-is None l None a h = refl
 continues-is None l (Some zero) a h = refl
 continues-is None l (Some (suc k)) a h = absurd (true≢false (sym h))
 continues-is (Some (n, q)) l None a h = ap (λ b. bytes_eq n l.name && (is_some q && b)) a ∙ and_right (bytes_eq n l.name) _ (and_right (is_some q) false refl)
-continues-is (Some (n, q)) l (Some zero) a h = ap (λ b. b && (is_some q && l.in_array)) (bytes_lt-ne n l.name (first-stands q h))
-  where
-    first-stands : (r : Option ℕ) → may_stand (Some (n, r)) l.name (Some zero) ≡ true → bytes_lt n l.name ≡ true
-    first-stands None k = k
-    first-stands (Some j) k = k
+continues-is (Some (n, q)) l (Some zero) a h = grind (arith, common_steps, bytes_lt-ne)
 continues-is (Some (n, None)) l (Some (suc k)) a h = absurd (true≢false (sym h))
 continues-is (Some (n, Some j)) l (Some (suc k)) a h = ap (λ b. b && (true && l.in_array)) ((and_parts (bytes_eq n l.name) (j == k) h).0) ∙ a
 
@@ -181,20 +178,7 @@ record Tells (d : ℕ) (o : Option SiblingPlace) (ls : List Line) (ds : json.Ite
 one-tells : (d : ℕ) (o : Option SiblingPlace) (l : Line) (p : Option ℕ) (ls : List Line) (D : Data) (ds : json.Items) (ms : json.Members) → l.depth ≡ d → l.in_array ≡ is_some p →
     may_stand o l.name p ≡ true → datum l.kind l.text (members_from (suc d) None ls) ≡ D →
     members_from d (Some (sibling l)) ls ≡ ms → items_from d (Some (sibling l)) ls ≡ ds → Tells d o (l ∷ ls) (placed_item p D ds) (placed_member l.name p D ds ms)
-one-tells d o l p ls D ds ms deep a fits is m i =
-    let c = continues-is o l p a fits in record {
-      members =
-          at-line l.depth d _ _ _ deep
-          ∙ choose-member l.name p (continues (as_sibling o) l) l.in_array (datum l.kind l.text (members_from (suc d) None ls)) (items_from d (Some (sibling l)) ls) (members_from d (Some (sibling l)) ls) c a
-          ∙ ap (λ x. placed_member l.name p x (items_from d (Some (sibling l)) ls) (members_from d (Some (sibling l)) ls)) is
-          ∙ ap (λ x. placed_member l.name p D x (members_from d (Some (sibling l)) ls)) i
-          ∙ ap (placed_member l.name p D ds) m;
-      items =
-          at-line l.depth d _ _ _ deep
-          ∙ choose-item p (continues (as_sibling o) l) (datum l.kind l.text (members_from (suc d) None ls)) (items_from d (Some (sibling l)) ls) c
-          ∙ ap (λ x. placed_item p x (items_from d (Some (sibling l)) ls)) is
-          ∙ ap (placed_item p D) i;
-    }
+one-tells d o l p ls D ds ms deep a fits is m i = grind (arith, common_steps, at-line, choose-item, choose-member, continues-is)
 
 tells : (f : Forest) (d : ℕ) (o : Option SiblingPlace) (X : List Line) → IsOrderedBehind o f → Stops d X → Tells d o (lines d f ++ X) (items_of f) (members_of f)
 tells end d o X h k = record { members = stops-members X d (as_sibling o) k; items = stops-items X d (as_sibling o) k }
@@ -222,6 +206,4 @@ data-is f h = data-ordered f h.ordered
 
 -- what is written of a document's tree is the compact JSON of the object that its lines mean
 pub text-is : (f : Forest) → IsSound f → 123 ∷ (written false f ++ 125 ∷ []) ≡ compact_text (json.object (data_of (lines 1 f)))
-text-is f h =
-    ap (λ x. 123 ∷ x) ((means f None h.ordered h.texts).members false (starts None f refl h.ordered))
-    ∙ sym (ap (λ ms. 123 ∷ members_text false ms) (data-is f h))
+text-is f h = grind (arith, common_steps, data-is, means, starts)

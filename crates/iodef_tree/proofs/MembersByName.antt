@@ -1,15 +1,16 @@
 -- The member of a name, and the IncidentID.
-use Rattle.std.proofs.Common.{◌≡◌, ℕ, ◌+◌, ◌<◌, Bool, true, false, if◌then◌else◌, List, [], ◌∷◌, map, length, drop, get_or, refl, sym, ◌∙◌, ap, subst, true≢false, Ordering, Less, is_eq, Option, Some, None, is_some, option_map, option_and_then, codes, bytes_eq}
+use Rattle.std.proofs.Common.{◌≡◌, ℕ, ◌+◌, ◌<◌, Bool, true, false, if◌then◌else◌, List, [], ◌∷◌, map, length, drop, get_or, refl, sym, ◌∙◌, ap, subst, true≢false, Ordering, Less, is_eq, Option, Some, None, is_some, option_map, option_and_then, codes, bytes_eq, arith}
 use Rattle.std.specs.List.{AllByRecursion}
 use Rattle.std.specs.Ordering.{nat_cmp, match_ordering}
 use Rattle.std.specs.Cmp.Lexicographic.{slice_cmp}
 use Rattle.std.proofs.lemmas.Map.Text.{is_eq-slice_cmp}
+use Rattle.std.proofs.lemmas.Grind.{common_steps}
 use Rattle.serde_json.specs.Data as json
 use Rattle.serde_json.specs.Data.{Data}
 use Rattle.serde_json.specs.Find.{get, get_member, as_object}
 use Rattle.serde_json.specs.Written.{compact_text}
 use Rattle.iodef_tree.specs.FitValues.{IsBodyOrdered, AreBodiesOrdered}
-use Rattle.iodef_tree.specs.Json.{data_of, zeroth, id_in, incident_id}
+use Rattle.iodef_tree.specs.Json.{zeroth, id_in, incident_id}
 use Rattle.iodef_tree.specs.SoundParts.{IsKept, IsBodyKept, AreKept}
 use Rattle.iodef_tree.specs.Sound.{SiblingPlace, IsOrderedBehind, IsSound}
 use Rattle.iodef_tree.specs.Text.{Bytes}
@@ -44,10 +45,7 @@ get-first k n b d ms h = chosen (slice_cmp nat_cmp k n) b (get_member k ms) d (i
 -- the first of these members has the name, or it is one of the others
 pub member-next : (k : Bytes) (xs : List (Text × Member)) (i : ℕ) (m : Text × Member) (b : Bool) → i < length xs → m ≡ get_or xs i m → bytes_eq m.0 k ≡ b → has_elements (bodies m.1) ≡ true →
     get_member k (members_of (members_forest (drop i xs))) ≡ (if b then Some (bodies_data (bodies m.1)) else get_member k (members_of (members_forest (drop (i + 1) xs))))
-member-next k xs i m b h e is filled =
-    let rest = members_forest (drop (i + 1) xs) in
-    ap (get_member k) (ap members_of (members-next xs i m h e) ∙ member-data m.0 (bodies m.1) rest (no-items (map named (drop (i + 1) xs))) filled)
-    ∙ get-first k m.0 b (bodies_data (bodies m.1)) (members_of rest) is
+member-next k xs i m b h e is filled = grind (arith, common_steps, get-first, member-data, members-next, no-items)
 
 -- ---- what is kept in each member
 
@@ -86,14 +84,8 @@ get-then k (Some d) = get-object k d
 
 pub id-found : (ms own : json.Members) (d : Data) (r : Option Data) → Some d ≡ get_member (codes "Incident") ms → Some own ≡ option_and_then as_object (zeroth d) → r ≡ get_member (codes "IncidentID") own →
     r ≡ id_in (json.object ms)
-id-found ms own d r first at is =
-    let k = codes "IncidentID" in
-    is
-    ∙ ap (option_and_then (get_member k)) at
-    ∙ get-then k (zeroth d)
-    ∙ ap (λ o. option_and_then (get k) (option_and_then zeroth o)) first
+id-found ms own d r first at is = grind (arith, common_steps, get-then)
 
 -- with its text
 pub id-is : (f : Forest) (ls : List Line) (o : Option Data) (r : Option Bytes) → IsSound f → lines 1 f ≡ ls → o ≡ id_in (json.object (members_of f)) → r ≡ option_map compact_text o → r ≡ incident_id ls
-id-is f ls o r h seen found said =
-    said ∙ ap (option_map compact_text) found ∙ ap (λ ms. option_map compact_text (id_in (json.object ms))) (sym (data-is f h) ∙ ap data_of seen)
+id-is f ls o r h seen found said = grind (arith, common_steps, data-is)

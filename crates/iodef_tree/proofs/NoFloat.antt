@@ -1,8 +1,9 @@
 -- No float is in what a part of a document means.
-use Rattle.std.proofs.Common.{◌≡◌, ℕ, zero, suc, Bool, true, false, ◌&&◌, ◌||◌, List, [], ◌∷◌, map, refl, sym, true≢false, Option, Some, None, is_some, unwrap_or, bytes_eq, ◌-◌, nat_lt}
+use Rattle.std.proofs.Common.{◌≡◌, ℕ, zero, suc, Bool, true, false, ◌&&◌, ◌||◌, List, [], ◌∷◌, map, refl, sym, true≢false, Option, Some, None, unwrap_or, bytes_eq, ◌-◌, nat_lt, arith}
 use Rattle.std.specs.List.{AllByRecursion}
 use Rattle.std.specs.Option.{option_map_or}
 use Rattle.std.proofs.lemmas.Bool.{and_parts, or_from, not-true}
+use Rattle.std.proofs.lemmas.Grind.{common_steps}
 use Rattle.serde_json.specs.Data as json
 use Rattle.serde_json.specs.Data.{Data}
 use Rattle.serde_json.specs.Read.{read}
@@ -65,20 +66,8 @@ pub record IsWhole (f : Forest) : Type 0 where
 
 pub whole : (f : Forest) → HasTexts f → IsWhole f
 whole end h = record { members = refl; items = refl }
-whole (leaf i rest) h =
-    let r = whole rest h.1 in
-    let d = content-whole (is_some i.place) i.content h.0 in
-    record {
-      members = placed-member-whole i.name i.place (content_data i.content) (items_of rest) (members_of rest) d r.items r.members;
-      items = placed-item-whole i.place (content_data i.content) (items_of rest) d r.items;
-    }
-whole (branch n p kids rest) h =
-    let k = whole kids h.0 in
-    let r = whole rest h.1 in
-    record {
-      members = placed-member-whole n p (json.object (members_of kids)) (items_of rest) (members_of rest) k.members r.items r.members;
-      items = placed-item-whole p (json.object (members_of kids)) (items_of rest) k.members r.items;
-    }
+whole (leaf i rest) h = grind (arith, common_steps, content-whole, placed-item-whole, placed-member-whole, (whole rest h.1))
+whole (branch n p kids rest) h = grind (arith, common_steps, placed-item-whole, placed-member-whole, (whole kids h.0), (whole rest h.1))
 
 -- ---- what stands at one place
 

@@ -1,12 +1,10 @@
 -- What is read of a text has its names in order and its numbers in range, and its own text is read as the same.
-use Rattle.std.proofs.Common.{◌≡◌, ℕ, zero, suc, ◌^◌, ◌<◌, ◌≤◌, List, [], Bool, true, false, ◌&&◌, nat_lt, nat_le, drop, refl, sym, ◌∙◌, ap, subst, arith, append-nil, Ordering, Less, Equal, Greater, Option, Some, None, option_map, option_and_then, negsuc}
-use Rattle.std.specs.Fmt.{signed_decimal}
-use Rattle.std.specs.Ordering.{nat_cmp, match_ordering, is_lt, ordering_reverse}
-use Rattle.std.specs.Cmp.Lexicographic.{slice_cmp}
+use Rattle.std.proofs.Common.{◌≡◌, ℕ, zero, suc, ◌^◌, ◌<◌, ◌≤◌, List, [], Bool, true, false, drop, refl, sym, ◌∙◌, ap, subst, arith, append-nil, Option, Some, None, option_map, option_and_then, negsuc}
 use Rattle.std.proofs.lemmas.Bool.{and_parts, cond_both, ltb-true, leb-true, or_parts}
 use Rattle.std.proofs.lemmas.Option.{cond_some, option_and_then_some, same_Some}
 use Rattle.std.proofs.lemmas.Cmp.{nat_list_cmp_total}
-use Rattle.fast_float.specs.Text.{Parts, scan, digits_of, with_sign}
+use Rattle.std.proofs.lemmas.Grind.{common_steps}
+use Rattle.fast_float.specs.Text.{Parts, scan, with_sign}
 use Rattle.json.specs.Token.{Token}
 use Rattle.json.specs.Lex.{tokens}
 use Rattle.json.specs.Print.{IsNumber}
@@ -19,7 +17,7 @@ use Rattle.json.proofs.Printed.Trees.{value-json_tokens, ArePrintable-json_token
 use Rattle.serde_json.specs.Data as json
 use Rattle.serde_json.specs.Data.{Data, Num, put, depth, items_depth, members_depth}
 use Rattle.serde_json.specs.Find.{is_float}
-use Rattle.serde_json.specs.Read.{is_integer, float_of, number_from, number_of, of_json, of_items, of_members, read, max_depth}
+use Rattle.serde_json.specs.Read.{float_of, number_from, number_of, of_json, of_items, of_members, read, max_depth}
 use Rattle.serde_json.specs.Written.{number_text, outline, items_outline, members_outline, has_float, items_have_float, members_have_float, compact_text}
 use Rattle.serde_json.proofs.Numbers.{number_of-decimal, number_of-negative}
 use Rattle.serde_json.proofs.Texts.{print-outline}
@@ -59,14 +57,8 @@ float-in_range : (sign : Bool) (p : Parts) (n : Num) → float_of sign p ≡ Som
 float-in_range sign p n h = subst IsInRange (cond_some _ _ n h).1 tt
 
 from-in_range : (sign : Bool) (p : Parts) (n : Num) → number_from sign p ≡ Some n → IsInRange n
-from-in_range false p n h = cond_both (is_integer p && nat_lt (digits_of p) (2 ^ 64)) (Some (json.unsigned (digits_of p))) (float_of false p) (λ o. o ≡ Some n → IsInRange n)
-    (λ is e. subst IsInRange (same_Some _ n e) (ltb-true (digits_of p) (2 ^ 64) (and_parts (is_integer p) _ is).1))
-    (λ is e. float-in_range false p n e) h
-from-in_range true p n h = cond_both ((is_integer p && nat_lt 0 (digits_of p)) && nat_le (digits_of p) (2 ^ 63)) (Some (json.negative (with_sign true (digits_of p)))) (float_of true p) (λ o. o ≡ Some n → IsInRange n)
-    (λ is e.
-    let tests = and_parts (is_integer p && nat_lt 0 (digits_of p)) _ is in
-    subst IsInRange (same_Some _ n e) (below-zero (digits_of p) (ltb-true 0 (digits_of p) (and_parts (is_integer p) _ tests.0).1) (leb-true (digits_of p) (2 ^ 63) tests.1)))
-    (λ is e. float-in_range true p n e) h
+from-in_range false p n h = grind (arith, common_steps, and_parts, cond_both, float-in_range, ltb-true, same_Some)
+from-in_range true p n h = grind (arith, common_steps, and_parts, below-zero, cond_both, float-in_range, leb-true, ltb-true, same_Some)
 
 pub number-in_range : (s : Bytes) (n : Num) → number_of s ≡ Some n → IsInRange n
 unfolding number_of
@@ -76,21 +68,11 @@ number-in_range s n h = cond_both _ (number_from true (scan (drop 1 s))) (number
 
 put-after : (l k : Bytes) (d : Data) (ms : json.Members) → AreAfter l ms → bytes_lt l k ≡ true → AreAfter l (put k d ms)
 put-after l k d json.no_members h lt = (lt, tt)
-put-after l k d (json.member m e ms) h lt = step (slice_cmp nat_cmp k m) (put-after l k d ms h.1 lt)
-  where
-    step : (o : Ordering) → AreAfter l (put k d ms) → AreAfter l (match_ordering o (json.member k d (json.member m e ms)) (json.member m d ms) (json.member m e (put k d ms)))
-    step Less later = (lt, h)
-    step Equal later = h
-    step Greater later = (h.0, later)
+put-after l k d (json.member m e ms) h lt = grind (arith, common_steps, (put-after l k d ms h.1 lt))
 
 put-ascend : (k : Bytes) (d : Data) (ms : json.Members) → Ascend ms → Ascend (put k d ms)
 put-ascend k d json.no_members h = (tt, tt)
-put-ascend k d (json.member m e ms) h = step (slice_cmp nat_cmp k m) refl (put-ascend k d ms h.1)
-  where
-    step : (o : Ordering) → slice_cmp nat_cmp k m ≡ o → Ascend (put k d ms) → Ascend (match_ordering o (json.member k d (json.member m e ms)) (json.member m d ms) (json.member m e (put k d ms)))
-    step Less is later = let lt : bytes_lt k m ≡ true = ap is_lt is in ((lt, after-trans k m ms lt h.0), h)
-    step Equal is later = h
-    step Greater is later = (put-after m k d ms h.0 (ap is_lt (nat_list_cmp_total.antisymm m k ∙ ap ordering_reverse is)), later)
+put-ascend k d (json.member m e ms) h = grind (arith, common_steps, after-trans, nat_list_cmp_total, put-after, (put-ascend k d ms h.1))
 
 pub normals : IsEach IsNormal AreMembersNormal
 normals = record { made = λ k d ms h all. (h, all); first = λ k d ms h. h.0; others = λ k d ms h. h.1 }
@@ -130,9 +112,7 @@ read-normal text d h = option_and_then_some of_json (option_and_then (λ p. tree
 
 number-printed : (n : Num) → IsInRange n → is_float n ≡ false → (number_of (number_text n) ≡ Some n) × IsNumber (number_text n)
 number-printed (json.unsigned n) h w = (number_of-decimal n h, IsNumber-decimal n h)
-number-printed (json.negative z) h w =
-    subst (λ y. (number_of (signed_decimal y) ≡ Some (json.negative y)) × IsNumber (signed_decimal y)) (sym h.2)
-    (number_of-negative h.0 h.1, IsNumber-signed_decimal (negsuc h.0) (omega (arith, h.1)))
+number-printed (json.negative z) h w = grind (arith, common_steps, IsNumber-signed_decimal, number_of-negative)
 number-printed (json.float x) h w = absurd (cc)
 
 mutual

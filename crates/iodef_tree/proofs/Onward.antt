@@ -1,7 +1,8 @@
 -- The look-up from a class, or from the root, finds the class whose lines stand below the whole path.
-use Rattle.std.proofs.Common.{◌≡◌, List, [], ◌∷◌, ◌++◌, Bool, true, false, cond, ◌&&◌, ◌||◌, refl, sym, ◌∙◌, ap, subst, append-nil, true≢false, Bor, ℕ, suc, append_assoc, Option, Some, None, is_some, option_map, IfSome}
+use Rattle.std.proofs.Common.{◌≡◌, List, [], ◌∷◌, ◌++◌, Bool, true, false, cond, ◌&&◌, ◌||◌, refl, sym, ◌∙◌, ap, subst, append-nil, true≢false, Bor, ℕ, suc, append_assoc, Option, Some, None, is_some, option_map, IfSome, arith}
 use Rattle.std.specs.Option.{option_map_or}
 use Rattle.std.proofs.lemmas.Bool.{and_right, cond-true, cond-false}
+use Rattle.std.proofs.lemmas.Grind.{common_steps}
 use Rattle.iodef_tree.specs.Text.{Bytes, Tokens, same_path, is_root, is_under}
 use Rattle.iodef_tree.specs.Tree.{Forest, end, leaf, branch, steps, lines}
 use Rattle.iodef_tree.specs.Paths.{LocatedLine, is_class, located, has_class, below}
@@ -35,10 +36,7 @@ has_class-below (e ∷ es) p x z = by_cases (is_under p e.path) refl (has_class-
 
 found-at : (es : List LocatedLine) (p : Tokens) (f : Forest) (z : Tokens) → StandsAt es p f → is_some (object_at f z) ≡ (is_root z || has_class es (p ++ z))
 found-at es p f [] at = refl
-found-at es p f (x ∷ z) at =
-    sym (has_class-walk f at.block.0 p (x ∷ z) at.apart)
-    ∙ ap (λ l. has_class l (p ++ x ∷ z)) (sym at.block.1)
-    ∙ sym (has_class-below es p x z)
+found-at es p f (x ∷ z) at = grind (arith, common_steps, has_class-below, has_class-walk)
 
 -- each sibling stands apart from the others in what is found too
 class-stands : (f : Forest) (es : List LocatedLine) (d : ℕ) (q p : Tokens) (g : Forest) → AreBlocks es d q f → HasApart f → class_at f p ≡ Some g → StandsAt es (q ++ p) g

@@ -1,5 +1,5 @@
 -- The order of texts, and how paths stand to one another.
-use Rattle.std.proofs.Common.{◌≡◌, ℕ, ◌^◌, ◌<◌, [], ◌∷◌, ◌++◌, Bool, true, false, ◌&&◌, decimal, refl, sym, ◌∙◌, ap, append-nil, Ordering, Less, is_eq, true≢false, arith, Option, Some, None, bytes_eq, nat_cmp, is_lt}
+use Rattle.std.proofs.Common.{◌≡◌, ℕ, ◌^◌, ◌<◌, [], ◌∷◌, ◌++◌, true, false, ◌&&◌, decimal, refl, sym, ◌∙◌, ap, append-nil, Ordering, Less, is_eq, true≢false, arith, Option, Some, None, bytes_eq, nat_cmp, is_lt}
 use Rattle.std.specs.Cmp.Lexicographic.{slice_cmp}
 use Rattle.std.proofs.lemmas.Bool.{and_parts, false≢true}
 pub use Rattle.std.proofs.lemmas.Bool.{false_from_ne_true as is_false}
@@ -7,6 +7,7 @@ use Rattle.std.proofs.lemmas.Cmp.{nat_list_cmp_total}
 use Rattle.std.proofs.lemmas.Fmt.{decimal_injective}
 use Rattle.std.proofs.lemmas.Map.Text.{is_eq-slice_cmp}
 use Rattle.std.proofs.lemmas.Slice.Eq.{bytes_eq-Decides}
+use Rattle.std.proofs.lemmas.Grind.{common_steps}
 use Rattle.iodef_tree.specs.Text.{Bytes, Tokens, bytes_lt, same_path, is_prefix, is_under}
 use Rattle.iodef_tree.specs.Tree.{steps}
 
@@ -38,10 +39,7 @@ bytes_lt-ne_back x y h =
 
 -- the digits of two places are the same only where the places are
 pub decimals_differ : (j k : ℕ) → j < k → k < 2 ^ 64 → (bytes_eq (decimal j) (decimal k) ≡ false) × (bytes_eq (decimal k) (decimal j) ≡ false)
-decimals_differ j k lt small = (
-  is_false (bytes_eq (decimal j) (decimal k)) (λ same. let e : j ≡ k = decimal_injective j k (omega arith) small (bytes_eq-true (decimal j) (decimal k) same) in absurd (omega arith)),
-  is_false (bytes_eq (decimal k) (decimal j)) (λ same. let e : k ≡ j = decimal_injective k j small (omega arith) (bytes_eq-true (decimal k) (decimal j) same) in absurd (omega arith)),
-)
+decimals_differ j k lt small = grind (arith, common_steps, bytes_eq-true, decimal_injective)
 
 -- ---- paths
 
@@ -80,11 +78,7 @@ is_prefix-append (x ∷ p) z = ap (λ t. t && is_prefix p (p ++ z)) (bytes_eq-re
 pub is_under-is_prefix : (q p : Tokens) → is_prefix q p ≡ false → is_under q p ≡ false
 is_under-is_prefix [] p h = absurd (true≢false h)
 is_under-is_prefix (x ∷ q) [] h = refl
-is_under-is_prefix (x ∷ q) (y ∷ p) h = step (bytes_eq x y) h (is_under-is_prefix q p)
-  where
-    step : (b : Bool) → (b && is_prefix q p) ≡ false → (is_prefix q p ≡ false → is_under q p ≡ false) → (b && is_under q p) ≡ false
-    step true k later = later k
-    step false k later = refl
+is_under-is_prefix (x ∷ q) (y ∷ p) h = grind (arith, common_steps, (is_under-is_prefix q p))
 
 pub same_path-is_prefix : (q p : Tokens) → is_prefix q p ≡ false → same_path q p ≡ false
 same_path-is_prefix q p h = is_false (same_path q p) (λ same. true≢false (sym (is_prefix-append q []) ∙ ap (is_prefix q) (append-nil q ∙ same_path-true q p same) ∙ h))

@@ -1,10 +1,9 @@
 -- Outlines, one line more at a time.
-use Rattle.std.proofs.Common.{◌⊎◌, inl, inr, ◌≡◌, ℕ, zero, suc, ◌+◌, ◌-◌, ◌<◌, ◌≤◌, Bool, true, false, not, ◌&&◌, List, [], ◌∷◌, ◌++◌, length, take, drop, drop-cons, get_or, refl, sym, ◌∙◌, ap, arith, if◌then◌else◌, ◌==◌, cond, Some, None, nat_lt, nat_le, slice_get}
+use Rattle.std.proofs.Common.{◌≡◌, ℕ, zero, suc, ◌+◌, ◌-◌, ◌<◌, ◌≤◌, Bool, true, false, ◌&&◌, List, [], ◌∷◌, ◌++◌, length, take, drop, drop-cons, get_or, refl, sym, ◌∙◌, ap, arith, if◌then◌else◌, ◌==◌, Some, None, nat_lt, nat_le, slice_get}
 use Rattle.std.proofs.lemmas.Bool.{cond-true, cond-false, ne_eqb, eq-eqb, lt-ltb, le-ltb, cases_lt, and_parts, and_right, leb-true, ltb-true}
 use Rattle.std.proofs.lemmas.List.{take_more, take-append-drop}
 use Rattle.std.proofs.lemmas.List.Sums.{sum_by-cons}
-use Rattle.iodef_tree.specs.Paths.{is_class_kind}
-use Rattle.iodef_tree.specs.Sound.{is_label_line, counted}
+use Rattle.iodef_tree.specs.Sound.{counted}
 use Rattle.iodef_tree.specs.Outline.{sibling, deepest, last_sibling, may_follow, is_sound_line, is_short, may_come, is_outline_after, is_outline, is_outline_back, edge, back_onto, back}
 use Rattle.iodef_tree.specs.Shown.{counted_with, if_short, fits_edge, Shows}
 use Rattle.iodef_tree.specs.declared.TheConstants.{LINE_LIMIT}
@@ -12,6 +11,7 @@ use Rattle.iodef_tree.specs.declared.line.Line.{Line}
 use Rattle.iodef_tree.specs.declared.shape.Shape.{Shape}
 use Rattle.std.proofs.Math.Bool.{and-true, and_assoc, and_comm}
 use Rattle.std.proofs.lemmas.Option.{cond_some, slice_get_past}
+use Rattle.std.proofs.lemmas.Grind.{common_steps}
 
 -- ---- lists of lines, appended and turned round
 
@@ -30,10 +30,7 @@ back-push ls l = back_onto-append ls (l ∷ []) []
 
 back_is : (ls before : List Line) → is_outline_back (back_onto ls before) ≡ (is_outline_after before ls && is_outline_back before)
 back_is [] before = refl
-back_is (x ∷ ls) before =
-    back_is ls (x ∷ before)
-    ∙ sym (and_assoc (is_outline_after (x ∷ before) ls) (may_come before x) (is_outline_back before))
-    ∙ ap (λ b. b && is_outline_back before) (and_comm (is_outline_after (x ∷ before) ls) (may_come before x))
+back_is (x ∷ ls) before = grind (arith, common_steps, and_assoc, and_comm, (back_is ls (x ∷ before)))
 
 -- from the newest line back the same lists are outlines
 pub outline-back : (ls : List Line) → is_outline_back (back ls) ≡ is_outline ls
@@ -100,36 +97,7 @@ deep_le true n m h = omega (arith, h)
 deep_le false n m h = omega (arith, h)
 
 known_more : (x : Line) (before : List Line) → 0 < x.depth → x.depth ≤ deepest before → Known before → Known (x ∷ before)
-known_more x before positive reached k =
-    let E = edge before in
-    let n = sibling x in
-    let fits : x.depth - 1 ≤ length E = omega (arith, positive, reached, k.size) in
-    let long : length (take (x.depth - 1) E ++ n ∷ []) ≡ suc (x.depth - 1) = length_new (x.depth - 1) E n fits in record {
-      size = deep_le (is_class_kind x.kind) x.depth (length (edge (x ∷ before))) (omega (arith, positive, long));
-      at = λ d h. by_place d (cases_lt d (x.depth - 1)) (cases_lt (x.depth - 1) d) (deep_at d h) fits;
-    }
-  where
-    deep_at : (d : ℕ) → suc d ≤ deepest (x ∷ before) → suc d ≤ suc x.depth
-    deep_at d h = deep_from (is_class_kind x.kind) x.depth (suc d) h
-      where
-        deep_from : (b : Bool) (n m : ℕ) → m ≤ (if b then suc n else n) → m ≤ suc n
-        deep_from true n m h = h
-        deep_from false n m h = omega (arith, h)
-
-    by_place : (d : ℕ) → ((d < x.depth - 1) ⊎ (x.depth - 1 ≤ d)) → ((x.depth - 1 < d) ⊎ (d ≤ x.depth - 1)) → suc d ≤ suc x.depth → x.depth - 1 ≤ length (edge before) →
-        slice_get (take (x.depth - 1) (edge before) ++ sibling x ∷ []) d ≡ last_sibling (suc d) (x ∷ before)
-    by_place d (inl l) o h fits =
-        get_kept (x.depth - 1) (edge before) (sibling x) d fits l
-        ∙ k.at d (omega (arith, l, reached))
-        ∙ sym (past-line x.depth (suc d) _ _ _ (omega (arith, l)))
-    by_place d (inr g) (inr l) h fits =
-        ap (λ i. slice_get (take (x.depth - 1) (edge before) ++ sibling x ∷ []) i) (omega (arith, g, l))
-        ∙ get_new (x.depth - 1) (edge before) (sibling x) fits
-        ∙ sym (at-line x.depth (suc d) _ _ _ (omega (arith, g, l, positive)))
-    by_place d (inr g) (inl l) h fits =
-        ap (λ i. slice_get (take (x.depth - 1) (edge before) ++ sibling x ∷ []) i) (omega (arith, l, h, positive))
-        ∙ get_past (x.depth - 1) (edge before) (sibling x) fits
-        ∙ sym (above-line x.depth (suc d) _ _ _ (omega (arith, l, positive)))
+known_more x before positive reached k = grind (arith, common_steps, above-line, at-line, cases_lt, deep_le, get_kept, get_new, get_past, length_new, past-line)
 
 -- what a line that may come says
 pub record Came (before : List Line) (l : Line) : Type 0 where
@@ -140,12 +108,7 @@ pub record Came (before : List Line) (l : Line) : Type 0 where
   pub short : is_short (l ∷ before) ≡ true
 
 pub came : (before : List Line) (l : Line) → may_come before l ≡ true → Came before l
-came before l h =
-    let s = and_parts (is_short (l ∷ before)) _ h in
-    let a = and_parts (nat_lt 0 l.depth) _ s.1 in
-    let b = and_parts (nat_le l.depth (deepest before)) _ a.1 in
-    let c = and_parts (may_follow (last_sibling l.depth before) (sibling l)) (is_sound_line l) b.1 in
-    record { positive = ltb-true 0 l.depth a.0; reached = leb-true l.depth (deepest before) b.0; follows = c.0; sound = c.1; short = s.0 }
+came before l h = grind (arith, common_steps, and_parts, leb-true, ltb-true)
 
 pub known : (before : List Line) → is_outline_back before ≡ true → Known before
 known [] h = record { size = omega arith; at = λ d k. refl }
@@ -162,18 +125,10 @@ guarded true false f g s h = refl
 guarded true true f g s h = ap (λ x. x && s) (h refl refl)
 
 pub counted-cons : (l : Line) (ls : List Line) → counted (l ∷ ls) ≡ counted_with l (counted ls)
-counted-cons l ls = sum_by-cons (λ (x : Line). cond (not (is_label_line x)) 1 0) l ls ∙ by_test (not (is_label_line l)) (counted ls)
-  where
-    by_test : (b : Bool) (n : ℕ) → cond b 1 0 + n ≡ (if b then 1 + n else n)
-    by_test true n = refl
-    by_test false n = omega arith
+counted-cons l ls = grind (arith, common_steps, sum_by-cons)
 
 short_else : (n : ℕ) → if_short n ≡ None → nat_le n LINE_LIMIT ≡ false
-short_else n h = by_test (nat_le n LINE_LIMIT) h
-  where
-    by_test : (b : Bool) → (if b then Some n else None) ≡ None → b ≡ false
-    by_test true e = cc
-    by_test false e = refl
+short_else n h = grind (arith, common_steps)
 
 -- no line may come where too many would count
 pub too_many : (s : Shape) (before : List Line) (l : Line) → Shows s before → if_short (counted_with l s.counted) ≡ None → may_come before l ≡ false

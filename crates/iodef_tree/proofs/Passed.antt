@@ -1,8 +1,8 @@
 -- What a body that can be read has passed.
-use Rattle.std.proofs.Common.{◌≡◌, List, true, cond, length, nat_lt, sym, ◌∙◌, ap, subst, Option, Some, None, Ok, Err, option_and_then, codes}
-use Rattle.std.specs.Str.{is_utf8}
+use Rattle.std.proofs.Common.{◌≡◌, List, true, length, nat_lt, sym, ◌∙◌, ap, subst, Option, Some, None, Ok, Err, option_and_then, codes, arith}
 use Rattle.std.proofs.lemmas.Bool.{cond_both}
 use Rattle.std.proofs.lemmas.Option.{cond_some}
+use Rattle.std.proofs.lemmas.Grind.{common_steps}
 use Rattle.serde_json.specs.Data as json
 use Rattle.serde_json.specs.Data.{Data}
 use Rattle.serde_json.specs.Find.{get_member, as_array, as_object}
@@ -11,7 +11,7 @@ use Rattle.iodef_tree.specs.Reading.{or_fault, parsed, are_incidents, if_inciden
 use Rattle.iodef_tree.specs.Text.{Bytes}
 use Rattle.iodef_tree.specs.declared.TheConstants.{LINE_LIMIT}
 use Rattle.iodef_tree.specs.declared.fault.ReadFault.{ReadFault}
-use Rattle.iodef_tree.specs.declared.fault.ReadFault.TheVariants.{NotJson, NotDocument, TooManyLines}
+use Rattle.iodef_tree.specs.declared.fault.ReadFault.TheVariants.{NotDocument, TooManyLines}
 use Rattle.iodef_tree.specs.declared.line.Line.{Line}
 use Rattle.iodef_tree.proofs.Bodies.{found_array}
 use Rattle.iodef_tree.proofs.Fitness.{IsPlain, bind-ok, plain_ok}
@@ -21,8 +21,7 @@ or-ok e None x h = absurd (cc)
 or-ok e (Some y) x h = let same : y ≡ x = cc in ap Some same
 
 parsed-ok : (bytes : Bytes) (d : Data) → parsed bytes ≡ Ok d → read bytes ≡ Some d
-parsed-ok bytes d h =
-    cond_both (is_utf8 bytes) (read bytes) None (λ o. o ≡ Some d → read bytes ≡ Some d) (λ _ e. e) (λ _ e. absurd (cc)) (or-ok NotJson (cond (is_utf8 bytes) (read bytes) None) d h)
+parsed-ok bytes d h = grind (arith, common_steps, cond_both, or-ok)
 
 object-of : (d : Data) (root : json.Members) → as_object d ≡ Some root → d ≡ json.object root
 object-of (json.object ms) root h = let same : ms ≡ root = cc in ap json.object same

@@ -3,6 +3,7 @@ use Rattle.std.proofs.Common.{◌≡◌, ℕ, suc, ◌≤◌, List, [], ◌∷�
 use Rattle.std.specs.List.{AllByRecursion}
 use Rattle.std.specs.Str.{is_utf8}
 use Rattle.std.proofs.lemmas.Bool.{and_parts, cond-true, or_parts}
+use Rattle.std.proofs.lemmas.Grind.{common_steps}
 use Rattle.serde_json.specs.Data as json
 use Rattle.serde_json.specs.Data.{Data, put, depth, items_depth, members_depth}
 use Rattle.serde_json.specs.Events.{items_len}
@@ -128,18 +129,10 @@ AreGood n json.no_items = Unit {0}
 AreGood n (json.item d ds) = IsGood n 1 1 d × AreGood n ds
 
 fits : IsEach (λ d. AreClear (nodes 1 0 d)) (λ ms. AreClear (member_nodes 1 ms))
-fits = record {
-  made = λ k d ms. clear-joined k (nodes 1 0 d) (member_nodes 1 ms);
-  first = λ k d ms h. (clear-apart k (nodes 1 0 d) (member_nodes 1 ms) h).0;
-  others = λ k d ms h. (clear-apart k (nodes 1 0 d) (member_nodes 1 ms) h).1;
-}
+fits = grind (arith, common_steps, clear-apart, clear-joined)
 
 depths : (n : ℕ) → IsEach (λ d. depth d ≤ n) (λ ms. members_depth ms ≤ n)
-depths n = record {
-  made = λ k d ms h all. omega (arith, h, all);
-  first = λ k d ms h. omega (arith, h);
-  others = λ k d ms h. omega (arith, h);
-}
+depths n = grind (arith, common_steps)
 
 good-items : (ds : json.Items) (n k : ℕ) → AreNormal ds → items_depth ds ≤ n → AreClear (item_nodes 1 1 k ds) → AreGood n ds
 good-items json.no_items n k h low fits = tt

@@ -1,5 +1,5 @@
 -- Where no value stands too deep, the trees are low.
-use Rattle.std.proofs.Common.{◌≡◌, ℕ, suc, ◌+◌, ◌≤◌, max, List, [], ◌∷◌, nat_lt, ◌&&◌, Option, Some, None, refl, arith, decimal, is_some}
+use Rattle.std.proofs.Common.{◌≡◌, ℕ, suc, ◌+◌, ◌≤◌, max, List, [], ◌∷◌, nat_lt, ◌&&◌, Option, None, refl, arith, decimal, is_some}
 use Rattle.serde_json.specs.Data as json
 use Rattle.serde_json.specs.Data.{Data}
 use Rattle.serde_json.specs.Find.{as_array}
@@ -9,6 +9,7 @@ use Rattle.iodef_tree.specs.Values.{Node, node, nodes, item_nodes, member_nodes,
 use Rattle.iodef_tree.specs.declared.TheConstants.{DEPTH_LIMIT}
 use Rattle.iodef_tree.proofs.Fitness.{AreClear, clear-apart, head}
 use Rattle.std.proofs.lemmas.Bool.{ltb-false, or_parts}
+use Rattle.std.proofs.lemmas.Grind.{common_steps}
 use Rattle.iodef_tree.proofs.Each.{IsEach}
 
 abbrev pub body_height : Body → ℕ
@@ -29,10 +30,7 @@ height-in_front name place (says content) rest = refl
 
 height-elements : (name : Bytes) (k : ℕ) (bs : List Body) (rest : Forest) → height (elements name k bs rest) ≡ max (tallest bs) (height rest)
 height-elements name k [] rest = omega arith
-height-elements name k (b ∷ bs) rest =
-    let first = height-in_front name (Some k) b (elements name (suc k) bs rest) in
-    let later = height-elements name (suc k) bs rest in
-    omega (arith, first, later)
+height-elements name k (b ∷ bs) rest = grind (arith, common_steps, height-in_front, (height-elements name (suc k) bs rest))
 
 pub height-member_front : (name : Bytes) (m : Bodies) (rest : Forest) → height (member_front name m rest) ≡ max (bodies_height m) (height rest)
 height-member_front name (one b) rest = height-in_front name None b rest
@@ -80,11 +78,7 @@ mutual
 
 -- the tree is as low as each member
 pub heights : (n : ℕ) → IsEach (λ d. bodies_height (bodies_of_data d) ≤ n) (λ ms. height (forest_of_data ms) ≤ n)
-heights n = record {
-  made = λ k d ms h all. let m = height-member_front k (bodies_of_data d) (forest_of_data ms) in omega (arith, h, all, m);
-  first = λ k d ms h. let m = height-member_front k (bodies_of_data d) (forest_of_data ms) in omega (arith, h, m);
-  others = λ k d ms h. let m = height-member_front k (bodies_of_data d) (forest_of_data ms) in omega (arith, h, m);
-}
+heights n = grind (arith, common_steps, height-member_front)
 
 pub tallest_le : (b : Body) (bs : List Body) → tallest bs ≤ bodies_height (one_or_many b bs)
 tallest_le b [] = omega arith

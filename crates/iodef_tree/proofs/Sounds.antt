@@ -1,12 +1,13 @@
 -- A numbered tree whose lines are an outline is that of a document.
-use Rattle.std.proofs.Common.{◌≡◌, ℕ, zero, suc, ◌+◌, ◌≤◌, ◌<◌, Bool, true, false, not, ◌&&◌, ◌||◌, List, [], ◌∷◌, refl, sym, ◌∙◌, ap, arith, if◌then◌else◌, cond, Option, Some, None, is_some, nat_le, bytes_eq}
+use Rattle.std.proofs.Common.{◌≡◌, ℕ, zero, suc, ◌+◌, ◌≤◌, ◌<◌, Bool, true, false, not, ◌&&◌, ◌||◌, List, [], ◌∷◌, refl, sym, ◌∙◌, ap, arith, if◌then◌else◌, Option, Some, None, is_some, nat_le, bytes_eq}
 use Rattle.std.proofs.lemmas.Bool.{and_parts, leb-true}
 use Rattle.std.proofs.lemmas.List.Sums.{sum_by-cons}
+use Rattle.std.proofs.lemmas.Grind.{common_steps}
 use Rattle.iodef_tree.specs.Text.{Bytes, bytes_lt}
 use Rattle.iodef_tree.specs.Texts.{HasTexts}
 use Rattle.iodef_tree.specs.Tree.{Content, text, value, Forest, end, leaf, branch, kind_of, leaf_line, class_line, lines, height}
 use Rattle.iodef_tree.specs.Paths.{is_class_kind}
-use Rattle.iodef_tree.specs.Sound.{SiblingPlace, may_stand, IsOrderedBehind, is_label_line, counted, class_height, IsSound}
+use Rattle.iodef_tree.specs.Sound.{SiblingPlace, may_stand, IsOrderedBehind, counted, class_height, IsSound}
 use Rattle.iodef_tree.specs.Outline.{sibling, last_sibling, may_follow, is_within_depth, is_sound_line, may_come, is_outline_after, is_outline, is_outline_back, back_onto, back}
 use Rattle.iodef_tree.specs.Built.{is_numbered, IsNumberedBehind, IsNumbered}
 use Rattle.iodef_tree.specs.declared.TheConstants.{DEPTH_LIMIT, LINE_LIMIT}
@@ -139,11 +140,7 @@ texts (branch n p kids rest) d o h = (texts kids (suc d) None h.2, texts rest d 
 
 pub counted-back_onto : (xs ys : List Line) → counted (back_onto xs ys) ≡ counted xs + counted ys
 counted-back_onto [] ys = omega arith
-counted-back_onto (x ∷ xs) ys =
-    let a = counted-back_onto xs (x ∷ ys) in
-    let b = sum_by-cons (λ (l : Line). cond (not (is_label_line l)) 1 0) x ys in
-    let c = sum_by-cons (λ (l : Line). cond (not (is_label_line l)) 1 0) x xs in
-    a ∙ omega (arith, b, c)
+counted-back_onto (x ∷ xs) ys = grind (arith, common_steps, sum_by-cons, (counted-back_onto xs (x ∷ ys)))
 
 short_back : (ls : List Line) → is_outline_back ls ≡ true → counted ls ≤ LINE_LIMIT
 short_back [] h = omega arith
