@@ -15,16 +15,12 @@ use Rattle.iodef_tree.proofs.Sounds.{as_sibling, sibling_skip, sibling_here, sib
 
 -- what may stand behind a sibling follows its line
 follows : (o : Option SiblingPlace) (name : Bytes) (place : Option ℕ) → may_stand o name place ≡ true → may_follow (as_sibling o) (record { name = name; in_array = is_some place }) ≡ true
-follows None name place h = refl
-follows (Some (n, None)) name (Some (suc j)) h = absurd (true≢false (sym h))
-follows (Some (n, Some i)) name (Some (suc j)) h = or_right (bytes_lt n name) _ (and_from (bytes_eq n name) _ ((and_parts (bytes_eq n name) (i == j) h).0) refl)
-follows (Some (n, p)) name place h = or_left (bytes_lt n name) _ h
+follows o name place h = grind (arith, common_steps, and_from, and_parts, or_left, or_right)
 
 -- ---- how deep the next line may be
 
 at_least : (b : Bool) (d : ℕ) → d ≤ (if b then suc d else d)
-at_least true d = omega arith
-at_least false d = omega arith
+at_least b d = grind (arith, common_steps)
 
 deep_line : (x : Line) (before : List Line) (d : ℕ) → d ≤ x.depth → d ≤ deepest (x ∷ before)
 deep_line x before d h = let a = at_least (is_class_kind x.kind) x.depth in omega (arith, h, a)
@@ -44,8 +40,7 @@ comes : (before : List Line) (l : Line) (o : Option SiblingPlace) (place : Optio
 comes before l o place few positive reached is a stands sound = grind (arith, common_steps, and_from, follows, le-leb, lt-ltb)
 
 plain-within : (c : Content) (d : ℕ) → d ≤ DEPTH_LIMIT + 1 → nat_le d (if is_class_kind (kind_of c) then DEPTH_LIMIT else DEPTH_LIMIT + 1) ≡ true
-plain-within (text s) d h = le-leb d (DEPTH_LIMIT + 1) h
-plain-within (value s) d h = le-leb d (DEPTH_LIMIT + 1) h
+plain-within c d h = grind (arith, common_steps, le-leb)
 
 fewer : (f : Forest) (d : ℕ) (before : List Line) → counted (back_onto (lines d f) before) ≤ LINE_LIMIT → counted before ≤ LINE_LIMIT
 fewer f d before h = let a = counted-back_onto (lines d f) before in omega (arith, a, h)

@@ -30,11 +30,7 @@ next_place (Some (name, None)) = 0
 next_place (Some (name, Some j)) = suc j
 
 place-next : (s : Option SiblingPlace) (name : Bytes) (k : ℕ) → may_stand s name (Some k) ≡ true → k ≤ next_place s
-place-next None name zero h = omega arith
-place-next None name (suc k) h = absurd (false≢true h)
-place-next (Some (m, o)) name zero h = omega arith
-place-next (Some (m, None)) name (suc k) h = absurd (false≢true h)
-place-next (Some (m, Some j)) name (suc k) h = let e = eqb-true j k (and_parts (bytes_eq m name) (j == k) h).1 in omega arith
+place-next s name k h = grind (arith, common_steps, and_parts, eqb-true, false≢true)
 
 counted-le : (l : Line) (ls : List Line) → counted ls ≤ counted (l ∷ ls)
 counted-le l ls = let e = sum_by-cons (λ (x : Line). cond (not (is_label_line x)) 1 0) l ls in omega arith
@@ -44,8 +40,7 @@ counted-one l ls h = sum_by-cons (λ (x : Line). cond (not (is_label_line x)) 1 
 
 step_room : (s : Option SiblingPlace) (name : Bytes) (o : Option ℕ) (l : Line) (ls : List Line) (n : ℕ) → may_stand s name o ≡ true → (is_some o ≡ true → is_label_line l ≡ false) →
     next_place s + counted (l ∷ ls) ≤ n → IsSmall n o × (next_place (Some (name, o)) + counted ls ≤ n)
-step_room s name None l ls n h counts room = let k = counted-le l ls in (tt, omega arith)
-step_room s name (Some k) l ls n h counts room = grind (arith, common_steps, counted-one, place-next)
+step_room s name o l ls n h counts room = grind (arith, common_steps, counted-le, counted-one, place-next)
 
 leaf-counts : (d : ℕ) (i : Leaf) → is_some i.place ≡ true → is_label_line (leaf_line d i) ≡ false
 leaf-counts d i h = grind (arith, common_steps)
@@ -75,22 +70,13 @@ abbrev IsLater : Bytes → Option ℕ → Bytes → Option ℕ → Type 0
 IsLater n o n' o' = (bytes_lt n n' ≡ true) ⊎ ((n ≡ n') × IsPlaceLater o o')
 
 later-next : (n : Bytes) (o : Option ℕ) (n' : Bytes) (o' : Option ℕ) → may_stand_behind (n, o) n' o' ≡ true → IsLater n o n' o'
-later-next n o n' None h = inl h
-later-next n o n' (Some zero) h = inl h
-later-next n None n' (Some (suc k)) h = absurd (false≢true h)
-later-next n (Some j) n' (Some (suc k)) h = grind (arith, common_steps, and_parts, bytes_eq-true, eqb-true)
+later-next n o n' o' h = grind (arith, common_steps, and_parts, bytes_eq-true, eqb-true, false≢true)
 
 place_later-trans : (a b c : Option ℕ) → IsPlaceLater a b → IsPlaceLater b c → IsPlaceLater a c
-place_later-trans None b c h k = absurd h
-place_later-trans (Some x) None c h k = absurd h
-place_later-trans (Some x) (Some y) None h k = absurd k
-place_later-trans (Some x) (Some y) (Some z) h k = omega arith
+place_later-trans a b c h k = grind (arith, common_steps)
 
 later-trans : (n : Bytes) (o : Option ℕ) (n' : Bytes) (o' : Option ℕ) (n'' : Bytes) (o'' : Option ℕ) → IsLater n o n' o' → IsLater n' o' n'' o'' → IsLater n o n'' o''
-later-trans n o n' o' n'' o'' (inl a) (inl b) = inl (bytes_lt-trans n n' n'' a b)
-later-trans n o n' o' n'' o'' (inl a) (inr b) = inl (subst (λ x. bytes_lt n x ≡ true) b.0 a)
-later-trans n o n' o' n'' o'' (inr a) (inl b) = inl (subst (λ x. bytes_lt x n'' ≡ true) (sym a.0) b)
-later-trans n o n' o' n'' o'' (inr a) (inr b) = inr (a.0 ∙ b.0, place_later-trans o o' o'' a.1 b.1)
+later-trans n o n' o' n'' o'' h h' = grind (arith, common_steps, bytes_lt-trans, place_later-trans)
 
 later-behind : (f : Forest) (n : Bytes) (o : Option ℕ) → IsOrderedBehind (Some (n, o)) f → AllSiblings (IsLater n o) f
 later-behind end n o ordered = tt
@@ -102,10 +88,7 @@ later-behind (branch m p kids rest) n o ordered =
     (here, siblings-map (IsLater m p) (IsLater n o) rest (λ n' o'. later-trans n o m p n' o' here) (later-behind rest m p ordered.2))
 
 names_apart : (n : Bytes) (o : Option ℕ) (n' : Bytes) (o' : Option ℕ) (z : Tokens) → bytes_eq n n' ≡ false → is_prefix (steps n o) (steps n' o' ++ z) ≡ false
-names_apart n None n' None z h = and_left (bytes_eq n n') _ h
-names_apart n None n' (Some k) z h = and_left (bytes_eq n n') _ h
-names_apart n (Some j) n' None z h = and_left (bytes_eq n n') _ h
-names_apart n (Some j) n' (Some k) z h = and_left (bytes_eq n n') _ h
+names_apart n o n' o' z h = grind (arith, common_steps, and_left)
 
 later-apart : (n : Bytes) (o : Option ℕ) (n' : Bytes) (o' : Option ℕ) → IsLater n o n' o' → IsSmall (2 ^ 64) o' → AreApart n o n' o'
 later-apart n o n' o' (inl h) small = record {

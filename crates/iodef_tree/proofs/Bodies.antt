@@ -37,12 +37,10 @@ each_fit ms (json.item d ds) low free f flat g h =
     )
 
 array_of : (e : Data) (ds : json.Items) → as_array e ≡ Some ds → e ≡ json.array ds
-array_of (json.array es) ds h = let same : es ≡ ds = cc in ap json.array same
-array_of _ ds h = cc
+array_of e ds h = grind (arith, common_steps)
 
 pub found_array : (o : Option Data) (ds : json.Items) → option_and_then if_incidents (option_and_then as_array o) ≡ Some ds → o ≡ Some (json.array ds)
-found_array None ds e = cc
-found_array (Some x) ds e = grind (arith, common_steps, array_of, cond_some)
+found_array o ds e = grind (arith, common_steps, array_of, cond_some)
 
 pub fit_object : (ms : json.Members) (ds : json.Items) → IsPlain (json.object ms) → get_member (codes "Incident") ms ≡ Some (json.array ds) → AreFit ms ds
 fit_object ms ds p at =
@@ -70,8 +68,7 @@ pub record Found (d : Data) (ds : json.Items) : Type 0 where
   pub chosen : incidents_of root ≡ Some ds
 
 pub found : (d : Data) (ds : json.Items) → option_and_then incidents_of (as_object d) ≡ Some ds → Found d ds
-found (json.object ms) ds e = record { root = ms; is = refl; at = found_array (get_member (codes "Incident") ms) ds e; chosen = e }
-found _ ds e = absurd (cc)
+found d ds e = grind (arith, common_steps, found_array)
 
 taken_found : (d : Data) (ds : json.Items) (f : Found d ds) → taken d ≡ Some (put (codes "Incident") json.null f.root, ds)
 taken_found d ds f = rw (f.is, f.at)

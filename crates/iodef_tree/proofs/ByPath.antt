@@ -59,8 +59,7 @@ none-inside f d q st p apart =
         ∙ is_false (same_path (st ++ z) p) (λ same. true≢false (sym (is_prefix-append st z) ∙ ap (is_prefix st) (same_path-true (st ++ z) p same) ∙ apart))
 
 leaf_plain : (c : Content) → is_class_kind (kind_of c) ≡ false
-leaf_plain (text s) = refl
-leaf_plain (value s) = refl
+leaf_plain c = grind (arith, common_steps)
 
 pub has_class-walk : (f : Forest) (d : ℕ) (q p : Tokens) → HasApart f → has_class (walk d q f) (q ++ p) ≡ is_some (class_at f p)
 has_class-walk end d q p apart = refl
@@ -123,13 +122,11 @@ part_or m p rest = option_map_or (λ (r : Body × Tokens). object_in r.0 r.1) (p
 
 class_at-in_front : (n : Bytes) (b : Body) (rest : Forest) (x : Bytes) (p : Tokens) →
     class_at (in_front n None b rest) (x ∷ p) ≡ cond (bytes_eq n x) (object_in b p) (class_at rest (x ∷ p))
-class_at-in_front n (holds kids) rest x p = grind (arith, common_steps)
-class_at-in_front n (says c) rest x p = grind (arith, common_steps)
+class_at-in_front n b rest x p = grind (arith, common_steps)
 
 class_at-element : (n : Bytes) (k : ℕ) (b : Body) (rest : Forest) (x : Bytes) (p : Tokens) →
     class_at (in_front n (Some k) b rest) (x ∷ p) ≡ option_map_or (object_in b) (past (n ∷ decimal k ∷ []) (x ∷ p)) (class_at rest (x ∷ p))
-class_at-element n k (holds kids) rest x p = refl
-class_at-element n k (says c) rest x p = refl
+class_at-element n k b rest x p = grind (arith, common_steps)
 
 elements-short : (bs : List Body) (n : Bytes) (k : ℕ) (rest : Forest) (x : Bytes) → class_at (elements n k bs rest) (x ∷ []) ≡ class_at rest (x ∷ [])
 elements-short [] n k rest x = refl
@@ -145,13 +142,10 @@ elements-here [] n k rest x y p h = refl
 elements-here (b ∷ bs) n k rest x y p h = grind (arith, common_steps, class_at-element, (elements-here bs n (suc k) rest x y p h))
 
 pub class_at-here : (m : Bodies) (n : Bytes) (rest : Forest) (x : Bytes) (p : Tokens) → bytes_eq n x ≡ true → class_at (member_front n m rest) (x ∷ p) ≡ part_or m p (class_at rest (x ∷ p))
-class_at-here (one b) n rest x p h = class_at-in_front n b rest x p ∙ cond-true (bytes_eq n x) _ _ h
-class_at-here (many bs) n rest x [] h = elements-short bs n 0 rest x
-class_at-here (many bs) n rest x (y ∷ p) h = elements-here bs n 0 rest x y p h
+class_at-here m n rest x p h = grind (arith, common_steps, class_at-in_front, cond-true, elements-here, elements-short)
 
 pub class_at-other : (m : Bodies) (n : Bytes) (rest : Forest) (x : Bytes) (p : Tokens) → bytes_eq n x ≡ false → class_at (member_front n m rest) (x ∷ p) ≡ class_at rest (x ∷ p)
-class_at-other (one b) n rest x p h = class_at-in_front n b rest x p ∙ cond-false (bytes_eq n x) _ _ h
-class_at-other (many bs) n rest x p h = elements-other bs n 0 rest x p h
+class_at-other m n rest x p h = grind (arith, common_steps, class_at-in_front, cond-false, elements-other)
 
 -- ---- the elements of an array
 

@@ -7,8 +7,7 @@ use Rattle.iodef_tree.specs.Tree.{Forest, end, leaf, branch, Body, holds, says, 
 use Rattle.iodef_tree.specs.FitValues.{line_count, body_count, bodies_count}
 
 line_count-in_front : (name : Bytes) (place : Option ℕ) (b : Body) (rest : Forest) → line_count (in_front name place b rest) ≡ body_count b + line_count rest
-line_count-in_front name place (holds kids) rest = omega arith
-line_count-in_front name place (says content) rest = omega arith
+line_count-in_front name place b rest = grind (arith, common_steps)
 
 line_count-elements : (name : Bytes) (k : ℕ) (bs : List Body) (rest : Forest) → line_count (elements name k bs rest) ≡ sum_by body_count bs + line_count rest
 line_count-elements name k [] rest = omega arith
@@ -16,8 +15,7 @@ line_count-elements name k (b ∷ bs) rest = grind (arith, common_steps, line_co
 
 -- those of a member are in front
 pub line_count-member_front : (name : Bytes) (m : Bodies) (rest : Forest) → line_count (member_front name m rest) ≡ bodies_count m + line_count rest
-line_count-member_front name (one b) rest = line_count-in_front name None b rest
-line_count-member_front name (many bs) rest = line_count-elements name 0 bs rest
+line_count-member_front name m rest = grind (arith, common_steps, line_count-elements, line_count-in_front)
 
 pub length-lines : (f : Forest) (d : ℕ) → length (lines d f) ≡ line_count f
 length-lines end d = refl

@@ -30,12 +30,10 @@ use Rattle.iodef_tree.proofs.Views.{forest-members}
 -- ---- one member in front
 
 front-members : (n : Bytes) (p : Option ℕ) (b : Body) (rest : Forest) → members_of (in_front n p b rest) ≡ placed_member n p (body_data b) (items_of rest) (members_of rest)
-front-members n p (holds f) rest = refl
-front-members n p (says c) rest = refl
+front-members n p b rest = grind (arith, common_steps)
 
 pub front-items : (n : Bytes) (p : Option ℕ) (b : Body) (rest : Forest) → items_of (in_front n p b rest) ≡ placed_item p (body_data b) (items_of rest)
-front-items n p (holds f) rest = refl
-front-items n p (says c) rest = refl
+front-items n p b rest = grind (arith, common_steps)
 
 -- an array from its second element on
 later-members : (n : Bytes) (k : ℕ) (bs : List Body) (rest : Forest) → members_of (elements n (suc k) bs rest) ≡ members_of rest
@@ -54,15 +52,12 @@ no-items ((n, many []) ∷ ms) = no-items ms
 no-items ((n, many (b ∷ bs)) ∷ ms) = front-items n (Some 0) b (elements n 1 bs (forest_of_members ms))
 
 pub member-data : (n : Bytes) (m : Bodies) (rest : Forest) → items_of rest ≡ json.no_items → has_elements m ≡ true → members_of (member_front n m rest) ≡ json.member n (bodies_data m) (members_of rest)
-member-data n (one b) rest fresh filled = front-members n None b rest
-member-data n (many []) rest fresh filled = absurd (true≢false (sym filled))
-member-data n (many (b ∷ bs)) rest fresh filled = grind (arith, common_steps, front-members, later-items, later-members)
+member-data n m rest fresh filled = grind (arith, common_steps, front-members, later-items, later-members)
 
 -- ---- what is ordered is so inside
 
 front-ordered : (o : Option SiblingPlace) (n : Bytes) (p : Option ℕ) (b : Body) (rest : Forest) → IsOrderedBehind o (in_front n p b rest) → IsBodyOrdered b × IsOrderedBehind (Some (n, p)) rest
-front-ordered o n p (holds f) rest h = (h.1, h.2)
-front-ordered o n p (says c) rest h = (tt, h.1)
+front-ordered o n p b rest h = grind (arith, common_steps)
 
 -- What holds of members, one in front of the other, holds inside each: where it holds inside the one in front, and of those
 -- behind it.
@@ -113,8 +108,7 @@ after (leaf i rest) n q h = placed-after n q i.name i.place (content_data i.cont
 after (branch name p kids rest) n q h = placed-after n q name p (json.object (members_of kids)) (items_of rest) (members_of rest) h.0 (after rest name p h.2)
 
 placed-ascend : (name : Bytes) (p : Option ℕ) (d : Data) (ds : json.Items) (ms : json.Members) → AreAfter name ms → Ascend ms → Ascend (placed_member name p d ds ms)
-placed-ascend name (Some (suc i)) d ds ms h k = k
-placed-ascend name _ d ds ms h k = (h, k)
+placed-ascend name p d ds ms h k = grind (arith, common_steps)
 
 ascend : (f : Forest) (o : Option SiblingPlace) → IsOrderedBehind o f → Ascend (members_of f)
 ascend end o h = tt

@@ -21,18 +21,13 @@ abbrev pub with_front : {A : Type 0} → List A → Result (List A) ReadFault �
 with_front front r = r >>= λ x. Ok (front ++ x)
 
 pub with_front-cons : {A : Type 0} (front : List A) (a : A) (r : Result (List A) ReadFault) → with_front (front ++ a ∷ []) r ≡ with_front front (r >>= λ others. Ok (a ∷ others))
-with_front-cons front a (Ok x) = ap Ok (append_assoc front (a ∷ []) x)
-with_front-cons front a (Err e) = refl
+with_front-cons front a r = grind (arith, common_steps, append_assoc)
 
 pub room_kept : (r : Option ℕ) (b : Bool) (n room : ℕ) → IfSome r (λ left. left + n ≡ room) → is_some r ≡ not b → b ≡ false → n ≤ room
-room_kept None true n room h e f = cc
-room_kept None false n room h e f = cc
-room_kept (Some left) b n room h e f = omega arith
+room_kept r b n room h e f = grind (arith, common_steps)
 
 pub room_lacks : (r : Option ℕ) (b : Bool) (n room : ℕ) → IfNone r (room < n) → is_some r ≡ not b → b ≡ true → room < n
-room_lacks None b n room h e f = h
-room_lacks (Some left) true n room h e f = cc
-room_lacks (Some left) false n room h e f = cc
+room_lacks r b n room h e f = grind (arith, common_steps)
 
 pub short_enough : (f : Forest) → line_count f ≤ LINE_LIMIT → if_short (lines 1 f) ≡ Ok (lines 1 f)
 short_enough f h = rw (length-lines f 1, le-ltb LINE_LIMIT (line_count f) h)
@@ -51,10 +46,7 @@ sound f o h n t = grind (arith, common_steps, classes-low, count_by-le-length, l
 -- one document more, behind the others
 one_more : {A : Type 0} (s d : Result A ReadFault) (front rest : Result (List A) ReadFault) → rest ≡ (front >>= λ xs. d >>= λ x. Ok (xs ++ x ∷ []))
     → (s >>= λ x. rest >>= λ xs. Ok (x ∷ xs)) ≡ ((s >>= λ x. front >>= λ xs. Ok (x ∷ xs)) >>= λ xs. d >>= λ x. Ok (xs ++ x ∷ []))
-one_more (Err x) d front rest is = refl
-one_more (Ok x) (Ok y) (Ok xs) rest is = rw is
-one_more (Ok x) (Err y) (Ok xs) rest is = rw is
-one_more (Ok x) d (Err y) rest is = rw is
+one_more s d front rest is = grind (arith, common_steps)
 
 pub documents_then : (root : json.Members) (vs : List Value) (v : Value)
     → documents root (items_view (vs ++ v ∷ [])) ≡ (documents root (items_view vs) >>= λ front. if_short (lines 1 (document_of (view v) root)) >>= λ d. Ok (front ++ d ∷ []))
@@ -62,12 +54,10 @@ documents_then root [] v = refl
 documents_then root (w ∷ vs) v = grind (arith, common_steps, one_more, (documents_then root vs v))
 
 pub fails_then : {A B : Type 0} (e : ReadFault) (r : Result A ReadFault) (f : A → Result B ReadFault) → Fails e r → Fails e (r >>= f)
-fails_then NoMemory r f h = tt
-fails_then _ r f h = rw h
+fails_then e r f h = grind (arith, common_steps)
 
 pub gives_err : {X Y : Type 0} (view : X → Y) (e : ReadFault) (r : Result X ReadFault) (read : Result Y ReadFault) → IsErrAnd r (λ f. f ≡ e) → Fails e read → Returns view r read
-gives_err view e (Ok x) read h k = absurd h
-gives_err view e (Err f) read h k = subst (λ g. Fails g read) (sym h) k
+gives_err view e r read h k = grind (arith, common_steps)
 
 pub failed : (root : json.Members) (vs : List Value) (v : Value) (front : List (List Line)) (e : ReadFault) → Fails e (if_short (lines 1 (document_of (view v) root))) → Fails e (with_front front (documents root (items_view (v ∷ vs))))
 failed root vs v front e h = fails_then e (documents root (items_view (v ∷ vs))) (λ x. Ok (front ++ x)) (fails_then e (if_short (lines 1 (document_of (view v) root))) (λ first. documents root (items_view vs) >>= λ others. Ok (first ∷ others)) h)

@@ -1,11 +1,12 @@
 -- A root whose member `Incident` is exchanged.
-use Rattle.std.proofs.Common.{◌≡◌, ℕ, List, [], ◌∷◌, Option, Some, None, option_map, option_and_then, Vec, String, BTreeMap, Global, Ordering, Less, Equal, Greater, string_bytes, string_cmp, nat_cmp, refl, sym, ap, ◌∙◌, rules, codes}
+use Rattle.std.proofs.Common.{◌≡◌, ℕ, List, [], ◌∷◌, Option, Some, None, option_map, option_and_then, Vec, String, BTreeMap, Global, Ordering, Less, Equal, Greater, string_bytes, string_cmp, nat_cmp, refl, sym, ap, ◌∙◌, rules, codes, arith}
 use Rattle.std.specs.List.{AllZip}
 use Rattle.std.specs.Map.{lookup}
 use Rattle.std.specs.Ordering.{match_ordering}
 use Rattle.std.specs.BTreeMap.{insert_entry, is_at}
 use Rattle.std.specs.Cmp.Lexicographic.{slice_cmp}
 use Rattle.std.proofs.lemmas.Cmp.{nat_list_cmp_total, tied_itself}
+use Rattle.std.proofs.lemmas.Grind.{common_steps}
 use Rattle.serde_json.specs.Data as json
 use Rattle.serde_json.specs.Data.{Data, put}
 use Rattle.serde_json.specs.Find.{as_array, get_member}
@@ -22,9 +23,7 @@ same_text xs = tied_itself nat_list_cmp_total xs
 put_twice_at : (o : Ordering) (k l : List ℕ) (v w e : Data) (ms : json.Members) → slice_cmp nat_cmp k l ≡ o → put k w (put k v ms) ≡ put k w ms
     → put k w (match_ordering o (json.member k v (json.member l e ms)) (json.member l v ms) (json.member l e (put k v ms)))
     ≡ match_ordering o (json.member k w (json.member l e ms)) (json.member l w ms) (json.member l e (put k w ms))
-put_twice_at Less k l v w e ms is later = rw same_text
-put_twice_at Equal k l v w e ms is later = rw is
-put_twice_at Greater k l v w e ms is later = rw (is, later)
+put_twice_at o k l v w e ms is later = grind (arith, common_steps, same_text)
 
 -- what is put at a name takes the place of what was put there before
 pub put_twice : (k : List ℕ) (v w : Data) (ms : json.Members) → put k w (put k v ms) ≡ put k w ms

@@ -37,8 +37,7 @@ filled-made v = search (rules, the_lemmas)
 -- ---- lists of what is filled
 
 pub has_some-map : {X Y : Type 0} (f : X → Y) (xs : List X) → has_some (map f xs) ≡ has_some xs
-has_some-map f [] = refl
-has_some-map f (x ∷ xs) = refl
+has_some-map f xs = grind (arith, common_steps)
 
 all-true : {X Y : Type 0} (f : X → Y) (test : Y → Bool) (xs : List X) → AllByRecursion (λ x. test (f x) ≡ true) xs → list_all test (map f xs) ≡ true
 all-true f test [] h = refl
@@ -91,8 +90,7 @@ has_elements (many bs) = has_some bs
 
 elements-seen : (x : Member-F Item Member Object) → member_filled (map-Member Item Member Object Bool Bool Bool is_item_filled is_member_filled is_object_filled x) ≡ true →
     has_elements (member_step (map-Member Item Member Object Body Bodies Forest body bodies forest x)) ≡ true
-elements-seen (Member-F.One i) h = refl
-elements-seen (Member-F.Many v) h = has_some-map body v.items ∙ sym (has_some-map is_item_filled v.items) ∙ (and_parts (has_some (map is_item_filled v.items)) _ h).0
+elements-seen x h = grind (arith, common_steps, and_parts, has_some-map)
 
 -- a member that is filled has a line
 pub member-elements : (m : Member) → IsMemberFilled m → has_elements (bodies m) ≡ true

@@ -60,12 +60,10 @@ mutual
 -- ---- as all values are asked
 
 pub bind-ok : {A B : Type 0} (r : Result A ReadFault) (f : A → Result B ReadFault) (y : B) → (r >>= f) ≡ Ok y → (x : A) × (r ≡ Ok x) × (f x ≡ Ok y)
-bind-ok (Ok x) f y h = (x, refl, h)
-bind-ok (Err e) f y h = absurd (cc)
+bind-ok r f y h = grind (arith, common_steps)
 
 pub none_if_ok : {A : Type 0} (f : A → ReadFault) (o : Option A) → unless f o ≡ Ok tt → o ≡ None
-none_if_ok f None e = refl
-none_if_ok f (Some x) e = cc
+none_if_ok f o e = grind (arith, common_steps)
 
 -- nothing is refused where none of the three is found
 none-refused : (ns : List Node) → first_at is_not_whole ns ≡ None → first_at is_nested_class ns ≡ None → first_at is_too_deep ns ≡ None → AreClear ns

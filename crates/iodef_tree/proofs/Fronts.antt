@@ -33,16 +33,14 @@ height-append (branch n p kids rest) g = let later = height-append rest g in ome
 -- ---- a member in front is appended to
 
 pub front-append : (n : Bytes) (p : Option ℕ) (b : Body) (f : Forest) → in_front n p b f ≡ append (in_front n p b end) f
-front-append n p (holds kids) f = refl
-front-append n p (says c) f = refl
+front-append n p b f = grind (arith, common_steps)
 
 elements-append : (n : Bytes) (k : ℕ) (bs : List Body) (f : Forest) → elements n k bs f ≡ append (elements n k bs end) f
 elements-append n k [] f = refl
 elements-append n k (b ∷ bs) f = grind (arith, common_steps, append-assoc, front-append, (elements-append n (suc k) bs f))
 
 pub member-append : (n : Bytes) (m : Bodies) (f : Forest) → member_front n m f ≡ append (member_front n m end) f
-member-append n (one b) f = front-append n None b f
-member-append n (many bs) f = elements-append n 0 bs f
+member-append n m f = grind (arith, common_steps, elements-append, front-append)
 
 -- ---- a loop's step: one more member is in front
 

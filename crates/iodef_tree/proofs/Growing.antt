@@ -46,21 +46,18 @@ elements-push n k [] b = ap (λ j. in_front n (Some j) b end) (omega arith)
 elements-push n k (x ∷ bs) b = grind (arith, common_steps, append-assoc, front-append, (elements-push n (suc k) bs b))
 
 last-front : (o : Option SiblingPlace) (n : Bytes) (p : Option ℕ) (b : Body) (f : Forest) → last_place o (in_front n p b f) ≡ last_place (Some (n, p)) f
-last-front o n p (holds kids) f = refl
-last-front o n p (says c) f = refl
+last-front o n p b f = grind (arith, common_steps)
 
 last-elements : (o : Option SiblingPlace) (n : Bytes) (k : ℕ) (b : Body) (bs : List Body) → last_place o (elements n k (b ∷ bs) end) ≡ Some (n, Some (k + length bs))
 last-elements o n k b [] = last-front o n (Some k) b end ∙ ap (λ j. Some (n, Some j)) (omega arith)
 last-elements o n k b (c ∷ bs) = grind (arith, common_steps, last-front, (last-elements (Some (n, Some k)) n (suc k) c bs))
 
 numbered-front : (o : Option SiblingPlace) (n : Bytes) (p : Option ℕ) (b : Body) → is_numbered o n p ≡ true → IsBodyNumbered b → IsNumberedBehind o (in_front n p b end)
-numbered-front o n p (holds kids) h k = (h, k, tt)
-numbered-front o n p (says c) h k = (h, tt)
+numbered-front o n p b h k = grind (arith, common_steps)
 
 -- the lines don't say the number
 lines-front : (d : ℕ) (n : Bytes) (j k : ℕ) (b : Body) → lines d (in_front n (Some j) b end) ≡ lines d (in_front n (Some k) b end)
-lines-front d n j k (holds kids) = refl
-lines-front d n j k (says c) = refl
+lines-front d n j k b = grind (arith, common_steps)
 
 -- ---- one thing more at the end
 
@@ -105,8 +102,7 @@ first-behind_one P n i name =
 
 -- the standing of the last element of an array that has one
 last-array : (o : Option SiblingPlace) (n : Bytes) (bs : List Body) → has_some bs ≡ true → last_place o (elements n 0 bs end) ≡ Some (n, Some (length bs - 1))
-last-array o n [] h = absurd (true≢false (sym h))
-last-array o n (b ∷ bs) h = last-elements o n 0 b bs ∙ ap (λ j. Some (n, Some j)) (omega arith)
+last-array o n bs h = grind (arith, common_steps, last-elements)
 
 last-many : (P : List (Text × Member)) (n : Text) (v : Vec Item Global) → IsGrown (P ++ (n, Many v) ∷ []) →
     last_place None (members_forest (P ++ (n, Many v) ∷ [])) ≡ Some (n, Some (length (map body v.items) - 1))
@@ -118,12 +114,10 @@ pub first-behind_many : (P : List (Text × Member)) (n : Text) (v : Vec Item Glo
 first-behind_many P n v name h differs = ap (λ o. is_numbered o name (Some 0)) (last-many P n v h) ∙ ap not differs
 
 filled-length : (bs : List Body) → has_some bs ≡ true → length bs ≡ suc (length bs - 1)
-filled-length [] h = absurd (true≢false (sym h))
-filled-length (b ∷ bs) h = omega arith
+filled-length bs h = grind (arith, common_steps)
 
 some-push : (xs : List Item) (x : Item) → has_some (xs ++ x ∷ []) ≡ true
-some-push [] x = refl
-some-push (y ∷ xs) x = refl
+some-push xs x = grind (arith, common_steps)
 
 next-fits : (n : Bytes) (j k : ℕ) → k ≡ suc j → is_numbered (Some (n, Some j)) n (Some k) ≡ true
 next-fits n j k e = ap (λ i. is_numbered (Some (n, Some j)) n (Some i)) e ∙ ap (λ b. b && (j == j)) (bytes_eq-refl n) ∙ eq-eqb j j refl

@@ -20,15 +20,13 @@ abbrev id_name : Bytes
 id_name = codes "IncidentID"
 
 none_said : (b : Bool) (r : Required) (rest : Option Required) → (if b then Some r else rest) ≡ None → (b ≡ false) × (rest ≡ None)
-none_said true r rest h = cc
-none_said false r rest h = (refl, h)
+none_said b r rest h = grind (arith, common_steps)
 
 has_id : (d : Data) → lacking d ≡ None → is_none (get id_name d) ≡ false
 has_id d h = grind (arith, common_steps, none_said)
 
 some_text : (o : Option Data) → is_none o ≡ false → is_some (option_map compact_text o) ≡ true
-some_text None h = cc
-some_text (Some d) h = refl
+some_text o h = grind (arith, common_steps)
 
 abbrev pub IsIdentified : List Line → Type 0
 IsIdentified doc = is_some (incident_id doc) ≡ true

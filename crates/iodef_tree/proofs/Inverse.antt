@@ -39,9 +39,7 @@ pointer_tokens-pointer_text (x ∷ p) = slash_separated-printed x p
 
 -- what a list with one more in front was made of
 with_first-some : {A : Type 0} (o : Option A) (rest : Option (List A)) (all : List A) → with_first o rest ≡ Some all → (x : A) × (xs : List A) × (o ≡ Some x) × (rest ≡ Some xs) × (all ≡ x ∷ xs)
-with_first-some None rest all h = absurd (cc)
-with_first-some (Some x) None all h = absurd (cc)
-with_first-some (Some x) (Some xs) all h = (x, xs, refl, refl, cc)
+with_first-some o rest all h = grind (arith, common_steps)
 
 abbrev HasNoSlash : Bytes → Type 0
 HasNoSlash [] = Unit {0}

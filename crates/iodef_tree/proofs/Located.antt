@@ -75,8 +75,7 @@ stands-sibling : (x : LocatedLine) (before : List LocatedLine) (d : ℕ) (p : To
 stands-sibling x before d p s o is may h = grind (arith, common_steps, not_deeper, parent-past, place-past, place-sibling)
 
 first_place : (k : ℕ) → may_stand_first (Some k) ≡ true → 0 ≡ k
-first_place zero h = refl
-first_place (suc k) h = absurd (false≢true h)
+first_place k h = grind (arith, common_steps, false≢true)
 
 stands-below : (x : LocatedLine) (before : List LocatedLine) (d : ℕ) → suc x.line.depth ≡ d → Stands (x ∷ before) d x.path None
 stands-below x before d is = grind (arith, common_steps, eq-eqb, first_place, parent-here, place-here)
@@ -110,8 +109,7 @@ stands-past_walk (branch name place kids rest) k q before d p s deep h =
 -- a line's entry, where it stands
 place-is : (before : List LocatedLine) (d : ℕ) (p : Tokens) (s : Option SiblingPlace) (name : Bytes) (o : Option ℕ) → Stands before d p s → may_stand s name o ≡ true →
     place_of (is_some o) (place_among before d name) ≡ o
-place-is before d p s name None h may = refl
-place-is before d p s name (Some k) h may = ap Some (h.place name k may)
+place-is before d p s name o h may = grind (arith, common_steps)
 
 placed-is : (before : List LocatedLine) (l : Line) (p : Tokens) (s : Option SiblingPlace) (o : Option ℕ) → Stands before l.depth p s → may_stand s l.name o ≡ true → l.in_array ≡ is_some o →
     placed before l ≡ entry_at p o l

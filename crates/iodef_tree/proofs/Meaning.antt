@@ -26,12 +26,10 @@ use Rattle.iodef_tree.proofs.Outlines.{above-line, at-line, past-line}
 -- ---- the text of the value that a tree is
 
 value-text : (a : Bool) (s : Bytes) (o : Option Data) → option_map_or (λ d. may_be_value a d && bytes_eq (compact_text d) s) o false ≡ true → compact_text (unwrap_or o json.null) ≡ s
-value-text a s None h = absurd (true≢false (sym h))
-value-text a s (Some d) h = (bytes_eq-Decides (compact_text d) s).0 ((and_parts (may_be_value a d) (bytes_eq (compact_text d) s) h).1)
+value-text a s o h = grind (arith, common_steps, and_parts, bytes_eq-Decides)
 
 content-means : (a : Bool) (c : Content) → may_be_text (kind_of c) a (text_of c) ≡ true → content_text c ≡ compact_text (content_data c)
-content-means a (text s) h = refl
-content-means a (value s) h = sym (value-text a s (read s) h)
+content-means a c h = grind (arith, common_steps, value-text)
 
 abbrev is_element : Option SiblingPlace → Bool
 is_element None = false
@@ -39,15 +37,10 @@ is_element (Some s) = is_some s.1
 
 -- no array goes on behind what is no element, and none at first
 no-later : (o : Option SiblingPlace) (n : Bytes) (p : Option ℕ) → is_element o ≡ false → may_stand o n p ≡ true → is_later_place p ≡ false
-no-later None n (Some (suc j)) e k = absurd (true≢false (sym k))
-no-later (Some (m, None)) n (Some (suc j)) e k = absurd (true≢false (sym k))
-no-later (Some (m, Some i)) n (Some (suc j)) e k = absurd (true≢false e)
-no-later o n p e k = refl
+no-later o n p e k = grind (arith, common_steps)
 
 starts : (o : Option SiblingPlace) (f : Forest) → is_element o ≡ false → IsOrderedBehind o f → goes_on f ≡ false
-starts o end e h = refl
-starts o (leaf i rest) e h = no-later o i.name i.place e h.0
-starts o (branch n p kids rest) e h = no-later o n p e h.0
+starts o f e h = grind (arith, common_steps, no-later)
 
 -- what is written of a tree is the text of its members, or goes on with the elements of an array
 record Means (w : Bool → Bytes) (goes : Bool) (close : Bytes) (ds : json.Items) (ms : json.Members) : Type 0 where
@@ -90,8 +83,7 @@ in_front-means n (Some (suc j)) t d rest is alone k = record {
 }
 
 alone-behind : (n : Bytes) (p : Option ℕ) (rest : Forest) → IsOrderedBehind (Some (n, p)) rest → p ≡ None → goes_on rest ≡ false
-alone-behind n None rest h e = starts (Some (n, None)) rest refl h
-alone-behind n (Some k) rest h e = cc
+alone-behind n p rest h e = grind (arith, common_steps, starts)
 
 means : (f : Forest) (o : Option SiblingPlace) → IsOrderedBehind o f → HasTexts f → Means (λ later. written later f) (goes_on f) (closing (goes_on f)) (items_of f) (members_of f)
 means end o h k = record { members = λ later e. refl; items = refl }
@@ -107,13 +99,7 @@ means (branch n p kids rest) o h k =
 
 -- a line goes on with its sibling's array where its place is a later one
 continues-is : (o : Option SiblingPlace) (l : Line) (p : Option ℕ) → l.in_array ≡ is_some p → may_stand o l.name p ≡ true → continues (as_sibling o) l ≡ is_later_place p
-continues-is None l None a h = refl
-continues-is None l (Some zero) a h = refl
-continues-is None l (Some (suc k)) a h = absurd (true≢false (sym h))
-continues-is (Some (n, q)) l None a h = ap (λ b. bytes_eq n l.name && (is_some q && b)) a ∙ and_right (bytes_eq n l.name) _ (and_right (is_some q) false refl)
-continues-is (Some (n, q)) l (Some zero) a h = grind (arith, common_steps, bytes_lt-ne)
-continues-is (Some (n, None)) l (Some (suc k)) a h = absurd (true≢false (sym h))
-continues-is (Some (n, Some j)) l (Some (suc k)) a h = ap (λ b. b && (true && l.in_array)) ((and_parts (bytes_eq n l.name) (j == k) h).0) ∙ a
+continues-is o l p a h = grind (arith, common_steps, and_parts, and_right, bytes_lt-ne)
 
 -- ---- lines that are passed by
 
@@ -139,16 +125,13 @@ Stops d [] = Unit {0}
 Stops d (l ∷ ls) = l.depth < d
 
 stops-members : (X : List Line) (d : ℕ) (o : Option Sibling) → Stops d X → members_from d o X ≡ json.no_members
-stops-members [] d o h = refl
-stops-members (l ∷ ls) d o h = above-line l.depth d _ _ _ h
+stops-members X d o h = grind (arith, common_steps, above-line)
 
 stops-items : (X : List Line) (d : ℕ) (o : Option Sibling) → Stops d X → items_from d o X ≡ json.no_items
-stops-items [] d o h = refl
-stops-items (l ∷ ls) d o h = above-line l.depth d _ _ _ h
+stops-items X d o h = grind (arith, common_steps, above-line)
 
 stops-more : (X : List Line) (d : ℕ) → Stops d X → Stops (suc d) X
-stops-more [] d h = tt
-stops-more (l ∷ ls) d h = omega (arith, h)
+stops-more X d h = grind (arith, common_steps)
 
 stops-below : (f : Forest) (d : ℕ) (X : List Line) → Stops d X → Stops (suc d) (lines d f ++ X)
 stops-below end d X h = stops-more X d h
@@ -159,17 +142,13 @@ stops-below (branch n p kids rest) d X h = omega arith
 
 choose-member : (n : Bytes) (p : Option ℕ) (c a : Bool) (D : Data) (ds : json.Items) (ms : json.Members) → c ≡ is_later_place p → a ≡ is_some p →
     (if c then ms else (if a then json.member n (json.array (json.item D ds)) ms else json.member n D ms)) ≡ placed_member n p D ds ms
-choose-member n None c a D ds ms e g = cond-false c _ _ e ∙ cond-false a _ _ g
-choose-member n (Some zero) c a D ds ms e g = cond-false c _ _ e ∙ cond-true a _ _ g
-choose-member n (Some (suc k)) c a D ds ms e g = cond-true c _ _ e
+choose-member n p c a D ds ms e g = grind (arith, common_steps, cond-false, cond-true)
 
 choose-item : (p : Option ℕ) (c : Bool) (D : Data) (ds : json.Items) → c ≡ is_later_place p → (if c then json.item D ds else json.no_items) ≡ placed_item p D ds
-choose-item (Some (suc k)) c D ds e = cond-true c _ _ e
-choose-item _ c D ds e = cond-false c _ _ e
+choose-item p c D ds e = grind (arith, common_steps, cond-false, cond-true)
 
 plain-datum : (c : Content) (ms : json.Members) → datum (kind_of c) (text_of c) ms ≡ content_data c
-plain-datum (text s) ms = refl
-plain-datum (value s) ms = refl
+plain-datum c ms = grind (arith, common_steps)
 
 record Tells (d : ℕ) (o : Option SiblingPlace) (ls : List Line) (ds : json.Items) (ms : json.Members) : Type 0 where
   pub members : members_from d (as_sibling o) ls ≡ ms

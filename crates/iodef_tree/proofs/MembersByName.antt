@@ -32,8 +32,7 @@ use Rattle.iodef_tree.proofs.Views.{forest-members}
 -- ---- the first member of a name
 
 chosen : (o : Ordering) (b : Bool) (a : Option Data) (d : Data) → is_eq o ≡ b → match_ordering o a (Some d) a ≡ (if b then Some d else a)
-chosen Less b a d h = rw (sym h)
-chosen _ b a d h = rw (sym h)
+chosen o b a d h = grind (arith, common_steps)
 
 same : (x k : Bytes) (b : Bool) → bytes_eq x k ≡ b → bytes_eq k x ≡ b
 same x k true h = ap (bytes_eq k) (bytes_eq-true x k h) ∙ bytes_eq-refl k
@@ -51,8 +50,7 @@ member-next k xs i m b h e is filled = grind (arith, common_steps, get-first, me
 
 front-kept : (o : Option SiblingPlace) (n : Bytes) (p : Option ℕ) (b : Body) (rest : Forest) → IsOrderedBehind o (in_front n p b rest) × HasTexts (in_front n p b rest) →
     IsBodyKept (is_some p) b × (IsOrderedBehind (Some (n, p)) rest × HasTexts rest)
-front-kept o n p (holds f) rest h = (record { ordered = h.0.1; texts = h.1.0 }, (h.0.2, h.1.1))
-front-kept o n p (says c) rest h = (h.1.0, (h.0.1, h.1.1))
+front-kept o n p b rest h = grind (arith, common_steps)
 
 pub object-members : (o : Object) (xs : List (Text × Member)) → xs ≡ o.members.items → members_forest xs ≡ forest o
 object-members o xs is = ap members_forest is ∙ sym (forest-members o)
@@ -61,8 +59,7 @@ pub kept-members : (o : Object) (xs : List (Text × Member)) → IsKept (forest 
 kept-members o xs k is = let inside : IsKept (members_forest xs) = subst IsKept (sym (object-members o xs is)) k in members-each (λ s f. IsOrderedBehind s f × HasTexts f) IsBodyKept front-kept AreKept (λ b h. h) (λ bs h. h) (map named xs) None (inside.ordered, inside.texts)
 
 body-ordered : (a : Bool) (b : Body) → IsBodyKept a b → IsBodyOrdered b
-body-ordered a (holds f) k = k.ordered
-body-ordered a (says c) k = tt
+body-ordered a b k = grind (arith, common_steps)
 
 pub kept-ordered : (m : Bodies) → AreKept m → AreBodiesOrdered m
 kept-ordered (one b) k = body-ordered false b k
@@ -75,12 +72,10 @@ kept-ordered (many bs) k = each bs k
 -- ---- the IncidentID
 
 get-object : (k : Bytes) (d : Data) → option_and_then (get_member k) (as_object d) ≡ get k d
-get-object k (json.object ms) = refl
-get-object k _ = refl
+get-object k d = grind (arith, common_steps)
 
 get-then : (k : Bytes) (o : Option Data) → option_and_then (get_member k) (option_and_then as_object o) ≡ option_and_then (get k) o
-get-then k None = refl
-get-then k (Some d) = get-object k d
+get-then k o = grind (arith, common_steps, get-object)
 
 pub id-found : (ms own : json.Members) (d : Data) (r : Option Data) → Some d ≡ get_member (codes "Incident") ms → Some own ≡ option_and_then as_object (zeroth d) → r ≡ get_member (codes "IncidentID") own →
     r ≡ id_in (json.object ms)

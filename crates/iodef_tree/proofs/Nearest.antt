@@ -42,12 +42,10 @@ abbrev Differs : Bytes → Option ℕ → Bytes → Option ℕ → Type 0
 Differs n o n' o' = is_some o ≡ true → o' ≡ None → bytes_eq n' n ≡ false
 
 differs-self : (n : Bytes) (o : Option ℕ) → Differs n o n o
-differs-self n None h e = absurd (true≢false (sym h))
-differs-self n (Some k) h e = absurd (cc)
+differs-self n o h e = grind (arith, common_steps)
 
 and-true : (b c : Bool) → (b && c) ≡ false → c ≡ true → b ≡ false
-and-true true c h k = absurd (true≢false (sym k ∙ h))
-and-true false c h k = refl
+and-true b c h k = grind (arith, common_steps)
 
 differs-left : (n : Bytes) (o : Option ℕ) (n' : Bytes) (o' : Option ℕ) → AreApart n o n' o' → Differs n o n' o'
 differs-left n None n' o' a h e = absurd (true≢false (sym h))
@@ -71,8 +69,7 @@ all-differ (leaf i rest) apart = grind (arith, common_steps, differs-left, diffe
 all-differ (branch m p kids rest) apart = grind (arith, common_steps, differs-left, differs-right, differs-self, siblings-both, siblings-map, (all-differ rest apart.2))
 
 past-bare : (n' : Bytes) (o' : Option ℕ) (n : Bytes) → (o' ≡ None → bytes_eq n' n ≡ false) → past (steps n' o') (n ∷ []) ≡ None
-past-bare n' None n h = cond-false (bytes_eq n' n) _ _ (h refl)
-past-bare n' (Some k) n h = cond_both (bytes_eq n' n) (past (decimal k ∷ []) []) None (λ o. o ≡ None) (λ _. refl) (λ _. refl)
+past-bare n' o' n h = grind (arith, common_steps, cond-false, cond_both)
 
 none-bare : (f : Forest) (n : Bytes) (o : Option ℕ) → is_some o ≡ true → AllSiblings (Differs n o) f → class_at f (n ∷ []) ≡ None
 none-bare end n o some h = refl

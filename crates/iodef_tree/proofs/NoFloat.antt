@@ -52,33 +52,22 @@ content-whole a (value s) h = value-whole a s (read s) h
 
 placed-member-whole : (n : Bytes) (p : Option ℕ) (d : Data) (ds : json.Items) (ms : json.Members) → has_float d ≡ false → items_have_float ds ≡ false → members_have_float ms ≡ false →
     members_have_float (placed_member n p d ds ms) ≡ false
-placed-member-whole n None d ds ms h k l = or_from (has_float d) _ h l
-placed-member-whole n (Some zero) d ds ms h k l = or_from (has_float d || items_have_float ds) _ (or_from (has_float d) _ h k) l
-placed-member-whole n (Some (suc j)) d ds ms h k l = l
+placed-member-whole n p d ds ms h k l = grind (arith, common_steps, or_from)
 
 placed-item-whole : (p : Option ℕ) (d : Data) (ds : json.Items) → has_float d ≡ false → items_have_float ds ≡ false → items_have_float (placed_item p d ds) ≡ false
-placed-item-whole (Some (suc j)) d ds h k = or_from (has_float d) _ h k
-placed-item-whole _ d ds h k = refl
+placed-item-whole p d ds h k = grind (arith, common_steps, or_from)
 
 pub record IsWhole (f : Forest) : Type 0 where
   pub members : members_have_float (members_of f) ≡ false
   pub items : items_have_float (items_of f) ≡ false
 
 pub whole : (f : Forest) → HasTexts f → IsWhole f
-whole end h = record { members = refl; items = refl }
-whole (leaf i rest) h = grind (arith, common_steps, content-whole, placed-item-whole, placed-member-whole, (whole rest h.1))
-whole (branch n p kids rest) h = grind (arith, common_steps, placed-item-whole, placed-member-whole, (whole kids h.0), (whole rest h.1))
+whole f h = grind (arith, common_steps, content-whole, placed-item-whole, placed-member-whole)
 
 -- ---- what stands at one place
 
 body-whole : (a : Bool) (b : Body) → IsBodyKept a b → has_float (body_data b) ≡ false
-body-whole a (holds f) k = (whole f k.texts).members
-body-whole a (says c) k = content-whole a c k
+body-whole a b k = grind (arith, common_steps, content-whole)
 
 pub kept-whole : (m : Bodies) → AreKept m → has_float (bodies_data m) ≡ false
-kept-whole (one b) k = body-whole false b k
-kept-whole (many bs) k = each bs k
-  where
-    each : (xs : List Body) → AllByRecursion (IsBodyKept true) xs → items_have_float (listed (map body_data xs)) ≡ false
-    each [] all = refl
-    each (x ∷ xs) all = or_from (has_float (body_data x)) _ (body-whole true x all.0) (each xs all.1)
+kept-whole m k = grind (arith, common_steps, body-whole, or_from)

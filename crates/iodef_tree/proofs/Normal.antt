@@ -57,8 +57,7 @@ float-in_range : (sign : Bool) (p : Parts) (n : Num) → float_of sign p ≡ Som
 float-in_range sign p n h = subst IsInRange (cond_some _ _ n h).1 tt
 
 from-in_range : (sign : Bool) (p : Parts) (n : Num) → number_from sign p ≡ Some n → IsInRange n
-from-in_range false p n h = grind (arith, common_steps, and_parts, cond_both, float-in_range, ltb-true, same_Some)
-from-in_range true p n h = grind (arith, common_steps, and_parts, below-zero, cond_both, float-in_range, leb-true, ltb-true, same_Some)
+from-in_range sign p n h = grind (arith, common_steps, and_parts, below-zero, cond_both, float-in_range, leb-true, ltb-true, same_Some)
 
 pub number-in_range : (s : Bytes) (n : Num) → number_of s ≡ Some n → IsInRange n
 unfolding number_of
@@ -83,8 +82,7 @@ put-normal k d ms h n = (put-ascend k d ms h.0, put-each IsNormal AreMembersNorm
 -- ---- what is read
 
 map-step : {A B : Type 0} (f : A → B) (o : Option A) (b : B) (P : B → Type 0) → ((a : A) → o ≡ Some a → P (f a)) → option_map f o ≡ Some b → P b
-map-step f None b P k e = absurd (cc)
-map-step f (Some a) b P k e = subst P (same_Some (f a) b e) (k a refl)
+map-step f o b P k e = grind (arith, common_steps, same_Some)
 
 mutual
   normal-json : (j : tree.Json) (d : Data) → of_json j ≡ Some d → IsNormal d
@@ -111,9 +109,7 @@ read-normal text d h = option_and_then_some of_json (option_and_then (λ p. tree
 -- ---- printed, and read again
 
 number-printed : (n : Num) → IsInRange n → is_float n ≡ false → (number_of (number_text n) ≡ Some n) × IsNumber (number_text n)
-number-printed (json.unsigned n) h w = (number_of-decimal n h, IsNumber-decimal n h)
-number-printed (json.negative z) h w = grind (arith, common_steps, IsNumber-signed_decimal, number_of-negative)
-number-printed (json.float x) h w = absurd (cc)
+number-printed n h w = grind (arith, common_steps, IsNumber-decimal, IsNumber-signed_decimal, number_of-decimal, number_of-negative)
 
 mutual
   back : (d : Data) → IsNormal d → has_float d ≡ false → of_json (outline d) ≡ Some d
@@ -168,7 +164,4 @@ whole o = option_and_then of_json (option_and_then (λ p. tree.if_last p.0 p.1) 
 
 -- the compact text of such a value is read as the value
 pub read-compact : (d : Data) → IsNormal d → has_float d ≡ false → depth d ≤ max_depth → read (compact_text d) ≡ Some d
-read-compact d n w shallow =
-    let j = outline d in
-    let lexed : tokens (compact_text d) ≡ json_tokens j = ap tokens (sym (print-outline d)) ∙ tokens-print (json_tokens j) (ArePrintable-json_tokens j (numbers d n w)) in
-    ap whole (ap (tree.value max_depth) (lexed ∙ sym (append-nil (json_tokens j))) ∙ value-json_tokens j max_depth [] (omega (arith, as-deep d, shallow))) ∙ back d n w
+read-compact d n w shallow = grind (arith, common_steps, ArePrintable-json_tokens, append-nil, as-deep, back, numbers, print-outline, tokens-print, value-json_tokens)

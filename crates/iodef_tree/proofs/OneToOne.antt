@@ -37,8 +37,7 @@ lines-shallow (leaf i rest) d = omega arith
 lines-shallow (branch n o kids rest) d = omega arith
 
 not_both : (d : ℕ) (x : Line) (xs ys : List Line) → suc d ≤ x.depth → IsShallow d ys → ys ≡ x ∷ xs → ⊥
-not_both d x xs [] deep shallow e = cc
-not_both d x xs (y ∷ ys) deep shallow e = grind (arith, common_steps)
+not_both d x xs ys deep shallow e = grind (arith, common_steps)
 
 split : (d : ℕ) (xs xs' ys ys' : List Line) → AreDeep (suc d) xs → AreDeep (suc d) xs' → IsShallow d ys → IsShallow d ys' → xs ++ ys ≡ xs' ++ ys' → (xs ≡ xs') × (ys ≡ ys')
 split d [] [] ys ys' deep deep' shallow shallow' e = (refl, e)
@@ -71,14 +70,10 @@ place-same (Some (m, Some i)) n (Some (suc j)) (Some zero) h h' e = never m n h'
 place-same (Some (m, Some i)) n (Some (suc j)) (Some (suc k)) h h' e = grind (arith, common_steps, and_parts, eqb-true)
 
 content-same : (c c' : Content) → kind_of c ≡ kind_of c' → text_of c ≡ text_of c' → c ≡ c'
-content-same (text s) (text t) k e = ap text e
-content-same (text s) (value t) k e = cc
-content-same (value s) (text t) k e = cc
-content-same (value s) (value t) k e = ap value e
+content-same c c' k e = grind (arith, common_steps)
 
 no_class : (c : Content) → kind_of c ≡ kind.Class → ⊥
-no_class (text s) e = cc
-no_class (value s) e = cc
+no_class c e = grind (arith, common_steps)
 
 abbrev leaf_of : Bytes → Option ℕ → Content → Leaf
 leaf_of n o c = record { name = n; place = o; content = c }

@@ -20,8 +20,7 @@ pub bytes_eq-true : (x y : Bytes) → bytes_eq x y ≡ true → x ≡ y
 bytes_eq-true x y = (bytes_eq-Decides x y).0
 
 less : (o : Ordering) → is_lt o ≡ true → o ≡ Less
-less Less h = refl
-less _ h = cc
+less o h = grind (arith, common_steps)
 
 pub bytes_lt-less : (x y : Bytes) → bytes_lt x y ≡ true → slice_cmp nat_cmp x y ≡ Less
 bytes_lt-less x y = less (slice_cmp nat_cmp x y)
@@ -101,6 +100,4 @@ is_under-steps (x ∷ p) name place z = ap (λ b. b && is_under p (p ++ (steps n
 
 -- it is not its parent
 pub same_path-longer : (p : Tokens) (name : Bytes) (place : Option ℕ) (z : Tokens) → same_path p (p ++ (steps name place ++ z)) ≡ false
-same_path-longer [] name None z = refl
-same_path-longer [] name (Some k) z = refl
-same_path-longer (x ∷ p) name place z = ap (λ b. b && same_path p (p ++ (steps name place ++ z))) (bytes_eq-refl x) ∙ same_path-longer p name place z
+same_path-longer p name place z = grind (arith, common_steps, bytes_eq-refl)

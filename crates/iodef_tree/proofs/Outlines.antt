@@ -80,9 +80,7 @@ get_new (suc e) [] n h = absurd (omega arith)
 get_new (suc e) (x ∷ E) n h = get_new e E n (omega (arith, h))
 
 length_new : {A : Type 0} (e : ℕ) (E : List A) (n : A) → e ≤ length E → length (take e E ++ n ∷ []) ≡ suc e
-length_new zero E n h = refl
-length_new (suc e) [] n h = absurd (omega arith)
-length_new (suc e) (x ∷ E) n h = ap suc (length_new e E n (omega (arith, h)))
+length_new e E n h = grind (arith, common_steps)
 
 get_past : {A : Type 0} (e : ℕ) (E : List A) (n : A) → e ≤ length E → slice_get (take e E ++ n ∷ []) (suc e) ≡ None
 get_past e E n h = let long = length_new e E n h in slice_get_past (take e E ++ n ∷ []) (suc e) (omega (arith, long))
@@ -93,8 +91,7 @@ pub record Known (before : List Line) : Type 0 where
   pub at : (d : ℕ) → suc d ≤ deepest before → slice_get (edge before) d ≡ last_sibling (suc d) before
 
 deep_le : (b : Bool) (n m : ℕ) → n ≤ m → (if b then suc n else n) ≤ suc m
-deep_le true n m h = omega (arith, h)
-deep_le false n m h = omega (arith, h)
+deep_le b n m h = grind (arith, common_steps)
 
 known_more : (x : Line) (before : List Line) → 0 < x.depth → x.depth ≤ deepest before → Known before → Known (x ∷ before)
 known_more x before positive reached k = grind (arith, common_steps, above-line, at-line, cases_lt, deep_le, get_kept, get_new, get_past, length_new, past-line)
@@ -120,9 +117,7 @@ known (x ∷ before) h =
 -- ---- the checker
 
 guarded : (a b f g s : Bool) → (a ≡ true → b ≡ true → f ≡ g) → (a && (b && (f && s))) ≡ (a && (b && (g && s)))
-guarded false b f g s h = refl
-guarded true false f g s h = refl
-guarded true true f g s h = ap (λ x. x && s) (h refl refl)
+guarded a b f g s h = grind (arith, common_steps)
 
 pub counted-cons : (l : Line) (ls : List Line) → counted (l ∷ ls) ≡ counted_with l (counted ls)
 counted-cons l ls = grind (arith, common_steps, sum_by-cons)

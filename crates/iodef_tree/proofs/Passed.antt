@@ -17,15 +17,13 @@ use Rattle.iodef_tree.proofs.Bodies.{found_array}
 use Rattle.iodef_tree.proofs.Fitness.{IsPlain, bind-ok, plain_ok}
 
 or-ok : {A : Type 0} (e : ReadFault) (o : Option A) (x : A) → or_fault e o ≡ Ok x → o ≡ Some x
-or-ok e None x h = absurd (cc)
-or-ok e (Some y) x h = let same : y ≡ x = cc in ap Some same
+or-ok e o x h = grind (arith, common_steps)
 
 parsed-ok : (bytes : Bytes) (d : Data) → parsed bytes ≡ Ok d → read bytes ≡ Some d
 parsed-ok bytes d h = grind (arith, common_steps, cond_both, or-ok)
 
 object-of : (d : Data) (root : json.Members) → as_object d ≡ Some root → d ≡ json.object root
-object-of (json.object ms) root h = let same : ms ≡ root = cc in ap json.object same
-object-of _ root h = absurd (cc)
+object-of d root h = grind (arith, common_steps)
 
 pub short-ok : (ls : List Line) (d : List Line) → if_short ls ≡ Ok d → ls ≡ d
 short-ok ls d h = cond_both (nat_lt LINE_LIMIT (length ls)) (Err TooManyLines) (Ok ls) (λ r. r ≡ Ok d → ls ≡ d) (λ _ e. absurd (cc)) (λ _ e. cc) h

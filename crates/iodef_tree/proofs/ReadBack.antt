@@ -40,8 +40,7 @@ use Rattle.iodef_tree.proofs.Passed.{short-ok, Passed, passed}
 -- ---- the members that the lines mean are those that were read
 
 filled-data : (b : Body) (bs : List Body) → has_elements (one_or_many b bs) ≡ true
-filled-data b [] = refl
-filled-data b (x ∷ bs) = refl
+filled-data b bs = grind (arith, common_steps)
 
 abbrev as_list : json.Members → List (Bytes × Bodies)
 as_list json.no_members = []

@@ -73,12 +73,10 @@ closed s o t x root was e = grind (arith, common_steps, append-nil, body-Class, 
 -- ---- a line
 
 empty-text : (s : Bytes) → is_empty_text s ≡ true → s ≡ []
-empty-text [] h = refl
-empty-text (c ∷ cs) h = absurd (true≢false (sym h))
+empty-text s h = grind (arith, common_steps)
 
 some-place : (a : Bool) → is_some (place_of a 0) ≡ a
-some-place true = refl
-some-place false = refl
+some-place a = grind (arith, common_steps)
 
 line-is : (d : ℕ) (a : Bool) (l : Line) (k : Kind) (s : Bytes) → d ≡ l.depth → l.kind ≡ k → l.text ≡ s →
     (let x : Line = record { depth = d; name = l.name; in_array = is_some (place_of l.in_array 0); kind = k; text = s } in x) ≡ l
@@ -115,8 +113,7 @@ has-plain s t u l c b fits is said held e g =
 -- ---- the whole
 
 none-left : (xs : List Open) → length xs ≡ 0 → xs ≡ []
-none-left [] h = refl
-none-left (x ∷ xs) h = absurd (omega (arith, h))
+none-left xs h = grind (arith, common_steps)
 
 -- with no class open the lines are those of the root
 pub finished : (s t : Spine) → Extends s [] 0 t → lines 1 (forest t.root) ≡ lines_of s

@@ -13,16 +13,13 @@ abbrev pub made_then : {A : Type 0} → List A → Option (List A) → Option (L
 made_then made rest = option_map (λ xs. made ++ xs) rest
 
 pub made_then-nil : {A : Type 0} (rest : Option (List A)) → made_then [] rest ≡ rest
-made_then-nil None = refl
-made_then-nil (Some xs) = refl
+made_then-nil rest = grind (arith, common_steps)
 
 pub made_then-append : {A : Type 0} (a b : List A) (rest : Option (List A)) → made_then (a ++ b) rest ≡ made_then a (made_then b rest)
-made_then-append a b None = refl
-made_then-append a b (Some xs) = ap Some (append_assoc a b xs)
+made_then-append a b rest = grind (arith, common_steps, append_assoc)
 
 pub made_then-first : {A : Type 0} (x : A) (rest : Option (List A)) → made_then (x ∷ []) rest ≡ with_first (Some x) rest
-made_then-first x None = refl
-made_then-first x (Some xs) = refl
+made_then-first x rest = grind (arith, common_steps)
 
 -- a byte that is no tilde stands for itself
 plain_byte : (b : ℕ) (rest : List ℕ) → b ≢ 126 → unescaped_from false (b ∷ rest) ≡ made_then (b ∷ []) (unescaped_from false rest)
@@ -112,5 +109,4 @@ module _ {S A : Type 0} (steps : S → Option A → S → Type 0) (written : A �
 
 -- what is not empty and begins with no slash is no pointer
 pub pointer_tokens-none : (text : List ℕ) → text ≢ [] → ((rest : List ℕ) → text ≢ 47 ∷ rest) → pointer_tokens text ≡ None
-pointer_tokens-none [] some none = absurd (some refl)
-pointer_tokens-none (c ∷ cs) some none = cond-false _ _ _ (ne_eqb c 47 (λ e. none cs (ap (λ b. b ∷ cs) e)))
+pointer_tokens-none text some none = grind (arith, common_steps, cond-false, ne_eqb)

@@ -14,12 +14,10 @@ use Rattle.iodef_tree.proofs.Members.{members-next}
 
 written-front : (later : Bool) (n : Bytes) (p : Option ℕ) (b : Body) (rest : Forest) →
     written later (in_front n p b rest) ≡ front_text later n p ++ (body_text b ++ (close_text p rest ++ written true rest))
-written-front later n p (holds f) rest = refl
-written-front later n p (says c) rest = refl
+written-front later n p b rest = grind (arith, common_steps)
 
 goes_on-front : (n : Bytes) (k : ℕ) (b : Body) (rest : Forest) → goes_on (in_front n (Some (suc k)) b rest) ≡ true
-goes_on-front n k (holds f) rest = refl
-goes_on-front n k (says c) rest = refl
+goes_on-front n k b rest = grind (arith, common_steps)
 
 -- an array from its second element on
 written-elements : (n : Bytes) (k : ℕ) (bs : List Body) (rest : Forest) → goes_on rest ≡ false →
@@ -32,17 +30,13 @@ named-front later n s t = grind (arith, common_steps, append_assoc)
 
 pub written-member : (later : Bool) (n : Bytes) (m : Bodies) (rest : Forest) → goes_on rest ≡ false → has_elements m ≡ true →
     written later (member_front n m rest) ≡ member_text later n m ++ written true rest
-written-member later n (one b) rest fresh filled = grind (arith, common_steps, named-front, written-front)
-written-member later n (many []) rest fresh filled = absurd (true≢false (sym filled))
-written-member later n (many (b ∷ bs)) rest fresh filled = grind (arith, common_steps, append_assoc, named-front, written-elements, written-front)
+written-member later n m rest fresh filled = grind (arith, common_steps, append_assoc, named-front, written-elements, written-front)
 
 goes_on-one : (n : Bytes) (b : Body) (rest : Forest) → goes_on (in_front n None b rest) ≡ false
-goes_on-one n (holds f) rest = refl
-goes_on-one n (says c) rest = refl
+goes_on-one n b rest = grind (arith, common_steps)
 
 goes_on-first : (n : Bytes) (b : Body) (rest : Forest) → goes_on (in_front n (Some 0) b rest) ≡ false
-goes_on-first n (holds f) rest = refl
-goes_on-first n (says c) rest = refl
+goes_on-first n b rest = grind (arith, common_steps)
 
 -- no member begins amid an array
 pub goes_on-members : (ms : List (Bytes × Bodies)) → goes_on (forest_of_members ms) ≡ false
