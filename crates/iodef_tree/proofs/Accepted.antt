@@ -1,10 +1,10 @@
 -- The lines of a document's tree are an outline.
-use Rattle.std.proofs.Common.{◌≡◌, ℕ, suc, ◌+◌, ◌≤◌, ◌<◌, Bool, true, false, List, ◌∷◌, refl, sym, ◌∙◌, subst, arith, if◌then◌else◌, ◌==◌, true≢false, Option, Some, None, is_some, nat_le, bytes_eq}
+use Rattle.std.proofs.Common.{◌≡◌, ℕ, suc, ◌+◌, ◌≤◌, ◌<◌, Bool, true, List, ◌∷◌, refl, sym, ◌∙◌, subst, arith, if◌then◌else◌, Option, Some, None, is_some, nat_le}
 use Rattle.std.proofs.lemmas.Bool.{lt-ltb, and_parts, and_from, or_left, or_right, le-leb}
 use Rattle.std.proofs.lemmas.Grind.{common_steps}
-use Rattle.iodef_tree.specs.Text.{Bytes, bytes_lt}
+use Rattle.iodef_tree.specs.Text.{Bytes}
 use Rattle.iodef_tree.specs.Texts.{HasTexts}
-use Rattle.iodef_tree.specs.Tree.{Content, text, value, Forest, end, leaf, branch, kind_of, leaf_line, class_line, lines, height}
+use Rattle.iodef_tree.specs.Tree.{Content, Forest, end, leaf, branch, kind_of, leaf_line, class_line, lines, height}
 use Rattle.iodef_tree.specs.Paths.{is_class_kind}
 use Rattle.iodef_tree.specs.Sound.{SiblingPlace, may_stand, IsOrderedBehind, counted, class_height, IsSound}
 use Rattle.iodef_tree.specs.Outline.{deepest, last_sibling, may_follow, is_within_depth, is_sound_line, may_come, is_outline_after, is_outline, back_onto}

@@ -1,5 +1,5 @@
 -- Siblings stand apart, since their names ascend and the elements of an array are numbered.
-use Rattle.std.proofs.Common.{◌≡◌, ℕ, zero, suc, ◌+◌, ◌^◌, ◌<◌, ◌≤◌, List, ◌∷◌, ◌++◌, true, false, not, cond, ◌&&◌, ◌==◌, decimal, refl, sym, ◌∙◌, ap, subst, arith, ◌⊎◌, inl, inr, Option, Some, None, is_some, bytes_eq}
+use Rattle.std.proofs.Common.{◌≡◌, ℕ, suc, ◌+◌, ◌^◌, ◌<◌, ◌≤◌, List, ◌∷◌, ◌++◌, true, false, not, cond, ◌&&◌, decimal, refl, ◌∙◌, ap, arith, ◌⊎◌, inl, inr, Option, Some, None, is_some, bytes_eq}
 use Rattle.std.proofs.lemmas.Bool.{and_parts, and_left, and_right, false≢true, eqb-true}
 use Rattle.std.proofs.lemmas.List.Sums.{sum_by-cons, sum_by-append}
 use Rattle.std.proofs.lemmas.Grind.{common_steps}

@@ -1,5 +1,5 @@
 -- Members whose names ascend make an ordered tree.
-use Rattle.std.proofs.Common.{◌≡◌, ℕ, suc, List, [], ◌∷◌, true, Option, Some, None, String, Global, string_bytes, string_cmp, Less, refl, ap, arith, is_lt}
+use Rattle.std.proofs.Common.{◌≡◌, ℕ, suc, List, [], ◌∷◌, true, Option, Some, None, String, Global, string_bytes, string_cmp, Less, ap, arith, is_lt}
 use Rattle.std.specs.List.{AllByRecursion}
 use Rattle.std.specs.List.Sorted.{IsStrictlySortedBy}
 use Rattle.std.specs.Map.{keys_of}

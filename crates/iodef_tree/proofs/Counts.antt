@@ -1,9 +1,9 @@
 -- How many lines the parts of a tree have.
-use Rattle.std.proofs.Common.{◌≡◌, ℕ, suc, ◌+◌, List, [], ◌∷◌, length, sum_by, refl, ap, arith, Option, None, length-append}
+use Rattle.std.proofs.Common.{◌≡◌, ℕ, suc, ◌+◌, List, [], ◌∷◌, length, sum_by, refl, ap, arith, Option, length-append}
 use Rattle.std.proofs.lemmas.List.Sums.{sum_by-cons}
 use Rattle.std.proofs.lemmas.Grind.{common_steps}
 use Rattle.iodef_tree.specs.Text.{Bytes}
-use Rattle.iodef_tree.specs.Tree.{Forest, end, leaf, branch, Body, holds, says, Bodies, one, many, in_front, elements, member_front, lines}
+use Rattle.iodef_tree.specs.Tree.{Forest, end, leaf, branch, Body, Bodies, in_front, elements, member_front, lines}
 use Rattle.iodef_tree.specs.FitValues.{line_count, body_count, bodies_count}
 
 line_count-in_front : (name : Bytes) (place : Option ℕ) (b : Body) (rest : Forest) → line_count (in_front name place b rest) ≡ body_count b + line_count rest

@@ -15,7 +15,7 @@ use Rattle.serde_json.proofs.Views.{members_view-insert_entry}
 use Rattle.iodef_tree.specs.FitValues.{IsBodyOrdered, AreBodiesOrdered}
 use Rattle.iodef_tree.specs.Sound.{SiblingPlace, may_stand, IsOrderedBehind, IsOrdered}
 use Rattle.iodef_tree.specs.Text.{Bytes, bytes_lt}
-use Rattle.iodef_tree.specs.Tree.{Forest, end, leaf, branch, Body, holds, says, Bodies, one, many, in_front, elements, member_front}
+use Rattle.iodef_tree.specs.Tree.{Forest, end, leaf, branch, Body, Bodies, one, many, in_front, elements, member_front}
 use Rattle.iodef_tree.specs.View.{forest, forest_of_members, bodies, named, members_forest}
 use Rattle.iodef_tree.specs.Written.{content_data, placed_member, placed_item, members_of, items_of, body_data, bodies_data, put_all}
 use Rattle.iodef_tree.specs.declared.text.Text.{Text}

@@ -1,5 +1,5 @@
 -- A list of documents, with those already made in front.
-use Rattle.std.proofs.Common.{◌≡◌, ◌+◌, ◌≤◌, ◌<◌, ℕ, List, [], ◌∷◌, ◌++◌, Bool, true, false, not, Option, Some, None, Result, Ok, Err, refl, sym, subst, ap, ◌∙◌, append_assoc, arith, IfSome, IfNone, is_some, IsErrAnd}
+use Rattle.std.proofs.Common.{◌≡◌, ◌+◌, ◌≤◌, ◌<◌, ℕ, List, [], ◌∷◌, ◌++◌, Bool, true, false, not, Option, Result, Ok, Err, refl, sym, subst, ◌∙◌, append_assoc, arith, IfSome, IfNone, is_some, IsErrAnd}
 use Rattle.iodef_tree.specs.FitValues.{line_count, IsFit, AreFit}
 use Rattle.serde_json.specs.Data as json
 use Rattle.serde_json.specs.View.{view, items_view}
@@ -12,7 +12,7 @@ use Rattle.iodef_tree.specs.Tree.{Forest, end, leaf, branch, lines, height}
 use Rattle.iodef_tree.specs.declared.TheConstants.{DEPTH_LIMIT, LINE_LIMIT}
 use Rattle.iodef_tree.specs.declared.line.Line.{Line}
 use Rattle.iodef_tree.specs.declared.fault.ReadFault.{ReadFault}
-use Rattle.iodef_tree.specs.declared.fault.ReadFault.TheVariants.{TooManyLines, NoMemory}
+use Rattle.iodef_tree.specs.declared.fault.ReadFault.TheVariants.{TooManyLines}
 use Rattle.iodef_tree.proofs.Counts.{length-lines}
 use Rattle.std.proofs.lemmas.Bool.{le-ltb, lt-ltb}
 use Rattle.std.proofs.lemmas.Grind.{common_steps}

@@ -1,8 +1,8 @@
 -- A member in front of others: what is made of it, joined with what is made of those.
-use Rattle.std.proofs.Common.{◌≡◌, ℕ, suc, ◌+◌, ◌<◌, max, List, [], ◌∷◌, ◌++◌, length, get_or, drop, refl, ◌∙◌, ap, append_assoc, arith, Option, None}
+use Rattle.std.proofs.Common.{◌≡◌, ℕ, suc, ◌+◌, ◌<◌, max, List, [], ◌∷◌, ◌++◌, length, get_or, drop, refl, ◌∙◌, ap, append_assoc, arith, Option}
 use Rattle.std.proofs.lemmas.Grind.{common_steps}
 use Rattle.iodef_tree.specs.Text.{Bytes}
-use Rattle.iodef_tree.specs.Tree.{Forest, end, leaf, branch, Body, holds, says, Bodies, one, many, in_front, elements, member_front, leaf_line, lines, height}
+use Rattle.iodef_tree.specs.Tree.{Forest, end, leaf, branch, Body, Bodies, in_front, elements, member_front, leaf_line, lines, height}
 use Rattle.iodef_tree.specs.View.{bodies, members_forest}
 use Rattle.iodef_tree.specs.declared.text.Text.{Text}
 use Rattle.iodef_tree.specs.declared.object.Member.{Member}

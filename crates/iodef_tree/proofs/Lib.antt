@@ -14,6 +14,7 @@ mod Each
 mod Passed
 mod Proven
 mod Computed
+mod Steps
 pub mod NoFloat
 pub mod Meaning
 pub mod Order

@@ -1,5 +1,5 @@
 -- The member of a name, and the IncidentID.
-use Rattle.std.proofs.Common.{◌≡◌, ℕ, ◌+◌, ◌<◌, Bool, true, false, if◌then◌else◌, List, [], ◌∷◌, map, length, drop, get_or, refl, sym, ◌∙◌, ap, subst, true≢false, Ordering, Less, is_eq, Option, Some, None, is_some, option_map, option_and_then, codes, bytes_eq, arith}
+use Rattle.std.proofs.Common.{◌≡◌, ℕ, ◌+◌, ◌<◌, Bool, true, false, if◌then◌else◌, List, [], ◌∷◌, map, length, drop, get_or, sym, ◌∙◌, ap, subst, true≢false, Ordering, is_eq, Option, Some, None, is_some, option_map, option_and_then, codes, bytes_eq, arith}
 use Rattle.std.specs.List.{AllByRecursion}
 use Rattle.std.specs.Ordering.{nat_cmp, match_ordering}
 use Rattle.std.specs.Cmp.Lexicographic.{slice_cmp}
@@ -15,7 +15,7 @@ use Rattle.iodef_tree.specs.SoundParts.{IsKept, IsBodyKept, AreKept}
 use Rattle.iodef_tree.specs.Sound.{SiblingPlace, IsOrderedBehind, IsSound}
 use Rattle.iodef_tree.specs.Text.{Bytes}
 use Rattle.iodef_tree.specs.Texts.{HasTexts}
-use Rattle.iodef_tree.specs.Tree.{Forest, Body, holds, says, Bodies, one, many, in_front, lines}
+use Rattle.iodef_tree.specs.Tree.{Forest, Body, Bodies, one, many, in_front, lines}
 use Rattle.iodef_tree.specs.View.{forest, bodies, named, members_forest}
 use Rattle.iodef_tree.specs.Written.{members_of, bodies_data}
 use Rattle.iodef_tree.specs.declared.line.Line.{Line}

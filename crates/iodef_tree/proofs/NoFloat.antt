@@ -1,5 +1,5 @@
 -- No float is in what a part of a document means.
-use Rattle.std.proofs.Common.{◌≡◌, ℕ, zero, suc, Bool, true, false, ◌&&◌, ◌||◌, List, [], ◌∷◌, map, refl, sym, true≢false, Option, Some, None, unwrap_or, bytes_eq, ◌-◌, nat_lt, arith}
+use Rattle.std.proofs.Common.{◌≡◌, ℕ, Bool, true, false, ◌&&◌, ◌||◌, List, [], ◌∷◌, map, refl, sym, true≢false, Option, Some, None, unwrap_or, bytes_eq, ◌-◌, nat_lt, arith}
 use Rattle.std.specs.List.{AllByRecursion}
 use Rattle.std.specs.Option.{option_map_or}
 use Rattle.std.proofs.lemmas.Bool.{and_parts, or_from, not-true}
@@ -62,12 +62,20 @@ pub record IsWhole (f : Forest) : Type 0 where
   pub items : items_have_float (items_of f) ≡ false
 
 pub whole : (f : Forest) → HasTexts f → IsWhole f
-whole f h = grind (arith, common_steps, content-whole, placed-item-whole, placed-member-whole)
+whole end h = record { members = refl; items = refl }
+whole (leaf i rest) h = grind (arith, common_steps, content-whole, placed-item-whole, placed-member-whole, (whole rest h.1))
+whole (branch n p kids rest) h = grind (arith, common_steps, placed-item-whole, placed-member-whole, (whole kids h.0), (whole rest h.1))
 
 -- ---- what stands at one place
 
 body-whole : (a : Bool) (b : Body) → IsBodyKept a b → has_float (body_data b) ≡ false
-body-whole a b k = grind (arith, common_steps, content-whole)
+body-whole a (holds f) k = (whole f k.texts).members
+body-whole a (says c) k = content-whole a c k
 
 pub kept-whole : (m : Bodies) → AreKept m → has_float (bodies_data m) ≡ false
-kept-whole m k = grind (arith, common_steps, body-whole, or_from)
+kept-whole (one b) k = body-whole false b k
+kept-whole (many bs) k = each bs k
+  where
+    each : (xs : List Body) → AllByRecursion (IsBodyKept true) xs → items_have_float (listed (map body_data xs)) ≡ false
+    each [] all = refl
+    each (x ∷ xs) all = or_from (has_float (body_data x)) _ (body-whole true x all.0) (each xs all.1)

@@ -1,5 +1,5 @@
 -- What is read of a text has its names in order and its numbers in range, and its own text is read as the same.
-use Rattle.std.proofs.Common.{◌≡◌, ℕ, zero, suc, ◌^◌, ◌<◌, ◌≤◌, List, [], Bool, true, false, drop, refl, sym, ◌∙◌, ap, subst, arith, append-nil, Option, Some, None, option_map, option_and_then, negsuc}
+use Rattle.std.proofs.Common.{◌≡◌, ℕ, zero, suc, ◌^◌, ◌<◌, ◌≤◌, List, [], Bool, true, false, drop, refl, sym, ◌∙◌, ap, subst, arith, append-nil, Option, Some, option_map, option_and_then, negsuc}
 use Rattle.std.proofs.lemmas.Bool.{and_parts, cond_both, ltb-true, leb-true, or_parts}
 use Rattle.std.proofs.lemmas.Option.{cond_some, option_and_then_some, same_Some}
 use Rattle.std.proofs.lemmas.Cmp.{nat_list_cmp_total}
@@ -164,4 +164,7 @@ whole o = option_and_then of_json (option_and_then (λ p. tree.if_last p.0 p.1) 
 
 -- the compact text of such a value is read as the value
 pub read-compact : (d : Data) → IsNormal d → has_float d ≡ false → depth d ≤ max_depth → read (compact_text d) ≡ Some d
-read-compact d n w shallow = grind (arith, common_steps, ArePrintable-json_tokens, append-nil, as-deep, back, numbers, print-outline, tokens-print, value-json_tokens)
+read-compact d n w shallow =
+    let j = outline d in
+    let lexed : tokens (compact_text d) ≡ json_tokens j = ap tokens (sym (print-outline d)) ∙ tokens-print (json_tokens j) (ArePrintable-json_tokens j (numbers d n w)) in
+    ap whole (ap (tree.value max_depth) (lexed ∙ sym (append-nil (json_tokens j))) ∙ value-json_tokens j max_depth [] (omega (arith, as-deep d, shallow))) ∙ back d n w

@@ -4,7 +4,7 @@ use Rattle.std.specs.List.{AllByRecursion}
 use Rattle.std.proofs.lemmas.Bool.{and_parts, false≢true, eqb-true}
 use Rattle.std.proofs.lemmas.Grind.{common_steps}
 use Rattle.iodef_tree.specs.Text.{Bytes, bytes_lt}
-use Rattle.iodef_tree.specs.Tree.{Content, text, value, Leaf, Forest, end, leaf, branch, kind_of, text_of, leaf_line, class_line, lines}
+use Rattle.iodef_tree.specs.Tree.{Content, Leaf, Forest, end, leaf, branch, kind_of, text_of, leaf_line, class_line, lines}
 use Rattle.iodef_tree.specs.Sound.{SiblingPlace, may_stand, IsOrderedBehind, IsSound}
 use Rattle.iodef_tree.specs.declared.line.Line.{Line}
 use Rattle.iodef_tree.specs.declared.line.Kind.TheVariants as kind

@@ -1,5 +1,5 @@
 -- What a body that can be read has passed.
-use Rattle.std.proofs.Common.{◌≡◌, List, true, length, nat_lt, sym, ◌∙◌, ap, subst, Option, Some, None, Ok, Err, option_and_then, codes, arith}
+use Rattle.std.proofs.Common.{◌≡◌, List, true, length, nat_lt, sym, ◌∙◌, ap, subst, Option, Some, Ok, Err, option_and_then, codes, arith}
 use Rattle.std.proofs.lemmas.Bool.{cond_both}
 use Rattle.std.proofs.lemmas.Option.{cond_some}
 use Rattle.std.proofs.lemmas.Grind.{common_steps}

@@ -1,5 +1,5 @@
 -- Where no value stands too deep, the trees are low.
-use Rattle.std.proofs.Common.{◌≡◌, ℕ, suc, ◌+◌, ◌≤◌, max, List, [], ◌∷◌, nat_lt, ◌&&◌, Option, None, refl, arith, decimal, is_some}
+use Rattle.std.proofs.Common.{◌≡◌, ℕ, suc, ◌+◌, ◌≤◌, max, List, [], ◌∷◌, nat_lt, ◌&&◌, Option, arith, decimal, is_some}
 use Rattle.serde_json.specs.Data as json
 use Rattle.serde_json.specs.Data.{Data}
 use Rattle.serde_json.specs.Find.{as_array}

@@ -14,7 +14,7 @@ use Rattle.serde_json.specs.declared.value.Value.{Value}
 use Rattle.iodef_tree.specs.FitValues.{HasBodyTexts, HaveTexts}
 use Rattle.iodef_tree.specs.Text.{Bytes}
 use Rattle.iodef_tree.specs.Texts.{is_plain, are_plain, is_empty, may_be_value, may_be_text, HasTexts}
-use Rattle.iodef_tree.specs.Tree.{Forest, Body, holds, says, Bodies, one, many, in_front, elements}
+use Rattle.iodef_tree.specs.Tree.{Forest, Body, Bodies, one, many, in_front, elements}
 use Rattle.iodef_tree.specs.View.{forest_of_members}
 use Rattle.iodef_tree.specs.declared.TheConstants.{DEPTH_LIMIT}
 use Rattle.iodef_tree.specs.declared.line.Kind.TheVariants as kind

@@ -1,20 +1,13 @@
-use Rattle.std.proofs.Common.{◌≡◌, true, false, sym, ◌∙◌, ap, bytes_eq}
-use Rattle.serde_json.specs.Find.{get_member}
+use Rattle.std.proofs.Common.{◌≡◌, true, false, sym, ◌∙◌, ap, bytes_eq, arith}
+use Rattle.std.proofs.lemmas.Grind.{common_steps}
 use Rattle.iodef_tree.specs.SoundParts.{AreKept}
-use Rattle.iodef_tree.specs.Written.{members_of}
 use Rattle.iodef_tree.proofs.Data.{all-left}
 use Rattle.iodef_tree.proofs.Filled.{member-at, member-elements}
 use Rattle.iodef_tree.proofs.MembersByName.{object-members, kept-members, member-next}
 use Rattle.iodef_tree.proofs.value.member_named.Goals as goal
 
 pub loop-own-init : goal.loop-own-init
-loop-own-init c =
-    let o = c.args.object.now in
-    let xs = c.deref-own-items.result.now in
-    record {
-      left = ap (λ f. get_member c.args.name.now (members_of f)) (object-members o xs c.deref-own-items.ensures.value);
-      kept = kept-members o xs c.requires.kept c.deref-own-items.ensures.value;
-    }
+loop-own-init c = grind (arith, common_steps, kept-members, object-members)
 
 pub returns-then-eq-clause-found : goal.returns-then-eq-clause-found
 returns-then-eq-clause-found c =
@@ -26,12 +19,10 @@ returns-then-eq-clause-found c =
     sym (member-next c.args.name.now xs i m true c.loop-own-test.true c.loop-own-item.is named filled) ∙ c.loop-own.invariant.left
 
 pub returns-then-eq-clause-kept : goal.returns-then-eq-clause-kept
-returns-then-eq-clause-kept c =
-    (all-left (λ x. AreKept x.1) c.deref-own-items.result.now c.loop-own.own-index c.loop-own-item.result c.loop-own-test.true c.loop-own-item.is c.loop-own.invariant.kept).0
+returns-then-eq-clause-kept c = grind (arith, common_steps, all-left)
 
 pub returns-then-eq-clause-filled : goal.returns-then-eq-clause-filled
-returns-then-eq-clause-filled c =
-    member-at c.args.object.now c.deref-own-items.result.now c.loop-own.own-index c.loop-own-item.result c.requires.filled c.deref-own-items.ensures.value c.loop-own-test.true c.loop-own-item.is
+returns-then-eq-clause-filled c = grind (arith, common_steps, member-at)
 
 pub loop-own-preserved : goal.loop-own-preserved
 loop-own-preserved c =
