@@ -1,7 +1,6 @@
 -- The lines of a document's tree are an outline.
 use Rattle.std.proofs.Common.{◌≡◌, ℕ, suc, ◌+◌, ◌≤◌, ◌<◌, Bool, true, List, ◌∷◌, refl, sym, ◌∙◌, subst, arith, if◌then◌else◌, Option, Some, None, is_some, nat_le}
 use Rattle.std.proofs.lemmas.Bool.{lt-ltb, and_parts, and_from, or_left, or_right, le-leb}
-use Rattle.std.proofs.lemmas.Grind.{common_steps}
 use Rattle.iodef_tree.specs.Text.{Bytes}
 use Rattle.iodef_tree.specs.Texts.{HasTexts}
 use Rattle.iodef_tree.specs.Tree.{Content, Forest, end, leaf, branch, kind_of, leaf_line, class_line, lines, height}
@@ -15,12 +14,12 @@ use Rattle.iodef_tree.proofs.Sounds.{as_sibling, sibling_skip, sibling_here, sib
 
 -- what may stand behind a sibling follows its line
 follows : (o : Option SiblingPlace) (name : Bytes) (place : Option ℕ) → may_stand o name place ≡ true → may_follow (as_sibling o) (record { name = name; in_array = is_some place }) ≡ true
-follows o name place h = grind (arith, common_steps, and_from, and_parts, or_left, or_right)
+follows o name place h = grind (arith, and_from, and_parts, or_left, or_right)
 
 -- ---- how deep the next line may be
 
 at_least : (b : Bool) (d : ℕ) → d ≤ (if b then suc d else d)
-at_least b d = grind (arith, common_steps)
+at_least b d = grind arith
 
 deep_line : (x : Line) (before : List Line) (d : ℕ) → d ≤ x.depth → d ≤ deepest (x ∷ before)
 deep_line x before d h = let a = at_least (is_class_kind x.kind) x.depth in omega (arith, h, a)
@@ -37,10 +36,10 @@ deep_past (branch name place kids rest) n d before h k =
 
 comes : (before : List Line) (l : Line) (o : Option SiblingPlace) (place : Option ℕ) → counted (l ∷ before) ≤ LINE_LIMIT → 0 < l.depth → l.depth ≤ deepest before → last_sibling l.depth before ≡ as_sibling o →
     l.in_array ≡ is_some place → may_stand o l.name place ≡ true → is_sound_line l ≡ true → may_come before l ≡ true
-comes before l o place few positive reached is a stands sound = grind (arith, common_steps, and_from, follows, le-leb, lt-ltb)
+comes before l o place few positive reached is a stands sound = grind (arith, and_from, follows, le-leb, lt-ltb)
 
 plain-within : (c : Content) (d : ℕ) → d ≤ DEPTH_LIMIT + 1 → nat_le d (if is_class_kind (kind_of c) then DEPTH_LIMIT else DEPTH_LIMIT + 1) ≡ true
-plain-within c d h = grind (arith, common_steps, le-leb)
+plain-within c d h = grind (arith, le-leb)
 
 fewer : (f : Forest) (d : ℕ) (before : List Line) → counted (back_onto (lines d f) before) ≤ LINE_LIMIT → counted before ≤ LINE_LIMIT
 fewer f d before h = let a = counted-back_onto (lines d f) before in omega (arith, a, h)
@@ -68,4 +67,4 @@ come (branch n p kids rest) d before o positive reached is ordered texts classes
     (outline_after-append (lines (suc d) kids) (lines d rest) (x ∷ before) ∙ and_from (is_outline_after (x ∷ before) (lines (suc d) kids)) _ below behind)
 
 pub lines-outline : (f : Forest) → IsSound f → is_outline (lines 1 f) ≡ true
-lines-outline f h = grind (arith, common_steps, come, counted-back_onto)
+lines-outline f h = grind (arith, come, counted-back_onto)

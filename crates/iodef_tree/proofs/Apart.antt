@@ -30,7 +30,7 @@ next_place (Some (name, None)) = 0
 next_place (Some (name, Some j)) = suc j
 
 place-next : (s : Option SiblingPlace) (name : Bytes) (k : ℕ) → may_stand s name (Some k) ≡ true → k ≤ next_place s
-place-next s name k h = grind (arith, common_steps, and_parts, eqb-true, false≢true)
+place-next s name k h = grind (arith, and_parts, eqb-true, false≢true)
 
 counted-le : (l : Line) (ls : List Line) → counted ls ≤ counted (l ∷ ls)
 counted-le l ls = let e = sum_by-cons (λ (x : Line). cond (not (is_label_line x)) 1 0) l ls in omega arith
@@ -43,7 +43,7 @@ step_room : (s : Option SiblingPlace) (name : Bytes) (o : Option ℕ) (l : Line)
 step_room s name o l ls n h counts room = grind (arith, common_steps, counted-le, counted-one, place-next)
 
 leaf-counts : (d : ℕ) (i : Leaf) → is_some i.place ≡ true → is_label_line (leaf_line d i) ≡ false
-leaf-counts d i h = grind (arith, common_steps)
+leaf-counts d i h = grind arith
 
 class-counts : (d : ℕ) (name : Bytes) (place : Option ℕ) → is_label_line (class_line d name place) ≡ false
 class-counts d name place = and_left (not (is_some place) && false) _ (and_right (not (is_some place)) false refl)
@@ -70,13 +70,13 @@ abbrev IsLater : Bytes → Option ℕ → Bytes → Option ℕ → Type 0
 IsLater n o n' o' = (bytes_lt n n' ≡ true) ⊎ ((n ≡ n') × IsPlaceLater o o')
 
 later-next : (n : Bytes) (o : Option ℕ) (n' : Bytes) (o' : Option ℕ) → may_stand_behind (n, o) n' o' ≡ true → IsLater n o n' o'
-later-next n o n' o' h = grind (arith, common_steps, and_parts, bytes_eq-true, eqb-true, false≢true)
+later-next n o n' o' h = grind (arith, and_parts, bytes_eq-true, eqb-true, false≢true)
 
 place_later-trans : (a b c : Option ℕ) → IsPlaceLater a b → IsPlaceLater b c → IsPlaceLater a c
-place_later-trans a b c h k = grind (arith, common_steps)
+place_later-trans a b c h k = grind arith
 
 later-trans : (n : Bytes) (o : Option ℕ) (n' : Bytes) (o' : Option ℕ) (n'' : Bytes) (o'' : Option ℕ) → IsLater n o n' o' → IsLater n' o' n'' o'' → IsLater n o n'' o''
-later-trans n o n' o' n'' o'' h h' = grind (arith, common_steps, bytes_lt-trans, place_later-trans)
+later-trans n o n' o' n'' o'' h h' = grind (arith, bytes_lt-trans, place_later-trans)
 
 later-behind : (f : Forest) (n : Bytes) (o : Option ℕ) → IsOrderedBehind (Some (n, o)) f → AllSiblings (IsLater n o) f
 later-behind end n o ordered = tt
@@ -88,7 +88,7 @@ later-behind (branch m p kids rest) n o ordered =
     (here, siblings-map (IsLater m p) (IsLater n o) rest (λ n' o'. later-trans n o m p n' o' here) (later-behind rest m p ordered.2))
 
 names_apart : (n : Bytes) (o : Option ℕ) (n' : Bytes) (o' : Option ℕ) (z : Tokens) → bytes_eq n n' ≡ false → is_prefix (steps n o) (steps n' o' ++ z) ≡ false
-names_apart n o n' o' z h = grind (arith, common_steps, and_left)
+names_apart n o n' o' z h = grind (arith, and_left)
 
 later-apart : (n : Bytes) (o : Option ℕ) (n' : Bytes) (o' : Option ℕ) → IsLater n o n' o' → IsSmall (2 ^ 64) o' → AreApart n o n' o'
 later-apart n o n' o' (inl h) small = record {
@@ -111,8 +111,8 @@ apart-behind (branch m p kids rest) n o later small = (later-apart n o m p later
 
 apart-ordered : (f : Forest) (s : Option SiblingPlace) → IsOrderedBehind s f → AreSmall (2 ^ 64) f → HasApart f
 apart-ordered end s ordered small = tt
-apart-ordered (leaf i rest) s ordered small = grind (arith, common_steps, apart-behind, later-behind, small, (apart-ordered rest (Some (i.name, i.place)) ordered.1 small.1))
-apart-ordered (branch n p kids rest) s ordered small = grind (arith, common_steps, apart-behind, later-behind, small, (apart-ordered kids None ordered.1 small.1), (apart-ordered rest (Some (n, p)) ordered.2 small.2))
+apart-ordered (leaf i rest) s ordered small = grind (arith, apart-behind, later-behind, small, (apart-ordered rest (Some (i.name, i.place)) ordered.1 small.1))
+apart-ordered (branch n p kids rest) s ordered small = grind (arith, apart-behind, later-behind, small, (apart-ordered kids None ordered.1 small.1), (apart-ordered rest (Some (n, p)) ordered.2 small.2))
 
 pub sound-apart : (f : Forest) → IsSound f → HasApart f
 sound-apart f sound = let short = sound.short in apart-ordered f None sound.ordered (small f 1 None (2 ^ 64) sound.ordered (omega arith))

@@ -4,7 +4,6 @@ use Rattle.std.specs.List.{AllByRecursion}
 use Rattle.std.specs.List.Sorted.{IsStrictlySortedBy}
 use Rattle.std.specs.Map.{keys_of}
 use Rattle.std.proofs.lemmas.Bool.Decides.{nat_tests}
-use Rattle.std.proofs.lemmas.Grind.{common_steps}
 use Rattle.iodef_tree.specs.Text.{Bytes, bytes_lt}
 use Rattle.iodef_tree.specs.Tree.{Forest, Body, holds, says, Bodies, one, many, in_front, elements}
 use Rattle.iodef_tree.specs.Sound.{SiblingPlace, may_stand, IsOrderedBehind}
@@ -46,16 +45,16 @@ elements_ordered : (name : Bytes) (bs : List Body) (k : ℕ) (before : Option Si
     → may_stand before name (Some k) ≡ true → AllByRecursion IsBodyOrdered bs → ((j : ℕ) → IsOrderedBehind (Some (name, Some j)) rest) → IsOrderedBehind before rest
     → IsOrderedBehind before (elements name k bs rest)
 elements_ordered name [] k before rest h all each r = r
-elements_ordered name (b ∷ bs) k before rest h all each r = grind (arith, common_steps, next_stands, (elements_ordered name bs (suc k) (Some (name, Some k)) rest (next_stands name k) all.1 each (each k)))
+elements_ordered name (b ∷ bs) k before rest h all each r = grind (arith, next_stands, (elements_ordered name bs (suc k) (Some (name, Some k)) rest (next_stands name k) all.1 each (each k)))
 
 stands : (before : Option SiblingPlace) (name : Bytes) (m : Bodies) (ms : List (Bytes × Bodies)) → AreAboveAll before ((name, m) ∷ ms) → may_stand before name None ≡ true
-stands before name m ms h = grind (arith, common_steps)
+stands before name m ms h = grind arith
 
 stands_first : (before : Option SiblingPlace) (name : Bytes) (m : Bodies) (ms : List (Bytes × Bodies)) → AreAboveAll before ((name, m) ∷ ms) → may_stand before name (Some 0) ≡ true
-stands_first before name m ms h = grind (arith, common_steps)
+stands_first before name m ms h = grind arith
 
 above_later : (before : Option SiblingPlace) (m : Bytes × Bodies) (ms : List (Bytes × Bodies)) → AreAboveAll before (m ∷ ms) → AreAboveAll before ms
-above_later before m ms h = grind (arith, common_steps)
+above_later before m ms h = grind arith
 
 pub ordered_members : (ms : List (Bytes × Bodies)) (before : Option SiblingPlace) → AreAboveAll before ms → Ascend ms → AllByRecursion (λ m. AreBodiesOrdered m.1) ms → IsOrderedBehind before (forest_of_members ms)
 ordered_members [] before h up all = tt

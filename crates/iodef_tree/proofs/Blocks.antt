@@ -3,7 +3,6 @@ use Rattle.std.proofs.Common.{◌≡◌, ℕ, suc, List, [], ◌∷◌, ◌++◌
 use Rattle.std.specs.List.{AllByRecursion}
 use Rattle.std.proofs.lemmas.Bool.{cond-true, cond-false}
 use Rattle.std.proofs.lemmas.List.Elements.{filter-append}
-use Rattle.std.proofs.lemmas.Grind.{common_steps}
 use Rattle.iodef_tree.specs.Text.{Bytes, Tokens, is_under}
 use Rattle.iodef_tree.specs.Tree.{Forest, end, leaf, branch, steps, lines}
 use Rattle.iodef_tree.specs.Paths.{LocatedLine, placed, located_after, located, below}
@@ -21,7 +20,7 @@ use Rattle.iodef_tree.proofs.Siblings.{filter-none, filter-all, siblings-all, si
 -- a stronger test, tried on what passes a weaker one
 pub filter-twice : {X : Type 0} (Q P : X → Bool) (es : List X) → ((e : X) → Q e ≡ true → P e ≡ true) → filter Q es ≡ filter Q (filter P es)
 filter-twice Q P [] h = refl
-filter-twice {X} Q P (e ∷ es) h = grind (arith, common_steps, cond-false, cond-true, (filter-twice Q P es h))
+filter-twice {X} Q P (e ∷ es) h = grind (arith, cond-false, cond-true, (filter-twice Q P es h))
 
 -- what is below a path is among what is below its prefixes
 pub below-weaker : (p z : Tokens) (es : List LocatedLine) → below (p ++ z) es ≡ below (p ++ z) (below p es)

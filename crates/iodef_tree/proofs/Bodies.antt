@@ -2,7 +2,6 @@
 use Rattle.std.proofs.Common.{◌≡◌, ℕ, ◌+◌, ◌≤◌, List, true, false, ◌&&◌, Option, Some, Result, Ok, option_and_then, refl, ap, subst, arith, codes}
 use Rattle.std.proofs.lemmas.Bool.{and_parts, or_from, or_parts}
 use Rattle.std.proofs.lemmas.Option.{cond_some, some_pair_parts}
-use Rattle.std.proofs.lemmas.Grind.{common_steps}
 use Rattle.serde_json.specs.Data as json
 use Rattle.serde_json.specs.Data.{Data, put}
 use Rattle.serde_json.specs.Find.{get_member, as_array, as_object}
@@ -21,7 +20,7 @@ use Rattle.iodef_tree.proofs.Shallow.{tallest, low_members, heights, tallest_le}
 use Rattle.iodef_tree.proofs.Each.{IsEach, put-each, get-each}
 
 floatless : IsEach (λ d. has_float d ≡ false) (λ ms. members_have_float ms ≡ false)
-floatless = grind (arith, common_steps, or_from, or_parts)
+floatless = grind (arith, or_from, or_parts)
 
 each_fit : (ms : json.Members) (ds : json.Items) → height (forest_of_data ms) ≤ DEPTH_LIMIT → members_have_float ms ≡ false → items_have_float ds ≡ false → are_members_flat ms ≡ true → are_flat ds ≡ true → tallest (items_of_data ds) ≤ DEPTH_LIMIT → AreFit ms ds
 each_fit ms json.no_items low free f flat g h = tt
@@ -37,10 +36,10 @@ each_fit ms (json.item d ds) low free f flat g h =
     )
 
 array_of : (e : Data) (ds : json.Items) → as_array e ≡ Some ds → e ≡ json.array ds
-array_of e ds h = grind (arith, common_steps)
+array_of e ds h = grind arith
 
 pub found_array : (o : Option Data) (ds : json.Items) → option_and_then if_incidents (option_and_then as_array o) ≡ Some ds → o ≡ Some (json.array ds)
-found_array o ds e = grind (arith, common_steps, array_of, cond_some)
+found_array o ds e = grind (arith, array_of, cond_some)
 
 pub fit_object : (ms : json.Members) (ds : json.Items) → IsPlain (json.object ms) → get_member (codes "Incident") ms ≡ Some (json.array ds) → AreFit ms ds
 fit_object ms ds p at =
@@ -54,7 +53,7 @@ fit_object ms ds p at =
 -- the same documents, whatever stands in place of the Incidents
 fit_beside : (ms : json.Members) (v : Data) (ds : json.Items) → AreFit ms ds → AreFit (put (codes "Incident") v ms) ds
 fit_beside ms v json.no_items h = tt
-fit_beside ms v (json.item d ds) h = grind (arith, common_steps, put_twice, (fit_beside ms v ds h.1))
+fit_beside ms v (json.item d ds) h = grind (arith, put_twice, (fit_beside ms v ds h.1))
 
 pub documents_beside : (ms : json.Members) (v : Data) (ds : json.Items) → documents (put (codes "Incident") v ms) ds ≡ documents ms ds
 documents_beside ms v json.no_items = refl
@@ -68,7 +67,7 @@ pub record Found (d : Data) (ds : json.Items) : Type 0 where
   pub chosen : incidents_of root ≡ Some ds
 
 pub found : (d : Data) (ds : json.Items) → option_and_then incidents_of (as_object d) ≡ Some ds → Found d ds
-found d ds e = grind (arith, common_steps, found_array)
+found d ds e = grind (arith, found_array)
 
 taken_found : (d : Data) (ds : json.Items) (f : Found d ds) → taken d ≡ Some (put (codes "Incident") json.null f.root, ds)
 taken_found d ds f = rw (f.is, f.at)
@@ -92,4 +91,4 @@ some_found d ds k f = rw (f.is, f.chosen)
 pub reading_taken : (bytes : List ℕ) (d : Data) (ds : json.Items) (f : Found d ds) (ms : json.Members) (es : json.Items) (t : Taken) → t ≡ Ok (taken d) → t ≡ Ok (Some (ms, es))
     → parsed bytes ≡ Ok d → all_complete 0 ds ≡ Ok tt → all_fit d ≡ Ok tt → reading bytes ≡ documents ms es
 unfolding reading
-reading_taken bytes d ds f ms es t e h read whole fine = grind (arith, common_steps, documents_beside, same_taken, some_found)
+reading_taken bytes d ds f ms es t e h read whole fine = grind (arith, documents_beside, same_taken, some_found)

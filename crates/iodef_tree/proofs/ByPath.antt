@@ -1,5 +1,5 @@
 -- The look-up by a path finds the class whose lines stand below it.
-use Rattle.std.proofs.Common.{◌≡◌, ℕ, zero, suc, ◌+◌, ◌^◌, ◌<◌, ◌≤◌, List, [], ◌∷◌, ◌++◌, Bool, true, false, cond, ◌&&◌, ◌||◌, length, decimal, refl, sym, ◌∙◌, ap, arith, append-nil, append_assoc, true≢false, Option, Some, None, is_some, option_map, bytes_eq}
+use Rattle.std.proofs.Common.{◌≡◌, ℕ, suc, ◌+◌, ◌^◌, ◌<◌, ◌≤◌, List, [], ◌∷◌, ◌++◌, Bool, true, false, cond, ◌&&◌, ◌||◌, length, decimal, refl, sym, ◌∙◌, ap, arith, append-nil, append_assoc, true≢false, Option, Some, None, is_some, option_map, bytes_eq}
 use Rattle.std.specs.Option.{option_map_or}
 use Rattle.std.specs.List.{AllByRecursion, slice_get}
 use Rattle.std.proofs.lemmas.Bool.{and_left, and_right, cond-true, cond-false, cond_both}
@@ -15,23 +15,20 @@ use Rattle.iodef_tree.proofs.Distinct.{apart-differ}
 use Rattle.iodef_tree.proofs.Order.{is_false, bytes_eq-refl, bytes_eq-true, decimals_differ, same_path-refl, same_path-true, same_path-common, same_path-is_prefix, same_path-longer, is_prefix-append}
 use Rattle.iodef_tree.proofs.Siblings.{siblings-all, siblings-map, walk-all}
 use Rattle.std.proofs.Math.Bool.{or-false}
-use Rattle.std.proofs.lemmas.Grind.{common_steps}
 
 -- ---- what is left of a path
 
 pub past-some : (q p r : Tokens) → past q p ≡ Some r → p ≡ q ++ r
-past-some [] p r e = cc
-past-some (x ∷ q) [] r e = cc
 past-some (x ∷ q) (y ∷ p) r e = step (bytes_eq x y) refl e (past-some q p r)
   where
     step : (b : Bool) → bytes_eq x y ≡ b → cond b (past q p) None ≡ Some r → (past q p ≡ Some r → p ≡ q ++ r) → y ∷ p ≡ x ∷ (q ++ r)
     step true is h later = let same : x ≡ y = bytes_eq-true x y is in let rest : p ≡ q ++ r = later h in cc
     step false is h later = cc
+past-some q p r e = grind arith
 
 past-none : (q p : Tokens) → past q p ≡ None → is_prefix q p ≡ false
-past-none [] p e = cc
-past-none (x ∷ q) [] e = refl
-past-none (x ∷ q) (y ∷ p) e = grind (arith, common_steps, (past-none q p))
+past-none (x ∷ q) (y ∷ p) e = grind (arith, (past-none q p))
+past-none q p e = grind arith
 
 -- ---- whether there is a class
 
@@ -59,7 +56,7 @@ none-inside f d q st p apart =
         ∙ is_false (same_path (st ++ z) p) (λ same. true≢false (sym (is_prefix-append st z) ∙ ap (is_prefix st) (same_path-true (st ++ z) p same) ∙ apart))
 
 leaf_plain : (c : Content) → is_class_kind (kind_of c) ≡ false
-leaf_plain c = grind (arith, common_steps)
+leaf_plain c = grind arith
 
 pub has_class-walk : (f : Forest) (d : ℕ) (q p : Tokens) → HasApart f → has_class (walk d q f) (q ++ p) ≡ is_some (class_at f p)
 has_class-walk end d q p apart = refl
@@ -122,40 +119,38 @@ part_or m p rest = option_map_or (λ (r : Body × Tokens). object_in r.0 r.1) (p
 
 class_at-in_front : (n : Bytes) (b : Body) (rest : Forest) (x : Bytes) (p : Tokens) →
     class_at (in_front n None b rest) (x ∷ p) ≡ cond (bytes_eq n x) (object_in b p) (class_at rest (x ∷ p))
-class_at-in_front n b rest x p = grind (arith, common_steps)
+class_at-in_front n b rest x p = grind arith
 
 class_at-element : (n : Bytes) (k : ℕ) (b : Body) (rest : Forest) (x : Bytes) (p : Tokens) →
     class_at (in_front n (Some k) b rest) (x ∷ p) ≡ option_map_or (object_in b) (past (n ∷ decimal k ∷ []) (x ∷ p)) (class_at rest (x ∷ p))
-class_at-element n k b rest x p = grind (arith, common_steps)
+class_at-element n k b rest x p = grind arith
 
 elements-short : (bs : List Body) (n : Bytes) (k : ℕ) (rest : Forest) (x : Bytes) → class_at (elements n k bs rest) (x ∷ []) ≡ class_at rest (x ∷ [])
 elements-short [] n k rest x = refl
-elements-short (b ∷ bs) n k rest x = grind (arith, common_steps, class_at-element, cond_both, (elements-short bs n (suc k) rest x))
+elements-short (b ∷ bs) n k rest x = grind (arith, class_at-element, cond_both, (elements-short bs n (suc k) rest x))
 
 elements-other : (bs : List Body) (n : Bytes) (k : ℕ) (rest : Forest) (x : Bytes) (p : Tokens) → bytes_eq n x ≡ false → class_at (elements n k bs rest) (x ∷ p) ≡ class_at rest (x ∷ p)
 elements-other [] n k rest x p h = refl
-elements-other (b ∷ bs) n k rest x p h = grind (arith, common_steps, class_at-element, (elements-other bs n (suc k) rest x p h))
+elements-other (b ∷ bs) n k rest x p h = grind (arith, class_at-element, (elements-other bs n (suc k) rest x p h))
 
 elements-here : (bs : List Body) (n : Bytes) (k : ℕ) (rest : Forest) (x y : Bytes) (p : Tokens) → bytes_eq n x ≡ true →
     class_at (elements n k bs rest) (x ∷ y ∷ p) ≡ option_map_or (λ (r : Body × Tokens). object_in r.0 r.1) (option_map (λ b. (b, p)) (element_at y k bs)) (class_at rest (x ∷ y ∷ p))
 elements-here [] n k rest x y p h = refl
-elements-here (b ∷ bs) n k rest x y p h = grind (arith, common_steps, class_at-element, (elements-here bs n (suc k) rest x y p h))
+elements-here (b ∷ bs) n k rest x y p h = grind (arith, class_at-element, (elements-here bs n (suc k) rest x y p h))
 
 pub class_at-here : (m : Bodies) (n : Bytes) (rest : Forest) (x : Bytes) (p : Tokens) → bytes_eq n x ≡ true → class_at (member_front n m rest) (x ∷ p) ≡ part_or m p (class_at rest (x ∷ p))
-class_at-here m n rest x p h = grind (arith, common_steps, class_at-in_front, cond-true, elements-here, elements-short)
+class_at-here m n rest x p h = grind (arith, class_at-in_front, cond-true, elements-here, elements-short)
 
 pub class_at-other : (m : Bodies) (n : Bytes) (rest : Forest) (x : Bytes) (p : Tokens) → bytes_eq n x ≡ false → class_at (member_front n m rest) (x ∷ p) ≡ class_at rest (x ∷ p)
-class_at-other m n rest x p h = grind (arith, common_steps, class_at-in_front, cond-false, elements-other)
+class_at-other m n rest x p h = grind (arith, class_at-in_front, cond-false, elements-other)
 
 -- ---- the elements of an array
 
 pub element-spelled : (bs : List Body) (token : Bytes) (j k : ℕ) → token ≡ decimal (j + k) → j + k < 2 ^ 64 → element_at token j bs ≡ slice_get bs k
-element-spelled [] token j k is small = refl
-element-spelled (b ∷ bs) token j zero is small =
-    cond-true (bytes_eq (decimal j) token) _ _ (ap (bytes_eq (decimal j)) (is ∙ ap decimal (let e : j + 0 ≡ j = omega arith in e)) ∙ bytes_eq-refl (decimal j))
 element-spelled (b ∷ bs) token j (suc k) is small =
     cond-false (bytes_eq (decimal j) token) _ _ (ap (bytes_eq (decimal j)) is ∙ (decimals_differ j (j + suc k) (omega arith) small).0)
     ∙ element-spelled bs token (suc j) k (is ∙ ap decimal (let e : j + suc k ≡ suc j + k = omega arith in e)) (omega arith)
+element-spelled bs token j k is small = grind (arith, bytes_eq-refl, cond-true)
 
 pub element-none : (bs : List Body) (token : Bytes) (j : ℕ) → j + length bs ≤ 2 ^ 64 → ((k : ℕ) → k < 2 ^ 64 → token ≡ decimal k → ⊥) → element_at token j bs ≡ None
 element-none [] token j small none = refl

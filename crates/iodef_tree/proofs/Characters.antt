@@ -3,7 +3,6 @@ use Rattle.std.proofs.Common.{◌≡◌, ◌≤◌, ◌⊎◌, ℕ, ◌+◌, ◌
 use Rattle.std.specs.Char.{encode_utf8}
 use lib.Utf8.{next}
 use Rattle.std.proofs.lemmas.Bool.{ltb-false}
-use Rattle.std.proofs.lemmas.Grind.{common_steps}
 
 -- none of them is ASCII
 abbrev pub AreHigh : List ℕ → Type 0
@@ -21,4 +20,4 @@ bytes_of c one two three = cond one (c ∷ []) (cond two ((192 + c / 64) ∷ nex
 -- a character is its own byte, or none of its bytes is ASCII
 pub encode_utf8-cases : (c : ℕ) → (encode_utf8 c ≡ c ∷ []) ⊎ IsHigh c (encode_utf8 c)
 unfolding encode_utf8
-encode_utf8-cases c = grind (arith, common_steps, ltb-false)
+encode_utf8-cases c = grind (arith, ltb-false)

@@ -2,7 +2,6 @@
 use Rattle.std.proofs.Common.{◌≡◌, ℕ, suc, List, [], ◌∷◌, ◌++◌, map, filter, refl, ◌∙◌, ap, append_assoc, cond, arith}
 use Rattle.std.proofs.lemmas.List.{map-append}
 use Rattle.std.proofs.lemmas.List.Elements.{filter-append}
-use Rattle.std.proofs.lemmas.Grind.{common_steps}
 use Rattle.iodef_tree.specs.Text.{Tokens}
 use Rattle.iodef_tree.specs.Tree.{Content, text, value, Forest, end, leaf, branch, steps, kind_of, lines}
 use Rattle.iodef_tree.specs.Paths.{LocatedLine, is_class_kind, is_class, class_paths, classes_of}
@@ -39,4 +38,4 @@ classes-lines f sound = ap class_paths (located-lines f sound) ∙ classes-walk 
 pub classes-append : (p : Tokens) (f g : Forest) → classes_below p (append f g) ≡ classes_below p f ++ classes_below p g
 classes-append p end g = refl
 classes-append p (leaf i rest) g = classes-append p rest g
-classes-append p (branch n o kids rest) g = grind (arith, common_steps, append_assoc, (classes-append p rest g))
+classes-append p (branch n o kids rest) g = grind (arith, append_assoc, (classes-append p rest g))

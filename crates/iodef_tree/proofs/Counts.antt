@@ -7,7 +7,7 @@ use Rattle.iodef_tree.specs.Tree.{Forest, end, leaf, branch, Body, Bodies, in_fr
 use Rattle.iodef_tree.specs.FitValues.{line_count, body_count, bodies_count}
 
 line_count-in_front : (name : Bytes) (place : Option ℕ) (b : Body) (rest : Forest) → line_count (in_front name place b rest) ≡ body_count b + line_count rest
-line_count-in_front name place b rest = grind (arith, common_steps)
+line_count-in_front name place b rest = grind arith
 
 line_count-elements : (name : Bytes) (k : ℕ) (bs : List Body) (rest : Forest) → line_count (elements name k bs rest) ≡ sum_by body_count bs + line_count rest
 line_count-elements name k [] rest = omega arith
@@ -15,12 +15,12 @@ line_count-elements name k (b ∷ bs) rest = grind (arith, common_steps, line_co
 
 -- those of a member are in front
 pub line_count-member_front : (name : Bytes) (m : Bodies) (rest : Forest) → line_count (member_front name m rest) ≡ bodies_count m + line_count rest
-line_count-member_front name m rest = grind (arith, common_steps, line_count-elements, line_count-in_front)
+line_count-member_front name m rest = grind (arith, line_count-elements, line_count-in_front)
 
 pub length-lines : (f : Forest) (d : ℕ) → length (lines d f) ≡ line_count f
 length-lines end d = refl
 length-lines (leaf i rest) d = ap suc (length-lines rest d)
-length-lines (branch name place kids rest) d = grind (arith, common_steps, length-append, (length-lines kids (suc d)), (length-lines rest d))
+length-lines (branch name place kids rest) d = grind (arith, length-append, (length-lines kids (suc d)), (length-lines rest d))
 
 -- for the walk that counts against a limit
 pub ruleset counting = (common_steps, line_count-member_front)

@@ -30,10 +30,10 @@ use Rattle.iodef_tree.proofs.Views.{forest-members}
 -- ---- one member in front
 
 front-members : (n : Bytes) (p : Option ℕ) (b : Body) (rest : Forest) → members_of (in_front n p b rest) ≡ placed_member n p (body_data b) (items_of rest) (members_of rest)
-front-members n p b rest = grind (arith, common_steps)
+front-members n p b rest = grind arith
 
 pub front-items : (n : Bytes) (p : Option ℕ) (b : Body) (rest : Forest) → items_of (in_front n p b rest) ≡ placed_item p (body_data b) (items_of rest)
-front-items n p b rest = grind (arith, common_steps)
+front-items n p b rest = grind arith
 
 -- an array from its second element on
 later-members : (n : Bytes) (k : ℕ) (bs : List Body) (rest : Forest) → members_of (elements n (suc k) bs rest) ≡ members_of rest
@@ -46,18 +46,16 @@ later-items n k (b ∷ bs) rest h = front-items n (Some (suc k)) b (elements n (
 
 -- no member begins amid an array
 pub no-items : (ms : List (Bytes × Bodies)) → items_of (forest_of_members ms) ≡ json.no_items
-no-items [] = refl
-no-items ((n, one b) ∷ ms) = front-items n None b (forest_of_members ms)
 no-items ((n, many []) ∷ ms) = no-items ms
-no-items ((n, many (b ∷ bs)) ∷ ms) = front-items n (Some 0) b (elements n 1 bs (forest_of_members ms))
+no-items ms = grind (arith, front-items)
 
 pub member-data : (n : Bytes) (m : Bodies) (rest : Forest) → items_of rest ≡ json.no_items → has_elements m ≡ true → members_of (member_front n m rest) ≡ json.member n (bodies_data m) (members_of rest)
-member-data n m rest fresh filled = grind (arith, common_steps, front-members, later-items, later-members)
+member-data n m rest fresh filled = grind (arith, front-members, later-items, later-members)
 
 -- ---- what is ordered is so inside
 
 front-ordered : (o : Option SiblingPlace) (n : Bytes) (p : Option ℕ) (b : Body) (rest : Forest) → IsOrderedBehind o (in_front n p b rest) → IsBodyOrdered b × IsOrderedBehind (Some (n, p)) rest
-front-ordered o n p b rest h = grind (arith, common_steps)
+front-ordered o n p b rest h = grind arith
 
 -- What holds of members, one in front of the other, holds inside each: where it holds inside the one in front, and of those
 -- behind it.
@@ -108,7 +106,7 @@ after (leaf i rest) n q h = placed-after n q i.name i.place (content_data i.cont
 after (branch name p kids rest) n q h = placed-after n q name p (json.object (members_of kids)) (items_of rest) (members_of rest) h.0 (after rest name p h.2)
 
 placed-ascend : (name : Bytes) (p : Option ℕ) (d : Data) (ds : json.Items) (ms : json.Members) → AreAfter name ms → Ascend ms → Ascend (placed_member name p d ds ms)
-placed-ascend name p d ds ms h k = grind (arith, common_steps)
+placed-ascend name p d ds ms h k = grind arith
 
 ascend : (f : Forest) (o : Option SiblingPlace) → IsOrderedBehind o f → Ascend (members_of f)
 ascend end o h = tt
@@ -127,7 +125,7 @@ after-joined l (json.member k e found) n d ms h = after-joined l found n d ms h.
 
 put-last : (found : json.Members) (n : Bytes) (d : Data) (ms : json.Members) → Ascend (joined found (json.member n d ms)) → put n d found ≡ joined found (json.member n d json.no_members)
 put-last json.no_members n d ms h = refl
-put-last (json.member l e found) n d ms h = grind (arith, common_steps, after-joined, greater, (put-last found n d ms h.1))
+put-last (json.member l e found) n d ms h = grind (arith, after-joined, greater, (put-last found n d ms h.1))
 
 joined-one : (found : json.Members) (n : Bytes) (d : Data) (ms : json.Members) → joined (joined found (json.member n d json.no_members)) ms ≡ joined found (json.member n d ms)
 joined-one json.no_members n d ms = refl
@@ -162,12 +160,12 @@ put-member old new name v R xs i m h e filled is means put_in left = grind (arit
 -- what holds of each member that is left
 pub all-left : (P : Bytes × Bodies → Type 0) (xs : List (Text × Member)) (i : ℕ) (m : Text × Member) → i < length xs → m ≡ get_or xs i m → AllByRecursion P (map named (drop i xs)) →
     P (named m) × AllByRecursion P (map named (drop (i + 1) xs))
-all-left P xs i m h e all = grind (arith, common_steps, drop-cons, one-more)
+all-left P xs i m h e all = grind (arith, drop-cons, one-more)
 
 -- ---- at the start
 
 pub put-started : (o : Object) (xs : List (Text × Member)) (es : List MapEntry) → IsOrdered (forest o) → xs ≡ o.members.items → es ≡ [] → put_all (members_of (members_forest xs)) (members_view es) ≡ members_of (forest o)
-put-started o xs es h is none = grind (arith, common_steps, forest-members, put-ordered)
+put-started o xs es h is none = grind (arith, forest-members, put-ordered)
 
 pub object-ordered : (o : Object) (xs : List (Text × Member)) → IsOrdered (forest o) → xs ≡ o.members.items → AllByRecursion (λ m. AreBodiesOrdered m.1) (map named xs)
 object-ordered o xs h is =

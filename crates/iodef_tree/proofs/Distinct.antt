@@ -3,7 +3,6 @@ use Rattle.std.proofs.Common.{◌≡◌, ℕ, suc, List, [], ◌∷◌, ◌++◌
 use Rattle.std.specs.List.{AllByRecursion, IsDistinct}
 use Rattle.std.proofs.lemmas.Bool.{cond_both}
 use Rattle.std.proofs.lemmas.List.{map-append}
-use Rattle.std.proofs.lemmas.Grind.{common_steps}
 use Rattle.iodef_tree.specs.Text.{Bytes, Tokens, same_path}
 use Rattle.iodef_tree.specs.Tree.{Forest, end, leaf, branch, steps, lines}
 use Rattle.iodef_tree.specs.Paths.{LocatedLine, is_class, located, classes_of}
@@ -29,7 +28,7 @@ distinct-append (x ∷ xs) ys h k cross = (all-append (λ q. same_path x q ≡ f
 
 -- two paths of which one goes on from what the other does not go on from
 pub apart-differ : (p : Tokens) (n : Bytes) (o : Option ℕ) (n' : Bytes) (o' : Option ℕ) → AreApart n o n' o' → (z z' : Tokens) → same_path (p ++ (steps n o ++ z)) (p ++ (steps n' o' ++ z')) ≡ false
-apart-differ p n o n' o' h z z' = grind (arith, common_steps, is_false, is_prefix-append, same_path-common, same_path-true)
+apart-differ p n o n' o' h z z' = grind (arith, is_false, is_prefix-append, same_path-common, same_path-true)
 
 -- what goes on from a sibling is none of the paths behind it
 fresh-behind : (f : Forest) (d : ℕ) (p : Tokens) (n : Bytes) (o : Option ℕ) (z : Tokens) → AllSiblings (AreApart n o) f → IsFresh (p ++ (steps n o ++ z)) (map path_of (walk d p f))

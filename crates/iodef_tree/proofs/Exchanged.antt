@@ -6,7 +6,6 @@ use Rattle.std.specs.Ordering.{match_ordering}
 use Rattle.std.specs.BTreeMap.{insert_entry, is_at}
 use Rattle.std.specs.Cmp.Lexicographic.{slice_cmp}
 use Rattle.std.proofs.lemmas.Cmp.{nat_list_cmp_total, tied_itself}
-use Rattle.std.proofs.lemmas.Grind.{common_steps}
 use Rattle.serde_json.specs.Data as json
 use Rattle.serde_json.specs.Data.{Data, put}
 use Rattle.serde_json.specs.Find.{as_array, get_member}
@@ -23,7 +22,7 @@ same_text xs = tied_itself nat_list_cmp_total xs
 put_twice_at : (o : Ordering) (k l : List ℕ) (v w e : Data) (ms : json.Members) → slice_cmp nat_cmp k l ≡ o → put k w (put k v ms) ≡ put k w ms
     → put k w (match_ordering o (json.member k v (json.member l e ms)) (json.member l v ms) (json.member l e (put k v ms)))
     ≡ match_ordering o (json.member k w (json.member l e ms)) (json.member l w ms) (json.member l e (put k w ms))
-put_twice_at o k l v w e ms is later = grind (arith, common_steps, same_text)
+put_twice_at o k l v w e ms is later = grind (arith, same_text)
 
 -- what is put at a name takes the place of what was put there before
 pub put_twice : (k : List ℕ) (v w : Data) (ms : json.Members) → put k w (put k v ms) ≡ put k w ms
@@ -56,7 +55,5 @@ put_in es new name v incident after named one = rw (after, members_view-insert_e
 
 -- a copy has the same members
 pub cloned : (es fs : List MapEntry) → AllZip (λ p q. (string_bytes q.0 ≡ string_bytes p.0) × (view q.1 ≡ view p.1)) es fs → members_view fs ≡ members_view es
-cloned [] [] h = refl
-cloned [] (f ∷ fs) h = absurd h
-cloned (e ∷ es) [] h = absurd h
 cloned (e ∷ es) (f ∷ fs) h = rw (h.0.0, h.0.1, cloned es fs h.1)
+cloned es fs h = grind arith

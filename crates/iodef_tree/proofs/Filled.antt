@@ -1,8 +1,7 @@
 -- Arrays that have elements, level by level.
-use Rattle.std.proofs.Common.{◌≡◌, ℕ, zero, suc, ◌<◌, Bool, true, ◌&&◌, List, [], ◌∷◌, map, length, get_or, refl, sym, ◌∙◌, ap, subst, Vec, Global, rules, arith}
+use Rattle.std.proofs.Common.{◌≡◌, ℕ, suc, ◌<◌, Bool, true, ◌&&◌, List, [], ◌∷◌, map, length, get_or, refl, sym, ◌∙◌, ap, subst, Vec, Global, rules, arith}
 use Rattle.std.specs.List.{AllByRecursion, list_all}
 use Rattle.std.proofs.lemmas.Bool.{and_parts, and_from}
-use Rattle.std.proofs.lemmas.Grind.{common_steps}
 use Rattle.iodef_tree.specs.Tree.{Forest, Body, Bodies, one, many}
 use Rattle.iodef_tree.specs.View.{item_step, member_step, object_step, forest, bodies, body}
 use Rattle.iodef_tree.specs.Filled.{has_some, item_filled, member_filled, object_filled, is_object_filled, is_member_filled, is_item_filled, IsFilled, IsMemberFilled, IsItemFilled}
@@ -37,7 +36,7 @@ filled-made v = search (rules, the_lemmas)
 -- ---- lists of what is filled
 
 pub has_some-map : {X Y : Type 0} (f : X → Y) (xs : List X) → has_some (map f xs) ≡ has_some xs
-has_some-map f xs = grind (arith, common_steps)
+has_some-map f xs = grind arith
 
 all-true : {X Y : Type 0} (f : X → Y) (test : Y → Bool) (xs : List X) → AllByRecursion (λ x. test (f x) ≡ true) xs → list_all test (map f xs) ≡ true
 all-true f test [] h = refl
@@ -72,15 +71,14 @@ object-filled o h = filled-members o ∙ all-true asked (λ m. m.1) o.members.it
 -- ---- at one place of a list
 
 pub all-at : {X : Type 0} (P : X → Type 0) (xs : List X) (i : ℕ) (d : X) → i < length xs → AllByRecursion P xs → P (get_or xs i d)
-all-at P [] i d h all = absurd (omega (arith, h))
-all-at P (x ∷ xs) zero d h all = all.0
 all-at P (x ∷ xs) (suc i) d h all = all-at P xs i d (omega (arith, h)) all.1
+all-at P xs i d h all = grind arith
 
 pub item-at : (xs : List Item) (i : ℕ) (x : Item) → AllByRecursion IsItemFilled xs → i < length xs → x ≡ get_or xs i x → IsItemFilled x
 item-at xs i x all h is = subst IsItemFilled (sym is) (all-at IsItemFilled xs i x h all)
 
 pub member-at : (o : Object) (xs : List (Bytes × Member)) (i : ℕ) (m : Bytes × Member) → IsFilled o → xs ≡ o.members.items → i < length xs → m ≡ get_or xs i m → IsMemberFilled m.1
-member-at o xs i m filled same h is = grind (arith, common_steps, all-at, members-filled)
+member-at o xs i m filled same h is = grind (arith, all-at, members-filled)
 
 -- ---- as it is seen
 
@@ -90,7 +88,7 @@ has_elements (many bs) = has_some bs
 
 elements-seen : (x : Member-F Item Member Object) → member_filled (map-Member Item Member Object Bool Bool Bool is_item_filled is_member_filled is_object_filled x) ≡ true →
     has_elements (member_step (map-Member Item Member Object Body Bodies Forest body bodies forest x)) ≡ true
-elements-seen x h = grind (arith, common_steps, and_parts, has_some-map)
+elements-seen x h = grind (arith, and_parts, has_some-map)
 
 -- a member that is filled has a line
 pub member-elements : (m : Member) → IsMemberFilled m → has_elements (bodies m) ≡ true

@@ -1,7 +1,6 @@
 -- What a body keeps in which nothing is refused.
 use Rattle.std.proofs.Common.{◌≡◌, ℕ, suc, List, [], ◌∷◌, ◌++◌, Bool, false, Option, None, Result, Ok, refl, sym, ◌∙◌, decimal, arith}
 use Rattle.std.proofs.lemmas.Bool.{or_from, or_parts}
-use Rattle.std.proofs.lemmas.Grind.{common_steps}
 use Rattle.serde_json.specs.Data as json
 use Rattle.serde_json.specs.Data.{Data}
 use Rattle.serde_json.specs.Written.{has_float, items_have_float, members_have_float}
@@ -33,7 +32,7 @@ pub record IsAllowed (s : Surrounded) : Type 0 where
   pub shallow : is_too_deep s ≡ false
 
 allowed : (s : Surrounded) → is_refused s ≡ false → IsAllowed s
-allowed s h = grind (arith, common_steps, or_parts)
+allowed s h = grind (arith, or_parts)
 
 pub head : (n : Node) (ns : List Node) → AreClear (n ∷ ns) → IsAllowed n.seen × AreClear ns
 head n ns h = let parts = or_parts (is_refused n.seen) (any_at is_refused ns) h in (allowed n.seen parts.0, parts.1)
@@ -60,19 +59,19 @@ mutual
 -- ---- as all values are asked
 
 pub bind-ok : {A B : Type 0} (r : Result A ReadFault) (f : A → Result B ReadFault) (y : B) → (r >>= f) ≡ Ok y → (x : A) × (r ≡ Ok x) × (f x ≡ Ok y)
-bind-ok r f y h = grind (arith, common_steps)
+bind-ok r f y h = grind arith
 
 pub none_if_ok : {A : Type 0} (f : A → ReadFault) (o : Option A) → unless f o ≡ Ok tt → o ≡ None
-none_if_ok f o e = grind (arith, common_steps)
+none_if_ok f o e = grind arith
 
 -- nothing is refused where none of the three is found
 none-refused : (ns : List Node) → first_at is_not_whole ns ≡ None → first_at is_nested_class ns ≡ None → first_at is_too_deep ns ≡ None → AreClear ns
 none-refused [] a b c = refl
-none-refused (n ∷ ns) a b c = grind (arith, common_steps, (none-refused ns))
+none-refused (n ∷ ns) a b c = grind (arith, (none-refused ns))
 
 pub plain_ok : (d : Data) → all_fit d ≡ Ok tt → IsPlain d
 unfolding all_fit
-plain_ok d e = grind (arith, common_steps, bind-ok, none-refused, none_if_ok)
+plain_ok d e = grind (arith, bind-ok, none-refused, none_if_ok)
 
 -- where no value is refused, none of the three is found
 none_found : (f : Surrounded → Bool) → ((s : Surrounded) → IsAllowed s → f s ≡ false) → (ns : List Node) → AreClear ns → first_at f ns ≡ None
@@ -81,4 +80,4 @@ none_found f h (n ∷ ns) e = let parts = head n ns e in let here : f n.seen ≡
 
 pub plain_at_once : (d : Data) → IsPlain d → all_fit d ≡ Ok tt
 unfolding all_fit
-plain_at_once d h = grind (arith, common_steps, none_found)
+plain_at_once d h = grind (arith, none_found)

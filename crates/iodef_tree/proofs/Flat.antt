@@ -2,7 +2,6 @@
 use Rattle.std.proofs.Common.{◌≡◌, ◌≤◌, ℕ, suc, ◌+◌, ◌-◌, [], true, false, not, ◌&&◌, ◌||◌, refl, ap, arith, true≢false, decimal, nat_lt}
 use Rattle.std.proofs.lemmas.Bool.{and_parts, lt-ltb, and_from}
 use Rattle.std.proofs.lemmas.Bool.Decides.{nat_tests}
-use Rattle.std.proofs.lemmas.Grind.{common_steps}
 use Rattle.serde_json.specs.Data as json
 use Rattle.serde_json.specs.Data.{Data}
 use Rattle.serde_json.specs.Find.{is_float}
@@ -24,7 +23,7 @@ shallow-array : (ds : json.Items) (o a : ℕ) → AreClear (nodes o a (json.arra
 shallow-array ds o a h = low o a (head (node o a (json.array ds)) (item_nodes o (suc a) 0 ds) h).0.shallow
 
 no-class : (ms : json.Members) (o a : ℕ) → 2 ≤ a → AreClear (nodes o a (json.object ms)) → true ≡ false
-no-class ms o a two h = grind (arith, common_steps, and_from, head, lt-ltb)
+no-class ms o a two h = grind (arith, and_from, head, lt-ltb)
 
 mutual
   plain : (d : Data) (o a deep : ℕ) → 2 ≤ a → deep + a ≡ 33 → AreClear (nodes o a d) → is_plain deep d ≡ true
@@ -70,4 +69,4 @@ pub plain-flat : (ms : json.Members) → IsPlain (json.object ms) → are_member
 plain-flat ms p = flat (json.object ms) 0 p
 
 pub flats : IsEach (λ d. is_flat d ≡ true) (λ ms. are_members_flat ms ≡ true)
-flats = grind (arith, common_steps, and_from, and_parts)
+flats = grind (arith, and_from, and_parts)

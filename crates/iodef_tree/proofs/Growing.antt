@@ -36,28 +36,28 @@ numbered-append o (branch n p kids rest) g h k = (h.0, h.1, numbered-append (Som
 
 pub members-append : (xs ys : List (Bytes × Bodies)) → forest_of_members (xs ++ ys) ≡ append (forest_of_members xs) (forest_of_members ys)
 members-append [] ys = refl
-members-append (x ∷ xs) ys = grind (arith, common_steps, append-assoc, member-append, (members-append xs ys))
+members-append (x ∷ xs) ys = grind (arith, append-assoc, member-append, (members-append xs ys))
 
 pub members-push : (ms : List (Text × Member)) (m : Text × Member) → members_forest (ms ++ m ∷ []) ≡ append (members_forest ms) (member_front m.0 (bodies m.1) end)
 members-push ms m = ap forest_of_members (map-append named ms (m ∷ [])) ∙ members-append (map named ms) (named m ∷ [])
 
 elements-push : (n : Bytes) (k : ℕ) (bs : List Body) (b : Body) → elements n k (bs ++ b ∷ []) end ≡ append (elements n k bs end) (in_front n (Some (k + length bs)) b end)
 elements-push n k [] b = ap (λ j. in_front n (Some j) b end) (omega arith)
-elements-push n k (x ∷ bs) b = grind (arith, common_steps, append-assoc, front-append, (elements-push n (suc k) bs b))
+elements-push n k (x ∷ bs) b = grind (arith, append-assoc, front-append, (elements-push n (suc k) bs b))
 
 last-front : (o : Option SiblingPlace) (n : Bytes) (p : Option ℕ) (b : Body) (f : Forest) → last_place o (in_front n p b f) ≡ last_place (Some (n, p)) f
-last-front o n p b f = grind (arith, common_steps)
+last-front o n p b f = grind arith
 
 last-elements : (o : Option SiblingPlace) (n : Bytes) (k : ℕ) (b : Body) (bs : List Body) → last_place o (elements n k (b ∷ bs) end) ≡ Some (n, Some (k + length bs))
 last-elements o n k b [] = last-front o n (Some k) b end ∙ ap (λ j. Some (n, Some j)) (omega arith)
-last-elements o n k b (c ∷ bs) = grind (arith, common_steps, last-front, (last-elements (Some (n, Some k)) n (suc k) c bs))
+last-elements o n k b (c ∷ bs) = grind (arith, last-front, (last-elements (Some (n, Some k)) n (suc k) c bs))
 
 numbered-front : (o : Option SiblingPlace) (n : Bytes) (p : Option ℕ) (b : Body) → is_numbered o n p ≡ true → IsBodyNumbered b → IsNumberedBehind o (in_front n p b end)
-numbered-front o n p b h k = grind (arith, common_steps)
+numbered-front o n p b h k = grind arith
 
 -- the lines don't say the number
 lines-front : (d : ℕ) (n : Bytes) (j k : ℕ) (b : Body) → lines d (in_front n (Some j) b end) ≡ lines d (in_front n (Some k) b end)
-lines-front d n j k b = grind (arith, common_steps)
+lines-front d n j k b = grind arith
 
 -- ---- one thing more at the end
 
@@ -65,7 +65,7 @@ lines-front d n j k b = grind (arith, common_steps)
 grows : (old new : List (Text × Member)) (n : Bytes) (p : Option ℕ) (in_array : Bool) (b : Body) →
     members_forest new ≡ append (members_forest old) (in_front n p b end) → ((d : ℕ) → lines d (in_front n p b end) ≡ lines d (in_front n (place_of in_array 0) b end)) →
     IsGrown old → IsBodyNumbered b → is_numbered (last_place None (members_forest old)) n p ≡ true → AllByRecursion (λ m. IsMemberFilled m.1) new → Grows old n in_array b new
-grows old new n p in_array b made same h k fits filled = grind (arith, common_steps, lines-append, numbered-append, numbered-front)
+grows old new n p in_array b made same h k fits filled = grind (arith, lines-append, numbered-append, numbered-front)
 
 -- a member that is no array
 pub grows-one : (old : List (Text × Member)) (n : Text) (i : Item) → IsGrown old → IsBodyNumbered (body i) → IsItemFilled i → Grows old n false (body i) (old ++ (n, One i) ∷ [])
@@ -102,11 +102,11 @@ first-behind_one P n i name =
 
 -- the standing of the last element of an array that has one
 last-array : (o : Option SiblingPlace) (n : Bytes) (bs : List Body) → has_some bs ≡ true → last_place o (elements n 0 bs end) ≡ Some (n, Some (length bs - 1))
-last-array o n bs h = grind (arith, common_steps, last-elements)
+last-array o n bs h = grind (arith, last-elements)
 
 last-many : (P : List (Text × Member)) (n : Text) (v : Vec Item Global) → IsGrown (P ++ (n, Many v) ∷ []) →
     last_place None (members_forest (P ++ (n, Many v) ∷ [])) ≡ Some (n, Some (length (map body v.items) - 1))
-last-many P n v h = grind (arith, common_steps, all-split, bodies-Many, has_some-map, last-array, last-push, many-kept)
+last-many P n v h = grind (arith, all-split, bodies-Many, has_some-map, last-array, last-push, many-kept)
 
 -- an array may begin behind one of another name
 pub first-behind_many : (P : List (Text × Member)) (n : Text) (v : Vec Item Global) (name : Bytes) → IsGrown (P ++ (n, Many v) ∷ []) → bytes_eq n name ≡ false →
@@ -114,7 +114,7 @@ pub first-behind_many : (P : List (Text × Member)) (n : Text) (v : Vec Item Glo
 first-behind_many P n v name h differs = ap (λ o. is_numbered o name (Some 0)) (last-many P n v h) ∙ ap not differs
 
 filled-length : (bs : List Body) → has_some bs ≡ true → length bs ≡ suc (length bs - 1)
-filled-length bs h = grind (arith, common_steps)
+filled-length bs h = grind arith
 
 some-push : (xs : List Item) (x : Item) → has_some (xs ++ x ∷ []) ≡ true
 some-push xs x = grind (arith, common_steps)

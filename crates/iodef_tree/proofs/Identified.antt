@@ -1,7 +1,6 @@
 -- A body that can be read has a document, and each of its documents has an IncidentID.
 use Rattle.std.proofs.Common.{◌≡◌, Bool, true, false, if◌then◌else◌, List, [], ◌∷◌, Option, Some, None, option_map, option_and_then, ap, ◌∙◌, is_some, is_none, Ok, codes, arith}
 use Rattle.std.specs.List.{AllByRecursion}
-use Rattle.std.proofs.lemmas.Grind.{common_steps}
 use Rattle.serde_json.specs.Data as json
 use Rattle.serde_json.specs.Data.{Data}
 use Rattle.serde_json.specs.Find.{get}
@@ -20,13 +19,13 @@ abbrev id_name : Bytes
 id_name = codes "IncidentID"
 
 none_said : (b : Bool) (r : Required) (rest : Option Required) → (if b then Some r else rest) ≡ None → (b ≡ false) × (rest ≡ None)
-none_said b r rest h = grind (arith, common_steps)
+none_said b r rest h = grind arith
 
 has_id : (d : Data) → lacking d ≡ None → is_none (get id_name d) ≡ false
-has_id d h = grind (arith, common_steps, none_said)
+has_id d h = grind (arith, none_said)
 
 some_text : (o : Option Data) → is_none o ≡ false → is_some (option_map compact_text o) ≡ true
-some_text o h = grind (arith, common_steps)
+some_text o h = grind arith
 
 abbrev pub IsIdentified : List Line → Type 0
 IsIdentified doc = is_some (incident_id doc) ≡ true
@@ -43,7 +42,7 @@ has_one (x ∷ xs) = true
 
 some_document : (root : json.Members) (ds : json.Items) (docs : List (List Line)) → are_incidents ds ≡ true → documents root ds ≡ Ok docs → has_one docs ≡ true
 some_document root json.no_items docs some read_as = cc
-some_document root (json.item d ds) docs some read_as = grind (arith, common_steps, bind-ok)
+some_document root (json.item d ds) docs some read_as = grind (arith, bind-ok)
 
 -- what a body that can be read has
 pub record IsReported (docs : List (List Line)) : Type 0 where

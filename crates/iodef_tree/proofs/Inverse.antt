@@ -4,7 +4,6 @@ use Rattle.std.specs.List.{flat_map, slice_split}
 use Rattle.std.proofs.lemmas.Bool.{eqb-true, cond-false}
 use Rattle.std.proofs.lemmas.List.Elements.{All-nil, All-cons, All-append}
 use Rattle.std.proofs.lemmas.List.Splits.{slice_split_none, slice_split_at}
-use Rattle.std.proofs.lemmas.Grind.{common_steps}
 use Rattle.iodef_tree.specs.Text.{Bytes, Tokens}
 use Rattle.iodef_tree.specs.Pointer.{escaped_byte, escaped, pointer_text, with_first, unescaped_from, unescaped, each_unescaped, is_slash, slash_separated, pointer_tokens}
 
@@ -12,7 +11,7 @@ use Rattle.iodef_tree.specs.Pointer.{escaped_byte, escaped, pointer_text, with_f
 
 -- no slash is left in an escaped token
 escaped_byte-plain : (c : ℕ) → All (λ b. is_slash b ≡ false) (escaped_byte c)
-escaped_byte-plain c = grind (arith, common_steps, All-cons, All-nil)
+escaped_byte-plain c = grind (arith, All-cons, All-nil)
 
 escaped-plain : (token : Bytes) → All (λ b. is_slash b ≡ false) (escaped token)
 escaped-plain [] = All-nil (λ b. is_slash b ≡ false)
@@ -20,15 +19,15 @@ escaped-plain (c ∷ cs) = All-append (λ b. is_slash b ≡ false) (escaped_byte
 
 -- a byte's escape is read as the byte
 unescaped_from-escaped_byte : (c : ℕ) (rest : Bytes) → unescaped_from false (escaped_byte c ++ rest) ≡ with_first (Some c) (unescaped_from false rest)
-unescaped_from-escaped_byte c rest = grind (arith, common_steps, cond-false, eqb-true)
+unescaped_from-escaped_byte c rest = grind (arith, cond-false, eqb-true)
 
 pub unescaped-escaped : (token : Bytes) → unescaped (escaped token) ≡ Some token
 unescaped-escaped [] = refl
 unescaped-escaped (c ∷ cs) = unescaped_from-escaped_byte c (escaped cs) ∙ ap (with_first (Some c)) (unescaped-escaped cs)
 
 slash_separated-printed : (x : Bytes) (p : Tokens) → slash_separated (escaped x ++ pointer_text p) ≡ Some (x ∷ p)
-slash_separated-printed x [] = grind (arith, common_steps, append-nil, escaped-plain, slice_split_none, unescaped-escaped)
-slash_separated-printed x (y ∷ p) = grind (arith, common_steps, escaped-plain, slice_split_at, unescaped-escaped, (slash_separated-printed y p))
+slash_separated-printed x [] = grind (arith, append-nil, escaped-plain, slice_split_none, unescaped-escaped)
+slash_separated-printed x (y ∷ p) = grind (arith, escaped-plain, slice_split_at, unescaped-escaped, (slash_separated-printed y p))
 
 -- the pointer of a path is read as that path
 pub pointer_tokens-pointer_text : (p : Tokens) → pointer_tokens (pointer_text p) ≡ Some p
@@ -39,7 +38,7 @@ pointer_tokens-pointer_text (x ∷ p) = slash_separated-printed x p
 
 -- what a list with one more in front was made of
 with_first-some : {A : Type 0} (o : Option A) (rest : Option (List A)) (all : List A) → with_first o rest ≡ Some all → (x : A) × (xs : List A) × (o ≡ Some x) × (rest ≡ Some xs) × (all ≡ x ∷ xs)
-with_first-some o rest all h = grind (arith, common_steps)
+with_first-some o rest all h = grind arith
 
 abbrev HasNoSlash : Bytes → Type 0
 HasNoSlash [] = Unit {0}
@@ -55,8 +54,6 @@ escaped_byte-kept c t s = cond-false _ _ _ t ∙ cond-false _ _ _ s
 
 -- a token is printed as it was read, with the tilde that came before it
 escaped-unescaped_from : (b : Bool) (w token : Bytes) → HasNoSlash w → unescaped_from b w ≡ Some token → escaped token ≡ cond b (126 ∷ w) w
-escaped-unescaped_from false [] token h r = let e : [] ≡ token = cc in ap escaped (sym e)
-escaped-unescaped_from true [] token h r = absurd (cc)
 escaped-unescaped_from false (c ∷ cs) token h r = by_byte (eqb c 126) refl r (escaped-unescaped_from true cs token h.1) (λ t. escaped-unescaped_from false cs t h.1)
   where
     by_byte : (x : Bool) → eqb c 126 ≡ x → cond x (unescaped_from true cs) (with_first (Some c) (unescaped_from false cs)) ≡ Some token → (unescaped_from true cs ≡ Some token → escaped token ≡ 126 ∷ cs)
@@ -76,11 +73,12 @@ escaped-unescaped_from true (c ∷ cs) token h r = by_code (eqb c 48) (eqb c 49)
         let (z, xs, first, rest, all) = with_first-some (Some 47) (unescaped_from false cs) token k in
         let same : token ≡ 47 ∷ xs = cc in ap escaped same ∙ ap (λ bs. 126 ∷ 49 ∷ bs) (plain xs rest) ∙ ap (λ d. 126 ∷ d ∷ cs) (sym (eqb-true c 49 f))
     by_code false false e f k plain = absurd (cc)
+escaped-unescaped_from b w token h r = grind arith
 
 -- the pieces between the slashes have none
 pieces-HaveNoSlash : (cs : Bytes) → HaveNoSlash (slice_split is_slash cs)
 pieces-HaveNoSlash [] = (tt, tt)
-pieces-HaveNoSlash (c ∷ cs) = grind (arith, common_steps, (pieces-HaveNoSlash cs))
+pieces-HaveNoSlash (c ∷ cs) = grind (arith, (pieces-HaveNoSlash cs))
 
 abbrev behind_slashes : List Bytes → Bytes
 behind_slashes ws = flat_map (λ w. 47 ∷ w) ws
@@ -88,7 +86,7 @@ behind_slashes ws = flat_map (λ w. 47 ∷ w) ws
 -- the pieces, each behind a slash
 behind_slashes-pieces : (cs : Bytes) → behind_slashes (slice_split is_slash cs) ≡ 47 ∷ cs
 behind_slashes-pieces [] = refl
-behind_slashes-pieces (c ∷ cs) = grind (arith, common_steps, eqb-true, (behind_slashes-pieces cs))
+behind_slashes-pieces (c ∷ cs) = grind (arith, eqb-true, (behind_slashes-pieces cs))
 
 pointer_text-each : (ws : List Bytes) (p : Tokens) → HaveNoSlash ws → each_unescaped ws ≡ Some p → pointer_text p ≡ behind_slashes ws
 pointer_text-each [] p h r = let e : [] ≡ p = cc in ap pointer_text (sym e)

@@ -22,7 +22,7 @@ parent-here : (x : LocatedLine) (before : List LocatedLine) (d : ℕ) → is_one
 parent-here x before d h = ap (λ b. option_map_or (λ (e : LocatedLine). e.path) (cond b (Some x) (find (is_one_less_deep d) before)) []) h
 
 before_first-past : {X : Type 0} (p : X → Bool) (x : X) (xs : List X) → p x ≡ false → before_first p (x ∷ xs) ≡ x ∷ before_first p xs
-before_first-past {X} p x xs h = grind (arith, common_steps)
+before_first-past {X} p x xs h = grind arith
 
 before_first-here : {X : Type 0} (p : X → Bool) (x : X) (xs : List X) → p x ≡ true → before_first p (x ∷ xs) ≡ []
 before_first-here {X} p x xs h = ap (λ b. take (cond (not b) (1 + prefix_len (λ y. not (p y)) xs) 0) (x ∷ xs)) h
@@ -46,7 +46,7 @@ not_deeper d k e = ne_eqb (suc d) k (omega arith)
 
 -- a deeper line changes nothing
 stands-past : (x : LocatedLine) (before : List LocatedLine) (d : ℕ) (p : Tokens) (s : Option SiblingPlace) → d < x.line.depth → Stands before d p s → Stands (x ∷ before) d p s
-stands-past x before d p s deep h = grind (arith, common_steps, and_left, ne_eqb, parent-past, place-past)
+stands-past x before d p s deep h = grind (arith, and_left, ne_eqb, parent-past, place-past)
 
 -- a later name than that of a sibling is later than all before it
 none-before : (s : Option SiblingPlace) (n : Bytes) (o : Option ℕ) (name : Bytes) → may_stand s n o ≡ true → bytes_lt n name ≡ true → may_stand s name (Some zero) ≡ true
@@ -72,13 +72,13 @@ place-sibling x before d p s (Some j) is may h name (suc k) next =
 
 stands-sibling : (x : LocatedLine) (before : List LocatedLine) (d : ℕ) (p : Tokens) (s : Option SiblingPlace) (o : Option ℕ) → x.line.depth ≡ d → may_stand s x.line.name o ≡ true → Stands before d p s →
     Stands (x ∷ before) d p (Some (x.line.name, o))
-stands-sibling x before d p s o is may h = grind (arith, common_steps, not_deeper, parent-past, place-past, place-sibling)
+stands-sibling x before d p s o is may h = grind (arith, not_deeper, parent-past, place-past, place-sibling)
 
 first_place : (k : ℕ) → may_stand_first (Some k) ≡ true → 0 ≡ k
-first_place k h = grind (arith, common_steps, false≢true)
+first_place k h = grind (arith, false≢true)
 
 stands-below : (x : LocatedLine) (before : List LocatedLine) (d : ℕ) → suc x.line.depth ≡ d → Stands (x ∷ before) d x.path None
-stands-below x before d is = grind (arith, common_steps, eq-eqb, first_place, parent-here, place-here)
+stands-below x before d is = grind (arith, eq-eqb, first_place, parent-here, place-here)
 
 stands-first : Stands [] 1 [] None
 stands-first = record { parent = refl; place = λ name k first. first_place k first }
@@ -109,11 +109,11 @@ stands-past_walk (branch name place kids rest) k q before d p s deep h =
 -- a line's entry, where it stands
 place-is : (before : List LocatedLine) (d : ℕ) (p : Tokens) (s : Option SiblingPlace) (name : Bytes) (o : Option ℕ) → Stands before d p s → may_stand s name o ≡ true →
     place_of (is_some o) (place_among before d name) ≡ o
-place-is before d p s name o h may = grind (arith, common_steps)
+place-is before d p s name o h may = grind arith
 
 placed-is : (before : List LocatedLine) (l : Line) (p : Tokens) (s : Option SiblingPlace) (o : Option ℕ) → Stands before l.depth p s → may_stand s l.name o ≡ true → l.in_array ≡ is_some o →
     placed before l ≡ entry_at p o l
-placed-is before l p s o h may is = grind (arith, common_steps, place-is)
+placed-is before l p s o h may is = grind (arith, place-is)
 
 located-walk : (f : Forest) (d : ℕ) (p : Tokens) (s : Option SiblingPlace) (before : List LocatedLine) (ls : List Line) → IsOrderedBehind s f → Stands before d p s →
     located_after before (lines d f ++ ls) ≡ walk d p f ++ located_after (rev_onto (walk d p f) before) ls

@@ -3,7 +3,6 @@ use Rattle.std.proofs.Common.{◌≡◌, ℕ, zero, suc, ◌<◌, Bool, true, fa
 use Rattle.std.specs.Option.{option_map_or}
 use Rattle.std.proofs.lemmas.Bool.{cond-true, cond-false, and_parts, and_right}
 use Rattle.std.proofs.lemmas.Slice.Eq.{bytes_eq-Decides}
-use Rattle.std.proofs.lemmas.Grind.{common_steps}
 use Rattle.json.specs.Print.{quoted}
 use Rattle.serde_json.specs.Data as json
 use Rattle.serde_json.specs.Data.{Data}
@@ -25,10 +24,10 @@ use Rattle.iodef_tree.proofs.Outlines.{above-line, at-line, past-line}
 -- ---- the text of the value that a tree is
 
 value-text : (a : Bool) (s : Bytes) (o : Option Data) → option_map_or (λ d. may_be_value a d && bytes_eq (compact_text d) s) o false ≡ true → compact_text (unwrap_or o json.null) ≡ s
-value-text a s o h = grind (arith, common_steps, and_parts, bytes_eq-Decides)
+value-text a s o h = grind (arith, and_parts, bytes_eq-Decides)
 
 content-means : (a : Bool) (c : Content) → may_be_text (kind_of c) a (text_of c) ≡ true → content_text c ≡ compact_text (content_data c)
-content-means a c h = grind (arith, common_steps, value-text)
+content-means a c h = grind (arith, value-text)
 
 abbrev is_element : Option SiblingPlace → Bool
 is_element None = false
@@ -36,10 +35,10 @@ is_element (Some s) = is_some s.1
 
 -- no array goes on behind what is no element, and none at first
 no-later : (o : Option SiblingPlace) (n : Bytes) (p : Option ℕ) → is_element o ≡ false → may_stand o n p ≡ true → is_later_place p ≡ false
-no-later o n p e k = grind (arith, common_steps)
+no-later o n p e k = grind arith
 
 starts : (o : Option SiblingPlace) (f : Forest) → is_element o ≡ false → IsOrderedBehind o f → goes_on f ≡ false
-starts o f e h = grind (arith, common_steps, no-later)
+starts o f e h = grind (arith, no-later)
 
 -- what is written of a tree is the text of its members, or goes on with the elements of an array
 record Means (w : Bool → Bytes) (goes : Bool) (close : Bytes) (ds : json.Items) (ms : json.Members) : Type 0 where
@@ -82,7 +81,7 @@ in_front-means n (Some (suc j)) t d rest is alone k = record {
 }
 
 alone-behind : (n : Bytes) (p : Option ℕ) (rest : Forest) → IsOrderedBehind (Some (n, p)) rest → p ≡ None → goes_on rest ≡ false
-alone-behind n p rest h e = grind (arith, common_steps, starts)
+alone-behind n p rest h e = grind (arith, starts)
 
 means : (f : Forest) (o : Option SiblingPlace) → IsOrderedBehind o f → HasTexts f → Means (λ later. written later f) (goes_on f) (closing (goes_on f)) (items_of f) (members_of f)
 means end o h k = record { members = λ later e. refl; items = refl }
@@ -98,7 +97,7 @@ means (branch n p kids rest) o h k =
 
 -- a line goes on with its sibling's array where its place is a later one
 continues-is : (o : Option SiblingPlace) (l : Line) (p : Option ℕ) → l.in_array ≡ is_some p → may_stand o l.name p ≡ true → continues (as_sibling o) l ≡ is_later_place p
-continues-is o l p a h = grind (arith, common_steps, and_parts, and_right, bytes_lt-ne)
+continues-is o l p a h = grind (arith, and_parts, and_right, bytes_lt-ne)
 
 -- ---- lines that are passed by
 
@@ -124,13 +123,13 @@ Stops d [] = Unit {0}
 Stops d (l ∷ ls) = l.depth < d
 
 stops-members : (X : List Line) (d : ℕ) (o : Option Sibling) → Stops d X → members_from d o X ≡ json.no_members
-stops-members X d o h = grind (arith, common_steps, above-line)
+stops-members X d o h = grind (arith, above-line)
 
 stops-items : (X : List Line) (d : ℕ) (o : Option Sibling) → Stops d X → items_from d o X ≡ json.no_items
-stops-items X d o h = grind (arith, common_steps, above-line)
+stops-items X d o h = grind (arith, above-line)
 
 stops-more : (X : List Line) (d : ℕ) → Stops d X → Stops (suc d) X
-stops-more X d h = grind (arith, common_steps)
+stops-more X d h = grind arith
 
 stops-below : (f : Forest) (d : ℕ) (X : List Line) → Stops d X → Stops (suc d) (lines d f ++ X)
 stops-below end d X h = stops-more X d h
@@ -141,13 +140,13 @@ stops-below (branch n p kids rest) d X h = omega arith
 
 choose-member : (n : Bytes) (p : Option ℕ) (c a : Bool) (D : Data) (ds : json.Items) (ms : json.Members) → c ≡ is_later_place p → a ≡ is_some p →
     (if c then ms else (if a then json.member n (json.array (json.item D ds)) ms else json.member n D ms)) ≡ placed_member n p D ds ms
-choose-member n p c a D ds ms e g = grind (arith, common_steps, cond-false, cond-true)
+choose-member n p c a D ds ms e g = grind (arith, cond-false, cond-true)
 
 choose-item : (p : Option ℕ) (c : Bool) (D : Data) (ds : json.Items) → c ≡ is_later_place p → (if c then json.item D ds else json.no_items) ≡ placed_item p D ds
-choose-item p c D ds e = grind (arith, common_steps, cond-false, cond-true)
+choose-item p c D ds e = grind (arith, cond-false, cond-true)
 
 plain-datum : (c : Content) (ms : json.Members) → datum (kind_of c) (text_of c) ms ≡ content_data c
-plain-datum c ms = grind (arith, common_steps)
+plain-datum c ms = grind arith
 
 record Tells (d : ℕ) (o : Option SiblingPlace) (ls : List Line) (ds : json.Items) (ms : json.Members) : Type 0 where
   pub members : members_from d (as_sibling o) ls ≡ ms
@@ -156,7 +155,7 @@ record Tells (d : ℕ) (o : Option SiblingPlace) (ls : List Line) (ds : json.Ite
 one-tells : (d : ℕ) (o : Option SiblingPlace) (l : Line) (p : Option ℕ) (ls : List Line) (D : Data) (ds : json.Items) (ms : json.Members) → l.depth ≡ d → l.in_array ≡ is_some p →
     may_stand o l.name p ≡ true → datum l.kind l.text (members_from (suc d) None ls) ≡ D →
     members_from d (Some (sibling l)) ls ≡ ms → items_from d (Some (sibling l)) ls ≡ ds → Tells d o (l ∷ ls) (placed_item p D ds) (placed_member l.name p D ds ms)
-one-tells d o l p ls D ds ms deep a fits is m i = grind (arith, common_steps, at-line, choose-item, choose-member, continues-is)
+one-tells d o l p ls D ds ms deep a fits is m i = grind (arith, at-line, choose-item, choose-member, continues-is)
 
 tells : (f : Forest) (d : ℕ) (o : Option SiblingPlace) (X : List Line) → IsOrderedBehind o f → Stops d X → Tells d o (lines d f ++ X) (items_of f) (members_of f)
 tells end d o X h k = record { members = stops-members X d (as_sibling o) k; items = stops-items X d (as_sibling o) k }
@@ -184,4 +183,4 @@ data-is f h = data-ordered f h.ordered
 
 -- what is written of a document's tree is the compact JSON of the object that its lines mean
 pub text-is : (f : Forest) → IsSound f → 123 ∷ (written false f ++ 125 ∷ []) ≡ compact_text (json.object (data_of (lines 1 f)))
-text-is f h = grind (arith, common_steps, data-is, means, starts)
+text-is f h = grind (arith, data-is, means, starts)

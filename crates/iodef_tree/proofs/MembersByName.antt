@@ -32,7 +32,7 @@ use Rattle.iodef_tree.proofs.Views.{forest-members}
 -- ---- the first member of a name
 
 chosen : (o : Ordering) (b : Bool) (a : Option Data) (d : Data) → is_eq o ≡ b → match_ordering o a (Some d) a ≡ (if b then Some d else a)
-chosen o b a d h = grind (arith, common_steps)
+chosen o b a d h = grind arith
 
 same : (x k : Bytes) (b : Bool) → bytes_eq x k ≡ b → bytes_eq k x ≡ b
 same x k true h = ap (bytes_eq k) (bytes_eq-true x k h) ∙ bytes_eq-refl k
@@ -50,7 +50,7 @@ member-next k xs i m b h e is filled = grind (arith, common_steps, get-first, me
 
 front-kept : (o : Option SiblingPlace) (n : Bytes) (p : Option ℕ) (b : Body) (rest : Forest) → IsOrderedBehind o (in_front n p b rest) × HasTexts (in_front n p b rest) →
     IsBodyKept (is_some p) b × (IsOrderedBehind (Some (n, p)) rest × HasTexts rest)
-front-kept o n p b rest h = grind (arith, common_steps)
+front-kept o n p b rest h = grind arith
 
 pub object-members : (o : Object) (xs : List (Text × Member)) → xs ≡ o.members.items → members_forest xs ≡ forest o
 object-members o xs is = ap members_forest is ∙ sym (forest-members o)
@@ -59,7 +59,7 @@ pub kept-members : (o : Object) (xs : List (Text × Member)) → IsKept (forest 
 kept-members o xs k is = let inside : IsKept (members_forest xs) = subst IsKept (sym (object-members o xs is)) k in members-each (λ s f. IsOrderedBehind s f × HasTexts f) IsBodyKept front-kept AreKept (λ b h. h) (λ bs h. h) (map named xs) None (inside.ordered, inside.texts)
 
 body-ordered : (a : Bool) (b : Body) → IsBodyKept a b → IsBodyOrdered b
-body-ordered a b k = grind (arith, common_steps)
+body-ordered a b k = grind arith
 
 pub kept-ordered : (m : Bodies) → AreKept m → AreBodiesOrdered m
 kept-ordered (one b) k = body-ordered false b k
@@ -72,15 +72,15 @@ kept-ordered (many bs) k = each bs k
 -- ---- the IncidentID
 
 get-object : (k : Bytes) (d : Data) → option_and_then (get_member k) (as_object d) ≡ get k d
-get-object k d = grind (arith, common_steps)
+get-object k d = grind arith
 
 get-then : (k : Bytes) (o : Option Data) → option_and_then (get_member k) (option_and_then as_object o) ≡ option_and_then (get k) o
-get-then k o = grind (arith, common_steps, get-object)
+get-then k o = grind (arith, get-object)
 
 pub id-found : (ms own : json.Members) (d : Data) (r : Option Data) → Some d ≡ get_member (codes "Incident") ms → Some own ≡ option_and_then as_object (zeroth d) → r ≡ get_member (codes "IncidentID") own →
     r ≡ id_in (json.object ms)
-id-found ms own d r first at is = grind (arith, common_steps, get-then)
+id-found ms own d r first at is = grind (arith, get-then)
 
 -- with its text
 pub id-is : (f : Forest) (ls : List Line) (o : Option Data) (r : Option Bytes) → IsSound f → lines 1 f ≡ ls → o ≡ id_in (json.object (members_of f)) → r ≡ option_map compact_text o → r ≡ incident_id ls
-id-is f ls o r h seen found said = grind (arith, common_steps, data-is)
+id-is f ls o r h seen found said = grind (arith, data-is)

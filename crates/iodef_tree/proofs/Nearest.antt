@@ -3,7 +3,6 @@ use Rattle.std.proofs.Common.{◌≡◌, ℕ, suc, List, [], ◌∷◌, ◌++◌
 use Rattle.std.specs.List.{AllByRecursion}
 use Rattle.std.proofs.lemmas.Bool.{and_parts, and_right, cond-false, cond_both, or_left, or_right}
 use Rattle.std.proofs.lemmas.List.Folds.{list_any-append}
-use Rattle.std.proofs.lemmas.Grind.{common_steps}
 use Rattle.iodef_tree.specs.Text.{Bytes, Tokens, same_path, is_root, is_prefix, is_under}
 use Rattle.iodef_tree.specs.Tree.{Forest, end, leaf, branch, steps, lines}
 use Rattle.iodef_tree.specs.Paths.{LocatedLine, is_class, located, has_class, below}
@@ -42,10 +41,10 @@ abbrev Differs : Bytes → Option ℕ → Bytes → Option ℕ → Type 0
 Differs n o n' o' = is_some o ≡ true → o' ≡ None → bytes_eq n' n ≡ false
 
 differs-self : (n : Bytes) (o : Option ℕ) → Differs n o n o
-differs-self n o h e = grind (arith, common_steps)
+differs-self n o h e = grind arith
 
 and-true : (b c : Bool) → (b && c) ≡ false → c ≡ true → b ≡ false
-and-true b c h k = grind (arith, common_steps)
+and-true b c h k = grind arith
 
 differs-left : (n : Bytes) (o : Option ℕ) (n' : Bytes) (o' : Option ℕ) → AreApart n o n' o' → Differs n o n' o'
 differs-left n None n' o' a h e = absurd (true≢false (sym h))
@@ -65,16 +64,16 @@ siblings-both P Q R (branch n o kids rest) h a b = (h n o a.0 b.0, siblings-both
 -- no array has the name of another sibling
 all-differ : (f : Forest) → HasApart f → AllSiblings (λ n o. AllSiblings (Differs n o) f) f
 all-differ end apart = tt
-all-differ (leaf i rest) apart = grind (arith, common_steps, differs-left, differs-right, differs-self, siblings-both, siblings-map, (all-differ rest apart.1))
-all-differ (branch m p kids rest) apart = grind (arith, common_steps, differs-left, differs-right, differs-self, siblings-both, siblings-map, (all-differ rest apart.2))
+all-differ (leaf i rest) apart = grind (arith, differs-left, differs-right, differs-self, siblings-both, siblings-map, (all-differ rest apart.1))
+all-differ (branch m p kids rest) apart = grind (arith, differs-left, differs-right, differs-self, siblings-both, siblings-map, (all-differ rest apart.2))
 
 past-bare : (n' : Bytes) (o' : Option ℕ) (n : Bytes) → (o' ≡ None → bytes_eq n' n ≡ false) → past (steps n' o') (n ∷ []) ≡ None
-past-bare n' o' n h = grind (arith, common_steps, cond-false, cond_both)
+past-bare n' o' n h = grind (arith, cond-false, cond_both)
 
 none-bare : (f : Forest) (n : Bytes) (o : Option ℕ) → is_some o ≡ true → AllSiblings (Differs n o) f → class_at f (n ∷ []) ≡ None
 none-bare end n o some h = refl
-none-bare (leaf i rest) n o some h = grind (arith, common_steps, past-bare, (none-bare rest n o some h.1))
-none-bare (branch m p kids rest) n o some h = grind (arith, common_steps, past-bare, (none-bare rest n o some h.1))
+none-bare (leaf i rest) n o some h = grind (arith, past-bare, (none-bare rest n o some h.1))
+none-bare (branch m p kids rest) n o some h = grind (arith, past-bare, (none-bare rest n o some h.1))
 
 -- ---- down the tree
 
@@ -82,7 +81,7 @@ abbrev IsBare : List LocatedLine → Tokens → Bytes → Option ℕ → Type 0
 IsBare es p n o = is_some o ≡ true → has_class es (p ++ n ∷ []) ≡ false
 
 bare-siblings : (es : List LocatedLine) (d : ℕ) (p : Tokens) (f : Forest) → HasApart f → below p es ≡ walk d p f → AllSiblings (IsBare es p) f
-bare-siblings es d p f apart block = grind (arith, common_steps, all-differ, has_class-below, has_class-walk, none-bare, siblings-map)
+bare-siblings es d p f apart block = grind (arith, all-differ, has_class-below, has_class-walk, none-bare, siblings-map)
 
 nearest-entry : (es : List LocatedLine) (p : Tokens) (n : Bytes) (o : Option ℕ) → (is_root p || has_class es p) ≡ true → IsBare es p n o → IsNearestClass es (p ++ steps n o) p
 nearest-entry es p n o stands bare = record {
@@ -118,4 +117,4 @@ nearest-walk es (branch n o kids rest) d p blocks apart stands bare among =
     )
 
 pub nearest-located : (f : Forest) → IsSound f → Nearest (located (lines 1 f)) (located (lines 1 f))
-nearest-located f sound = grind (arith, common_steps, all-below, bare-siblings, blocks, located-lines, nearest-walk, sound-apart)
+nearest-located f sound = grind (arith, all-below, bare-siblings, blocks, located-lines, nearest-walk, sound-apart)

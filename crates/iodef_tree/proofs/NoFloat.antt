@@ -3,7 +3,6 @@ use Rattle.std.proofs.Common.{◌≡◌, ℕ, Bool, true, false, ◌&&◌, ◌||
 use Rattle.std.specs.List.{AllByRecursion}
 use Rattle.std.specs.Option.{option_map_or}
 use Rattle.std.proofs.lemmas.Bool.{and_parts, or_from, not-true}
-use Rattle.std.proofs.lemmas.Grind.{common_steps}
 use Rattle.serde_json.specs.Data as json
 use Rattle.serde_json.specs.Data.{Data}
 use Rattle.serde_json.specs.Read.{read}
@@ -52,10 +51,10 @@ content-whole a (value s) h = value-whole a s (read s) h
 
 placed-member-whole : (n : Bytes) (p : Option ℕ) (d : Data) (ds : json.Items) (ms : json.Members) → has_float d ≡ false → items_have_float ds ≡ false → members_have_float ms ≡ false →
     members_have_float (placed_member n p d ds ms) ≡ false
-placed-member-whole n p d ds ms h k l = grind (arith, common_steps, or_from)
+placed-member-whole n p d ds ms h k l = grind (arith, or_from)
 
 placed-item-whole : (p : Option ℕ) (d : Data) (ds : json.Items) → has_float d ≡ false → items_have_float ds ≡ false → items_have_float (placed_item p d ds) ≡ false
-placed-item-whole p d ds h k = grind (arith, common_steps, or_from)
+placed-item-whole p d ds h k = grind (arith, or_from)
 
 pub record IsWhole (f : Forest) : Type 0 where
   pub members : members_have_float (members_of f) ≡ false
@@ -63,8 +62,8 @@ pub record IsWhole (f : Forest) : Type 0 where
 
 pub whole : (f : Forest) → HasTexts f → IsWhole f
 whole end h = record { members = refl; items = refl }
-whole (leaf i rest) h = grind (arith, common_steps, content-whole, placed-item-whole, placed-member-whole, (whole rest h.1))
-whole (branch n p kids rest) h = grind (arith, common_steps, placed-item-whole, placed-member-whole, (whole kids h.0), (whole rest h.1))
+whole (leaf i rest) h = grind (arith, content-whole, placed-item-whole, placed-member-whole, (whole rest h.1))
+whole (branch n p kids rest) h = grind (arith, placed-item-whole, placed-member-whole, (whole kids h.0), (whole rest h.1))
 
 -- ---- what stands at one place
 

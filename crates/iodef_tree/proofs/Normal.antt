@@ -3,7 +3,6 @@ use Rattle.std.proofs.Common.{◌≡◌, ℕ, zero, suc, ◌^◌, ◌<◌, ◌�
 use Rattle.std.proofs.lemmas.Bool.{and_parts, cond_both, ltb-true, leb-true, or_parts}
 use Rattle.std.proofs.lemmas.Option.{cond_some, option_and_then_some, same_Some}
 use Rattle.std.proofs.lemmas.Cmp.{nat_list_cmp_total}
-use Rattle.std.proofs.lemmas.Grind.{common_steps}
 use Rattle.fast_float.specs.Text.{Parts, scan, with_sign}
 use Rattle.json.specs.Token.{Token}
 use Rattle.json.specs.Lex.{tokens}
@@ -57,7 +56,7 @@ float-in_range : (sign : Bool) (p : Parts) (n : Num) → float_of sign p ≡ Som
 float-in_range sign p n h = subst IsInRange (cond_some _ _ n h).1 tt
 
 from-in_range : (sign : Bool) (p : Parts) (n : Num) → number_from sign p ≡ Some n → IsInRange n
-from-in_range sign p n h = grind (arith, common_steps, and_parts, below-zero, cond_both, float-in_range, leb-true, ltb-true, same_Some)
+from-in_range sign p n h = grind (arith, and_parts, below-zero, cond_both, float-in_range, leb-true, ltb-true, same_Some)
 
 pub number-in_range : (s : Bytes) (n : Num) → number_of s ≡ Some n → IsInRange n
 unfolding number_of
@@ -67,11 +66,11 @@ number-in_range s n h = cond_both _ (number_from true (scan (drop 1 s))) (number
 
 put-after : (l k : Bytes) (d : Data) (ms : json.Members) → AreAfter l ms → bytes_lt l k ≡ true → AreAfter l (put k d ms)
 put-after l k d json.no_members h lt = (lt, tt)
-put-after l k d (json.member m e ms) h lt = grind (arith, common_steps, (put-after l k d ms h.1 lt))
+put-after l k d (json.member m e ms) h lt = grind (arith, (put-after l k d ms h.1 lt))
 
 put-ascend : (k : Bytes) (d : Data) (ms : json.Members) → Ascend ms → Ascend (put k d ms)
 put-ascend k d json.no_members h = (tt, tt)
-put-ascend k d (json.member m e ms) h = grind (arith, common_steps, after-trans, nat_list_cmp_total, put-after, (put-ascend k d ms h.1))
+put-ascend k d (json.member m e ms) h = grind (arith, after-trans, nat_list_cmp_total, put-after, (put-ascend k d ms h.1))
 
 pub normals : IsEach IsNormal AreMembersNormal
 normals = record { made = λ k d ms h all. (h, all); first = λ k d ms h. h.0; others = λ k d ms h. h.1 }
@@ -82,7 +81,7 @@ put-normal k d ms h n = (put-ascend k d ms h.0, put-each IsNormal AreMembersNorm
 -- ---- what is read
 
 map-step : {A B : Type 0} (f : A → B) (o : Option A) (b : B) (P : B → Type 0) → ((a : A) → o ≡ Some a → P (f a)) → option_map f o ≡ Some b → P b
-map-step f o b P k e = grind (arith, common_steps, same_Some)
+map-step f o b P k e = grind (arith, same_Some)
 
 mutual
   normal-json : (j : tree.Json) (d : Data) → of_json j ≡ Some d → IsNormal d
@@ -109,7 +108,7 @@ read-normal text d h = option_and_then_some of_json (option_and_then (λ p. tree
 -- ---- printed, and read again
 
 number-printed : (n : Num) → IsInRange n → is_float n ≡ false → (number_of (number_text n) ≡ Some n) × IsNumber (number_text n)
-number-printed n h w = grind (arith, common_steps, IsNumber-decimal, IsNumber-signed_decimal, number_of-decimal, number_of-negative)
+number-printed n h w = grind (arith, IsNumber-decimal, IsNumber-signed_decimal, number_of-decimal, number_of-negative)
 
 mutual
   back : (d : Data) → IsNormal d → has_float d ≡ false → of_json (outline d) ≡ Some d

@@ -2,7 +2,6 @@
 use Rattle.std.proofs.Common.{◌≡◌, ℕ, zero, suc, ◌≤◌, List, [], ◌∷◌, ◌++◌, true, ◌==◌, refl, sym, ◌∙◌, ap, subst, arith, true≢false, Option, Some, None, is_some, bytes_eq}
 use Rattle.std.specs.List.{AllByRecursion}
 use Rattle.std.proofs.lemmas.Bool.{and_parts, false≢true, eqb-true}
-use Rattle.std.proofs.lemmas.Grind.{common_steps}
 use Rattle.iodef_tree.specs.Text.{Bytes, bytes_lt}
 use Rattle.iodef_tree.specs.Tree.{Content, Leaf, Forest, end, leaf, branch, kind_of, text_of, leaf_line, class_line, lines}
 use Rattle.iodef_tree.specs.Sound.{SiblingPlace, may_stand, IsOrderedBehind, IsSound}
@@ -37,7 +36,7 @@ lines-shallow (leaf i rest) d = omega arith
 lines-shallow (branch n o kids rest) d = omega arith
 
 not_both : (d : ℕ) (x : Line) (xs ys : List Line) → suc d ≤ x.depth → IsShallow d ys → ys ≡ x ∷ xs → ⊥
-not_both d x xs ys deep shallow e = grind (arith, common_steps)
+not_both d x xs ys deep shallow e = grind arith
 
 split : (d : ℕ) (xs xs' ys ys' : List Line) → AreDeep (suc d) xs → AreDeep (suc d) xs' → IsShallow d ys → IsShallow d ys' → xs ++ ys ≡ xs' ++ ys' → (xs ≡ xs') × (ys ≡ ys')
 split d [] [] ys ys' deep deep' shallow shallow' e = (refl, e)
@@ -67,13 +66,13 @@ place-same (Some (m, None)) n (Some zero) (Some (suc k)) h h' e = absurd (false�
 place-same (Some (m, Some i)) n (Some zero) (Some (suc k)) h h' e = never m n h (and_parts (bytes_eq m n) (i == k) h').0
 place-same (Some (m, None)) n (Some (suc j)) (Some k) h h' e = absurd (false≢true h)
 place-same (Some (m, Some i)) n (Some (suc j)) (Some zero) h h' e = never m n h' (and_parts (bytes_eq m n) (i == j) h).0
-place-same (Some (m, Some i)) n (Some (suc j)) (Some (suc k)) h h' e = grind (arith, common_steps, and_parts, eqb-true)
+place-same (Some (m, Some i)) n (Some (suc j)) (Some (suc k)) h h' e = grind (arith, and_parts, eqb-true)
 
 content-same : (c c' : Content) → kind_of c ≡ kind_of c' → text_of c ≡ text_of c' → c ≡ c'
-content-same c c' k e = grind (arith, common_steps)
+content-same c c' k e = grind arith
 
 no_class : (c : Content) → kind_of c ≡ kind.Class → ⊥
-no_class c e = grind (arith, common_steps)
+no_class c e = grind arith
 
 abbrev leaf_of : Bytes → Option ℕ → Content → Leaf
 leaf_of n o c = record { name = n; place = o; content = c }

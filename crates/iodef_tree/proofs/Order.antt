@@ -1,5 +1,5 @@
 -- The order of texts, and how paths stand to one another.
-use Rattle.std.proofs.Common.{◌≡◌, ℕ, ◌^◌, ◌<◌, [], ◌∷◌, ◌++◌, true, false, ◌&&◌, decimal, refl, sym, ◌∙◌, ap, append-nil, Ordering, Less, is_eq, true≢false, arith, Option, Some, None, bytes_eq, nat_cmp, is_lt}
+use Rattle.std.proofs.Common.{◌≡◌, ℕ, ◌^◌, ◌<◌, [], ◌∷◌, ◌++◌, true, false, ◌&&◌, decimal, refl, sym, ◌∙◌, ap, append-nil, Ordering, Less, is_eq, true≢false, arith, Option, bytes_eq, nat_cmp, is_lt}
 use Rattle.std.specs.Cmp.Lexicographic.{slice_cmp}
 use Rattle.std.proofs.lemmas.Bool.{and_parts, false≢true}
 pub use Rattle.std.proofs.lemmas.Bool.{false_from_ne_true as is_false}
@@ -21,7 +21,7 @@ pub bytes_eq-true : (x y : Bytes) → bytes_eq x y ≡ true → x ≡ y
 bytes_eq-true x y = (bytes_eq-Decides x y).0
 
 less : (o : Ordering) → is_lt o ≡ true → o ≡ Less
-less o h = grind (arith, common_steps)
+less o h = grind arith
 
 pub bytes_lt-less : (x y : Bytes) → bytes_lt x y ≡ true → slice_cmp nat_cmp x y ≡ Less
 bytes_lt-less x y = less (slice_cmp nat_cmp x y)
@@ -39,7 +39,7 @@ bytes_lt-ne_back x y h =
 
 -- the digits of two places are the same only where the places are
 pub decimals_differ : (j k : ℕ) → j < k → k < 2 ^ 64 → (bytes_eq (decimal j) (decimal k) ≡ false) × (bytes_eq (decimal k) (decimal j) ≡ false)
-decimals_differ j k lt small = grind (arith, common_steps, bytes_eq-true, decimal_injective)
+decimals_differ j k lt small = grind (arith, bytes_eq-true, decimal_injective)
 
 -- ---- paths
 
@@ -48,13 +48,11 @@ same_path-refl [] = refl
 same_path-refl (x ∷ p) = ap (λ b. b && same_path p p) (bytes_eq-refl x) ∙ same_path-refl p
 
 pub same_path-true : (p q : Tokens) → same_path p q ≡ true → p ≡ q
-same_path-true [] [] h = refl
-same_path-true [] (y ∷ q) h = absurd (false≢true h)
-same_path-true (x ∷ p) [] h = absurd (false≢true h)
 same_path-true (x ∷ p) (y ∷ q) h =
     let parts = and_parts (bytes_eq x y) (same_path p q) h in
     let a : x ≡ y = bytes_eq-true x y parts.0 in
     let b : p ≡ q = same_path-true p q parts.1 in cc
+same_path-true p q h = grind (arith, false≢true)
 
 pub same_path-common : (p a b : Tokens) → same_path (p ++ a) (p ++ b) ≡ same_path a b
 same_path-common [] a b = refl
@@ -76,9 +74,8 @@ is_prefix-append (x ∷ p) z = ap (λ t. t && is_prefix p (p ++ z)) (bytes_eq-re
 
 -- what stands below a path has it as a prefix, and so has the path itself
 pub is_under-is_prefix : (q p : Tokens) → is_prefix q p ≡ false → is_under q p ≡ false
-is_under-is_prefix [] p h = absurd (true≢false h)
-is_under-is_prefix (x ∷ q) [] h = refl
-is_under-is_prefix (x ∷ q) (y ∷ p) h = grind (arith, common_steps, (is_under-is_prefix q p))
+is_under-is_prefix (x ∷ q) (y ∷ p) h = grind (arith, (is_under-is_prefix q p))
+is_under-is_prefix q p h = grind arith
 
 pub same_path-is_prefix : (q p : Tokens) → is_prefix q p ≡ false → same_path q p ≡ false
 same_path-is_prefix q p h = is_false (same_path q p) (λ same. true≢false (sym (is_prefix-append q []) ∙ ap (is_prefix q) (append-nil q ∙ same_path-true q p same) ∙ h))
@@ -95,9 +92,8 @@ is_under-weaker (a ∷ p) y (c ∷ x) h =
 
 -- a member stands below its parent, and all below it
 pub is_under-steps : (p : Tokens) (name : Bytes) (place : Option ℕ) (z : Tokens) → is_under p (p ++ (steps name place ++ z)) ≡ true
-is_under-steps [] name None z = refl
-is_under-steps [] name (Some k) z = refl
 is_under-steps (x ∷ p) name place z = ap (λ b. b && is_under p (p ++ (steps name place ++ z))) (bytes_eq-refl x) ∙ is_under-steps p name place z
+is_under-steps p name place z = grind arith
 
 -- it is not its parent
 pub same_path-longer : (p : Tokens) (name : Bytes) (place : Option ℕ) (z : Tokens) → same_path p (p ++ (steps name place ++ z)) ≡ false

@@ -1,5 +1,5 @@
 -- Outlines, one line more at a time.
-use Rattle.std.proofs.Common.{◌≡◌, ℕ, zero, suc, ◌+◌, ◌-◌, ◌<◌, ◌≤◌, Bool, true, false, ◌&&◌, List, [], ◌∷◌, ◌++◌, length, take, drop, drop-cons, get_or, refl, sym, ◌∙◌, ap, arith, if◌then◌else◌, ◌==◌, Some, None, nat_lt, nat_le, slice_get}
+use Rattle.std.proofs.Common.{◌≡◌, ℕ, suc, ◌+◌, ◌-◌, ◌<◌, ◌≤◌, Bool, true, false, ◌&&◌, List, [], ◌∷◌, ◌++◌, length, take, drop, drop-cons, get_or, refl, sym, ◌∙◌, ap, arith, if◌then◌else◌, ◌==◌, Some, None, nat_lt, nat_le, slice_get}
 use Rattle.std.proofs.lemmas.Bool.{cond-true, cond-false, ne_eqb, eq-eqb, lt-ltb, le-ltb, cases_lt, and_parts, and_right, leb-true, ltb-true}
 use Rattle.std.proofs.lemmas.List.{take_more, take-append-drop}
 use Rattle.std.proofs.lemmas.List.Sums.{sum_by-cons}
@@ -30,7 +30,7 @@ back-push ls l = back_onto-append ls (l ∷ []) []
 
 back_is : (ls before : List Line) → is_outline_back (back_onto ls before) ≡ (is_outline_after before ls && is_outline_back before)
 back_is [] before = refl
-back_is (x ∷ ls) before = grind (arith, common_steps, and_assoc, and_comm, (back_is ls (x ∷ before)))
+back_is (x ∷ ls) before = grind (arith, and_assoc, and_comm, (back_is ls (x ∷ before)))
 
 -- from the newest line back the same lists are outlines
 pub outline-back : (ls : List Line) → is_outline_back (back ls) ≡ is_outline ls
@@ -69,15 +69,12 @@ past-line n d x y z h = cond-false (nat_lt n d) _ _ (le-ltb n d (omega (arith, h
 -- ---- the newest line of each open depth
 
 get_kept : {A : Type 0} (e : ℕ) (E : List A) (n : A) (d : ℕ) → e ≤ length E → d < e → slice_get (take e E ++ n ∷ []) d ≡ slice_get E d
-get_kept zero E n d h l = absurd (omega arith)
-get_kept (suc e) [] n d h l = absurd (omega arith)
-get_kept (suc e) (x ∷ E) n zero h l = refl
 get_kept (suc e) (x ∷ E) n (suc d) h l = get_kept e E n d (omega (arith, h)) (omega (arith, l))
+get_kept e E n d h l = grind arith
 
 get_new : {A : Type 0} (e : ℕ) (E : List A) (n : A) → e ≤ length E → slice_get (take e E ++ n ∷ []) e ≡ Some n
-get_new zero E n h = refl
-get_new (suc e) [] n h = absurd (omega arith)
 get_new (suc e) (x ∷ E) n h = get_new e E n (omega (arith, h))
+get_new e E n h = grind arith
 
 length_new : {A : Type 0} (e : ℕ) (E : List A) (n : A) → e ≤ length E → length (take e E ++ n ∷ []) ≡ suc e
 length_new e E n h = grind (arith, common_steps)
@@ -91,7 +88,7 @@ pub record Known (before : List Line) : Type 0 where
   pub at : (d : ℕ) → suc d ≤ deepest before → slice_get (edge before) d ≡ last_sibling (suc d) before
 
 deep_le : (b : Bool) (n m : ℕ) → n ≤ m → (if b then suc n else n) ≤ suc m
-deep_le b n m h = grind (arith, common_steps)
+deep_le b n m h = grind arith
 
 known_more : (x : Line) (before : List Line) → 0 < x.depth → x.depth ≤ deepest before → Known before → Known (x ∷ before)
 known_more x before positive reached k = grind (arith, common_steps, above-line, at-line, cases_lt, deep_le, get_kept, get_new, get_past, length_new, past-line)
@@ -105,7 +102,7 @@ pub record Came (before : List Line) (l : Line) : Type 0 where
   pub short : is_short (l ∷ before) ≡ true
 
 pub came : (before : List Line) (l : Line) → may_come before l ≡ true → Came before l
-came before l h = grind (arith, common_steps, and_parts, leb-true, ltb-true)
+came before l h = grind (arith, and_parts, leb-true, ltb-true)
 
 pub known : (before : List Line) → is_outline_back before ≡ true → Known before
 known [] h = record { size = omega arith; at = λ d k. refl }
@@ -117,13 +114,13 @@ known (x ∷ before) h =
 -- ---- the checker
 
 guarded : (a b f g s : Bool) → (a ≡ true → b ≡ true → f ≡ g) → (a && (b && (f && s))) ≡ (a && (b && (g && s)))
-guarded a b f g s h = grind (arith, common_steps)
+guarded a b f g s h = grind arith
 
 pub counted-cons : (l : Line) (ls : List Line) → counted (l ∷ ls) ≡ counted_with l (counted ls)
 counted-cons l ls = grind (arith, common_steps, sum_by-cons)
 
 short_else : (n : ℕ) → if_short n ≡ None → nat_le n LINE_LIMIT ≡ false
-short_else n h = grind (arith, common_steps)
+short_else n h = grind arith
 
 -- no line may come where too many would count
 pub too_many : (s : Shape) (before : List Line) (l : Line) → Shows s before → if_short (counted_with l s.counted) ≡ None → may_come before l ≡ false

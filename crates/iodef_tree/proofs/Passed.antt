@@ -2,7 +2,6 @@
 use Rattle.std.proofs.Common.{◌≡◌, List, true, length, nat_lt, sym, ◌∙◌, ap, subst, Option, Some, Ok, Err, option_and_then, codes, arith}
 use Rattle.std.proofs.lemmas.Bool.{cond_both}
 use Rattle.std.proofs.lemmas.Option.{cond_some}
-use Rattle.std.proofs.lemmas.Grind.{common_steps}
 use Rattle.serde_json.specs.Data as json
 use Rattle.serde_json.specs.Data.{Data}
 use Rattle.serde_json.specs.Find.{get_member, as_array, as_object}
@@ -17,13 +16,13 @@ use Rattle.iodef_tree.proofs.Bodies.{found_array}
 use Rattle.iodef_tree.proofs.Fitness.{IsPlain, bind-ok, plain_ok}
 
 or-ok : {A : Type 0} (e : ReadFault) (o : Option A) (x : A) → or_fault e o ≡ Ok x → o ≡ Some x
-or-ok e o x h = grind (arith, common_steps)
+or-ok e o x h = grind arith
 
 parsed-ok : (bytes : Bytes) (d : Data) → parsed bytes ≡ Ok d → read bytes ≡ Some d
-parsed-ok bytes d h = grind (arith, common_steps, cond_both, or-ok)
+parsed-ok bytes d h = grind (arith, cond_both, or-ok)
 
 object-of : (d : Data) (root : json.Members) → as_object d ≡ Some root → d ≡ json.object root
-object-of d root h = grind (arith, common_steps)
+object-of d root h = grind arith
 
 pub short-ok : (ls : List Line) (d : List Line) → if_short ls ≡ Ok d → ls ≡ d
 short-ok ls d h = cond_both (nat_lt LINE_LIMIT (length ls)) (Err TooManyLines) (Ok ls) (λ r. r ≡ Ok d → ls ≡ d) (λ _ e. absurd (cc)) (λ _ e. cc) h

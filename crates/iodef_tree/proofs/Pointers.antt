@@ -3,7 +3,6 @@ use Rattle.std.proofs.Common.{◌≡◌, ◌≢◌, ℕ, false, ◌==◌, List, 
 use Rattle.std.specs.List.{list_any}
 use Rattle.std.proofs.lemmas.Bool.{ne_eqb, cond-false, or_parts}
 use Rattle.std.proofs.lemmas.List.Concat.{flat_map-append}
-use Rattle.std.proofs.lemmas.Grind.{common_steps}
 use Rattle.iodef_tree.specs.Pointer.{escaped_byte, is_escaped_byte, escaped}
 use Rattle.iodef_tree.proofs.Characters.{AreHigh, encode_utf8-cases}
 
@@ -20,7 +19,7 @@ escaped-high (b ∷ bs) h = ap (λ x. x ++ escaped bs) (plain_byte b (λ e. omeg
 
 -- and so does a character that is neither
 pub escaped-encode : (c : ℕ) → c ≢ 126 → c ≢ 47 → escaped (encode_utf8 c) ≡ encode_utf8 c
-escaped-encode c t s = grind (arith, common_steps, encode_utf8-cases, escaped-high, plain_byte)
+escaped-encode c t s = grind (arith, encode_utf8-cases, escaped-high, plain_byte)
 
 -- where no byte is written otherwise, a token stays as it is
 pub escaped-same : (s : List ℕ) → list_any is_escaped_byte s ≡ false → escaped s ≡ s

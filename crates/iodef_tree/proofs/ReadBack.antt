@@ -3,7 +3,6 @@ use Rattle.std.proofs.Common.{◌≡◌, ℕ, suc, ◌≤◌, List, [], ◌∷�
 use Rattle.std.specs.List.{AllByRecursion}
 use Rattle.std.specs.Str.{is_utf8}
 use Rattle.std.proofs.lemmas.Bool.{and_parts, cond-true, or_parts}
-use Rattle.std.proofs.lemmas.Grind.{common_steps}
 use Rattle.serde_json.specs.Data as json
 use Rattle.serde_json.specs.Data.{Data, put, depth, items_depth, members_depth}
 use Rattle.serde_json.specs.Events.{items_len}
@@ -40,7 +39,7 @@ use Rattle.iodef_tree.proofs.Passed.{short-ok, Passed, passed}
 -- ---- the members that the lines mean are those that were read
 
 filled-data : (b : Body) (bs : List Body) → has_elements (one_or_many b bs) ≡ true
-filled-data b bs = grind (arith, common_steps)
+filled-data b bs = grind arith
 
 abbrev as_list : json.Members → List (Bytes × Bodies)
 as_list json.no_members = []
@@ -128,10 +127,10 @@ AreGood n json.no_items = Unit {0}
 AreGood n (json.item d ds) = IsGood n 1 1 d × AreGood n ds
 
 fits : IsEach (λ d. AreClear (nodes 1 0 d)) (λ ms. AreClear (member_nodes 1 ms))
-fits = grind (arith, common_steps, clear-apart, clear-joined)
+fits = grind (arith, clear-apart, clear-joined)
 
 depths : (n : ℕ) → IsEach (λ d. depth d ≤ n) (λ ms. members_depth ms ≤ n)
-depths n = grind (arith, common_steps)
+depths n = grind arith
 
 good-items : (ds : json.Items) (n k : ℕ) → AreNormal ds → items_depth ds ≤ n → AreClear (item_nodes 1 1 k ds) → AreGood n ds
 good-items json.no_items n k h low fits = tt

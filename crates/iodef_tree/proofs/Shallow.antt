@@ -9,7 +9,6 @@ use Rattle.iodef_tree.specs.Values.{Node, node, nodes, item_nodes, member_nodes,
 use Rattle.iodef_tree.specs.declared.TheConstants.{DEPTH_LIMIT}
 use Rattle.iodef_tree.proofs.Fitness.{AreClear, clear-apart, head}
 use Rattle.std.proofs.lemmas.Bool.{ltb-false, or_parts}
-use Rattle.std.proofs.lemmas.Grind.{common_steps}
 use Rattle.iodef_tree.proofs.Each.{IsEach}
 
 abbrev pub body_height : Body → ℕ
@@ -25,17 +24,17 @@ bodies_height (one b) = body_height b
 bodies_height (many bs) = tallest bs
 
 height-in_front : (name : Bytes) (place : Option ℕ) (b : Body) (rest : Forest) → height (in_front name place b rest) ≡ max (body_height b) (height rest)
-height-in_front name place b rest = grind (arith, common_steps)
+height-in_front name place b rest = grind arith
 
 height-elements : (name : Bytes) (k : ℕ) (bs : List Body) (rest : Forest) → height (elements name k bs rest) ≡ max (tallest bs) (height rest)
 height-elements name k [] rest = omega arith
-height-elements name k (b ∷ bs) rest = grind (arith, common_steps, height-in_front, (height-elements name (suc k) bs rest))
+height-elements name k (b ∷ bs) rest = grind (arith, height-in_front, (height-elements name (suc k) bs rest))
 
 pub height-member_front : (name : Bytes) (m : Bodies) (rest : Forest) → height (member_front name m rest) ≡ max (bodies_height m) (height rest)
-height-member_front name m rest = grind (arith, common_steps, height-elements, height-in_front)
+height-member_front name m rest = grind (arith, height-elements, height-in_front)
 
 bodies_le : (b : Body) (bs : List Body) (n : ℕ) → body_height b ≤ n → tallest bs ≤ n → bodies_height (one_or_many b bs) ≤ n
-bodies_le b bs n p q = grind (arith, common_steps)
+bodies_le b bs n p q = grind arith
 
 here : (d : Data) (o a : ℕ) (rest : List Node) → AreClear (node o a d ∷ rest) → o ≤ 32
 here d o a rest e = ltb-false DEPTH_LIMIT o (or_parts _ (nat_lt DEPTH_LIMIT a && is_some (as_array d)) (head (node o a d) rest e).0.shallow).0
@@ -75,7 +74,7 @@ mutual
 
 -- the tree is as low as each member
 pub heights : (n : ℕ) → IsEach (λ d. bodies_height (bodies_of_data d) ≤ n) (λ ms. height (forest_of_data ms) ≤ n)
-heights n = grind (arith, common_steps, height-member_front)
+heights n = grind (arith, height-member_front)
 
 pub tallest_le : (b : Body) (bs : List Body) → tallest bs ≤ bodies_height (one_or_many b bs)
-tallest_le b bs = grind (arith, common_steps)
+tallest_le b bs = grind arith

@@ -73,17 +73,17 @@ fine (branch n p kids rest) d before o is h =
 -- ---- so names ascend
 
 only-first : (a b c : Bool) → (a || (b && (c && false))) ≡ true → a ≡ true
-only-first a b c h = grind (arith, common_steps)
+only-first a b c h = grind arith
 
 only-first_too : (a b : Bool) → (a || (b && (false && true))) ≡ true → a ≡ true
-only-first_too a b h = grind (arith, common_steps)
+only-first_too a b h = grind arith
 
 other-name : (a b : Bool) → (a || (b && (true && true))) ≡ true → not b ≡ true → a ≡ true
-other-name a b h k = grind (arith, common_steps)
+other-name a b h k = grind arith
 
 stands : (o : Option SiblingPlace) (name : Bytes) (place : Option ℕ) → may_follow (as_sibling o) (record { name = name; in_array = is_some place }) ≡ true → is_numbered o name place ≡ true →
     may_stand o name place ≡ true
-stands o name place h k = grind (arith, common_steps, only-first, only-first_too, other-name)
+stands o name place h k = grind (arith, only-first, only-first_too, other-name)
 
 ordered : (f : Forest) (d : ℕ) (o : Option SiblingPlace) → IsFine o d f → IsNumberedBehind o f → IsOrderedBehind o f
 ordered end d o h k = tt
@@ -93,7 +93,7 @@ ordered (branch n p kids rest) d o h k = (stands o n p h.0 k.0, ordered kids (su
 -- ---- the tree is shallow
 
 plain-depth : (c : Content) (d : ℕ) → nat_le d (if is_class_kind (kind_of c) then DEPTH_LIMIT else DEPTH_LIMIT + 1) ≡ true → d ≤ DEPTH_LIMIT + 1
-plain-depth c d h = grind (arith, common_steps, leb-true)
+plain-depth c d h = grind (arith, leb-true)
 
 high : (f : Forest) (d : ℕ) (o : Option SiblingPlace) → d ≤ DEPTH_LIMIT + 2 → IsFine o d f → height f + d ≤ DEPTH_LIMIT + 2
 high end d o small h = omega (arith, small)

@@ -45,7 +45,7 @@ same-line d x y n a = ap (λ (m : Bytes). class_line d m (place_of y.in_array 0)
 down-add : (d : ℕ) (f : Forest) (xs : List Open) (x y : Open) (R : List Line) → y.name ≡ x.name → y.in_array ≡ x.in_array →
     lines (suc (d + length xs)) (forest y.object) ≡ lines (suc (d + length xs)) (forest x.object) ++ R →
     lines_down d f (xs ++ y ∷ []) ≡ lines_down d f (xs ++ x ∷ []) ++ R
-down-add d f xs x y R n a is = grind (arith, common_steps, append_assoc, down-push, same-line)
+down-add d f xs x y R n a is = grind (arith, append_assoc, down-push, same-line)
 
 -- ---- one thing more
 
@@ -53,7 +53,7 @@ pub put-class : (s t : Spine) (P : List Open) (x y : Open) (n : Bytes) (a : Bool
     s.classes.items ≡ P ++ x ∷ [] → t.classes.items ≡ P ++ y ∷ [] → y.name ≡ x.name → y.in_array ≡ x.in_array →
     Grows x.object.members.items n a b y.object.members.items →
     Extends s (lines (suc (length s.classes.items)) (in_front n (place_of a 0) b end)) (length s.classes.items) t
-put-class s t P x y n a b h root was is name array g = grind (arith, common_steps, all-append, all-split, down-add, forest-members, one-longer)
+put-class s t P x y n a b h root was is name array g = grind (arith, all-append, all-split, down-add, forest-members, one-longer)
 
 -- what the innermost class has to be for that
 pub innermost-grown : (s : Spine) (P : List Open) (x : Open) → s.classes.items ≡ P ++ x ∷ [] → IsSpineGrown s → IsGrown x.object.members.items
@@ -61,29 +61,29 @@ innermost-grown s P x was h = (all-split IsOpenGrown P x (subst (AllByRecursion 
 
 pub opened : (s t : Spine) (x : Open) → IsSpineGrown s → t.root ≡ s.root → t.classes.items ≡ s.classes.items ++ x ∷ [] → x.object.members.items ≡ [] →
     Extends s (lines (suc (length s.classes.items)) (in_front x.name (place_of x.in_array 0) (holds end) end)) (suc (length s.classes.items)) t
-opened s t x h root is none = grind (arith, common_steps, all-append, down-push, forest-members, one-longer)
+opened s t x h root is none = grind (arith, all-append, down-push, forest-members, one-longer)
 
 -- ---- closing
 
 pub closed : (s o t : Spine) (x : Open) → o.root ≡ s.root → s.classes.items ≡ o.classes.items ++ x ∷ [] →
     Extends o (lines (suc (length o.classes.items)) (in_front x.name (place_of x.in_array 0) (body (Class x.object)) end)) (length o.classes.items) t →
     Extends s [] (length s.classes.items - 1) t
-closed s o t x root was e = grind (arith, common_steps, append-nil, body-Class, down-push, one-longer)
+closed s o t x root was e = grind (arith, append-nil, body-Class, down-push, one-longer)
 
 -- ---- a line
 
 empty-text : (s : Bytes) → is_empty_text s ≡ true → s ≡ []
-empty-text s h = grind (arith, common_steps)
+empty-text s h = grind arith
 
 some-place : (a : Bool) → is_some (place_of a 0) ≡ a
-some-place a = grind (arith, common_steps)
+some-place a = grind arith
 
 line-is : (d : ℕ) (a : Bool) (l : Line) (k : Kind) (s : Bytes) → d ≡ l.depth → l.kind ≡ k → l.text ≡ s →
     (let x : Line = record { depth = d; name = l.name; in_array = is_some (place_of l.in_array 0); kind = k; text = s } in x) ≡ l
-line-is d a l k s deep kin is = grind (arith, common_steps, some-place)
+line-is d a l k s deep kin is = grind (arith, some-place)
 
 has-line : (s t u : Spine) (l : Line) (n : ℕ) (R : List Line) → lines_of t ≡ lines_of s ++ [] → Extends t R n u → R ≡ l ∷ [] → deepest (l ∷ []) ≡ suc n → HasLine s l u
-has-line s t u l n R same e is deep = grind (arith, common_steps, append-nil, back-push)
+has-line s t u l n R same e is deep = grind (arith, append-nil, back-push)
 
 pub has-class : (s t u : Spine) (l : Line) → may_come (back (lines_of s)) l ≡ true → l.kind ≡ kind.Class → Extends s [] (l.depth - 1) t →
     Extends t (lines (suc (length t.classes.items)) (in_front l.name (place_of l.in_array 0) (holds end) end)) (suc (length t.classes.items)) u → HasLine s l u
@@ -120,7 +120,7 @@ pub finished : (s t : Spine) → Extends s [] 0 t → lines 1 (forest t.root) �
 finished s t e = sym (ap (lines_down 1 (forest t.root)) (none-left t.classes.items e.depth)) ∙ e.lines ∙ append-nil (lines_of s)
 
 pub finished-sound : (s t : Spine) → Extends s [] 0 t → is_outline (lines_of s) ≡ true → IsSound (forest t.root)
-finished-sound s t e h = grind (arith, common_steps, finished, forest-members, outline-sound)
+finished-sound s t e h = grind (arith, finished, forest-members, outline-sound)
 
 pub finished-filled : (s t : Spine) → Extends s [] 0 t → IsFilled t.root
 finished-filled s t e = object-filled t.root e.grown.root.filled

@@ -3,7 +3,6 @@ use Rattle.std.proofs.Common.{◌≡◌, ◌≢◌, ◌≤◌, ℕ, List, [], �
 use Rattle.std.specs.Char.{encode_utf8}
 use Rattle.std.specs.Iterator.{AlwaysYields}
 use Rattle.std.proofs.lemmas.Bool.{ne_eqb, cond-false}
-use Rattle.std.proofs.lemmas.Grind.{common_steps}
 use Rattle.iodef_tree.proofs.Characters.{AreHigh, encode_utf8-cases}
 use Rattle.iodef_tree.specs.Text.{Tokens}
 use Rattle.iodef_tree.specs.Pointer.{escaped_by, with_first, unescaped_from, unescaped, each_unescaped, pointer_tokens}
@@ -13,13 +12,13 @@ abbrev pub made_then : {A : Type 0} → List A → Option (List A) → Option (L
 made_then made rest = option_map (λ xs. made ++ xs) rest
 
 pub made_then-nil : {A : Type 0} (rest : Option (List A)) → made_then [] rest ≡ rest
-made_then-nil rest = grind (arith, common_steps)
+made_then-nil rest = grind arith
 
 pub made_then-append : {A : Type 0} (a b : List A) (rest : Option (List A)) → made_then (a ++ b) rest ≡ made_then a (made_then b rest)
-made_then-append a b rest = grind (arith, common_steps, append_assoc)
+made_then-append a b rest = grind (arith, append_assoc)
 
 pub made_then-first : {A : Type 0} (x : A) (rest : Option (List A)) → made_then (x ∷ []) rest ≡ with_first (Some x) rest
-made_then-first x rest = grind (arith, common_steps)
+made_then-first x rest = grind arith
 
 -- a byte that is no tilde stands for itself
 plain_byte : (b : ℕ) (rest : List ℕ) → b ≢ 126 → unescaped_from false (b ∷ rest) ≡ made_then (b ∷ []) (unescaped_from false rest)
@@ -32,7 +31,7 @@ high_bytes (b ∷ bs) rest h =
 
 -- and so does a character
 unescaped_from-plain : (c : ℕ) (rest : List ℕ) → c ≢ 126 → unescaped_from false (encode_utf8 c ++ rest) ≡ made_then (encode_utf8 c) (unescaped_from false rest)
-unescaped_from-plain c rest n = grind (arith, common_steps, encode_utf8-cases, high_bytes, plain_byte)
+unescaped_from-plain c rest n = grind (arith, encode_utf8-cases, high_bytes, plain_byte)
 
 -- a tilde stands for nothing yet
 unescaped_from-tilde : (c : ℕ) (rest : List ℕ) → c ≡ 126 → unescaped_from false (encode_utf8 c ++ rest) ≡ unescaped_from true rest
@@ -44,18 +43,18 @@ no_code b h = cond-false _ _ _ (ne_eqb b 48 (omega arith)) ∙ cond-false _ _ _ 
 
 -- behind a tilde a character is read as its code says
 unescaped_from-behind : (c : ℕ) (rest : List ℕ) → unescaped_from true (encode_utf8 c ++ rest) ≡ with_first (escaped_by c) (unescaped_from false rest)
-unescaped_from-behind c rest = grind (arith, common_steps, encode_utf8-cases, no_code)
+unescaped_from-behind c rest = grind (arith, encode_utf8-cases, no_code)
 
 -- what a code stands for is one byte
 encode_utf8-code : (c b : ℕ) → escaped_by c ≡ Some b → encode_utf8 b ≡ b ∷ []
 unfolding encode_utf8
-encode_utf8-code c b h = grind (arith, common_steps)
+encode_utf8-code c b h = grind arith
 
 -- ---- the steps of the reading, each over the token so far, what is left from the character on, and what is left behind it
 
 module _ (kept left rest : List ℕ) (whole : Option (List ℕ)) where
   pub plain_step : (c : ℕ) → left ≡ encode_utf8 c ++ rest → c ≢ 126 → made_then kept (unescaped_from false left) ≡ whole → made_then (kept ++ encode_utf8 c) (unescaped_from false rest) ≡ whole
-  plain_step c e n h = grind (arith, common_steps, made_then-append, unescaped_from-plain)
+  plain_step c e n h = grind (arith, made_then-append, unescaped_from-plain)
 
   pub tilde_step : (c : ℕ) → left ≡ encode_utf8 c ++ rest → c ≡ 126 → made_then kept (unescaped_from false left) ≡ whole → made_then kept (unescaped_from true rest) ≡ whole
   tilde_step c e t h = ap (made_then kept) (sym (unescaped_from-tilde c rest t) ∙ ap (unescaped_from false) (sym e)) ∙ h
@@ -68,7 +67,7 @@ module _ (kept left rest : List ℕ) (whole : Option (List ℕ)) where
       ∙ h
 
   pub no_code_step : (c : ℕ) → left ≡ encode_utf8 c ++ rest → escaped_by c ≡ None → made_then kept (unescaped_from true left) ≡ whole → whole ≡ None
-  no_code_step c e stands h = grind (arith, common_steps, unescaped_from-behind)
+  no_code_step c e stands h = grind (arith, unescaped_from-behind)
 
 -- ---- the steps over the tokens, each over those so far and what the iterator has left
 
@@ -109,4 +108,4 @@ module _ {S A : Type 0} (steps : S → Option A → S → Type 0) (written : A �
 
 -- what is not empty and begins with no slash is no pointer
 pub pointer_tokens-none : (text : List ℕ) → text ≢ [] → ((rest : List ℕ) → text ≢ 47 ∷ rest) → pointer_tokens text ≡ None
-pointer_tokens-none text some none = grind (arith, common_steps, cond-false, ne_eqb)
+pointer_tokens-none text some none = grind (arith, cond-false, ne_eqb)

@@ -4,7 +4,6 @@ use Rattle.std.specs.List.{AllByRecursion}
 use Rattle.std.specs.Option.{option_map_or}
 use Rattle.std.proofs.lemmas.Bool.{and_parts, ltb-true}
 use Rattle.std.proofs.lemmas.Slice.Eq.{bytes_eq-Decides}
-use Rattle.std.proofs.lemmas.Grind.{common_steps}
 use Rattle.serde_json.specs.Data as json
 use Rattle.serde_json.specs.Data.{Data, depth, items_depth}
 use Rattle.serde_json.specs.Read.{max_depth, read}
@@ -22,7 +21,7 @@ use Rattle.iodef_tree.specs.declared.line.Kind.TheVariants as kind
 -- ---- a tree, member by member
 
 texts-in_front : (name : Bytes) (place : Option ℕ) (b : Body) (rest : Forest) → HasBodyTexts (is_some place) b → HasTexts rest → HasTexts (in_front name place b rest)
-texts-in_front name place b rest h k = grind (arith, common_steps)
+texts-in_front name place b rest h k = grind arith
 
 texts-elements : (name : Bytes) (bs : List Body) (k : ℕ) (rest : Forest) → AllByRecursion (HasBodyTexts true) bs → HasTexts rest → HasTexts (elements name k bs rest)
 texts-elements name [] k rest all r = r

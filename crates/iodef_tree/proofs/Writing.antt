@@ -14,29 +14,29 @@ use Rattle.iodef_tree.proofs.Members.{members-next}
 
 written-front : (later : Bool) (n : Bytes) (p : Option ℕ) (b : Body) (rest : Forest) →
     written later (in_front n p b rest) ≡ front_text later n p ++ (body_text b ++ (close_text p rest ++ written true rest))
-written-front later n p b rest = grind (arith, common_steps)
+written-front later n p b rest = grind arith
 
 goes_on-front : (n : Bytes) (k : ℕ) (b : Body) (rest : Forest) → goes_on (in_front n (Some (suc k)) b rest) ≡ true
-goes_on-front n k b rest = grind (arith, common_steps)
+goes_on-front n k b rest = grind arith
 
 -- an array from its second element on
 written-elements : (n : Bytes) (k : ℕ) (bs : List Body) (rest : Forest) → goes_on rest ≡ false →
     close_text (Some k) (elements n (suc k) bs rest) ++ written true (elements n (suc k) bs rest) ≡ array_text true bs ++ written true rest
 written-elements n k [] rest fresh = ap (λ b. (if b then [] else 93 ∷ []) ++ written true rest) fresh
-written-elements n k (b ∷ bs) rest fresh = grind (arith, common_steps, append_assoc, goes_on-front, written-front, (written-elements n (suc k) bs rest fresh))
+written-elements n k (b ∷ bs) rest fresh = grind (arith, append_assoc, goes_on-front, written-front, (written-elements n (suc k) bs rest fresh))
 
 pub named-front : (later : Bool) (n s t : Bytes) → (comma_if later ++ (quoted n ++ 58 ∷ s)) ++ t ≡ comma_if later ++ (quoted n ++ 58 ∷ (s ++ t))
-named-front later n s t = grind (arith, common_steps, append_assoc)
+named-front later n s t = grind (arith, append_assoc)
 
 pub written-member : (later : Bool) (n : Bytes) (m : Bodies) (rest : Forest) → goes_on rest ≡ false → has_elements m ≡ true →
     written later (member_front n m rest) ≡ member_text later n m ++ written true rest
-written-member later n m rest fresh filled = grind (arith, common_steps, append_assoc, named-front, written-elements, written-front)
+written-member later n m rest fresh filled = grind (arith, append_assoc, named-front, written-elements, written-front)
 
 goes_on-one : (n : Bytes) (b : Body) (rest : Forest) → goes_on (in_front n None b rest) ≡ false
-goes_on-one n b rest = grind (arith, common_steps)
+goes_on-one n b rest = grind arith
 
 goes_on-first : (n : Bytes) (b : Body) (rest : Forest) → goes_on (in_front n (Some 0) b rest) ≡ false
-goes_on-first n b rest = grind (arith, common_steps)
+goes_on-first n b rest = grind arith
 
 -- no member begins amid an array
 pub goes_on-members : (ms : List (Bytes × Bodies)) → goes_on (forest_of_members ms) ≡ false

@@ -1,6 +1,5 @@
 use Rattle.std.proofs.Common.{◌≡◌, List, [], ◌∷◌, ◌++◌, true, sym, ◌∙◌, ap, subst, arith}
 use Rattle.std.proofs.lemmas.Slice.Eq.{bytes_eq-Decides}
-use Rattle.std.proofs.lemmas.Grind.{common_steps}
 use Rattle.iodef_tree.specs.Text.{Bytes}
 use Rattle.iodef_tree.specs.View.{body}
 use Rattle.iodef_tree.specs.Built.{IsGrown, Grows}
@@ -11,7 +10,7 @@ use Rattle.iodef_tree.proofs.Growing.{grows-element, first-behind_one, first-beh
 use Rattle.iodef_tree.proofs.builder.attach_element.Goals as goal
 
 pub attach_array-requires-in-One-clause-first : goal.attach_array-requires-in-One-clause-first
-attach_array-requires-in-One-clause-first c = grind (arith, common_steps, first-behind_one)
+attach_array-requires-in-One-clause-first c = grind (arith, first-behind_one)
 
 pub returns-then-eq : goal.returns-then-eq
 returns-then-eq c =
@@ -29,4 +28,4 @@ returns-then-eq c =
     (grows-element P last c.args.item items c.push-then-eq.new.self c.in_ok-push-in-Many.ensures.items grown c.requires.numbered c.requires.filled)))
 
 pub attach_array-requires-in-Many-clause-first : goal.attach_array-requires-in-Many-clause-first
-attach_array-requires-in-Many-clause-first c = grind (arith, common_steps, first-behind_many)
+attach_array-requires-in-Many-clause-first c = grind (arith, first-behind_many)

@@ -1,5 +1,4 @@
 use Rattle.std.proofs.Common.{◌≡◌, true, ap, map, sym, ◌∙◌, subst, arith}
-use Rattle.std.proofs.lemmas.Grind.{common_steps}
 use Rattle.serde_json.specs.View.{view, items_view}
 use Rattle.serde_json.specs.declared.value.Value.{Array}
 use Rattle.serde_json.proofs.Views.{view-Array}
@@ -14,13 +13,13 @@ use Rattle.iodef_tree.proofs.Views.{body-Value, bodies-Many, forest-made}
 use Rattle.iodef_tree.proofs.convert.+convert.Goals as goal
 
 pub array_from-returns-in_ok-items_from-clause-made : goal.array_from-returns-in_ok-items_from-clause-made
-array_from-returns-in_ok-items_from-clause-made t c = grind (arith, common_steps, bodies-Many, many_done)
+array_from-returns-in_ok-items_from-clause-made t c = grind (arith, bodies-Many, many_done)
 
 pub object_from-returns-clause-made : goal.object_from-returns-clause-made
 object_from-returns-clause-made t c = forest-made c.loop-name.made ∙ members_done (map named c.loop-name.made.items) c.args.members.entries c.loop-name.name-iterator c.in-None.ensures.steps.0 c.loop-name.invariant.made
 
 pub object_from-returns-clause-ordered : goal.object_from-returns-clause-ordered
-object_from-returns-clause-ordered t c = grind (arith, common_steps, all_given, ascend_given, forest-made, ordered_members)
+object_from-returns-clause-ordered t c = grind (arith, all_given, ascend_given, forest-made, ordered_members)
 
 pub object_from-returns-clause-texts : goal.object_from-returns-clause-texts
 object_from-returns-clause-texts t c = subst HasTexts (sym (forest-made c.loop-name.made)) (texts-members (map named c.loop-name.made.items) c.loop-name.invariant.texts)
@@ -37,4 +36,4 @@ pub object_from-returns-clause-filled : goal.object_from-returns-clause-filled
 object_from-returns-clause-filled t c = made-filled c.loop-name.made c.loop-name.invariant.filled
 
 pub array_from-returns-in_ok-items_from-clause-filled : goal.array_from-returns-in_ok-items_from-clause-filled
-array_from-returns-in_ok-items_from-clause-filled t c = grind (arith, common_steps, many-filled, some_given)
+array_from-returns-in_ok-items_from-clause-filled t c = grind (arith, many-filled, some_given)

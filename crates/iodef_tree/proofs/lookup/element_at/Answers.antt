@@ -2,7 +2,6 @@ use Rattle.std.proofs.Common.{◌≡◌, ℕ, zero, suc, ◌+◌, ◌<◌, ◌�
 use Rattle.std.proofs.lemmas.Bool.Decides.{nat_tests}
 use Rattle.std.proofs.lemmas.List.{length-map}
 use Rattle.std.proofs.lemmas.Option.{slice_get_past}
-use Rattle.std.proofs.lemmas.Grind.{common_steps}
 use Rattle.iodef_tree.specs.View.{body}
 use Rattle.iodef_tree.specs.declared.object.Item.{Item}
 use Rattle.iodef_tree.proofs.ByPath.{element-spelled, element-none}
@@ -20,7 +19,7 @@ got items k None h is =
 got items k (Some x) h is = let lt : k < length items = grind (arith, nat_tests) in ap (λ y. Some (body y)) is ∙ sym (within items k x.now lt)
 
 pub returns-in_err-place_of_token-clause-found : goal.returns-in_err-place_of_token-clause-found
-returns-in_err-place_of_token-clause-found c = grind (arith, common_steps, element-none, length-map)
+returns-in_err-place_of_token-clause-found c = grind (arith, element-none, length-map)
 
 pub returns-clause-found : goal.returns-clause-found
 returns-clause-found c =

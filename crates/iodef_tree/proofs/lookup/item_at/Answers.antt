@@ -1,5 +1,4 @@
 use Rattle.std.proofs.Common.{◌≡◌, true, sym, ◌∙◌, ap, bytes_eq, arith}
-use Rattle.std.proofs.lemmas.Grind.{common_steps}
 use Rattle.iodef_tree.proofs.Filled.{member-at}
 use Rattle.iodef_tree.proofs.Members.{found-here, not-here, other-here}
 use Rattle.iodef_tree.proofs.lookup.item_at.Goals.{then-eq+else-is_some, else-eq}
@@ -27,4 +26,4 @@ loop-own-preserved c = elim c.if-eq.branch [
 ]
 
 pub part_of-part-requires : goal.part_of-part-requires
-part_of-part-requires c = grind (arith, common_steps, member-at)
+part_of-part-requires c = grind (arith, member-at)

@@ -2,7 +2,6 @@ use Rattle.std.proofs.Common.{◌≡◌, ℕ, ◌<◌, ◌^◌, false, Option, S
 use Rattle.std.specs.Result.{result_ok}
 use Rattle.std.specs.Str.Parse.{ParsesUnsigned}
 use Rattle.std.proofs.lemmas.Fmt.{parse-decimal}
-use Rattle.std.proofs.lemmas.Grind.{common_steps}
 use Rattle.iodef_tree.specs.Text.{Bytes}
 use Rattle.iodef_tree.proofs.Order.{bytes_eq-refl}
 use Rattle.iodef_tree.proofs.lookup.place_of_token.Goals as goal
@@ -23,7 +22,7 @@ misread token r o place digits parses is some written differ k small spelled =
     true≢false (sym (bytes_eq-refl digits) ∙ ap (bytes_eq digits) text ∙ differ)
 
 pub returns-in_err-place-clause-none : goal.returns-in_err-place-clause-none
-returns-in_err-place-clause-none c = grind (arith, common_steps, unread)
+returns-in_err-place-clause-none c = grind (arith, unread)
 
 pub returns-else-eq-clause-none : goal.returns-else-eq-clause-none
-returns-else-eq-clause-none c = grind (arith, common_steps, misread)
+returns-else-eq-clause-none c = grind (arith, misread)

@@ -26,4 +26,4 @@ pub loop-c-preserved-then-c-eq126 : goal.loop-c-preserved-then-c-eq126
 loop-c-preserved-then-c-eq126 c = grind (arith, common_steps, tilde_step)
 
 pub loop-c-preserved : goal.loop-c-preserved
-loop-c-preserved c = grind (arith, common_steps, plain_step)
+loop-c-preserved c = grind (arith, plain_step)

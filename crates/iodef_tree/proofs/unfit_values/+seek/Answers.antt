@@ -7,4 +7,4 @@ pub first_in_items-returns-in-Some : goal.first_in_items-returns-in-Some
 first_in_items-returns-in-Some t c = grind (arith, common_steps, first_at-none, first_at-some)
 
 pub first_in_members-returns-in-Some-2 : goal.first_in_members-returns-in-Some-2
-first_in_members-returns-in-Some-2 t c = grind (arith, common_steps, first_at-none, first_at-some)
+first_in_members-returns-in-Some-2 t c = grind (arith, first_at-none, first_at-some)

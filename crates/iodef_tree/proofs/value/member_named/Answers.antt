@@ -7,7 +7,7 @@ use Rattle.iodef_tree.proofs.MembersByName.{object-members, kept-members, member
 use Rattle.iodef_tree.proofs.value.member_named.Goals as goal
 
 pub loop-own-init : goal.loop-own-init
-loop-own-init c = grind (arith, common_steps, kept-members, object-members)
+loop-own-init c = grind (arith, kept-members, object-members)
 
 pub returns-then-eq-clause-found : goal.returns-then-eq-clause-found
 returns-then-eq-clause-found c =
@@ -22,7 +22,7 @@ pub returns-then-eq-clause-kept : goal.returns-then-eq-clause-kept
 returns-then-eq-clause-kept c = grind (arith, common_steps, all-left)
 
 pub returns-then-eq-clause-filled : goal.returns-then-eq-clause-filled
-returns-then-eq-clause-filled c = grind (arith, common_steps, member-at)
+returns-then-eq-clause-filled c = grind (arith, member-at)
 
 pub loop-own-preserved : goal.loop-own-preserved
 loop-own-preserved c =

@@ -8,7 +8,7 @@ use Rattle.iodef_tree.proofs.Spines.{innermost-grown, closed}
 use Rattle.iodef_tree.proofs.builder.Spine.close.Goals as goal
 
 pub put-requires-clause-numbered : goal.put-requires-clause-numbered
-put-requires-clause-numbered c = grind (arith, common_steps, body-Class, forest-members, innermost-grown)
+put-requires-clause-numbered c = grind (arith, body-Class, forest-members, innermost-grown)
 
 pub put-requires-clause-filled : goal.put-requires-clause-filled
 put-requires-clause-filled c = grind (arith, common_steps, filled-Class, innermost-grown, object-filled)

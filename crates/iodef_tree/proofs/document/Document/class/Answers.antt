@@ -1,5 +1,4 @@
 use Rattle.std.proofs.Common.{◌≡◌, Bor, Option, Some, None, option_map, [], IfSome, arith}
-use Rattle.std.proofs.lemmas.Grind.{common_steps}
 use Rattle.iodef_tree.specs.Lookup.{object_at}
 use Rattle.iodef_tree.specs.Paths.{located}
 use Rattle.iodef_tree.specs.Sound.{IsSound}
@@ -22,4 +21,4 @@ returns-clause-found c =
     rw (← c.tokens.ensures, ← c.self.view_is) (found-onward f c.tokens.result.now c.object_at.result c.object_at.ensures.found (located (lines 1 f)) [] (root-stands f c.self.invariant.0))
 
 pub returns-clause-block : goal.returns-clause-block
-returns-clause-block c = grind (arith, common_steps, block_of)
+returns-clause-block c = grind (arith, block_of)
