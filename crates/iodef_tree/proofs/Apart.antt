@@ -72,11 +72,8 @@ IsLater n o n' o' = (bytes_lt n n' ≡ true) ⊎ ((n ≡ n') × IsPlaceLater o o
 later-next : (n : Bytes) (o : Option ℕ) (n' : Bytes) (o' : Option ℕ) → may_stand_behind (n, o) n' o' ≡ true → IsLater n o n' o'
 later-next n o n' o' h = grind (arith, and_parts, bytes_eq-true, eqb-true, false≢true)
 
-place_later-trans : (a b c : Option ℕ) → IsPlaceLater a b → IsPlaceLater b c → IsPlaceLater a c
-place_later-trans a b c h k = grind arith
-
 later-trans : (n : Bytes) (o : Option ℕ) (n' : Bytes) (o' : Option ℕ) (n'' : Bytes) (o'' : Option ℕ) → IsLater n o n' o' → IsLater n' o' n'' o'' → IsLater n o n'' o''
-later-trans n o n' o' n'' o'' h h' = grind (arith, bytes_lt-trans, place_later-trans)
+later-trans n o n' o' n'' o'' h h' = grind (arith, bytes_lt-trans)
 
 later-behind : (f : Forest) (n : Bytes) (o : Option ℕ) → IsOrderedBehind (Some (n, o)) f → AllSiblings (IsLater n o) f
 later-behind end n o ordered = tt

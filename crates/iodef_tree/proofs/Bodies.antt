@@ -35,11 +35,8 @@ each_fit ms (json.item d ds) low free f flat g h =
       each_fit ms ds low free w.1 flat x.1 (omega arith),
     )
 
-array_of : (e : Data) (ds : json.Items) → as_array e ≡ Some ds → e ≡ json.array ds
-array_of e ds h = grind arith
-
 pub found_array : (o : Option Data) (ds : json.Items) → option_and_then if_incidents (option_and_then as_array o) ≡ Some ds → o ≡ Some (json.array ds)
-found_array o ds e = grind (arith, array_of, cond_some)
+found_array o ds e = grind (arith, cond_some)
 
 pub fit_object : (ms : json.Members) (ds : json.Items) → IsPlain (json.object ms) → get_member (codes "Incident") ms ≡ Some (json.array ds) → AreFit ms ds
 fit_object ms ds p at =

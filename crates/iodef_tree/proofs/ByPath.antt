@@ -5,7 +5,7 @@ use Rattle.std.specs.List.{AllByRecursion, slice_get}
 use Rattle.std.proofs.lemmas.Bool.{and_left, and_right, cond-true, cond-false, cond_both}
 use Rattle.std.proofs.lemmas.List.Folds.{list_any-append}
 use Rattle.iodef_tree.specs.Text.{Bytes, Tokens, same_path, is_root, is_prefix}
-use Rattle.iodef_tree.specs.Tree.{Content, Forest, end, leaf, branch, Body, Bodies, in_front, elements, member_front, steps, kind_of}
+use Rattle.iodef_tree.specs.Tree.{Content, Forest, end, leaf, branch, Body, Bodies, elements, member_front, steps, kind_of}
 use Rattle.iodef_tree.specs.Paths.{LocatedLine, is_class_kind, is_class, placed, located_after, located, has_class}
 use Rattle.iodef_tree.specs.Walk.{walk}
 use Rattle.iodef_tree.specs.Laws.{AllSiblings, AreApart, HasApart}
@@ -117,32 +117,24 @@ has_class-root ls = root-none [] ls
 abbrev pub part_or : Bodies → Tokens → Option Forest → Option Forest
 part_or m p rest = option_map_or (λ (r : Body × Tokens). object_in r.0 r.1) (part_at m p) rest
 
-class_at-in_front : (n : Bytes) (b : Body) (rest : Forest) (x : Bytes) (p : Tokens) →
-    class_at (in_front n None b rest) (x ∷ p) ≡ cond (bytes_eq n x) (object_in b p) (class_at rest (x ∷ p))
-class_at-in_front n b rest x p = grind arith
-
-class_at-element : (n : Bytes) (k : ℕ) (b : Body) (rest : Forest) (x : Bytes) (p : Tokens) →
-    class_at (in_front n (Some k) b rest) (x ∷ p) ≡ option_map_or (object_in b) (past (n ∷ decimal k ∷ []) (x ∷ p)) (class_at rest (x ∷ p))
-class_at-element n k b rest x p = grind arith
-
 elements-short : (bs : List Body) (n : Bytes) (k : ℕ) (rest : Forest) (x : Bytes) → class_at (elements n k bs rest) (x ∷ []) ≡ class_at rest (x ∷ [])
 elements-short [] n k rest x = refl
-elements-short (b ∷ bs) n k rest x = grind (arith, class_at-element, cond_both, (elements-short bs n (suc k) rest x))
+elements-short (b ∷ bs) n k rest x = grind (arith, cond_both, (elements-short bs n (suc k) rest x))
 
 elements-other : (bs : List Body) (n : Bytes) (k : ℕ) (rest : Forest) (x : Bytes) (p : Tokens) → bytes_eq n x ≡ false → class_at (elements n k bs rest) (x ∷ p) ≡ class_at rest (x ∷ p)
 elements-other [] n k rest x p h = refl
-elements-other (b ∷ bs) n k rest x p h = grind (arith, class_at-element, (elements-other bs n (suc k) rest x p h))
+elements-other (b ∷ bs) n k rest x p h = grind (arith, (elements-other bs n (suc k) rest x p h))
 
 elements-here : (bs : List Body) (n : Bytes) (k : ℕ) (rest : Forest) (x y : Bytes) (p : Tokens) → bytes_eq n x ≡ true →
     class_at (elements n k bs rest) (x ∷ y ∷ p) ≡ option_map_or (λ (r : Body × Tokens). object_in r.0 r.1) (option_map (λ b. (b, p)) (element_at y k bs)) (class_at rest (x ∷ y ∷ p))
 elements-here [] n k rest x y p h = refl
-elements-here (b ∷ bs) n k rest x y p h = grind (arith, class_at-element, (elements-here bs n (suc k) rest x y p h))
+elements-here (b ∷ bs) n k rest x y p h = grind (arith, (elements-here bs n (suc k) rest x y p h))
 
 pub class_at-here : (m : Bodies) (n : Bytes) (rest : Forest) (x : Bytes) (p : Tokens) → bytes_eq n x ≡ true → class_at (member_front n m rest) (x ∷ p) ≡ part_or m p (class_at rest (x ∷ p))
-class_at-here m n rest x p h = grind (arith, class_at-in_front, cond-true, elements-here, elements-short)
+class_at-here m n rest x p h = grind (arith, cond-true, elements-here, elements-short)
 
 pub class_at-other : (m : Bodies) (n : Bytes) (rest : Forest) (x : Bytes) (p : Tokens) → bytes_eq n x ≡ false → class_at (member_front n m rest) (x ∷ p) ≡ class_at rest (x ∷ p)
-class_at-other m n rest x p h = grind (arith, class_at-in_front, cond-false, elements-other)
+class_at-other m n rest x p h = grind (arith, cond-false, elements-other)
 
 -- ---- the elements of an array
 

@@ -47,10 +47,10 @@ later-items n k (b ∷ bs) rest h = front-items n (Some (suc k)) b (elements n (
 -- no member begins amid an array
 pub no-items : (ms : List (Bytes × Bodies)) → items_of (forest_of_members ms) ≡ json.no_items
 no-items ((n, many []) ∷ ms) = no-items ms
-no-items ms = grind (arith, front-items)
+no-items ms = grind arith
 
 pub member-data : (n : Bytes) (m : Bodies) (rest : Forest) → items_of rest ≡ json.no_items → has_elements m ≡ true → members_of (member_front n m rest) ≡ json.member n (bodies_data m) (members_of rest)
-member-data n m rest fresh filled = grind (arith, front-members, later-items, later-members)
+member-data n m rest fresh filled = grind (arith, later-items, later-members)
 
 -- ---- what is ordered is so inside
 

@@ -50,7 +50,7 @@ one_more s d front rest is = grind arith
 pub documents_then : (root : json.Members) (vs : List Value) (v : Value)
     → documents root (items_view (vs ++ v ∷ [])) ≡ (documents root (items_view vs) >>= λ front. if_short (lines 1 (document_of (view v) root)) >>= λ d. Ok (front ++ d ∷ []))
 documents_then root [] v = refl
-documents_then root (w ∷ vs) v = grind (arith, one_more, (documents_then root vs v))
+documents_then root (w ∷ vs) v = grind (arith, (documents_then root vs v))
 
 pub fails_then : {A B : Type 0} (e : ReadFault) (r : Result A ReadFault) (f : A → Result B ReadFault) → Fails e r → Fails e (r >>= f)
 fails_then e r f h = grind arith
@@ -74,7 +74,7 @@ failed_front root vs v e h = subst (Fails e) (sym (documents_then root vs v)) (f
 
 pub failed_last : (root : json.Members) (vs : List Value) (v : Value) (front : List (List Line)) (e : ReadFault) → documents root (items_view vs) ≡ Ok front → Fails e (if_short (lines 1 (document_of (view v) root)))
     → Fails e (documents root (items_view (vs ++ v ∷ [])))
-failed_last root vs v front e h k = grind (arith, documents_then, fails_then)
+failed_last root vs v front e h k = grind (arith, documents_then)
 
 pub fit_parts : (root : json.Members) (vs : List Value) (v : Value) → AreFit root (items_view (vs ++ v ∷ [])) → AreFit root (items_view vs) × IsFit root (view v)
 fit_parts root [] v h = (tt, h.0)

@@ -71,7 +71,7 @@ none-refused (n ∷ ns) a b c = grind (arith, (none-refused ns))
 
 pub plain_ok : (d : Data) → all_fit d ≡ Ok tt → IsPlain d
 unfolding all_fit
-plain_ok d e = grind (arith, bind-ok, none-refused, none_if_ok)
+plain_ok d e = grind (arith, none-refused)
 
 -- where no value is refused, none of the three is found
 none_found : (f : Surrounded → Bool) → ((s : Surrounded) → IsAllowed s → f s ≡ false) → (ns : List Node) → AreClear ns → first_at f ns ≡ None

@@ -1,7 +1,7 @@
 -- A member in front of others: what is made of it, joined with what is made of those.
-use Rattle.std.proofs.Common.{◌≡◌, ℕ, suc, ◌+◌, ◌<◌, max, List, [], ◌∷◌, ◌++◌, length, get_or, drop, refl, ◌∙◌, ap, append_assoc, arith, Option}
+use Rattle.std.proofs.Common.{◌≡◌, ℕ, suc, ◌+◌, ◌<◌, max, List, [], ◌∷◌, ◌++◌, length, get_or, drop, refl, ◌∙◌, ap, append_assoc, arith}
 use Rattle.iodef_tree.specs.Text.{Bytes}
-use Rattle.iodef_tree.specs.Tree.{Forest, end, leaf, branch, Body, Bodies, in_front, elements, member_front, leaf_line, lines, height}
+use Rattle.iodef_tree.specs.Tree.{Forest, end, leaf, branch, Body, Bodies, elements, member_front, leaf_line, lines, height}
 use Rattle.iodef_tree.specs.View.{bodies, members_forest}
 use Rattle.iodef_tree.specs.declared.text.Text.{Text}
 use Rattle.iodef_tree.specs.declared.object.Member.{Member}
@@ -31,15 +31,12 @@ height-append (branch n p kids rest) g = let later = height-append rest g in ome
 
 -- ---- a member in front is appended to
 
-pub front-append : (n : Bytes) (p : Option ℕ) (b : Body) (f : Forest) → in_front n p b f ≡ append (in_front n p b end) f
-front-append n p b f = grind arith
-
 elements-append : (n : Bytes) (k : ℕ) (bs : List Body) (f : Forest) → elements n k bs f ≡ append (elements n k bs end) f
 elements-append n k [] f = refl
-elements-append n k (b ∷ bs) f = grind (arith, append-assoc, front-append, (elements-append n (suc k) bs f))
+elements-append n k (b ∷ bs) f = grind (arith, append-assoc, (elements-append n (suc k) bs f))
 
 pub member-append : (n : Bytes) (m : Bodies) (f : Forest) → member_front n m f ≡ append (member_front n m end) f
-member-append n m f = grind (arith, elements-append, front-append)
+member-append n m f = grind (arith, elements-append)
 
 -- ---- a loop's step: one more member is in front
 

@@ -18,7 +18,7 @@ use Rattle.iodef_tree.proofs.Filled.{filled-One, has_some-map, many-filled, many
 use Rattle.iodef_tree.proofs.Siblings.{all-append, all-split}
 use Rattle.iodef_tree.proofs.Views.{bodies-One, bodies-Many}
 use Rattle.iodef_tree.proofs.Order.{bytes_eq-refl}
-use Rattle.iodef_tree.proofs.Fronts.{append, append-assoc, lines-append, front-append, member-append}
+use Rattle.iodef_tree.proofs.Fronts.{append, append-assoc, lines-append, member-append}
 
 -- ---- the last of members
 
@@ -43,17 +43,14 @@ members-push ms m = ap forest_of_members (map-append named ms (m ∷ [])) ∙ me
 
 elements-push : (n : Bytes) (k : ℕ) (bs : List Body) (b : Body) → elements n k (bs ++ b ∷ []) end ≡ append (elements n k bs end) (in_front n (Some (k + length bs)) b end)
 elements-push n k [] b = ap (λ j. in_front n (Some j) b end) (omega arith)
-elements-push n k (x ∷ bs) b = grind (arith, append-assoc, front-append, (elements-push n (suc k) bs b))
+elements-push n k (x ∷ bs) b = grind (arith, append-assoc, (elements-push n (suc k) bs b))
 
 last-front : (o : Option SiblingPlace) (n : Bytes) (p : Option ℕ) (b : Body) (f : Forest) → last_place o (in_front n p b f) ≡ last_place (Some (n, p)) f
 last-front o n p b f = grind arith
 
 last-elements : (o : Option SiblingPlace) (n : Bytes) (k : ℕ) (b : Body) (bs : List Body) → last_place o (elements n k (b ∷ bs) end) ≡ Some (n, Some (k + length bs))
 last-elements o n k b [] = last-front o n (Some k) b end ∙ ap (λ j. Some (n, Some j)) (omega arith)
-last-elements o n k b (c ∷ bs) = grind (arith, last-front, (last-elements (Some (n, Some k)) n (suc k) c bs))
-
-numbered-front : (o : Option SiblingPlace) (n : Bytes) (p : Option ℕ) (b : Body) → is_numbered o n p ≡ true → IsBodyNumbered b → IsNumberedBehind o (in_front n p b end)
-numbered-front o n p b h k = grind arith
+last-elements o n k b (c ∷ bs) = grind (arith, (last-elements (Some (n, Some k)) n (suc k) c bs))
 
 -- the lines don't say the number
 lines-front : (d : ℕ) (n : Bytes) (j k : ℕ) (b : Body) → lines d (in_front n (Some j) b end) ≡ lines d (in_front n (Some k) b end)
@@ -65,7 +62,7 @@ lines-front d n j k b = grind arith
 grows : (old new : List (Text × Member)) (n : Bytes) (p : Option ℕ) (in_array : Bool) (b : Body) →
     members_forest new ≡ append (members_forest old) (in_front n p b end) → ((d : ℕ) → lines d (in_front n p b end) ≡ lines d (in_front n (place_of in_array 0) b end)) →
     IsGrown old → IsBodyNumbered b → is_numbered (last_place None (members_forest old)) n p ≡ true → AllByRecursion (λ m. IsMemberFilled m.1) new → Grows old n in_array b new
-grows old new n p in_array b made same h k fits filled = grind (arith, lines-append, numbered-append, numbered-front)
+grows old new n p in_array b made same h k fits filled = grind (arith, lines-append, numbered-append)
 
 -- a member that is no array
 pub grows-one : (old : List (Text × Member)) (n : Text) (i : Item) → IsGrown old → IsBodyNumbered (body i) → IsItemFilled i → Grows old n false (body i) (old ++ (n, One i) ∷ [])

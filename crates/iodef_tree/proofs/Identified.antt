@@ -11,7 +11,6 @@ use Rattle.iodef_tree.specs.Reading.{reading, are_incidents, lacking, documents}
 use Rattle.iodef_tree.specs.Text.{Bytes}
 use Rattle.iodef_tree.specs.declared.fault.Required.{Required}
 use Rattle.iodef_tree.specs.declared.line.Line.{Line}
-use Rattle.iodef_tree.proofs.Fitness.{bind-ok}
 use Rattle.iodef_tree.proofs.Passed.{passed}
 use Rattle.iodef_tree.proofs.ReadBack.{IsRoot, HasLines, means, each-document}
 
@@ -22,7 +21,7 @@ none_said : (b : Bool) (r : Required) (rest : Option Required) → (if b then So
 none_said b r rest h = grind arith
 
 has_id : (d : Data) → lacking d ≡ None → is_none (get id_name d) ≡ false
-has_id d h = grind (arith, none_said)
+has_id d h = grind arith
 
 some_text : (o : Option Data) → is_none o ≡ false → is_some (option_map compact_text o) ≡ true
 some_text o h = grind arith
@@ -42,7 +41,7 @@ has_one (x ∷ xs) = true
 
 some_document : (root : json.Members) (ds : json.Items) (docs : List (List Line)) → are_incidents ds ≡ true → documents root ds ≡ Ok docs → has_one docs ≡ true
 some_document root json.no_items docs some read_as = cc
-some_document root (json.item d ds) docs some read_as = grind (arith, bind-ok)
+some_document root (json.item d ds) docs some read_as = grind arith
 
 -- what a body that can be read has
 pub record IsReported (docs : List (List Line)) : Type 0 where

@@ -6,7 +6,7 @@ use Rattle.std.proofs.lemmas.Bool.{and_parts, and_left, and_right, and_from, fal
 use Rattle.std.proofs.lemmas.List.Sums.{sum_by-cons}
 use Rattle.std.proofs.lemmas.Grind.{common_steps}
 use Rattle.iodef_tree.specs.Text.{Bytes, Tokens, bytes_lt}
-use Rattle.iodef_tree.specs.Tree.{Forest, end, leaf, branch, place_of, lines, leaf_line, class_line}
+use Rattle.iodef_tree.specs.Tree.{Forest, end, leaf, branch, lines, leaf_line, class_line}
 use Rattle.iodef_tree.specs.Paths.{LocatedLine, is_one_less_deep, parent_path, is_like, place_among, entry_at, placed, located_after, located}
 use Rattle.iodef_tree.specs.Sound.{SiblingPlace, may_stand, may_stand_behind, may_stand_first, IsOrderedBehind, IsSound}
 use Rattle.iodef_tree.specs.Walk.{leaf_entry, class_entry, walk}
@@ -21,15 +21,12 @@ parent-past x before d h = ap (λ b. option_map_or (λ (e : LocatedLine). e.path
 parent-here : (x : LocatedLine) (before : List LocatedLine) (d : ℕ) → is_one_less_deep d x ≡ true → parent_path (x ∷ before) d ≡ x.path
 parent-here x before d h = ap (λ b. option_map_or (λ (e : LocatedLine). e.path) (cond b (Some x) (find (is_one_less_deep d) before)) []) h
 
-before_first-past : {X : Type 0} (p : X → Bool) (x : X) (xs : List X) → p x ≡ false → before_first p (x ∷ xs) ≡ x ∷ before_first p xs
-before_first-past {X} p x xs h = grind arith
-
 before_first-here : {X : Type 0} (p : X → Bool) (x : X) (xs : List X) → p x ≡ true → before_first p (x ∷ xs) ≡ []
 before_first-here {X} p x xs h = ap (λ b. take (cond (not b) (1 + prefix_len (λ y. not (p y)) xs) 0) (x ∷ xs)) h
 
 place-past : (x : LocatedLine) (before : List LocatedLine) (d : ℕ) (name : Bytes) → is_one_less_deep d x ≡ false →
     place_among (x ∷ before) d name ≡ cond (is_like d name x) 1 0 + place_among before d name
-place-past x before d name h = grind (arith, common_steps, before_first-past, sum_by-cons)
+place-past x before d name h = grind (arith, common_steps, sum_by-cons)
 
 place-here : (x : LocatedLine) (before : List LocatedLine) (d : ℕ) (name : Bytes) → is_one_less_deep d x ≡ true → place_among (x ∷ before) d name ≡ 0
 place-here x before d name h = ap (count_by (is_like d name)) (before_first-here (is_one_less_deep d) x before h)
@@ -106,14 +103,9 @@ stands-past_walk (branch name place kids rest) k q before d p s deep h =
     (stands-past_walk rest k q (rev_onto inner (x ∷ before)) d p s deep
     (stands-past_walk kids (suc k) x.path (x ∷ before) d p s (omega arith) (stands-past x before d p s deep h)))
 
--- a line's entry, where it stands
-place-is : (before : List LocatedLine) (d : ℕ) (p : Tokens) (s : Option SiblingPlace) (name : Bytes) (o : Option ℕ) → Stands before d p s → may_stand s name o ≡ true →
-    place_of (is_some o) (place_among before d name) ≡ o
-place-is before d p s name o h may = grind arith
-
 placed-is : (before : List LocatedLine) (l : Line) (p : Tokens) (s : Option SiblingPlace) (o : Option ℕ) → Stands before l.depth p s → may_stand s l.name o ≡ true → l.in_array ≡ is_some o →
     placed before l ≡ entry_at p o l
-placed-is before l p s o h may is = grind (arith, place-is)
+placed-is before l p s o h may is = grind arith
 
 located-walk : (f : Forest) (d : ℕ) (p : Tokens) (s : Option SiblingPlace) (before : List LocatedLine) (ls : List Line) → IsOrderedBehind s f → Stands before d p s →
     located_after before (lines d f ++ ls) ≡ walk d p f ++ located_after (rev_onto (walk d p f) before) ls

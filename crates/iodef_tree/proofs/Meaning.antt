@@ -33,12 +33,8 @@ abbrev is_element : Option SiblingPlace → Bool
 is_element None = false
 is_element (Some s) = is_some s.1
 
--- no array goes on behind what is no element, and none at first
-no-later : (o : Option SiblingPlace) (n : Bytes) (p : Option ℕ) → is_element o ≡ false → may_stand o n p ≡ true → is_later_place p ≡ false
-no-later o n p e k = grind arith
-
 starts : (o : Option SiblingPlace) (f : Forest) → is_element o ≡ false → IsOrderedBehind o f → goes_on f ≡ false
-starts o f e h = grind (arith, no-later)
+starts o f e h = grind arith
 
 -- what is written of a tree is the text of its members, or goes on with the elements of an array
 record Means (w : Bool → Bytes) (goes : Bool) (close : Bytes) (ds : json.Items) (ms : json.Members) : Type 0 where

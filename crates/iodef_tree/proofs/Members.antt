@@ -22,19 +22,15 @@ taken : (r : Option (Bor Item × Bor (List Text))) (m : Bodies) (p : Tokens) (re
     option_map_or (λ (x : Bor Item × Bor (List Text)). object_in (body x.0.now) x.1.now) r None ≡ part_or m p rest
 taken r m p rest some is = grind arith
 
-not_taken : (r : Option (Bor Item × Bor (List Text))) (m : Bodies) (p : Tokens) (rest : Option Forest) → is_some r ≡ false →
-    option_map (λ (x : Bor Item × Bor (List Text)). let y : Body × Tokens = (body x.0.now, x.1.now) in y) r ≡ part_at m p → part_or m p rest ≡ rest
-not_taken r m p rest none is = grind arith
-
 pub found-here : (ms : List (Text × Member)) (i : ℕ) (m : Text × Member) (x : Bytes) (p : Tokens) (r : Option (Bor Item × Bor (List Text))) → i < length ms → m ≡ get_or ms i m → bytes_eq m.0 x ≡ true →
     is_some r ≡ true → option_map (λ (y : Bor Item × Bor (List Text)). let z : Body × Tokens = (body y.0.now, y.1.now) in z) r ≡ part_at (bodies m.1) p →
     option_map_or (λ (y : Bor Item × Bor (List Text)). object_in (body y.0.now) y.1.now) r None ≡ class_at (members_forest (drop i ms)) (x ∷ p)
-found-here ms i m x p r h is named some part = grind (arith, common_steps, class_at-here, members-next, taken)
+found-here ms i m x p r h is named some part = grind (arith, common_steps, class_at-here, members-next)
 
 pub not-here : (ms : List (Text × Member)) (i : ℕ) (m : Text × Member) (x : Bytes) (p : Tokens) (r : Option (Bor Item × Bor (List Text))) → i < length ms → m ≡ get_or ms i m → bytes_eq m.0 x ≡ true →
     is_some r ≡ false → option_map (λ (y : Bor Item × Bor (List Text)). let z : Body × Tokens = (body y.0.now, y.1.now) in z) r ≡ part_at (bodies m.1) p →
     class_at (members_forest (drop (i + 1) ms)) (x ∷ p) ≡ class_at (members_forest (drop i ms)) (x ∷ p)
-not-here ms i m x p r h is named none part = grind (arith, common_steps, class_at-here, members-next, not_taken)
+not-here ms i m x p r h is named none part = grind (arith, common_steps, class_at-here, members-next)
 
 pub other-here : (ms : List (Text × Member)) (i : ℕ) (m : Text × Member) (x : Bytes) (p : Tokens) → i < length ms → m ≡ get_or ms i m → bytes_eq m.0 x ≡ false →
     class_at (members_forest (drop (i + 1) ms)) (x ∷ p) ≡ class_at (members_forest (drop i ms)) (x ∷ p)

@@ -71,11 +71,8 @@ kept-ordered (many bs) k = each bs k
 
 -- ---- the IncidentID
 
-get-object : (k : Bytes) (d : Data) → option_and_then (get_member k) (as_object d) ≡ get k d
-get-object k d = grind arith
-
 get-then : (k : Bytes) (o : Option Data) → option_and_then (get_member k) (option_and_then as_object o) ≡ option_and_then (get k) o
-get-then k o = grind (arith, get-object)
+get-then k o = grind arith
 
 pub id-found : (ms own : json.Members) (d : Data) (r : Option Data) → Some d ≡ get_member (codes "Incident") ms → Some own ≡ option_and_then as_object (zeroth d) → r ≡ get_member (codes "IncidentID") own →
     r ≡ id_in (json.object ms)

@@ -40,9 +40,6 @@ above-steps (x ∷ r) (y ∷ p) n o h =
 abbrev Differs : Bytes → Option ℕ → Bytes → Option ℕ → Type 0
 Differs n o n' o' = is_some o ≡ true → o' ≡ None → bytes_eq n' n ≡ false
 
-differs-self : (n : Bytes) (o : Option ℕ) → Differs n o n o
-differs-self n o h e = grind arith
-
 and-true : (b c : Bool) → (b && c) ≡ false → c ≡ true → b ≡ false
 and-true b c h k = grind arith
 
@@ -64,8 +61,8 @@ siblings-both P Q R (branch n o kids rest) h a b = (h n o a.0 b.0, siblings-both
 -- no array has the name of another sibling
 all-differ : (f : Forest) → HasApart f → AllSiblings (λ n o. AllSiblings (Differs n o) f) f
 all-differ end apart = tt
-all-differ (leaf i rest) apart = grind (arith, differs-left, differs-right, differs-self, siblings-both, siblings-map, (all-differ rest apart.1))
-all-differ (branch m p kids rest) apart = grind (arith, differs-left, differs-right, differs-self, siblings-both, siblings-map, (all-differ rest apart.2))
+all-differ (leaf i rest) apart = grind (arith, differs-left, differs-right, siblings-both, siblings-map, (all-differ rest apart.1))
+all-differ (branch m p kids rest) apart = grind (arith, differs-left, differs-right, siblings-both, siblings-map, (all-differ rest apart.2))
 
 past-bare : (n' : Bytes) (o' : Option ℕ) (n : Bytes) → (o' ≡ None → bytes_eq n' n ≡ false) → past (steps n' o') (n ∷ []) ≡ None
 past-bare n' o' n h = grind (arith, cond-false, cond_both)

@@ -19,7 +19,7 @@ or-ok : {A : Type 0} (e : ReadFault) (o : Option A) (x : A) → or_fault e o ≡
 or-ok e o x h = grind arith
 
 parsed-ok : (bytes : Bytes) (d : Data) → parsed bytes ≡ Ok d → read bytes ≡ Some d
-parsed-ok bytes d h = grind (arith, cond_both, or-ok)
+parsed-ok bytes d h = grind (arith, cond_both)
 
 object-of : (d : Data) (root : json.Members) → as_object d ≡ Some root → d ≡ json.object root
 object-of d root h = grind arith

@@ -1,10 +1,10 @@
 -- Where no value stands too deep, the trees are low.
-use Rattle.std.proofs.Common.{◌≡◌, ℕ, suc, ◌+◌, ◌≤◌, max, List, [], ◌∷◌, nat_lt, ◌&&◌, Option, arith, decimal, is_some}
+use Rattle.std.proofs.Common.{◌≡◌, ℕ, suc, ◌+◌, ◌≤◌, max, List, [], ◌∷◌, nat_lt, ◌&&◌, arith, decimal, is_some}
 use Rattle.serde_json.specs.Data as json
 use Rattle.serde_json.specs.Data.{Data}
 use Rattle.serde_json.specs.Find.{as_array}
 use Rattle.iodef_tree.specs.Text.{Bytes}
-use Rattle.iodef_tree.specs.Tree.{Forest, Body, holds, says, Bodies, one, many, in_front, elements, member_front, height}
+use Rattle.iodef_tree.specs.Tree.{Forest, Body, holds, says, Bodies, one, many, elements, member_front, height}
 use Rattle.iodef_tree.specs.Values.{Node, node, nodes, item_nodes, member_nodes, one_or_many, bodies_of_data, body_of_data, elements_of_data, items_of_data, forest_of_data}
 use Rattle.iodef_tree.specs.declared.TheConstants.{DEPTH_LIMIT}
 use Rattle.iodef_tree.proofs.Fitness.{AreClear, clear-apart, head}
@@ -23,15 +23,12 @@ abbrev pub bodies_height : Bodies → ℕ
 bodies_height (one b) = body_height b
 bodies_height (many bs) = tallest bs
 
-height-in_front : (name : Bytes) (place : Option ℕ) (b : Body) (rest : Forest) → height (in_front name place b rest) ≡ max (body_height b) (height rest)
-height-in_front name place b rest = grind arith
-
 height-elements : (name : Bytes) (k : ℕ) (bs : List Body) (rest : Forest) → height (elements name k bs rest) ≡ max (tallest bs) (height rest)
 height-elements name k [] rest = omega arith
-height-elements name k (b ∷ bs) rest = grind (arith, height-in_front, (height-elements name (suc k) bs rest))
+height-elements name k (b ∷ bs) rest = grind (arith, (height-elements name (suc k) bs rest))
 
 pub height-member_front : (name : Bytes) (m : Bodies) (rest : Forest) → height (member_front name m rest) ≡ max (bodies_height m) (height rest)
-height-member_front name m rest = grind (arith, height-elements, height-in_front)
+height-member_front name m rest = grind (arith, height-elements)
 
 bodies_le : (b : Body) (bs : List Body) (n : ℕ) → body_height b ≤ n → tallest bs ≤ n → bodies_height (one_or_many b bs) ≤ n
 bodies_le b bs n p q = grind arith

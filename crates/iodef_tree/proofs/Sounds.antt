@@ -1,5 +1,5 @@
 -- A numbered tree whose lines are an outline is that of a document.
-use Rattle.std.proofs.Common.{◌≡◌, ℕ, suc, ◌+◌, ◌≤◌, ◌<◌, Bool, true, false, not, ◌&&◌, ◌||◌, List, [], ◌∷◌, refl, sym, ◌∙◌, ap, arith, if◌then◌else◌, Option, Some, None, is_some, nat_le}
+use Rattle.std.proofs.Common.{◌≡◌, ℕ, suc, ◌+◌, ◌≤◌, ◌<◌, true, List, [], ◌∷◌, refl, sym, ◌∙◌, ap, arith, if◌then◌else◌, Option, Some, None, is_some, nat_le}
 use Rattle.std.proofs.lemmas.Bool.{and_parts, leb-true}
 use Rattle.std.proofs.lemmas.List.Sums.{sum_by-cons}
 use Rattle.std.proofs.lemmas.Grind.{common_steps}
@@ -72,18 +72,9 @@ fine (branch n p kids rest) d before o is h =
 
 -- ---- so names ascend
 
-only-first : (a b c : Bool) → (a || (b && (c && false))) ≡ true → a ≡ true
-only-first a b c h = grind arith
-
-only-first_too : (a b : Bool) → (a || (b && (false && true))) ≡ true → a ≡ true
-only-first_too a b h = grind arith
-
-other-name : (a b : Bool) → (a || (b && (true && true))) ≡ true → not b ≡ true → a ≡ true
-other-name a b h k = grind arith
-
 stands : (o : Option SiblingPlace) (name : Bytes) (place : Option ℕ) → may_follow (as_sibling o) (record { name = name; in_array = is_some place }) ≡ true → is_numbered o name place ≡ true →
     may_stand o name place ≡ true
-stands o name place h k = grind (arith, only-first, only-first_too, other-name)
+stands o name place h k = grind arith
 
 ordered : (f : Forest) (d : ℕ) (o : Option SiblingPlace) → IsFine o d f → IsNumberedBehind o f → IsOrderedBehind o f
 ordered end d o h k = tt

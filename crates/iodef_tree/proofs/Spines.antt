@@ -75,12 +75,9 @@ closed s o t x root was e = grind (arith, append-nil, body-Class, down-push, one
 empty-text : (s : Bytes) → is_empty_text s ≡ true → s ≡ []
 empty-text s h = grind arith
 
-some-place : (a : Bool) → is_some (place_of a 0) ≡ a
-some-place a = grind arith
-
 line-is : (d : ℕ) (a : Bool) (l : Line) (k : Kind) (s : Bytes) → d ≡ l.depth → l.kind ≡ k → l.text ≡ s →
     (let x : Line = record { depth = d; name = l.name; in_array = is_some (place_of l.in_array 0); kind = k; text = s } in x) ≡ l
-line-is d a l k s deep kin is = grind (arith, some-place)
+line-is d a l k s deep kin is = grind arith
 
 has-line : (s t u : Spine) (l : Line) (n : ℕ) (R : List Line) → lines_of t ≡ lines_of s ++ [] → Extends t R n u → R ≡ l ∷ [] → deepest (l ∷ []) ≡ suc n → HasLine s l u
 has-line s t u l n R same e is deep = grind (arith, append-nil, back-push)

@@ -1,5 +1,5 @@
 -- The text of a tree, member by member.
-use Rattle.std.proofs.Common.{◌≡◌, ℕ, suc, ◌+◌, ◌<◌, Bool, true, false, List, [], ◌∷◌, ◌++◌, length, drop, get_or, refl, ap, append_assoc, if◌then◌else◌, Option, Some, None, arith}
+use Rattle.std.proofs.Common.{◌≡◌, ℕ, suc, ◌+◌, ◌<◌, Bool, true, false, List, [], ◌∷◌, ◌++◌, length, drop, get_or, refl, ap, append_assoc, if◌then◌else◌, Some, None, arith}
 use Rattle.std.proofs.lemmas.Grind.{common_steps}
 use Rattle.json.specs.Print.{quoted}
 use Rattle.serde_json.specs.Written.{comma_if}
@@ -9,28 +9,21 @@ use Rattle.iodef_tree.specs.View.{forest_of_members, bodies, members_forest}
 use Rattle.iodef_tree.specs.declared.text.Text.{Text}
 use Rattle.iodef_tree.specs.declared.object.Member.{Member}
 use Rattle.iodef_tree.proofs.Filled.{has_elements}
-use Rattle.iodef_tree.specs.Written.{front_text, goes_on, close_text, written, body_text, array_text, member_text}
+use Rattle.iodef_tree.specs.Written.{goes_on, close_text, written, array_text, member_text}
 use Rattle.iodef_tree.proofs.Members.{members-next}
-
-written-front : (later : Bool) (n : Bytes) (p : Option ℕ) (b : Body) (rest : Forest) →
-    written later (in_front n p b rest) ≡ front_text later n p ++ (body_text b ++ (close_text p rest ++ written true rest))
-written-front later n p b rest = grind arith
-
-goes_on-front : (n : Bytes) (k : ℕ) (b : Body) (rest : Forest) → goes_on (in_front n (Some (suc k)) b rest) ≡ true
-goes_on-front n k b rest = grind arith
 
 -- an array from its second element on
 written-elements : (n : Bytes) (k : ℕ) (bs : List Body) (rest : Forest) → goes_on rest ≡ false →
     close_text (Some k) (elements n (suc k) bs rest) ++ written true (elements n (suc k) bs rest) ≡ array_text true bs ++ written true rest
 written-elements n k [] rest fresh = ap (λ b. (if b then [] else 93 ∷ []) ++ written true rest) fresh
-written-elements n k (b ∷ bs) rest fresh = grind (arith, append_assoc, goes_on-front, written-front, (written-elements n (suc k) bs rest fresh))
+written-elements n k (b ∷ bs) rest fresh = grind (arith, append_assoc, (written-elements n (suc k) bs rest fresh))
 
 pub named-front : (later : Bool) (n s t : Bytes) → (comma_if later ++ (quoted n ++ 58 ∷ s)) ++ t ≡ comma_if later ++ (quoted n ++ 58 ∷ (s ++ t))
 named-front later n s t = grind (arith, append_assoc)
 
 pub written-member : (later : Bool) (n : Bytes) (m : Bodies) (rest : Forest) → goes_on rest ≡ false → has_elements m ≡ true →
     written later (member_front n m rest) ≡ member_text later n m ++ written true rest
-written-member later n m rest fresh filled = grind (arith, append_assoc, named-front, written-elements, written-front)
+written-member later n m rest fresh filled = grind (arith, append_assoc, named-front, written-elements)
 
 goes_on-one : (n : Bytes) (b : Body) (rest : Forest) → goes_on (in_front n None b rest) ≡ false
 goes_on-one n b rest = grind arith

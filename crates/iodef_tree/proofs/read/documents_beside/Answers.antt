@@ -6,7 +6,7 @@ use Rattle.iodef_tree.specs.Tree.{lines}
 use Rattle.std.specs.Vec.Iter.{into_iter_items}
 use Rattle.std.proofs.lemmas.Grind.{common_steps}
 use Rattle.iodef_tree.proofs.Exchanged.{cloned}
-use Rattle.iodef_tree.proofs.DocumentLists.{with_front, gives_err, failed, next}
+use Rattle.iodef_tree.proofs.DocumentLists.{with_front, failed, next}
 use Rattle.iodef_tree.proofs.read.documents_beside.Goals as goal
 
 pub document_from-requires : goal.document_from-requires
@@ -16,7 +16,7 @@ document_from-requires c =
     subst (λ ms. IsFit ms (view c.in-Some.incident)) (sym same) fit.0
 
 pub returns-in_err-document : goal.returns-in_err-document
-returns-in_err-document c = grind (arith, common_steps, cloned, failed, gives_err, next)
+returns-in_err-document c = grind (arith, common_steps, cloned, failed, next)
 
 pub loop-incident-preserved : goal.loop-incident-preserved
 loop-incident-preserved c =
