@@ -1,12 +1,12 @@
 -- The lines of a document's tree are an outline.
-use Rattle.std.proofs.Common.{◌≡◌, ℕ, suc, ◌+◌, ◌≤◌, ◌<◌, Bool, true, false, List, [], ◌∷◌, refl, sym, ◌∙◌, ap, subst, arith, if◌then◌else◌, ◌==◌, true≢false, Option, Some, None, is_some, nat_lt, nat_le, bytes_eq}
+use Rattle.std.proofs.Common.{◌≡◌, ℕ, suc, ◌+◌, ◌≤◌, ◌<◌, Bool, true, List, ◌∷◌, refl, sym, ◌∙◌, subst, arith, if◌then◌else◌, Option, Some, None, is_some, nat_le}
 use Rattle.std.proofs.lemmas.Bool.{lt-ltb, and_parts, and_from, or_left, or_right, le-leb}
-use Rattle.iodef_tree.specs.Text.{Bytes, bytes_lt}
+use Rattle.iodef_tree.specs.Text.{Bytes}
 use Rattle.iodef_tree.specs.Texts.{HasTexts}
-use Rattle.iodef_tree.specs.Tree.{Content, text, value, Forest, end, leaf, branch, kind_of, leaf_line, class_line, lines, height}
+use Rattle.iodef_tree.specs.Tree.{Content, Forest, end, leaf, branch, kind_of, leaf_line, class_line, lines, height}
 use Rattle.iodef_tree.specs.Paths.{is_class_kind}
 use Rattle.iodef_tree.specs.Sound.{SiblingPlace, may_stand, IsOrderedBehind, counted, class_height, IsSound}
-use Rattle.iodef_tree.specs.Outline.{sibling, deepest, last_sibling, may_follow, is_within_depth, is_sound_line, is_short, may_come, is_outline_after, is_outline, back_onto}
+use Rattle.iodef_tree.specs.Outline.{deepest, last_sibling, may_follow, is_within_depth, is_sound_line, may_come, is_outline_after, is_outline, back_onto}
 use Rattle.iodef_tree.specs.declared.TheConstants.{DEPTH_LIMIT, LINE_LIMIT}
 use Rattle.iodef_tree.specs.declared.line.Line.{Line}
 use Rattle.iodef_tree.proofs.Outlines.{outline_after-append, back_onto-append}
@@ -14,16 +14,12 @@ use Rattle.iodef_tree.proofs.Sounds.{as_sibling, sibling_skip, sibling_here, sib
 
 -- what may stand behind a sibling follows its line
 follows : (o : Option SiblingPlace) (name : Bytes) (place : Option ℕ) → may_stand o name place ≡ true → may_follow (as_sibling o) (record { name = name; in_array = is_some place }) ≡ true
-follows None name place h = refl
-follows (Some (n, None)) name (Some (suc j)) h = absurd (true≢false (sym h))
-follows (Some (n, Some i)) name (Some (suc j)) h = or_right (bytes_lt n name) _ (and_from (bytes_eq n name) _ ((and_parts (bytes_eq n name) (i == j) h).0) refl)
-follows (Some (n, p)) name place h = or_left (bytes_lt n name) _ h
+follows o name place h = grind (arith, and_from, and_parts, or_left, or_right)
 
 -- ---- how deep the next line may be
 
 at_least : (b : Bool) (d : ℕ) → d ≤ (if b then suc d else d)
-at_least true d = omega arith
-at_least false d = omega arith
+at_least b d = grind arith
 
 deep_line : (x : Line) (before : List Line) (d : ℕ) → d ≤ x.depth → d ≤ deepest (x ∷ before)
 deep_line x before d h = let a = at_least (is_class_kind x.kind) x.depth in omega (arith, h, a)
@@ -40,17 +36,10 @@ deep_past (branch name place kids rest) n d before h k =
 
 comes : (before : List Line) (l : Line) (o : Option SiblingPlace) (place : Option ℕ) → counted (l ∷ before) ≤ LINE_LIMIT → 0 < l.depth → l.depth ≤ deepest before → last_sibling l.depth before ≡ as_sibling o →
     l.in_array ≡ is_some place → may_stand o l.name place ≡ true → is_sound_line l ≡ true → may_come before l ≡ true
-comes before l o place few positive reached is a stands sound =
-    let next : may_follow (last_sibling l.depth before) (sibling l) ≡ true =
-    ap (λ z. may_follow z (sibling l)) is ∙ ap (λ b. may_follow (as_sibling o) (record { name = l.name; in_array = b })) a ∙ follows o l.name place stands in
-    and_from (is_short (l ∷ before)) _ (le-leb (counted (l ∷ before)) LINE_LIMIT few)
-    (and_from (nat_lt 0 l.depth) _ (lt-ltb 0 l.depth positive)
-    (and_from (nat_le l.depth (deepest before)) _ (le-leb l.depth (deepest before) reached)
-    (and_from (may_follow (last_sibling l.depth before) (sibling l)) _ next sound)))
+comes before l o place few positive reached is a stands sound = grind (arith, and_from, follows, le-leb, lt-ltb)
 
 plain-within : (c : Content) (d : ℕ) → d ≤ DEPTH_LIMIT + 1 → nat_le d (if is_class_kind (kind_of c) then DEPTH_LIMIT else DEPTH_LIMIT + 1) ≡ true
-plain-within (text s) d h = le-leb d (DEPTH_LIMIT + 1) h
-plain-within (value s) d h = le-leb d (DEPTH_LIMIT + 1) h
+plain-within c d h = grind (arith, le-leb)
 
 fewer : (f : Forest) (d : ℕ) (before : List Line) → counted (back_onto (lines d f) before) ≤ LINE_LIMIT → counted before ≤ LINE_LIMIT
 fewer f d before h = let a = counted-back_onto (lines d f) before in omega (arith, a, h)
@@ -78,6 +67,4 @@ come (branch n p kids rest) d before o positive reached is ordered texts classes
     (outline_after-append (lines (suc d) kids) (lines d rest) (x ∷ before) ∙ and_from (is_outline_after (x ∷ before) (lines (suc d) kids)) _ below behind)
 
 pub lines-outline : (f : Forest) → IsSound f → is_outline (lines 1 f) ≡ true
-lines-outline f h =
-    let all = counted-back_onto (lines 1 f) [] in
-    come f 1 [] None (omega arith) (omega arith) refl h.ordered h.texts (omega (arith, h.classes)) (omega (arith, h.shallow)) (omega (arith, all, h.short))
+lines-outline f h = grind (arith, come, counted-back_onto)

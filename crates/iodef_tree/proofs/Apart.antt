@@ -1,10 +1,10 @@
 -- Siblings stand apart, since their names ascend and the elements of an array are numbered.
-use Rattle.std.proofs.Common.{◌≡◌, ℕ, zero, suc, ◌+◌, ◌^◌, ◌<◌, ◌≤◌, List, ◌∷◌, ◌++◌, true, false, not, cond, ◌&&◌, ◌||◌, ◌==◌, decimal, refl, sym, ◌∙◌, ap, subst, arith, ◌⊎◌, inl, inr, Option, Some, None, is_some, codes, bytes_eq}
+use Rattle.std.proofs.Common.{◌≡◌, ℕ, suc, ◌+◌, ◌^◌, ◌<◌, ◌≤◌, List, ◌∷◌, ◌++◌, true, false, not, cond, ◌&&◌, decimal, refl, ◌∙◌, ap, arith, ◌⊎◌, inl, inr, Option, Some, None, is_some, bytes_eq}
 use Rattle.std.proofs.lemmas.Bool.{and_parts, and_left, and_right, false≢true, eqb-true}
 use Rattle.std.proofs.lemmas.List.Sums.{sum_by-cons, sum_by-append}
+use Rattle.std.proofs.lemmas.Grind.{common_steps}
 use Rattle.iodef_tree.specs.Text.{Bytes, Tokens, bytes_lt, is_prefix}
 use Rattle.iodef_tree.specs.Tree.{Leaf, Forest, end, leaf, branch, steps, lines, leaf_line, class_line}
-use Rattle.iodef_tree.specs.Paths.{is_class_kind}
 use Rattle.iodef_tree.specs.Sound.{SiblingPlace, may_stand, may_stand_behind, IsOrderedBehind, is_label_line, counted, IsSound}
 use Rattle.iodef_tree.specs.Laws.{AllSiblings, AreApart, HasApart}
 use Rattle.iodef_tree.specs.declared.line.Line.{Line}
@@ -30,11 +30,7 @@ next_place (Some (name, None)) = 0
 next_place (Some (name, Some j)) = suc j
 
 place-next : (s : Option SiblingPlace) (name : Bytes) (k : ℕ) → may_stand s name (Some k) ≡ true → k ≤ next_place s
-place-next None name zero h = omega arith
-place-next None name (suc k) h = absurd (false≢true h)
-place-next (Some (m, o)) name zero h = omega arith
-place-next (Some (m, None)) name (suc k) h = absurd (false≢true h)
-place-next (Some (m, Some j)) name (suc k) h = let e = eqb-true j k (and_parts (bytes_eq m name) (j == k) h).1 in omega arith
+place-next s name k h = grind (arith, and_parts, eqb-true, false≢true)
 
 counted-le : (l : Line) (ls : List Line) → counted ls ≤ counted (l ∷ ls)
 counted-le l ls = let e = sum_by-cons (λ (x : Line). cond (not (is_label_line x)) 1 0) l ls in omega arith
@@ -44,16 +40,10 @@ counted-one l ls h = sum_by-cons (λ (x : Line). cond (not (is_label_line x)) 1 
 
 step_room : (s : Option SiblingPlace) (name : Bytes) (o : Option ℕ) (l : Line) (ls : List Line) (n : ℕ) → may_stand s name o ≡ true → (is_some o ≡ true → is_label_line l ≡ false) →
     next_place s + counted (l ∷ ls) ≤ n → IsSmall n o × (next_place (Some (name, o)) + counted ls ≤ n)
-step_room s name None l ls n h counts room = let k = counted-le l ls in (tt, omega arith)
-step_room s name (Some k) l ls n h counts room =
-    let e = counted-one l ls (counts refl) in
-    let f = place-next s name k h in
-    (omega arith, omega arith)
+step_room s name o l ls n h counts room = grind (arith, common_steps, counted-le, counted-one, place-next)
 
 leaf-counts : (d : ℕ) (i : Leaf) → is_some i.place ≡ true → is_label_line (leaf_line d i) ≡ false
-leaf-counts d i h =
-    let l = leaf_line d i in
-    ap (λ b. (not b && not (is_class_kind l.kind)) && (bytes_eq i.name (codes "restriction") || bytes_eq i.name (codes "ext-restriction"))) h
+leaf-counts d i h = grind arith
 
 class-counts : (d : ℕ) (name : Bytes) (place : Option ℕ) → is_label_line (class_line d name place) ≡ false
 class-counts d name place = and_left (not (is_some place) && false) _ (and_right (not (is_some place)) false refl)
@@ -80,26 +70,10 @@ abbrev IsLater : Bytes → Option ℕ → Bytes → Option ℕ → Type 0
 IsLater n o n' o' = (bytes_lt n n' ≡ true) ⊎ ((n ≡ n') × IsPlaceLater o o')
 
 later-next : (n : Bytes) (o : Option ℕ) (n' : Bytes) (o' : Option ℕ) → may_stand_behind (n, o) n' o' ≡ true → IsLater n o n' o'
-later-next n o n' None h = inl h
-later-next n o n' (Some zero) h = inl h
-later-next n None n' (Some (suc k)) h = absurd (false≢true h)
-later-next n (Some j) n' (Some (suc k)) h =
-    let parts = and_parts (bytes_eq n n') (j == k) h in
-    let e = eqb-true j k parts.1 in
-    let lt : j < suc k = omega arith in
-    inr (bytes_eq-true n n' parts.0, lt)
-
-place_later-trans : (a b c : Option ℕ) → IsPlaceLater a b → IsPlaceLater b c → IsPlaceLater a c
-place_later-trans None b c h k = absurd h
-place_later-trans (Some x) None c h k = absurd h
-place_later-trans (Some x) (Some y) None h k = absurd k
-place_later-trans (Some x) (Some y) (Some z) h k = omega arith
+later-next n o n' o' h = grind (arith, and_parts, bytes_eq-true, eqb-true, false≢true)
 
 later-trans : (n : Bytes) (o : Option ℕ) (n' : Bytes) (o' : Option ℕ) (n'' : Bytes) (o'' : Option ℕ) → IsLater n o n' o' → IsLater n' o' n'' o'' → IsLater n o n'' o''
-later-trans n o n' o' n'' o'' (inl a) (inl b) = inl (bytes_lt-trans n n' n'' a b)
-later-trans n o n' o' n'' o'' (inl a) (inr b) = inl (subst (λ x. bytes_lt n x ≡ true) b.0 a)
-later-trans n o n' o' n'' o'' (inr a) (inl b) = inl (subst (λ x. bytes_lt x n'' ≡ true) (sym a.0) b)
-later-trans n o n' o' n'' o'' (inr a) (inr b) = inr (a.0 ∙ b.0, place_later-trans o o' o'' a.1 b.1)
+later-trans n o n' o' n'' o'' h h' = grind (arith, bytes_lt-trans)
 
 later-behind : (f : Forest) (n : Bytes) (o : Option ℕ) → IsOrderedBehind (Some (n, o)) f → AllSiblings (IsLater n o) f
 later-behind end n o ordered = tt
@@ -111,10 +85,7 @@ later-behind (branch m p kids rest) n o ordered =
     (here, siblings-map (IsLater m p) (IsLater n o) rest (λ n' o'. later-trans n o m p n' o' here) (later-behind rest m p ordered.2))
 
 names_apart : (n : Bytes) (o : Option ℕ) (n' : Bytes) (o' : Option ℕ) (z : Tokens) → bytes_eq n n' ≡ false → is_prefix (steps n o) (steps n' o' ++ z) ≡ false
-names_apart n None n' None z h = and_left (bytes_eq n n') _ h
-names_apart n None n' (Some k) z h = and_left (bytes_eq n n') _ h
-names_apart n (Some j) n' None z h = and_left (bytes_eq n n') _ h
-names_apart n (Some j) n' (Some k) z h = and_left (bytes_eq n n') _ h
+names_apart n o n' o' z h = grind (arith, and_left)
 
 later-apart : (n : Bytes) (o : Option ℕ) (n' : Bytes) (o' : Option ℕ) → IsLater n o n' o' → IsSmall (2 ^ 64) o' → AreApart n o n' o'
 later-apart n o n' o' (inl h) small = record {
@@ -137,10 +108,8 @@ apart-behind (branch m p kids rest) n o later small = (later-apart n o m p later
 
 apart-ordered : (f : Forest) (s : Option SiblingPlace) → IsOrderedBehind s f → AreSmall (2 ^ 64) f → HasApart f
 apart-ordered end s ordered small = tt
-apart-ordered (leaf i rest) s ordered small =
-    (apart-behind rest i.name i.place (later-behind rest i.name i.place ordered.1) small.1, apart-ordered rest (Some (i.name, i.place)) ordered.1 small.1)
-apart-ordered (branch n p kids rest) s ordered small =
-    (apart-behind rest n p (later-behind rest n p ordered.2) small.2, apart-ordered kids None ordered.1 small.1, apart-ordered rest (Some (n, p)) ordered.2 small.2)
+apart-ordered (leaf i rest) s ordered small = grind (arith, apart-behind, later-behind, small, (apart-ordered rest (Some (i.name, i.place)) ordered.1 small.1))
+apart-ordered (branch n p kids rest) s ordered small = grind (arith, apart-behind, later-behind, small, (apart-ordered kids None ordered.1 small.1), (apart-ordered rest (Some (n, p)) ordered.2 small.2))
 
 pub sound-apart : (f : Forest) → IsSound f → HasApart f
 sound-apart f sound = let short = sound.short in apart-ordered f None sound.ordered (small f 1 None (2 ^ 64) sound.ordered (omega arith))

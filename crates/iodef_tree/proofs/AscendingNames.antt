@@ -1,5 +1,5 @@
 -- Members whose names ascend make an ordered tree.
-use Rattle.std.proofs.Common.{◌≡◌, ℕ, suc, List, [], ◌∷◌, true, Option, Some, None, String, Global, string_bytes, string_cmp, Less, refl, ap, arith, is_lt}
+use Rattle.std.proofs.Common.{◌≡◌, ℕ, suc, List, [], ◌∷◌, true, Option, Some, None, String, Global, string_bytes, string_cmp, Less, ap, arith, is_lt}
 use Rattle.std.specs.List.{AllByRecursion}
 use Rattle.std.specs.List.Sorted.{IsStrictlySortedBy}
 use Rattle.std.specs.Map.{keys_of}
@@ -45,20 +45,16 @@ elements_ordered : (name : Bytes) (bs : List Body) (k : ℕ) (before : Option Si
     → may_stand before name (Some k) ≡ true → AllByRecursion IsBodyOrdered bs → ((j : ℕ) → IsOrderedBehind (Some (name, Some j)) rest) → IsOrderedBehind before rest
     → IsOrderedBehind before (elements name k bs rest)
 elements_ordered name [] k before rest h all each r = r
-elements_ordered name (b ∷ bs) k before rest h all each r =
-    in_front_ordered before name (Some k) b (elements name (suc k) bs rest) h all.0 (elements_ordered name bs (suc k) (Some (name, Some k)) rest (next_stands name k) all.1 each (each k))
+elements_ordered name (b ∷ bs) k before rest h all each r = grind (arith, next_stands, (elements_ordered name bs (suc k) (Some (name, Some k)) rest (next_stands name k) all.1 each (each k)))
 
 stands : (before : Option SiblingPlace) (name : Bytes) (m : Bodies) (ms : List (Bytes × Bodies)) → AreAboveAll before ((name, m) ∷ ms) → may_stand before name None ≡ true
-stands None name m ms h = refl
-stands (Some s) name m ms h = h.0
+stands before name m ms h = grind arith
 
 stands_first : (before : Option SiblingPlace) (name : Bytes) (m : Bodies) (ms : List (Bytes × Bodies)) → AreAboveAll before ((name, m) ∷ ms) → may_stand before name (Some 0) ≡ true
-stands_first None name m ms h = refl
-stands_first (Some s) name m ms h = h.0
+stands_first before name m ms h = grind arith
 
 above_later : (before : Option SiblingPlace) (m : Bytes × Bodies) (ms : List (Bytes × Bodies)) → AreAboveAll before (m ∷ ms) → AreAboveAll before ms
-above_later None m ms h = tt
-above_later (Some s) m ms h = h.1
+above_later before m ms h = grind arith
 
 pub ordered_members : (ms : List (Bytes × Bodies)) (before : Option SiblingPlace) → AreAboveAll before ms → Ascend ms → AllByRecursion (λ m. AreBodiesOrdered m.1) ms → IsOrderedBehind before (forest_of_members ms)
 ordered_members [] before h up all = tt

@@ -1,5 +1,5 @@
 -- Below the path of each class stand the lines of its members.
-use Rattle.std.proofs.Common.{◌≡◌, ℕ, suc, List, [], ◌∷◌, ◌++◌, Bool, true, false, cond, filter, refl, sym, ◌∙◌, ap, subst, append-nil, append_assoc, ◌⊎◌, inl, inr, Option}
+use Rattle.std.proofs.Common.{◌≡◌, ℕ, suc, List, [], ◌∷◌, ◌++◌, Bool, true, false, filter, refl, sym, ◌∙◌, ap, subst, append-nil, append_assoc, ◌⊎◌, inl, inr, Option, arith}
 use Rattle.std.specs.List.{AllByRecursion}
 use Rattle.std.proofs.lemmas.Bool.{cond-true, cond-false}
 use Rattle.std.proofs.lemmas.List.Elements.{filter-append}
@@ -20,17 +20,7 @@ use Rattle.iodef_tree.proofs.Siblings.{filter-none, filter-all, siblings-all, si
 -- a stronger test, tried on what passes a weaker one
 pub filter-twice : {X : Type 0} (Q P : X → Bool) (es : List X) → ((e : X) → Q e ≡ true → P e ≡ true) → filter Q es ≡ filter Q (filter P es)
 filter-twice Q P [] h = refl
-filter-twice {X} Q P (e ∷ es) h = by_cases (Q e) (P e) refl refl (filter-twice Q P es h)
-  where
-    by_cases : (q r : Bool) → Q e ≡ q → P e ≡ r → filter Q es ≡ filter Q (filter P es) →
-        cond (Q e) (e ∷ filter Q es) (filter Q es) ≡ filter Q (cond (P e) (e ∷ filter P es) (filter P es))
-    by_cases true r a b ih =
-        cond-true (Q e) _ _ a ∙ ap (λ xs. e ∷ xs) ih ∙ sym (cond-true (Q e) (e ∷ filter Q (filter P es)) (filter Q (filter P es)) a)
-        ∙ ap (filter Q) (sym (cond-true (P e) (e ∷ filter P es) (filter P es) (h e a)))
-    by_cases false true a b ih =
-        cond-false (Q e) _ _ a ∙ ih ∙ sym (cond-false (Q e) (e ∷ filter Q (filter P es)) (filter Q (filter P es)) a)
-        ∙ ap (filter Q) (sym (cond-true (P e) (e ∷ filter P es) (filter P es) b))
-    by_cases false false a b ih = cond-false (Q e) _ _ a ∙ ih ∙ ap (filter Q) (sym (cond-false (P e) (e ∷ filter P es) (filter P es) b))
+filter-twice {X} Q P (e ∷ es) h = grind (arith, cond-false, cond-true, (filter-twice Q P es h))
 
 -- what is below a path is among what is below its prefixes
 pub below-weaker : (p z : Tokens) (es : List LocatedLine) → below (p ++ z) es ≡ below (p ++ z) (below p es)

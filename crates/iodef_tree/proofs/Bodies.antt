@@ -1,29 +1,26 @@
 -- The Incidents of a body in which nothing is refused fit its documents.
-use Rattle.std.proofs.Common.{◌≡◌, ℕ, ◌+◌, ◌≤◌, List, Bool, true, false, cond, ◌&&◌, Option, Some, None, Result, Ok, Err, option_and_then, refl, sym, ap, ◌∙◌, subst, arith, codes}
+use Rattle.std.proofs.Common.{◌≡◌, ℕ, ◌+◌, ◌≤◌, List, true, false, ◌&&◌, Option, Some, Result, Ok, option_and_then, refl, ap, subst, arith, codes}
 use Rattle.std.proofs.lemmas.Bool.{and_parts, or_from, or_parts}
+use Rattle.std.proofs.lemmas.Option.{cond_some, some_pair_parts}
 use Rattle.serde_json.specs.Data as json
 use Rattle.serde_json.specs.Data.{Data, put}
 use Rattle.serde_json.specs.Find.{get_member, as_array, as_object}
 use Rattle.serde_json.specs.Written.{has_float, items_have_float, members_have_float}
 use Rattle.iodef_tree.specs.FitValues.{AreFit, taken, is_element_flat, are_flat, are_members_flat}
-use Rattle.iodef_tree.specs.Reading.{◌>>=◌, or_fault, are_incidents, if_incidents, incidents_of, documents, parsed, all_complete, all_fit, reading}
+use Rattle.iodef_tree.specs.Reading.{◌>>=◌, or_fault, if_incidents, incidents_of, documents, parsed, all_complete, all_fit, reading}
 use Rattle.iodef_tree.specs.Tree.{height}
-use Rattle.iodef_tree.specs.Values.{node, member_nodes, is_too_deep, items_of_data, forest_of_data, body_of_data}
+use Rattle.iodef_tree.specs.Values.{items_of_data, forest_of_data, body_of_data}
 use Rattle.iodef_tree.specs.declared.TheConstants.{DEPTH_LIMIT}
 use Rattle.iodef_tree.specs.declared.fault.ReadFault.{ReadFault}
 use Rattle.iodef_tree.specs.declared.fault.ReadFault.TheVariants.{NotDocument}
 use Rattle.iodef_tree.proofs.Exchanged.{put_twice}
-use Rattle.iodef_tree.proofs.Fitness.{head, whole, IsPlain, plain_ok}
+use Rattle.iodef_tree.proofs.Fitness.{whole, IsPlain, plain_ok}
 use Rattle.iodef_tree.proofs.Flat.{plain-flat, flats}
 use Rattle.iodef_tree.proofs.Shallow.{tallest, low_members, heights, tallest_le}
 use Rattle.iodef_tree.proofs.Each.{IsEach, put-each, get-each}
 
 floatless : IsEach (λ d. has_float d ≡ false) (λ ms. members_have_float ms ≡ false)
-floatless = record {
-  made = λ k d ms. or_from (has_float d) (members_have_float ms);
-  first = λ k d ms h. (or_parts (has_float d) (members_have_float ms) h).0;
-  others = λ k d ms h. (or_parts (has_float d) (members_have_float ms) h).1;
-}
+floatless = grind (arith, or_from, or_parts)
 
 each_fit : (ms : json.Members) (ds : json.Items) → height (forest_of_data ms) ≤ DEPTH_LIMIT → members_have_float ms ≡ false → items_have_float ds ≡ false → are_members_flat ms ≡ true → are_flat ds ≡ true → tallest (items_of_data ds) ≤ DEPTH_LIMIT → AreFit ms ds
 each_fit ms json.no_items low free f flat g h = tt
@@ -38,29 +35,13 @@ each_fit ms (json.item d ds) low free f flat g h =
       each_fit ms ds low free w.1 flat x.1 (omega arith),
     )
 
-array_of : (e : Data) (ds : json.Items) → as_array e ≡ Some ds → e ≡ json.array ds
-array_of (json.array es) ds h = let same : es ≡ ds = cc in ap json.array same
-array_of _ ds h = cc
-
-pub chosen : (ds es : json.Items) → if_incidents ds ≡ Some es → (ds ≡ es) × (are_incidents ds ≡ true)
-chosen ds es h = step (are_incidents ds) h
-  where
-    step : (b : Bool) → cond b (Some ds) None ≡ Some es → (ds ≡ es) × (b ≡ true)
-    step true e = let same : ds ≡ es = cc in (same, refl)
-    step false e = absurd (cc)
-
 pub found_array : (o : Option Data) (ds : json.Items) → option_and_then if_incidents (option_and_then as_array o) ≡ Some ds → o ≡ Some (json.array ds)
-found_array None ds e = cc
-found_array (Some x) ds e = step (as_array x) refl e
-  where
-    step : (o : Option json.Items) → as_array x ≡ o → option_and_then if_incidents o ≡ Some ds → Some x ≡ Some (json.array ds)
-    step None is e = cc
-    step (Some es) is e = let same : es ≡ ds = (chosen es ds e).0 in ap Some (array_of x ds (is ∙ ap Some same))
+found_array o ds e = grind (arith, cond_some)
 
 pub fit_object : (ms : json.Members) (ds : json.Items) → IsPlain (json.object ms) → get_member (codes "Incident") ms ≡ Some (json.array ds) → AreFit ms ds
 fit_object ms ds p at =
-    let free = whole (json.object ms) 0 0 p.whole in
-    let low : 1 + height (forest_of_data ms) ≤ 33 = low_members ms 1 (omega arith) (head is_too_deep (node 0 0 (json.object ms)) (member_nodes 1 ms) p.shallow).1 in
+    let free = whole (json.object ms) 0 0 p in
+    let low : 1 + height (forest_of_data ms) ≤ 33 = low_members ms 1 (omega arith) p in
     let tall = get-each _ _ (heights (height (forest_of_data ms))) (codes "Incident") ms (json.array ds) (omega arith) at in
     let taller = tallest_le (body_of_data (json.array ds)) (items_of_data ds) in
     let flat = plain-flat ms p in
@@ -69,9 +50,7 @@ fit_object ms ds p at =
 -- the same documents, whatever stands in place of the Incidents
 fit_beside : (ms : json.Members) (v : Data) (ds : json.Items) → AreFit ms ds → AreFit (put (codes "Incident") v ms) ds
 fit_beside ms v json.no_items h = tt
-fit_beside ms v (json.item d ds) h =
-    let same = put_twice (codes "Incident") v (json.array (json.item d json.no_items)) ms in
-    (record { whole = rw same h.0.whole; shallow = rw same h.0.shallow; flat = rw same h.0.flat }, fit_beside ms v ds h.1)
+fit_beside ms v (json.item d ds) h = grind (arith, put_twice, (fit_beside ms v ds h.1))
 
 pub documents_beside : (ms : json.Members) (v : Data) (ds : json.Items) → documents (put (codes "Incident") v ms) ds ≡ documents ms ds
 documents_beside ms v json.no_items = refl
@@ -85,8 +64,7 @@ pub record Found (d : Data) (ds : json.Items) : Type 0 where
   pub chosen : incidents_of root ≡ Some ds
 
 pub found : (d : Data) (ds : json.Items) → option_and_then incidents_of (as_object d) ≡ Some ds → Found d ds
-found (json.object ms) ds e = record { root = ms; is = refl; at = found_array (get_member (codes "Incident") ms) ds e; chosen = e }
-found _ ds e = absurd (cc)
+found d ds e = grind (arith, found_array)
 
 taken_found : (d : Data) (ds : json.Items) (f : Found d ds) → taken d ≡ Some (put (codes "Incident") json.null f.root, ds)
 taken_found d ds f = rw (f.is, f.at)
@@ -94,29 +72,14 @@ taken_found d ds f = rw (f.is, f.at)
 abbrev pub Taken : Type 0
 Taken = Result (Option (json.Members × json.Items)) ReadFault
 
-first_of : Taken → json.Members
-first_of (Err e) = json.no_members
-first_of (Ok None) = json.no_members
-first_of (Ok (Some p)) = p.0
-
-second_of : Taken → json.Items
-second_of (Err e) = json.no_items
-second_of (Ok None) = json.no_items
-second_of (Ok (Some p)) = p.1
-
-same_root : (d : Data) (ds : json.Items) (f : Found d ds) (ms : json.Members) (es : json.Items) (t : Taken) → t ≡ Ok (taken d) → t ≡ Ok (Some (ms, es)) → put (codes "Incident") json.null f.root ≡ ms
-unfolding first_of
-same_root d ds f ms es t e h = ap first_of (ap Ok (sym (taken_found d ds f)) ∙ sym e ∙ h)
-
-same_items : (d : Data) (ds : json.Items) (f : Found d ds) (ms : json.Members) (es : json.Items) (t : Taken) → t ≡ Ok (taken d) → t ≡ Ok (Some (ms, es)) → ds ≡ es
-unfolding second_of
-same_items d ds f ms es t e h = ap second_of (ap Ok (sym (taken_found d ds f)) ∙ sym e ∙ h)
+same_taken : (d : Data) (ds : json.Items) (f : Found d ds) (ms : json.Members) (es : json.Items) (t : Taken) → t ≡ Ok (taken d) → t ≡ Ok (Some (ms, es)) → (put (codes "Incident") json.null f.root ≡ ms) × (ds ≡ es)
+same_taken d ds f ms es t e h = let was = taken_found d ds f in some_pair_parts _ _ _ _ (cc)
 
 -- what was taken out of a plain body is fit
 pub fit_taken : (d : Data) (ds : json.Items) (f : Found d ds) (ms : json.Members) (es : json.Items) (t : Taken) → t ≡ Ok (taken d) → t ≡ Ok (Some (ms, es)) → all_fit d ≡ Ok tt → AreFit ms es
 fit_taken d ds f ms es t e h p =
     let here = fit_beside f.root json.null ds (fit_object f.root ds (subst IsPlain f.is (plain_ok d p)) f.at) in
-    subst (AreFit ms) (same_items d ds f ms es t e h) (subst (λ m. AreFit m ds) (same_root d ds f ms es t e h) here)
+    subst (AreFit ms) (same_taken d ds f ms es t e h).1 (subst (λ m. AreFit m ds) (same_taken d ds f ms es t e h).0 here)
 
 some_found : {A : Type 0} (d : Data) (ds : json.Items) (k : json.Members → json.Items → Result A ReadFault) (f : Found d ds)
     → (or_fault NotDocument (as_object d) >>= λ root. or_fault NotDocument (incidents_of root) >>= k root) ≡ k f.root ds
@@ -125,6 +88,4 @@ some_found d ds k f = rw (f.is, f.chosen)
 pub reading_taken : (bytes : List ℕ) (d : Data) (ds : json.Items) (f : Found d ds) (ms : json.Members) (es : json.Items) (t : Taken) → t ≡ Ok (taken d) → t ≡ Ok (Some (ms, es))
     → parsed bytes ≡ Ok d → all_complete 0 ds ≡ Ok tt → all_fit d ≡ Ok tt → reading bytes ≡ documents ms es
 unfolding reading
-reading_taken bytes d ds f ms es t e h read whole fine =
-    rw read (some_found d ds (λ root incidents. all_complete 0 incidents >>= λ _. all_fit d >>= λ _. documents root incidents) f
-    ∙ rw (whole, fine) (sym (documents_beside f.root json.null ds) ∙ ap (λ m. documents m ds) (same_root d ds f ms es t e h) ∙ ap (documents ms) (same_items d ds f ms es t e h)))
+reading_taken bytes d ds f ms es t e h read whole fine = grind (arith, documents_beside, same_taken, some_found)

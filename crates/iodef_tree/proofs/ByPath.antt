@@ -1,11 +1,11 @@
 -- The look-up by a path finds the class whose lines stand below it.
-use Rattle.std.proofs.Common.{◌≡◌, ℕ, zero, suc, ◌+◌, ◌^◌, ◌<◌, ◌≤◌, List, [], ◌∷◌, ◌++◌, Bool, true, false, cond, ◌&&◌, ◌||◌, length, decimal, refl, sym, ◌∙◌, ap, arith, append-nil, append_assoc, true≢false, Option, Some, None, is_some, option_map, bytes_eq}
+use Rattle.std.proofs.Common.{◌≡◌, ℕ, suc, ◌+◌, ◌^◌, ◌<◌, ◌≤◌, List, [], ◌∷◌, ◌++◌, Bool, true, false, cond, ◌&&◌, ◌||◌, length, decimal, refl, sym, ◌∙◌, ap, arith, append-nil, append_assoc, true≢false, Option, Some, None, is_some, option_map, bytes_eq}
 use Rattle.std.specs.Option.{option_map_or}
 use Rattle.std.specs.List.{AllByRecursion, slice_get}
-use Rattle.std.proofs.lemmas.Bool.{and_left, and_right, cond-true, cond-false}
+use Rattle.std.proofs.lemmas.Bool.{and_left, and_right, cond-true, cond-false, cond_both}
 use Rattle.std.proofs.lemmas.List.Folds.{list_any-append}
 use Rattle.iodef_tree.specs.Text.{Bytes, Tokens, same_path, is_root, is_prefix}
-use Rattle.iodef_tree.specs.Tree.{Content, text, value, Forest, end, leaf, branch, Body, holds, says, Bodies, one, many, in_front, elements, member_front, steps, kind_of}
+use Rattle.iodef_tree.specs.Tree.{Content, Forest, end, leaf, branch, Body, Bodies, elements, member_front, steps, kind_of}
 use Rattle.iodef_tree.specs.Paths.{LocatedLine, is_class_kind, is_class, placed, located_after, located, has_class}
 use Rattle.iodef_tree.specs.Walk.{walk}
 use Rattle.iodef_tree.specs.Laws.{AllSiblings, AreApart, HasApart}
@@ -19,22 +19,16 @@ use Rattle.std.proofs.Math.Bool.{or-false}
 -- ---- what is left of a path
 
 pub past-some : (q p r : Tokens) → past q p ≡ Some r → p ≡ q ++ r
-past-some [] p r e = cc
-past-some (x ∷ q) [] r e = cc
 past-some (x ∷ q) (y ∷ p) r e = step (bytes_eq x y) refl e (past-some q p r)
   where
     step : (b : Bool) → bytes_eq x y ≡ b → cond b (past q p) None ≡ Some r → (past q p ≡ Some r → p ≡ q ++ r) → y ∷ p ≡ x ∷ (q ++ r)
     step true is h later = let same : x ≡ y = bytes_eq-true x y is in let rest : p ≡ q ++ r = later h in cc
     step false is h later = cc
+past-some q p r e = grind arith
 
 past-none : (q p : Tokens) → past q p ≡ None → is_prefix q p ≡ false
-past-none [] p e = cc
-past-none (x ∷ q) [] e = refl
-past-none (x ∷ q) (y ∷ p) e = step (bytes_eq x y) e (past-none q p)
-  where
-    step : (b : Bool) → cond b (past q p) None ≡ None → (past q p ≡ None → is_prefix q p ≡ false) → (b && is_prefix q p) ≡ false
-    step true h later = later h
-    step false h later = refl
+past-none (x ∷ q) (y ∷ p) e = grind (arith, (past-none q p))
+past-none q p e = grind arith
 
 -- ---- whether there is a class
 
@@ -62,8 +56,7 @@ none-inside f d q st p apart =
         ∙ is_false (same_path (st ++ z) p) (λ same. true≢false (sym (is_prefix-append st z) ∙ ap (is_prefix st) (same_path-true (st ++ z) p same) ∙ apart))
 
 leaf_plain : (c : Content) → is_class_kind (kind_of c) ≡ false
-leaf_plain (text s) = refl
-leaf_plain (value s) = refl
+leaf_plain c = grind arith
 
 pub has_class-walk : (f : Forest) (d : ℕ) (q p : Tokens) → HasApart f → has_class (walk d q f) (q ++ p) ≡ is_some (class_at f p)
 has_class-walk end d q p apart = refl
@@ -124,73 +117,32 @@ has_class-root ls = root-none [] ls
 abbrev pub part_or : Bodies → Tokens → Option Forest → Option Forest
 part_or m p rest = option_map_or (λ (r : Body × Tokens). object_in r.0 r.1) (part_at m p) rest
 
-class_at-in_front : (n : Bytes) (b : Body) (rest : Forest) (x : Bytes) (p : Tokens) →
-    class_at (in_front n None b rest) (x ∷ p) ≡ cond (bytes_eq n x) (object_in b p) (class_at rest (x ∷ p))
-class_at-in_front n (holds kids) rest x p = step (bytes_eq n x)
-  where
-    step : (t : Bool) → option_map_or (λ r. cond (is_root r) (Some kids) (class_at kids r)) (cond t (Some p) None) (class_at rest (x ∷ p)) ≡ cond t (cond (is_root p) (Some kids) (class_at kids p)) (class_at rest (x ∷ p))
-    step true = refl
-    step false = refl
-class_at-in_front n (says c) rest x p = step (bytes_eq n x)
-  where
-    step : (t : Bool) → option_map_or {T = Tokens} {U = Option Forest} (λ r. None) (cond t (Some p) None) (class_at rest (x ∷ p)) ≡ cond t None (class_at rest (x ∷ p))
-    step true = refl
-    step false = refl
-
-class_at-element : (n : Bytes) (k : ℕ) (b : Body) (rest : Forest) (x : Bytes) (p : Tokens) →
-    class_at (in_front n (Some k) b rest) (x ∷ p) ≡ option_map_or (object_in b) (past (n ∷ decimal k ∷ []) (x ∷ p)) (class_at rest (x ∷ p))
-class_at-element n k (holds kids) rest x p = refl
-class_at-element n k (says c) rest x p = refl
-
 elements-short : (bs : List Body) (n : Bytes) (k : ℕ) (rest : Forest) (x : Bytes) → class_at (elements n k bs rest) (x ∷ []) ≡ class_at rest (x ∷ [])
 elements-short [] n k rest x = refl
-elements-short (b ∷ bs) n k rest x =
-    class_at-element n k b (elements n (suc k) bs rest) x [] ∙ step (bytes_eq n x) ∙ elements-short bs n (suc k) rest x
-  where
-    step : (t : Bool) → option_map_or (object_in b) (cond t None None) (class_at (elements n (suc k) bs rest) (x ∷ [])) ≡ class_at (elements n (suc k) bs rest) (x ∷ [])
-    step true = refl
-    step false = refl
+elements-short (b ∷ bs) n k rest x = grind (arith, cond_both, (elements-short bs n (suc k) rest x))
 
 elements-other : (bs : List Body) (n : Bytes) (k : ℕ) (rest : Forest) (x : Bytes) (p : Tokens) → bytes_eq n x ≡ false → class_at (elements n k bs rest) (x ∷ p) ≡ class_at rest (x ∷ p)
 elements-other [] n k rest x p h = refl
-elements-other (b ∷ bs) n k rest x p h =
-    class_at-element n k b (elements n (suc k) bs rest) x p
-    ∙ ap (λ t. option_map_or (object_in b) (cond t (past (decimal k ∷ []) p) None) (class_at (elements n (suc k) bs rest) (x ∷ p))) h
-    ∙ elements-other bs n (suc k) rest x p h
+elements-other (b ∷ bs) n k rest x p h = grind (arith, (elements-other bs n (suc k) rest x p h))
 
 elements-here : (bs : List Body) (n : Bytes) (k : ℕ) (rest : Forest) (x y : Bytes) (p : Tokens) → bytes_eq n x ≡ true →
     class_at (elements n k bs rest) (x ∷ y ∷ p) ≡ option_map_or (λ (r : Body × Tokens). object_in r.0 r.1) (option_map (λ b. (b, p)) (element_at y k bs)) (class_at rest (x ∷ y ∷ p))
 elements-here [] n k rest x y p h = refl
-elements-here (b ∷ bs) n k rest x y p h =
-    class_at-element n k b (elements n (suc k) bs rest) x (y ∷ p)
-    ∙ ap (λ t. option_map_or (object_in b) (cond t (cond (bytes_eq (decimal k) y) (Some p) None) None) (class_at (elements n (suc k) bs rest) (x ∷ y ∷ p))) h
-    ∙ step (bytes_eq (decimal k) y) (elements-here bs n (suc k) rest x y p h)
-  where
-    step : (t : Bool) →
-        class_at (elements n (suc k) bs rest) (x ∷ y ∷ p) ≡ option_map_or (λ (r : Body × Tokens). object_in r.0 r.1) (option_map (λ c. (c, p)) (element_at y (suc k) bs)) (class_at rest (x ∷ y ∷ p)) →
-        option_map_or (object_in b) (cond t (Some p) None) (class_at (elements n (suc k) bs rest) (x ∷ y ∷ p))
-        ≡ option_map_or (λ (r : Body × Tokens). object_in r.0 r.1) (option_map (λ c. (c, p)) (cond t (Some b) (element_at y (suc k) bs))) (class_at rest (x ∷ y ∷ p))
-    step true later = refl
-    step false later = later
+elements-here (b ∷ bs) n k rest x y p h = grind (arith, (elements-here bs n (suc k) rest x y p h))
 
 pub class_at-here : (m : Bodies) (n : Bytes) (rest : Forest) (x : Bytes) (p : Tokens) → bytes_eq n x ≡ true → class_at (member_front n m rest) (x ∷ p) ≡ part_or m p (class_at rest (x ∷ p))
-class_at-here (one b) n rest x p h = class_at-in_front n b rest x p ∙ cond-true (bytes_eq n x) _ _ h
-class_at-here (many bs) n rest x [] h = elements-short bs n 0 rest x
-class_at-here (many bs) n rest x (y ∷ p) h = elements-here bs n 0 rest x y p h
+class_at-here m n rest x p h = grind (arith, cond-true, elements-here, elements-short)
 
 pub class_at-other : (m : Bodies) (n : Bytes) (rest : Forest) (x : Bytes) (p : Tokens) → bytes_eq n x ≡ false → class_at (member_front n m rest) (x ∷ p) ≡ class_at rest (x ∷ p)
-class_at-other (one b) n rest x p h = class_at-in_front n b rest x p ∙ cond-false (bytes_eq n x) _ _ h
-class_at-other (many bs) n rest x p h = elements-other bs n 0 rest x p h
+class_at-other m n rest x p h = grind (arith, cond-false, elements-other)
 
 -- ---- the elements of an array
 
 pub element-spelled : (bs : List Body) (token : Bytes) (j k : ℕ) → token ≡ decimal (j + k) → j + k < 2 ^ 64 → element_at token j bs ≡ slice_get bs k
-element-spelled [] token j k is small = refl
-element-spelled (b ∷ bs) token j zero is small =
-    cond-true (bytes_eq (decimal j) token) _ _ (ap (bytes_eq (decimal j)) (is ∙ ap decimal (let e : j + 0 ≡ j = omega arith in e)) ∙ bytes_eq-refl (decimal j))
 element-spelled (b ∷ bs) token j (suc k) is small =
     cond-false (bytes_eq (decimal j) token) _ _ (ap (bytes_eq (decimal j)) is ∙ (decimals_differ j (j + suc k) (omega arith) small).0)
     ∙ element-spelled bs token (suc j) k (is ∙ ap decimal (let e : j + suc k ≡ suc j + k = omega arith in e)) (omega arith)
+element-spelled bs token j k is small = grind (arith, bytes_eq-refl, cond-true)
 
 pub element-none : (bs : List Body) (token : Bytes) (j : ℕ) → j + length bs ≤ 2 ^ 64 → ((k : ℕ) → k < 2 ^ 64 → token ≡ decimal k → ⊥) → element_at token j bs ≡ None
 element-none [] token j small none = refl

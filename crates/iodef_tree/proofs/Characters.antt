@@ -1,5 +1,5 @@
 -- The bytes that UTF-8 writes a character with.
-use Rattle.std.proofs.Common.{◌≡◌, ◌≤◌, ◌⊎◌, inl, inr, ℕ, ◌+◌, ◌/◌, List, [], ◌∷◌, Bool, true, false, cond, refl, arith, ltb}
+use Rattle.std.proofs.Common.{◌≡◌, ◌≤◌, ◌⊎◌, ℕ, ◌+◌, ◌/◌, List, [], ◌∷◌, Bool, cond, arith}
 use Rattle.std.specs.Char.{encode_utf8}
 use lib.Utf8.{next}
 use Rattle.std.proofs.lemmas.Bool.{ltb-false}
@@ -20,10 +20,4 @@ bytes_of c one two three = cond one (c ∷ []) (cond two ((192 + c / 64) ∷ nex
 -- a character is its own byte, or none of its bytes is ASCII
 pub encode_utf8-cases : (c : ℕ) → (encode_utf8 c ≡ c ∷ []) ⊎ IsHigh c (encode_utf8 c)
 unfolding encode_utf8
-encode_utf8-cases c = by_size (ltb c 128) (ltb c 2048) (ltb c 65536) refl
-  where
-    by_size : (one two three : Bool) → ltb c 128 ≡ one → (bytes_of c one two three ≡ c ∷ []) ⊎ IsHigh c (bytes_of c one two three)
-    by_size true two three e = inl refl
-    by_size false true three e = inr (ltb-false c 128 e, 192 + c / 64, next c ∷ [], refl, (omega arith, (omega arith, tt)))
-    by_size false false true e = inr (ltb-false c 128 e, 224 + c / 4096, next (c / 64) ∷ next c ∷ [], refl, (omega arith, (omega arith, (omega arith, tt))))
-    by_size false false false e = inr (ltb-false c 128 e, 240 + c / 262144, next (c / 4096) ∷ next (c / 64) ∷ next c ∷ [], refl, (omega arith, (omega arith, (omega arith, (omega arith, tt)))))
+encode_utf8-cases c = grind (arith, ltb-false)

@@ -1,5 +1,5 @@
 -- The paths of the classes, member by member.
-use Rattle.std.proofs.Common.{◌≡◌, ℕ, suc, List, [], ◌∷◌, ◌++◌, map, filter, refl, sym, ◌∙◌, ap, append_assoc, cond}
+use Rattle.std.proofs.Common.{◌≡◌, ℕ, suc, List, [], ◌∷◌, ◌++◌, map, filter, refl, ◌∙◌, ap, append_assoc, cond, arith}
 use Rattle.std.proofs.lemmas.List.{map-append}
 use Rattle.std.proofs.lemmas.List.Elements.{filter-append}
 use Rattle.iodef_tree.specs.Text.{Tokens}
@@ -38,7 +38,4 @@ classes-lines f sound = ap class_paths (located-lines f sound) ∙ classes-walk 
 pub classes-append : (p : Tokens) (f g : Forest) → classes_below p (append f g) ≡ classes_below p f ++ classes_below p g
 classes-append p end g = refl
 classes-append p (leaf i rest) g = classes-append p rest g
-classes-append p (branch n o kids rest) g =
-    let q = p ++ steps n o in
-    ap (λ ps. q ∷ (classes_below q kids ++ ps)) (classes-append p rest g)
-    ∙ ap (λ ps. q ∷ ps) (sym (append_assoc (classes_below q kids) (classes_below p rest) (classes_below p g)))
+classes-append p (branch n o kids rest) g = grind (arith, append_assoc, (classes-append p rest g))

@@ -1,31 +1,23 @@
 -- How many lines the parts of a tree have.
-use Rattle.std.proofs.Common.{◌≡◌, ℕ, suc, ◌+◌, List, [], ◌∷◌, length, sum_by, refl, ap, arith, Option, Some, None, length-append}
+use Rattle.std.proofs.Common.{◌≡◌, ℕ, suc, ◌+◌, List, [], ◌∷◌, length, sum_by, refl, ap, arith, length-append}
 use Rattle.std.proofs.lemmas.List.Sums.{sum_by-cons}
+use Rattle.std.proofs.lemmas.Grind.{common_steps}
 use Rattle.iodef_tree.specs.Text.{Bytes}
-use Rattle.iodef_tree.specs.Tree.{Forest, end, leaf, branch, Body, holds, says, Bodies, one, many, in_front, elements, member_front, lines}
+use Rattle.iodef_tree.specs.Tree.{Forest, end, leaf, branch, Body, Bodies, elements, member_front, lines}
 use Rattle.iodef_tree.specs.FitValues.{line_count, body_count, bodies_count}
-
-line_count-in_front : (name : Bytes) (place : Option ℕ) (b : Body) (rest : Forest) → line_count (in_front name place b rest) ≡ body_count b + line_count rest
-line_count-in_front name place (holds kids) rest = omega arith
-line_count-in_front name place (says content) rest = omega arith
 
 line_count-elements : (name : Bytes) (k : ℕ) (bs : List Body) (rest : Forest) → line_count (elements name k bs rest) ≡ sum_by body_count bs + line_count rest
 line_count-elements name k [] rest = omega arith
-line_count-elements name k (b ∷ bs) rest =
-    let first = line_count-in_front name (Some k) b (elements name (suc k) bs rest) in
-    let later = line_count-elements name (suc k) bs rest in
-    omega (arith, first, later, sum_by-cons body_count b bs)
+line_count-elements name k (b ∷ bs) rest = grind (arith, common_steps, sum_by-cons, (line_count-elements name (suc k) bs rest))
 
 -- those of a member are in front
 pub line_count-member_front : (name : Bytes) (m : Bodies) (rest : Forest) → line_count (member_front name m rest) ≡ bodies_count m + line_count rest
-line_count-member_front name (one b) rest = line_count-in_front name None b rest
-line_count-member_front name (many bs) rest = line_count-elements name 0 bs rest
+line_count-member_front name m rest = grind (arith, line_count-elements)
 
 pub length-lines : (f : Forest) (d : ℕ) → length (lines d f) ≡ line_count f
 length-lines end d = refl
 length-lines (leaf i rest) d = ap suc (length-lines rest d)
-length-lines (branch name place kids rest) d =
-    let k = length-lines kids (suc d) in
-    let r = length-lines rest d in
-    let both = length-append (lines (suc d) kids) (lines d rest) in
-    omega (arith, k, r, both)
+length-lines (branch name place kids rest) d = grind (arith, length-append, (length-lines kids (suc d)), (length-lines rest d))
+
+-- for the walk that counts against a limit
+pub ruleset counting = (common_steps, line_count-member_front)

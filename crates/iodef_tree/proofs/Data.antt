@@ -1,11 +1,12 @@
 -- A tree as data, member by member.
-use Rattle.std.proofs.Common.{◌≡◌, ℕ, suc, ◌+◌, ◌<◌, true, List, [], ◌∷◌, map, length, drop, drop-cons, get_or, refl, sym, ◌∙◌, ap, subst, arith, true≢false, Greater, String, Global, string_bytes, string_cmp, Option, Some, None, ◌==◌, bytes_eq}
+use Rattle.std.proofs.Common.{◌≡◌, ℕ, suc, ◌+◌, ◌<◌, Bool, true, false, List, [], ◌∷◌, map, length, drop, drop-cons, get_or, refl, sym, ◌∙◌, ap, subst, arith, true≢false, Greater, String, Global, string_bytes, string_cmp, Option, Some, None, is_some, ◌==◌, bytes_eq}
 use Rattle.std.specs.List.{AllByRecursion}
-use Rattle.std.specs.Ordering.{nat_cmp, match_ordering, ordering_reverse}
+use Rattle.std.specs.Ordering.{nat_cmp, ordering_reverse}
 use Rattle.std.specs.Cmp.Lexicographic.{slice_cmp}
 use Rattle.std.specs.BTreeMap.{insert_entry}
 use Rattle.std.proofs.lemmas.Bool.{and_parts}
 use Rattle.std.proofs.lemmas.Cmp.{nat_list_cmp_total}
+use Rattle.std.proofs.lemmas.Grind.{common_steps}
 use Rattle.serde_json.specs.Data as json
 use Rattle.serde_json.specs.Data.{Data, put}
 use Rattle.serde_json.specs.View.{view, members_view, items_of as listed}
@@ -14,7 +15,7 @@ use Rattle.serde_json.proofs.Views.{members_view-insert_entry}
 use Rattle.iodef_tree.specs.FitValues.{IsBodyOrdered, AreBodiesOrdered}
 use Rattle.iodef_tree.specs.Sound.{SiblingPlace, may_stand, IsOrderedBehind, IsOrdered}
 use Rattle.iodef_tree.specs.Text.{Bytes, bytes_lt}
-use Rattle.iodef_tree.specs.Tree.{Forest, end, leaf, branch, Body, holds, says, Bodies, one, many, in_front, elements, member_front}
+use Rattle.iodef_tree.specs.Tree.{Forest, end, leaf, branch, Body, Bodies, one, many, in_front, elements, member_front}
 use Rattle.iodef_tree.specs.View.{forest, forest_of_members, bodies, named, members_forest}
 use Rattle.iodef_tree.specs.Written.{content_data, placed_member, placed_item, members_of, items_of, body_data, bodies_data, put_all}
 use Rattle.iodef_tree.specs.declared.text.Text.{Text}
@@ -29,12 +30,10 @@ use Rattle.iodef_tree.proofs.Views.{forest-members}
 -- ---- one member in front
 
 front-members : (n : Bytes) (p : Option ℕ) (b : Body) (rest : Forest) → members_of (in_front n p b rest) ≡ placed_member n p (body_data b) (items_of rest) (members_of rest)
-front-members n p (holds f) rest = refl
-front-members n p (says c) rest = refl
+front-members n p b rest = grind arith
 
 pub front-items : (n : Bytes) (p : Option ℕ) (b : Body) (rest : Forest) → items_of (in_front n p b rest) ≡ placed_item p (body_data b) (items_of rest)
-front-items n p (holds f) rest = refl
-front-items n p (says c) rest = refl
+front-items n p b rest = grind arith
 
 -- an array from its second element on
 later-members : (n : Bytes) (k : ℕ) (bs : List Body) (rest : Forest) → members_of (elements n (suc k) bs rest) ≡ members_of rest
@@ -47,41 +46,35 @@ later-items n k (b ∷ bs) rest h = front-items n (Some (suc k)) b (elements n (
 
 -- no member begins amid an array
 pub no-items : (ms : List (Bytes × Bodies)) → items_of (forest_of_members ms) ≡ json.no_items
-no-items [] = refl
-no-items ((n, one b) ∷ ms) = front-items n None b (forest_of_members ms)
 no-items ((n, many []) ∷ ms) = no-items ms
-no-items ((n, many (b ∷ bs)) ∷ ms) = front-items n (Some 0) b (elements n 1 bs (forest_of_members ms))
+no-items ms = grind arith
 
 pub member-data : (n : Bytes) (m : Bodies) (rest : Forest) → items_of rest ≡ json.no_items → has_elements m ≡ true → members_of (member_front n m rest) ≡ json.member n (bodies_data m) (members_of rest)
-member-data n (one b) rest fresh filled = front-members n None b rest
-member-data n (many []) rest fresh filled = absurd (true≢false (sym filled))
-member-data n (many (b ∷ bs)) rest fresh filled =
-    front-members n (Some 0) b (elements n 1 bs rest)
-    ∙ ap (λ ds. json.member n (json.array (json.item (body_data b) ds)) (members_of (elements n 1 bs rest))) (later-items n 0 bs rest fresh)
-    ∙ ap (json.member n (json.array (json.item (body_data b) (listed (map body_data bs))))) (later-members n 0 bs rest)
+member-data n m rest fresh filled = grind (arith, later-items, later-members)
 
 -- ---- what is ordered is so inside
 
 front-ordered : (o : Option SiblingPlace) (n : Bytes) (p : Option ℕ) (b : Body) (rest : Forest) → IsOrderedBehind o (in_front n p b rest) → IsBodyOrdered b × IsOrderedBehind (Some (n, p)) rest
-front-ordered o n p (holds f) rest h = (h.1, h.2)
-front-ordered o n p (says c) rest h = (tt, h.1)
+front-ordered o n p b rest h = grind arith
 
-record Inside (bs : List Body) (rest : Forest) : Type 0 where
-  pub each : AllByRecursion IsBodyOrdered bs
-  pub before : Option SiblingPlace
-  pub behind : IsOrderedBehind before rest
+-- What holds of members, one in front of the other, holds inside each: where it holds inside the one in front, and of those
+-- behind it.
+module _ (R : Option SiblingPlace → Forest → Type 0) (B : Bool → Body → Type 0)
+    (front : (o : Option SiblingPlace) (n : Bytes) (p : Option ℕ) (b : Body) (rest : Forest) → R o (in_front n p b rest) → B (is_some p) b × R (Some (n, p)) rest) where
+  elements-each : (o : Option SiblingPlace) (n : Bytes) (k : ℕ) (bs : List Body) (rest : Forest) → R o (elements n k bs rest) → AllByRecursion (B true) bs × ((s : Option SiblingPlace) × R s rest)
+  elements-each o n k [] rest h = (tt, (o, h))
+  elements-each o n k (b ∷ bs) rest h =
+      let parts = front o n (Some k) b (elements n (suc k) bs rest) h in
+      let more = elements-each (Some (n, Some k)) n (suc k) bs rest parts.1 in
+      ((parts.0, more.0), more.1)
 
-elements-ordered : (o : Option SiblingPlace) (n : Bytes) (k : ℕ) (bs : List Body) (rest : Forest) → IsOrderedBehind o (elements n k bs rest) → Inside bs rest
-elements-ordered o n k [] rest h = record { each = tt; before = o; behind = h }
-elements-ordered o n k (b ∷ bs) rest h =
-    let parts = front-ordered o n (Some k) b (elements n (suc k) bs rest) h in
-    let more = elements-ordered (Some (n, Some k)) n (suc k) bs rest parts.1 in
-    record { each = (parts.0, more.each); before = more.before; behind = more.behind }
-
-members-ordered : (ms : List (Bytes × Bodies)) (o : Option SiblingPlace) → IsOrderedBehind o (forest_of_members ms) → AllByRecursion (λ m. AreBodiesOrdered m.1) ms
-members-ordered [] o h = tt
-members-ordered ((n, one b) ∷ ms) o h = let parts = front-ordered o n None b (forest_of_members ms) h in (parts.0, members-ordered ms (Some (n, None)) parts.1)
-members-ordered ((n, many bs) ∷ ms) o h = let parts = elements-ordered o n 0 bs (forest_of_members ms) h in (parts.each, members-ordered ms parts.before parts.behind)
+  pub members-each : (C : Bodies → Type 0) → ((b : Body) → B false b → C (one b)) → ((bs : List Body) → AllByRecursion (B true) bs → C (many bs)) →
+      (ms : List (Bytes × Bodies)) (o : Option SiblingPlace) → R o (forest_of_members ms) → AllByRecursion (λ m. C m.1) ms
+  members-each C of_one of_many [] o h = tt
+  members-each C of_one of_many ((n, one b) ∷ ms) o h =
+      let parts = front o n None b (forest_of_members ms) h in (of_one b parts.0, members-each C of_one of_many ms (Some (n, None)) parts.1)
+  members-each C of_one of_many ((n, many bs) ∷ ms) o h =
+      let parts = elements-each o n 0 bs (forest_of_members ms) h in (of_many bs parts.0, members-each C of_one of_many ms parts.1.0 parts.1.1)
 
 -- ---- names that ascend
 
@@ -92,14 +85,6 @@ AreAfter n (json.member l d ms) = (bytes_lt n l ≡ true) × AreAfter n ms
 abbrev pub Ascend : json.Members → Type 0
 Ascend json.no_members = Unit {0}
 Ascend (json.member l d ms) = AreAfter l ms × Ascend ms
-
-abbrev AreBefore : json.Members → Bytes → Type 0
-AreBefore json.no_members n = Unit {0}
-AreBefore (json.member l d ms) n = (bytes_lt l n ≡ true) × AreBefore ms n
-
-abbrev AreBelow : json.Members → json.Members → Type 0
-AreBelow found json.no_members = Unit {0}
-AreBelow found (json.member n d ms) = AreBefore found n × AreBelow found ms
 
 abbrev joined : json.Members → json.Members → json.Members
 joined json.no_members others = others
@@ -121,8 +106,7 @@ after (leaf i rest) n q h = placed-after n q i.name i.place (content_data i.cont
 after (branch name p kids rest) n q h = placed-after n q name p (json.object (members_of kids)) (items_of rest) (members_of rest) h.0 (after rest name p h.2)
 
 placed-ascend : (name : Bytes) (p : Option ℕ) (d : Data) (ds : json.Items) (ms : json.Members) → AreAfter name ms → Ascend ms → Ascend (placed_member name p d ds ms)
-placed-ascend name (Some (suc i)) d ds ms h k = k
-placed-ascend name _ d ds ms h k = (h, k)
+placed-ascend name p d ds ms h k = grind arith
 
 ascend : (f : Forest) (o : Option SiblingPlace) → IsOrderedBehind o f → Ascend (members_of f)
 ascend end o h = tt
@@ -134,40 +118,31 @@ ascend (branch name p kids rest) o h = placed-ascend name p (json.object (member
 greater : (l n : Bytes) → bytes_lt l n ≡ true → slice_cmp nat_cmp n l ≡ Greater
 greater l n h = nat_list_cmp_total.antisymm n l ∙ ap ordering_reverse (bytes_lt-less l n h)
 
-put-last : (found : json.Members) (n : Bytes) (d : Data) → AreBefore found n → put n d found ≡ joined found (json.member n d json.no_members)
-put-last json.no_members n d h = refl
-put-last (json.member l e ms) n d h =
-    ap (λ o. match_ordering o (json.member n d (json.member l e ms)) (json.member l d ms) (json.member l e (put n d ms))) (greater l n h.0)
-    ∙ ap (json.member l e) (put-last ms n d h.1)
+-- one name is behind another, in whatever comes behind it
+after-joined : (l : Bytes) (found : json.Members) (n : Bytes) (d : Data) (ms : json.Members) → AreAfter l (joined found (json.member n d ms)) → bytes_lt l n ≡ true
+after-joined l json.no_members n d ms h = h.0
+after-joined l (json.member k e found) n d ms h = after-joined l found n d ms h.1
+
+put-last : (found : json.Members) (n : Bytes) (d : Data) (ms : json.Members) → Ascend (joined found (json.member n d ms)) → put n d found ≡ joined found (json.member n d json.no_members)
+put-last json.no_members n d ms h = refl
+put-last (json.member l e found) n d ms h = grind (arith, after-joined, greater, (put-last found n d ms h.1))
 
 joined-one : (found : json.Members) (n : Bytes) (d : Data) (ms : json.Members) → joined (joined found (json.member n d json.no_members)) ms ≡ joined found (json.member n d ms)
 joined-one json.no_members n d ms = refl
 joined-one (json.member l e more) n d ms = ap (json.member l e) (joined-one more n d ms)
 
-before-one : (found : json.Members) (n m : Bytes) (d : Data) → AreBefore found m → bytes_lt n m ≡ true → AreBefore (joined found (json.member n d json.no_members)) m
-before-one json.no_members n m d h k = (k, tt)
-before-one (json.member l e ms) n m d h k = (h.0, before-one ms n m d h.1 k)
-
-below-one : (found : json.Members) (n : Bytes) (d : Data) (ms : json.Members) → AreBelow found ms → AreAfter n ms → AreBelow (joined found (json.member n d json.no_members)) ms
-below-one found n d json.no_members h k = tt
-below-one found n d (json.member m e ms) h k = (before-one found n m d h.0 k.0, below-one found n d ms h.1 k.1)
-
-put-joined : (ms found : json.Members) → Ascend ms → AreBelow found ms → put_all ms found ≡ joined found ms
-put-joined json.no_members found h k = sym (joined-none found)
+put-joined : (ms found : json.Members) → Ascend (joined found ms) → put_all ms found ≡ joined found ms
+put-joined json.no_members found h = sym (joined-none found)
   where
     joined-none : (xs : json.Members) → joined xs json.no_members ≡ xs
     joined-none json.no_members = refl
     joined-none (json.member l e xs) = ap (json.member l e) (joined-none xs)
-put-joined (json.member n d ms) found h k =
+put-joined (json.member n d ms) found h =
     let more = joined found (json.member n d json.no_members) in
-    ap (put_all ms) (put-last found n d k.0) ∙ put-joined ms more h.1 (below-one found n d ms k.1 h.0) ∙ joined-one found n d ms
-
-none-below : (ms : json.Members) → AreBelow json.no_members ms
-none-below json.no_members = tt
-none-below (json.member n d ms) = (tt, none-below ms)
+    ap (put_all ms) (put-last found n d ms h) ∙ put-joined ms more (subst Ascend (sym (joined-one found n d ms)) h) ∙ joined-one found n d ms
 
 pub put-ascending : (ms : json.Members) → Ascend ms → put_all ms json.no_members ≡ ms
-put-ascending ms h = put-joined ms json.no_members h (none-below ms)
+put-ascending ms h = put-joined ms json.no_members h
 
 put-ordered : (f : Forest) → IsOrdered f → put_all (members_of f) json.no_members ≡ members_of f
 put-ordered f h = put-ascending (members_of f) (ascend f None h)
@@ -180,26 +155,18 @@ one-more i = omega arith
 pub put-member : (old new : List MapEntry) (name : String Global) (v : Value) (R : json.Members) (xs : List (Text × Member)) (i : ℕ) (m : Text × Member) → i < length xs → m ≡ get_or xs i m →
     has_elements (bodies m.1) ≡ true → string_bytes name ≡ m.0 → view v ≡ bodies_data (bodies m.1) → new ≡ insert_entry string_cmp old name v →
     put_all (members_of (members_forest (drop i xs))) (members_view old) ≡ R → put_all (members_of (members_forest (drop (i + 1) xs))) (members_view new) ≡ R
-put-member old new name v R xs i m h e filled is means put_in left =
-    let rest = members_forest (drop (i + 1) xs) in
-    ap (put_all (members_of rest)) (ap members_view put_in ∙ members_view-insert_entry old name v ∙ ap (λ n. put n (view v) (members_view old)) is ∙ ap (λ d. put m.0 d (members_view old)) means)
-    ∙ sym (ap (λ ms. put_all ms (members_view old)) (ap members_of (members-next xs i m h e) ∙ member-data m.0 (bodies m.1) rest (no-items (map named (drop (i + 1) xs))) filled))
-    ∙ left
+put-member old new name v R xs i m h e filled is means put_in left = grind (arith, common_steps, member-data, members-next, members_view-insert_entry, no-items)
 
 -- what holds of each member that is left
 pub all-left : (P : Bytes × Bodies → Type 0) (xs : List (Text × Member)) (i : ℕ) (m : Text × Member) → i < length xs → m ≡ get_or xs i m → AllByRecursion P (map named (drop i xs)) →
     P (named m) × AllByRecursion P (map named (drop (i + 1) xs))
-all-left P xs i m h e all =
-    let parts = subst (λ (ys : List (Text × Member)). AllByRecursion P (map named ys)) (drop-cons xs i m h ∙ ap (λ y. y ∷ drop (suc i) xs) (sym e)) all in
-    (parts.0, subst (λ k. AllByRecursion P (map named (drop k xs))) (one-more i) parts.1)
+all-left P xs i m h e all = grind (arith, drop-cons, one-more)
 
 -- ---- at the start
 
 pub put-started : (o : Object) (xs : List (Text × Member)) (es : List MapEntry) → IsOrdered (forest o) → xs ≡ o.members.items → es ≡ [] → put_all (members_of (members_forest xs)) (members_view es) ≡ members_of (forest o)
-put-started o xs es h is none =
-    ap (λ found. put_all (members_of (members_forest xs)) (members_view found)) none
-    ∙ ap (λ f. put_all (members_of f) json.no_members) (ap members_forest is ∙ sym (forest-members o))
-    ∙ put-ordered (forest o) h
+put-started o xs es h is none = grind (arith, forest-members, put-ordered)
 
 pub object-ordered : (o : Object) (xs : List (Text × Member)) → IsOrdered (forest o) → xs ≡ o.members.items → AllByRecursion (λ m. AreBodiesOrdered m.1) (map named xs)
-object-ordered o xs h is = members-ordered (map named xs) None (subst IsOrdered (forest-members o ∙ ap members_forest (sym is)) h)
+object-ordered o xs h is =
+    members-each IsOrderedBehind (λ a b. IsBodyOrdered b) front-ordered AreBodiesOrdered (λ b k. k) (λ bs k. k) (map named xs) None (subst IsOrdered (forest-members o ∙ ap members_forest (sym is)) h)

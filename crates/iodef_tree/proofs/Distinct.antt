@@ -1,8 +1,9 @@
 -- No two lines of a sound document have one path.
-use Rattle.std.proofs.Common.{◌≡◌, ℕ, suc, List, [], ◌∷◌, ◌++◌, Bool, true, false, cond, map, filter, sym, ◌∙◌, ap, subst, append-nil, append_assoc, true≢false, Option}
+use Rattle.std.proofs.Common.{◌≡◌, ℕ, suc, List, [], ◌∷◌, ◌++◌, Bool, false, map, filter, sym, subst, append-nil, append_assoc, Option, arith}
 use Rattle.std.specs.List.{AllByRecursion, IsDistinct}
+use Rattle.std.proofs.lemmas.Bool.{cond_both}
 use Rattle.std.proofs.lemmas.List.{map-append}
-use Rattle.iodef_tree.specs.Text.{Bytes, Tokens, same_path, is_prefix}
+use Rattle.iodef_tree.specs.Text.{Bytes, Tokens, same_path}
 use Rattle.iodef_tree.specs.Tree.{Forest, end, leaf, branch, steps, lines}
 use Rattle.iodef_tree.specs.Paths.{LocatedLine, is_class, located, classes_of}
 use Rattle.iodef_tree.specs.Sound.{IsSound}
@@ -27,10 +28,7 @@ distinct-append (x ∷ xs) ys h k cross = (all-append (λ q. same_path x q ≡ f
 
 -- two paths of which one goes on from what the other does not go on from
 pub apart-differ : (p : Tokens) (n : Bytes) (o : Option ℕ) (n' : Bytes) (o' : Option ℕ) → AreApart n o n' o' → (z z' : Tokens) → same_path (p ++ (steps n o ++ z)) (p ++ (steps n' o' ++ z')) ≡ false
-apart-differ p n o n' o' h z z' =
-    same_path-common p (steps n o ++ z) (steps n' o' ++ z')
-    ∙ is_false (same_path (steps n o ++ z) (steps n' o' ++ z'))
-    (λ same. true≢false (sym (is_prefix-append (steps n o) z) ∙ ap (is_prefix (steps n o)) (same_path-true (steps n o ++ z) (steps n' o' ++ z') same) ∙ h.left z'))
+apart-differ p n o n' o' h z z' = grind (arith, is_false, is_prefix-append, same_path-common, same_path-true)
 
 -- what goes on from a sibling is none of the paths behind it
 fresh-behind : (f : Forest) (d : ℕ) (p : Tokens) (n : Bytes) (o : Option ℕ) (z : Tokens) → AllSiblings (AreApart n o) f → IsFresh (p ++ (steps n o ++ z)) (map path_of (walk d p f))
@@ -73,20 +71,14 @@ paths-distinct f sound = subst (λ es. IsDistinct same_path (map path_of es)) (s
 
 fresh-filter : (P : LocatedLine → Bool) (p : Tokens) (es : List LocatedLine) → IsFresh p (map path_of es) → IsFresh p (map path_of (filter P es))
 fresh-filter P p [] h = tt
-fresh-filter P p (e ∷ es) h = step (P e) (fresh-filter P p es h.1)
-  where
-    step : (b : Bool) → IsFresh p (map path_of (filter P es)) → IsFresh p (map path_of (cond b (e ∷ filter P es) (filter P es)))
-    step true k = (h.0, k)
-    step false k = k
+fresh-filter P p (e ∷ es) h = cond_both (P e) (e ∷ filter P es) (filter P es) (λ xs. IsFresh p (map path_of xs)) (λ _. (h.0, fresh-filter P p es h.1)) (λ _. fresh-filter P p es h.1)
 
 pub distinct-filter : (P : LocatedLine → Bool) (es : List LocatedLine) → IsDistinct same_path (map (λ (e : LocatedLine). e.path) es) → IsDistinct same_path (map (λ (e : LocatedLine). e.path) (filter P es))
 unfolding IsDistinct
 distinct-filter P [] h = tt
-distinct-filter P (e ∷ es) h = step (P e) (distinct-filter P es h.1)
-  where
-    step : (b : Bool) → IsDistinct same_path (map path_of (filter P es)) → IsDistinct same_path (map path_of (cond b (e ∷ filter P es) (filter P es)))
-    step true k = (fresh-filter P e.path es h.0, k)
-    step false k = k
+distinct-filter P (e ∷ es) h =
+    let later = distinct-filter P es h.1 in
+    cond_both (P e) (e ∷ filter P es) (filter P es) (λ xs. IsDistinct same_path (map path_of xs)) (λ _. (fresh-filter P e.path es h.0, later)) (λ _. later)
 
 pub class_paths-distinct : (f : Forest) → IsSound f → IsDistinct same_path (classes_of (lines 1 f))
 class_paths-distinct f sound = distinct-filter is_class (located (lines 1 f)) (paths-distinct f sound)

@@ -1,18 +1,18 @@
 -- A list of documents, with those already made in front.
-use Rattle.std.proofs.Common.{◌≡◌, ◌+◌, ◌≤◌, ◌<◌, ℕ, List, [], ◌∷◌, ◌++◌, Bool, true, false, not, Option, Some, None, Result, Ok, Err, refl, sym, subst, ap, ◌∙◌, append_assoc, arith, IfSome, IfNone, is_some, IsErrAnd}
+use Rattle.std.proofs.Common.{◌≡◌, ◌+◌, ◌≤◌, ◌<◌, ℕ, List, [], ◌∷◌, ◌++◌, Bool, true, false, not, Option, Result, Ok, Err, refl, sym, subst, ◌∙◌, append_assoc, arith, IfSome, IfNone, is_some, IsErrAnd}
 use Rattle.iodef_tree.specs.FitValues.{line_count, IsFit, AreFit}
 use Rattle.serde_json.specs.Data as json
 use Rattle.serde_json.specs.View.{view, items_view}
 use Rattle.serde_json.specs.declared.value.Value.{Value}
 use Rattle.std.proofs.lemmas.List.Sums.{count_by-le-length}
 use Rattle.iodef_tree.specs.Reading.{◌>>=◌, if_short, document_of, documents, Fails, Returns}
-use Rattle.iodef_tree.specs.Sound.{IsOrdered, IsSound, class_height, is_label_line}
+use Rattle.iodef_tree.specs.Sound.{IsOrdered, IsSound, class_height}
 use Rattle.iodef_tree.specs.Texts.{HasTexts}
 use Rattle.iodef_tree.specs.Tree.{Forest, end, leaf, branch, lines, height}
 use Rattle.iodef_tree.specs.declared.TheConstants.{DEPTH_LIMIT, LINE_LIMIT}
 use Rattle.iodef_tree.specs.declared.line.Line.{Line}
 use Rattle.iodef_tree.specs.declared.fault.ReadFault.{ReadFault}
-use Rattle.iodef_tree.specs.declared.fault.ReadFault.TheVariants.{TooManyLines, NoMemory}
+use Rattle.iodef_tree.specs.declared.fault.ReadFault.TheVariants.{TooManyLines}
 use Rattle.iodef_tree.proofs.Counts.{length-lines}
 use Rattle.std.proofs.lemmas.Bool.{le-ltb, lt-ltb}
 
@@ -20,18 +20,13 @@ abbrev pub with_front : {A : Type 0} → List A → Result (List A) ReadFault �
 with_front front r = r >>= λ x. Ok (front ++ x)
 
 pub with_front-cons : {A : Type 0} (front : List A) (a : A) (r : Result (List A) ReadFault) → with_front (front ++ a ∷ []) r ≡ with_front front (r >>= λ others. Ok (a ∷ others))
-with_front-cons front a (Ok x) = ap Ok (append_assoc front (a ∷ []) x)
-with_front-cons front a (Err e) = refl
+with_front-cons front a r = grind (arith, append_assoc)
 
 pub room_kept : (r : Option ℕ) (b : Bool) (n room : ℕ) → IfSome r (λ left. left + n ≡ room) → is_some r ≡ not b → b ≡ false → n ≤ room
-room_kept None true n room h e f = cc
-room_kept None false n room h e f = cc
-room_kept (Some left) b n room h e f = omega arith
+room_kept r b n room h e f = grind arith
 
 pub room_lacks : (r : Option ℕ) (b : Bool) (n room : ℕ) → IfNone r (room < n) → is_some r ≡ not b → b ≡ true → room < n
-room_lacks None b n room h e f = h
-room_lacks (Some left) true n room h e f = cc
-room_lacks (Some left) false n room h e f = cc
+room_lacks r b n room h e f = grind arith
 
 pub short_enough : (f : Forest) → line_count f ≤ LINE_LIMIT → if_short (lines 1 f) ≡ Ok (lines 1 f)
 short_enough f h = rw (length-lines f 1, le-ltb LINE_LIMIT (line_count f) h)
@@ -45,35 +40,23 @@ classes-low (leaf i rest) = let a = classes-low rest in omega (arith, a)
 classes-low (branch name place kids rest) = let a = classes-low kids in let b = classes-low rest in omega (arith, a, b)
 
 pub sound : (f : Forest) → IsOrdered f → height f ≤ DEPTH_LIMIT → line_count f ≤ LINE_LIMIT → HasTexts f → IsSound f
-sound f o h n t = record {
-  ordered = o;
-  classes = let a = classes-low f in omega (arith, h, a);
-  shallow = omega (arith, h);
-  short = let all = length-lines f 1 in let some = count_by-le-length (λ l. not (is_label_line l)) (lines 1 f) in omega (arith, all, some, n);
-  texts = t;
-}
+sound f o h n t = grind (arith, classes-low, count_by-le-length, length-lines)
 
 -- one document more, behind the others
 one_more : {A : Type 0} (s d : Result A ReadFault) (front rest : Result (List A) ReadFault) → rest ≡ (front >>= λ xs. d >>= λ x. Ok (xs ++ x ∷ []))
     → (s >>= λ x. rest >>= λ xs. Ok (x ∷ xs)) ≡ ((s >>= λ x. front >>= λ xs. Ok (x ∷ xs)) >>= λ xs. d >>= λ x. Ok (xs ++ x ∷ []))
-one_more (Err x) d front rest is = refl
-one_more (Ok x) (Ok y) (Ok xs) rest is = rw is
-one_more (Ok x) (Err y) (Ok xs) rest is = rw is
-one_more (Ok x) d (Err y) rest is = rw is
+one_more s d front rest is = grind arith
 
 pub documents_then : (root : json.Members) (vs : List Value) (v : Value)
     → documents root (items_view (vs ++ v ∷ [])) ≡ (documents root (items_view vs) >>= λ front. if_short (lines 1 (document_of (view v) root)) >>= λ d. Ok (front ++ d ∷ []))
 documents_then root [] v = refl
-documents_then root (w ∷ vs) v =
-    one_more (if_short (lines 1 (document_of (view w) root))) (if_short (lines 1 (document_of (view v) root))) (documents root (items_view vs)) (documents root (items_view (vs ++ v ∷ []))) (documents_then root vs v)
+documents_then root (w ∷ vs) v = grind (arith, (documents_then root vs v))
 
 pub fails_then : {A B : Type 0} (e : ReadFault) (r : Result A ReadFault) (f : A → Result B ReadFault) → Fails e r → Fails e (r >>= f)
-fails_then NoMemory r f h = tt
-fails_then _ r f h = rw h
+fails_then e r f h = grind arith
 
 pub gives_err : {X Y : Type 0} (view : X → Y) (e : ReadFault) (r : Result X ReadFault) (read : Result Y ReadFault) → IsErrAnd r (λ f. f ≡ e) → Fails e read → Returns view r read
-gives_err view e (Ok x) read h k = absurd h
-gives_err view e (Err f) read h k = subst (λ g. Fails g read) (sym h) k
+gives_err view e r read h k = grind arith
 
 pub failed : (root : json.Members) (vs : List Value) (v : Value) (front : List (List Line)) (e : ReadFault) → Fails e (if_short (lines 1 (document_of (view v) root))) → Fails e (with_front front (documents root (items_view (v ∷ vs))))
 failed root vs v front e h = fails_then e (documents root (items_view (v ∷ vs))) (λ x. Ok (front ++ x)) (fails_then e (if_short (lines 1 (document_of (view v) root))) (λ first. documents root (items_view vs) >>= λ others. Ok (first ∷ others)) h)
@@ -91,8 +74,7 @@ failed_front root vs v e h = subst (Fails e) (sym (documents_then root vs v)) (f
 
 pub failed_last : (root : json.Members) (vs : List Value) (v : Value) (front : List (List Line)) (e : ReadFault) → documents root (items_view vs) ≡ Ok front → Fails e (if_short (lines 1 (document_of (view v) root)))
     → Fails e (documents root (items_view (vs ++ v ∷ [])))
-failed_last root vs v front e h k =
-    subst (Fails e) (sym (documents_then root vs v)) (subst (λ r. Fails e (r >>= λ xs. if_short (lines 1 (document_of (view v) root)) >>= λ d. Ok (xs ++ d ∷ []))) (sym h) (fails_then e (if_short (lines 1 (document_of (view v) root))) (λ d. Ok (front ++ d ∷ [])) k))
+failed_last root vs v front e h k = grind (arith, documents_then)
 
 pub fit_parts : (root : json.Members) (vs : List Value) (v : Value) → AreFit root (items_view (vs ++ v ∷ [])) → AreFit root (items_view vs) × IsFit root (view v)
 fit_parts root [] v h = (tt, h.0)

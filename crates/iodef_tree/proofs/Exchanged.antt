@@ -1,5 +1,5 @@
 -- A root whose member `Incident` is exchanged.
-use Rattle.std.proofs.Common.{◌≡◌, ℕ, List, [], ◌∷◌, Option, Some, None, option_map, option_and_then, Vec, String, BTreeMap, Global, Ordering, Less, Equal, Greater, string_bytes, string_cmp, nat_cmp, refl, sym, ap, ◌∙◌, rules, codes}
+use Rattle.std.proofs.Common.{◌≡◌, ℕ, List, [], ◌∷◌, Option, Some, None, option_map, option_and_then, Vec, String, BTreeMap, Global, Ordering, Equal, string_bytes, string_cmp, nat_cmp, refl, sym, ap, ◌∙◌, rules, codes, arith}
 use Rattle.std.specs.List.{AllZip}
 use Rattle.std.specs.Map.{lookup}
 use Rattle.std.specs.Ordering.{match_ordering}
@@ -22,9 +22,7 @@ same_text xs = tied_itself nat_list_cmp_total xs
 put_twice_at : (o : Ordering) (k l : List ℕ) (v w e : Data) (ms : json.Members) → slice_cmp nat_cmp k l ≡ o → put k w (put k v ms) ≡ put k w ms
     → put k w (match_ordering o (json.member k v (json.member l e ms)) (json.member l v ms) (json.member l e (put k v ms)))
     ≡ match_ordering o (json.member k w (json.member l e ms)) (json.member l w ms) (json.member l e (put k w ms))
-put_twice_at Less k l v w e ms is later = rw same_text
-put_twice_at Equal k l v w e ms is later = rw is
-put_twice_at Greater k l v w e ms is later = rw (is, later)
+put_twice_at o k l v w e ms is later = grind (arith, same_text)
 
 -- what is put at a name takes the place of what was put there before
 pub put_twice : (k : List ℕ) (v w : Data) (ms : json.Members) → put k w (put k v ms) ≡ put k w ms
@@ -57,7 +55,5 @@ put_in es new name v incident after named one = rw (after, members_view-insert_e
 
 -- a copy has the same members
 pub cloned : (es fs : List MapEntry) → AllZip (λ p q. (string_bytes q.0 ≡ string_bytes p.0) × (view q.1 ≡ view p.1)) es fs → members_view fs ≡ members_view es
-cloned [] [] h = refl
-cloned [] (f ∷ fs) h = absurd h
-cloned (e ∷ es) [] h = absurd h
 cloned (e ∷ es) (f ∷ fs) h = rw (h.0.0, h.0.1, cloned es fs h.1)
+cloned es fs h = grind arith

@@ -1,7 +1,7 @@
 -- Arrays that have elements, level by level.
-use Rattle.std.proofs.Common.{◌≡◌, ℕ, zero, suc, ◌<◌, Bool, true, ◌&&◌, List, [], ◌∷◌, map, length, get_or, refl, sym, ◌∙◌, ap, subst, Vec, Global, rules, arith, true≢false}
+use Rattle.std.proofs.Common.{◌≡◌, ℕ, suc, ◌<◌, Bool, true, ◌&&◌, List, [], ◌∷◌, map, length, get_or, refl, sym, ◌∙◌, ap, subst, Vec, Global, rules, arith}
 use Rattle.std.specs.List.{AllByRecursion, list_all}
-use Rattle.std.proofs.lemmas.Bool.{and_parts}
+use Rattle.std.proofs.lemmas.Bool.{and_parts, and_from}
 use Rattle.iodef_tree.specs.Tree.{Forest, Body, Bodies, one, many}
 use Rattle.iodef_tree.specs.View.{item_step, member_step, object_step, forest, bodies, body}
 use Rattle.iodef_tree.specs.Filled.{has_some, item_filled, member_filled, object_filled, is_object_filled, is_member_filled, is_item_filled, IsFilled, IsMemberFilled, IsItemFilled}
@@ -35,64 +35,50 @@ filled-made v = search (rules, the_lemmas)
 
 -- ---- lists of what is filled
 
-pub all-items : (xs : List Item) → AllByRecursion IsItemFilled xs → list_all (λ inside. inside) (map is_item_filled xs) ≡ true
-all-items [] h = refl
-all-items (x ∷ xs) h = ap (λ b. b && list_all (λ inside. inside) (map is_item_filled xs)) h.0 ∙ all-items xs h.1
+pub has_some-map : {X Y : Type 0} (f : X → Y) (xs : List X) → has_some (map f xs) ≡ has_some xs
+has_some-map f xs = grind arith
 
-pub items-all : (xs : List Item) → list_all (λ inside. inside) (map is_item_filled xs) ≡ true → AllByRecursion IsItemFilled xs
-items-all [] h = tt
-items-all (x ∷ xs) h = let parts = and_parts (is_item_filled x) (list_all (λ inside. inside) (map is_item_filled xs)) h in (parts.0, items-all xs parts.1)
+all-true : {X Y : Type 0} (f : X → Y) (test : Y → Bool) (xs : List X) → AllByRecursion (λ x. test (f x) ≡ true) xs → list_all test (map f xs) ≡ true
+all-true f test [] h = refl
+all-true f test (x ∷ xs) h = and_from (test (f x)) _ h.0 (all-true f test xs h.1)
+
+true-all : {X Y : Type 0} (f : X → Y) (test : Y → Bool) (xs : List X) → list_all test (map f xs) ≡ true → AllByRecursion (λ x. test (f x) ≡ true) xs
+true-all f test [] h = tt
+true-all f test (x ∷ xs) h = let parts = and_parts (test (f x)) (list_all test (map f xs)) h in (parts.0, true-all f test xs parts.1)
 
 abbrev pub asked : Bytes × Member → Bytes × Bool
 asked m = (m.0, is_member_filled m.1)
 
-pub all-members : (xs : List (Bytes × Member)) → AllByRecursion (λ m. IsMemberFilled m.1) xs → list_all (λ m. m.1) (map asked xs) ≡ true
-all-members [] h = refl
-all-members (x ∷ xs) h = ap (λ b. b && list_all (λ m. m.1) (map asked xs)) h.0 ∙ all-members xs h.1
-
-pub members-all : (xs : List (Bytes × Member)) → list_all (λ m. m.1) (map asked xs) ≡ true → AllByRecursion (λ m. IsMemberFilled m.1) xs
-members-all [] h = tt
-members-all (x ∷ xs) h = let parts = and_parts (is_member_filled x.1) (list_all (λ m. m.1) (map asked xs)) h in (parts.0, members-all xs parts.1)
-
 -- ---- what is made
 
 pub made-filled : (v : Vec (Bytes × Member) Global) → AllByRecursion (λ m. IsMemberFilled m.1) v.items → IsFilled (roll-Object (record { members = v }))
-made-filled v h = filled-made v ∙ all-members v.items h
+made-filled v h = filled-made v ∙ all-true asked (λ m. m.1) v.items h
 
 pub many-filled : (v : Vec Item Global) → has_some v.items ≡ true → AllByRecursion IsItemFilled v.items → IsMemberFilled (Many v)
-many-filled v some h = filled-Many v ∙ by_items v.items some h
-  where
-    by_items : (xs : List Item) → has_some xs ≡ true → AllByRecursion IsItemFilled xs → (has_some (map is_item_filled xs) && list_all (λ inside. inside) (map is_item_filled xs)) ≡ true
-    by_items [] some h = some
-    by_items (x ∷ xs) some h = all-items (x ∷ xs) h
+many-filled v some h = filled-Many v ∙ and_from _ _ (has_some-map is_item_filled v.items ∙ some) (all-true is_item_filled (λ inside. inside) v.items h)
 
 pub many-kept : (v : Vec Item Global) → IsMemberFilled (Many v) → (has_some v.items ≡ true) × AllByRecursion IsItemFilled v.items
-many-kept v h = by_items v.items (sym (filled-Many v) ∙ h)
-  where
-    by_items : (xs : List Item) → (has_some (map is_item_filled xs) && list_all (λ inside. inside) (map is_item_filled xs)) ≡ true → (has_some xs ≡ true) × AllByRecursion IsItemFilled xs
-    by_items [] h = absurd (true≢false (sym h))
-    by_items (x ∷ xs) h = (refl, items-all (x ∷ xs) h)
+many-kept v h =
+    let parts = and_parts (has_some (map is_item_filled v.items)) _ (sym (filled-Many v) ∙ h) in
+    (sym (has_some-map is_item_filled v.items) ∙ parts.0, true-all is_item_filled (λ inside. inside) v.items parts.1)
 
 pub members-filled : (o : Object) → IsFilled o → AllByRecursion (λ m. IsMemberFilled m.1) o.members.items
-members-filled o h = members-all o.members.items (sym (filled-members o) ∙ h)
+members-filled o h = true-all asked (λ m. m.1) o.members.items (sym (filled-members o) ∙ h)
 
 pub object-filled : (o : Object) → AllByRecursion (λ m. IsMemberFilled m.1) o.members.items → IsFilled o
-object-filled o h = filled-members o ∙ all-members o.members.items h
+object-filled o h = filled-members o ∙ all-true asked (λ m. m.1) o.members.items h
 
 -- ---- at one place of a list
 
 pub all-at : {X : Type 0} (P : X → Type 0) (xs : List X) (i : ℕ) (d : X) → i < length xs → AllByRecursion P xs → P (get_or xs i d)
-all-at P [] i d h all = absurd (omega (arith, h))
-all-at P (x ∷ xs) zero d h all = all.0
 all-at P (x ∷ xs) (suc i) d h all = all-at P xs i d (omega (arith, h)) all.1
+all-at P xs i d h all = grind arith
 
 pub item-at : (xs : List Item) (i : ℕ) (x : Item) → AllByRecursion IsItemFilled xs → i < length xs → x ≡ get_or xs i x → IsItemFilled x
 item-at xs i x all h is = subst IsItemFilled (sym is) (all-at IsItemFilled xs i x h all)
 
 pub member-at : (o : Object) (xs : List (Bytes × Member)) (i : ℕ) (m : Bytes × Member) → IsFilled o → xs ≡ o.members.items → i < length xs → m ≡ get_or xs i m → IsMemberFilled m.1
-member-at o xs i m filled same h is =
-    let all = subst (AllByRecursion (λ x. IsMemberFilled x.1)) (sym same) (members-filled o filled) in
-    subst (λ (x : Bytes × Member). IsMemberFilled x.1) (sym is) (all-at (λ x. IsMemberFilled x.1) xs i m h all)
+member-at o xs i m filled same h is = grind (arith, all-at, members-filled)
 
 -- ---- as it is seen
 
@@ -102,12 +88,7 @@ has_elements (many bs) = has_some bs
 
 elements-seen : (x : Member-F Item Member Object) → member_filled (map-Member Item Member Object Bool Bool Bool is_item_filled is_member_filled is_object_filled x) ≡ true →
     has_elements (member_step (map-Member Item Member Object Body Bodies Forest body bodies forest x)) ≡ true
-elements-seen (Member-F.One i) h = refl
-elements-seen (Member-F.Many v) h = by_items v.items h
-  where
-    by_items : (xs : List Item) → (has_some (map is_item_filled xs) && list_all (λ inside. inside) (map is_item_filled xs)) ≡ true → has_some (map body xs) ≡ true
-    by_items [] h = h
-    by_items (x ∷ xs) h = refl
+elements-seen x h = grind (arith, and_parts, has_some-map)
 
 -- a member that is filled has a line
 pub member-elements : (m : Member) → IsMemberFilled m → has_elements (bodies m) ≡ true

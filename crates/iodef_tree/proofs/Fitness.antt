@@ -1,85 +1,83 @@
 -- What a body keeps in which nothing is refused.
-use Rattle.std.proofs.Common.{◌≡◌, ℕ, suc, List, [], ◌∷◌, ◌++◌, Bool, true, false, cond, not, ◌||◌, Option, Some, None, Ok, refl, ◌∙◌, decimal}
+use Rattle.std.proofs.Common.{◌≡◌, ℕ, suc, List, [], ◌∷◌, ◌++◌, Bool, false, Option, None, Result, Ok, refl, sym, ◌∙◌, decimal, arith}
+use Rattle.std.proofs.lemmas.Bool.{or_from, or_parts}
 use Rattle.serde_json.specs.Data as json
 use Rattle.serde_json.specs.Data.{Data}
 use Rattle.serde_json.specs.Written.{has_float, items_have_float, members_have_float}
 use Rattle.iodef_tree.specs.FitValues.{any_at, is_refused}
-use Rattle.iodef_tree.specs.Text.{Bytes, Tokens}
+use Rattle.iodef_tree.specs.Text.{Bytes}
 use Rattle.iodef_tree.specs.Values.{Surrounded, Node, node, beneath, nodes, item_nodes, member_nodes, first_at, is_not_whole, is_nested_class, is_too_deep}
 use Rattle.iodef_tree.specs.Reading.{unless, ◌>>=◌, all_fit}
 use Rattle.iodef_tree.specs.declared.fault.ReadFault.{ReadFault}
-use Rattle.iodef_tree.specs.declared.fault.ReadFault.TheVariants.{NotWhole, NestedClass, TooDeep}
-use Rattle.std.proofs.lemmas.Bool.{or_from, or_parts, not-true}
+use Rattle.iodef_tree.proofs.Seeking.{any_at-beneath}
 
--- nothing in either part passes
-pub split : (f : Surrounded → Bool) (t : Bytes) (a b : List Node) → first_at f (beneath t a ++ b) ≡ None → (first_at f a ≡ None) × (first_at f b ≡ None)
-split f t [] b e = (refl, e)
-split f t (n ∷ a) b e = step (f n.seen) e (split f t a b)
-  where
-    step : (c : Bool) → cond c (Some (t ∷ n.pointer)) (first_at f (beneath t a ++ b)) ≡ None → (first_at f (beneath t a ++ b) ≡ None → (first_at f a ≡ None) × (first_at f b ≡ None)) → (cond c (Some n.pointer) (first_at f a) ≡ None) × (first_at f b ≡ None)
-    step true e later = cc
-    step false e later = later e
-
-pub head : (f : Surrounded → Bool) (n : Node) (ns : List Node) → first_at f (n ∷ ns) ≡ None → (f n.seen ≡ false) × (first_at f ns ≡ None)
-head f n ns e = step (f n.seen) e
-  where
-    step : (c : Bool) → cond c (Some n.pointer) (first_at f ns) ≡ None → (c ≡ false) × (first_at f ns ≡ None)
-    step true e = cc
-    step false e = (refl, e)
-
-mutual
-  pub whole : (d : Data) (o a : ℕ) → first_at is_not_whole (nodes o a d) ≡ None → has_float d ≡ false
-  whole (json.number x) o a e = (head is_not_whole (node o a (json.number x)) [] e).0
-  whole (json.array ds) o a e = whole_items ds o (suc a) 0 e
-  whole (json.object ms) o a e = whole_members ms (suc o) e
-  whole _ o a e = refl
-
-  whole_items : (ds : json.Items) (o a k : ℕ) → first_at is_not_whole (item_nodes o a k ds) ≡ None → items_have_float ds ≡ false
-  whole_items json.no_items o a k e = refl
-  whole_items (json.item d ds) o a k e =
-      let h = split is_not_whole (decimal k) (nodes o a d) (item_nodes o a (suc k) ds) e in or_from (has_float d) (items_have_float ds) (whole d o a h.0) (whole_items ds o a (suc k) h.1)
-
-  whole_members : (ms : json.Members) (o : ℕ) → first_at is_not_whole (member_nodes o ms) ≡ None → members_have_float ms ≡ false
-  whole_members json.no_members o e = refl
-  whole_members (json.member name d ms) o e =
-      let h = split is_not_whole name (nodes o 0 d) (member_nodes o ms) e in or_from (has_float d) (members_have_float ms) (whole d o 0 h.0) (whole_members ms o h.1)
-
-pub none_if_ok : {A : Type 0} (f : A → ReadFault) (o : Option A) → unless f o ≡ Ok tt → o ≡ None
-none_if_ok f None e = refl
-none_if_ok f (Some x) e = cc
+-- no value of the list is refused
+abbrev pub AreClear : List Node → Type 0
+AreClear ns = any_at is_refused ns ≡ false
 
 -- no value stands where `all_fit` would refuse it
-pub record IsPlain (d : Data) : Type 0 where
-  pub whole : first_at is_not_whole (nodes 0 0 d) ≡ None
-  pub nested : first_at is_nested_class (nodes 0 0 d) ≡ None
-  pub shallow : first_at is_too_deep (nodes 0 0 d) ≡ None
+abbrev pub IsPlain : Data → Type 0
+IsPlain d = AreClear (nodes 0 0 d)
+
+pub clear-apart : (t : Bytes) (a b : List Node) → AreClear (beneath t a ++ b) → AreClear a × AreClear b
+clear-apart t a b h = or_parts (any_at is_refused a) (any_at is_refused b) (sym (any_at-beneath is_refused t a b) ∙ h)
+
+pub clear-joined : (t : Bytes) (a b : List Node) → AreClear a → AreClear b → AreClear (beneath t a ++ b)
+clear-joined t a b p q = any_at-beneath is_refused t a b ∙ or_from (any_at is_refused a) (any_at is_refused b) p q
+
+-- a value that is not refused is found by none of the three tests
+pub record IsAllowed (s : Surrounded) : Type 0 where
+  pub whole : is_not_whole s ≡ false
+  pub nested : is_nested_class s ≡ false
+  pub shallow : is_too_deep s ≡ false
+
+allowed : (s : Surrounded) → is_refused s ≡ false → IsAllowed s
+allowed s h = grind (arith, or_parts)
+
+pub head : (n : Node) (ns : List Node) → AreClear (n ∷ ns) → IsAllowed n.seen × AreClear ns
+head n ns h = let parts = or_parts (is_refused n.seen) (any_at is_refused ns) h in (allowed n.seen parts.0, parts.1)
+
+mutual
+  pub whole : (d : Data) (o a : ℕ) → AreClear (nodes o a d) → has_float d ≡ false
+  whole (json.number x) o a h = (head (node o a (json.number x)) [] h).0.whole
+  whole (json.array ds) o a h = whole_items ds o (suc a) 0 (head (node o a (json.array ds)) (item_nodes o (suc a) 0 ds) h).1
+  whole (json.object ms) o a h = whole_members ms (suc o) (head (node o a (json.object ms)) (member_nodes (suc o) ms) h).1
+  whole _ o a h = refl
+
+  whole_items : (ds : json.Items) (o a k : ℕ) → AreClear (item_nodes o a k ds) → items_have_float ds ≡ false
+  whole_items json.no_items o a k h = refl
+  whole_items (json.item d ds) o a k h =
+      let parts = clear-apart (decimal k) (nodes o a d) (item_nodes o a (suc k) ds) h in
+      or_from (has_float d) (items_have_float ds) (whole d o a parts.0) (whole_items ds o a (suc k) parts.1)
+
+  whole_members : (ms : json.Members) (o : ℕ) → AreClear (member_nodes o ms) → members_have_float ms ≡ false
+  whole_members json.no_members o h = refl
+  whole_members (json.member name d ms) o h =
+      let parts = clear-apart name (nodes o 0 d) (member_nodes o ms) h in
+      or_from (has_float d) (members_have_float ms) (whole d o 0 parts.0) (whole_members ms o parts.1)
+
+-- ---- as all values are asked
+
+pub bind-ok : {A B : Type 0} (r : Result A ReadFault) (f : A → Result B ReadFault) (y : B) → (r >>= f) ≡ Ok y → (x : A) × (r ≡ Ok x) × (f x ≡ Ok y)
+bind-ok r f y h = grind arith
+
+pub none_if_ok : {A : Type 0} (f : A → ReadFault) (o : Option A) → unless f o ≡ Ok tt → o ≡ None
+none_if_ok f o e = grind arith
+
+-- nothing is refused where none of the three is found
+none-refused : (ns : List Node) → first_at is_not_whole ns ≡ None → first_at is_nested_class ns ≡ None → first_at is_too_deep ns ≡ None → AreClear ns
+none-refused [] a b c = refl
+none-refused (n ∷ ns) a b c = grind (arith, (none-refused ns))
 
 pub plain_ok : (d : Data) → all_fit d ≡ Ok tt → IsPlain d
 unfolding all_fit
-plain_ok d e = step (first_at is_not_whole (nodes 0 0 d)) (first_at is_nested_class (nodes 0 0 d)) (first_at is_too_deep (nodes 0 0 d)) refl refl refl e
-  where
-    step : (a b c : Option Tokens) → first_at is_not_whole (nodes 0 0 d) ≡ a → first_at is_nested_class (nodes 0 0 d) ≡ b → first_at is_too_deep (nodes 0 0 d) ≡ c → (unless NotWhole a >>= λ _. unless NestedClass b >>= λ _. unless (λ _. TooDeep) c) ≡ Ok tt → IsPlain d
-    step None None c p n q e = record { whole = p; nested = n; shallow = q ∙ none_if_ok (λ _. TooDeep) c e }
-    step None (Some x) c p n q e = cc
-    step (Some x) b c p n q e = cc
-
-parts : (a b c : Bool) → (a || (b || c)) ≡ false → (a ≡ false) × (b ≡ false) × (c ≡ false)
-parts true b c e = cc
-parts false true c e = cc
-parts false false c e = (refl, refl, e)
+plain_ok d e = grind (arith, none-refused)
 
 -- where no value is refused, none of the three is found
-pub none_found : (f : Surrounded → Bool) → ((s : Surrounded) → is_refused s ≡ false → f s ≡ false) → (ns : List Node) → any_at is_refused ns ≡ false → first_at f ns ≡ None
+none_found : (f : Surrounded → Bool) → ((s : Surrounded) → IsAllowed s → f s ≡ false) → (ns : List Node) → AreClear ns → first_at f ns ≡ None
 none_found f h [] e = refl
-none_found f h (n ∷ ns) e =
-    let here : f n.seen ≡ false = h n.seen ((or_parts (is_refused n.seen) (any_at is_refused ns) e).0) in
-    rw here (none_found f h ns ((or_parts (is_refused n.seen) (any_at is_refused ns) e).1))
+none_found f h (n ∷ ns) e = let parts = head n ns e in let here : f n.seen ≡ false = h n.seen parts.0 in rw here (none_found f h ns parts.1)
 
-pub plain_at_once : (d : Data) → not (any_at is_refused (nodes 0 0 d)) ≡ true → all_fit d ≡ Ok tt
+pub plain_at_once : (d : Data) → IsPlain d → all_fit d ≡ Ok tt
 unfolding all_fit
-plain_at_once d e =
-    let none : any_at is_refused (nodes 0 0 d) ≡ false = not-true (any_at is_refused (nodes 0 0 d)) e in
-    let w : first_at is_not_whole (nodes 0 0 d) ≡ None = none_found is_not_whole (λ s h. (parts (is_not_whole s) (is_nested_class s) (is_too_deep s) h).0) (nodes 0 0 d) none in
-    let n : first_at is_nested_class (nodes 0 0 d) ≡ None = none_found is_nested_class (λ s h. (parts (is_not_whole s) (is_nested_class s) (is_too_deep s) h).1) (nodes 0 0 d) none in
-    let t : first_at is_too_deep (nodes 0 0 d) ≡ None = none_found is_too_deep (λ s h. (parts (is_not_whole s) (is_nested_class s) (is_too_deep s) h).2) (nodes 0 0 d) none in
-    rw (w, n, t)
+plain_at_once d h = grind (arith, none_found)

@@ -1,99 +1,72 @@
--- Where none of the three faults of a value is found, no array inside an array holds an object.
-use Rattle.std.proofs.Common.{◌≡◌, ◌≤◌, ℕ, suc, ◌+◌, ◌-◌, List, [], ◌∷◌, ◌++◌, true, false, not, ◌&&◌, ◌||◌, refl, sym, ap, ◌∙◌, arith, true≢false, None, decimal, nat_lt}
+-- Where nothing is refused, no array inside an array holds an object.
+use Rattle.std.proofs.Common.{◌≡◌, ◌≤◌, ℕ, suc, ◌+◌, ◌-◌, [], true, false, not, ◌&&◌, ◌||◌, refl, ap, arith, true≢false, decimal, nat_lt}
 use Rattle.std.proofs.lemmas.Bool.{and_parts, lt-ltb, and_from}
 use Rattle.std.proofs.lemmas.Bool.Decides.{nat_tests}
 use Rattle.serde_json.specs.Data as json
-use Rattle.serde_json.specs.Data.{Data, put}
+use Rattle.serde_json.specs.Data.{Data}
 use Rattle.serde_json.specs.Find.{is_float}
 use Rattle.iodef_tree.specs.FitValues.{is_flat, is_element_flat, are_flat, are_members_flat}
-use Rattle.iodef_tree.specs.Text.{Bytes}
 use Rattle.iodef_tree.specs.Texts.{is_plain, are_plain}
-use Rattle.iodef_tree.specs.Values.{Node, node, beneath, nodes, item_nodes, member_nodes, first_at, is_not_whole, is_nested_class, is_too_deep}
+use Rattle.iodef_tree.specs.Values.{node, nodes, item_nodes, member_nodes}
 use Rattle.iodef_tree.specs.declared.TheConstants.{DEPTH_LIMIT}
-use Rattle.iodef_tree.proofs.Fitness.{split, head, IsPlain}
+use Rattle.iodef_tree.proofs.Fitness.{AreClear, IsPlain, clear-apart, head}
 use Rattle.iodef_tree.proofs.Each.{IsEach}
 
--- no value of the list is at fault
-record AreClear (ns : List Node) : Type 0 where
-  pub whole : first_at is_not_whole ns ≡ None
-  pub nested : first_at is_nested_class ns ≡ None
-  pub shallow : first_at is_too_deep ns ≡ None
-
-record BothClear (a b : List Node) : Type 0 where
-  pub first : AreClear a
-  pub others : AreClear b
-
-clear-split : (t : Bytes) (a b : List Node) → AreClear (beneath t a ++ b) → BothClear a b
-clear-split t a b h =
-    let w = split is_not_whole t a b h.whole in
-    let n = split is_nested_class t a b h.nested in
-    let s = split is_too_deep t a b h.shallow in
-    record { first = record { whole = w.0; nested = n.0; shallow = s.0 }; others = record { whole = w.1; nested = n.1; shallow = s.1 } }
-
-clear-rest : (n : Node) (ns : List Node) → AreClear (n ∷ ns) → AreClear ns
-clear-rest n ns h = record { whole = (head is_not_whole n ns h.whole).1; nested = (head is_nested_class n ns h.nested).1; shallow = (head is_too_deep n ns h.shallow).1 }
-
 whole-number : (x : json.Num) (o a : ℕ) → AreClear (nodes o a (json.number x)) → not (is_float x) ≡ true
-whole-number x o a h = ap not ((head is_not_whole (node o a (json.number x)) [] h.whole).0)
+whole-number x o a h = ap not (head (node o a (json.number x)) [] h).0.whole
 
 -- an array stands at most at the limit
 low : (o a : ℕ) → (nat_lt DEPTH_LIMIT o || (nat_lt DEPTH_LIMIT a && true)) ≡ false → a ≤ 32
 low o a e = grind (arith, nat_tests)
 
 shallow-array : (ds : json.Items) (o a : ℕ) → AreClear (nodes o a (json.array ds)) → a ≤ 32
-shallow-array ds o a h = low o a ((head is_too_deep (node o a (json.array ds)) (item_nodes o (suc a) 0 ds) h.shallow).0)
+shallow-array ds o a h = low o a (head (node o a (json.array ds)) (item_nodes o (suc a) 0 ds) h).0.shallow
 
 no-class : (ms : json.Members) (o a : ℕ) → 2 ≤ a → AreClear (nodes o a (json.object ms)) → true ≡ false
-no-class ms o a two h =
-    let here : (nat_lt 1 a && true) ≡ false = (head is_nested_class (node o a (json.object ms)) (member_nodes (suc o) ms) h.nested).0 in
-    sym (and_from (nat_lt 1 a) true (lt-ltb 1 a (omega (arith, two))) refl) ∙ here
+no-class ms o a two h = grind (arith, and_from, head, lt-ltb)
 
 mutual
   plain : (d : Data) (o a deep : ℕ) → 2 ≤ a → deep + a ≡ 33 → AreClear (nodes o a d) → is_plain deep d ≡ true
   plain (json.number x) o a deep two e h = whole-number x o a h
   plain (json.array ds) o a deep two e h =
       let small = shallow-array ds o a h in
-      and_from (nat_lt 0 deep) _ (lt-ltb 0 deep (omega (arith, small, e))) (all-plain ds o (suc a) 0 (deep - 1) (omega (arith, two)) (omega (arith, small, e)) (clear-rest (node o a (json.array ds)) (item_nodes o (suc a) 0 ds) h))
+      and_from (nat_lt 0 deep) _ (lt-ltb 0 deep (omega (arith, small, e))) (all-plain ds o (suc a) 0 (deep - 1) (omega (arith, two)) (omega (arith, small, e)) (head (node o a (json.array ds)) (item_nodes o (suc a) 0 ds) h).1)
   plain (json.object ms) o a deep two e h = absurd (true≢false (no-class ms o a two h))
   plain _ o a deep two e h = refl
 
   all-plain : (ds : json.Items) (o a k deep : ℕ) → 2 ≤ a → deep + a ≡ 33 → AreClear (item_nodes o a k ds) → are_plain deep ds ≡ true
   all-plain json.no_items o a k deep two e h = refl
   all-plain (json.item d ds) o a k deep two e h =
-      let parts = clear-split (decimal k) (nodes o a d) (item_nodes o a (suc k) ds) h in
-      and_from (is_plain deep d) _ (plain d o a deep two e parts.first) (all-plain ds o a (suc k) deep two e parts.others)
+      let parts = clear-apart (decimal k) (nodes o a d) (item_nodes o a (suc k) ds) h in
+      and_from (is_plain deep d) _ (plain d o a deep two e parts.0) (all-plain ds o a (suc k) deep two e parts.1)
 
 mutual
   flat : (d : Data) (o : ℕ) → AreClear (nodes o 0 d) → is_flat d ≡ true
   flat (json.number x) o h = whole-number x o 0 h
-  flat (json.array ds) o h = all-flat ds o 0 (clear-rest (node o 0 (json.array ds)) (item_nodes o 1 0 ds) h)
-  flat (json.object ms) o h = members-flat ms (suc o) (clear-rest (node o 0 (json.object ms)) (member_nodes (suc o) ms) h)
+  flat (json.array ds) o h = all-flat ds o 0 (head (node o 0 (json.array ds)) (item_nodes o 1 0 ds) h).1
+  flat (json.object ms) o h = members-flat ms (suc o) (head (node o 0 (json.object ms)) (member_nodes (suc o) ms) h).1
   flat _ o h = refl
 
   element-flat : (d : Data) (o : ℕ) → AreClear (nodes o 1 d) → is_element_flat d ≡ true
   element-flat (json.number x) o h = whole-number x o 1 h
-  element-flat (json.array ds) o h = all-plain ds o 2 0 31 (omega arith) refl (clear-rest (node o 1 (json.array ds)) (item_nodes o 2 0 ds) h)
-  element-flat (json.object ms) o h = members-flat ms (suc o) (clear-rest (node o 1 (json.object ms)) (member_nodes (suc o) ms) h)
+  element-flat (json.array ds) o h = all-plain ds o 2 0 31 (omega arith) refl (head (node o 1 (json.array ds)) (item_nodes o 2 0 ds) h).1
+  element-flat (json.object ms) o h = members-flat ms (suc o) (head (node o 1 (json.object ms)) (member_nodes (suc o) ms) h).1
   element-flat _ o h = refl
 
   all-flat : (ds : json.Items) (o k : ℕ) → AreClear (item_nodes o 1 k ds) → are_flat ds ≡ true
   all-flat json.no_items o k h = refl
   all-flat (json.item d ds) o k h =
-      let parts = clear-split (decimal k) (nodes o 1 d) (item_nodes o 1 (suc k) ds) h in
-      and_from (is_element_flat d) _ (element-flat d o parts.first) (all-flat ds o (suc k) parts.others)
+      let parts = clear-apart (decimal k) (nodes o 1 d) (item_nodes o 1 (suc k) ds) h in
+      and_from (is_element_flat d) _ (element-flat d o parts.0) (all-flat ds o (suc k) parts.1)
 
   members-flat : (ms : json.Members) (o : ℕ) → AreClear (member_nodes o ms) → are_members_flat ms ≡ true
   members-flat json.no_members o h = refl
   members-flat (json.member name d ms) o h =
-      let parts = clear-split name (nodes o 0 d) (member_nodes o ms) h in
-      and_from (is_flat d) _ (flat d o parts.first) (members-flat ms o parts.others)
+      let parts = clear-apart name (nodes o 0 d) (member_nodes o ms) h in
+      and_from (is_flat d) _ (flat d o parts.0) (members-flat ms o parts.1)
 
 pub plain-flat : (ms : json.Members) → IsPlain (json.object ms) → are_members_flat ms ≡ true
-plain-flat ms p = flat (json.object ms) 0 (record { whole = p.whole; nested = p.nested; shallow = p.shallow })
+plain-flat ms p = flat (json.object ms) 0 p
 
 pub flats : IsEach (λ d. is_flat d ≡ true) (λ ms. are_members_flat ms ≡ true)
-flats = record {
-  made = λ k d ms. and_from (is_flat d) (are_members_flat ms);
-  first = λ k d ms h. (and_parts (is_flat d) (are_members_flat ms) h).0;
-  others = λ k d ms h. (and_parts (is_flat d) (are_members_flat ms) h).1;
-}
+flats = grind (arith, and_from, and_parts)

@@ -1,7 +1,7 @@
 -- A member in front of others: what is made of it, joined with what is made of those.
-use Rattle.std.proofs.Common.{◌≡◌, ℕ, suc, ◌+◌, ◌<◌, max, List, [], ◌∷◌, ◌++◌, length, get_or, drop, refl, sym, ◌∙◌, ap, append_assoc, arith, Option, Some, None}
+use Rattle.std.proofs.Common.{◌≡◌, ℕ, suc, ◌+◌, ◌<◌, max, List, [], ◌∷◌, ◌++◌, length, get_or, drop, refl, ◌∙◌, ap, append_assoc, arith}
 use Rattle.iodef_tree.specs.Text.{Bytes}
-use Rattle.iodef_tree.specs.Tree.{Forest, end, leaf, branch, Body, holds, says, Bodies, one, many, in_front, elements, member_front, leaf_line, class_line, lines, height}
+use Rattle.iodef_tree.specs.Tree.{Forest, end, leaf, branch, Body, Bodies, elements, member_front, leaf_line, lines, height}
 use Rattle.iodef_tree.specs.View.{bodies, members_forest}
 use Rattle.iodef_tree.specs.declared.text.Text.{Text}
 use Rattle.iodef_tree.specs.declared.object.Member.{Member}
@@ -22,9 +22,7 @@ append-assoc (branch n p kids rest) g h = ap (branch n p kids) (append-assoc res
 pub lines-append : (d : ℕ) (f g : Forest) → lines d (append f g) ≡ lines d f ++ lines d g
 lines-append d end g = refl
 lines-append d (leaf i rest) g = ap (λ ls. leaf_line d i ∷ ls) (lines-append d rest g)
-lines-append d (branch n p kids rest) g =
-    ap (λ ls. class_line d n p ∷ (lines (suc d) kids ++ ls)) (lines-append d rest g)
-    ∙ ap (λ ls. class_line d n p ∷ ls) (sym (append_assoc (lines (suc d) kids) (lines d rest) (lines d g)))
+lines-append d (branch n p kids rest) g = grind (arith, append_assoc, (lines-append d rest g))
 
 height-append : (f g : Forest) → height (append f g) ≡ max (height f) (height g)
 height-append end g = omega arith
@@ -33,21 +31,12 @@ height-append (branch n p kids rest) g = let later = height-append rest g in ome
 
 -- ---- a member in front is appended to
 
-pub front-append : (n : Bytes) (p : Option ℕ) (b : Body) (f : Forest) → in_front n p b f ≡ append (in_front n p b end) f
-front-append n p (holds kids) f = refl
-front-append n p (says c) f = refl
-
 elements-append : (n : Bytes) (k : ℕ) (bs : List Body) (f : Forest) → elements n k bs f ≡ append (elements n k bs end) f
 elements-append n k [] f = refl
-elements-append n k (b ∷ bs) f =
-    ap (in_front n (Some k) b) (elements-append n (suc k) bs f)
-    ∙ front-append n (Some k) b (append (elements n (suc k) bs end) f)
-    ∙ sym (append-assoc (in_front n (Some k) b end) (elements n (suc k) bs end) f)
-    ∙ ap (λ g. append g f) (sym (front-append n (Some k) b (elements n (suc k) bs end)))
+elements-append n k (b ∷ bs) f = grind (arith, append-assoc, (elements-append n (suc k) bs f))
 
 pub member-append : (n : Bytes) (m : Bodies) (f : Forest) → member_front n m f ≡ append (member_front n m end) f
-member-append n (one b) f = front-append n None b f
-member-append n (many bs) f = elements-append n 0 bs f
+member-append n m f = grind (arith, elements-append)
 
 -- ---- a loop's step: one more member is in front
 
@@ -58,11 +47,7 @@ front-next ms i m h is = members-next ms i m h is ∙ member-append m.0 (bodies 
 -- what is made of a forest as a list, joined where forests are
 pub list-next : {A : Type 0} (F : Forest → List A) → ((f g : Forest) → F (append f g) ≡ F f ++ F g) → (ms : List (Text × Member)) (i : ℕ) (m : Text × Member) (made before : List A) → i < length ms → m ≡ get_or ms i m →
     made ≡ before ++ F (member_front m.0 (bodies m.1) end) → made ++ F (members_forest (drop (i + 1) ms)) ≡ before ++ F (members_forest (drop i ms))
-list-next F joins ms i m made before h is pushed =
-    let rest = members_forest (drop (i + 1) ms) in
-    ap (λ xs. xs ++ F rest) pushed
-    ∙ append_assoc before (F (member_front m.0 (bodies m.1) end)) (F rest)
-    ∙ ap (λ xs. before ++ xs) (sym (ap F (front-next ms i m h is) ∙ joins (member_front m.0 (bodies m.1) end) rest))
+list-next F joins ms i m made before h is pushed = grind (arith, append_assoc, front-next)
 
 pub height-next : (ms : List (Text × Member)) (i : ℕ) (m : Text × Member) → i < length ms → m ≡ get_or ms i m →
     height (members_forest (drop i ms)) ≡ max (height (member_front m.0 (bodies m.1) end)) (height (members_forest (drop (i + 1) ms)))

@@ -1,23 +1,24 @@
 -- Members put behind others.
-use Rattle.std.proofs.Common.{◌≡◌, ℕ, suc, ◌+◌, ◌-◌, Bool, true, false, not, ◌==◌, ◌&&◌, List, [], ◌∷◌, ◌++◌, map, length, refl, sym, ◌∙◌, ap, subst, arith, Vec, Global, true≢false, Option, Some, None, bytes_eq}
+use Rattle.std.proofs.Common.{◌≡◌, ℕ, suc, ◌+◌, ◌-◌, Bool, true, false, not, ◌==◌, ◌&&◌, List, [], ◌∷◌, ◌++◌, map, length, refl, sym, ◌∙◌, ap, subst, arith, Vec, Global, Option, Some, None, bytes_eq}
 use Rattle.std.specs.List.{AllByRecursion}
 use Rattle.std.proofs.lemmas.List.{map-append}
 use Rattle.std.proofs.lemmas.Bool.{eq-eqb}
+use Rattle.std.proofs.lemmas.Grind.{common_steps}
 use Rattle.iodef_tree.specs.Text.{Bytes}
-use Rattle.iodef_tree.specs.Tree.{Forest, end, leaf, branch, Body, holds, says, Bodies, many, in_front, elements, member_front, place_of, lines}
+use Rattle.iodef_tree.specs.Tree.{Forest, end, leaf, branch, Body, Bodies, many, in_front, elements, member_front, place_of, lines}
 use Rattle.iodef_tree.specs.Sound.{SiblingPlace}
 use Rattle.iodef_tree.specs.View.{forest_of_members, body, bodies, named, members_forest}
-use Rattle.iodef_tree.specs.Built.{is_numbered, IsNumberedBehind, IsNumbered, IsBodyNumbered, last_place, IsGrown, Grows}
+use Rattle.iodef_tree.specs.Built.{is_numbered, IsNumberedBehind, IsBodyNumbered, last_place, IsGrown, Grows}
 use Rattle.iodef_tree.specs.Filled.{has_some, IsMemberFilled, IsItemFilled}
 use Rattle.iodef_tree.specs.declared.text.Text.{Text}
 use Rattle.iodef_tree.specs.declared.object.Item.{Item}
 use Rattle.iodef_tree.specs.declared.object.Member.{Member}
 use Rattle.iodef_tree.specs.declared.object.Member.TheVariants.{One, Many}
-use Rattle.iodef_tree.proofs.Filled.{filled-One, many-filled, many-kept}
+use Rattle.iodef_tree.proofs.Filled.{filled-One, has_some-map, many-filled, many-kept}
 use Rattle.iodef_tree.proofs.Siblings.{all-append, all-split}
 use Rattle.iodef_tree.proofs.Views.{bodies-One, bodies-Many}
 use Rattle.iodef_tree.proofs.Order.{bytes_eq-refl}
-use Rattle.iodef_tree.proofs.Fronts.{append, append-assoc, lines-append, front-append, member-append}
+use Rattle.iodef_tree.proofs.Fronts.{append, append-assoc, lines-append, member-append}
 
 -- ---- the last of members
 
@@ -35,52 +36,25 @@ numbered-append o (branch n p kids rest) g h k = (h.0, h.1, numbered-append (Som
 
 pub members-append : (xs ys : List (Bytes × Bodies)) → forest_of_members (xs ++ ys) ≡ append (forest_of_members xs) (forest_of_members ys)
 members-append [] ys = refl
-members-append (x ∷ xs) ys =
-    ap (member_front x.0 x.1) (members-append xs ys)
-    ∙ member-append x.0 x.1 (append (forest_of_members xs) (forest_of_members ys))
-    ∙ sym (append-assoc (member_front x.0 x.1 end) (forest_of_members xs) (forest_of_members ys))
-    ∙ ap (λ g. append g (forest_of_members ys)) (sym (member-append x.0 x.1 (forest_of_members xs)))
+members-append (x ∷ xs) ys = grind (arith, append-assoc, member-append, (members-append xs ys))
 
 pub members-push : (ms : List (Text × Member)) (m : Text × Member) → members_forest (ms ++ m ∷ []) ≡ append (members_forest ms) (member_front m.0 (bodies m.1) end)
 members-push ms m = ap forest_of_members (map-append named ms (m ∷ [])) ∙ members-append (map named ms) (named m ∷ [])
 
 elements-push : (n : Bytes) (k : ℕ) (bs : List Body) (b : Body) → elements n k (bs ++ b ∷ []) end ≡ append (elements n k bs end) (in_front n (Some (k + length bs)) b end)
 elements-push n k [] b = ap (λ j. in_front n (Some j) b end) (omega arith)
-elements-push n k (x ∷ bs) b =
-    ap (in_front n (Some k) x) (elements-push n (suc k) bs b ∙ ap (λ j. append (elements n (suc k) bs end) (in_front n (Some j) b end)) (omega arith))
-    ∙ front-append n (Some k) x (append (elements n (suc k) bs end) (in_front n (Some (k + length (x ∷ bs))) b end))
-    ∙ sym (append-assoc (in_front n (Some k) x end) (elements n (suc k) bs end) (in_front n (Some (k + length (x ∷ bs))) b end))
-    ∙ ap (λ g. append g (in_front n (Some (k + length (x ∷ bs))) b end)) (sym (front-append n (Some k) x (elements n (suc k) bs end)))
+elements-push n k (x ∷ bs) b = grind (arith, append-assoc, (elements-push n (suc k) bs b))
 
 last-front : (o : Option SiblingPlace) (n : Bytes) (p : Option ℕ) (b : Body) (f : Forest) → last_place o (in_front n p b f) ≡ last_place (Some (n, p)) f
-last-front o n p (holds kids) f = refl
-last-front o n p (says c) f = refl
+last-front o n p b f = grind arith
 
 last-elements : (o : Option SiblingPlace) (n : Bytes) (k : ℕ) (b : Body) (bs : List Body) → last_place o (elements n k (b ∷ bs) end) ≡ Some (n, Some (k + length bs))
 last-elements o n k b [] = last-front o n (Some k) b end ∙ ap (λ j. Some (n, Some j)) (omega arith)
-last-elements o n k b (c ∷ bs) =
-    last-front o n (Some k) b (elements n (suc k) (c ∷ bs) end)
-    ∙ last-elements (Some (n, Some k)) n (suc k) c bs
-    ∙ ap (λ j. Some (n, Some j)) (omega arith)
-
-numbered-front : (o : Option SiblingPlace) (n : Bytes) (p : Option ℕ) (b : Body) → is_numbered o n p ≡ true → IsBodyNumbered b → IsNumberedBehind o (in_front n p b end)
-numbered-front o n p (holds kids) h k = (h, k, tt)
-numbered-front o n p (says c) h k = (h, tt)
+last-elements o n k b (c ∷ bs) = grind (arith, (last-elements (Some (n, Some k)) n (suc k) c bs))
 
 -- the lines don't say the number
 lines-front : (d : ℕ) (n : Bytes) (j k : ℕ) (b : Body) → lines d (in_front n (Some j) b end) ≡ lines d (in_front n (Some k) b end)
-lines-front d n j k (holds kids) = refl
-lines-front d n j k (says c) = refl
-
--- the last of members that are filled
-last-filled : (P : List (Text × Member)) (m : Text × Member) → IsGrown (P ++ m ∷ []) → IsMemberFilled m.1
-last-filled P m h = (all-split (λ x. IsMemberFilled x.1) P m h.filled).1
-
-others-filled : (P : List (Text × Member)) (m : Text × Member) → IsGrown (P ++ m ∷ []) → AllByRecursion (λ x. IsMemberFilled x.1) P
-others-filled P m h = (all-split (λ x. IsMemberFilled x.1) P m h.filled).0
-
-all-push : (P : List (Text × Member)) (m : Text × Member) → AllByRecursion (λ x. IsMemberFilled x.1) P → IsMemberFilled m.1 → AllByRecursion (λ x. IsMemberFilled x.1) (P ++ m ∷ [])
-all-push P m all h = all-append (λ x. IsMemberFilled x.1) P (m ∷ []) all (h, tt)
+lines-front d n j k b = grind arith
 
 -- ---- one thing more at the end
 
@@ -88,13 +62,7 @@ all-push P m all h = all-append (λ x. IsMemberFilled x.1) P (m ∷ []) all (h, 
 grows : (old new : List (Text × Member)) (n : Bytes) (p : Option ℕ) (in_array : Bool) (b : Body) →
     members_forest new ≡ append (members_forest old) (in_front n p b end) → ((d : ℕ) → lines d (in_front n p b end) ≡ lines d (in_front n (place_of in_array 0) b end)) →
     IsGrown old → IsBodyNumbered b → is_numbered (last_place None (members_forest old)) n p ≡ true → AllByRecursion (λ m. IsMemberFilled m.1) new → Grows old n in_array b new
-grows old new n p in_array b made same h k fits filled = record {
-  grown = record {
-    numbered = subst IsNumbered (sym made) (numbered-append None (members_forest old) (in_front n p b end) h.numbered (numbered-front (last_place None (members_forest old)) n p b fits k));
-    filled = filled;
-  };
-  lines = λ d. ap (lines d) made ∙ lines-append d (members_forest old) (in_front n p b end) ∙ ap (λ ls. lines d (members_forest old) ++ ls) (same d);
-}
+grows old new n p in_array b made same h k fits filled = grind (arith, lines-append, numbered-append)
 
 -- a member that is no array
 pub grows-one : (old : List (Text × Member)) (n : Text) (i : Item) → IsGrown old → IsBodyNumbered (body i) → IsItemFilled i → Grows old n false (body i) (old ++ (n, One i) ∷ [])
@@ -102,7 +70,7 @@ grows-one old n i h k full =
     grows old (old ++ (n, One i) ∷ []) n None false (body i)
     (members-push old (n, One i) ∙ ap (λ m. append (members_forest old) (member_front n m end)) (bodies-One i))
     (λ d. refl) h k refl
-    (all-push old (n, One i) h.filled (filled-One i ∙ full))
+    (all-append (λ x. IsMemberFilled x.1) old ((n, One i) ∷ []) h.filled (filled-One i ∙ full, tt))
 
 -- an array of one element
 pub grows-array : (old : List (Text × Member)) (n : Text) (i : Item) (v : Vec Item Global) → v.items ≡ i ∷ [] → IsGrown old → IsBodyNumbered (body i) → IsItemFilled i →
@@ -112,7 +80,7 @@ grows-array old n i v is h k full fits =
     grows old (old ++ (n, Many v) ∷ []) n (Some 0) true (body i)
     (members-push old (n, Many v) ∙ ap (λ m. append (members_forest old) (member_front n m end)) held)
     (λ d. refl) h k fits
-    (all-push old (n, Many v) h.filled (many-filled v (ap has_some is) (subst (AllByRecursion IsItemFilled) (sym is) (full, tt))))
+    (all-append (λ x. IsMemberFilled x.1) old ((n, Many v) ∷ []) h.filled (many-filled v (ap has_some is) (subst (AllByRecursion IsItemFilled) (sym is) (full, tt)), tt))
 
 -- what the last member is
 last-push : (P : List (Text × Member)) (m : Text × Member) →
@@ -131,19 +99,11 @@ first-behind_one P n i name =
 
 -- the standing of the last element of an array that has one
 last-array : (o : Option SiblingPlace) (n : Bytes) (bs : List Body) → has_some bs ≡ true → last_place o (elements n 0 bs end) ≡ Some (n, Some (length bs - 1))
-last-array o n [] h = absurd (true≢false (sym h))
-last-array o n (b ∷ bs) h = last-elements o n 0 b bs ∙ ap (λ j. Some (n, Some j)) (omega arith)
-
-some-bodies : (xs : List Item) → has_some xs ≡ true → has_some (map body xs) ≡ true
-some-bodies [] h = h
-some-bodies (x ∷ xs) h = refl
+last-array o n bs h = grind (arith, last-elements)
 
 last-many : (P : List (Text × Member)) (n : Text) (v : Vec Item Global) → IsGrown (P ++ (n, Many v) ∷ []) →
     last_place None (members_forest (P ++ (n, Many v) ∷ [])) ≡ Some (n, Some (length (map body v.items) - 1))
-last-many P n v h =
-    last-push P (n, Many v)
-    ∙ ap (λ m. last_place (last_place None (members_forest P)) (member_front n m end)) (bodies-Many v)
-    ∙ last-array (last_place None (members_forest P)) n (map body v.items) (some-bodies v.items (many-kept v (last-filled P (n, Many v) h)).0)
+last-many P n v h = grind (arith, all-split, bodies-Many, has_some-map, last-array, last-push, many-kept)
 
 -- an array may begin behind one of another name
 pub first-behind_many : (P : List (Text × Member)) (n : Text) (v : Vec Item Global) (name : Bytes) → IsGrown (P ++ (n, Many v) ∷ []) → bytes_eq n name ≡ false →
@@ -151,12 +111,10 @@ pub first-behind_many : (P : List (Text × Member)) (n : Text) (v : Vec Item Glo
 first-behind_many P n v name h differs = ap (λ o. is_numbered o name (Some 0)) (last-many P n v h) ∙ ap not differs
 
 filled-length : (bs : List Body) → has_some bs ≡ true → length bs ≡ suc (length bs - 1)
-filled-length [] h = absurd (true≢false (sym h))
-filled-length (b ∷ bs) h = omega arith
+filled-length bs h = grind arith
 
 some-push : (xs : List Item) (x : Item) → has_some (xs ++ x ∷ []) ≡ true
-some-push [] x = refl
-some-push (y ∷ xs) x = refl
+some-push xs x = grind (arith, common_steps)
 
 next-fits : (n : Bytes) (j k : ℕ) → k ≡ suc j → is_numbered (Some (n, Some j)) n (Some k) ≡ true
 next-fits n j k e = ap (λ i. is_numbered (Some (n, Some j)) n (Some i)) e ∙ ap (λ b. b && (j == j)) (bytes_eq-refl n) ∙ eq-eqb j j refl
@@ -169,8 +127,9 @@ grows-element P n i v w is h k inside =
     let b = body i in
     let F = members_forest P in
     let k' = length bs in
-    let kept = many-kept v (last-filled P (n, Many v) h) in
-    let full : has_some bs ≡ true = some-bodies v.items kept.0 in
+    let all = all-split (λ x. IsMemberFilled x.1) P (n, Many v) h.filled in
+    let kept = many-kept v all.1 in
+    let full : has_some bs ≡ true = has_some-map body v.items ∙ kept.0 in
     let held : bodies (Many w) ≡ many (bs ++ b ∷ []) = bodies-Many w ∙ ap (λ xs. many (map body xs)) is ∙ ap many (map-append body v.items (i ∷ [])) in
     grows (P ++ (n, Many v) ∷ []) (P ++ (n, Many w) ∷ []) n (Some k') true b
     (members-push P (n, Many w)
@@ -181,5 +140,5 @@ grows-element P n i v w is h k inside =
     ∙ ap (λ f. append f (in_front n (Some k') b end)) (sym (members-push P (n, Many v))))
     (λ d. lines-front d n k' 0 b) h k
     (ap (λ o. is_numbered o n (Some k')) (last-many P n v h) ∙ next-fits n (k' - 1) k' (filled-length bs full))
-    (all-push P (n, Many w) (others-filled P (n, Many v) h)
-    (many-filled w (ap has_some is ∙ some-push v.items i) (subst (AllByRecursion IsItemFilled) (sym is) (all-append IsItemFilled v.items (i ∷ []) kept.1 (inside, tt)))))
+    (all-append (λ x. IsMemberFilled x.1) P ((n, Many w) ∷ []) all.0
+    (many-filled w (ap has_some is ∙ some-push v.items i) (subst (AllByRecursion IsItemFilled) (sym is) (all-append IsItemFilled v.items (i ∷ []) kept.1 (inside, tt))), tt))

@@ -1,5 +1,5 @@
 -- A body that can be read has a document, and each of its documents has an IncidentID.
-use Rattle.std.proofs.Common.{◌≡◌, Bool, true, false, if◌then◌else◌, List, [], ◌∷◌, Option, Some, None, option_map, option_and_then, refl, sym, ap, ◌∙◌, is_some, is_none, Ok, codes}
+use Rattle.std.proofs.Common.{◌≡◌, Bool, true, false, if◌then◌else◌, List, [], ◌∷◌, Option, Some, None, option_map, option_and_then, ap, ◌∙◌, is_some, is_none, Ok, codes, arith}
 use Rattle.std.specs.List.{AllByRecursion}
 use Rattle.serde_json.specs.Data as json
 use Rattle.serde_json.specs.Data.{Data}
@@ -7,31 +7,24 @@ use Rattle.serde_json.specs.Find.{get}
 use Rattle.serde_json.specs.Written.{compact_text}
 use Rattle.serde_json.proofs.Views.{get_member-put}
 use Rattle.iodef_tree.specs.Json.{zeroth, id_in, incident_id}
-use Rattle.iodef_tree.specs.Reading.{reading, ◌>>=◌, are_incidents, lacking, lacks, document_of, documents, if_short}
+use Rattle.iodef_tree.specs.Reading.{reading, are_incidents, lacking, documents}
 use Rattle.iodef_tree.specs.Text.{Bytes}
-use Rattle.iodef_tree.specs.Tree.{lines}
 use Rattle.iodef_tree.specs.declared.fault.Required.{Required}
-use Rattle.iodef_tree.specs.declared.fault.Required.TheVariants as required
 use Rattle.iodef_tree.specs.declared.line.Line.{Line}
-use Rattle.iodef_tree.proofs.Passed.{bind-ok, passed}
+use Rattle.iodef_tree.proofs.Passed.{passed}
 use Rattle.iodef_tree.proofs.ReadBack.{IsRoot, HasLines, means, each-document}
 
 abbrev id_name : Bytes
 id_name = codes "IncidentID"
 
 none_said : (b : Bool) (r : Required) (rest : Option Required) → (if b then Some r else rest) ≡ None → (b ≡ false) × (rest ≡ None)
-none_said true r rest h = cc
-none_said false r rest h = (refl, h)
+none_said b r rest h = grind arith
 
 has_id : (d : Data) → lacking d ≡ None → is_none (get id_name d) ≡ false
-has_id d h =
-    let a = none_said (lacks required.Contact d) required.Contact _ h in
-    let b = none_said (lacks required.GenerationTime d) required.GenerationTime _ a.1 in
-    (none_said (lacks required.IncidentId d) required.IncidentId _ b.1).0
+has_id d h = grind arith
 
 some_text : (o : Option Data) → is_none o ≡ false → is_some (option_map compact_text o) ≡ true
-some_text None h = cc
-some_text (Some d) h = refl
+some_text o h = grind arith
 
 abbrev pub IsIdentified : List Line → Type 0
 IsIdentified doc = is_some (incident_id doc) ≡ true
@@ -48,11 +41,7 @@ has_one (x ∷ xs) = true
 
 some_document : (root : json.Members) (ds : json.Items) (docs : List (List Line)) → are_incidents ds ≡ true → documents root ds ≡ Ok docs → has_one docs ≡ true
 some_document root json.no_items docs some read_as = cc
-some_document root (json.item d ds) docs some read_as =
-    let first = bind-ok (if_short (lines 1 (document_of d root))) (λ x. documents root ds >>= λ others. Ok (x ∷ others)) docs read_as in
-    let rest = bind-ok (documents root ds) (λ others. Ok (first.0 ∷ others)) docs first.2 in
-    let all : first.0 ∷ rest.0 ≡ docs = cc (rest.2) in
-    ap has_one (sym all)
+some_document root (json.item d ds) docs some read_as = grind arith
 
 -- what a body that can be read has
 pub record IsReported (docs : List (List Line)) : Type 0 where

@@ -1,6 +1,6 @@
 -- Reading and printing a pointer undo each other.
-use Rattle.std.proofs.Common.{◌≡◌, ℕ, List, [], ◌∷◌, ◌++◌, Bool, true, false, cond, refl, sym, ap, ◌∙◌, eqb, append-nil, Option, Some, None, All}
-use Rattle.std.specs.List.{flat_map, slice_split, onto_first}
+use Rattle.std.proofs.Common.{◌≡◌, ℕ, List, [], ◌∷◌, ◌++◌, Bool, true, false, cond, refl, sym, ap, ◌∙◌, eqb, append-nil, Option, Some, None, All, arith}
+use Rattle.std.specs.List.{flat_map, slice_split}
 use Rattle.std.proofs.lemmas.Bool.{eqb-true, cond-false}
 use Rattle.std.proofs.lemmas.List.Elements.{All-nil, All-cons, All-append}
 use Rattle.std.proofs.lemmas.List.Splits.{slice_split_none, slice_split_at}
@@ -11,18 +11,7 @@ use Rattle.iodef_tree.specs.Pointer.{escaped_byte, escaped, pointer_text, with_f
 
 -- no slash is left in an escaped token
 escaped_byte-plain : (c : ℕ) → All (λ b. is_slash b ≡ false) (escaped_byte c)
-escaped_byte-plain c = by_byte (eqb c 126) (eqb c 47) refl
-  where
-    one : (b : ℕ) (bs : Bytes) → is_slash b ≡ false → All (λ x. is_slash x ≡ false) bs → All (λ x. is_slash x ≡ false) (b ∷ bs)
-    one = All-cons (λ x. is_slash x ≡ false)
-
-    none : All (λ x. is_slash x ≡ false) []
-    none = All-nil (λ x. is_slash x ≡ false)
-
-    by_byte : (t s : Bool) → eqb c 47 ≡ s → All (λ b. is_slash b ≡ false) (cond t (126 ∷ 48 ∷ []) (cond s (126 ∷ 49 ∷ []) (c ∷ [])))
-    by_byte true s e = one 126 (48 ∷ []) refl (one 48 [] refl none)
-    by_byte false true e = one 126 (49 ∷ []) refl (one 49 [] refl none)
-    by_byte false false e = one c [] e none
+escaped_byte-plain c = grind (arith, All-cons, All-nil)
 
 escaped-plain : (token : Bytes) → All (λ b. is_slash b ≡ false) (escaped token)
 escaped-plain [] = All-nil (λ b. is_slash b ≡ false)
@@ -30,23 +19,15 @@ escaped-plain (c ∷ cs) = All-append (λ b. is_slash b ≡ false) (escaped_byte
 
 -- a byte's escape is read as the byte
 unescaped_from-escaped_byte : (c : ℕ) (rest : Bytes) → unescaped_from false (escaped_byte c ++ rest) ≡ with_first (Some c) (unescaped_from false rest)
-unescaped_from-escaped_byte c rest = by_byte (eqb c 126) (eqb c 47) refl refl
-  where
-    by_byte : (t s : Bool) → eqb c 126 ≡ t → eqb c 47 ≡ s → unescaped_from false (cond t (126 ∷ 48 ∷ []) (cond s (126 ∷ 49 ∷ []) (c ∷ [])) ++ rest) ≡ with_first (Some c) (unescaped_from false rest)
-    by_byte true s e f = ap (λ b. with_first (Some b) (unescaped_from false rest)) (sym (eqb-true c 126 e))
-    by_byte false true e f = ap (λ b. with_first (Some b) (unescaped_from false rest)) (sym (eqb-true c 47 f))
-    by_byte false false e f = cond-false _ _ _ e
+unescaped_from-escaped_byte c rest = grind (arith, cond-false, eqb-true)
 
 pub unescaped-escaped : (token : Bytes) → unescaped (escaped token) ≡ Some token
 unescaped-escaped [] = refl
 unescaped-escaped (c ∷ cs) = unescaped_from-escaped_byte c (escaped cs) ∙ ap (with_first (Some c)) (unescaped-escaped cs)
 
 slash_separated-printed : (x : Bytes) (p : Tokens) → slash_separated (escaped x ++ pointer_text p) ≡ Some (x ∷ p)
-slash_separated-printed x [] =
-    ap slash_separated (append-nil (escaped x)) ∙ ap each_unescaped (slice_split_none is_slash (escaped x) (escaped-plain x)) ∙ ap (λ o. with_first o (Some [])) (unescaped-escaped x)
-slash_separated-printed x (y ∷ p) =
-    ap each_unescaped (slice_split_at is_slash (escaped x) 47 (escaped y ++ pointer_text p) (escaped-plain x) refl)
-    ∙ ap (λ o. with_first o (slash_separated (escaped y ++ pointer_text p))) (unescaped-escaped x) ∙ ap (with_first (Some x)) (slash_separated-printed y p)
+slash_separated-printed x [] = grind (arith, append-nil, escaped-plain, slice_split_none, unescaped-escaped)
+slash_separated-printed x (y ∷ p) = grind (arith, escaped-plain, slice_split_at, unescaped-escaped, (slash_separated-printed y p))
 
 -- the pointer of a path is read as that path
 pub pointer_tokens-pointer_text : (p : Tokens) → pointer_tokens (pointer_text p) ≡ Some p
@@ -57,9 +38,7 @@ pointer_tokens-pointer_text (x ∷ p) = slash_separated-printed x p
 
 -- what a list with one more in front was made of
 with_first-some : {A : Type 0} (o : Option A) (rest : Option (List A)) (all : List A) → with_first o rest ≡ Some all → (x : A) × (xs : List A) × (o ≡ Some x) × (rest ≡ Some xs) × (all ≡ x ∷ xs)
-with_first-some None rest all h = absurd (cc)
-with_first-some (Some x) None all h = absurd (cc)
-with_first-some (Some x) (Some xs) all h = (x, xs, refl, refl, cc)
+with_first-some o rest all h = grind arith
 
 abbrev HasNoSlash : Bytes → Type 0
 HasNoSlash [] = Unit {0}
@@ -75,8 +54,6 @@ escaped_byte-kept c t s = cond-false _ _ _ t ∙ cond-false _ _ _ s
 
 -- a token is printed as it was read, with the tilde that came before it
 escaped-unescaped_from : (b : Bool) (w token : Bytes) → HasNoSlash w → unescaped_from b w ≡ Some token → escaped token ≡ cond b (126 ∷ w) w
-escaped-unescaped_from false [] token h r = let e : [] ≡ token = cc in ap escaped (sym e)
-escaped-unescaped_from true [] token h r = absurd (cc)
 escaped-unescaped_from false (c ∷ cs) token h r = by_byte (eqb c 126) refl r (escaped-unescaped_from true cs token h.1) (λ t. escaped-unescaped_from false cs t h.1)
   where
     by_byte : (x : Bool) → eqb c 126 ≡ x → cond x (unescaped_from true cs) (with_first (Some c) (unescaped_from false cs)) ≡ Some token → (unescaped_from true cs ≡ Some token → escaped token ≡ 126 ∷ cs)
@@ -96,19 +73,12 @@ escaped-unescaped_from true (c ∷ cs) token h r = by_code (eqb c 48) (eqb c 49)
         let (z, xs, first, rest, all) = with_first-some (Some 47) (unescaped_from false cs) token k in
         let same : token ≡ 47 ∷ xs = cc in ap escaped same ∙ ap (λ bs. 126 ∷ 49 ∷ bs) (plain xs rest) ∙ ap (λ d. 126 ∷ d ∷ cs) (sym (eqb-true c 49 f))
     by_code false false e f k plain = absurd (cc)
+escaped-unescaped_from b w token h r = grind arith
 
 -- the pieces between the slashes have none
 pieces-HaveNoSlash : (cs : Bytes) → HaveNoSlash (slice_split is_slash cs)
 pieces-HaveNoSlash [] = (tt, tt)
-pieces-HaveNoSlash (c ∷ cs) = by_byte (is_slash c) refl (pieces-HaveNoSlash cs)
-  where
-    onto : (ws : List Bytes) → is_slash c ≡ false → HaveNoSlash ws → HaveNoSlash (onto_first c ws)
-    onto [] e h = ((e, tt), tt)
-    onto (w ∷ ws) e h = ((e, h.0), h.1)
-
-    by_byte : (x : Bool) → is_slash c ≡ x → HaveNoSlash (slice_split is_slash cs) → HaveNoSlash (cond x ([] ∷ slice_split is_slash cs) (onto_first c (slice_split is_slash cs)))
-    by_byte true e h = (tt, h)
-    by_byte false e h = onto (slice_split is_slash cs) e h
+pieces-HaveNoSlash (c ∷ cs) = grind (arith, (pieces-HaveNoSlash cs))
 
 abbrev behind_slashes : List Bytes → Bytes
 behind_slashes ws = flat_map (λ w. 47 ∷ w) ws
@@ -116,15 +86,7 @@ behind_slashes ws = flat_map (λ w. 47 ∷ w) ws
 -- the pieces, each behind a slash
 behind_slashes-pieces : (cs : Bytes) → behind_slashes (slice_split is_slash cs) ≡ 47 ∷ cs
 behind_slashes-pieces [] = refl
-behind_slashes-pieces (c ∷ cs) = by_byte (is_slash c) refl (behind_slashes-pieces cs)
-  where
-    onto : (ws : List Bytes) → behind_slashes ws ≡ 47 ∷ cs → behind_slashes (onto_first c ws) ≡ 47 ∷ c ∷ cs
-    onto [] h = absurd (cc)
-    onto (w ∷ ws) h = let rest : w ++ behind_slashes ws ≡ cs = cc in ap (λ bs. 47 ∷ c ∷ bs) rest
-
-    by_byte : (x : Bool) → is_slash c ≡ x → behind_slashes (slice_split is_slash cs) ≡ 47 ∷ cs → behind_slashes (cond x ([] ∷ slice_split is_slash cs) (onto_first c (slice_split is_slash cs))) ≡ 47 ∷ c ∷ cs
-    by_byte true e h = ap (λ bs. 47 ∷ bs) h ∙ ap (λ d. 47 ∷ d ∷ cs) (sym (eqb-true c 47 e))
-    by_byte false e h = onto (slice_split is_slash cs) h
+behind_slashes-pieces (c ∷ cs) = grind (arith, eqb-true, (behind_slashes-pieces cs))
 
 pointer_text-each : (ws : List Bytes) (p : Tokens) → HaveNoSlash ws → each_unescaped ws ≡ Some p → pointer_text p ≡ behind_slashes ws
 pointer_text-each [] p h r = let e : [] ≡ p = cc in ap pointer_text (sym e)

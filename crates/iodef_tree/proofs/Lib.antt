@@ -12,6 +12,9 @@ mod Writing
 mod Data
 mod Each
 mod Passed
+mod Proven
+mod Computed
+mod Steps
 pub mod NoFloat
 pub mod Meaning
 pub mod Order

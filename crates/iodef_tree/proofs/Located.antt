@@ -4,8 +4,9 @@ use Rattle.std.specs.Option.{option_map_or}
 use Rattle.std.specs.List.{before_first, prefix_len}
 use Rattle.std.proofs.lemmas.Bool.{and_parts, and_left, and_right, and_from, false≢true, eqb-true, eq-eqb, ne_eqb}
 use Rattle.std.proofs.lemmas.List.Sums.{sum_by-cons}
+use Rattle.std.proofs.lemmas.Grind.{common_steps}
 use Rattle.iodef_tree.specs.Text.{Bytes, Tokens, bytes_lt}
-use Rattle.iodef_tree.specs.Tree.{Forest, end, leaf, branch, place_of, lines, leaf_line, class_line}
+use Rattle.iodef_tree.specs.Tree.{Forest, end, leaf, branch, lines, leaf_line, class_line}
 use Rattle.iodef_tree.specs.Paths.{LocatedLine, is_one_less_deep, parent_path, is_like, place_among, entry_at, placed, located_after, located}
 use Rattle.iodef_tree.specs.Sound.{SiblingPlace, may_stand, may_stand_behind, may_stand_first, IsOrderedBehind, IsSound}
 use Rattle.iodef_tree.specs.Walk.{leaf_entry, class_entry, walk}
@@ -20,19 +21,12 @@ parent-past x before d h = ap (λ b. option_map_or (λ (e : LocatedLine). e.path
 parent-here : (x : LocatedLine) (before : List LocatedLine) (d : ℕ) → is_one_less_deep d x ≡ true → parent_path (x ∷ before) d ≡ x.path
 parent-here x before d h = ap (λ b. option_map_or (λ (e : LocatedLine). e.path) (cond b (Some x) (find (is_one_less_deep d) before)) []) h
 
-before_first-past : {X : Type 0} (p : X → Bool) (x : X) (xs : List X) → p x ≡ false → before_first p (x ∷ xs) ≡ x ∷ before_first p xs
-before_first-past {X} p x xs h =
-    let n = prefix_len (λ y. not (p y)) xs in
-    ap (λ b. take (cond (not b) (1 + n) 0) (x ∷ xs)) h ∙ ap (λ k. take k (x ∷ xs)) (let e : 1 + n ≡ suc n = omega arith in e)
-
 before_first-here : {X : Type 0} (p : X → Bool) (x : X) (xs : List X) → p x ≡ true → before_first p (x ∷ xs) ≡ []
 before_first-here {X} p x xs h = ap (λ b. take (cond (not b) (1 + prefix_len (λ y. not (p y)) xs) 0) (x ∷ xs)) h
 
 place-past : (x : LocatedLine) (before : List LocatedLine) (d : ℕ) (name : Bytes) → is_one_less_deep d x ≡ false →
     place_among (x ∷ before) d name ≡ cond (is_like d name x) 1 0 + place_among before d name
-place-past x before d name h =
-    ap (count_by (is_like d name)) (before_first-past (is_one_less_deep d) x before h)
-    ∙ sum_by-cons (λ (e : LocatedLine). cond (is_like d name e) 1 0) x (before_first (is_one_less_deep d) before)
+place-past x before d name h = grind (arith, common_steps, sum_by-cons)
 
 place-here : (x : LocatedLine) (before : List LocatedLine) (d : ℕ) (name : Bytes) → is_one_less_deep d x ≡ true → place_among (x ∷ before) d name ≡ 0
 place-here x before d name h = ap (count_by (is_like d name)) (before_first-here (is_one_less_deep d) x before h)
@@ -49,15 +43,7 @@ not_deeper d k e = ne_eqb (suc d) k (omega arith)
 
 -- a deeper line changes nothing
 stands-past : (x : LocatedLine) (before : List LocatedLine) (d : ℕ) (p : Tokens) (s : Option SiblingPlace) → d < x.line.depth → Stands before d p s → Stands (x ∷ before) d p s
-stands-past x before d p s deep h =
-    let up : is_one_less_deep d x ≡ false = ne_eqb (suc x.line.depth) d (omega arith) in
-    record {
-      parent = parent-past x before d up ∙ h.parent;
-      place = λ name k may.
-          place-past x before d name up
-          ∙ ap (λ b. cond b 1 0 + place_among before d name) (and_left (x.line.depth == d) (bytes_eq x.line.name name) (ne_eqb x.line.depth d (omega arith)))
-          ∙ omega (arith, h.place name k may);
-    }
+stands-past x before d p s deep h = grind (arith, and_left, ne_eqb, parent-past, place-past)
 
 -- a later name than that of a sibling is later than all before it
 none-before : (s : Option SiblingPlace) (n : Bytes) (o : Option ℕ) (name : Bytes) → may_stand s n o ≡ true → bytes_lt n name ≡ true → may_stand s name (Some zero) ≡ true
@@ -83,24 +69,13 @@ place-sibling x before d p s (Some j) is may h name (suc k) next =
 
 stands-sibling : (x : LocatedLine) (before : List LocatedLine) (d : ℕ) (p : Tokens) (s : Option SiblingPlace) (o : Option ℕ) → x.line.depth ≡ d → may_stand s x.line.name o ≡ true → Stands before d p s →
     Stands (x ∷ before) d p (Some (x.line.name, o))
-stands-sibling x before d p s o is may h =
-    let up : is_one_less_deep d x ≡ false = not_deeper x.line.depth d is in
-    record {
-      parent = parent-past x before d up ∙ h.parent;
-      place = λ name k next. place-past x before d name up ∙ place-sibling x before d p s o is may h name k next;
-    }
+stands-sibling x before d p s o is may h = grind (arith, not_deeper, parent-past, place-past, place-sibling)
 
 first_place : (k : ℕ) → may_stand_first (Some k) ≡ true → 0 ≡ k
-first_place zero h = refl
-first_place (suc k) h = absurd (false≢true h)
+first_place k h = grind (arith, false≢true)
 
 stands-below : (x : LocatedLine) (before : List LocatedLine) (d : ℕ) → suc x.line.depth ≡ d → Stands (x ∷ before) d x.path None
-stands-below x before d is =
-    let up : is_one_less_deep d x ≡ true = eq-eqb (suc x.line.depth) d is in
-    record {
-      parent = parent-here x before d up;
-      place = λ name k first. place-here x before d name up ∙ first_place k first;
-    }
+stands-below x before d is = grind (arith, eq-eqb, first_place, parent-here, place-here)
 
 stands-first : Stands [] 1 [] None
 stands-first = record { parent = refl; place = λ name k first. first_place k first }
@@ -128,18 +103,9 @@ stands-past_walk (branch name place kids rest) k q before d p s deep h =
     (stands-past_walk rest k q (rev_onto inner (x ∷ before)) d p s deep
     (stands-past_walk kids (suc k) x.path (x ∷ before) d p s (omega arith) (stands-past x before d p s deep h)))
 
--- a line's entry, where it stands
-place-is : (before : List LocatedLine) (d : ℕ) (p : Tokens) (s : Option SiblingPlace) (name : Bytes) (o : Option ℕ) → Stands before d p s → may_stand s name o ≡ true →
-    place_of (is_some o) (place_among before d name) ≡ o
-place-is before d p s name None h may = refl
-place-is before d p s name (Some k) h may = ap Some (h.place name k may)
-
 placed-is : (before : List LocatedLine) (l : Line) (p : Tokens) (s : Option SiblingPlace) (o : Option ℕ) → Stands before l.depth p s → may_stand s l.name o ≡ true → l.in_array ≡ is_some o →
     placed before l ≡ entry_at p o l
-placed-is before l p s o h may is =
-    ap (λ q. entry_at q (place_of l.in_array (place_among before l.depth l.name)) l) h.parent
-    ∙ ap (λ b. entry_at p (place_of b (place_among before l.depth l.name)) l) is
-    ∙ ap (λ q. entry_at p q l) (place-is before l.depth p s l.name o h may)
+placed-is before l p s o h may is = grind arith
 
 located-walk : (f : Forest) (d : ℕ) (p : Tokens) (s : Option SiblingPlace) (before : List LocatedLine) (ls : List Line) → IsOrderedBehind s f → Stands before d p s →
     located_after before (lines d f ++ ls) ≡ walk d p f ++ located_after (rev_onto (walk d p f) before) ls

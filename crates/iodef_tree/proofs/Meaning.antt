@@ -1,52 +1,40 @@
 -- The text of a tree is that of the JSON object which its lines mean.
-use Rattle.std.proofs.Common.{◌≡◌, ℕ, zero, suc, ◌<◌, Bool, true, false, ◌&&◌, List, [], ◌∷◌, ◌++◌, refl, sym, ◌∙◌, ap, append_assoc, append-nil, arith, if◌then◌else◌, ◌==◌, true≢false, Ordering, Less, Option, Some, None, is_some, unwrap_or, nat_cmp, is_lt, is_eq, bytes_eq}
+use Rattle.std.proofs.Common.{◌≡◌, ℕ, zero, suc, ◌<◌, Bool, true, false, ◌&&◌, List, [], ◌∷◌, ◌++◌, refl, sym, ◌∙◌, ap, append_assoc, append-nil, arith, if◌then◌else◌, true≢false, Option, Some, None, is_some, unwrap_or, bytes_eq}
 use Rattle.std.specs.Option.{option_map_or}
-use Rattle.std.specs.Cmp.Lexicographic.{slice_cmp}
 use Rattle.std.proofs.lemmas.Bool.{cond-true, cond-false, and_parts, and_right}
 use Rattle.std.proofs.lemmas.Slice.Eq.{bytes_eq-Decides}
-use Rattle.std.proofs.lemmas.Map.Text.{is_eq-slice_cmp}
 use Rattle.json.specs.Print.{quoted}
 use Rattle.serde_json.specs.Data as json
 use Rattle.serde_json.specs.Data.{Data}
-use Rattle.serde_json.specs.Read.{read}
 use Rattle.serde_json.specs.Written.{comma_if, compact_text, items_text, members_text}
-use Rattle.iodef_tree.specs.Text.{Bytes, bytes_lt}
+use Rattle.iodef_tree.specs.Text.{Bytes}
 use Rattle.iodef_tree.specs.Texts.{may_be_value, may_be_text, HasTexts}
-use Rattle.iodef_tree.specs.Tree.{Content, text, value, Forest, end, leaf, branch, kind_of, text_of, leaf_line, class_line, lines}
+use Rattle.iodef_tree.specs.Tree.{Content, Forest, end, leaf, branch, kind_of, text_of, leaf_line, class_line, lines}
 use Rattle.iodef_tree.specs.Sound.{SiblingPlace, may_stand, IsOrderedBehind, IsSound}
 use Rattle.iodef_tree.specs.Outline.{sibling}
 use Rattle.iodef_tree.specs.Json.{continues, datum, members_from, items_from, data_of}
 use Rattle.iodef_tree.specs.Written.{content_text, front_text, is_later_place, goes_on, close_text, written, content_data, placed_member, placed_item, members_of, items_of}
 use Rattle.iodef_tree.specs.declared.line.Line.{Line}
 use Rattle.iodef_tree.specs.declared.shape.Sibling.{Sibling}
+use Rattle.iodef_tree.proofs.Order.{bytes_lt-ne}
 use Rattle.iodef_tree.proofs.Sounds.{as_sibling}
+use Rattle.iodef_tree.proofs.Writing.{named-front}
 use Rattle.iodef_tree.proofs.Outlines.{above-line, at-line, past-line}
 
 -- ---- the text of the value that a tree is
 
 value-text : (a : Bool) (s : Bytes) (o : Option Data) → option_map_or (λ d. may_be_value a d && bytes_eq (compact_text d) s) o false ≡ true → compact_text (unwrap_or o json.null) ≡ s
-value-text a s None h = absurd (true≢false (sym h))
-value-text a s (Some d) h = (bytes_eq-Decides (compact_text d) s).0 ((and_parts (may_be_value a d) (bytes_eq (compact_text d) s) h).1)
+value-text a s o h = grind (arith, and_parts, bytes_eq-Decides)
 
 content-means : (a : Bool) (c : Content) → may_be_text (kind_of c) a (text_of c) ≡ true → content_text c ≡ compact_text (content_data c)
-content-means a (text s) h = refl
-content-means a (value s) h = sym (value-text a s (read s) h)
+content-means a c h = grind (arith, value-text)
 
 abbrev is_element : Option SiblingPlace → Bool
 is_element None = false
 is_element (Some s) = is_some s.1
 
--- no array goes on behind what is no element, and none at first
-no-later : (o : Option SiblingPlace) (n : Bytes) (p : Option ℕ) → is_element o ≡ false → may_stand o n p ≡ true → is_later_place p ≡ false
-no-later None n (Some (suc j)) e k = absurd (true≢false (sym k))
-no-later (Some (m, None)) n (Some (suc j)) e k = absurd (true≢false (sym k))
-no-later (Some (m, Some i)) n (Some (suc j)) e k = absurd (true≢false e)
-no-later o n p e k = refl
-
 starts : (o : Option SiblingPlace) (f : Forest) → is_element o ≡ false → IsOrderedBehind o f → goes_on f ≡ false
-starts o end e h = refl
-starts o (leaf i rest) e h = no-later o i.name i.place e h.0
-starts o (branch n p kids rest) e h = no-later o n p e h.0
+starts o f e h = grind arith
 
 -- what is written of a tree is the text of its members, or goes on with the elements of an array
 record Means (w : Bool → Bytes) (goes : Bool) (close : Bytes) (ds : json.Items) (ms : json.Members) : Type 0 where
@@ -56,9 +44,6 @@ record Means (w : Bool → Bytes) (goes : Bool) (close : Bytes) (ds : json.Items
 inner : (a t c w e : Bytes) → (a ++ (t ++ (c ++ w))) ++ e ≡ a ++ (t ++ (c ++ (w ++ e)))
 inner a t c w e =
     append_assoc a (t ++ (c ++ w)) e ∙ ap (λ x. a ++ x) (append_assoc t (c ++ w) e ∙ ap (λ x. t ++ x) (append_assoc c w e))
-
-named-front : (later : Bool) (n s t : Bytes) → (comma_if later ++ (quoted n ++ 58 ∷ s)) ++ t ≡ comma_if later ++ (quoted n ++ 58 ∷ (s ++ t))
-named-front later n s t = append_assoc (comma_if later) (quoted n ++ 58 ∷ s) t ∙ ap (λ x. comma_if later ++ x) (append_assoc (quoted n) (58 ∷ s) t)
 
 abbrev closing : Bool → Bytes
 closing goes = if goes then [] else 93 ∷ []
@@ -92,8 +77,7 @@ in_front-means n (Some (suc j)) t d rest is alone k = record {
 }
 
 alone-behind : (n : Bytes) (p : Option ℕ) (rest : Forest) → IsOrderedBehind (Some (n, p)) rest → p ≡ None → goes_on rest ≡ false
-alone-behind n None rest h e = starts (Some (n, None)) rest refl h
-alone-behind n (Some k) rest h e = cc
+alone-behind n p rest h e = grind (arith, starts)
 
 means : (f : Forest) (o : Option SiblingPlace) → IsOrderedBehind o f → HasTexts f → Means (λ later. written later f) (goes_on f) (closing (goes_on f)) (items_of f) (members_of f)
 means end o h k = record { members = λ later e. refl; items = refl }
@@ -107,26 +91,9 @@ means (branch n p kids rest) o h k =
 
 -- ---- the value that the lines mean
 
-lt-ne : (o : Ordering) → is_lt o ≡ true → is_eq o ≡ false
-lt-ne Less h = refl
-lt-ne _ h = absurd (true≢false (sym h))
-
-other-name : (x y : Bytes) → bytes_lt x y ≡ true → bytes_eq x y ≡ false
-other-name x y h = sym (is_eq-slice_cmp x y) ∙ lt-ne (slice_cmp nat_cmp x y) h
-
 -- a line goes on with its sibling's array where its place is a later one
 continues-is : (o : Option SiblingPlace) (l : Line) (p : Option ℕ) → l.in_array ≡ is_some p → may_stand o l.name p ≡ true → continues (as_sibling o) l ≡ is_later_place p
-continues-is None l None a h = refl
-continues-is None l (Some zero) a h = refl
-continues-is None l (Some (suc k)) a h = absurd (true≢false (sym h))
-continues-is (Some (n, q)) l None a h = ap (λ b. bytes_eq n l.name && (is_some q && b)) a ∙ and_right (bytes_eq n l.name) _ (and_right (is_some q) false refl)
-continues-is (Some (n, q)) l (Some zero) a h = ap (λ b. b && (is_some q && l.in_array)) (other-name n l.name (first-stands q h))
-  where
-    first-stands : (r : Option ℕ) → may_stand (Some (n, r)) l.name (Some zero) ≡ true → bytes_lt n l.name ≡ true
-    first-stands None k = k
-    first-stands (Some j) k = k
-continues-is (Some (n, None)) l (Some (suc k)) a h = absurd (true≢false (sym h))
-continues-is (Some (n, Some j)) l (Some (suc k)) a h = ap (λ b. b && (true && l.in_array)) ((and_parts (bytes_eq n l.name) (j == k) h).0) ∙ a
+continues-is o l p a h = grind (arith, and_parts, and_right, bytes_lt-ne)
 
 -- ---- lines that are passed by
 
@@ -152,16 +119,13 @@ Stops d [] = Unit {0}
 Stops d (l ∷ ls) = l.depth < d
 
 stops-members : (X : List Line) (d : ℕ) (o : Option Sibling) → Stops d X → members_from d o X ≡ json.no_members
-stops-members [] d o h = refl
-stops-members (l ∷ ls) d o h = above-line l.depth d _ _ _ h
+stops-members X d o h = grind (arith, above-line)
 
 stops-items : (X : List Line) (d : ℕ) (o : Option Sibling) → Stops d X → items_from d o X ≡ json.no_items
-stops-items [] d o h = refl
-stops-items (l ∷ ls) d o h = above-line l.depth d _ _ _ h
+stops-items X d o h = grind (arith, above-line)
 
 stops-more : (X : List Line) (d : ℕ) → Stops d X → Stops (suc d) X
-stops-more [] d h = tt
-stops-more (l ∷ ls) d h = omega (arith, h)
+stops-more X d h = grind arith
 
 stops-below : (f : Forest) (d : ℕ) (X : List Line) → Stops d X → Stops (suc d) (lines d f ++ X)
 stops-below end d X h = stops-more X d h
@@ -172,17 +136,13 @@ stops-below (branch n p kids rest) d X h = omega arith
 
 choose-member : (n : Bytes) (p : Option ℕ) (c a : Bool) (D : Data) (ds : json.Items) (ms : json.Members) → c ≡ is_later_place p → a ≡ is_some p →
     (if c then ms else (if a then json.member n (json.array (json.item D ds)) ms else json.member n D ms)) ≡ placed_member n p D ds ms
-choose-member n None c a D ds ms e g = cond-false c _ _ e ∙ cond-false a _ _ g
-choose-member n (Some zero) c a D ds ms e g = cond-false c _ _ e ∙ cond-true a _ _ g
-choose-member n (Some (suc k)) c a D ds ms e g = cond-true c _ _ e
+choose-member n p c a D ds ms e g = grind (arith, cond-false, cond-true)
 
 choose-item : (p : Option ℕ) (c : Bool) (D : Data) (ds : json.Items) → c ≡ is_later_place p → (if c then json.item D ds else json.no_items) ≡ placed_item p D ds
-choose-item (Some (suc k)) c D ds e = cond-true c _ _ e
-choose-item _ c D ds e = cond-false c _ _ e
+choose-item p c D ds e = grind (arith, cond-false, cond-true)
 
 plain-datum : (c : Content) (ms : json.Members) → datum (kind_of c) (text_of c) ms ≡ content_data c
-plain-datum (text s) ms = refl
-plain-datum (value s) ms = refl
+plain-datum c ms = grind arith
 
 record Tells (d : ℕ) (o : Option SiblingPlace) (ls : List Line) (ds : json.Items) (ms : json.Members) : Type 0 where
   pub members : members_from d (as_sibling o) ls ≡ ms
@@ -191,20 +151,7 @@ record Tells (d : ℕ) (o : Option SiblingPlace) (ls : List Line) (ds : json.Ite
 one-tells : (d : ℕ) (o : Option SiblingPlace) (l : Line) (p : Option ℕ) (ls : List Line) (D : Data) (ds : json.Items) (ms : json.Members) → l.depth ≡ d → l.in_array ≡ is_some p →
     may_stand o l.name p ≡ true → datum l.kind l.text (members_from (suc d) None ls) ≡ D →
     members_from d (Some (sibling l)) ls ≡ ms → items_from d (Some (sibling l)) ls ≡ ds → Tells d o (l ∷ ls) (placed_item p D ds) (placed_member l.name p D ds ms)
-one-tells d o l p ls D ds ms deep a fits is m i =
-    let c = continues-is o l p a fits in record {
-      members =
-          at-line l.depth d _ _ _ deep
-          ∙ choose-member l.name p (continues (as_sibling o) l) l.in_array (datum l.kind l.text (members_from (suc d) None ls)) (items_from d (Some (sibling l)) ls) (members_from d (Some (sibling l)) ls) c a
-          ∙ ap (λ x. placed_member l.name p x (items_from d (Some (sibling l)) ls) (members_from d (Some (sibling l)) ls)) is
-          ∙ ap (λ x. placed_member l.name p D x (members_from d (Some (sibling l)) ls)) i
-          ∙ ap (placed_member l.name p D ds) m;
-      items =
-          at-line l.depth d _ _ _ deep
-          ∙ choose-item p (continues (as_sibling o) l) (datum l.kind l.text (members_from (suc d) None ls)) (items_from d (Some (sibling l)) ls) c
-          ∙ ap (λ x. placed_item p x (items_from d (Some (sibling l)) ls)) is
-          ∙ ap (placed_item p D) i;
-    }
+one-tells d o l p ls D ds ms deep a fits is m i = grind (arith, at-line, choose-item, choose-member, continues-is)
 
 tells : (f : Forest) (d : ℕ) (o : Option SiblingPlace) (X : List Line) → IsOrderedBehind o f → Stops d X → Tells d o (lines d f ++ X) (items_of f) (members_of f)
 tells end d o X h k = record { members = stops-members X d (as_sibling o) k; items = stops-items X d (as_sibling o) k }
@@ -232,6 +179,4 @@ data-is f h = data-ordered f h.ordered
 
 -- what is written of a document's tree is the compact JSON of the object that its lines mean
 pub text-is : (f : Forest) → IsSound f → 123 ∷ (written false f ++ 125 ∷ []) ≡ compact_text (json.object (data_of (lines 1 f)))
-text-is f h =
-    ap (λ x. 123 ∷ x) ((means f None h.ordered h.texts).members false (starts None f refl h.ordered))
-    ∙ sym (ap (λ ms. 123 ∷ members_text false ms) (data-is f h))
+text-is f h = grind (arith, data-is, means, starts)

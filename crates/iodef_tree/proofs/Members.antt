@@ -1,7 +1,8 @@
 -- A member of an object, and those behind it.
-use Rattle.std.proofs.Common.{◌≡◌, ℕ, ◌+◌, ◌<◌, List, ◌∷◌, length, get_or, drop, Bor, true, false, Option, Some, None, option_map, sym, ◌∙◌, ap, is_some, bytes_eq}
+use Rattle.std.proofs.Common.{◌≡◌, ℕ, ◌+◌, ◌<◌, List, ◌∷◌, length, get_or, drop, Bor, true, false, Option, None, option_map, sym, ◌∙◌, ap, is_some, bytes_eq, arith}
 use Rattle.std.specs.Option.{option_map_or}
 use Rattle.std.proofs.lemmas.List.{at_drop_more}
+use Rattle.std.proofs.lemmas.Grind.{common_steps}
 use Rattle.iodef_tree.specs.Text.{Bytes, Tokens}
 use Rattle.iodef_tree.specs.Tree.{Forest, Body, Bodies, member_front}
 use Rattle.iodef_tree.specs.Lookup.{class_at, object_in, part_at}
@@ -19,33 +20,18 @@ members-next ms i m h is = at_drop_more members_forest ms i m h ∙ ap (λ (y : 
 taken : (r : Option (Bor Item × Bor (List Text))) (m : Bodies) (p : Tokens) (rest : Option Forest) → is_some r ≡ true →
     option_map (λ (x : Bor Item × Bor (List Text)). let y : Body × Tokens = (body x.0.now, x.1.now) in y) r ≡ part_at m p →
     option_map_or (λ (x : Bor Item × Bor (List Text)). object_in (body x.0.now) x.1.now) r None ≡ part_or m p rest
-taken None m p rest some is = cc
-taken (Some x) m p rest some is = ap (λ o. option_map_or (λ (y : Body × Tokens). object_in y.0 y.1) o rest) is
-
-not_taken : (r : Option (Bor Item × Bor (List Text))) (m : Bodies) (p : Tokens) (rest : Option Forest) → is_some r ≡ false →
-    option_map (λ (x : Bor Item × Bor (List Text)). let y : Body × Tokens = (body x.0.now, x.1.now) in y) r ≡ part_at m p → part_or m p rest ≡ rest
-not_taken None m p rest none is = ap (λ o. option_map_or (λ (y : Body × Tokens). object_in y.0 y.1) o rest) (sym is)
-not_taken (Some x) m p rest none is = cc
+taken r m p rest some is = grind arith
 
 pub found-here : (ms : List (Text × Member)) (i : ℕ) (m : Text × Member) (x : Bytes) (p : Tokens) (r : Option (Bor Item × Bor (List Text))) → i < length ms → m ≡ get_or ms i m → bytes_eq m.0 x ≡ true →
     is_some r ≡ true → option_map (λ (y : Bor Item × Bor (List Text)). let z : Body × Tokens = (body y.0.now, y.1.now) in z) r ≡ part_at (bodies m.1) p →
     option_map_or (λ (y : Bor Item × Bor (List Text)). object_in (body y.0.now) y.1.now) r None ≡ class_at (members_forest (drop i ms)) (x ∷ p)
-found-here ms i m x p r h is named some part =
-    let rest = members_forest (drop (i + 1) ms) in
-    taken r (bodies m.1) p (class_at rest (x ∷ p)) some part
-    ∙ sym (class_at-here (bodies m.1) m.0 rest x p named)
-    ∙ ap (λ f. class_at f (x ∷ p)) (sym (members-next ms i m h is))
+found-here ms i m x p r h is named some part = grind (arith, common_steps, class_at-here, members-next)
 
 pub not-here : (ms : List (Text × Member)) (i : ℕ) (m : Text × Member) (x : Bytes) (p : Tokens) (r : Option (Bor Item × Bor (List Text))) → i < length ms → m ≡ get_or ms i m → bytes_eq m.0 x ≡ true →
     is_some r ≡ false → option_map (λ (y : Bor Item × Bor (List Text)). let z : Body × Tokens = (body y.0.now, y.1.now) in z) r ≡ part_at (bodies m.1) p →
     class_at (members_forest (drop (i + 1) ms)) (x ∷ p) ≡ class_at (members_forest (drop i ms)) (x ∷ p)
-not-here ms i m x p r h is named none part =
-    let rest = members_forest (drop (i + 1) ms) in
-    sym (not_taken r (bodies m.1) p (class_at rest (x ∷ p)) none part)
-    ∙ sym (class_at-here (bodies m.1) m.0 rest x p named)
-    ∙ ap (λ f. class_at f (x ∷ p)) (sym (members-next ms i m h is))
+not-here ms i m x p r h is named none part = grind (arith, common_steps, class_at-here, members-next)
 
 pub other-here : (ms : List (Text × Member)) (i : ℕ) (m : Text × Member) (x : Bytes) (p : Tokens) → i < length ms → m ≡ get_or ms i m → bytes_eq m.0 x ≡ false →
     class_at (members_forest (drop (i + 1) ms)) (x ∷ p) ≡ class_at (members_forest (drop i ms)) (x ∷ p)
-other-here ms i m x p h is named =
-    sym (class_at-other (bodies m.1) m.0 (members_forest (drop (i + 1) ms)) x p named) ∙ ap (λ f. class_at f (x ∷ p)) (sym (members-next ms i m h is))
+other-here ms i m x p h is named = grind (arith, class_at-other, members-next)

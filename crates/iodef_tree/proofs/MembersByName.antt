@@ -1,27 +1,28 @@
 -- The member of a name, and the IncidentID.
-use Rattle.std.proofs.Common.{◌≡◌, ℕ, suc, ◌+◌, ◌<◌, Bool, true, false, if◌then◌else◌, List, [], ◌∷◌, map, length, drop, get_or, refl, sym, ◌∙◌, ap, subst, true≢false, Ordering, Less, is_eq, Option, Some, None, is_some, option_map, option_and_then, codes, bytes_eq}
+use Rattle.std.proofs.Common.{◌≡◌, ℕ, ◌+◌, ◌<◌, Bool, true, false, if◌then◌else◌, List, [], ◌∷◌, map, length, drop, get_or, sym, ◌∙◌, ap, subst, true≢false, Ordering, is_eq, Option, Some, None, is_some, option_map, option_and_then, codes, bytes_eq, arith}
 use Rattle.std.specs.List.{AllByRecursion}
 use Rattle.std.specs.Ordering.{nat_cmp, match_ordering}
 use Rattle.std.specs.Cmp.Lexicographic.{slice_cmp}
 use Rattle.std.proofs.lemmas.Map.Text.{is_eq-slice_cmp}
+use Rattle.std.proofs.lemmas.Grind.{common_steps}
 use Rattle.serde_json.specs.Data as json
 use Rattle.serde_json.specs.Data.{Data}
 use Rattle.serde_json.specs.Find.{get, get_member, as_object}
 use Rattle.serde_json.specs.Written.{compact_text}
 use Rattle.iodef_tree.specs.FitValues.{IsBodyOrdered, AreBodiesOrdered}
-use Rattle.iodef_tree.specs.Json.{data_of, zeroth, id_in, incident_id}
+use Rattle.iodef_tree.specs.Json.{zeroth, id_in, incident_id}
 use Rattle.iodef_tree.specs.SoundParts.{IsKept, IsBodyKept, AreKept}
 use Rattle.iodef_tree.specs.Sound.{SiblingPlace, IsOrderedBehind, IsSound}
 use Rattle.iodef_tree.specs.Text.{Bytes}
 use Rattle.iodef_tree.specs.Texts.{HasTexts}
-use Rattle.iodef_tree.specs.Tree.{Forest, Body, holds, says, Bodies, one, many, in_front, elements, lines}
-use Rattle.iodef_tree.specs.View.{forest, bodies, named, forest_of_members, members_forest}
+use Rattle.iodef_tree.specs.Tree.{Forest, Body, Bodies, one, many, in_front, lines}
+use Rattle.iodef_tree.specs.View.{forest, bodies, named, members_forest}
 use Rattle.iodef_tree.specs.Written.{members_of, bodies_data}
 use Rattle.iodef_tree.specs.declared.line.Line.{Line}
 use Rattle.iodef_tree.specs.declared.text.Text.{Text}
 use Rattle.iodef_tree.specs.declared.object.Member.{Member}
 use Rattle.iodef_tree.specs.declared.object.Object.{Object}
-use Rattle.iodef_tree.proofs.Data.{no-items, member-data}
+use Rattle.iodef_tree.proofs.Data.{members-each, no-items, member-data}
 use Rattle.iodef_tree.proofs.Filled.{has_elements}
 use Rattle.iodef_tree.proofs.Meaning.{data-is}
 use Rattle.iodef_tree.proofs.Members.{members-next}
@@ -31,8 +32,7 @@ use Rattle.iodef_tree.proofs.Views.{forest-members}
 -- ---- the first member of a name
 
 chosen : (o : Ordering) (b : Bool) (a : Option Data) (d : Data) → is_eq o ≡ b → match_ordering o a (Some d) a ≡ (if b then Some d else a)
-chosen Less b a d h = rw (sym h)
-chosen _ b a d h = rw (sym h)
+chosen o b a d h = grind arith
 
 same : (x k : Bytes) (b : Bool) → bytes_eq x k ≡ b → bytes_eq k x ≡ b
 same x k true h = ap (bytes_eq k) (bytes_eq-true x k h) ∙ bytes_eq-refl k
@@ -41,54 +41,25 @@ same x k false h = is_false (bytes_eq k x) (λ e. true≢false (sym (bytes_eq-re
 get-first : (k n : Bytes) (b : Bool) (d : Data) (ms : json.Members) → bytes_eq n k ≡ b → get_member k (json.member n d ms) ≡ (if b then Some d else get_member k ms)
 get-first k n b d ms h = chosen (slice_cmp nat_cmp k n) b (get_member k ms) d (is_eq-slice_cmp k n ∙ same n k b h)
 
-pub member-found : (k : Bytes) (xs : List (Text × Member)) (i : ℕ) (m : Text × Member) → i < length xs → m ≡ get_or xs i m → bytes_eq m.0 k ≡ true → has_elements (bodies m.1) ≡ true →
-    Some (bodies_data (bodies m.1)) ≡ get_member k (members_of (members_forest (drop i xs)))
-member-found k xs i m h e is filled =
-    let rest = members_forest (drop (i + 1) xs) in
-    sym (ap (get_member k) (ap members_of (members-next xs i m h e) ∙ member-data m.0 (bodies m.1) rest (no-items (map named (drop (i + 1) xs))) filled)
-    ∙ get-first k m.0 true (bodies_data (bodies m.1)) (members_of rest) is)
-
-pub member-other : (k : Bytes) (xs : List (Text × Member)) (i : ℕ) (m : Text × Member) → i < length xs → m ≡ get_or xs i m → bytes_eq m.0 k ≡ false → has_elements (bodies m.1) ≡ true →
-    get_member k (members_of (members_forest (drop (i + 1) xs))) ≡ get_member k (members_of (members_forest (drop i xs)))
-member-other k xs i m h e other filled =
-    let rest = members_forest (drop (i + 1) xs) in
-    sym (ap (get_member k) (ap members_of (members-next xs i m h e) ∙ member-data m.0 (bodies m.1) rest (no-items (map named (drop (i + 1) xs))) filled)
-    ∙ get-first k m.0 false (bodies_data (bodies m.1)) (members_of rest) other)
+-- the first of these members has the name, or it is one of the others
+pub member-next : (k : Bytes) (xs : List (Text × Member)) (i : ℕ) (m : Text × Member) (b : Bool) → i < length xs → m ≡ get_or xs i m → bytes_eq m.0 k ≡ b → has_elements (bodies m.1) ≡ true →
+    get_member k (members_of (members_forest (drop i xs))) ≡ (if b then Some (bodies_data (bodies m.1)) else get_member k (members_of (members_forest (drop (i + 1) xs))))
+member-next k xs i m b h e is filled = grind (arith, common_steps, get-first, member-data, members-next, no-items)
 
 -- ---- what is kept in each member
 
-front-kept : (o : Option SiblingPlace) (n : Bytes) (p : Option ℕ) (b : Body) (rest : Forest) → IsOrderedBehind o (in_front n p b rest) → HasTexts (in_front n p b rest) →
-    IsBodyKept (is_some p) b × IsOrderedBehind (Some (n, p)) rest × HasTexts rest
-front-kept o n p (holds f) rest h k = (record { ordered = h.1; texts = k.0 }, h.2, k.1)
-front-kept o n p (says c) rest h k = (k.0, h.1, k.1)
-
-record Kept (bs : List Body) (rest : Forest) : Type 0 where
-  pub each : AllByRecursion (IsBodyKept true) bs
-  pub before : Option SiblingPlace
-  pub behind : IsOrderedBehind before rest
-  pub texts : HasTexts rest
-
-elements-kept : (o : Option SiblingPlace) (n : Bytes) (k : ℕ) (bs : List Body) (rest : Forest) → IsOrderedBehind o (elements n k bs rest) → HasTexts (elements n k bs rest) → Kept bs rest
-elements-kept o n k [] rest h t = record { each = tt; before = o; behind = h; texts = t }
-elements-kept o n k (b ∷ bs) rest h t =
-    let parts = front-kept o n (Some k) b (elements n (suc k) bs rest) h t in
-    let more = elements-kept (Some (n, Some k)) n (suc k) bs rest parts.1 parts.2 in
-    record { each = (parts.0, more.each); before = more.before; behind = more.behind; texts = more.texts }
-
-members-kept : (ms : List (Bytes × Bodies)) (o : Option SiblingPlace) → IsOrderedBehind o (forest_of_members ms) → HasTexts (forest_of_members ms) → AllByRecursion (λ m. AreKept m.1) ms
-members-kept [] o h t = tt
-members-kept ((n, one b) ∷ ms) o h t = let parts = front-kept o n None b (forest_of_members ms) h t in (parts.0, members-kept ms (Some (n, None)) parts.1 parts.2)
-members-kept ((n, many bs) ∷ ms) o h t = let parts = elements-kept o n 0 bs (forest_of_members ms) h t in (parts.each, members-kept ms parts.before parts.behind parts.texts)
+front-kept : (o : Option SiblingPlace) (n : Bytes) (p : Option ℕ) (b : Body) (rest : Forest) → IsOrderedBehind o (in_front n p b rest) × HasTexts (in_front n p b rest) →
+    IsBodyKept (is_some p) b × (IsOrderedBehind (Some (n, p)) rest × HasTexts rest)
+front-kept o n p b rest h = grind arith
 
 pub object-members : (o : Object) (xs : List (Text × Member)) → xs ≡ o.members.items → members_forest xs ≡ forest o
 object-members o xs is = ap members_forest is ∙ sym (forest-members o)
 
 pub kept-members : (o : Object) (xs : List (Text × Member)) → IsKept (forest o) → xs ≡ o.members.items → AllByRecursion (λ m. AreKept m.1) (map named xs)
-kept-members o xs k is = let inside : IsKept (members_forest xs) = subst IsKept (sym (object-members o xs is)) k in members-kept (map named xs) None inside.ordered inside.texts
+kept-members o xs k is = let inside : IsKept (members_forest xs) = subst IsKept (sym (object-members o xs is)) k in members-each (λ s f. IsOrderedBehind s f × HasTexts f) IsBodyKept front-kept AreKept (λ b h. h) (λ bs h. h) (map named xs) None (inside.ordered, inside.texts)
 
 body-ordered : (a : Bool) (b : Body) → IsBodyKept a b → IsBodyOrdered b
-body-ordered a (holds f) k = k.ordered
-body-ordered a (says c) k = tt
+body-ordered a b k = grind arith
 
 pub kept-ordered : (m : Bodies) → AreKept m → AreBodiesOrdered m
 kept-ordered (one b) k = body-ordered false b k
@@ -100,24 +71,13 @@ kept-ordered (many bs) k = each bs k
 
 -- ---- the IncidentID
 
-get-object : (k : Bytes) (d : Data) → option_and_then (get_member k) (as_object d) ≡ get k d
-get-object k (json.object ms) = refl
-get-object k _ = refl
-
 get-then : (k : Bytes) (o : Option Data) → option_and_then (get_member k) (option_and_then as_object o) ≡ option_and_then (get k) o
-get-then k None = refl
-get-then k (Some d) = get-object k d
+get-then k o = grind arith
 
 pub id-found : (ms own : json.Members) (d : Data) (r : Option Data) → Some d ≡ get_member (codes "Incident") ms → Some own ≡ option_and_then as_object (zeroth d) → r ≡ get_member (codes "IncidentID") own →
     r ≡ id_in (json.object ms)
-id-found ms own d r first at is =
-    let k = codes "IncidentID" in
-    is
-    ∙ ap (option_and_then (get_member k)) at
-    ∙ get-then k (zeroth d)
-    ∙ ap (λ o. option_and_then (get k) (option_and_then zeroth o)) first
+id-found ms own d r first at is = grind (arith, get-then)
 
 -- with its text
 pub id-is : (f : Forest) (ls : List Line) (o : Option Data) (r : Option Bytes) → IsSound f → lines 1 f ≡ ls → o ≡ id_in (json.object (members_of f)) → r ≡ option_map compact_text o → r ≡ incident_id ls
-id-is f ls o r h seen found said =
-    said ∙ ap (option_map compact_text) found ∙ ap (λ ms. option_map compact_text (id_in (json.object ms))) (sym (data-is f h) ∙ ap data_of seen)
+id-is f ls o r h seen found said = grind (arith, data-is)

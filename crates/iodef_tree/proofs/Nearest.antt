@@ -1,8 +1,7 @@
 -- The parent of a line is the longest class above its path.
-use Rattle.std.proofs.Common.{◌≡◌, ℕ, suc, List, [], ◌∷◌, ◌++◌, Bool, true, false, cond, ◌&&◌, ◌||◌, refl, sym, ◌∙◌, ap, subst, append-nil, true≢false, ◌⊎◌, inl, inr, decimal, Option, Some, None, is_some, bytes_eq}
-use Rattle.std.specs.Option.{option_map_or}
+use Rattle.std.proofs.Common.{◌≡◌, ℕ, suc, List, [], ◌∷◌, ◌++◌, Bool, true, false, ◌&&◌, ◌||◌, refl, sym, ◌∙◌, ap, append-nil, true≢false, ◌⊎◌, inl, inr, decimal, Option, Some, None, is_some, bytes_eq, arith}
 use Rattle.std.specs.List.{AllByRecursion}
-use Rattle.std.proofs.lemmas.Bool.{and_parts, and_right, cond-false, or_left, or_right}
+use Rattle.std.proofs.lemmas.Bool.{and_parts, and_right, cond-false, cond_both, or_left, or_right}
 use Rattle.std.proofs.lemmas.List.Folds.{list_any-append}
 use Rattle.iodef_tree.specs.Text.{Bytes, Tokens, same_path, is_root, is_prefix, is_under}
 use Rattle.iodef_tree.specs.Tree.{Forest, end, leaf, branch, steps, lines}
@@ -41,13 +40,8 @@ above-steps (x ∷ r) (y ∷ p) n o h =
 abbrev Differs : Bytes → Option ℕ → Bytes → Option ℕ → Type 0
 Differs n o n' o' = is_some o ≡ true → o' ≡ None → bytes_eq n' n ≡ false
 
-differs-self : (n : Bytes) (o : Option ℕ) → Differs n o n o
-differs-self n None h e = absurd (true≢false (sym h))
-differs-self n (Some k) h e = absurd (cc)
-
 and-true : (b c : Bool) → (b && c) ≡ false → c ≡ true → b ≡ false
-and-true true c h k = absurd (true≢false (sym k ∙ h))
-and-true false c h k = refl
+and-true b c h k = grind arith
 
 differs-left : (n : Bytes) (o : Option ℕ) (n' : Bytes) (o' : Option ℕ) → AreApart n o n' o' → Differs n o n' o'
 differs-left n None n' o' a h e = absurd (true≢false (sym h))
@@ -67,31 +61,16 @@ siblings-both P Q R (branch n o kids rest) h a b = (h n o a.0 b.0, siblings-both
 -- no array has the name of another sibling
 all-differ : (f : Forest) → HasApart f → AllSiblings (λ n o. AllSiblings (Differs n o) f) f
 all-differ end apart = tt
-all-differ (leaf i rest) apart = (
-  (differs-self i.name i.place, siblings-map (AreApart i.name i.place) (Differs i.name i.place) rest (differs-left i.name i.place) apart.0),
-  siblings-both (AreApart i.name i.place) (λ n o. AllSiblings (Differs n o) rest) (λ n o. AllSiblings (Differs n o) (leaf i rest)) rest
-      (λ n o a b. (differs-right i.name i.place n o a, b)) apart.0 (all-differ rest apart.1),
-)
-all-differ (branch m p kids rest) apart = (
-  (differs-self m p, siblings-map (AreApart m p) (Differs m p) rest (differs-left m p) apart.0),
-  siblings-both (AreApart m p) (λ n o. AllSiblings (Differs n o) rest) (λ n o. AllSiblings (Differs n o) (branch m p kids rest)) rest
-      (λ n o a b. (differs-right m p n o a, b)) apart.0 (all-differ rest apart.2),
-)
+all-differ (leaf i rest) apart = grind (arith, differs-left, differs-right, siblings-both, siblings-map, (all-differ rest apart.1))
+all-differ (branch m p kids rest) apart = grind (arith, differs-left, differs-right, siblings-both, siblings-map, (all-differ rest apart.2))
 
 past-bare : (n' : Bytes) (o' : Option ℕ) (n : Bytes) → (o' ≡ None → bytes_eq n' n ≡ false) → past (steps n' o') (n ∷ []) ≡ None
-past-bare n' None n h = cond-false (bytes_eq n' n) _ _ (h refl)
-past-bare n' (Some k) n h = either (bytes_eq n' n)
-  where
-    either : (b : Bool) → cond b (past (decimal k ∷ []) []) None ≡ None
-    either true = refl
-    either false = refl
+past-bare n' o' n h = grind (arith, cond-false, cond_both)
 
 none-bare : (f : Forest) (n : Bytes) (o : Option ℕ) → is_some o ≡ true → AllSiblings (Differs n o) f → class_at f (n ∷ []) ≡ None
 none-bare end n o some h = refl
-none-bare (leaf i rest) n o some h =
-    ap (λ z. option_map_or {T = Tokens} {U = Option Forest} (λ r. None) z (class_at rest (n ∷ []))) (past-bare i.name i.place n (h.0 some)) ∙ none-bare rest n o some h.1
-none-bare (branch m p kids rest) n o some h =
-    ap (λ z. option_map_or (λ r. cond (is_root r) (Some kids) (class_at kids r)) z (class_at rest (n ∷ []))) (past-bare m p n (h.0 some)) ∙ none-bare rest n o some h.1
+none-bare (leaf i rest) n o some h = grind (arith, past-bare, (none-bare rest n o some h.1))
+none-bare (branch m p kids rest) n o some h = grind (arith, past-bare, (none-bare rest n o some h.1))
 
 -- ---- down the tree
 
@@ -99,11 +78,7 @@ abbrev IsBare : List LocatedLine → Tokens → Bytes → Option ℕ → Type 0
 IsBare es p n o = is_some o ≡ true → has_class es (p ++ n ∷ []) ≡ false
 
 bare-siblings : (es : List LocatedLine) (d : ℕ) (p : Tokens) (f : Forest) → HasApart f → below p es ≡ walk d p f → AllSiblings (IsBare es p) f
-bare-siblings es d p f apart block =
-    siblings-map (λ n o. AllSiblings (Differs n o) f) (IsBare es p) f
-    (λ n o h some.
-    has_class-below es p n [] ∙ ap (λ xs. has_class xs (p ++ n ∷ [])) block ∙ has_class-walk f d p (n ∷ []) apart ∙ ap (λ z. is_some z) (none-bare f n o some h))
-    (all-differ f apart)
+bare-siblings es d p f apart block = grind (arith, all-differ, has_class-below, has_class-walk, none-bare, siblings-map)
 
 nearest-entry : (es : List LocatedLine) (p : Tokens) (n : Bytes) (o : Option ℕ) → (is_root p || has_class es p) ≡ true → IsBare es p n o → IsNearestClass es (p ++ steps n o) p
 nearest-entry es p n o stands bare = record {
@@ -139,8 +114,4 @@ nearest-walk es (branch n o kids rest) d p blocks apart stands bare among =
     )
 
 pub nearest-located : (f : Forest) → IsSound f → Nearest (located (lines 1 f)) (located (lines 1 f))
-nearest-located f sound =
-    let es = walk 1 [] f in
-    let apart = sound-apart f sound in
-    subst (λ xs. Nearest xs xs) (sym (located-lines f sound))
-    (nearest-walk es f 1 [] (blocks f sound) apart refl (bare-siblings es 1 [] f apart (all-below f 1 [])) (λ r h. h))
+nearest-located f sound = grind (arith, all-below, bare-siblings, blocks, located-lines, nearest-walk, sound-apart)

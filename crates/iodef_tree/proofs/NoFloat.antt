@@ -1,5 +1,5 @@
 -- No float is in what a part of a document means.
-use Rattle.std.proofs.Common.{◌≡◌, ℕ, zero, suc, Bool, true, false, ◌&&◌, ◌||◌, List, [], ◌∷◌, map, refl, sym, true≢false, Option, Some, None, is_some, unwrap_or, bytes_eq, ◌-◌, nat_lt}
+use Rattle.std.proofs.Common.{◌≡◌, ℕ, Bool, true, false, ◌&&◌, ◌||◌, List, [], ◌∷◌, map, refl, sym, true≢false, Option, Some, None, unwrap_or, bytes_eq, ◌-◌, nat_lt, arith}
 use Rattle.std.specs.List.{AllByRecursion}
 use Rattle.std.specs.Option.{option_map_or}
 use Rattle.std.proofs.lemmas.Bool.{and_parts, or_from, not-true}
@@ -51,13 +51,10 @@ content-whole a (value s) h = value-whole a s (read s) h
 
 placed-member-whole : (n : Bytes) (p : Option ℕ) (d : Data) (ds : json.Items) (ms : json.Members) → has_float d ≡ false → items_have_float ds ≡ false → members_have_float ms ≡ false →
     members_have_float (placed_member n p d ds ms) ≡ false
-placed-member-whole n None d ds ms h k l = or_from (has_float d) _ h l
-placed-member-whole n (Some zero) d ds ms h k l = or_from (has_float d || items_have_float ds) _ (or_from (has_float d) _ h k) l
-placed-member-whole n (Some (suc j)) d ds ms h k l = l
+placed-member-whole n p d ds ms h k l = grind (arith, or_from)
 
 placed-item-whole : (p : Option ℕ) (d : Data) (ds : json.Items) → has_float d ≡ false → items_have_float ds ≡ false → items_have_float (placed_item p d ds) ≡ false
-placed-item-whole (Some (suc j)) d ds h k = or_from (has_float d) _ h k
-placed-item-whole _ d ds h k = refl
+placed-item-whole p d ds h k = grind (arith, or_from)
 
 pub record IsWhole (f : Forest) : Type 0 where
   pub members : members_have_float (members_of f) ≡ false
@@ -65,20 +62,8 @@ pub record IsWhole (f : Forest) : Type 0 where
 
 pub whole : (f : Forest) → HasTexts f → IsWhole f
 whole end h = record { members = refl; items = refl }
-whole (leaf i rest) h =
-    let r = whole rest h.1 in
-    let d = content-whole (is_some i.place) i.content h.0 in
-    record {
-      members = placed-member-whole i.name i.place (content_data i.content) (items_of rest) (members_of rest) d r.items r.members;
-      items = placed-item-whole i.place (content_data i.content) (items_of rest) d r.items;
-    }
-whole (branch n p kids rest) h =
-    let k = whole kids h.0 in
-    let r = whole rest h.1 in
-    record {
-      members = placed-member-whole n p (json.object (members_of kids)) (items_of rest) (members_of rest) k.members r.items r.members;
-      items = placed-item-whole p (json.object (members_of kids)) (items_of rest) k.members r.items;
-    }
+whole (leaf i rest) h = grind (arith, content-whole, placed-item-whole, placed-member-whole, (whole rest h.1))
+whole (branch n p kids rest) h = grind (arith, placed-item-whole, placed-member-whole, (whole kids h.0), (whole rest h.1))
 
 -- ---- what stands at one place
 

@@ -1,11 +1,9 @@
 -- What is read of a text has its names in order and its numbers in range, and its own text is read as the same.
-use Rattle.std.proofs.Common.{◌≡◌, ℕ, zero, suc, ◌^◌, ◌<◌, ◌≤◌, List, [], Bool, true, false, cond, ◌&&◌, nat_lt, nat_le, drop, refl, sym, ◌∙◌, ap, subst, arith, append-nil, Ordering, Less, Equal, Greater, Option, Some, None, option_map, option_and_then, negsuc}
-use Rattle.std.specs.Fmt.{signed_decimal}
-use Rattle.std.specs.Ordering.{nat_cmp, match_ordering, is_lt, ordering_reverse}
-use Rattle.std.specs.Cmp.Lexicographic.{slice_cmp}
-use Rattle.std.proofs.lemmas.Bool.{and_parts, ltb-true, leb-true, or_parts}
+use Rattle.std.proofs.Common.{◌≡◌, ℕ, zero, suc, ◌^◌, ◌<◌, ◌≤◌, List, [], Bool, true, false, drop, refl, sym, ◌∙◌, ap, subst, arith, append-nil, Option, Some, option_map, option_and_then, negsuc}
+use Rattle.std.proofs.lemmas.Bool.{and_parts, cond_both, ltb-true, leb-true, or_parts}
+use Rattle.std.proofs.lemmas.Option.{cond_some, option_and_then_some, same_Some}
 use Rattle.std.proofs.lemmas.Cmp.{nat_list_cmp_total}
-use Rattle.fast_float.specs.Text.{Parts, scan, digits_of, with_sign}
+use Rattle.fast_float.specs.Text.{Parts, scan, with_sign}
 use Rattle.json.specs.Token.{Token}
 use Rattle.json.specs.Lex.{tokens}
 use Rattle.json.specs.Print.{IsNumber}
@@ -18,7 +16,7 @@ use Rattle.json.proofs.Printed.Trees.{value-json_tokens, ArePrintable-json_token
 use Rattle.serde_json.specs.Data as json
 use Rattle.serde_json.specs.Data.{Data, Num, put, depth, items_depth, members_depth}
 use Rattle.serde_json.specs.Find.{is_float}
-use Rattle.serde_json.specs.Read.{is_integer, float_of, number_from, number_of, of_json, of_items, of_members, read, max_depth}
+use Rattle.serde_json.specs.Read.{float_of, number_from, number_of, of_json, of_items, of_members, read, max_depth}
 use Rattle.serde_json.specs.Written.{number_text, outline, items_outline, members_outline, has_float, items_have_float, members_have_float, compact_text}
 use Rattle.serde_json.proofs.Numbers.{number_of-decimal, number_of-negative}
 use Rattle.serde_json.proofs.Texts.{print-outline}
@@ -54,58 +52,25 @@ below-zero : (d : ℕ) → 0 < d → d ≤ 2 ^ 63 → (n : ℕ) × (n < 2 ^ 63) 
 below-zero zero h k = absurd (omega (arith, h))
 below-zero (suc n) h k = (n, omega (arith, k), refl)
 
--- a float is none
-some-float : (b : Bool) (x : json.Num) (n : Num) → IsInRange x → cond b (Some x) None ≡ Some n → IsInRange n
-some-float true x n k h = let same : x ≡ n = cc in subst IsInRange same k
-some-float false x n k h = absurd (cc)
-
 float-in_range : (sign : Bool) (p : Parts) (n : Num) → float_of sign p ≡ Some n → IsInRange n
-float-in_range sign p n h = some-float _ _ n tt h
+float-in_range sign p n h = subst IsInRange (cond_some _ _ n h).1 tt
 
 from-in_range : (sign : Bool) (p : Parts) (n : Num) → number_from sign p ≡ Some n → IsInRange n
-from-in_range false p n h = step (is_integer p && nat_lt (digits_of p) (2 ^ 64)) refl h
-  where
-    step : (b : Bool) → (is_integer p && nat_lt (digits_of p) (2 ^ 64)) ≡ b → cond b (Some (json.unsigned (digits_of p))) (float_of false p) ≡ Some n → IsInRange n
-    step true is e =
-        let same : json.unsigned (digits_of p) ≡ n = cc in
-        subst IsInRange same (ltb-true (digits_of p) (2 ^ 64) (and_parts (is_integer p) _ is).1)
-    step false is e = float-in_range false p n e
-from-in_range true p n h = step ((is_integer p && nat_lt 0 (digits_of p)) && nat_le (digits_of p) (2 ^ 63)) refl h
-  where
-    step : (b : Bool) → ((is_integer p && nat_lt 0 (digits_of p)) && nat_le (digits_of p) (2 ^ 63)) ≡ b → cond b (Some (json.negative (with_sign true (digits_of p)))) (float_of true p) ≡ Some n → IsInRange n
-    step true is e =
-        let same : json.negative (with_sign true (digits_of p)) ≡ n = cc in
-        let tests = and_parts (is_integer p && nat_lt 0 (digits_of p)) _ is in
-        subst IsInRange same (below-zero (digits_of p) (ltb-true 0 (digits_of p) (and_parts (is_integer p) _ tests.0).1) (leb-true (digits_of p) (2 ^ 63) tests.1))
-    step false is e = float-in_range true p n e
+from-in_range sign p n h = grind (arith, and_parts, below-zero, cond_both, float-in_range, leb-true, ltb-true, same_Some)
 
 pub number-in_range : (s : Bytes) (n : Num) → number_of s ≡ Some n → IsInRange n
 unfolding number_of
-number-in_range s n h = step _ h
-  where
-    step : (b : Bool) → cond b (number_from true (scan (drop 1 s))) (number_from false (scan s)) ≡ Some n → IsInRange n
-    step true e = from-in_range true (scan (drop 1 s)) n e
-    step false e = from-in_range false (scan s) n e
+number-in_range s n h = cond_both _ (number_from true (scan (drop 1 s))) (number_from false (scan s)) (λ o. o ≡ Some n → IsInRange n) (λ _ e. from-in_range true (scan (drop 1 s)) n e) (λ _ e. from-in_range false (scan s) n e) h
 
 -- ---- members put in
 
 put-after : (l k : Bytes) (d : Data) (ms : json.Members) → AreAfter l ms → bytes_lt l k ≡ true → AreAfter l (put k d ms)
 put-after l k d json.no_members h lt = (lt, tt)
-put-after l k d (json.member m e ms) h lt = step (slice_cmp nat_cmp k m) (put-after l k d ms h.1 lt)
-  where
-    step : (o : Ordering) → AreAfter l (put k d ms) → AreAfter l (match_ordering o (json.member k d (json.member m e ms)) (json.member m d ms) (json.member m e (put k d ms)))
-    step Less later = (lt, h)
-    step Equal later = h
-    step Greater later = (h.0, later)
+put-after l k d (json.member m e ms) h lt = grind (arith, (put-after l k d ms h.1 lt))
 
 put-ascend : (k : Bytes) (d : Data) (ms : json.Members) → Ascend ms → Ascend (put k d ms)
 put-ascend k d json.no_members h = (tt, tt)
-put-ascend k d (json.member m e ms) h = step (slice_cmp nat_cmp k m) refl (put-ascend k d ms h.1)
-  where
-    step : (o : Ordering) → slice_cmp nat_cmp k m ≡ o → Ascend (put k d ms) → Ascend (match_ordering o (json.member k d (json.member m e ms)) (json.member m d ms) (json.member m e (put k d ms)))
-    step Less is later = let lt : bytes_lt k m ≡ true = ap is_lt is in ((lt, after-trans k m ms lt h.0), h)
-    step Equal is later = h
-    step Greater is later = (put-after m k d ms h.0 (ap is_lt (nat_list_cmp_total.antisymm m k ∙ ap ordering_reverse is)), later)
+put-ascend k d (json.member m e ms) h = grind (arith, after-trans, nat_list_cmp_total, put-after, (put-ascend k d ms h.1))
 
 pub normals : IsEach IsNormal AreMembersNormal
 normals = record { made = λ k d ms h all. (h, all); first = λ k d ms h. h.0; others = λ k d ms h. h.1 }
@@ -115,60 +80,35 @@ put-normal k d ms h n = (put-ascend k d ms h.0, put-each IsNormal AreMembersNorm
 
 -- ---- what is read
 
-number-step : (o : Option Num) (d : Data) → ((n : Num) → o ≡ Some n → IsInRange n) → option_map json.number o ≡ Some d → IsNormal d
-number-step None d f e = absurd (cc)
-number-step (Some n) d f e = let same : json.number n ≡ d = cc in subst IsNormal same (f n refl)
-
-array-step : (o : Option json.Items) (d : Data) → ((ds : json.Items) → o ≡ Some ds → AreNormal ds) → option_map json.array o ≡ Some d → IsNormal d
-array-step None d f e = absurd (cc)
-array-step (Some ds) d f e = let same : json.array ds ≡ d = cc in subst IsNormal same (f ds refl)
-
-object-step : (o : Option json.Members) (d : Data) → ((ms : json.Members) → o ≡ Some ms → IsNormal (json.object ms)) → option_map json.object o ≡ Some d → IsNormal d
-object-step None d f e = absurd (cc)
-object-step (Some ms) d f e = let same : json.object ms ≡ d = cc in subst IsNormal same (f ms refl)
-
-item-step : (o : Option Data) (r : Option json.Items) (ds : json.Items) → ((d : Data) → o ≡ Some d → IsNormal d) → ((es : json.Items) → r ≡ Some es → AreNormal es) → option_and_then (λ d. option_map (json.item d) r) o ≡ Some ds → AreNormal ds
-item-step None r ds f g e = absurd (cc)
-item-step (Some d) None ds f g e = absurd (cc)
-item-step (Some d) (Some es) ds f g e = let same : json.item d es ≡ ds = cc in subst AreNormal same (f d refl, g es refl)
-
-member-step : (o : Option Data) (next : Data → Option json.Members) (all : json.Members) (P : Type 0) → ((d : Data) → o ≡ Some d → next d ≡ Some all → P) → option_and_then next o ≡ Some all → P
-member-step None next all P f e = absurd (cc)
-member-step (Some d) next all P f e = f d refl e
+map-step : {A B : Type 0} (f : A → B) (o : Option A) (b : B) (P : B → Type 0) → ((a : A) → o ≡ Some a → P (f a)) → option_map f o ≡ Some b → P b
+map-step f o b P k e = grind (arith, same_Some)
 
 mutual
   normal-json : (j : tree.Json) (d : Data) → of_json j ≡ Some d → IsNormal d
   normal-json tree.null d h = let same : json.null ≡ d = cc in subst IsNormal same tt
   normal-json (tree.boolean b) d h = let same : json.boolean b ≡ d = cc in subst IsNormal same tt
-  normal-json (tree.number s) d h = number-step (number_of s) d (number-in_range s) h
+  normal-json (tree.number s) d h = map-step json.number (number_of s) d IsNormal (number-in_range s) h
   normal-json (tree.string s) d h = let same : json.string s ≡ d = cc in subst IsNormal same tt
-  normal-json (tree.array js) d h = array-step (of_items js) d (normal-items js) h
-  normal-json (tree.object ms) d h = object-step (of_members ms json.no_members) d (λ found is. normal-members ms json.no_members found (tt, tt) is) h
+  normal-json (tree.array js) d h = map-step json.array (of_items js) d IsNormal (normal-items js) h
+  normal-json (tree.object ms) d h = map-step json.object (of_members ms json.no_members) d IsNormal (λ found is. normal-members ms json.no_members found (tt, tt) is) h
 
   normal-items : (js : tree.Items) (ds : json.Items) → of_items js ≡ Some ds → AreNormal ds
   normal-items tree.no_items ds h = let same : json.no_items ≡ ds = cc in subst AreNormal same tt
-  normal-items (tree.item j js) ds h = item-step (of_json j) (of_items js) ds (normal-json j) (normal-items js) h
+  normal-items (tree.item j js) ds h = option_and_then_some (λ d. option_map (json.item d) (of_items js)) (of_json j) ds h
+      (λ d is e. map-step (json.item d) (of_items js) ds AreNormal (λ es at. (normal-json j d is, normal-items js es at)) e)
 
   normal-members : (ms : tree.Members) (found all : json.Members) → IsNormal (json.object found) → of_members ms found ≡ Some all → IsNormal (json.object all)
   normal-members tree.no_members found all n h = let same : found ≡ all = cc in subst (λ xs. IsNormal (json.object xs)) same n
   normal-members (tree.member k j ms) found all n h =
-      member-step (of_json j) (λ d. of_members ms (put k d found)) all (IsNormal (json.object all)) (λ d is e. normal-members ms (put k d found) all (put-normal k d found n (normal-json j d is)) e) h
+      option_and_then_some (λ d. of_members ms (put k d found)) (of_json j) all h (λ d is e. normal-members ms (put k d found) all (put-normal k d found n (normal-json j d is)) e)
 
 pub read-normal : (text : Bytes) (d : Data) → read text ≡ Some d → IsNormal d
-read-normal text d h = step (option_and_then (λ p. tree.if_last p.0 p.1) (tree.value max_depth (tokens text))) h
-  where
-    step : (o : Option tree.Json) → option_and_then of_json o ≡ Some d → IsNormal d
-    step None e = absurd (cc)
-    step (Some j) e = normal-json j d e
+read-normal text d h = option_and_then_some of_json (option_and_then (λ p. tree.if_last p.0 p.1) (tree.value max_depth (tokens text))) d h (λ j is e. normal-json j d e)
 
 -- ---- printed, and read again
 
 number-printed : (n : Num) → IsInRange n → is_float n ≡ false → (number_of (number_text n) ≡ Some n) × IsNumber (number_text n)
-number-printed (json.unsigned n) h w = (number_of-decimal n h, IsNumber-decimal n h)
-number-printed (json.negative z) h w =
-    subst (λ y. (number_of (signed_decimal y) ≡ Some (json.negative y)) × IsNumber (signed_decimal y)) (sym h.2)
-    (number_of-negative h.0 h.1, IsNumber-signed_decimal (negsuc h.0) (omega (arith, h.1)))
-number-printed (json.float x) h w = absurd (cc)
+number-printed n h w = grind (arith, IsNumber-decimal, IsNumber-signed_decimal, number_of-decimal, number_of-negative)
 
 mutual
   back : (d : Data) → IsNormal d → has_float d ≡ false → of_json (outline d) ≡ Some d

@@ -3,7 +3,7 @@ use Rattle.std.proofs.Common.{◌≡◌, ℕ, zero, suc, ◌≤◌, List, [], �
 use Rattle.std.specs.List.{AllByRecursion}
 use Rattle.std.proofs.lemmas.Bool.{and_parts, false≢true, eqb-true}
 use Rattle.iodef_tree.specs.Text.{Bytes, bytes_lt}
-use Rattle.iodef_tree.specs.Tree.{Content, text, value, Leaf, Forest, end, leaf, branch, kind_of, text_of, leaf_line, class_line, lines}
+use Rattle.iodef_tree.specs.Tree.{Content, Leaf, Forest, end, leaf, branch, kind_of, text_of, leaf_line, class_line, lines}
 use Rattle.iodef_tree.specs.Sound.{SiblingPlace, may_stand, IsOrderedBehind, IsSound}
 use Rattle.iodef_tree.specs.declared.line.Line.{Line}
 use Rattle.iodef_tree.specs.declared.line.Kind.TheVariants as kind
@@ -36,11 +36,7 @@ lines-shallow (leaf i rest) d = omega arith
 lines-shallow (branch n o kids rest) d = omega arith
 
 not_both : (d : ℕ) (x : Line) (xs ys : List Line) → suc d ≤ x.depth → IsShallow d ys → ys ≡ x ∷ xs → ⊥
-not_both d x xs [] deep shallow e = cc
-not_both d x xs (y ∷ ys) deep shallow e =
-    let h : y ≡ x = cc in
-    let k : y.depth ≡ x.depth = ap (λ (l : Line). l.depth) h in
-    absurd (omega arith)
+not_both d x xs ys deep shallow e = grind arith
 
 split : (d : ℕ) (xs xs' ys ys' : List Line) → AreDeep (suc d) xs → AreDeep (suc d) xs' → IsShallow d ys → IsShallow d ys' → xs ++ ys ≡ xs' ++ ys' → (xs ≡ xs') × (ys ≡ ys')
 split d [] [] ys ys' deep deep' shallow shallow' e = (refl, e)
@@ -70,20 +66,13 @@ place-same (Some (m, None)) n (Some zero) (Some (suc k)) h h' e = absurd (false�
 place-same (Some (m, Some i)) n (Some zero) (Some (suc k)) h h' e = never m n h (and_parts (bytes_eq m n) (i == k) h').0
 place-same (Some (m, None)) n (Some (suc j)) (Some k) h h' e = absurd (false≢true h)
 place-same (Some (m, Some i)) n (Some (suc j)) (Some zero) h h' e = never m n h' (and_parts (bytes_eq m n) (i == j) h).0
-place-same (Some (m, Some i)) n (Some (suc j)) (Some (suc k)) h h' e =
-    let a = eqb-true i j (and_parts (bytes_eq m n) (i == j) h).1 in
-    let b = eqb-true i k (and_parts (bytes_eq m n) (i == k) h').1 in
-    ap (λ x. Some (suc x)) (sym a ∙ b)
+place-same (Some (m, Some i)) n (Some (suc j)) (Some (suc k)) h h' e = grind (arith, and_parts, eqb-true)
 
 content-same : (c c' : Content) → kind_of c ≡ kind_of c' → text_of c ≡ text_of c' → c ≡ c'
-content-same (text s) (text t) k e = ap text e
-content-same (text s) (value t) k e = cc
-content-same (value s) (text t) k e = cc
-content-same (value s) (value t) k e = ap value e
+content-same c c' k e = grind arith
 
 no_class : (c : Content) → kind_of c ≡ kind.Class → ⊥
-no_class (text s) e = cc
-no_class (value s) e = cc
+no_class c e = grind arith
 
 abbrev leaf_of : Bytes → Option ℕ → Content → Leaf
 leaf_of n o c = record { name = n; place = o; content = c }

@@ -1,5 +1,5 @@
 -- The look-up from a class, or from the root, finds the class whose lines stand below the whole path.
-use Rattle.std.proofs.Common.{◌≡◌, List, [], ◌∷◌, ◌++◌, Bool, true, false, cond, ◌&&◌, ◌||◌, refl, sym, ◌∙◌, ap, subst, append-nil, true≢false, Bor, ℕ, suc, append_assoc, Option, Some, None, is_some, option_map, IfSome}
+use Rattle.std.proofs.Common.{◌≡◌, List, [], ◌∷◌, ◌++◌, Bool, true, false, cond, ◌&&◌, ◌||◌, refl, sym, ◌∙◌, ap, subst, append-nil, true≢false, Bor, ℕ, suc, append_assoc, Option, Some, None, is_some, option_map, IfSome, arith}
 use Rattle.std.specs.Option.{option_map_or}
 use Rattle.std.proofs.lemmas.Bool.{and_right, cond-true, cond-false}
 use Rattle.iodef_tree.specs.Text.{Bytes, Tokens, same_path, is_root, is_under}
@@ -34,11 +34,7 @@ has_class-below (e ∷ es) p x z = by_cases (is_under p e.path) refl (has_class-
         ∙ ap (λ l. has_class l (p ++ x ∷ z)) (sym (cond-false (is_under p e.path) (e ∷ below p es) (below p es) u))
 
 found-at : (es : List LocatedLine) (p : Tokens) (f : Forest) (z : Tokens) → StandsAt es p f → is_some (object_at f z) ≡ (is_root z || has_class es (p ++ z))
-found-at es p f [] at = refl
-found-at es p f (x ∷ z) at =
-    sym (has_class-walk f at.block.0 p (x ∷ z) at.apart)
-    ∙ ap (λ l. has_class l (p ++ x ∷ z)) (sym at.block.1)
-    ∙ sym (has_class-below es p x z)
+found-at es p f z at = grind (arith, has_class-below, has_class-walk)
 
 -- each sibling stands apart from the others in what is found too
 class-stands : (f : Forest) (es : List LocatedLine) (d : ℕ) (q p : Tokens) (g : Forest) → AreBlocks es d q f → HasApart f → class_at f p ≡ Some g → StandsAt es (q ++ p) g
@@ -74,8 +70,7 @@ stands-at es p f (x ∷ z) g at e =
 -- ---- as it is found
 
 is_some-map : (r : Option (Bor Object)) → is_some r ≡ is_some (option_map (λ o. forest o.now) r)
-is_some-map None = refl
-is_some-map (Some o) = refl
+is_some-map r = grind arith
 
 pub found-onward : (f : Forest) (z : Tokens) (r : Option (Bor Object)) → option_map (λ o. forest o.now) r ≡ object_at f z →
     (es : List LocatedLine) (p : Tokens) → StandsAt es p f → is_some r ≡ (is_root z || has_class es (p ++ z))

@@ -1,18 +1,16 @@
 -- The order of texts, and how paths stand to one another.
-use Rattle.std.proofs.Common.{◌≡◌, ℕ, ◌^◌, ◌<◌, [], ◌∷◌, ◌++◌, Bool, true, false, ◌&&◌, decimal, refl, sym, ◌∙◌, ap, append-nil, Ordering, Less, is_eq, true≢false, arith, Option, Some, None, bytes_eq, nat_cmp, is_lt}
+use Rattle.std.proofs.Common.{◌≡◌, ℕ, ◌^◌, ◌<◌, [], ◌∷◌, ◌++◌, true, false, ◌&&◌, decimal, refl, sym, ◌∙◌, ap, append-nil, Ordering, Less, is_eq, true≢false, arith, Option, bytes_eq, nat_cmp, is_lt}
 use Rattle.std.specs.Cmp.Lexicographic.{slice_cmp}
 use Rattle.std.proofs.lemmas.Bool.{and_parts, false≢true}
+pub use Rattle.std.proofs.lemmas.Bool.{false_from_ne_true as is_false}
+use Rattle.std.specs.List.{starts_with}
 use Rattle.std.proofs.lemmas.Cmp.{nat_list_cmp_total}
 use Rattle.std.proofs.lemmas.Fmt.{decimal_injective}
 use Rattle.std.proofs.lemmas.Map.Text.{is_eq-slice_cmp}
 use Rattle.std.proofs.lemmas.Slice.Eq.{bytes_eq-Decides}
+use Rattle.std.proofs.lemmas.Grind.{common_steps}
 use Rattle.iodef_tree.specs.Text.{Bytes, Tokens, bytes_lt, same_path, is_prefix, is_under}
 use Rattle.iodef_tree.specs.Tree.{steps}
-
--- a test that is not true
-pub is_false : (b : Bool) → (b ≡ true → ⊥) → b ≡ false
-is_false true h = absurd (h refl)
-is_false false h = refl
 
 -- ---- texts
 
@@ -23,8 +21,7 @@ pub bytes_eq-true : (x y : Bytes) → bytes_eq x y ≡ true → x ≡ y
 bytes_eq-true x y = (bytes_eq-Decides x y).0
 
 less : (o : Ordering) → is_lt o ≡ true → o ≡ Less
-less Less h = refl
-less _ h = cc
+less o h = grind arith
 
 pub bytes_lt-less : (x y : Bytes) → bytes_lt x y ≡ true → slice_cmp nat_cmp x y ≡ Less
 bytes_lt-less x y = less (slice_cmp nat_cmp x y)
@@ -42,10 +39,7 @@ bytes_lt-ne_back x y h =
 
 -- the digits of two places are the same only where the places are
 pub decimals_differ : (j k : ℕ) → j < k → k < 2 ^ 64 → (bytes_eq (decimal j) (decimal k) ≡ false) × (bytes_eq (decimal k) (decimal j) ≡ false)
-decimals_differ j k lt small = (
-  is_false (bytes_eq (decimal j) (decimal k)) (λ same. let e : j ≡ k = decimal_injective j k (omega arith) small (bytes_eq-true (decimal j) (decimal k) same) in absurd (omega arith)),
-  is_false (bytes_eq (decimal k) (decimal j)) (λ same. let e : k ≡ j = decimal_injective k j small (omega arith) (bytes_eq-true (decimal k) (decimal j) same) in absurd (omega arith)),
-)
+decimals_differ j k lt small = grind (arith, bytes_eq-true, decimal_injective)
 
 -- ---- paths
 
@@ -54,13 +48,11 @@ same_path-refl [] = refl
 same_path-refl (x ∷ p) = ap (λ b. b && same_path p p) (bytes_eq-refl x) ∙ same_path-refl p
 
 pub same_path-true : (p q : Tokens) → same_path p q ≡ true → p ≡ q
-same_path-true [] [] h = refl
-same_path-true [] (y ∷ q) h = absurd (false≢true h)
-same_path-true (x ∷ p) [] h = absurd (false≢true h)
 same_path-true (x ∷ p) (y ∷ q) h =
     let parts = and_parts (bytes_eq x y) (same_path p q) h in
     let a : x ≡ y = bytes_eq-true x y parts.0 in
     let b : p ≡ q = same_path-true p q parts.1 in cc
+same_path-true p q h = grind (arith, false≢true)
 
 pub same_path-common : (p a b : Tokens) → same_path (p ++ a) (p ++ b) ≡ same_path a b
 same_path-common [] a b = refl
@@ -82,13 +74,8 @@ is_prefix-append (x ∷ p) z = ap (λ t. t && is_prefix p (p ++ z)) (bytes_eq-re
 
 -- what stands below a path has it as a prefix, and so has the path itself
 pub is_under-is_prefix : (q p : Tokens) → is_prefix q p ≡ false → is_under q p ≡ false
-is_under-is_prefix [] p h = absurd (true≢false h)
-is_under-is_prefix (x ∷ q) [] h = refl
-is_under-is_prefix (x ∷ q) (y ∷ p) h = step (bytes_eq x y) h (is_under-is_prefix q p)
-  where
-    step : (b : Bool) → (b && is_prefix q p) ≡ false → (is_prefix q p ≡ false → is_under q p ≡ false) → (b && is_under q p) ≡ false
-    step true k later = later k
-    step false k later = refl
+is_under-is_prefix (x ∷ q) (y ∷ p) h = grind (arith, (is_under-is_prefix q p))
+is_under-is_prefix q p h = grind arith
 
 pub same_path-is_prefix : (q p : Tokens) → is_prefix q p ≡ false → same_path q p ≡ false
 same_path-is_prefix q p h = is_false (same_path q p) (λ same. true≢false (sym (is_prefix-append q []) ∙ ap (is_prefix q) (append-nil q ∙ same_path-true q p same) ∙ h))
@@ -105,16 +92,14 @@ is_under-weaker (a ∷ p) y (c ∷ x) h =
 
 -- a member stands below its parent, and all below it
 pub is_under-steps : (p : Tokens) (name : Bytes) (place : Option ℕ) (z : Tokens) → is_under p (p ++ (steps name place ++ z)) ≡ true
-is_under-steps p name place z = ap (λ r. is_under r (p ++ (steps name place ++ z))) (sym (append-nil p)) ∙ is_under-common p [] (steps name place ++ z) ∙ by_place place
-  where
-    by_place : (o : Option ℕ) → is_under [] (steps name o ++ z) ≡ true
-    by_place None = refl
-    by_place (Some k) = refl
+is_under-steps (x ∷ p) name place z = ap (λ b. b && is_under p (p ++ (steps name place ++ z))) (bytes_eq-refl x) ∙ is_under-steps p name place z
+is_under-steps p name place z = grind arith
 
 -- it is not its parent
 pub same_path-longer : (p : Tokens) (name : Bytes) (place : Option ℕ) (z : Tokens) → same_path p (p ++ (steps name place ++ z)) ≡ false
-same_path-longer p name place z = ap (λ r. same_path r (p ++ (steps name place ++ z))) (sym (append-nil p)) ∙ same_path-common p [] (steps name place ++ z) ∙ by_place place
-  where
-    by_place : (o : Option ℕ) → same_path [] (steps name o ++ z) ≡ false
-    by_place None = refl
-    by_place (Some k) = refl
+same_path-longer p name place z = grind (arith, common_steps, bytes_eq-refl)
+
+pub starts_with-is_prefix : (p q : Tokens) → starts_with bytes_eq p q ≡ is_prefix q p
+starts_with-is_prefix p [] = refl
+starts_with-is_prefix [] (x ∷ q) = refl
+starts_with-is_prefix (y ∷ p) (x ∷ q) = ap (λ b. bytes_eq x y && b) (starts_with-is_prefix p q)

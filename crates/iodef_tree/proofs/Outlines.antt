@@ -1,17 +1,17 @@
 -- Outlines, one line more at a time.
-use Rattle.std.proofs.Common.{◌⊎◌, inl, inr, ◌≡◌, ℕ, zero, suc, ◌+◌, ◌-◌, ◌<◌, ◌≤◌, Bool, true, false, not, ◌&&◌, List, [], ◌∷◌, ◌++◌, length, take, drop, drop-cons, get_or, refl, sym, ◌∙◌, ap, arith, if◌then◌else◌, ◌==◌, cond, Some, None, nat_lt, nat_le, slice_get}
+use Rattle.std.proofs.Common.{◌≡◌, ℕ, suc, ◌+◌, ◌-◌, ◌<◌, ◌≤◌, Bool, true, false, ◌&&◌, List, [], ◌∷◌, ◌++◌, length, take, drop, drop-cons, get_or, refl, sym, ◌∙◌, ap, arith, if◌then◌else◌, ◌==◌, Some, None, nat_lt, nat_le, slice_get}
 use Rattle.std.proofs.lemmas.Bool.{cond-true, cond-false, ne_eqb, eq-eqb, lt-ltb, le-ltb, cases_lt, and_parts, and_right, leb-true, ltb-true}
 use Rattle.std.proofs.lemmas.List.{take_more, take-append-drop}
 use Rattle.std.proofs.lemmas.List.Sums.{sum_by-cons}
-use Rattle.iodef_tree.specs.Paths.{is_class_kind}
-use Rattle.iodef_tree.specs.Sound.{is_label_line, counted}
+use Rattle.iodef_tree.specs.Sound.{counted}
 use Rattle.iodef_tree.specs.Outline.{sibling, deepest, last_sibling, may_follow, is_sound_line, is_short, may_come, is_outline_after, is_outline, is_outline_back, edge, back_onto, back}
 use Rattle.iodef_tree.specs.Shown.{counted_with, if_short, fits_edge, Shows}
 use Rattle.iodef_tree.specs.declared.TheConstants.{LINE_LIMIT}
 use Rattle.iodef_tree.specs.declared.line.Line.{Line}
 use Rattle.iodef_tree.specs.declared.shape.Shape.{Shape}
 use Rattle.std.proofs.Math.Bool.{and-true, and_assoc, and_comm}
-use Rattle.std.proofs.lemmas.Option.{slice_get_past}
+use Rattle.std.proofs.lemmas.Option.{cond_some, slice_get_past}
+use Rattle.std.proofs.lemmas.Grind.{common_steps}
 
 -- ---- lists of lines, appended and turned round
 
@@ -30,10 +30,7 @@ back-push ls l = back_onto-append ls (l ∷ []) []
 
 back_is : (ls before : List Line) → is_outline_back (back_onto ls before) ≡ (is_outline_after before ls && is_outline_back before)
 back_is [] before = refl
-back_is (x ∷ ls) before =
-    back_is ls (x ∷ before)
-    ∙ sym (and_assoc (is_outline_after (x ∷ before) ls) (may_come before x) (is_outline_back before))
-    ∙ ap (λ b. b && is_outline_back before) (and_comm (is_outline_after (x ∷ before) ls) (may_come before x))
+back_is (x ∷ ls) before = grind (arith, and_assoc, and_comm, (back_is ls (x ∷ before)))
 
 -- from the newest line back the same lists are outlines
 pub outline-back : (ls : List Line) → is_outline_back (back ls) ≡ is_outline ls
@@ -72,20 +69,15 @@ past-line n d x y z h = cond-false (nat_lt n d) _ _ (le-ltb n d (omega (arith, h
 -- ---- the newest line of each open depth
 
 get_kept : {A : Type 0} (e : ℕ) (E : List A) (n : A) (d : ℕ) → e ≤ length E → d < e → slice_get (take e E ++ n ∷ []) d ≡ slice_get E d
-get_kept zero E n d h l = absurd (omega arith)
-get_kept (suc e) [] n d h l = absurd (omega arith)
-get_kept (suc e) (x ∷ E) n zero h l = refl
 get_kept (suc e) (x ∷ E) n (suc d) h l = get_kept e E n d (omega (arith, h)) (omega (arith, l))
+get_kept e E n d h l = grind arith
 
 get_new : {A : Type 0} (e : ℕ) (E : List A) (n : A) → e ≤ length E → slice_get (take e E ++ n ∷ []) e ≡ Some n
-get_new zero E n h = refl
-get_new (suc e) [] n h = absurd (omega arith)
 get_new (suc e) (x ∷ E) n h = get_new e E n (omega (arith, h))
+get_new e E n h = grind arith
 
 length_new : {A : Type 0} (e : ℕ) (E : List A) (n : A) → e ≤ length E → length (take e E ++ n ∷ []) ≡ suc e
-length_new zero E n h = refl
-length_new (suc e) [] n h = absurd (omega arith)
-length_new (suc e) (x ∷ E) n h = ap suc (length_new e E n (omega (arith, h)))
+length_new e E n h = grind (arith, common_steps)
 
 get_past : {A : Type 0} (e : ℕ) (E : List A) (n : A) → e ≤ length E → slice_get (take e E ++ n ∷ []) (suc e) ≡ None
 get_past e E n h = let long = length_new e E n h in slice_get_past (take e E ++ n ∷ []) (suc e) (omega (arith, long))
@@ -96,40 +88,10 @@ pub record Known (before : List Line) : Type 0 where
   pub at : (d : ℕ) → suc d ≤ deepest before → slice_get (edge before) d ≡ last_sibling (suc d) before
 
 deep_le : (b : Bool) (n m : ℕ) → n ≤ m → (if b then suc n else n) ≤ suc m
-deep_le true n m h = omega (arith, h)
-deep_le false n m h = omega (arith, h)
+deep_le b n m h = grind arith
 
 known_more : (x : Line) (before : List Line) → 0 < x.depth → x.depth ≤ deepest before → Known before → Known (x ∷ before)
-known_more x before positive reached k =
-    let E = edge before in
-    let n = sibling x in
-    let fits : x.depth - 1 ≤ length E = omega (arith, positive, reached, k.size) in
-    let long : length (take (x.depth - 1) E ++ n ∷ []) ≡ suc (x.depth - 1) = length_new (x.depth - 1) E n fits in record {
-      size = deep_le (is_class_kind x.kind) x.depth (length (edge (x ∷ before))) (omega (arith, positive, long));
-      at = λ d h. by_place d (cases_lt d (x.depth - 1)) (cases_lt (x.depth - 1) d) (deep_at d h) fits;
-    }
-  where
-    deep_at : (d : ℕ) → suc d ≤ deepest (x ∷ before) → suc d ≤ suc x.depth
-    deep_at d h = deep_from (is_class_kind x.kind) x.depth (suc d) h
-      where
-        deep_from : (b : Bool) (n m : ℕ) → m ≤ (if b then suc n else n) → m ≤ suc n
-        deep_from true n m h = h
-        deep_from false n m h = omega (arith, h)
-
-    by_place : (d : ℕ) → ((d < x.depth - 1) ⊎ (x.depth - 1 ≤ d)) → ((x.depth - 1 < d) ⊎ (d ≤ x.depth - 1)) → suc d ≤ suc x.depth → x.depth - 1 ≤ length (edge before) →
-        slice_get (take (x.depth - 1) (edge before) ++ sibling x ∷ []) d ≡ last_sibling (suc d) (x ∷ before)
-    by_place d (inl l) o h fits =
-        get_kept (x.depth - 1) (edge before) (sibling x) d fits l
-        ∙ k.at d (omega (arith, l, reached))
-        ∙ sym (past-line x.depth (suc d) _ _ _ (omega (arith, l)))
-    by_place d (inr g) (inr l) h fits =
-        ap (λ i. slice_get (take (x.depth - 1) (edge before) ++ sibling x ∷ []) i) (omega (arith, g, l))
-        ∙ get_new (x.depth - 1) (edge before) (sibling x) fits
-        ∙ sym (at-line x.depth (suc d) _ _ _ (omega (arith, g, l, positive)))
-    by_place d (inr g) (inl l) h fits =
-        ap (λ i. slice_get (take (x.depth - 1) (edge before) ++ sibling x ∷ []) i) (omega (arith, l, h, positive))
-        ∙ get_past (x.depth - 1) (edge before) (sibling x) fits
-        ∙ sym (above-line x.depth (suc d) _ _ _ (omega (arith, l, positive)))
+known_more x before positive reached k = grind (arith, common_steps, above-line, at-line, cases_lt, deep_le, get_kept, get_new, get_past, length_new, past-line)
 
 -- what a line that may come says
 pub record Came (before : List Line) (l : Line) : Type 0 where
@@ -140,12 +102,7 @@ pub record Came (before : List Line) (l : Line) : Type 0 where
   pub short : is_short (l ∷ before) ≡ true
 
 pub came : (before : List Line) (l : Line) → may_come before l ≡ true → Came before l
-came before l h =
-    let s = and_parts (is_short (l ∷ before)) _ h in
-    let a = and_parts (nat_lt 0 l.depth) _ s.1 in
-    let b = and_parts (nat_le l.depth (deepest before)) _ a.1 in
-    let c = and_parts (may_follow (last_sibling l.depth before) (sibling l)) (is_sound_line l) b.1 in
-    record { positive = ltb-true 0 l.depth a.0; reached = leb-true l.depth (deepest before) b.0; follows = c.0; sound = c.1; short = s.0 }
+came before l h = grind (arith, and_parts, leb-true, ltb-true)
 
 pub known : (before : List Line) → is_outline_back before ≡ true → Known before
 known [] h = record { size = omega arith; at = λ d k. refl }
@@ -157,30 +114,13 @@ known (x ∷ before) h =
 -- ---- the checker
 
 guarded : (a b f g s : Bool) → (a ≡ true → b ≡ true → f ≡ g) → (a && (b && (f && s))) ≡ (a && (b && (g && s)))
-guarded false b f g s h = refl
-guarded true false f g s h = refl
-guarded true true f g s h = ap (λ x. x && s) (h refl refl)
+guarded a b f g s h = grind arith
 
 pub counted-cons : (l : Line) (ls : List Line) → counted (l ∷ ls) ≡ counted_with l (counted ls)
-counted-cons l ls = sum_by-cons (λ (x : Line). cond (not (is_label_line x)) 1 0) l ls ∙ by_test (not (is_label_line l)) (counted ls)
-  where
-    by_test : (b : Bool) (n : ℕ) → cond b 1 0 + n ≡ (if b then 1 + n else n)
-    by_test true n = refl
-    by_test false n = omega arith
-
-short_if : (n m : ℕ) → if_short n ≡ Some m → (m ≡ n) × (nat_le n LINE_LIMIT ≡ true)
-short_if n m h = by_test (nat_le n LINE_LIMIT) h
-  where
-    by_test : (b : Bool) → (if b then Some n else None) ≡ Some m → (m ≡ n) × (b ≡ true)
-    by_test true e = let k : m ≡ n = cc in (k, refl)
-    by_test false e = cc
+counted-cons l ls = grind (arith, common_steps, sum_by-cons)
 
 short_else : (n : ℕ) → if_short n ≡ None → nat_le n LINE_LIMIT ≡ false
-short_else n h = by_test (nat_le n LINE_LIMIT) h
-  where
-    by_test : (b : Bool) → (if b then Some n else None) ≡ None → b ≡ false
-    by_test true e = cc
-    by_test false e = refl
+short_else n h = grind arith
 
 -- no line may come where too many would count
 pub too_many : (s : Shape) (before : List Line) (l : Line) → Shows s before → if_short (counted_with l s.counted) ≡ None → may_come before l ≡ false
@@ -193,7 +133,7 @@ pub fits_is : (s : Shape) (before : List Line) (l : Line) (n : ℕ) → Shows s 
 fits_is s before l n shows few =
     ap (λ e. fits_edge e s.deepest l) shows.edges
     ∙ ap (λ m. fits_edge (edge before) m l) shows.depth
-    ∙ sym (ap (λ b. b && fits_edge (edge before) (deepest before) l) (ap (λ m. nat_le m LINE_LIMIT) (counted-cons l before) ∙ (short_if (counted_with l (counted before)) n (sym (ap (λ m. if_short (counted_with l m)) shows.count) ∙ few)).1))
+    ∙ sym (ap (λ b. b && fits_edge (edge before) (deepest before) l) (ap (λ m. nat_le m LINE_LIMIT) (counted-cons l before) ∙ (cond_some (nat_le (counted_with l (counted before)) LINE_LIMIT) (counted_with l (counted before)) n (sym (ap (λ m. if_short (counted_with l m)) shows.count) ∙ few)).0))
     ∙ ap (λ b. is_short (l ∷ before) && b) (guarded (nat_lt 0 l.depth) (nat_le l.depth (deepest before)) _ _ (is_sound_line l) (λ a b.
     let positive = ltb-true 0 l.depth a in
     let reached = leb-true l.depth (deepest before) b in
@@ -208,6 +148,6 @@ shows_more s t before l shows fits edges depth count =
     record {
       edges = edges ∙ ap (λ e. take (l.depth - 1) e ++ sibling l ∷ []) shows.edges;
       depth = depth;
-      count = (short_if (counted_with l s.counted) t.counted count).0 ∙ ap (counted_with l) shows.count ∙ sym (counted-cons l before);
+      count = sym (cond_some (nat_le (counted_with l s.counted) LINE_LIMIT) (counted_with l s.counted) t.counted count).1 ∙ ap (counted_with l) shows.count ∙ sym (counted-cons l before);
       outline = ap (λ b. b && is_outline_back before) fits ∙ shows.outline;
     }

@@ -1,44 +1,31 @@
 -- What a body that can be read has passed.
-use Rattle.std.proofs.Common.{◌≡◌, List, Bool, true, false, cond, length, nat_lt, refl, sym, ◌∙◌, ap, subst, Option, Some, None, Result, Ok, Err, option_and_then, codes}
-use Rattle.std.specs.Str.{is_utf8}
+use Rattle.std.proofs.Common.{◌≡◌, List, true, length, nat_lt, sym, ◌∙◌, ap, subst, Option, Some, Ok, Err, option_and_then, codes, arith}
+use Rattle.std.proofs.lemmas.Bool.{cond_both}
+use Rattle.std.proofs.lemmas.Option.{cond_some}
 use Rattle.serde_json.specs.Data as json
 use Rattle.serde_json.specs.Data.{Data}
 use Rattle.serde_json.specs.Find.{get_member, as_array, as_object}
 use Rattle.serde_json.specs.Read.{read}
-use Rattle.iodef_tree.specs.Reading.{◌>>=◌, or_fault, parsed, are_incidents, if_incidents, incidents_of, all_complete, all_fit, if_short, documents, reading}
+use Rattle.iodef_tree.specs.Reading.{or_fault, parsed, are_incidents, if_incidents, incidents_of, all_complete, all_fit, if_short, documents, reading}
 use Rattle.iodef_tree.specs.Text.{Bytes}
 use Rattle.iodef_tree.specs.declared.TheConstants.{LINE_LIMIT}
 use Rattle.iodef_tree.specs.declared.fault.ReadFault.{ReadFault}
-use Rattle.iodef_tree.specs.declared.fault.ReadFault.TheVariants.{NotJson, NotDocument, TooManyLines}
+use Rattle.iodef_tree.specs.declared.fault.ReadFault.TheVariants.{NotDocument, TooManyLines}
 use Rattle.iodef_tree.specs.declared.line.Line.{Line}
-use Rattle.iodef_tree.proofs.Bodies.{found_array, chosen}
-use Rattle.iodef_tree.proofs.Fitness.{IsPlain, plain_ok}
-
-pub bind-ok : {A B : Type 0} (r : Result A ReadFault) (f : A → Result B ReadFault) (y : B) → (r >>= f) ≡ Ok y → (x : A) × (r ≡ Ok x) × (f x ≡ Ok y)
-bind-ok (Ok x) f y h = (x, refl, h)
-bind-ok (Err e) f y h = absurd (cc)
+use Rattle.iodef_tree.proofs.Bodies.{found_array}
+use Rattle.iodef_tree.proofs.Fitness.{IsPlain, bind-ok, plain_ok}
 
 or-ok : {A : Type 0} (e : ReadFault) (o : Option A) (x : A) → or_fault e o ≡ Ok x → o ≡ Some x
-or-ok e None x h = absurd (cc)
-or-ok e (Some y) x h = let same : y ≡ x = cc in ap Some same
+or-ok e o x h = grind arith
 
 parsed-ok : (bytes : Bytes) (d : Data) → parsed bytes ≡ Ok d → read bytes ≡ Some d
-parsed-ok bytes d h = step (is_utf8 bytes) (or-ok NotJson (cond (is_utf8 bytes) (read bytes) None) d h)
-  where
-    step : (b : Bool) → cond b (read bytes) None ≡ Some d → read bytes ≡ Some d
-    step true e = e
-    step false e = absurd (cc)
+parsed-ok bytes d h = grind (arith, cond_both)
 
 object-of : (d : Data) (root : json.Members) → as_object d ≡ Some root → d ≡ json.object root
-object-of (json.object ms) root h = let same : ms ≡ root = cc in ap json.object same
-object-of _ root h = absurd (cc)
+object-of d root h = grind arith
 
 pub short-ok : (ls : List Line) (d : List Line) → if_short ls ≡ Ok d → ls ≡ d
-short-ok ls d h = step (nat_lt LINE_LIMIT (length ls)) h
-  where
-    step : (b : Bool) → cond b (Err TooManyLines) (Ok ls) ≡ Ok d → ls ≡ d
-    step true e = absurd (cc)
-    step false e = cc
+short-ok ls d h = cond_both (nat_lt LINE_LIMIT (length ls)) (Err TooManyLines) (Ok ls) (λ r. r ≡ Ok d → ls ≡ d) (λ _ e. absurd (cc)) (λ _ e. cc) h
 
 -- what was found in it on the way
 pub record Passed (bytes : Bytes) (docs : List (List Line)) : Type 0 where
@@ -67,7 +54,7 @@ passed bytes docs h =
       incidents = incidents.0;
       was = parsed-ok bytes body.0 body.1 ∙ ap Some is;
       at = at;
-      are = (chosen incidents.0 incidents.0 (sym (ap (λ o. option_and_then if_incidents (option_and_then as_array o)) at) ∙ picked)).1;
+      are = (cond_some (are_incidents incidents.0) incidents.0 incidents.0 (sym (ap (λ o. option_and_then if_incidents (option_and_then as_array o)) at) ∙ picked)).0;
       complete = complete.1;
       plain = subst IsPlain is (plain_ok body.0 fine.1);
       gives = fine.2;

@@ -1,10 +1,10 @@
 -- The escaping of characters.
-use Rattle.std.proofs.Common.{◌≡◌, ◌≢◌, ◌⊎◌, inl, inr, ℕ, false, ◌==◌, List, [], ◌∷◌, ◌++◌, refl, sym, ap, ◌∙◌, arith, encode_utf8}
+use Rattle.std.proofs.Common.{◌≡◌, ◌≢◌, ℕ, false, ◌==◌, List, [], ◌∷◌, ◌++◌, refl, ap, ◌∙◌, arith, encode_utf8}
 use Rattle.std.specs.List.{list_any}
 use Rattle.std.proofs.lemmas.Bool.{ne_eqb, cond-false, or_parts}
 use Rattle.std.proofs.lemmas.List.Concat.{flat_map-append}
 use Rattle.iodef_tree.specs.Pointer.{escaped_byte, is_escaped_byte, escaped}
-use Rattle.iodef_tree.proofs.Characters.{AreHigh, IsHigh, encode_utf8-cases}
+use Rattle.iodef_tree.proofs.Characters.{AreHigh, encode_utf8-cases}
 
 -- a byte that is neither a tilde nor a slash stays
 plain_byte : (b : ℕ) → b ≢ 126 → b ≢ 47 → escaped_byte b ≡ b ∷ []
@@ -19,11 +19,7 @@ escaped-high (b ∷ bs) h = ap (λ x. x ++ escaped bs) (plain_byte b (λ e. omeg
 
 -- and so does a character that is neither
 pub escaped-encode : (c : ℕ) → c ≢ 126 → c ≢ 47 → escaped (encode_utf8 c) ≡ encode_utf8 c
-escaped-encode c t s = by_bytes (encode_utf8 c) (encode_utf8-cases c)
-  where
-    by_bytes : (bytes : List ℕ) → (bytes ≡ c ∷ []) ⊎ IsHigh c bytes → escaped bytes ≡ bytes
-    by_bytes bytes (inl e) = ap escaped e ∙ ap (λ x. x ++ []) (plain_byte c t s) ∙ sym e
-    by_bytes bytes (inr (k, b, bs, e, high)) = ap escaped e ∙ escaped-high (b ∷ bs) high ∙ sym e
+escaped-encode c t s = grind (arith, encode_utf8-cases, escaped-high, plain_byte)
 
 -- where no byte is written otherwise, a token stays as it is
 pub escaped-same : (s : List ℕ) → list_any is_escaped_byte s ≡ false → escaped s ≡ s

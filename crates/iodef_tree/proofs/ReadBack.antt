@@ -1,8 +1,8 @@
 -- The text of a document that was read is read as that one document.
-use Rattle.std.proofs.Common.{◌≡◌, ℕ, suc, ◌≤◌, List, [], ◌∷◌, ◌++◌, true, false, ◌&&◌, ◌||◌, map, nat_lt, nat_le, refl, sym, ◌∙◌, ap, subst, arith, Some, None, Ok, is_some, option_and_then, unwrap_or, codes, decimal}
+use Rattle.std.proofs.Common.{◌≡◌, ℕ, suc, ◌≤◌, List, [], ◌∷◌, true, false, ◌&&◌, map, nat_lt, nat_le, refl, sym, ◌∙◌, ap, subst, arith, Some, None, Ok, is_some, option_and_then, unwrap_or, codes, decimal}
 use Rattle.std.specs.List.{AllByRecursion}
 use Rattle.std.specs.Str.{is_utf8}
-use Rattle.std.proofs.lemmas.Bool.{and_parts, cond-true, or_parts, or_from}
+use Rattle.std.proofs.lemmas.Bool.{and_parts, cond-true, or_parts}
 use Rattle.serde_json.specs.Data as json
 use Rattle.serde_json.specs.Data.{Data, put, depth, items_depth, members_depth}
 use Rattle.serde_json.specs.Events.{items_len}
@@ -12,13 +12,13 @@ use Rattle.serde_json.specs.View.{items_of as listed}
 use Rattle.serde_json.specs.Written.{has_float, items_have_float, members_have_float, compact_text}
 use Rattle.serde_json.proofs.Nesting.{depth-read}
 use Rattle.serde_json.proofs.Views.{get_member-put}
-use Rattle.iodef_tree.specs.FitValues.{IsBodyOrdered, AreBodiesOrdered, AreFit, any_at, is_refused}
+use Rattle.iodef_tree.specs.FitValues.{IsBodyOrdered, AreBodiesOrdered, AreFit}
 use Rattle.iodef_tree.specs.Json.{data_of}
 use Rattle.iodef_tree.specs.Reading.{◌>>=◌, or_fault, unless, parsed, all_objects, are_incidents, if_incidents, incidents_of, lacking, all_complete, all_fit, incident_at, with_incident, document_of, if_short, documents, reading}
 use Rattle.iodef_tree.specs.Sound.{IsOrdered}
 use Rattle.iodef_tree.specs.Text.{Bytes}
 use Rattle.iodef_tree.specs.Tree.{Body, Bodies, member_front, lines}
-use Rattle.iodef_tree.specs.Values.{Node, node, beneath, nodes, item_nodes, member_nodes, first_at, is_not_whole, is_nested_class, is_too_deep, one_or_many, forest_of_data, body_of_data, elements_of_data, items_of_data, bodies_of_data}
+use Rattle.iodef_tree.specs.Values.{nodes, item_nodes, member_nodes, one_or_many, forest_of_data, body_of_data, elements_of_data, items_of_data, bodies_of_data}
 use Rattle.iodef_tree.specs.View.{forest_of_members}
 use Rattle.iodef_tree.specs.Written.{members_of, items_of, body_data, bodies_data}
 use Rattle.iodef_tree.specs.declared.line.Line.{Line}
@@ -28,20 +28,18 @@ use Rattle.iodef_tree.proofs.Bodies.{fit_object}
 use Rattle.iodef_tree.proofs.Data.{AreAfter, Ascend, member-data, no-items}
 use Rattle.iodef_tree.proofs.Exchanged.{put_twice}
 use Rattle.iodef_tree.proofs.Filled.{has_elements}
-use Rattle.iodef_tree.proofs.Fitness.{IsPlain, plain_at_once, head, none_if_ok}
+use Rattle.iodef_tree.proofs.Fitness.{AreClear, clear-apart, clear-joined, bind-ok, none_if_ok, plain_at_once}
 use Rattle.iodef_tree.proofs.Meaning.{data-ordered}
 use Rattle.iodef_tree.proofs.Normal.{IsNormal, AreNormal, AreMembersNormal, put-normal, read-normal, read-compact, normals}
 use Rattle.iodef_tree.proofs.AscendingNames as ordered
 use Rattle.iodef_tree.proofs.AscendingNames.{AreAbove, ordered_members}
-use Rattle.iodef_tree.proofs.Seeking.{any_at-beneath}
 use Rattle.iodef_tree.proofs.Each.{IsEach, put-each, get-each}
-use Rattle.iodef_tree.proofs.Passed.{bind-ok, short-ok, Passed, passed}
+use Rattle.iodef_tree.proofs.Passed.{short-ok, Passed, passed}
 
 -- ---- the members that the lines mean are those that were read
 
 filled-data : (b : Body) (bs : List Body) → has_elements (one_or_many b bs) ≡ true
-filled-data b [] = refl
-filled-data b (x ∷ bs) = refl
+filled-data b bs = grind arith
 
 abbrev as_list : json.Members → List (Bytes × Bodies)
 as_list json.no_members = []
@@ -122,60 +120,26 @@ data-back ms n w low = data-ordered (forest_of_data ms) (body-order (json.object
 pub record IsGood (n o a : ℕ) (d : Data) : Type 0 where
   pub normal : IsNormal d
   pub low : depth d ≤ n
-  pub fits : any_at is_refused (nodes o a d) ≡ false
+  pub fits : AreClear (nodes o a d)
 
 abbrev AreGood : ℕ → json.Items → Type 0
 AreGood n json.no_items = Unit {0}
 AreGood n (json.item d ds) = IsGood n 1 1 d × AreGood n ds
 
-refused-apart : (t : Bytes) (a b : List Node) → any_at is_refused (beneath t a ++ b) ≡ false → (any_at is_refused a ≡ false) × (any_at is_refused b ≡ false)
-refused-apart t a b h = or_parts (any_at is_refused a) (any_at is_refused b) (sym (any_at-beneath is_refused t a b) ∙ h)
-
-refused-joined : (t : Bytes) (a b : List Node) → any_at is_refused a ≡ false → any_at is_refused b ≡ false → any_at is_refused (beneath t a ++ b) ≡ false
-refused-joined t a b p q = any_at-beneath is_refused t a b ∙ or_from (any_at is_refused a) (any_at is_refused b) p q
-
-fits : IsEach (λ d. any_at is_refused (nodes 1 0 d) ≡ false) (λ ms. any_at is_refused (member_nodes 1 ms) ≡ false)
-fits = record {
-  made = λ k d ms. refused-joined k (nodes 1 0 d) (member_nodes 1 ms);
-  first = λ k d ms h. (refused-apart k (nodes 1 0 d) (member_nodes 1 ms) h).0;
-  others = λ k d ms h. (refused-apart k (nodes 1 0 d) (member_nodes 1 ms) h).1;
-}
+fits : IsEach (λ d. AreClear (nodes 1 0 d)) (λ ms. AreClear (member_nodes 1 ms))
+fits = grind (arith, clear-apart, clear-joined)
 
 depths : (n : ℕ) → IsEach (λ d. depth d ≤ n) (λ ms. members_depth ms ≤ n)
-depths n = record {
-  made = λ k d ms h all. omega (arith, h, all);
-  first = λ k d ms h. omega (arith, h);
-  others = λ k d ms h. omega (arith, h);
-}
+depths n = grind arith
 
-good-items : (ds : json.Items) (n k : ℕ) → AreNormal ds → items_depth ds ≤ n → any_at is_refused (item_nodes 1 1 k ds) ≡ false → AreGood n ds
+good-items : (ds : json.Items) (n k : ℕ) → AreNormal ds → items_depth ds ≤ n → AreClear (item_nodes 1 1 k ds) → AreGood n ds
 good-items json.no_items n k h low fits = tt
 good-items (json.item d ds) n k h low fits =
-    let parts = refused-apart (decimal k) (nodes 1 1 d) (item_nodes 1 1 (suc k) ds) fits in
+    let parts = clear-apart (decimal k) (nodes 1 1 d) (item_nodes 1 1 (suc k) ds) fits in
     (record { normal = h.0; low = omega (arith, low); fits = parts.0 }, good-items ds n (suc k) h.1 (omega (arith, low)) parts.1)
 
--- nothing is refused where none of the three is found
-nothing-refused : (ns : List Node) → first_at is_not_whole ns ≡ None → first_at is_nested_class ns ≡ None → first_at is_too_deep ns ≡ None → any_at is_refused ns ≡ false
-nothing-refused [] a b c = refl
-nothing-refused (n ∷ ns) a b c =
-    let x = head is_not_whole n ns a in
-    let y = head is_nested_class n ns b in
-    let z = head is_too_deep n ns c in
-    or_from (is_refused n.seen) (any_at is_refused ns)
-    (or_from (is_not_whole n.seen) (is_nested_class n.seen || is_too_deep n.seen) x.0 (or_from (is_nested_class n.seen) (is_too_deep n.seen) y.0 z.0))
-    (nothing-refused ns x.1 y.1 z.1)
-
-fits-root : (ms : json.Members) → IsPlain (json.object ms) → any_at is_refused (member_nodes 1 ms) ≡ false
-fits-root ms p = (or_parts (is_refused (node 0 0 (json.object ms)).seen) (any_at is_refused (member_nodes 1 ms)) (nothing-refused (nodes 0 0 (json.object ms)) p.whole p.nested p.shallow)).1
-
-root-fits : (ms : json.Members) → any_at is_refused (member_nodes 1 ms) ≡ false → all_fit (json.object ms) ≡ Ok tt
-root-fits ms h = plain_at_once (json.object ms) (rw h refl)
-
-array-fits : (ds : json.Items) → any_at is_refused (nodes 1 0 (json.array ds)) ≡ false → any_at is_refused (item_nodes 1 1 0 ds) ≡ false
-array-fits ds h = (or_parts (is_refused (node 1 0 (json.array ds)).seen) (any_at is_refused (item_nodes 1 1 0 ds)) h).1
-
-one-fits : (d : Data) → any_at is_refused (nodes 1 1 d) ≡ false → any_at is_refused (nodes 1 0 (json.array (json.item d json.no_items))) ≡ false
-one-fits d h = refused-joined (decimal 0) (nodes 1 1 d) [] h refl
+one-fits : (d : Data) → AreClear (nodes 1 1 d) → AreClear (nodes 1 0 (json.array (json.item d json.no_items)))
+one-fits d h = clear-joined (decimal 0) (nodes 1 1 d) [] h refl
 
 -- ---- one document
 
@@ -193,7 +157,7 @@ ReadsBack d = is_utf8 (text_of_lines d) ≡ true → reading (text_of_lines d) �
 pub record IsRoot (root : json.Members) : Type 0 where
   pub normal : IsNormal (json.object root)
   pub low : members_depth root ≤ 126
-  pub fits : any_at is_refused (member_nodes 1 root) ≡ false
+  pub fits : AreClear (member_nodes 1 root)
 
 -- the Incident has all that it must, and these are the lines of its document
 pub record HasLines (root : json.Members) (x : Data) (d : List Line) : Type 0 where
@@ -224,7 +188,7 @@ module _ (root : json.Members) (x : Data) (d : List Line) (r : IsRoot root) (h :
       let are : are_incidents only ≡ true = rw h.object refl in
       let at : incidents_of ms ≡ Some only = ap (λ o. option_and_then if_incidents (option_and_then as_array o)) (get_member-put k v root) ∙ cond-true (are_incidents only) (Some only) None are in
       let all : all_complete 0 only ≡ Ok tt = ap (λ o. unless (Missing (incident_at 0)) o >>= λ _. Ok tt) h.complete in
-      let fine : all_fit (json.object ms) ≡ Ok tt = root-fits ms (put-each _ _ fits k v root (one-fits x h.good.fits) r.fits) in
+      let fine : all_fit (json.object ms) ≡ Ok tt = plain_at_once (json.object ms) (put-each _ _ fits k v root (one-fits x h.good.fits) r.fits) in
       let gives : documents ms only ≡ Ok (d ∷ []) =
       ap (λ ns. if_short (lines 1 (forest_of_data ns)) >>= λ first. Ok (first ∷ [])) (put_twice k v v root) ∙ ap (λ y. y >>= λ first. Ok (first ∷ [])) h.short in
       subst (λ ns. is_utf8 (compact_text (json.object ns)) ≡ true → reading (compact_text (json.object ns)) ≡ Ok (d ∷ [])) (sym means) (λ utf8.
@@ -257,10 +221,9 @@ each-document Q bytes docs p shown =
     let normal = read-normal bytes (json.object p.root) p.was in
     let deep = depth-read bytes (json.object p.root) p.was in
     let low : members_depth p.root ≤ 126 = omega (arith, deep) in
-    let clear = fits-root p.root p.plain in
     let inner = get-each _ _ (depths 126) k p.root array low p.at in
-    each Q p.root (λ x d. shown x d (record { normal = normal; low = low; fits = clear })) p.incidents 0 docs
-    (good-items p.incidents 125 0 (get-each _ _ normals k p.root array normal.1 p.at) (omega (arith, inner)) (array-fits p.incidents (get-each _ _ fits k p.root array clear p.at)))
+    each Q p.root (λ x d. shown x d (record { normal = normal; low = low; fits = p.plain })) p.incidents 0 docs
+    (good-items p.incidents 125 0 (get-each _ _ normals k p.root array normal.1 p.at) (omega (arith, inner)) (get-each _ _ fits k p.root array p.plain p.at))
     (fit_object p.root p.incidents p.plain p.at)
     ((and_parts (nat_lt 0 (items_len p.incidents) && nat_le (items_len p.incidents) INCIDENT_LIMIT) (all_objects p.incidents) p.are).1)
     p.complete p.gives

@@ -1,29 +1,21 @@
 -- The first of some values that passes a test, those of one value in front of the others.
-use Rattle.std.proofs.Common.{◌≡◌, List, [], ◌∷◌, ◌++◌, Bool, true, false, cond, ◌||◌, Some, None, refl}
+use Rattle.std.proofs.Common.{◌≡◌, List, [], ◌∷◌, ◌++◌, Bool, ◌||◌, Some, None, refl, arith}
+use Rattle.std.proofs.lemmas.Grind.{common_steps}
 use Rattle.iodef_tree.specs.FitValues.{any_at}
 use Rattle.iodef_tree.specs.Text.{Bytes, Tokens}
 use Rattle.iodef_tree.specs.Values.{Surrounded, Node, beneath, first_at}
 
 pub first_at-none : (f : Surrounded → Bool) (t : Bytes) (a b : List Node) → first_at f a ≡ None → first_at f (beneath t a ++ b) ≡ first_at f b
 first_at-none f t [] b e = refl
-first_at-none f t (n ∷ a) b e = step (f n.seen) e (first_at-none f t a b)
-  where
-    step : (c : Bool) → cond c (Some n.pointer) (first_at f a) ≡ None → (first_at f a ≡ None → first_at f (beneath t a ++ b) ≡ first_at f b) → cond c (Some (t ∷ n.pointer)) (first_at f (beneath t a ++ b)) ≡ first_at f b
-    step true e later = cc
-    step false e later = later e
+first_at-none f t (n ∷ a) b e = grind (arith, (first_at-none f t a b))
 
 pub first_at-some : (f : Surrounded → Bool) (t : Bytes) (a b : List Node) (p : Tokens) → first_at f a ≡ Some p → first_at f (beneath t a ++ b) ≡ Some (t ∷ p)
 first_at-some f t [] b p e = cc
-first_at-some f t (n ∷ a) b p e = step (f n.seen) e (first_at-some f t a b p)
-  where
-    step : (c : Bool) → cond c (Some n.pointer) (first_at f a) ≡ Some p → (first_at f a ≡ Some p → first_at f (beneath t a ++ b) ≡ Some (t ∷ p)) → cond c (Some (t ∷ n.pointer)) (first_at f (beneath t a ++ b)) ≡ Some (t ∷ p)
-    step true e later = cc
-    step false e later = later e
+first_at-some f t (n ∷ a) b p e = grind (arith, (first_at-some f t a b p))
 
 pub any_at-beneath : (f : Surrounded → Bool) (t : Bytes) (a b : List Node) → any_at f (beneath t a ++ b) ≡ (any_at f a || any_at f b)
 any_at-beneath f t [] b = refl
-any_at-beneath f t (n ∷ a) b = step (f n.seen) (any_at-beneath f t a b)
-  where
-    step : (c : Bool) → any_at f (beneath t a ++ b) ≡ (any_at f a || any_at f b) → (c || any_at f (beneath t a ++ b)) ≡ ((c || any_at f a) || any_at f b)
-    step true e = refl
-    step false e = e
+any_at-beneath f t (n ∷ a) b = grind (arith, (any_at-beneath f t a b))
+
+-- for the walks over all values
+pub ruleset seeking = (common_steps, first_at-none, first_at-some, any_at-beneath)

@@ -1,12 +1,13 @@
 -- A numbered tree whose lines are an outline is that of a document.
-use Rattle.std.proofs.Common.{◌≡◌, ℕ, zero, suc, ◌+◌, ◌≤◌, ◌<◌, Bool, true, false, not, ◌&&◌, ◌||◌, List, [], ◌∷◌, refl, sym, ◌∙◌, ap, arith, if◌then◌else◌, cond, Option, Some, None, is_some, nat_le, bytes_eq}
+use Rattle.std.proofs.Common.{◌≡◌, ℕ, suc, ◌+◌, ◌≤◌, ◌<◌, true, List, [], ◌∷◌, refl, sym, ◌∙◌, ap, arith, if◌then◌else◌, Option, Some, None, is_some, nat_le}
 use Rattle.std.proofs.lemmas.Bool.{and_parts, leb-true}
 use Rattle.std.proofs.lemmas.List.Sums.{sum_by-cons}
-use Rattle.iodef_tree.specs.Text.{Bytes, bytes_lt}
+use Rattle.std.proofs.lemmas.Grind.{common_steps}
+use Rattle.iodef_tree.specs.Text.{Bytes}
 use Rattle.iodef_tree.specs.Texts.{HasTexts}
-use Rattle.iodef_tree.specs.Tree.{Content, text, value, Forest, end, leaf, branch, kind_of, leaf_line, class_line, lines, height}
+use Rattle.iodef_tree.specs.Tree.{Content, Forest, end, leaf, branch, kind_of, leaf_line, class_line, lines, height}
 use Rattle.iodef_tree.specs.Paths.{is_class_kind}
-use Rattle.iodef_tree.specs.Sound.{SiblingPlace, may_stand, IsOrderedBehind, is_label_line, counted, class_height, IsSound}
+use Rattle.iodef_tree.specs.Sound.{SiblingPlace, may_stand, IsOrderedBehind, counted, class_height, IsSound}
 use Rattle.iodef_tree.specs.Outline.{sibling, last_sibling, may_follow, is_within_depth, is_sound_line, may_come, is_outline_after, is_outline, is_outline_back, back_onto, back}
 use Rattle.iodef_tree.specs.Built.{is_numbered, IsNumberedBehind, IsNumbered}
 use Rattle.iodef_tree.specs.declared.TheConstants.{DEPTH_LIMIT, LINE_LIMIT}
@@ -71,30 +72,9 @@ fine (branch n p kids rest) d before o is h =
 
 -- ---- so names ascend
 
-only-first : (a b c : Bool) → (a || (b && (c && false))) ≡ true → a ≡ true
-only-first true b c h = refl
-only-first false true true h = h
-only-first _ b c h = h
-
-only-first_too : (a b : Bool) → (a || (b && (false && true))) ≡ true → a ≡ true
-only-first_too true b h = refl
-only-first_too false true h = h
-only-first_too false false h = h
-
-other-name : (a b : Bool) → (a || (b && (true && true))) ≡ true → not b ≡ true → a ≡ true
-other-name true b h k = refl
-other-name false true h k = k
-other-name false false h k = h
-
 stands : (o : Option SiblingPlace) (name : Bytes) (place : Option ℕ) → may_follow (as_sibling o) (record { name = name; in_array = is_some place }) ≡ true → is_numbered o name place ≡ true →
     may_stand o name place ≡ true
-stands None name None h k = refl
-stands None name (Some zero) h k = refl
-stands (Some (n, None)) name None h k = only-first (bytes_lt n name) (bytes_eq n name) false h
-stands (Some (n, Some j)) name None h k = only-first (bytes_lt n name) (bytes_eq n name) true h
-stands (Some (n, None)) name (Some zero) h k = only-first_too (bytes_lt n name) (bytes_eq n name) h
-stands (Some (n, Some j)) name (Some zero) h k = other-name (bytes_lt n name) (bytes_eq n name) h k
-stands _ name place h k = k
+stands o name place h k = grind arith
 
 ordered : (f : Forest) (d : ℕ) (o : Option SiblingPlace) → IsFine o d f → IsNumberedBehind o f → IsOrderedBehind o f
 ordered end d o h k = tt
@@ -104,8 +84,7 @@ ordered (branch n p kids rest) d o h k = (stands o n p h.0 k.0, ordered kids (su
 -- ---- the tree is shallow
 
 plain-depth : (c : Content) (d : ℕ) → nat_le d (if is_class_kind (kind_of c) then DEPTH_LIMIT else DEPTH_LIMIT + 1) ≡ true → d ≤ DEPTH_LIMIT + 1
-plain-depth (text s) d h = leb-true d (DEPTH_LIMIT + 1) h
-plain-depth (value s) d h = leb-true d (DEPTH_LIMIT + 1) h
+plain-depth c d h = grind (arith, leb-true)
 
 high : (f : Forest) (d : ℕ) (o : Option SiblingPlace) → d ≤ DEPTH_LIMIT + 2 → IsFine o d f → height f + d ≤ DEPTH_LIMIT + 2
 high end d o small h = omega (arith, small)
@@ -139,11 +118,7 @@ texts (branch n p kids rest) d o h = (texts kids (suc d) None h.2, texts rest d 
 
 pub counted-back_onto : (xs ys : List Line) → counted (back_onto xs ys) ≡ counted xs + counted ys
 counted-back_onto [] ys = omega arith
-counted-back_onto (x ∷ xs) ys =
-    let a = counted-back_onto xs (x ∷ ys) in
-    let b = sum_by-cons (λ (l : Line). cond (not (is_label_line l)) 1 0) x ys in
-    let c = sum_by-cons (λ (l : Line). cond (not (is_label_line l)) 1 0) x xs in
-    a ∙ omega (arith, b, c)
+counted-back_onto (x ∷ xs) ys = grind (arith, common_steps, sum_by-cons, (counted-back_onto xs (x ∷ ys)))
 
 short_back : (ls : List Line) → is_outline_back ls ≡ true → counted ls ≤ LINE_LIMIT
 short_back [] h = omega arith

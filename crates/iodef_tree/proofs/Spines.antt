@@ -1,20 +1,20 @@
 -- The open classes of a document under construction.
-use Rattle.std.proofs.Common.{◌≡◌, ℕ, suc, ◌+◌, ◌-◌, Bool, true, false, List, [], ◌∷◌, ◌++◌, length, refl, sym, ◌∙◌, ap, subst, append_assoc, arith, true≢false, is_some, Result, Ok, Err, IfOk}
+use Rattle.std.proofs.Common.{◌≡◌, ℕ, suc, ◌+◌, ◌-◌, Bool, true, List, [], ◌∷◌, ◌++◌, length, refl, sym, ◌∙◌, ap, subst, append_assoc, arith, is_some}
 use Rattle.std.specs.List.{AllByRecursion}
 use Rattle.std.proofs.lemmas.Bool.{and_parts}
 use Rattle.std.proofs.lemmas.List.{append-nil, length_push}
+use Rattle.std.proofs.lemmas.Grind.{common_steps}
 use Rattle.iodef_tree.specs.Text.{Bytes}
 use Rattle.iodef_tree.specs.Texts.{may_be_text, is_empty_text}
 use Rattle.iodef_tree.specs.Tree.{Content, text, value, Forest, end, Body, holds, says, in_front, place_of, class_line, kind_of, text_of, lines}
 use Rattle.iodef_tree.specs.Sound.{IsSound}
 use Rattle.iodef_tree.specs.Filled.{IsFilled}
 use Rattle.iodef_tree.specs.Outline.{deepest, back, may_come, is_outline, is_within_depth}
-use Rattle.iodef_tree.specs.View.{forest, body, members_forest}
-use Rattle.iodef_tree.specs.Built.{IsNumbered, IsGrown, Grows, open_line, lines_down, lines_of, IsOpenGrown, IsSpineGrown, Extends, HasLine}
+use Rattle.iodef_tree.specs.View.{forest, body}
+use Rattle.iodef_tree.specs.Built.{IsGrown, Grows, open_line, lines_down, lines_of, IsOpenGrown, IsSpineGrown, Extends, HasLine}
 use Rattle.iodef_tree.specs.declared.line.Line.{Line}
 use Rattle.iodef_tree.specs.declared.line.Kind.{Kind}
 use Rattle.iodef_tree.specs.declared.line.Kind.TheVariants as kind
-use Rattle.iodef_tree.specs.declared.object.Object.{Object}
 use Rattle.iodef_tree.specs.declared.object.Item.TheVariants.{Class}
 use Rattle.iodef_tree.specs.declared.builder.Open.{Open}
 use Rattle.iodef_tree.specs.declared.builder.Spine.{Spine}
@@ -23,12 +23,6 @@ use Rattle.iodef_tree.proofs.Outlines.{came, back-push}
 use Rattle.iodef_tree.proofs.Filled.{object-filled}
 use Rattle.iodef_tree.proofs.Siblings.{all-append, all-split}
 use Rattle.iodef_tree.proofs.Sounds.{outline-sound}
-
--- ---- results and lists
-
-pub if_ok : {A E : Type 0} (r : Result A E) (P Q : A → Type 0) → ((x : A) → P x → Q x) → IfOk r P → IfOk r Q
-if_ok (Ok x) P Q f h = f x h
-if_ok (Err e) P Q f h = h
 
 one-longer : (xs : List Open) (x : Open) → length (xs ++ x ∷ []) ≡ suc (length xs)
 one-longer xs x = search (arith, length_push)
@@ -51,13 +45,7 @@ same-line d x y n a = ap (λ (m : Bytes). class_line d m (place_of y.in_array 0)
 down-add : (d : ℕ) (f : Forest) (xs : List Open) (x y : Open) (R : List Line) → y.name ≡ x.name → y.in_array ≡ x.in_array →
     lines (suc (d + length xs)) (forest y.object) ≡ lines (suc (d + length xs)) (forest x.object) ++ R →
     lines_down d f (xs ++ y ∷ []) ≡ lines_down d f (xs ++ x ∷ []) ++ R
-down-add d f xs x y R n a is =
-    let e = d + length xs in
-    down-push d f xs y
-    ∙ ap (λ ls. lines_down d f xs ++ open_line e y ∷ ls) is
-    ∙ ap (λ l. lines_down d f xs ++ l ∷ (lines (suc e) (forest x.object) ++ R)) (same-line e x y n a)
-    ∙ sym (append_assoc (lines_down d f xs) (open_line e x ∷ lines (suc e) (forest x.object)) R)
-    ∙ ap (λ ls. ls ++ R) (sym (down-push d f xs x))
+down-add d f xs x y R n a is = grind (arith, append_assoc, down-push, same-line)
 
 -- ---- one thing more
 
@@ -65,26 +53,7 @@ pub put-class : (s t : Spine) (P : List Open) (x y : Open) (n : Bytes) (a : Bool
     s.classes.items ≡ P ++ x ∷ [] → t.classes.items ≡ P ++ y ∷ [] → y.name ≡ x.name → y.in_array ≡ x.in_array →
     Grows x.object.members.items n a b y.object.members.items →
     Extends s (lines (suc (length s.classes.items)) (in_front n (place_of a 0) b end)) (length s.classes.items) t
-put-class s t P x y n a b h root was is name array g =
-    let F = forest s.root in
-    let counts : length s.classes.items ≡ suc (length P) = ap length was ∙ one-longer P x in
-    let long : suc (1 + length P) ≡ suc (length s.classes.items) = omega (arith, counts) in
-    record {
-      grown = record {
-        root = subst (λ (o : Object). IsGrown o.members.items) (sym root) h.root;
-        classes = subst (AllByRecursion IsOpenGrown) (sym is) (all-append IsOpenGrown P (y ∷ []) ((all-split IsOpenGrown P x (subst (AllByRecursion IsOpenGrown) was h.classes)).0) (g.grown, tt));
-      };
-      lines =
-          ap (λ (o : Object). lines_down 1 (forest o) t.classes.items) root
-          ∙ ap (lines_down 1 F) is
-          ∙ down-add 1 F P x y (lines (suc (1 + length P)) (in_front n (place_of a 0) b end)) name array
-          (ap (lines (suc (1 + length P))) (forest-members y.object)
-          ∙ g.lines (suc (1 + length P))
-          ∙ ap (λ f. lines (suc (1 + length P)) f ++ lines (suc (1 + length P)) (in_front n (place_of a 0) b end)) (sym (forest-members x.object)))
-          ∙ ap (λ xs. lines_down 1 F xs ++ lines (suc (1 + length P)) (in_front n (place_of a 0) b end)) (sym was)
-          ∙ ap (λ d. lines_of s ++ lines d (in_front n (place_of a 0) b end)) long;
-      depth = ap length is ∙ one-longer P y ∙ sym (ap length was ∙ one-longer P x);
-    }
+put-class s t P x y n a b h root was is name array g = grind (arith, all-append, all-split, down-add, forest-members, one-longer)
 
 -- what the innermost class has to be for that
 pub innermost-grown : (s : Spine) (P : List Open) (x : Open) → s.classes.items ≡ P ++ x ∷ [] → IsSpineGrown s → IsGrown x.object.members.items
@@ -92,68 +61,26 @@ innermost-grown s P x was h = (all-split IsOpenGrown P x (subst (AllByRecursion 
 
 pub opened : (s t : Spine) (x : Open) → IsSpineGrown s → t.root ≡ s.root → t.classes.items ≡ s.classes.items ++ x ∷ [] → x.object.members.items ≡ [] →
     Extends s (lines (suc (length s.classes.items)) (in_front x.name (place_of x.in_array 0) (holds end) end)) (suc (length s.classes.items)) t
-opened s t x h root is none =
-    let empty : forest x.object ≡ end = forest-members x.object ∙ ap members_forest none in
-    record {
-      grown = record {
-        root = subst (λ (o : Object). IsGrown o.members.items) (sym root) h.root;
-        classes = subst (AllByRecursion IsOpenGrown) (sym is) (all-append IsOpenGrown s.classes.items (x ∷ []) h.classes (subst IsGrown (sym none) (record { numbered = tt; filled = tt }), tt));
-      };
-      lines =
-          ap (λ (o : Object). lines_down 1 (forest o) t.classes.items) root
-          ∙ ap (lines_down 1 (forest s.root)) is
-          ∙ down-push 1 (forest s.root) s.classes.items x
-          ∙ ap (λ f. lines_of s ++ open_line (1 + length s.classes.items) x ∷ lines (suc (1 + length s.classes.items)) f) empty
-          ∙ ap (λ d. lines_of s ++ open_line d x ∷ []) (omega arith);
-      depth = ap length is ∙ one-longer s.classes.items x;
-    }
+opened s t x h root is none = grind (arith, all-append, down-push, forest-members, one-longer)
 
 -- ---- closing
 
 pub closed : (s o t : Spine) (x : Open) → o.root ≡ s.root → s.classes.items ≡ o.classes.items ++ x ∷ [] →
     Extends o (lines (suc (length o.classes.items)) (in_front x.name (place_of x.in_array 0) (body (Class x.object)) end)) (length o.classes.items) t →
     Extends s [] (length s.classes.items - 1) t
-closed s o t x root was e =
-    let P = o.classes.items in
-    let F = forest s.root in
-    record {
-      grown = e.grown;
-      lines =
-          e.lines
-          ∙ ap (λ b. lines_of o ++ lines (suc (length P)) (in_front x.name (place_of x.in_array 0) b end)) (body-Class x.object)
-          ∙ ap (λ ls. lines_of o ++ open_line (suc (length P)) x ∷ ls) (append-nil (lines (suc (suc (length P))) (forest x.object)))
-          ∙ ap (λ (r : Object). lines_down 1 (forest r) P ++ open_line (suc (length P)) x ∷ lines (suc (suc (length P))) (forest x.object)) root
-          ∙ ap (λ d. lines_down 1 F P ++ open_line d x ∷ lines (suc d) (forest x.object)) (omega arith)
-          ∙ sym (down-push 1 F P x)
-          ∙ sym (ap (lines_down 1 F) was)
-          ∙ sym (append-nil (lines_of s));
-      depth = e.depth ∙ sym (ap (λ (xs : List Open). length xs - 1) was ∙ ap (λ n. n - 1) (one-longer P x) ∙ omega arith);
-    }
+closed s o t x root was e = grind (arith, append-nil, body-Class, down-push, one-longer)
 
 -- ---- a line
 
 empty-text : (s : Bytes) → is_empty_text s ≡ true → s ≡ []
-empty-text [] h = refl
-empty-text (c ∷ cs) h = absurd (true≢false (sym h))
-
-some-place : (a : Bool) → is_some (place_of a 0) ≡ a
-some-place true = refl
-some-place false = refl
+empty-text s h = grind arith
 
 line-is : (d : ℕ) (a : Bool) (l : Line) (k : Kind) (s : Bytes) → d ≡ l.depth → l.kind ≡ k → l.text ≡ s →
     (let x : Line = record { depth = d; name = l.name; in_array = is_some (place_of l.in_array 0); kind = k; text = s } in x) ≡ l
-line-is d a l k s deep kin is =
-    ap (λ (n : ℕ). let x : Line = record { depth = n; name = l.name; in_array = is_some (place_of l.in_array 0); kind = k; text = s } in x) deep
-    ∙ ap (λ (b : Bool). let x : Line = record { depth = l.depth; name = l.name; in_array = b; kind = k; text = s } in x) (some-place l.in_array)
-    ∙ ap (λ (j : Kind). let x : Line = record { depth = l.depth; name = l.name; in_array = l.in_array; kind = j; text = s } in x) (sym kin)
-    ∙ ap (λ (t : Bytes). let x : Line = record { depth = l.depth; name = l.name; in_array = l.in_array; kind = l.kind; text = t } in x) (sym is)
+line-is d a l k s deep kin is = grind arith
 
 has-line : (s t u : Spine) (l : Line) (n : ℕ) (R : List Line) → lines_of t ≡ lines_of s ++ [] → Extends t R n u → R ≡ l ∷ [] → deepest (l ∷ []) ≡ suc n → HasLine s l u
-has-line s t u l n R same e is deep =
-    let made : lines_of u ≡ lines_of s ++ l ∷ [] = e.lines ∙ ap (λ ls. ls ++ R) (same ∙ append-nil (lines_of s)) ∙ ap (λ ls. lines_of s ++ ls) is in record {
-      built = record { grown = e.grown; deep = ap (λ ls. deepest (back ls)) made ∙ ap deepest (back-push (lines_of s) l) ∙ deep ∙ ap suc (sym e.depth) };
-      lines = made;
-    }
+has-line s t u l n R same e is deep = grind (arith, append-nil, back-push)
 
 pub has-class : (s t u : Spine) (l : Line) → may_come (back (lines_of s)) l ≡ true → l.kind ≡ kind.Class → Extends s [] (l.depth - 1) t →
     Extends t (lines (suc (length t.classes.items)) (in_front l.name (place_of l.in_array 0) (holds end) end)) (suc (length t.classes.items)) u → HasLine s l u
@@ -166,13 +93,14 @@ has-class s t u l fits is e g =
     (ap (λ (j : Kind). deepest ((let x : Line = record { depth = l.depth; name = l.name; in_array = l.in_array; kind = j; text = l.text } in x) ∷ [])) is ∙ ap suc (sym deep))
 
 -- a plain line
-pub has-plain : (s t u : Spine) (l : Line) (c : Content) → may_come (back (lines_of s)) l ≡ true → l.kind ≡ kind_of c → l.text ≡ text_of c →
-    Extends s [] (l.depth - 1) t → Extends t (lines (suc (length t.classes.items)) (in_front l.name (place_of l.in_array 0) (says c) end)) (length t.classes.items) u → HasLine s l u
-has-plain s t u l c fits is said e g =
+pub has-plain : (s t u : Spine) (l : Line) (c : Content) (b : Body) → may_come (back (lines_of s)) l ≡ true → l.kind ≡ kind_of c → l.text ≡ text_of c → b ≡ says c →
+    Extends s [] (l.depth - 1) t → Extends t (lines (suc (length t.classes.items)) (in_front l.name (place_of l.in_array 0) b end)) (length t.classes.items) u → HasLine s l u
+has-plain s t u l c b fits is said held e g =
     let k = came (back (lines_of s)) l fits in
     let deep : suc (length t.classes.items) ≡ l.depth = ap suc e.depth ∙ omega (arith, k.positive) in
     has-line s t u l (length t.classes.items) _ e.lines g
-    (ap (λ x. x ∷ []) (line-is (suc (length t.classes.items)) l.in_array l (kind_of c) (text_of c) deep is said))
+    (ap (λ x. lines (suc (length t.classes.items)) (in_front l.name (place_of l.in_array 0) x end)) held
+    ∙ ap (λ x. x ∷ []) (line-is (suc (length t.classes.items)) l.in_array l (kind_of c) (text_of c) deep is said))
     (ap (λ (j : Kind). deepest ((let x : Line = record { depth = l.depth; name = l.name; in_array = l.in_array; kind = j; text = l.text } in x) ∷ [])) is ∙ no-class c ∙ sym deep)
   where
     no-class : (b : Content) → deepest ((let x : Line = record { depth = l.depth; name = l.name; in_array = l.in_array; kind = kind_of b; text = l.text } in x) ∷ []) ≡ l.depth
@@ -182,16 +110,14 @@ has-plain s t u l c fits is said e g =
 -- ---- the whole
 
 none-left : (xs : List Open) → length xs ≡ 0 → xs ≡ []
-none-left [] h = refl
-none-left (x ∷ xs) h = absurd (omega (arith, h))
+none-left xs h = grind (arith, common_steps)
 
 -- with no class open the lines are those of the root
 pub finished : (s t : Spine) → Extends s [] 0 t → lines 1 (forest t.root) ≡ lines_of s
 finished s t e = sym (ap (lines_down 1 (forest t.root)) (none-left t.classes.items e.depth)) ∙ e.lines ∙ append-nil (lines_of s)
 
 pub finished-sound : (s t : Spine) → Extends s [] 0 t → is_outline (lines_of s) ≡ true → IsSound (forest t.root)
-finished-sound s t e h =
-    outline-sound (forest t.root) (ap is_outline (finished s t e) ∙ h) (subst IsNumbered (sym (forest-members t.root)) e.grown.root.numbered)
+finished-sound s t e h = grind (arith, finished, forest-members, outline-sound)
 
 pub finished-filled : (s t : Spine) → Extends s [] 0 t → IsFilled t.root
 finished-filled s t e = object-filled t.root e.grown.root.filled

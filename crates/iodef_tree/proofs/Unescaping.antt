@@ -1,9 +1,9 @@
 -- The reading of the characters of a reference token.
-use Rattle.std.proofs.Common.{◌≡◌, ◌≢◌, ◌≤◌, ◌⊎◌, inl, inr, ℕ, List, [], ◌∷◌, ◌++◌, Bool, true, false, cond, refl, sym, ap, ◌∙◌, arith, eqb, append-nil, append_assoc, Option, Some, None, option_map}
+use Rattle.std.proofs.Common.{◌≡◌, ◌≢◌, ◌≤◌, ℕ, List, [], ◌∷◌, ◌++◌, true, false, sym, ap, ◌∙◌, arith, append-nil, append_assoc, Option, Some, None, option_map}
 use Rattle.std.specs.Char.{encode_utf8}
 use Rattle.std.specs.Iterator.{AlwaysYields}
 use Rattle.std.proofs.lemmas.Bool.{ne_eqb, cond-false}
-use Rattle.iodef_tree.proofs.Characters.{AreHigh, IsHigh, encode_utf8-cases}
+use Rattle.iodef_tree.proofs.Characters.{AreHigh, encode_utf8-cases}
 use Rattle.iodef_tree.specs.Text.{Tokens}
 use Rattle.iodef_tree.specs.Pointer.{escaped_by, with_first, unescaped_from, unescaped, each_unescaped, pointer_tokens}
 
@@ -12,16 +12,13 @@ abbrev pub made_then : {A : Type 0} → List A → Option (List A) → Option (L
 made_then made rest = option_map (λ xs. made ++ xs) rest
 
 pub made_then-nil : {A : Type 0} (rest : Option (List A)) → made_then [] rest ≡ rest
-made_then-nil None = refl
-made_then-nil (Some xs) = refl
+made_then-nil rest = grind arith
 
 pub made_then-append : {A : Type 0} (a b : List A) (rest : Option (List A)) → made_then (a ++ b) rest ≡ made_then a (made_then b rest)
-made_then-append a b None = refl
-made_then-append a b (Some xs) = ap Some (append_assoc a b xs)
+made_then-append a b rest = grind (arith, append_assoc)
 
 pub made_then-first : {A : Type 0} (x : A) (rest : Option (List A)) → made_then (x ∷ []) rest ≡ with_first (Some x) rest
-made_then-first x None = refl
-made_then-first x (Some xs) = refl
+made_then-first x rest = grind arith
 
 -- a byte that is no tilde stands for itself
 plain_byte : (b : ℕ) (rest : List ℕ) → b ≢ 126 → unescaped_from false (b ∷ rest) ≡ made_then (b ∷ []) (unescaped_from false rest)
@@ -34,11 +31,7 @@ high_bytes (b ∷ bs) rest h =
 
 -- and so does a character
 unescaped_from-plain : (c : ℕ) (rest : List ℕ) → c ≢ 126 → unescaped_from false (encode_utf8 c ++ rest) ≡ made_then (encode_utf8 c) (unescaped_from false rest)
-unescaped_from-plain c rest n = by_bytes (encode_utf8 c) (encode_utf8-cases c)
-  where
-    by_bytes : (bytes : List ℕ) → (bytes ≡ c ∷ []) ⊎ IsHigh c bytes → unescaped_from false (bytes ++ rest) ≡ made_then bytes (unescaped_from false rest)
-    by_bytes bytes (inl e) = ap (λ x. unescaped_from false (x ++ rest)) e ∙ plain_byte c rest n ∙ ap (λ x. made_then x (unescaped_from false rest)) (sym e)
-    by_bytes bytes (inr (k, b, bs, e, high)) = ap (λ x. unescaped_from false (x ++ rest)) e ∙ high_bytes (b ∷ bs) rest high ∙ ap (λ x. made_then x (unescaped_from false rest)) (sym e)
+unescaped_from-plain c rest n = grind (arith, encode_utf8-cases, high_bytes, plain_byte)
 
 -- a tilde stands for nothing yet
 unescaped_from-tilde : (c : ℕ) (rest : List ℕ) → c ≡ 126 → unescaped_from false (encode_utf8 c ++ rest) ≡ unescaped_from true rest
@@ -50,30 +43,18 @@ no_code b h = cond-false _ _ _ (ne_eqb b 48 (omega arith)) ∙ cond-false _ _ _ 
 
 -- behind a tilde a character is read as its code says
 unescaped_from-behind : (c : ℕ) (rest : List ℕ) → unescaped_from true (encode_utf8 c ++ rest) ≡ with_first (escaped_by c) (unescaped_from false rest)
-unescaped_from-behind c rest = by_bytes (encode_utf8 c) (encode_utf8-cases c)
-  where
-    by_bytes : (bytes : List ℕ) → (bytes ≡ c ∷ []) ⊎ IsHigh c bytes → unescaped_from true (bytes ++ rest) ≡ with_first (escaped_by c) (unescaped_from false rest)
-    by_bytes bytes (inl e) = ap (λ x. unescaped_from true (x ++ rest)) e
-    by_bytes bytes (inr (k, b, bs, e, high)) =
-        ap (λ x. unescaped_from true (x ++ rest)) e ∙ ap (λ o. with_first o (unescaped_from false (bs ++ rest))) (no_code b high.0)
-        ∙ sym (ap (λ o. with_first o (unescaped_from false rest)) (no_code c k))
+unescaped_from-behind c rest = grind (arith, encode_utf8-cases, no_code)
 
 -- what a code stands for is one byte
 encode_utf8-code : (c b : ℕ) → escaped_by c ≡ Some b → encode_utf8 b ≡ b ∷ []
 unfolding encode_utf8
-encode_utf8-code c b h = by_code (eqb c 48) (eqb c 49) h
-  where
-    by_code : (x y : Bool) → cond x (Some 126) (cond y (Some 47) None) ≡ Some b → encode_utf8 b ≡ b ∷ []
-    by_code true y e = let is : 126 ≡ b = cc in ap encode_utf8 (sym is) ∙ ap (λ d. d ∷ []) is
-    by_code false true e = let is : 47 ≡ b = cc in ap encode_utf8 (sym is) ∙ ap (λ d. d ∷ []) is
-    by_code false false e = cc
+encode_utf8-code c b h = grind arith
 
 -- ---- the steps of the reading, each over the token so far, what is left from the character on, and what is left behind it
 
 module _ (kept left rest : List ℕ) (whole : Option (List ℕ)) where
   pub plain_step : (c : ℕ) → left ≡ encode_utf8 c ++ rest → c ≢ 126 → made_then kept (unescaped_from false left) ≡ whole → made_then (kept ++ encode_utf8 c) (unescaped_from false rest) ≡ whole
-  plain_step c e n h =
-      made_then-append kept (encode_utf8 c) (unescaped_from false rest) ∙ ap (made_then kept) (sym (unescaped_from-plain c rest n) ∙ ap (unescaped_from false) (sym e)) ∙ h
+  plain_step c e n h = grind (arith, made_then-append, unescaped_from-plain)
 
   pub tilde_step : (c : ℕ) → left ≡ encode_utf8 c ++ rest → c ≡ 126 → made_then kept (unescaped_from false left) ≡ whole → made_then kept (unescaped_from true rest) ≡ whole
   tilde_step c e t h = ap (made_then kept) (sym (unescaped_from-tilde c rest t) ∙ ap (unescaped_from false) (sym e)) ∙ h
@@ -86,8 +67,7 @@ module _ (kept left rest : List ℕ) (whole : Option (List ℕ)) where
       ∙ h
 
   pub no_code_step : (c : ℕ) → left ≡ encode_utf8 c ++ rest → escaped_by c ≡ None → made_then kept (unescaped_from true left) ≡ whole → whole ≡ None
-  no_code_step c e stands h =
-      sym h ∙ ap (made_then kept) (ap (unescaped_from true) e ∙ unescaped_from-behind c rest ∙ ap (λ o. with_first o (unescaped_from false rest)) stands)
+  no_code_step c e stands h = grind (arith, unescaped_from-behind)
 
 -- ---- the steps over the tokens, each over those so far and what the iterator has left
 
@@ -128,5 +108,4 @@ module _ {S A : Type 0} (steps : S → Option A → S → Type 0) (written : A �
 
 -- what is not empty and begins with no slash is no pointer
 pub pointer_tokens-none : (text : List ℕ) → text ≢ [] → ((rest : List ℕ) → text ≢ 47 ∷ rest) → pointer_tokens text ≡ None
-pointer_tokens-none [] some none = absurd (some refl)
-pointer_tokens-none (c ∷ cs) some none = cond-false _ _ _ (ne_eqb c 47 (λ e. none cs (ap (λ b. b ∷ cs) e)))
+pointer_tokens-none text some none = grind (arith, cond-false, ne_eqb)

@@ -13,7 +13,7 @@ use Rattle.serde_json.specs.declared.value.Value.{Value}
 use Rattle.iodef_tree.specs.FitValues.{HasBodyTexts, HaveTexts}
 use Rattle.iodef_tree.specs.Text.{Bytes}
 use Rattle.iodef_tree.specs.Texts.{is_plain, are_plain, is_empty, may_be_value, may_be_text, HasTexts}
-use Rattle.iodef_tree.specs.Tree.{Forest, Body, holds, says, Bodies, one, many, in_front, elements}
+use Rattle.iodef_tree.specs.Tree.{Forest, Body, Bodies, one, many, in_front, elements}
 use Rattle.iodef_tree.specs.View.{forest_of_members}
 use Rattle.iodef_tree.specs.declared.TheConstants.{DEPTH_LIMIT}
 use Rattle.iodef_tree.specs.declared.line.Kind.TheVariants as kind
@@ -21,8 +21,7 @@ use Rattle.iodef_tree.specs.declared.line.Kind.TheVariants as kind
 -- ---- a tree, member by member
 
 texts-in_front : (name : Bytes) (place : Option ℕ) (b : Body) (rest : Forest) → HasBodyTexts (is_some place) b → HasTexts rest → HasTexts (in_front name place b rest)
-texts-in_front name place (holds kids) rest h k = (h, k)
-texts-in_front name place (says content) rest h k = (h, k)
+texts-in_front name place b rest h k = grind arith
 
 texts-elements : (name : Bytes) (bs : List Body) (k : ℕ) (rest : Forest) → AllByRecursion (HasBodyTexts true) bs → HasTexts rest → HasTexts (elements name k bs rest)
 texts-elements name [] k rest all r = r

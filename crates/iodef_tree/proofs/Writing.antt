@@ -1,62 +1,35 @@
 -- The text of a tree, member by member.
-use Rattle.std.proofs.Common.{◌≡◌, ℕ, suc, ◌+◌, ◌<◌, Bool, true, false, List, [], ◌∷◌, ◌++◌, map, length, drop, get_or, refl, sym, ◌∙◌, ap, append_assoc, if◌then◌else◌, true≢false, Option, Some, None}
+use Rattle.std.proofs.Common.{◌≡◌, ℕ, suc, ◌+◌, ◌<◌, Bool, true, false, List, [], ◌∷◌, ◌++◌, length, drop, get_or, refl, ap, append_assoc, if◌then◌else◌, Some, None, arith}
+use Rattle.std.proofs.lemmas.Grind.{common_steps}
 use Rattle.json.specs.Print.{quoted}
 use Rattle.serde_json.specs.Written.{comma_if}
 use Rattle.iodef_tree.specs.Text.{Bytes}
-use Rattle.iodef_tree.specs.Tree.{Forest, Body, holds, says, Bodies, one, many, in_front, elements, member_front}
-use Rattle.iodef_tree.specs.View.{forest_of_members, bodies, named, members_forest}
+use Rattle.iodef_tree.specs.Tree.{Forest, Body, Bodies, one, many, in_front, elements, member_front}
+use Rattle.iodef_tree.specs.View.{forest_of_members, bodies, members_forest}
 use Rattle.iodef_tree.specs.declared.text.Text.{Text}
 use Rattle.iodef_tree.specs.declared.object.Member.{Member}
 use Rattle.iodef_tree.proofs.Filled.{has_elements}
-use Rattle.iodef_tree.specs.Written.{front_text, goes_on, close_text, written, body_text, array_text, member_text}
+use Rattle.iodef_tree.specs.Written.{goes_on, close_text, written, array_text, member_text}
 use Rattle.iodef_tree.proofs.Members.{members-next}
-
-written-front : (later : Bool) (n : Bytes) (p : Option ℕ) (b : Body) (rest : Forest) →
-    written later (in_front n p b rest) ≡ front_text later n p ++ (body_text b ++ (close_text p rest ++ written true rest))
-written-front later n p (holds f) rest = refl
-written-front later n p (says c) rest = refl
-
-goes_on-front : (n : Bytes) (k : ℕ) (b : Body) (rest : Forest) → goes_on (in_front n (Some (suc k)) b rest) ≡ true
-goes_on-front n k (holds f) rest = refl
-goes_on-front n k (says c) rest = refl
 
 -- an array from its second element on
 written-elements : (n : Bytes) (k : ℕ) (bs : List Body) (rest : Forest) → goes_on rest ≡ false →
     close_text (Some k) (elements n (suc k) bs rest) ++ written true (elements n (suc k) bs rest) ≡ array_text true bs ++ written true rest
 written-elements n k [] rest fresh = ap (λ b. (if b then [] else 93 ∷ []) ++ written true rest) fresh
-written-elements n k (b ∷ bs) rest fresh =
-    let more = elements n (suc (suc k)) bs rest in
-    ap (λ c. (if c then [] else 93 ∷ []) ++ written true (in_front n (Some (suc k)) b more)) (goes_on-front n k b more)
-    ∙ written-front true n (Some (suc k)) b more
-    ∙ ap (λ s. 44 ∷ (body_text b ++ s)) (written-elements n (suc k) bs rest fresh)
-    ∙ ap (λ s. 44 ∷ s) (sym (append_assoc (body_text b) (array_text true bs) (written true rest)))
+written-elements n k (b ∷ bs) rest fresh = grind (arith, append_assoc, (written-elements n (suc k) bs rest fresh))
 
-front-append : (later : Bool) (n s t : Bytes) → (comma_if later ++ (quoted n ++ 58 ∷ s)) ++ t ≡ comma_if later ++ (quoted n ++ 58 ∷ (s ++ t))
-front-append later n s t =
-    append_assoc (comma_if later) (quoted n ++ 58 ∷ s) t ∙ ap (λ x. comma_if later ++ x) (append_assoc (quoted n) (58 ∷ s) t)
+pub named-front : (later : Bool) (n s t : Bytes) → (comma_if later ++ (quoted n ++ 58 ∷ s)) ++ t ≡ comma_if later ++ (quoted n ++ 58 ∷ (s ++ t))
+named-front later n s t = grind (arith, append_assoc)
 
 pub written-member : (later : Bool) (n : Bytes) (m : Bodies) (rest : Forest) → goes_on rest ≡ false → has_elements m ≡ true →
     written later (member_front n m rest) ≡ member_text later n m ++ written true rest
-written-member later n (one b) rest fresh filled =
-    written-front later n None b rest
-    ∙ front-append later n [] (body_text b ++ written true rest)
-    ∙ sym (front-append later n (body_text b) (written true rest))
-written-member later n (many []) rest fresh filled = absurd (true≢false (sym filled))
-written-member later n (many (b ∷ bs)) rest fresh filled =
-    let more = elements n 1 bs rest in
-    written-front later n (Some 0) b more
-    ∙ front-append later n (91 ∷ []) (body_text b ++ (close_text (Some 0) more ++ written true more))
-    ∙ ap (λ s. comma_if later ++ (quoted n ++ 58 ∷ 91 ∷ (body_text b ++ s))) (written-elements n 0 bs rest fresh)
-    ∙ ap (λ s. comma_if later ++ (quoted n ++ 58 ∷ 91 ∷ s)) (sym (append_assoc (body_text b) (array_text true bs) (written true rest)))
-    ∙ sym (front-append later n (91 ∷ (body_text b ++ array_text true bs)) (written true rest))
+written-member later n m rest fresh filled = grind (arith, append_assoc, named-front, written-elements)
 
 goes_on-one : (n : Bytes) (b : Body) (rest : Forest) → goes_on (in_front n None b rest) ≡ false
-goes_on-one n (holds f) rest = refl
-goes_on-one n (says c) rest = refl
+goes_on-one n b rest = grind arith
 
 goes_on-first : (n : Bytes) (b : Body) (rest : Forest) → goes_on (in_front n (Some 0) b rest) ≡ false
-goes_on-first n (holds f) rest = refl
-goes_on-first n (says c) rest = refl
+goes_on-first n b rest = grind arith
 
 -- no member begins amid an array
 pub goes_on-members : (ms : List (Bytes × Bodies)) → goes_on (forest_of_members ms) ≡ false
@@ -73,9 +46,4 @@ goes_on-members (m ∷ ms) = by_bodies m.1 (goes_on-members ms)
 pub write-member : (out new R : Bytes) (later : Bool) (xs : List (Text × Member)) (i : ℕ) (m : Text × Member) → i < length xs → m ≡ get_or xs i m →
     has_elements (bodies m.1) ≡ true → new ≡ out ++ member_text later m.0 (bodies m.1) → out ++ written later (members_forest (drop i xs)) ≡ R →
     new ++ written true (members_forest (drop (i + 1) xs)) ≡ R
-write-member out new R later xs i m h e filled made left =
-    let rest = members_forest (drop (i + 1) xs) in
-    ap (λ s. s ++ written true rest) made
-    ∙ append_assoc out (member_text later m.0 (bodies m.1)) (written true rest)
-    ∙ ap (λ s. out ++ s) (sym (ap (written later) (members-next xs i m h e) ∙ written-member later m.0 (bodies m.1) rest (goes_on-members (map named (drop (i + 1) xs))) filled))
-    ∙ left
+write-member out new R later xs i m h e filled made left = grind (arith, common_steps, append_assoc, goes_on-members, members-next, written-member)

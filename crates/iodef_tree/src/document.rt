@@ -75,6 +75,7 @@ impl Document {
     }
 
     /// The document with these lines. BadOutline exactly where they are no outline.
+    #[tactic(auto, using(crate::proofs::Steps::from_outline_steps))]
     pub fn from_outline(alloc: Global, lines: &[Line]) -> Result<Document, OutlineFault>
         ensures ok { IfOk result (λ d. (is_outline lines.now ≡ true) × (d ≡ lines.now)) }
         ensures err { IfErr result (λ e. e ≡ BadOutline → is_outline lines.now ≡ false) }
@@ -91,6 +92,7 @@ impl Document {
     }
 
     /// The lines of the document, in stored order: an outline, of which `from_outline` makes the document again.
+    #[tactic(auto, using(crate::proofs::Steps::outline_steps))]
     pub fn outline(&self, alloc: Global) -> Result<Vec<Line>, AllocError>
         ensures lines { IfOk result (λ v. v.items ≡ self.now) }
         ensures outline { IfOk result (λ v. is_outline v.items ≡ true) }
@@ -99,6 +101,7 @@ impl Document {
     }
 
     /// The document as compact JSON (RFC 8727 section 2).
+    #[tactic(auto, using(crate::proofs::Steps::text_steps))]
     pub fn text(&self, alloc: Global) -> Result<String, AllocError>
         ensures { IfOk result (λ s. string_bytes s ≡ compact_text (object (data_of self.now))) }
     {
@@ -106,6 +109,7 @@ impl Document {
     }
 
     /// The JSON object that the document is (RFC 8727 section 2).
+    #[tactic(auto, using(crate::proofs::Steps::value_steps))]
     pub fn value(&self, alloc: Global) -> Result<Value, AllocError>
         ensures { IfOk result (λ v. view v ≡ object (data_of self.now)) }
     {
@@ -124,6 +128,7 @@ impl Document {
     }
 
     /// The paths of the classes, in stored order.
+    #[tactic(auto, using(crate::proofs::Steps::classes_steps))]
     pub fn classes(&self, alloc: Global) -> Result<Vec<Path>, AllocError>
         ensures { IfOk result (λ v. v.items ≡ class_paths_of self.now) }
     {
@@ -131,6 +136,7 @@ impl Document {
     }
 
     /// Whether there is a class at the path; the root is none. Takes no memory.
+    #[tactic(auto, using(crate::proofs::Steps::has_class_steps))]
     pub fn has_class(&self, path: &Path) -> bool
         ensures { result ≡ has_class_at (located self.now) path.now }
     {

@@ -1,5 +1,6 @@
 //! The definitions computed on three small bodies, which stand in `specs/Examples.antt`: a wrong definition would show
 //! here, with no program between. Each is the contract of a function that does nothing.
+#![tactic(auto, unfolding(crate::proofs::Computed::computed))]
 
 ghost use Rattle.iodef_tree.specs.Examples.{
   ArraysAreSpread,

@@ -1,5 +1,6 @@
 //! What holds of every sound tree, and so of every document, and of every path, as the definitions of later crates stand
 //! on it. Each law is the contract of a function that does nothing.
+#![tactic(auto, using(crate::proofs::Proven::laws))]
 
 ghost use Rattle.std.specs.Prelude.{◌≡◌};
 ghost use Rattle.iodef_tree.specs.declared.TheConstants.{DEPTH_LIMIT, LINE_LIMIT, INCIDENT_LIMIT};

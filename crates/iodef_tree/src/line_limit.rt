@@ -1,4 +1,5 @@
 //! How many lines a tree has, against a limit.
+#![tactic(auto, using(crate::proofs::Counts::counting))]
 
 ghost use Rattle.std.specs.Prelude.{◌≡◌, ◌+◌, ◌<◌, IfSome, IfNone};
 ghost use Rattle.iodef_tree.specs.FitValues.{line_count, bodies_count, body_count};

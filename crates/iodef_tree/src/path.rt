@@ -81,6 +81,7 @@ impl Path {
     }
 
     /// Whether this is the path of the other one's class, or of a class above it; takes no memory.
+    #[tactic(auto, using(crate::proofs::Steps::is_prefix_of_steps))]
     pub fn is_prefix_of(&self, other: &Path) -> bool
         ensures { result ≡ is_prefix self.now other.now }
     {

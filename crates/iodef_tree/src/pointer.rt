@@ -73,6 +73,7 @@ fn is_written_otherwise(token: &str) -> bool
     found
 }
 
+#[tactic(auto, using(crate::proofs::Steps::push_escaped_steps))]
 fn push_escaped(pointer: &mut String, token: &str) -> Result<(), AllocError>
     ensures { OnOk result (string_bytes pointer.new ≡ string_bytes pointer.old ++ escaped token.now) }
 {

@@ -65,6 +65,7 @@ fn incidents_in(body: &Value) -> Option<&Vec<Value>>
     }
 }
 
+#[tactic(auto, using(crate::proofs::Steps::are_incidents_steps))]
 fn are_incidents(items: &Vec<Value>) -> bool
     ensures { result ≡ are_incidents (items_view items.now.items) }
 {
@@ -122,6 +123,7 @@ fn first_lacking(incident: &Value) -> Option<Required>
 }
 
 /// One pass tells whether there is any fault, and only then each is looked for.
+#[tactic(auto, using(crate::proofs::Steps::check_values_steps))]
 fn check_values(alloc: Global, body: &Value) -> Result<(), ReadFault>
     requires { nesting (view body.now) ≤ max_depth }
     ensures { Returns (λ _. tt) result (all_fit (view body.now)) }
@@ -150,6 +152,7 @@ fn find_fault(alloc: Global, body: &Value) -> Result<(), ReadFault>
 }
 
 /// The members of the root, null standing in place of the Incidents, and the array of these.
+#[tactic(auto, using(crate::proofs::Steps::take_incidents_steps))]
 fn take_incidents(
     alloc: Global,
     body: Value,
@@ -180,6 +183,7 @@ fn array_in(value: Value) -> Option<Vec<Value>>
     }
 }
 
+#[tactic(auto, using(crate::proofs::Steps::documents_from_steps))]
 fn documents_from(
     alloc: Global,
     root: Map<String, Value>,
@@ -214,6 +218,7 @@ fn documents_beside(
     Ok(all)
 }
 
+#[tactic(auto, using(crate::proofs::Steps::document_from_steps))]
 fn document_from(
     alloc: Global,
     mut root: Map<String, Value>,

@@ -1,4 +1,5 @@
 //! The values of a body that no document can hold.
+#![tactic(auto, using(crate::proofs::Seeking::seeking))]
 
 ghost use Rattle.std.specs.Prelude.{◌≡◌, ◌+◌, ◌<◌, ◌^◌, not, IfOk, option_map};
 ghost use Rattle.serde_json.specs.Data.{depth as nesting, items_depth, members_depth};

@@ -90,6 +90,7 @@ fn read_value(alloc: Global, text: &Text) -> Result<Value, AllocError>
 }
 
 /// The member as compact JSON.
+#[tactic(auto, using(crate::proofs::Steps::member_text_steps))]
 pub(crate) fn member_text(alloc: Global, member: &Member) -> Result<String, AllocError>
     requires kept { AreKept (bodies member.now) }
     requires filled { IsMemberFilled member.now }
@@ -157,6 +158,7 @@ fn zeroth(member: &Member) -> Option<&Object>
 }
 
 /// The member `IncidentID` of what stands at `/Incident/0`.
+#[tactic(auto, using(crate::proofs::Steps::id_in_steps))]
 pub(crate) fn id_in(root: &Object) -> Option<&Member>
     requires kept { IsKept (forest root.now) }
     requires filled { IsFilled root.now }

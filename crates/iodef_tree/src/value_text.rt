@@ -25,6 +25,7 @@ pub(crate) fn is_value_text(alloc: Global, in_array: bool, text: &str) -> Result
     }
 }
 
+#[tactic(auto, using(crate::proofs::Steps::is_text_of_steps))]
 fn is_text_of(alloc: Global, in_array: bool, value: &Value, text: &str) -> Result<bool, AllocError>
     ensures { IfOk result (λ b. b ≡ (may_be_value in_array (view value.now)
         && bytes_eq (compact_text (view value.now)) text.now)) }

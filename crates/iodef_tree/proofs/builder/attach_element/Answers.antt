@@ -1,8 +1,8 @@
-use Rattle.std.proofs.Common.{◌≡◌, List, [], ◌∷◌, ◌++◌, true, false, sym, ◌∙◌, ap, subst, None, Some, bytes_eq}
+use Rattle.std.proofs.Common.{◌≡◌, List, [], ◌∷◌, ◌++◌, true, sym, ◌∙◌, ap, subst, arith}
 use Rattle.std.proofs.lemmas.Slice.Eq.{bytes_eq-Decides}
 use Rattle.iodef_tree.specs.Text.{Bytes}
-use Rattle.iodef_tree.specs.View.{body, members_forest}
-use Rattle.iodef_tree.specs.Built.{is_numbered, last_place, IsGrown, Grows}
+use Rattle.iodef_tree.specs.View.{body}
+use Rattle.iodef_tree.specs.Built.{IsGrown, Grows}
 use Rattle.iodef_tree.specs.declared.text.Text.{Text}
 use Rattle.iodef_tree.specs.declared.object.Member.{Member}
 use Rattle.iodef_tree.specs.declared.object.Member.TheVariants.{Many}
@@ -10,9 +10,7 @@ use Rattle.iodef_tree.proofs.Growing.{grows-element, first-behind_one, first-beh
 use Rattle.iodef_tree.proofs.builder.attach_element.Goals as goal
 
 pub attach_array-requires-in-One-clause-first : goal.attach_array-requires-in-One-clause-first
-attach_array-requires-in-One-clause-first c =
-    subst (λ (ms : List (Text × Member)). is_numbered (last_place None (members_forest ms)) c.args.name (Some 0) ≡ true) (sym c.in_ok-push-in-One.ensures.items)
-    (first-behind_one c.pop.new.self.items c.in-Some.last c.in-One.one c.args.name)
+attach_array-requires-in-One-clause-first c = grind (arith, first-behind_one)
 
 pub returns-then-eq : goal.returns-then-eq
 returns-then-eq c =
@@ -30,13 +28,4 @@ returns-then-eq c =
     (grows-element P last c.args.item items c.push-then-eq.new.self c.in_ok-push-in-Many.ensures.items grown c.requires.numbered c.requires.filled)))
 
 pub attach_array-requires-in-Many-clause-first : goal.attach_array-requires-in-Many-clause-first
-attach_array-requires-in-Many-clause-first c =
-    let P = c.pop.new.self.items in
-    let last = c.in-Some.last in
-    let items = c.in-Many.items in
-    let was : c.args.members.items ≡ P ++ (last, Many items) ∷ [] = c.in-Some.ensures.items ∙ ap (λ (m : Member). let e : Text × Member = (last, m) in P ++ e ∷ []) c.in-Many.is in
-    let grown : IsGrown (P ++ (last, Many items) ∷ []) = subst IsGrown was c.requires.grown in
-    let differs : bytes_eq last c.args.name ≡ false =
-    ap (λ (n : Bytes). bytes_eq n c.args.name) (sym c.as_str.ensures) ∙ ap (bytes_eq c.as_str.result.now) (sym c.as_str-in-Many.ensures) ∙ sym c.eq.ensures ∙ c.if-eq.false in
-    subst (λ (ms : List (Text × Member)). is_numbered (last_place None (members_forest ms)) c.args.name (Some 0) ≡ true) (sym c.in_ok-push-in-Many-3.ensures.items)
-    (first-behind_many P last items c.args.name grown differs)
+attach_array-requires-in-Many-clause-first c = grind (arith, first-behind_many)

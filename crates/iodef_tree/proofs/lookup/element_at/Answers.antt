@@ -19,10 +19,7 @@ got items k None h is =
 got items k (Some x) h is = let lt : k < length items = grind (arith, nat_tests) in ap (λ y. Some (body y)) is ∙ sym (within items k x.now lt)
 
 pub returns-in_err-place_of_token-clause-found : goal.returns-in_err-place_of_token-clause-found
-returns-in_err-place_of_token-clause-found c =
-    let none = c.in_err-place_of_token.ensures.none in
-    ap (option_map (λ i. body i.now)) c.from_residual.ensures
-    ∙ sym (element-none (map body c.args.items.now) c.args.token.now 0 (omega (arith, length-map c.args.items.now body)) none)
+returns-in_err-place_of_token-clause-found c = grind (arith, element-none, length-map)
 
 pub returns-clause-found : goal.returns-clause-found
 returns-clause-found c =

@@ -1,4 +1,4 @@
-use Rattle.std.proofs.Common.{◌≡◌, true, sym, ◌∙◌, ap, bytes_eq}
+use Rattle.std.proofs.Common.{◌≡◌, true, sym, ◌∙◌, ap, bytes_eq, arith}
 use Rattle.iodef_tree.proofs.Filled.{member-at}
 use Rattle.iodef_tree.proofs.Members.{found-here, not-here, other-here}
 use Rattle.iodef_tree.proofs.lookup.item_at.Goals.{then-eq+else-is_some, else-eq}
@@ -26,5 +26,4 @@ loop-own-preserved c = elim c.if-eq.branch [
 ]
 
 pub part_of-part-requires : goal.part_of-part-requires
-part_of-part-requires c =
-    member-at c.args.object.now c.deref-own-items.result.now c.loop-own.own-index c.loop-own-item.result c.requires c.deref-own-items.ensures.value c.loop-own-test.true c.loop-own-item.is
+part_of-part-requires c = grind (arith, member-at)

@@ -1,4 +1,4 @@
-use Rattle.std.proofs.Common.{◌≡◌, ℕ, ◌<◌, ◌^◌, false, Option, Some, None, Result, decimal, sym, ◌∙◌, ap, true≢false, bytes_eq}
+use Rattle.std.proofs.Common.{◌≡◌, ℕ, ◌<◌, ◌^◌, false, Option, Some, None, Result, decimal, sym, ◌∙◌, ap, true≢false, bytes_eq, arith}
 use Rattle.std.specs.Result.{result_ok}
 use Rattle.std.specs.Str.Parse.{ParsesUnsigned}
 use Rattle.std.proofs.lemmas.Fmt.{parse-decimal}
@@ -22,10 +22,7 @@ misread token r o place digits parses is some written differ k small spelled =
     true≢false (sym (bytes_eq-refl digits) ∙ ap (bytes_eq digits) text ∙ differ)
 
 pub returns-in_err-place-clause-none : goal.returns-in_err-place-clause-none
-returns-in_err-place-clause-none c =
-    rw c.from_residual.ensures (unread c.args.token.now c.parse.result c.ok.result c.parse.ensures.value.0 c.ok.ensures.value c.in_err-place.was)
+returns-in_err-place-clause-none c = grind (arith, unread)
 
 pub returns-else-eq-clause-none : goal.returns-else-eq-clause-none
-returns-else-eq-clause-none c =
-    misread c.args.token.now c.parse.result c.ok.result c.in_ok-place.place c.format.result.now c.parse.ensures.value.0 c.ok.ensures.value c.in_ok-place.was c.format.ensures.text
-    (sym c.eq.ensures ∙ c.if-eq.false)
+returns-else-eq-clause-none c = grind (arith, misread)

@@ -1,5 +1,6 @@
-use Rattle.std.proofs.Common.{rules, ◌≡◌, ap, sym, ◌∙◌, ◌++◌, arith, string_bytes, Bool, false, Some, None, encode_utf8}
+use Rattle.std.proofs.Common.{rules, ◌≡◌, ap, sym, ◌∙◌, arith, string_bytes, Bool, false, Some, None}
 use Rattle.std.specs.Str.Iter.{chars_rest}
+use Rattle.std.proofs.lemmas.Grind.{common_steps}
 use Rattle.iodef_tree.specs.Pointer.{unescaped_from}
 use Rattle.iodef_tree.proofs.Unescaping.{made_then, made_then-nil, plain_step, tilde_step, code_step, no_code_step}
 use Rattle.iodef_tree.proofs.pointer.read_token.Goals as goal
@@ -22,14 +23,7 @@ loop-c-preserved-then-behind_tilde c =
     (ap read (sym c.if-behind_tilde.true) ∙ c.loop-c.invariant)
 
 pub loop-c-preserved-then-c-eq126 : goal.loop-c-preserved-then-c-eq126
-loop-c-preserved-then-c-eq126 c =
-    let read = λ (b : Bool). made_then (string_bytes c.loop-c.token) (unescaped_from b (chars_rest c.loop-c.c-iterator)) in
-    tilde_step (string_bytes c.loop-c.token) _ (chars_rest c.next.new.self) _ c.in-Some.c c.in-Some.ensures.steps.0 c.if-c-eq126.true (ap read (sym c.if-behind_tilde.false) ∙ c.loop-c.invariant)
+loop-c-preserved-then-c-eq126 c = grind (arith, common_steps, tilde_step)
 
 pub loop-c-preserved : goal.loop-c-preserved
-loop-c-preserved c =
-    let kept = string_bytes c.loop-c.token in
-    let rest = chars_rest c.next.new.self in
-    let read = λ (b : Bool). made_then kept (unescaped_from b (chars_rest c.loop-c.c-iterator)) in
-    ap (λ b. made_then b (unescaped_from c.loop-c.behind_tilde rest)) c.in_ok-push-2.ensures.bytes ∙ ap (λ b. made_then (kept ++ encode_utf8 c.in-Some.c) (unescaped_from b rest)) c.if-behind_tilde.false
-    ∙ plain_step kept _ rest _ c.in-Some.c c.in-Some.ensures.steps.0 c.if-c-eq126.false (ap read (sym c.if-behind_tilde.false) ∙ c.loop-c.invariant)
+loop-c-preserved c = grind (arith, plain_step)

@@ -1,11 +1,12 @@
-use Rattle.std.proofs.Common.{◌≡◌, sym, ◌∙◌, subst, Ok}
+use Rattle.std.proofs.Common.{◌≡◌, sym, ◌∙◌, subst, Ok, arith}
 use Rattle.serde_json.specs.View.{view, items_view, members_view}
 use Rattle.iodef_tree.specs.FitValues.{IsFit, AreFit}
-use Rattle.iodef_tree.specs.Reading.{Fails, documents, document_of, if_short}
+use Rattle.iodef_tree.specs.Reading.{documents, document_of, if_short}
 use Rattle.iodef_tree.specs.Tree.{lines}
 use Rattle.std.specs.Vec.Iter.{into_iter_items}
+use Rattle.std.proofs.lemmas.Grind.{common_steps}
 use Rattle.iodef_tree.proofs.Exchanged.{cloned}
-use Rattle.iodef_tree.proofs.DocumentLists.{with_front, gives_err, failed, next}
+use Rattle.iodef_tree.proofs.DocumentLists.{with_front, failed, next}
 use Rattle.iodef_tree.proofs.read.documents_beside.Goals as goal
 
 pub document_from-requires : goal.document_from-requires
@@ -15,12 +16,7 @@ document_from-requires c =
     subst (λ ms. IsFit ms (view c.in-Some.incident)) (sym same) fit.0
 
 pub returns-in_err-document : goal.returns-in_err-document
-returns-in_err-document c =
-    let same = cloned c.args.root.now.entries c.in_ok-clone.field-0.entries c.in_ok-clone.ensures.cases in
-    let here = subst (λ ms. Fails c.in_err-document.field-0.0 (if_short (lines 1 (document_of (view c.in-Some.incident) ms)))) same c.in_err-document.ensures in
-    let all = failed (members_view c.args.root.now.entries) (into_iter_items c.next.new.self) c.in-Some.incident c.loop-incident.all.items c.in_err-document.field-0.0 here in
-    let left = subst (λ vs. with_front c.loop-incident.all.items (documents (members_view c.args.root.now.entries) (items_view vs)) ≡ documents (members_view c.args.root.now.entries) (items_view c.args.incidents.items)) c.in-Some.ensures.steps.0 c.loop-incident.invariant.left in
-    gives_err (λ v. v.items) c.in_err-document.field-0.0 c.from_residual-in_err-document.result (documents (members_view c.args.root.now.entries) (items_view c.args.incidents.items)) c.from_residual-in_err-document.ensures.1 (subst (Fails c.in_err-document.field-0.0) left all)
+returns-in_err-document c = grind (arith, common_steps, cloned, failed, next)
 
 pub loop-incident-preserved : goal.loop-incident-preserved
 loop-incident-preserved c =

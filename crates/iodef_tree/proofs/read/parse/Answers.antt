@@ -1,5 +1,6 @@
-use Rattle.std.proofs.Common.{◌≡◌, List, ℕ, Bool, true, false, cond, None, Err, refl, ap, rules, IsUtf8}
+use Rattle.std.proofs.Common.{◌≡◌, List, ℕ, None, Err, refl, ap, rules, IsUtf8}
 use Rattle.std.specs.Str.{is_utf8}
+use Rattle.std.proofs.lemmas.Bool.{cond_both}
 use Rattle.std.proofs.lemmas.Str.{is_utf8-from_IsUtf8, IsUtf8-from_is_utf8}
 use Rattle.serde_json.specs.Read.{read}
 use Rattle.iodef_tree.specs.Reading.{parsed, or_fault}
@@ -7,11 +8,7 @@ use Rattle.iodef_tree.specs.declared.fault.ReadFault.TheVariants.{NotJson}
 use Rattle.iodef_tree.proofs.read.parse.Goals as goal
 
 refused : (bytes : List ℕ) → (IsUtf8 bytes → read bytes ≡ None) → parsed bytes ≡ Err NotJson
-refused bytes h = step (is_utf8 bytes) (λ e. h (IsUtf8-from_is_utf8 bytes e))
-  where
-    step : (b : Bool) → (b ≡ true → read bytes ≡ None) → or_fault NotJson (cond b (read bytes) None) ≡ Err NotJson
-    step true k = ap (or_fault NotJson) (k refl)
-    step false k = refl
+refused bytes h = cond_both (is_utf8 bytes) (read bytes) None (λ o. or_fault NotJson o ≡ Err NotJson) (λ e. ap (or_fault NotJson) (h (IsUtf8-from_is_utf8 bytes e))) (λ _. refl)
 
 pub returns-in-Ok-clause-gives : goal.returns-in-Ok-clause-gives
 returns-in-Ok-clause-gives c = rw (is_utf8-from_IsUtf8 _ c.in-Ok.ensures.ok.0, c.in-Ok.ensures.ok.1)

@@ -1,20 +1,13 @@
-use Rattle.std.proofs.Common.{◌≡◌, true, sym, ◌∙◌, ap, bytes_eq}
-use Rattle.serde_json.specs.Find.{get_member}
+use Rattle.std.proofs.Common.{◌≡◌, true, false, sym, ◌∙◌, ap, bytes_eq, arith}
+use Rattle.std.proofs.lemmas.Grind.{common_steps}
 use Rattle.iodef_tree.specs.SoundParts.{AreKept}
-use Rattle.iodef_tree.specs.Written.{members_of}
 use Rattle.iodef_tree.proofs.Data.{all-left}
 use Rattle.iodef_tree.proofs.Filled.{member-at, member-elements}
-use Rattle.iodef_tree.proofs.MembersByName.{object-members, kept-members, member-found, member-other}
+use Rattle.iodef_tree.proofs.MembersByName.{object-members, kept-members, member-next}
 use Rattle.iodef_tree.proofs.value.member_named.Goals as goal
 
 pub loop-own-init : goal.loop-own-init
-loop-own-init c =
-    let o = c.args.object.now in
-    let xs = c.deref-own-items.result.now in
-    record {
-      left = ap (λ f. get_member c.args.name.now (members_of f)) (object-members o xs c.deref-own-items.ensures.value);
-      kept = kept-members o xs c.requires.kept c.deref-own-items.ensures.value;
-    }
+loop-own-init c = grind (arith, kept-members, object-members)
 
 pub returns-then-eq-clause-found : goal.returns-then-eq-clause-found
 returns-then-eq-clause-found c =
@@ -23,15 +16,13 @@ returns-then-eq-clause-found c =
     let i = c.loop-own.own-index in
     let filled = member-elements m.1 (member-at c.args.object.now xs i m c.requires.filled c.deref-own-items.ensures.value c.loop-own-test.true c.loop-own-item.is) in
     let named : bytes_eq m.0 c.args.name.now ≡ true = ap (λ x. bytes_eq x c.args.name.now) (sym c.as_str.ensures) ∙ sym c.eq.ensures ∙ c.if-eq.true in
-    member-found c.args.name.now xs i m c.loop-own-test.true c.loop-own-item.is named filled ∙ c.loop-own.invariant.left
+    sym (member-next c.args.name.now xs i m true c.loop-own-test.true c.loop-own-item.is named filled) ∙ c.loop-own.invariant.left
 
 pub returns-then-eq-clause-kept : goal.returns-then-eq-clause-kept
-returns-then-eq-clause-kept c =
-    (all-left (λ x. AreKept x.1) c.deref-own-items.result.now c.loop-own.own-index c.loop-own-item.result c.loop-own-test.true c.loop-own-item.is c.loop-own.invariant.kept).0
+returns-then-eq-clause-kept c = grind (arith, common_steps, all-left)
 
 pub returns-then-eq-clause-filled : goal.returns-then-eq-clause-filled
-returns-then-eq-clause-filled c =
-    member-at c.args.object.now c.deref-own-items.result.now c.loop-own.own-index c.loop-own-item.result c.requires.filled c.deref-own-items.ensures.value c.loop-own-test.true c.loop-own-item.is
+returns-then-eq-clause-filled c = grind (arith, member-at)
 
 pub loop-own-preserved : goal.loop-own-preserved
 loop-own-preserved c =
@@ -42,7 +33,7 @@ loop-own-preserved c =
     let filled = member-elements m.1 (member-at c.args.object.now xs i m c.requires.filled c.deref-own-items.ensures.value c.loop-own-test.true c.loop-own-item.is) in
     record {
       left =
-          member-other k xs i m c.loop-own-test.true c.loop-own-item.is (ap (λ x. bytes_eq x k) (sym c.as_str.ensures) ∙ sym c.eq.ensures ∙ c.if-eq.false) filled
+          sym (member-next k xs i m false c.loop-own-test.true c.loop-own-item.is (ap (λ x. bytes_eq x k) (sym c.as_str.ensures) ∙ sym c.eq.ensures ∙ c.if-eq.false) filled)
           ∙ c.loop-own.invariant.left;
       kept = (all-left (λ x. AreKept x.1) xs i m c.loop-own-test.true c.loop-own-item.is c.loop-own.invariant.kept).1;
     }

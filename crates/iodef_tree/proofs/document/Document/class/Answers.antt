@@ -1,4 +1,4 @@
-use Rattle.std.proofs.Common.{◌≡◌, Bor, Option, Some, None, option_map, [], IfSome}
+use Rattle.std.proofs.Common.{◌≡◌, Bor, Option, Some, None, option_map, [], IfSome, arith}
 use Rattle.iodef_tree.specs.Lookup.{object_at}
 use Rattle.iodef_tree.specs.Paths.{located}
 use Rattle.iodef_tree.specs.Sound.{IsSound}
@@ -21,5 +21,4 @@ returns-clause-found c =
     rw (← c.tokens.ensures, ← c.self.view_is) (found-onward f c.tokens.result.now c.object_at.result c.object_at.ensures.found (located (lines 1 f)) [] (root-stands f c.self.invariant.0))
 
 pub returns-clause-block : goal.returns-clause-block
-returns-clause-block c =
-    rw (← c.tokens.ensures, ← c.self.view_is) (block_of (forest c.self.inside.root) c.tokens.result.now c.object_at.result c.self.invariant.0 c.object_at.ensures.found)
+returns-clause-block c = grind (arith, block_of)

@@ -1,0 +1,7 @@
+-- What the examples compute with.
+use Rattle.std.specs.Fmt.{digits}
+use Rattle.serde_json.proofs.OnLiterals.{serde_json_on_literals}
+
+unfoldable pub computed : Unit {0}
+unfolding serde_json_on_literals digits
+computed = tt

@@ -1,0 +1,52 @@
+-- The lemmas that a function's goals follow from with no answer, by its name.
+use Rattle.std.proofs.lemmas.Grind.{common_steps}
+use Rattle.std.proofs.Common.{append_assoc}
+use Rattle.std.proofs.lemmas.Bool.{eqb-true, not-true}
+use Rattle.std.proofs.lemmas.Bool.Decides.{nat_tests}
+use Rattle.std.proofs.lemmas.List.{take_all, nil_from_length}
+use Rattle.std.proofs.lemmas.Result.{IfOk-weaker}
+use Rattle.serde_json.proofs.Views.{view-Object, items_len-items_view}
+use Rattle.iodef_tree.proofs.Accepted.{lines-outline}
+use Rattle.iodef_tree.proofs.ByPath.{has_class-root}
+use Rattle.iodef_tree.proofs.ClassesBelow.{classes-lines}
+use Rattle.iodef_tree.proofs.DocumentLists.{fit_parts, failed_front, gives_err, failed_last, last_done, room_lacks, too_long, room_kept, sound, short_enough}
+use Rattle.iodef_tree.proofs.Exchanged.{taken_none, taken_some, put_in}
+use Rattle.iodef_tree.proofs.Fitness.{plain_at_once}
+use Rattle.iodef_tree.proofs.Meaning.{text-is, data-is}
+use Rattle.iodef_tree.proofs.MembersByName.{id-found, kept-ordered}
+use Rattle.iodef_tree.proofs.NoFloat.{kept-whole, value-no_float}
+use Rattle.iodef_tree.proofs.Order.{starts_with-is_prefix}
+use Rattle.iodef_tree.proofs.Outlines.{no-outline, back-upto, upto, outline-back}
+use Rattle.iodef_tree.proofs.Pointers.{escaped-append, escaped-encode}
+
+pub ruleset from_outline_steps = (common_steps, no-outline, back-upto, upto, outline-back, take_all)
+
+pub ruleset outline_steps = (common_steps, IfOk-weaker, lines-outline)
+
+pub ruleset text_steps = (common_steps, IfOk-weaker, text-is)
+
+pub ruleset value_steps = (common_steps, data-is, view-Object)
+
+pub ruleset classes_steps = (common_steps, classes-lines)
+
+pub ruleset has_class_steps = (common_steps, eqb-true, has_class-root, nil_from_length)
+
+pub ruleset is_prefix_of_steps = (common_steps, starts_with-is_prefix)
+
+pub ruleset push_escaped_steps = (common_steps, append_assoc, escaped-append, escaped-encode)
+
+pub ruleset are_incidents_steps = (common_steps, nat_tests, items_len-items_view)
+
+pub ruleset check_values_steps = (common_steps, not-true, plain_at_once)
+
+pub ruleset take_incidents_steps = (common_steps, taken_none, taken_some)
+
+pub ruleset documents_from_steps = (common_steps, fit_parts, failed_front, gives_err, failed_last, last_done)
+
+pub ruleset document_from_steps = (common_steps, put_in, room_lacks, too_long, room_kept, sound, short_enough)
+
+pub ruleset id_in_steps = (common_steps, id-found)
+
+pub ruleset member_text_steps = (common_steps, kept-ordered, IfOk-weaker, kept-whole)
+
+pub ruleset is_text_of_steps = (common_steps, value-no_float)
