@@ -12,10 +12,10 @@ ghost use Rattle.hub_core.specs.Orders.{named_cmp};
 ghost use Rattle.hub_core.specs.declared.state.Incident.{Incident};
 ghost use Rattle.hub_core.specs.Reads.{case_gate, case_permission, entries_after, entry_of, incidents_above};
 
+use crate::in_order::{rows_alike, rows_of};
 use crate::lists::Lists;
 use crate::reply::Entry;
 use crate::request::Target;
-use crate::row::{rows_alike, rows_of};
 use crate::rows::{Named, PlacedGate, PlacedPermission};
 use crate::state::{Incident, Recipient};
 use iodef_tree::Path;
