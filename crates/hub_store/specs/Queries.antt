@@ -18,7 +18,7 @@ pub record HasShown {S : Type 0} (g : store.Ghosts S) (text : List ℕ) (params 
   pub shown : Shown text params (state g mid) (state g new) rows
 
 -- A read in a transaction: it commits nothing, after an Ok all is as it was, and the answer is right of the state that the tables stand for.
-pub record IsRead {T : Type 0} (old new : State) (Right : core.State → T → Type 0) (result : Result T Error) : Type 0 where
+pub record IsReadInside {T : Type 0} (old new : State) (Right : core.State → T → Type 0) (result : Result T Error) : Type 0 where
   pub survives : Survives old new (λ _. ⊥)
   pub kept : HasCleanDisk new → Knows old → KeepsCommit old new
   pub same : HasCleanDisk new → Knows old → OnOk result (IsUnchanged old new)

@@ -3,7 +3,7 @@
 ghost use Rattle.std.specs.Prelude.{◌≡◌, IfOk};
 ghost use Rattle.sqlite.specs.Held.{state};
 ghost use Rattle.circle.specs.Directory.{has_client, has_membership, has_connection, has_arrangement, has_extender};
-ghost use Rattle.hub_store.specs.Asked.{IsRead};
+ghost use Rattle.hub_store.specs.Queries.{IsReadInside};
 ghost use Rattle.hub_store.specs.FirstShown.{ShowsFlagOrFalse};
 
 use crate::ask_pairs::ask_between;
@@ -17,7 +17,7 @@ pub(crate) fn read_has_client<S: Alter>(
     client: u32,
 ) -> Result<bool, Error>
     ensures same_reference { tx.new.conn.ghost_name ≡ tx.old.conn.ghost_name }
-    ensures read { IsRead (state S.Store tx.old.conn.now) (state S.Store tx.new.conn.now) (λ s found. found ≡ has_client org client s.directory) result }
+    ensures read { IsReadInside (state S.Store tx.old.conn.now) (state S.Store tx.new.conn.now) (λ s found. found ≡ has_client org client s.directory) result }
 {
     read_has_pair(tx, PairKind::Client, org, client)
 }
@@ -28,7 +28,7 @@ pub(crate) fn read_has_membership<S: Alter>(
     org: u32,
 ) -> Result<bool, Error>
     ensures same_reference { tx.new.conn.ghost_name ≡ tx.old.conn.ghost_name }
-    ensures read { IsRead (state S.Store tx.old.conn.now) (state S.Store tx.new.conn.now) (λ s found. found ≡ has_membership community org s.directory) result }
+    ensures read { IsReadInside (state S.Store tx.old.conn.now) (state S.Store tx.new.conn.now) (λ s found. found ≡ has_membership community org s.directory) result }
 {
     read_has_pair(tx, PairKind::Membership, community, org)
 }
@@ -39,7 +39,7 @@ pub(crate) fn read_has_connection<S: Alter>(
     high: u32,
 ) -> Result<bool, Error>
     ensures same_reference { tx.new.conn.ghost_name ≡ tx.old.conn.ghost_name }
-    ensures read { IsRead (state S.Store tx.old.conn.now) (state S.Store tx.new.conn.now) (λ s found. found ≡ has_connection low high s.directory) result }
+    ensures read { IsReadInside (state S.Store tx.old.conn.now) (state S.Store tx.new.conn.now) (λ s found. found ≡ has_connection low high s.directory) result }
 {
     read_has_pair(tx, PairKind::Connection, low, high)
 }
@@ -50,7 +50,7 @@ pub(crate) fn read_has_arrangement<S: Alter>(
     org: u32,
 ) -> Result<bool, Error>
     ensures same_reference { tx.new.conn.ghost_name ≡ tx.old.conn.ghost_name }
-    ensures read { IsRead (state S.Store tx.old.conn.now) (state S.Store tx.new.conn.now) (λ s found. found ≡ has_arrangement source org s.directory) result }
+    ensures read { IsReadInside (state S.Store tx.old.conn.now) (state S.Store tx.new.conn.now) (λ s found. found ≡ has_arrangement source org s.directory) result }
 {
     read_has_pair(tx, PairKind::Arrangement, source, org)
 }
@@ -70,7 +70,7 @@ pub(crate) fn read_has_extender<S: Alter>(
     org: u32,
 ) -> Result<bool, Error>
     ensures same_reference { tx.new.conn.ghost_name ≡ tx.old.conn.ghost_name }
-    ensures read { IsRead (state S.Store tx.old.conn.now) (state S.Store tx.new.conn.now) (λ s found. found ≡ has_extender group org s.directory) result }
+    ensures read { IsReadInside (state S.Store tx.old.conn.now) (state S.Store tx.new.conn.now) (λ s found. found ≡ has_extender group org s.directory) result }
 {
     let rows = ask_between(tx, PairKind::GroupMember, group, org)?;
     is_flagged(&rows)

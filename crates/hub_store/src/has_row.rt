@@ -4,7 +4,7 @@ ghost use Rattle.std.specs.Prelude.{◌≡◌, ◌==◌, not, false};
 ghost use Rattle.std.specs.Option.{option_map_or};
 ghost use Rattle.sqlite.specs.Held.{state};
 ghost use Rattle.circle.specs.Directory.{has_org_named, has_community_named, has_group_named, has_key, has_suspended, has_nominated, has_person_of, has_group_of, has_group_being, same_flag};
-ghost use Rattle.hub_store.specs.Asked.{IsRead};
+ghost use Rattle.hub_store.specs.Queries.{IsReadInside};
 
 use crate::any_row::is_any;
 use crate::find_groups::read_group;
@@ -20,7 +20,7 @@ pub(crate) fn read_has_org_named<S: Alter>(
     name: &str,
 ) -> Result<bool, Error>
     ensures same_reference { tx.new.conn.ghost_name ≡ tx.old.conn.ghost_name }
-    ensures read { IsRead (state S.Store tx.old.conn.now) (state S.Store tx.new.conn.now) (λ s found. found ≡ has_org_named name.now s.directory) result }
+    ensures read { IsReadInside (state S.Store tx.old.conn.now) (state S.Store tx.new.conn.now) (λ s found. found ≡ has_org_named name.now s.directory) result }
 {
     let rows = ask(tx, "SELECT number FROM org WHERE name = ?1", params![name])?;
     Ok(is_any(&rows))
@@ -31,7 +31,7 @@ pub(crate) fn read_has_community_named<S: Alter>(
     name: &str,
 ) -> Result<bool, Error>
     ensures same_reference { tx.new.conn.ghost_name ≡ tx.old.conn.ghost_name }
-    ensures read { IsRead (state S.Store tx.old.conn.now) (state S.Store tx.new.conn.now) (λ s found. found ≡ has_community_named name.now s.directory) result }
+    ensures read { IsReadInside (state S.Store tx.old.conn.now) (state S.Store tx.new.conn.now) (λ s found. found ≡ has_community_named name.now s.directory) result }
 {
     let rows = ask(
         tx,
@@ -47,7 +47,7 @@ pub(crate) fn read_has_group_named<S: Alter>(
     name: &str,
 ) -> Result<bool, Error>
     ensures same_reference { tx.new.conn.ghost_name ≡ tx.old.conn.ghost_name }
-    ensures read { IsRead (state S.Store tx.old.conn.now) (state S.Store tx.new.conn.now) (λ s found. found ≡ has_group_named owner name.now s.directory) result }
+    ensures read { IsReadInside (state S.Store tx.old.conn.now) (state S.Store tx.new.conn.now) (λ s found. found ≡ has_group_named owner name.now s.directory) result }
 {
     let rows = ask(
         tx,
@@ -63,7 +63,7 @@ pub(crate) fn read_has_key<S: Alter>(
     key: &[u8; 32],
 ) -> Result<bool, Error>
     ensures same_reference { tx.new.conn.ghost_name ≡ tx.old.conn.ghost_name }
-    ensures read { IsRead (state S.Store tx.old.conn.now) (state S.Store tx.new.conn.now) (λ s found. found ≡ has_key key.now s.directory) result }
+    ensures read { IsReadInside (state S.Store tx.old.conn.now) (state S.Store tx.new.conn.now) (λ s found. found ≡ has_key key.now s.directory) result }
 {
     let found = read_person(tx, alloc, key)?;
     Ok(found.is_some())
@@ -84,7 +84,7 @@ pub(crate) fn read_has_suspended<S: Alter>(
     person: u32,
 ) -> Result<bool, Error>
     ensures same_reference { tx.new.conn.ghost_name ≡ tx.old.conn.ghost_name }
-    ensures read { IsRead (state S.Store tx.old.conn.now) (state S.Store tx.new.conn.now) (λ s found. found ≡ has_suspended person s.directory) result }
+    ensures read { IsReadInside (state S.Store tx.old.conn.now) (state S.Store tx.new.conn.now) (λ s found. found ≡ has_suspended person s.directory) result }
 {
     let found = read_person_of(tx, alloc, person)?;
     Ok(is_suspended(&found))
@@ -105,7 +105,7 @@ pub(crate) fn read_has_nominated<S: Alter>(
     person: u32,
 ) -> Result<bool, Error>
     ensures same_reference { tx.new.conn.ghost_name ≡ tx.old.conn.ghost_name }
-    ensures read { IsRead (state S.Store tx.old.conn.now) (state S.Store tx.new.conn.now) (λ s found. found ≡ has_nominated person s.directory) result }
+    ensures read { IsReadInside (state S.Store tx.old.conn.now) (state S.Store tx.new.conn.now) (λ s found. found ≡ has_nominated person s.directory) result }
 {
     let found = read_person_of(tx, alloc, person)?;
     Ok(is_nominated(&found))
@@ -127,7 +127,7 @@ pub(crate) fn read_has_person_of<S: Alter>(
     org: u32,
 ) -> Result<bool, Error>
     ensures same_reference { tx.new.conn.ghost_name ≡ tx.old.conn.ghost_name }
-    ensures read { IsRead (state S.Store tx.old.conn.now) (state S.Store tx.new.conn.now) (λ s found. found ≡ has_person_of person org s.directory) result }
+    ensures read { IsReadInside (state S.Store tx.old.conn.now) (state S.Store tx.new.conn.now) (λ s found. found ≡ has_person_of person org s.directory) result }
 {
     let found = read_person_of(tx, alloc, person)?;
     Ok(is_of(&found, org))
@@ -149,7 +149,7 @@ pub(crate) fn read_has_group_of<S: Alter>(
     owner: u32,
 ) -> Result<bool, Error>
     ensures same_reference { tx.new.conn.ghost_name ≡ tx.old.conn.ghost_name }
-    ensures read { IsRead (state S.Store tx.old.conn.now) (state S.Store tx.new.conn.now) (λ s found. found ≡ has_group_of group owner s.directory) result }
+    ensures read { IsReadInside (state S.Store tx.old.conn.now) (state S.Store tx.new.conn.now) (λ s found. found ≡ has_group_of group owner s.directory) result }
 {
     let found = read_group(tx, alloc, group)?;
     Ok(is_owned(&found, owner))
@@ -171,7 +171,7 @@ pub(crate) fn read_has_group_being<S: Alter>(
     active: bool,
 ) -> Result<bool, Error>
     ensures same_reference { tx.new.conn.ghost_name ≡ tx.old.conn.ghost_name }
-    ensures read { IsRead (state S.Store tx.old.conn.now) (state S.Store tx.new.conn.now) (λ s found. found ≡ has_group_being group active s.directory) result }
+    ensures read { IsReadInside (state S.Store tx.old.conn.now) (state S.Store tx.new.conn.now) (λ s found. found ≡ has_group_being group active s.directory) result }
 {
     let found = read_group(tx, alloc, group)?;
     Ok(is_being(&found, active))

@@ -1,6 +1,6 @@
 use Rattle.hub_store.proofs.Extending.{reads_extends}
-use Rattle.hub_store.proofs.MoreReading.{read_made}
-use Rattle.hub_store.proofs.pair_lookups.read_has_extender.Goals as goal
+use Rattle.hub_store.proofs.Reading.{read_made}
+use Rattle.hub_store.proofs.has_pair.read_has_extender.Goals as goal
 
 pub returns-clause-read : goal.returns-clause-read
 returns-clause-read g c =

@@ -11,7 +11,7 @@ use Rattle.hub_store.proofs.Forms.{is_param}
 use Rattle.hub_store.proofs.Statements.{keeps}
 use Rattle.hub_store.proofs.Texts.{community_with_name, community_with_name_is, community_with_name_plain}
 use Rattle.hub_store.proofs.Whether.{set_shows}
-use Rattle.hub_store.proofs.directory_lookups.read_has_community_named.Goals as goal
+use Rattle.hub_store.proofs.has_row.read_has_community_named.Goals as goal
 
 pub returns-clause-read : goal.returns-clause-read
 returns-clause-read g c =

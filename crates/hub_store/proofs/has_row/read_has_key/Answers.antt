@@ -6,7 +6,7 @@ use Rattle.circle.specs.Reads.{person_in}
 use Rattle.hub_core.specs.Reads.{person_by_key}
 use Rattle.hub_store.proofs.ByNumber.{some_passes}
 use Rattle.hub_store.proofs.Reading.{read_gives}
-use Rattle.hub_store.proofs.directory_lookups.read_has_key.Goals as goal
+use Rattle.hub_store.proofs.has_row.read_has_key.Goals as goal
 
 pub returns-clause-read : goal.returns-clause-read
 returns-clause-read g c =

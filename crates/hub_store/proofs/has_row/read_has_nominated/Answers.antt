@@ -6,7 +6,7 @@ use Rattle.circle.specs.Reads.{person_in, person_of}
 use Rattle.hub_store.proofs.Finding.{once_numbered}
 use Rattle.hub_store.proofs.Reading.{read_gives}
 use Rattle.hub_store.proofs.Whether.{one_passes}
-use Rattle.hub_store.proofs.directory_lookups.read_has_nominated.Goals as goal
+use Rattle.hub_store.proofs.has_row.read_has_nominated.Goals as goal
 
 pub returns-clause-read : goal.returns-clause-read
 returns-clause-read g c =
