@@ -1,11 +1,11 @@
 -- Bytes that follow change no answer but Truncated.
-use Rattle.std.proofs.Common.{◌≡◌, ◌≢◌, ℕ, ◌+◌, ◌-◌, ◌≤◌, List, [], ◌++◌, length, take, drop, Bool, true, false, Result, Ok, Err, refl, ap, sym, ◌∙◌, subst, inl, inr, arith, append_assoc, append-nil, length-append, length-take, nat_le, codes}
+use Rattle.std.proofs.Common.{◌≡◌, ◌≢◌, ℕ, ◌+◌, ◌-◌, ◌≤◌, List, [], ◌++◌, length, take, drop, Bool, true, false, Result, Ok, Err, refl, ap, sym, ◌∙◌, subst, inl, inr, arith, append_assoc, append-nil, length-append, nat_le, codes}
 use Rattle.std.specs.Str.{bytes_eq}
 use Rattle.std.proofs.Math.Seq.{take-append-add}
 use Rattle.std.proofs.lemmas.Bool.Decides.{leb_tells}
 use Rattle.std.proofs.lemmas.List.{take-append-le, drop-append-le, take_all}
 use Rattle.std.proofs.lemmas.Bool.{cases_lt}
-use Rattle.httparse.specs.Grammar.{RequestHead, print_request, ReadsRequest, HasNoRequest, NeverHasRequest, MayBecomeRequest}
+use Rattle.httparse.specs.Grammar.{print_request, ReadsRequest, HasNoRequest, NeverHasRequest, MayBecomeRequest}
 use Rattle.httparse.proofs.GrammarLemmas.{ReadsRequest-append}
 use Rattle.hub_http.specs.declared.wire_fault.WireFault.{WireFault}
 use Rattle.hub_http.specs.declared.wire_fault.WireFault.TheVariants as fault
@@ -14,6 +14,7 @@ use Rattle.hub_http.specs.Parameters.{Pair}
 use Rattle.hub_http.specs.Fields.{body_length, key_of}
 use Rattle.hub_http.specs.Requests.{request_by}
 use Rattle.hub_http.specs.Wire.{Asked, Wire, AsksByHead, IsHeadless, asked_by, as_wire, window, fields_of}
+use Rattle.hub_http.proofs.Heads.{head_fits}
 
 -- the window of more bytes begins with the window
 grown : (bytes more : List ℕ) → (x : List ℕ) × (window (bytes ++ more) ≡ window bytes ++ x)
@@ -61,21 +62,13 @@ module _ (method target : List ℕ) (fields : List Pair) (rest more : List ℕ) 
   unfolding asked_by
   asked_stands whole = fields_stand (nat_le (length fields) 64) (body_length (bytes_eq method (codes "GET")) fields) whole
 
--- the head lies in the bytes
-head_fits : (bytes : List ℕ) (h : RequestHead) (rest : List ℕ) → ReadsRequest (window bytes) h rest
-    → length (print_request h) ≤ length bytes
-head_fits bytes h rest reads =
-    let e : length (window bytes) ≡ length (print_request h) + length rest =
-    ap length reads.1 ∙ length-append (print_request h) rest in
-    omega (arith, e, length-take {A = ℕ} 8192 bytes)
-
 by_head : (bytes more : List ℕ) (a : Asked) → a ≢ Err fault.Truncated → AsksByHead bytes a → AsksByHead (bytes ++ more) a
 by_head bytes more a whole (h, rest, reads, e) =
     let g = grown bytes more in
     let reads_more : ReadsRequest (window (bytes ++ more)) h (rest ++ g.0) =
     subst (λ l. ReadsRequest l h (rest ++ g.0)) (sym g.1) (ReadsRequest-append (window bytes) h rest g.0 reads) in
     let behind : drop (length (print_request h)) (bytes ++ more) ≡ drop (length (print_request h)) bytes ++ more =
-    drop-append-le (length (print_request h)) bytes more (head_fits bytes h rest reads) in
+    drop-append-le (length (print_request h)) bytes more (head_fits bytes h rest reads).1 in
     let stands = asked_stands h.method h.target (fields_of h) (drop (length (print_request h)) bytes) more (λ t. whole (e ∙ t)) in
     (h, rest ++ g.0, reads_more, e ∙ sym stands ∙ ap (asked_by h.method h.target (fields_of h)) (sym behind))
 
