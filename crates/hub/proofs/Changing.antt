@@ -32,9 +32,9 @@ use Rattle.hub_core.specs.declared.reply.Reply.TheVariants.{Numbers, Revision}
 use Rattle.hub_core.specs.declared.request.WantedGate.{WantedGate}
 use Rattle.hub_core.specs.declared.request.Request.{Request}
 use Rattle.hub_core.specs.declared.request.Request.TheVariants as ask
+use Rattle.hub_core.proofs.Keeping.{found_each}
 use Rattle.hub.specs.Replies.{numbers_from, circle_reply, refused_or, answer_to}
 use Rattle.hub.specs.Serving.{due_to, number_put, numbers_put, made_reply}
-use Rattle.hub.proofs.Seeing.{found_each}
 
 -- ---- numbers
 
@@ -90,7 +90,7 @@ revision_fits s a r sound = small (looked_up s (incident_asked r)) (there (incid
   where
     there : (n : Option ℕ) (i : Incident) → looked_up s n ≡ Some i → i.revision ≤ 1000000
     there None i h = cc
-    there (Some n) i h = found_each (λ (j : Incident). j.revision ≤ 1000000) (λ (j : Incident). j.number == n) s.incidents i sound.incidents.revisions h
+    there (Some n) i h = found_each (λ (j : Incident). j.revision ≤ 1000000) (λ (j : Incident). j.number == n) s.incidents i h sound.incidents.revisions
 
     small : (o : Option Incident) → ((i : Incident) → o ≡ Some i → i.revision ≤ 1000000) → option_map_or (λ (k : Known). k.revision) (option_map known o) 0 + 1 < 2 ^ 32
     small None h = omega arith

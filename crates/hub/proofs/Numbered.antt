@@ -4,6 +4,7 @@ use Rattle.std.specs.List.{AllByRecursion}
 use Rattle.std.proofs.lemmas.Bool.{lt-ltb, le-ltb, eq-eqb, cond-true, cond-false}
 use Rattle.std.proofs.lemmas.Bool.Decides.{eqb_tells}
 use Rattle.circle.specs.Sound.{CountsFrom}
+use Rattle.hub_core.proofs.Keeping.{numbers_above}
 
 module _ {X : Type 0} (number : X → ℕ) where
   pub counts_on : (n m : ℕ) (xs : List X) → n ≡ m → CountsFrom number n xs → CountsFrom number m xs
@@ -46,15 +47,6 @@ module _ {X : Type 0} (number : X → ℕ) where
   counts-get (y ∷ ys) n zero x h is = let same : y ≡ x = cc in ap number (sym same) ∙ (omega (arith, h.0))
   counts-get (y ∷ ys) n (suc k) x h is = let later = counts-get ys (n + 1) k x h.1 is in omega (arith, later)
 
-  -- each is the one that is found under its number
-  counts_above : (n : ℕ) (xs : List X) → CountsFrom number n xs → AllByRecursion (λ x. n < number x) xs
-  counts_above n [] h = tt
-  counts_above n (x ∷ xs) h = (omega (arith, h.0), weaker xs (counts_above (n + 1) xs h.1))
-    where
-      weaker : (ys : List X) → AllByRecursion (λ x. n + 1 < number x) ys → AllByRecursion (λ x. n < number x) ys
-      weaker [] k = tt
-      weaker (y ∷ ys) k = (omega (arith, k.0), weaker ys k.1)
-
   smaller : (a b : ℕ) → a < b → (a == b) ≡ false
   smaller a b low = elim (eqb_tells a b) [ inl t ↦ absurd (omega (arith, t.1)) | inr t ↦ t.0 ]
 
@@ -64,9 +56,10 @@ module _ {X : Type 0} (number : X → ℕ) where
   found_behind x (y ∷ ys) all low h =
       (cond-false (number x == number y) _ _ (smaller (number x) (number y) low.0) ∙ h.0, found_behind x ys all low.1 h.1)
 
+  -- each is the one that is found under its number
   pub all_found : (n : ℕ) (xs : List X) → CountsFrom number n xs → AllByRecursion (λ y. find (λ z. number z == number y) xs ≡ Some y) xs
   all_found n [] h = tt
   all_found n (x ∷ xs) h = (
     cond-true (number x == number x) _ _ (eq-eqb (number x) (number x) refl),
-    found_behind x xs xs (subst (λ m. AllByRecursion (λ y. m < number y) xs) (sym h.0) (counts_above (n + 1) xs h.1)) (all_found (n + 1) xs h.1),
+    found_behind x xs xs (subst (λ m. AllByRecursion (λ y. m < number y) xs) (sym h.0) (numbers_above number (n + 1) xs h.1)) (all_found (n + 1) xs h.1),
   )

@@ -3,9 +3,9 @@ use Rattle.std.proofs.Common.{◌≡◌, ℕ, zero, suc, ◌+◌, ◌-◌, ◌<�
 use Rattle.std.specs.Prelude.{option_map}
 use Rattle.std.specs.List.{AllByRecursion}
 use Rattle.std.specs.Option.{option_map_or}
-use Rattle.std.proofs.Math.Seq.{drop-nil, take-length}
+use Rattle.std.proofs.Math.Seq.{take-length}
 use Rattle.std.proofs.lemmas.Bool.{cond-true, cond-false, true≢false}
-use Rattle.std.proofs.lemmas.List.{take-append-drop, take-append-le, length-map, map-append, take-map, append-nil, drop_more, drop_all}
+use Rattle.std.proofs.lemmas.List.{take-append-drop, take-append-le, length-map, map-append, take-map, append-nil, drop_more, drop_all, drop-drop, drop_min, length-take, take_all}
 use Rattle.std.proofs.lemmas.List.Elements.{filter-append}
 use Rattle.std.proofs.lemmas.Option.{slice_get_within}
 use Rattle.circle.specs.Sound.{CountsFrom}
@@ -36,22 +36,8 @@ take_full n xs ys low high =
     let same : n ≡ length xs = omega arith in
     take-append-le n xs ys low ∙ ap (λ k. take k xs) same ∙ take-length xs
 
--- no more than so many
-pub take_few : {X : Type 0} (n : ℕ) (xs : List X) → length xs ≤ n → take n xs ≡ xs
-take_few zero [] low = refl
-take_few zero (x ∷ xs) low = absurd (omega (arith, low))
-take_few (suc n) [] low = refl
-take_few (suc n) (x ∷ xs) low = ap (λ ys. x ∷ ys) (take_few n xs (omega (arith, low)))
-
-drop_drop : {X : Type 0} (a k : ℕ) (xs : List X) → drop (a + k) xs ≡ drop k (drop a xs)
-drop_drop zero k xs = let same : 0 + k ≡ k = omega arith in ap (λ n. drop n xs) same
-drop_drop (suc a) k [] = let same : suc a + k ≡ suc (a + k) = omega arith in ap (λ (n : ℕ). drop n []) same ∙ sym (drop-nil k)
-drop_drop (suc a) k (x ∷ xs) = let same : suc a + k ≡ suc (a + k) = omega arith in ap (λ (n : ℕ). drop n (x ∷ xs)) same ∙ drop_drop a k xs
-
 drop_as_taken : {X : Type 0} (n : ℕ) (xs : List X) → drop (length (take n xs)) xs ≡ drop n xs
-drop_as_taken zero xs = refl
-drop_as_taken (suc n) [] = refl
-drop_as_taken (suc n) (x ∷ xs) = drop_as_taken n xs
+drop_as_taken n xs = ap (λ k. drop k xs) (length-take n xs) ∙ drop_min n xs
 
 at_end : (o : Option Entry) (n : ℕ) → option_map (λ (e : Entry). e.number) o ≡ Some n → (e : Entry) × (o ≡ Some e) × (e.number ≡ n)
 at_end None n h = cc
@@ -124,7 +110,7 @@ module _ (s : State) (test : Incident → Bool) where
       ap (filter (λ (x : Entry). test_at x.number)) (entries-drop a n sound) ∙ filter_entries I found in
       let up : e.number ≡ a + length I = last-number a n e sound at ∙ ap (λ es. a + length es) (entries-drop a n sound) ∙ ap (λ k. a + k) (length-map I entry_of) in
       let behind : incidents_above e.number s ≡ drop n D =
-      above-numbered incident_number e.number s.incidents numbered ∙ ap (λ k. drop k s.incidents) up ∙ drop_drop a (length I) s.incidents ∙ drop_as_taken n D in
+      above-numbered incident_number e.number s.incidents numbered ∙ ap (λ k. drop k s.incidents) up ∙ sym (drop-drop (length I) a s.incidents) ∙ drop_as_taken n D in
       ap (λ is. map entry_of (filter test is)) (above-numbered incident_number a s.incidents numbered ∙ sym (take-append-drop n D))
       ∙ ap (map entry_of) (filter-append test I (drop n D))
       ∙ map-append entry_of (filter test I) (filter test (drop n D))
@@ -155,7 +141,7 @@ module _ (s : State) (test : Incident → Bool) where
       let D = drop a s.incidents in
       let empty : D ≡ [] = nothing D (sym (entries-drop a 100 sound) ∙ none) in
       ap (λ is. take 100 (old ++ map entry_of (filter test is))) (above-numbered incident_number a s.incidents sound.incidents.numbered.0 ∙ empty)
-      ∙ ap (take 100) (append-nil old) ∙ take_few 100 old few
+      ∙ ap (take 100) (append-nil old) ∙ take_all 100 old few
     where
       nothing : (is : List Incident) → map entry_of (take 100 is) ≡ [] → is ≡ []
       nothing [] h = refl
@@ -212,7 +198,7 @@ module _ (test : Entry → Bool) (entries : List Entry) (i : ℕ) (d : Entry) (o
 pub no_more : (test : Entry → Bool) (entries : List Entry) (i : ℕ) (old : List Entry) → length entries ≤ i → length old ≤ 100 →
     take 100 (old ++ filter test (drop i entries)) ≡ old
 no_more test entries i old past few =
-    ap (λ xs. take 100 (old ++ filter test xs)) (drop_all i entries past) ∙ ap (take 100) (append-nil old) ∙ take_few 100 old few
+    ap (λ xs. take 100 (old ++ filter test xs)) (drop_all i entries past) ∙ ap (take 100) (append-nil old) ∙ take_all 100 old few
 
 -- ---- what a standing rules out
 

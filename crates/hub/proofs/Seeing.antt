@@ -1,7 +1,7 @@
 -- A view is made of what is read.
 use Rattle.std.proofs.Common.{◌≡◌, ℕ, ◌+◌, ◌-◌, ◌<◌, ◌≤◌, Bool, true, false, ◌==◌, nat_lt, List, [], ◌∷◌, cond, Option, Some, None, take, map, refl, sym, ◌∙◌, ap, subst, arith, filter, find, ◌||◌}
 use Rattle.std.specs.Prelude.{ℤ, option_map, count_by}
-use Rattle.std.specs.List.{list_any, AllByRecursion}
+use Rattle.std.specs.List.{list_any}
 use Rattle.std.proofs.lemmas.Bool.{cond-true, cond-false, ltb-true, ltb-false, eqb-true}
 use Rattle.std.proofs.lemmas.Bool.Decides.{eqb_tells}
 use Rattle.std.proofs.Common.{◌⊎◌, inl, inr}
@@ -22,6 +22,8 @@ use Rattle.hub_core.specs.Reads.{case_for, entry_of, entries_after}
 use Rattle.hub_core.specs.declared.state.Incident.{Incident}
 use Rattle.hub_core.specs.declared.reply.Entry.{Entry}
 use Rattle.hub_core.specs.declared.reply.View.{View}
+use Rattle.hub_core.proofs.Keeping.{found_each}
+use Rattle.hub.specs.Explaining.{content_in}
 use Rattle.hub.specs.Told.{standing_at, in_order, is_shown, view_of}
 use Rattle.hub.specs.Viewing.{first_being, seen_in, view_made}
 use Rattle.hub.specs.declared.asking.Content.{Content}
@@ -68,44 +70,31 @@ entry_found (x ∷ xs) m n h = by_case (nat_lt (n - 1) x.number) refl (x.number 
 pub entry_is : (s : State) (n : ℕ) → IsSound s → first_being n (entries_after (n - 1) 1 s) ≡ option_map entry_of (incident_of n s)
 entry_is s n sound = entry_found s.incidents 0 n sound.incidents.numbered.0
 
--- ---- what holds of each
-
-pub found_each : {X : Type 0} (P : X → Type 0) (test : X → Bool) (xs : List X) (x : X) → AllByRecursion P xs → find test xs ≡ Some x → P x
-found_each P test [] x h is = cc
-found_each P test (y ∷ ys) x h is = by_case (test y) refl (found_each P test ys x h.1)
-  where
-    some_is : Some y ≡ Some x → y ≡ x
-    some_is k = cc
-
-    by_case : (b : Bool) → test y ≡ b → (find test ys ≡ Some x → P x) → P x
-    by_case true t later = subst P (some_is (sym (cond-true (test y) (Some y) (find test ys) t) ∙ is)) h.0
-    by_case false t later = later (sym (cond-false (test y) (Some y) (find test ys) t) ∙ is)
-
-pub marked : (s : State) (n : ℕ) (c : Content) → IsSound s → Some c ≡ option_map (λ (i : Incident). record { case = case_for s i; document = i.document }) (incident_of n s) → first_bad_marking (located c.document) ≡ None
+pub marked : (s : State) (n : ℕ) (c : Content) → IsSound s → Some c ≡ option_map (content_in s) (incident_of n s) → first_bad_marking (located c.document) ≡ None
 marked s n c sound is = by_case (incident_of n s) refl is
   where
-    by_case : (o : Option Incident) → incident_of n s ≡ o → Some c ≡ option_map (λ (i : Incident). record { case = case_for s i; document = i.document }) o → first_bad_marking (located c.document) ≡ None
+    by_case : (o : Option Incident) → incident_of n s ≡ o → Some c ≡ option_map (content_in s) o → first_bad_marking (located c.document) ≡ None
     by_case None at k = cc
     by_case (Some i) at k =
         let same : i.document ≡ c.document = doc k in
-        ap (λ d. first_bad_marking (located d)) (sym same) ∙ (found_each (λ (j : Incident). IsAccepted j.document) (λ (j : Incident). j.number == n) s.incidents i sound.incidents.documents at).marked
+        ap (λ d. first_bad_marking (located d)) (sym same) ∙ (found_each (λ (j : Incident). IsAccepted j.document) (λ (j : Incident). j.number == n) s.incidents i at sound.incidents.documents).marked
       where
-        doc : Some c ≡ Some (record { case = case_for s i; document = i.document }) → i.document ≡ c.document
+        doc : Some c ≡ Some (content_in s i) → i.document ≡ c.document
         doc e = cc
 
 -- ---- listed where some class is counted
 
-count_any : {X : Type 0} (p : X → Bool) (xs : List X) → 0 < count_by p xs → list_any p xs ≡ true
-count_any p [] h = absurd (omega (arith, h))
-count_any p (x ∷ xs) h = by_case (p x) (subst (λ n. 0 < n) (count_by-cons p x xs) h) (count_any p xs)
+counted_any : {X : Type 0} (p : X → Bool) (xs : List X) → 0 < count_by p xs → list_any p xs ≡ true
+counted_any p [] h = absurd (omega (arith, h))
+counted_any p (x ∷ xs) h = by_case (p x) (subst (λ n. 0 < n) (count_by-cons p x xs) h) (counted_any p xs)
   where
     by_case : (b : Bool) → 0 < cond b 1 0 + count_by p xs → (0 < count_by p xs → list_any p xs ≡ true) → (b || list_any p xs) ≡ true
     by_case true k later = refl
     by_case false k later = later (omega (arith, k))
 
-count_none : {X : Type 0} (p : X → Bool) (xs : List X) → count_by p xs ≡ 0 → list_any p xs ≡ false
-count_none p [] h = refl
-count_none p (x ∷ xs) h = by_case (p x) (sym (count_by-cons p x xs) ∙ h) (count_none p xs)
+uncounted_none : {X : Type 0} (p : X → Bool) (xs : List X) → count_by p xs ≡ 0 → list_any p xs ≡ false
+uncounted_none p [] h = refl
+uncounted_none p (x ∷ xs) h = by_case (p x) (sym (count_by-cons p x xs) ∙ h) (uncounted_none p xs)
   where
     by_case : (b : Bool) → cond b 1 0 + count_by p xs ≡ 0 → (count_by p xs ≡ 0 → list_any p xs ≡ false) → (b || list_any p xs) ≡ false
     by_case true k later = absurd (omega (arith, k))
@@ -120,14 +109,11 @@ made : (e : Entry) (n m : ℕ) (a b : Lines) (v w : List Withheld) → n ≡ m �
 made e n m a b v w h k l = ap (λ x. viewing e x a v) h ∙ ap (λ x. viewing e m x v) k ∙ ap (λ x. viewing e m b x) l
 
 module _ (s : State) (now : ℤ) (p : Person) where
-  abbrev content_in : Incident → Content
-  content_in i = record { case = case_for s i; document = i.document }
-
   pub not_there : (o : Option Incident) → None ≡ option_map (λ (i : Incident). standing_at s now p i) o → None ≡ seen_in s now p o
   not_there None h = refl
   not_there (Some i) h = cc
 
-  pub no_content : (o : Option Incident) → None ≡ option_map content_in o → None ≡ seen_in s now p o
+  pub no_content : (o : Option Incident) → None ≡ option_map (content_in s) o → None ≡ seen_in s now p o
   no_content None h = refl
   no_content (Some i) h = cc
 
@@ -135,22 +121,22 @@ module _ (s : State) (now : ℤ) (p : Person) where
   no_entry None h = refl
   no_entry (Some i) h = cc
 
-  pub nothing_seen : (o : Option Incident) (st : Standing) (c : Content) → Some st ≡ option_map (λ (i : Incident). standing_at s now p i) o → Some c ≡ option_map content_in o →
+  pub nothing_seen : (o : Option Incident) (st : Standing) (c : Content) → Some st ≡ option_map (λ (i : Incident). standing_at s now p i) o → Some c ≡ option_map (content_in s) o →
       Gives c.document c.case st None → None ≡ seen_in s now p o
   nothing_seen None st c h k gives = cc
   nothing_seen (Some i) st c h k gives =
       let same : st ≡ standing_at s now p i = cc in
-      let here : c ≡ content_in i = cc in
+      let here : c ≡ content_in s i = cc in
       let none : visible_count i.document (case_for s i) (standing_at s now p i) ≡ 0 =
       ap (λ (x : Standing). visible_count i.document (case_for s i) x) (sym same) ∙ ap (λ (x : Content). visible_count x.document x.case st) (sym here) ∙ gives in
-      sym (cond-false (is_shown s now p i) (Some (view_of s now p i)) None (count_none (is_seen_class i.document (case_for s i) (standing_at s now p i)) (located i.document) none))
+      sym (cond-false (is_shown s now p i) (Some (view_of s now p i)) None (uncounted_none (is_seen_class i.document (case_for s i) (standing_at s now p i)) (located i.document) none))
 
-  pub is_seen : (o : Option Incident) (st : Standing) (c : Content) (e : Entry) (x : Excerpt) → Some st ≡ option_map (λ (i : Incident). standing_at s now p i) o → Some c ≡ option_map content_in o →
+  pub is_seen : (o : Option Incident) (st : Standing) (c : Content) (e : Entry) (x : Excerpt) → Some st ≡ option_map (λ (i : Incident). standing_at s now p i) o → Some c ≡ option_map (content_in s) o →
       Some e ≡ option_map entry_of o → Gives c.document c.case st (Some x) → Some (view_made e x) ≡ seen_in s now p o
   is_seen None st c e x h k l gives = cc
   is_seen (Some i) st c e x h k l gives =
       let same : st ≡ standing_at s now p i = cc in
-      let here : c ≡ content_in i = cc in
+      let here : c ≡ content_in s i = cc in
       let entry : e ≡ entry_of i = cc in
       let S = standing_at s now p i in
       let C = case_for s i in
@@ -160,4 +146,4 @@ module _ (s : State) (now : ℤ) (p : Person) where
       let parts = listed_in_order (withheld_of D C S) x.withheld.items G.withheld in
       ap (λ (y : Entry). Some (view_made y x)) entry
       ∙ ap Some (made (entry_of i) x.classes (visible_count D C S) x.document (kept_outline D C S) x.withheld.items (in_order (withheld_of D C S)) G.classes G.outline parts)
-      ∙ sym (cond-true (is_shown s now p i) (Some (view_of s now p i)) None (count_any (is_seen_class D C S) (located D) some))
+      ∙ sym (cond-true (is_shown s now p i) (Some (view_of s now p i)) None (counted_any (is_seen_class D C S) (located D) some))

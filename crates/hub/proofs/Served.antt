@@ -28,6 +28,7 @@ use Rattle.hub_core.specs.declared.request.Request.{Request}
 use Rattle.hub_core.specs.declared.request.Request.TheVariants as ask
 use Rattle.hub_core.specs.declared.shelf.ShelfFault.{ShelfFault}
 use Rattle.hub_core.specs.declared.shelf.ShelfFault.TheVariants.{NoMemory, Failed}
+use Rattle.hub_core.proofs.Keeping.{found_each}
 use Rattle.hub.specs.Faults.{code_told}
 use Rattle.hub.specs.Told.{is_shown, view_of}
 use Rattle.hub.specs.Replies.{if_active, caller_of, viewed, circle_reply, refused_or, answer_to, reply_by, reply_of}
@@ -38,7 +39,6 @@ use Rattle.hub.specs.Serving.{due_to, read_by, is_made, IsServed}
 use Rattle.hub.specs.declared.key.Key.{Key}
 use Rattle.hub.specs.declared.key.Key.TheVariants.{Absent, Digest}
 use Rattle.hub.proofs.Numbered.{all_found}
-use Rattle.hub.proofs.Seeing.{found_each}
 
 -- ---- the caller
 
@@ -55,7 +55,7 @@ called P s (Digest key) p h all = by_case (find (λ (a : Account). bytes_eq a.ke
   where
     by_case : (o : Option Account) → find (λ (a : Account). bytes_eq a.key key) s.directory.accounts ≡ o → if_active (option_map person_in o) ≡ Some p → P p
     by_case None is k = cc
-    by_case (Some a) is k = subst P (same_person a p k) (found_each (λ (a : Account). P a.person) (λ (a : Account). bytes_eq a.key key) s.directory.accounts a all is)
+    by_case (Some a) is k = subst P (same_person a p k) (found_each (λ (a : Account). P a.person) (λ (a : Account). bytes_eq a.key key) s.directory.accounts a is all)
 
 -- each person is the one that is found under its number
 all_there : (s : State) (rows : List Account) → AllByRecursion (λ (a : Account). find (λ (b : Account). b.person.number == a.person.number) s.directory.accounts ≡ Some a) rows → AllByRecursion (λ (a : Account). IsThere s a.person) rows

@@ -12,7 +12,8 @@ use Rattle.hub_core.specs.State.{State, recipient_cmp, recipients_of, is_recipie
 use Rattle.hub_core.specs.declared.request.Request.TheVariants as ask
 use Rattle.hub_core.specs.declared.request.Target.{Target}
 use Rattle.hub_core.specs.declared.state.Recipient.{Recipient}
-use Rattle.hub_core.proofs.Keys.{recipient_total, apart_recipient}
+use Rattle.hub_core.specs.Orders.{recipient_total}
+use Rattle.hub_core.proofs.Keys.{apart_recipient}
 use Rattle.hub_core.proofs.Named.{own, is_incident, counted_is, target_is}
 use Rattle.hub_core.proofs.Limits.{limit_put}
 use Rattle.hub_core.proofs.Keeping.{count_left, at_most}

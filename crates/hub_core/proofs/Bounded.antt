@@ -1,6 +1,6 @@
 -- In a sound state no incident has more rows than a u32 counts.
 use Rattle.std.proofs.Common.{◌≡◌, ℕ, ◌+◌, ◌-◌, ◌^◌, ◌≤◌, ◌==◌, ◌&&◌, ◌||◌, Bool, true, false, not, List, filter, Option, refl, subst, arith}
-use Rattle.std.proofs.lemmas.Bool.{and_left, eqb-true, false_from_ne_true}
+use Rattle.std.proofs.lemmas.Bool.{and_left, eqb-true, eq-eqb, false_from_ne_true}
 use Rattle.std.specs.Prelude.{min, IsTrue}
 use Rattle.std.specs.List.{list_any}
 use Rattle.iodef_tree.specs.Text.{Tokens, is_root}
@@ -18,7 +18,6 @@ use Rattle.hub_core.specs.declared.state.Permission.{Permission}
 use Rattle.hub_core.specs.declared.state.Recipient.{Recipient}
 use Rattle.policy.specs.declared.permission.Grantee.{Grantee}
 use Rattle.hub_core.proofs.Keeping.{never, found_any, found_passing, count_left, count_next, count_more, count_none, at_most}
-use Rattle.hub_core.proofs.Counted.{itself}
 use Rattle.hub_core.proofs.Named.{some_is}
 
 -- ---- rows belong to an incident that is there
@@ -87,7 +86,7 @@ pub recipients_told_with : (s : State) (n : ℕ) (target : Target) (m k : ℕ) �
     k ≡ recipients_of n (edited (edit.PutRecipient (record { incident = n; target = target })) s).recipients
 recipients_told_with s n target m k sound is more =
     let few = few_recipients s n sound in
-    let next = count_more (λ (r : Recipient). r.incident == n) recipient_cmp (record { incident = n; target = target }) s.recipients (itself n) in
+    let next = count_more (λ (r : Recipient). r.incident == n) recipient_cmp (record { incident = n; target = target }) s.recipients (eq-eqb n n refl) in
     omega arith
 
 pub permissions_told_left : (s : State) (n : ℕ) (p : Tokens) (grantee : Grantee) (m : ℕ) → IsSound s → m ≡ permissions_of n (edited (edit.TakePermission n p grantee) s).permissions →
@@ -100,5 +99,5 @@ pub permissions_told_with : (s : State) (n : ℕ) (p : Tokens) (grantee : Grante
     k ≡ permissions_of n (edited (edit.PutPermission (record { incident = n; path = p; grantee = grantee })) s).permissions
 permissions_told_with s n p grantee m k sound is more =
     let few = few_permissions s n sound in
-    let next = count_more (λ (x : Permission). x.incident == n) permission_cmp (record { incident = n; path = p; grantee = grantee }) s.permissions (itself n) in
+    let next = count_more (λ (x : Permission). x.incident == n) permission_cmp (record { incident = n; path = p; grantee = grantee }) s.permissions (eq-eqb n n refl) in
     omega arith

@@ -21,7 +21,7 @@ use Rattle.hub_core.specs.declared.state.Gate.{Gate}
 use Rattle.hub_core.specs.declared.state.Permission.{Permission}
 use Rattle.hub_core.proofs.Gated.{IsBeside, put_all, given}
 use Rattle.hub_core.proofs.Posted.{Wishes, StandAtClasses, wanted_at}
-use Rattle.hub_core.proofs.Keeping.{never, not_both, turned, found_each, find_put, find_new, find_left, each_passed, each_passes, count_kept, count_left, at_most}
+use Rattle.hub_core.proofs.Keeping.{never, numbers_above, not_both, turned, found_each, find_put, find_new, find_left, each_passed, each_passes, count_kept, count_left, at_most}
 
 -- ---- a row taken out and put in again is one exchanged
 
@@ -30,12 +30,6 @@ others n = filter (λ (i : Incident). not (i.number == n))
 
 abbrev exchange : ℕ → (Incident → Incident) → List Incident → List Incident
 exchange n f = map (λ (i : Incident). if i.number == n then f i else i)
-
-numbers_above : (k : ℕ) (xs : List Incident) → CountsFrom incident_number k xs → Each (λ (i : Incident). k < i.number) xs
-numbers_above k [] h = tt
-numbers_above k (x ∷ xs) h =
-    let first : x.number ≡ k + 1 = h.0 in
-    (omega arith, each_weaker (λ (i : Incident). k + 1 < i.number) (λ (i : Incident). k < i.number) xs (λ i e. omega arith) (numbers_above (k + 1) xs h.1))
 
 differs : (m n k : ℕ) → n ≡ k → k < m → (m == n) ≡ false
 differs m n k is h = grind (arith, nat_tests)
@@ -73,7 +67,7 @@ put_back n k f (x ∷ xs) i same counts found is = split (x.number == n) refl (p
         let at : x.number ≡ n = eqb-true x.number n here in
         let one : Some x ≡ Some i = sym (ap (λ b. if b then Some x else find (λ (x : Incident). x.number == n) xs) here) ∙ found in
         let it : x ≡ i = cc (one) in
-        let up = numbers_above (k + 1) xs counts.1 in
+        let up = numbers_above incident_number (k + 1) xs counts.1 in
         let none : Each (λ (y : Incident). (y.number == n) ≡ false) xs = each_weaker (λ (y : Incident). k + 1 < y.number) (λ (y : Incident). (y.number == n) ≡ false) xs (λ y e. differs y.number n (k + 1) (sym at ∙ first) e) up in
         let low : Each (λ (y : Incident). is_lt (nat_cmp (f i).number y.number) ≡ true) xs = each_weaker (λ (y : Incident). k + 1 < y.number) (λ (y : Incident). is_lt (nat_cmp (f i).number y.number) ≡ true) xs (λ y e. before (f i).number y.number (subst (λ m. m < y.number) (sym (same i ∙ (is ∙ (sym at ∙ first)))) e)) up in
         ap (λ b. put_by (by_number incident_number) (f i) (if not b then x ∷ others n xs else others n xs)) here
@@ -85,7 +79,7 @@ put_back n k f (x ∷ xs) i same counts found is = split (x.number == n) refl (p
     split false here rest =
         let first : x.number ≡ k + 1 = counts.0 in
         let later : find (λ (x : Incident). x.number == n) xs ≡ Some i = sym (ap (λ b. if b then Some x else find (λ (x : Incident). x.number == n) xs) here) ∙ found in
-        let up : k + 1 < i.number = found_each (λ (y : Incident). k + 1 < y.number) (λ (x : Incident). x.number == n) xs i later (numbers_above (k + 1) xs counts.1) in
+        let up : k + 1 < i.number = found_each (λ (y : Incident). k + 1 < y.number) (λ (x : Incident). x.number == n) xs i later (numbers_above incident_number (k + 1) xs counts.1) in
         let past : is_lt (nat_cmp (f i).number x.number) ≡ false = behind (f i).number x.number (subst (λ m. x.number < m) (sym (same i)) (omega arith)) in
         ap (λ b. put_by (by_number incident_number) (f i) (if not b then x ∷ others n xs else others n xs)) here
         ∙ (ap (λ b. if b then f i ∷ x ∷ others n xs else x ∷ put_by (by_number incident_number) (f i) (others n xs)) past
@@ -103,7 +97,7 @@ only_one n k (x ∷ xs) i counts found = split (x.number == n) refl (only_one n 
         let at : x.number ≡ n = eqb-true x.number n here in
         let one : Some x ≡ Some i = sym (ap (λ b. if b then Some x else find (λ (x : Incident). x.number == n) xs) here) ∙ found in
         let it : x ≡ i = cc (one) in
-        ((λ e. it), each_weaker (λ (y : Incident). k + 1 < y.number) (λ (y : Incident). (y.number == n) ≡ true → y ≡ i) xs (λ y e at_y. never (y.number == n) at_y (differs y.number n (k + 1) (sym at ∙ first) e)) (numbers_above (k + 1) xs counts.1))
+        ((λ e. it), each_weaker (λ (y : Incident). k + 1 < y.number) (λ (y : Incident). (y.number == n) ≡ true → y ≡ i) xs (λ y e at_y. never (y.number == n) at_y (differs y.number n (k + 1) (sym at ∙ first) e)) (numbers_above incident_number (k + 1) xs counts.1))
     split false here rest = ((λ e. never (x.number == n) e here), rest (sym (ap (λ b. if b then Some x else find (λ (x : Incident). x.number == n) xs) here) ∙ found))
 
 -- what holds of each row and of the one exchanged

@@ -1,7 +1,7 @@
 -- What is found in the rows that stand together is what is found in all.
 use Rattle.std.proofs.Common.{◌≡◌, ◌≢◌, ℕ, ◌==◌, ◌&&◌, ◌||◌, Bool, true, false, not, List, [], ◌∷◌, filter, if◌then◌else◌, Option, Some, None, refl, sym, ap, ◌∙◌, arith}
 use Rattle.std.specs.Prelude.{option_map}
-use Rattle.std.specs.List.{list_any, find, slice_get}
+use Rattle.std.specs.List.{list_any, find}
 use Rattle.iodef_tree.specs.Text.{Tokens, same_path}
 use Rattle.hub_core.specs.State.{is_gate_at, is_recipient_being, is_permission_being, same_group, same_target, same_grantee}
 use Rattle.hub_core.specs.declared.request.Target.{Target}
@@ -9,17 +9,21 @@ use Rattle.hub_core.specs.declared.state.Gate.{Gate}
 use Rattle.hub_core.specs.declared.state.Recipient.{Recipient}
 use Rattle.hub_core.specs.declared.state.Permission.{Permission}
 use Rattle.policy.specs.declared.permission.Grantee.{Grantee}
-use Rattle.hub_core.proofs.Indexing.{any_left, and_and, equal_then, same_bytes, filter_same}
+use Rattle.hub_core.proofs.Indexing.{and_and, equal_then}
 use Rattle.hub_core.proofs.Ranked.{partitioned, gone_before}
 use Rattle.std.specs.Prelude.{nat_le, nat_lt, is_some, drop, length}
 use Rattle.std.specs.Str.{bytes_eq}
 use Rattle.std.specs.Ordering.{is_lt, nat_cmp}
 use Rattle.std.specs.Cmp.Lexicographic.{slice_cmp}
 use Rattle.std.specs.List.Sorted.{IsPartitionPoint, IsPartitionedBy}
+use Rattle.std.proofs.lemmas.Bool.{eqb-true, eq-eqb}
 use Rattle.std.proofs.lemmas.Bool.Decides.{nat_tests}
+use Rattle.std.proofs.lemmas.List.Elements.{filter_agree}
+use Rattle.std.proofs.lemmas.Map.Text.{is_eq-slice_cmp}
 use Rattle.std.proofs.lemmas.Slice.Eq.{bytes_eq-Decides}
-use Rattle.std.proofs.Common.{◌≤◌}
+use Rattle.std.proofs.Common.{◌≤◌, true≢false}
 use Rattle.circle.specs.Sound.{Each, Differ}
+use Rattle.circle.proofs.Lookup.{any_having}
 use Rattle.iodef_tree.specs.Text.{Bytes}
 use Rattle.hub_core.specs.InOrder.{IsInOrder, is_alike}
 use Rattle.hub_core.specs.Lists.{IsIndexOf}
@@ -27,14 +31,6 @@ use Rattle.hub_core.specs.Orders.{incident_cmp, named_cmp}
 use Rattle.hub_core.specs.State.{incident_number}
 use Rattle.hub_core.specs.declared.state.Incident.{Incident}
 use Rattle.hub_core.specs.declared.rows.Named.{Named}
-
-pub first_found : {X : Type 0} (p : X → Bool) (xs : List X) → slice_get (filter p xs) 0 ≡ find p xs
-first_found p [] = refl
-first_found p (x ∷ xs) = split (p x) (first_found p xs)
-  where
-    split : (b : Bool) → slice_get (filter p xs) 0 ≡ find p xs → slice_get (if b then x ∷ filter p xs else filter p xs) 0 ≡ (if b then Some x else find p xs)
-    split true rest = refl
-    split false rest = rest
 
 pub any_same : {X : Type 0} (p q : X → Bool) (xs : List X) → ((x : X) → p x ≡ q x) → list_any p xs ≡ list_any q xs
 any_same p q [] same = refl
@@ -44,15 +40,15 @@ pub gate_found : (n : ℕ) (p : Tokens) (level : ℕ) (group : Option ℕ) (xs y
     list_any (λ (g : Gate). same_path g.path p && (g.level == level && same_group g.group group)) ys ≡ list_any (λ (g : Gate). is_gate_at n p g && (g.level == level && same_group g.group group)) xs
 gate_found n p level group xs ys is =
     ap (list_any (λ (g : Gate). same_path g.path p && (g.level == level && same_group g.group group))) is
-    ∙ (any_left (λ (g : Gate). same_path g.path p && (g.level == level && same_group g.group group)) (λ (g : Gate). g.incident == n) xs
+    ∙ (any_having (λ (g : Gate). g.incident == n) (λ (g : Gate). same_path g.path p && (g.level == level && same_group g.group group)) xs
     ∙ any_same (λ (g : Gate). g.incident == n && (same_path g.path p && (g.level == level && same_group g.group group))) (λ (g : Gate). is_gate_at n p g && (g.level == level && same_group g.group group)) xs
     (λ g. sym (and_and (g.incident == n) (same_path g.path p) (g.level == level && same_group g.group group))))
 
 pub recipient_found : (n : ℕ) (target : Target) (xs ys : List Recipient) → ys ≡ filter (λ (r : Recipient). r.incident == n) xs → list_any (λ (r : Recipient). same_target r.target target) ys ≡ list_any (is_recipient_being n target) xs
-recipient_found n target xs ys is = ap (list_any (λ (r : Recipient). same_target r.target target)) is ∙ any_left (λ (r : Recipient). same_target r.target target) (λ (r : Recipient). r.incident == n) xs
+recipient_found n target xs ys is = ap (list_any (λ (r : Recipient). same_target r.target target)) is ∙ any_having (λ (r : Recipient). r.incident == n) (λ (r : Recipient). same_target r.target target) xs
 
 pub permission_found : (n : ℕ) (p : Tokens) (grantee : Grantee) (xs ys : List Permission) → ys ≡ filter (λ (x : Permission). x.incident == n) xs → list_any (λ (x : Permission). same_path x.path p && same_grantee x.grantee grantee) ys ≡ list_any (is_permission_being n p grantee) xs
-permission_found n p grantee xs ys is = ap (list_any (λ (x : Permission). same_path x.path p && same_grantee x.grantee grantee)) is ∙ any_left (λ (x : Permission). same_path x.path p && same_grantee x.grantee grantee) (λ (x : Permission). x.incident == n) xs
+permission_found n p grantee xs ys is = ap (list_any (λ (x : Permission). same_path x.path p && same_grantee x.grantee grantee)) is ∙ any_having (λ (x : Permission). x.incident == n) (λ (x : Permission). same_path x.path p && same_grantee x.grantee grantee) xs
 
 -- ---- an incident by its name
 
@@ -97,16 +93,13 @@ only_found key p r (y ∷ ys) alone all h = split (p y) refl h (only_found key p
       where
         last : (a b : Bool) → (a || b) ≡ true → b ≡ false → a ≡ true
         last true b e f = refl
-        last false b e f = absurd (never (sym e ∙ f))
-          where
-            never : true ≡ false → ⊥
-            never g = cc
+        last false b e f = absurd (true≢false (sym e ∙ f))
     split false is e rest = rest e
 
 alike_names : (key e : Named) → is_alike named_cmp e key ≡ (e.source == key.source && bytes_eq e.ident key.ident)
-alike_names key e = equal_then e.source key.source (slice_cmp nat_cmp e.ident key.ident) ∙ ap (λ b. (e.source == key.source) && b) (same_bytes e.ident key.ident)
+alike_names key e = equal_then e.source key.source (slice_cmp nat_cmp e.ident key.ident) ∙ ap (λ b. (e.source == key.source) && b) (is_eq-slice_cmp e.ident key.ident)
 
-one_name : (source : ℕ) (ident : Bytes) (a b : Incident) → (a.source == source && bytes_eq a.ident ident) ≡ true → (b.source == source && bytes_eq b.ident ident) ≡ true → (let key : Incident → ℕ × List ℕ = λ (i : Incident). (i.source, i.ident) in key a ≡ key b)
+pub one_name : (source : ℕ) (ident : Bytes) (a b : Incident) → (a.source == source && bytes_eq a.ident ident) ≡ true → (b.source == source && bytes_eq b.ident ident) ≡ true → (let key : Incident → ℕ × List ℕ = λ (i : Incident). (i.source, i.ident) in key a ≡ key b)
 one_name source ident a b h k =
     let one : bytes_eq a.ident ident ≡ true = grind arith in
     let two : bytes_eq b.ident ident ≡ true = grind arith in
@@ -126,16 +119,10 @@ name_found key incidents names indexed apart o is = split o (sym (find_same (λ 
     split None is = no_found _ (any_found (λ (i : Incident). i.source == key.source && bytes_eq i.ident key.ident) incidents
         ∙ (indexed (λ (e : Named). e.source == key.source && bytes_eq e.ident key.ident) ∙ (sym (any_found (λ (e : Named). e.source == key.source && bytes_eq e.ident key.ident) names) ∙ ap is_some is)))
     split (Some e) is =
-        let among = found_passes (λ (f : Named). f.source == key.source && bytes_eq f.ident key.ident) (λ (f : Named). f.number == e.number) names e is (itself e.number) in
+        let among = found_passes (λ (f : Named). f.source == key.source && bytes_eq f.ident key.ident) (λ (f : Named). f.number == e.number) names e is (eq-eqb e.number e.number refl) in
         let there = only_found (λ (i : Incident). (i.source, i.ident)) (λ (i : Incident). i.source == key.source && bytes_eq i.ident key.ident) (λ (i : Incident). i.number == e.number) incidents (one_name key.source key.ident) apart
         (indexed (λ (f : Named). (f.source == key.source && bytes_eq f.ident key.ident) && (f.number == e.number)) ∙ among) in
-        ap Some (same_number there.0.number e.number there.2) ∙ sym (ap (option_map incident_number) there.1)
-      where
-        itself : (n : ℕ) → (n == n) ≡ true
-        itself n = grind (arith, nat_tests)
-
-        same_number : (m n : ℕ) → (m == n) ≡ true → n ≡ m
-        same_number m n h = grind (arith, nat_tests)
+        ap Some (sym (eqb-true there.0.number e.number there.2)) ∙ sym (ap (option_map incident_number) there.1)
 
 -- ---- incidents above a number
 
@@ -150,4 +137,4 @@ pub all_above : (n : ℕ) (xs : List Incident) (from : ℕ) → IsInOrder incide
     drop from xs ≡ filter (λ (i : Incident). nat_lt n i.number) xs
 all_above n xs from all h point =
     sym (gone_before (λ (i : Incident). nat_le i.number n) xs from h (point (partitioned (λ a b. is_lt (incident_cmp b a) ≡ false) (λ (i : Incident). nat_le i.number n) xs (λ a b. number_back a.number b.number n) all)))
-    ∙ filter_same (λ (i : Incident). not (nat_le i.number n)) (λ (i : Incident). nat_lt n i.number) xs (λ i. above_or_not i.number n)
+    ∙ filter_agree (λ (i : Incident). not (nat_le i.number n)) (λ (i : Incident). nat_lt n i.number) (λ i. above_or_not i.number n) xs

@@ -1,6 +1,6 @@
 -- The gates that an incident is given: at its root, and those asked for.
 use Rattle.std.proofs.Common.{◌≡◌, ℕ, ◌+◌, ◌≤◌, ◌==◌, ◌&&◌, ◌||◌, Bool, true, false, not, List, [], ◌∷◌, ◌++◌, length, map, Option, Some, None, refl, sym, ap, ◌∙◌, subst, arith}
-use Rattle.std.proofs.lemmas.Bool.{and_from, and_left, and_right, eqb-true, or_parts}
+use Rattle.std.proofs.lemmas.Bool.{and_from, and_left, and_right, eqb-true, or_parts, or_right}
 use Rattle.std.specs.List.{list_any, flat_map}
 use Rattle.std.specs.Option.{option_map_or}
 use Rattle.std.specs.Str.{bytes_eq}
@@ -22,7 +22,8 @@ use Rattle.hub_core.specs.declared.edit.Edit.{Edit}
 use Rattle.hub_core.specs.declared.request.WantedGate.{WantedGate}
 use Rattle.hub_core.specs.declared.state.Gate.{Gate}
 use Rattle.hub_core.specs.declared.state.Incident.{Incident}
-use Rattle.hub_core.proofs.Keys.{gate_total, apart_gate, apart_text}
+use Rattle.hub_core.specs.Orders.{gate_total}
+use Rattle.hub_core.proofs.Keys.{apart_gate, apart_text}
 use Rattle.hub_core.proofs.Keeping.{never, count_more, count_same, count_none, count_next, each_both}
 
 -- ---- what the edits make of the gates
@@ -83,11 +84,7 @@ record Gains (groups : List Group) (incidents : List Incident) (n : ℕ) (most :
 -- a class is a place
 class_place : (o : Option Incident) (p : Tokens) → option_map_or (λ (i : Incident). is_class_in i.document p) o false ≡ true → option_map_or (λ (i : Incident). is_root p || is_class_in i.document p) o false ≡ true
 class_place None p h = h
-class_place (Some i) p h = right (is_root p) (is_class_in i.document p) h
-  where
-    right : (a b : Bool) → b ≡ true → (a || b) ≡ true
-    right true b h = refl
-    right false b h = h
+class_place (Some i) p h = or_right (is_root p) (is_class_in i.document p) h
 
 none_map : (text : Bytes) (ws : List WantedGate) → list_any (bytes_eq text) (map (λ (g : WantedGate). g.path) ws) ≡ false → Each (λ (w : WantedGate). bytes_eq text w.path ≡ false) ws
 none_map text [] h = tt

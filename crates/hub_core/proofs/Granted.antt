@@ -17,7 +17,8 @@ use Rattle.hub_core.specs.State.{State, permission_cmp, permissions_of, is_permi
 use Rattle.hub_core.specs.declared.edit.Edit.TheVariants.{PutPermission, TakePermission}
 use Rattle.hub_core.specs.declared.request.Request.TheVariants as ask
 use Rattle.hub_core.specs.declared.state.Permission.{Permission}
-use Rattle.hub_core.proofs.Keys.{permission_total, apart_permission}
+use Rattle.hub_core.specs.Orders.{permission_total}
+use Rattle.hub_core.proofs.Keys.{apart_permission}
 use Rattle.hub_core.proofs.Named.{own, counted_is, grantee_is}
 use Rattle.hub_core.proofs.Limits.{limit_put}
 use Rattle.hub_core.proofs.Keeping.{count_left, at_most}

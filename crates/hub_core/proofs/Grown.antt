@@ -1,35 +1,26 @@
 -- A change of the directory leaves a sound state.
-use Rattle.std.proofs.Common.{◌≡◌, ℕ, Option, Some, None, refl, sym, subst}
-use Rattle.std.specs.Prelude.{map}
+use Rattle.std.proofs.Common.{◌≡◌, ℕ, Option, Some, None, sym, subst}
 use Rattle.policy.specs.declared.permission.Grantee.{Grantee}
 use Rattle.policy.specs.declared.permission.Grantee.TheVariants as grantee
 use Rattle.circle.specs.Aftermath as circle
-use Rattle.circle.specs.Aftermath.{rows_of}
 use Rattle.circle.specs.Directory.{Directory}
 use Rattle.circle.specs.Growth.{Grows}
 use Rattle.circle.specs.Sound as circle_sound
 use Rattle.circle.specs.Sound.{IsOrg}
 use Rattle.circle.specs.declared.command.CircleCommand.{CircleCommand}
 use Rattle.circle.specs.declared.command.Edit.{Edit as CircleEdit}
-use Rattle.circle.specs.declared.command.Edit.TheVariants.{Row, Found}
 use Rattle.circle.specs.declared.directory.Person.{Person}
 use Rattle.circle.proofs.Growth.{grows}
 use Rattle.circle.proofs.Keeping.{each_weaker}
 use Rattle.circle.proofs.Kept as kept
 use Rattle.hub_core.specs.Aftermath.{changed}
-use Rattle.hub_core.specs.Edits.{after}
 use Rattle.hub_core.specs.Refusals.{refusal_of}
 use Rattle.hub_core.specs.Sound.{IsSound, IsTarget, IsGrantee, IsGroupIfAny}
 use Rattle.hub_core.specs.State.{State}
-use Rattle.hub_core.specs.declared.edit.Edit.TheVariants as edits
 use Rattle.hub_core.specs.declared.request.Request.TheVariants as ask
 use Rattle.hub_core.specs.declared.request.Target.{Target}
 use Rattle.hub_core.specs.declared.request.Target.TheVariants as target
-
--- the edits of the rows make the change of the directory
-rows_make : (edit : CircleEdit) (s : State) → after (map edits.Directory (rows_of edit)) s ≡ record s { directory = circle.edited edit s.directory }
-rows_make (Row edit) s = refl
-rows_make (Found group) s = refl
+use Rattle.hub_core.proofs.Commands.{rows_make}
 
 group_stays : (d e : Directory) → Grows d e → (g : Option ℕ) → IsGroupIfAny d.groups g → IsGroupIfAny e.groups g
 group_stays d e more None h = tt

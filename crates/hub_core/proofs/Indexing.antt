@@ -1,20 +1,21 @@
 -- Rows told apart by their keys, and the index of the incidents.
-use Rattle.std.proofs.Common.{◌≡◌, ℕ, ◌==◌, ◌&&◌, ◌||◌, Bool, true, false, not, List, [], ◌∷◌, filter, if◌then◌else◌, Some, refl, sym, ap, ◌∙◌, subst, arith}
+use Rattle.std.proofs.Common.{◌≡◌, ℕ, ◌==◌, ◌&&◌, ◌||◌, Bool, true, false, not, List, [], ◌∷◌, filter, if◌then◌else◌, refl, sym, ap, ◌∙◌, arith}
 use Rattle.std.specs.declared.cmp.Ordering.{Ordering}
 use Rattle.std.specs.declared.cmp.Ordering.TheVariants.{Less, Equal, Greater}
 use Rattle.std.specs.Ordering.{is_lt, is_eq, nat_cmp, ordering_then}
 use Rattle.std.specs.Cmp.Lexicographic.{slice_cmp}
 use Rattle.std.specs.List.{list_any}
 use Rattle.std.specs.Str.{bytes_eq}
-use Rattle.std.proofs.lemmas.Bool.Decides.{nat_tests}
+use Rattle.std.proofs.lemmas.Bool.Decides.{Decides-like, same_from_decides, nat_tests}
+use Rattle.std.proofs.lemmas.List.Elements.{filter_agree}
+use Rattle.std.proofs.lemmas.Map.Text.{is_eq-slice_cmp}
 use Rattle.std.proofs.lemmas.Slice.Eq.{bytes_eq-Decides, slice_eq-Decides}
-use Rattle.std.specs.Bool.{Decides}
-use Rattle.iodef_tree.proofs.Inverse.{pointer_tokens-pointer_text}
 use Rattle.circle.specs.Ordered.{pair_cmp}
 use Rattle.hub_core.specs.State.{same_pair}
-use Rattle.iodef_tree.specs.Text.{Bytes, Tokens, same_path}
-use Rattle.iodef_tree.specs.Pointer.{pointer_text, pointer_tokens}
+use Rattle.iodef_tree.specs.Text.{Tokens, same_path}
+use Rattle.iodef_tree.specs.Pointer.{pointer_text}
 use Rattle.circle.specs.Ordered.{put_by}
+use Rattle.circle.proofs.Lookup.{any_having}
 use Rattle.hub_core.specs.InOrder.{is_alike}
 use Rattle.hub_core.specs.State.{gate_cmp, permission_cmp, is_gate_at, is_permission_being, same_grantee, grantee_key}
 use Rattle.hub_core.specs.Lists.{IsIndexOf}
@@ -23,14 +24,7 @@ use Rattle.hub_core.specs.declared.state.Incident.{Incident}
 use Rattle.hub_core.specs.declared.state.Gate.{Gate}
 use Rattle.hub_core.specs.declared.state.Permission.{Permission}
 use Rattle.hub_core.specs.declared.rows.Named.{Named}
-
--- ---- tests that agree
-
-pub filter_same : {X : Type 0} (p q : X → Bool) (xs : List X) → ((x : X) → p x ≡ q x) → filter p xs ≡ filter q xs
-filter_same p q [] same = refl
-filter_same p q (x ∷ xs) same =
-    subst (λ b. (if p x then x ∷ filter p xs else filter p xs) ≡ (if b then x ∷ filter q xs else filter q xs)) (same x)
-    (ap (λ l. if p x then x ∷ l else l) (filter_same p q xs same))
+use Rattle.hub_core.proofs.Keys.{one_path}
 
 -- ---- the index
 
@@ -48,60 +42,25 @@ any_put_is p cmp x (y ∷ ys) = split (is_lt (cmp x y)) (any_put_is p cmp x ys)
     split true rest = refl
     split false rest = ap (λ b. p y || b) rest ∙ swap_or (p y) (p x) (list_any p ys)
 
-pub any_left : {X : Type 0} (p q : X → Bool) (xs : List X) → list_any p (filter q xs) ≡ list_any (λ x. q x && p x) xs
-any_left p q [] = refl
-any_left p q (x ∷ xs) = split (q x) (any_left p q xs)
-  where
-    split : (b : Bool) → list_any p (filter q xs) ≡ list_any (λ x. q x && p x) xs → list_any p (if b then x ∷ filter q xs else filter q xs) ≡ ((b && p x) || list_any (λ x. q x && p x) xs)
-    split true rest = ap (λ c. p x || c) rest
-    split false rest = rest
-
 pub index_put : (i : Incident) (incidents : List Incident) (names : List Named) → IsIndexOf incidents names → IsIndexOf (put_by incident_cmp i incidents) (put_by named_cmp (named i) names)
 index_put i incidents names all test =
     any_put_is (λ x. test (named x)) incident_cmp i incidents ∙ (ap (λ b. test (named i) || b) (all test) ∙ sym (any_put_is test named_cmp (named i) names))
 
 pub index_left : (n : ℕ) (incidents : List Incident) (names : List Named) → IsIndexOf incidents names → IsIndexOf (filter (λ (i : Incident). not (i.number == n)) incidents) (filter (λ (e : Named). not (e.number == n)) names)
 index_left n incidents names all test =
-    any_left (λ x. test (named x)) (λ (i : Incident). not (i.number == n)) incidents ∙ (all (λ e. not (e.number == n) && test e) ∙ sym (any_left test (λ (e : Named). not (e.number == n)) names))
+    any_having (λ (i : Incident). not (i.number == n)) (λ x. test (named x)) incidents ∙ (all (λ e. not (e.number == n) && test e) ∙ sym (any_having (λ (e : Named). not (e.number == n)) test names))
 
 -- ---- rows under one key
 
-pub same_bytes : (a b : Bytes) → is_eq (slice_cmp nat_cmp a b) ≡ bytes_eq a b
-same_bytes [] [] = refl
-same_bytes [] (y ∷ ys) = refl
-same_bytes (x ∷ xs) [] = refl
-same_bytes (x ∷ xs) (y ∷ ys) = let rest = same_bytes xs ys in grind (arith, nat_tests)
-
-same_text : (p q : Bytes) → bytes_eq p q ≡ true → p ≡ q
-same_text p q h = (bytes_eq-Decides p q).0 h
-
-text_itself : (p q : Bytes) → p ≡ q → bytes_eq p q ≡ true
-text_itself p q h = (bytes_eq-Decides p q).1 h
-
 -- paths are the same where their pointers are
-paths_by_pointers : (p q : Tokens) → bytes_eq (pointer_text p) (pointer_text q) ≡ same_path p q
-paths_by_pointers p q = split (bytes_eq (pointer_text p) (pointer_text q)) refl (same_path p q) refl
-  where
-    paths : Decides (same_path p q) (p ≡ q)
-    paths = slice_eq-Decides bytes_eq-Decides p q (same_path p q) refl
-
-    one_to_one : pointer_text p ≡ pointer_text q → p ≡ q
-    one_to_one h = some_same (sym (pointer_tokens-pointer_text p) ∙ (ap pointer_tokens h ∙ pointer_tokens-pointer_text q))
-      where
-        some_same : {x y : Tokens} → Some x ≡ Some y → x ≡ y
-        some_same e = cc
-
-    split : (a : Bool) → bytes_eq (pointer_text p) (pointer_text q) ≡ a → (b : Bool) → same_path p q ≡ b → bytes_eq (pointer_text p) (pointer_text q) ≡ same_path p q
-    split true one true two = one ∙ sym two
-    split false one false two = one ∙ sym two
-    split true one false two = one ∙ sym (paths.1 (one_to_one (same_text (pointer_text p) (pointer_text q) one)))
-    split false one true two = absurd (never (sym one ∙ text_itself (pointer_text p) (pointer_text q) (ap pointer_text (paths.0 two))))
-      where
-        never : false ≡ true → ⊥
-        never e = cc
+pub paths_by_pointers : (p q : Tokens) → bytes_eq (pointer_text p) (pointer_text q) ≡ same_path p q
+paths_by_pointers p q =
+    let s = pointer_text p in
+    let t = pointer_text q in
+    same_from_decides (bytes_eq s t) (same_path p q) (Decides-like (bytes_eq s t) (one_path p q) (λ e. ap pointer_text e) (bytes_eq-Decides s t)) (slice_eq-Decides bytes_eq-Decides p q (same_path p q) refl)
 
 same_pointers : (p q : Tokens) → is_eq (slice_cmp nat_cmp (pointer_text p) (pointer_text q)) ≡ same_path p q
-same_pointers p q = same_bytes (pointer_text p) (pointer_text q) ∙ paths_by_pointers p q
+same_pointers p q = is_eq-slice_cmp (pointer_text p) (pointer_text q) ∙ paths_by_pointers p q
 
 pub equal_then : (m n : ℕ) (o : Ordering) → is_eq (ordering_then (nat_cmp m n) o) ≡ ((m == n) && is_eq o)
 equal_then m n o = grind (arith, nat_tests)
@@ -129,7 +88,7 @@ permissions_alike key x =
     ∙ and_and (x.incident == key.incident) (same_path x.path key.path) (same_grantee x.grantee key.grantee)))
 
 pub gates_without : (key : Gate) (xs : List Gate) → filter (λ (g : Gate). not (is_alike gate_cmp g key)) xs ≡ filter (λ (g : Gate). not (is_gate_at key.incident key.path g)) xs
-gates_without key xs = filter_same (λ (g : Gate). not (is_alike gate_cmp g key)) (λ (g : Gate). not (is_gate_at key.incident key.path g)) xs (λ g. ap not (gates_alike key g))
+gates_without key xs = filter_agree (λ (g : Gate). not (is_alike gate_cmp g key)) (λ (g : Gate). not (is_gate_at key.incident key.path g)) (λ g. ap not (gates_alike key g)) xs
 
 pub permissions_without : (key : Permission) (xs : List Permission) → filter (λ (x : Permission). not (is_alike permission_cmp x key)) xs ≡ filter (λ (x : Permission). not (is_permission_being key.incident key.path key.grantee x)) xs
-permissions_without key xs = filter_same (λ (x : Permission). not (is_alike permission_cmp x key)) (λ (x : Permission). not (is_permission_being key.incident key.path key.grantee x)) xs (λ x. ap not (permissions_alike key x))
+permissions_without key xs = filter_agree (λ (x : Permission). not (is_alike permission_cmp x key)) (λ (x : Permission). not (is_permission_being key.incident key.path key.grantee x)) (λ x. ap not (permissions_alike key x)) xs

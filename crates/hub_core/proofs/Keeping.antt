@@ -1,6 +1,6 @@
 -- Rows put in and taken out: what is found, filtered and counted then.
-use Rattle.std.proofs.Common.{◌≡◌, ℕ, ◌+◌, ◌≤◌, ◌==◌, ◌||◌, Bool, true, false, if◌then◌else◌, List, [], ◌∷◌, filter, Option, Some, None, refl, sym, ap, ◌∙◌, subst, arith}
-use Rattle.std.proofs.lemmas.Bool.{false_from_ne_true}
+use Rattle.std.proofs.Common.{◌≡◌, ℕ, ◌+◌, ◌≤◌, ◌<◌, ◌==◌, ◌||◌, Bool, true, false, if◌then◌else◌, List, [], ◌∷◌, filter, Option, Some, None, refl, sym, ap, ◌∙◌, subst, arith}
+use Rattle.std.proofs.lemmas.Bool.{both_ways, false_from_ne_true}
 use Rattle.std.specs.Prelude.{count_by, find, is_some}
 use Rattle.std.specs.List.{list_any, list_all}
 use Rattle.std.specs.Option.{option_map_or}
@@ -9,15 +9,13 @@ use Rattle.std.specs.declared.cmp.Ordering.{Ordering}
 use Rattle.std.proofs.lemmas.Bool.Decides.{nat_tests}
 use Rattle.redact.proofs.Counts.{count_by-cons}
 use Rattle.circle.specs.Ordered.{put_by}
-use Rattle.circle.specs.Sound.{Each}
+use Rattle.circle.specs.Sound.{CountsFrom, Each}
+use Rattle.circle.proofs.Keeping.{each_weaker}
 
 -- ---- tests
 
 pub never : {A : Type 0} (b : Bool) → b ≡ true → b ≡ false → A
-never b h k = absurd (cannot (sym h ∙ k))
-  where
-    cannot : true ≡ false → ⊥
-    cannot e = cc
+never b h k = absurd (both_ways b k h)
 
 pub turned : (m n : ℕ) → (m == n) ≡ false → (n == m) ≡ false
 turned m n h = grind (arith, nat_tests)
@@ -25,6 +23,13 @@ turned m n h = grind (arith, nat_tests)
 -- what is one number isn't another
 pub not_both : (m n k : ℕ) → (n == k) ≡ false → (m == n) ≡ true → (m == k) ≡ false
 not_both m n k h e = grind (arith, nat_tests)
+
+-- numbers that count on from one are above it
+pub numbers_above : {X : Type 0} (number : X → ℕ) (n : ℕ) (xs : List X) → CountsFrom number n xs → Each (λ x. n < number x) xs
+numbers_above number n [] h = tt
+numbers_above number n (x ∷ xs) h =
+    let first : number x ≡ n + 1 = h.0 in
+    (omega arith, each_weaker (λ y. n + 1 < number y) (λ y. n < number y) xs (λ y e. omega arith) (numbers_above number (n + 1) xs h.1))
 
 -- ---- what is found
 
@@ -138,14 +143,11 @@ filter_none p q (x ∷ xs) gone = split (q x) refl (filter_none p q xs gone)
 
 -- ---- how many
 
-abbrev one_if : Bool → ℕ
-one_if b = if b then 1 else 0
-
-one : (b : Bool) → b ≡ true → one_if b ≡ 1
+one : (b : Bool) → b ≡ true → ◌≡◌ {A = ℕ} (if b then 1 else 0) 1
 one true h = refl
 one false h = cc
 
-nothing : (b : Bool) → b ≡ false → one_if b ≡ 0
+nothing : (b : Bool) → b ≡ false → ◌≡◌ {A = ℕ} (if b then 1 else 0) 0
 nothing true h = cc
 nothing false h = refl
 
@@ -153,13 +155,13 @@ count_here : {X : Type 0} (p : X → Bool) (x : X) (xs : List X) → p x ≡ tru
 count_here p x xs h = count_by-cons p x xs ∙ ap (λ n. n + count_by p xs) (one (p x) h)
 
 count_past : {X : Type 0} (p : X → Bool) (x : X) (xs : List X) → p x ≡ false → count_by p (x ∷ xs) ≡ count_by p xs
-count_past p x xs h = let all = count_by-cons p x xs in let none : one_if (p x) ≡ 0 = nothing (p x) h in omega arith
+count_past p x xs h = let all = count_by-cons p x xs in let none : ◌≡◌ {A = ℕ} (if p x then 1 else 0) 0 = nothing (p x) h in omega arith
 
 later : {X : Type 0} (p : X → Bool) (x y : X) (ys zs : List X) → count_by p zs ≡ count_by p (x ∷ ys) → count_by p (y ∷ zs) ≡ count_by p (x ∷ y ∷ ys)
 later p x y ys zs h =
     let a = count_by-cons p y zs in let b = count_by-cons p x (y ∷ ys) in let c = count_by-cons p y ys in let d = count_by-cons p x ys in omega arith
 
-count_put : {X : Type 0} (p : X → Bool) (cmp : X → X → Ordering) (x : X) (xs : List X) → count_by p (put_by cmp x xs) ≡ count_by p (x ∷ xs)
+pub count_put : {X : Type 0} (p : X → Bool) (cmp : X → X → Ordering) (x : X) (xs : List X) → count_by p (put_by cmp x xs) ≡ count_by p (x ∷ xs)
 count_put p cmp x [] = refl
 count_put p cmp x (y ∷ ys) = elim (is_lt (cmp x y)) as (λ b. count_by p (if b then x ∷ y ∷ ys else y ∷ put_by cmp x ys) ≡ count_by p (x ∷ y ∷ ys)) [ true ↦ refl | false ↦ later p x y ys (put_by cmp x ys) (count_put p cmp x ys) ]
 
@@ -198,7 +200,7 @@ count_kept p q [] stays = refl
 count_kept p q (x ∷ xs) stays = split (q x) refl (count_kept p q xs stays)
   where
     split : (b : Bool) → q x ≡ b → count_by p (filter q xs) ≡ count_by p xs → count_by p (filter q (x ∷ xs)) ≡ count_by p (x ∷ xs)
-    split true is rest = ap (λ b. count_by p (if b then x ∷ filter q xs else filter q xs)) is ∙ (count_by-cons p x (filter q xs) ∙ (ap (λ n. one_if (p x) + n) rest ∙ sym (count_by-cons p x xs)))
+    split true is rest = ap (λ b. count_by p (if b then x ∷ filter q xs else filter q xs)) is ∙ (count_by-cons p x (filter q xs) ∙ (ap (λ n. (if p x then 1 else 0) + n) rest ∙ sym (count_by-cons p x xs)))
     split false is rest = ap (λ b. count_by p (if b then x ∷ filter q xs else filter q xs)) is ∙ (rest ∙ sym (count_past p x xs (false_from_ne_true (p x) (λ h. never (q x) (stays x h) is))))
 
 pub at_most : (a b limit : ℕ) → a ≤ b → b ≤ limit → a ≤ limit

@@ -1,6 +1,6 @@
 -- What nothing refuses leaves a sound state.
 use Rattle.std.proofs.Common.{◌≡◌, ℕ, ◌+◌, ◌≤◌, ◌&&◌, true, false, List, [], ◌∷◌, ◌++◌, length, Option, Some, None, refl, sym, ap, ◌∙◌, subst, arith}
-use Rattle.std.proofs.lemmas.Bool.{ltb-false, not-false, or_parts}
+use Rattle.std.proofs.lemmas.Bool.{false≢true, ltb-false, not-false, or_parts}
 use Rattle.std.specs.Prelude.{suc, nat_lt, Ok}
 use Rattle.std.specs.List.{list_all}
 use Rattle.std.specs.Option.{option_map_or}
@@ -53,16 +53,10 @@ post_kept s a level group gates body h known fine =
 -- ---- another document
 
 one_of : (docs : List Lines) → has_several docs ≡ false → has_one docs ≡ true → (doc : Lines) × (docs ≡ doc ∷ [])
-one_of [] h k = absurd (never_one k)
-  where
-    never_one : false ≡ true → ⊥
-    never_one e = cc
+one_of [] h k = absurd (false≢true k)
 one_of (doc ∷ []) h k = (doc, refl)
-one_of (doc ∷ other ∷ docs) h k = absurd (never_two (sym h ∙ two (length docs)))
+one_of (doc ∷ other ∷ docs) h k = absurd (false≢true (sym h ∙ two (length docs)))
   where
-    never_two : false ≡ true → ⊥
-    never_two e = cc
-
     two : (n : ℕ) → nat_lt 1 (suc (suc n)) ≡ true
     two n = grind (arith, nat_tests)
 

@@ -1,12 +1,10 @@
--- The order of each key is total, and only rows of one key tie.
+-- Only rows of one key tie.
 use Rattle.std.proofs.Common.{◌≡◌, ◌≢◌, ℕ, ◌==◌, ◌&&◌, Bool, true, false, Some, refl, sym, ap, ◌∙◌, arith}
 use Rattle.std.specs.Ordering.{is_eq, nat_cmp, ordering_then}
 use Rattle.std.specs.declared.cmp.Ordering.{Ordering}
 use Rattle.std.specs.declared.cmp.Ordering.TheVariants.{Less, Equal, Greater}
-use Rattle.std.specs.Cmp.{IsTotalOrder}
 use Rattle.std.specs.Cmp.Lexicographic.{slice_cmp}
 use Rattle.std.specs.Str.{bytes_eq}
-use Rattle.std.proofs.lemmas.Cmp.{nat_cmp_total, nat_list_cmp_total, on_total, then_total}
 use Rattle.std.proofs.lemmas.Map.Text.{is_eq-slice_cmp}
 use Rattle.std.proofs.lemmas.Bool.Decides.{nat_tests}
 use Rattle.iodef_tree.specs.Text.{Bytes, Tokens, same_path}
@@ -14,26 +12,14 @@ use Rattle.iodef_tree.specs.Pointer.{pointer_text, pointer_tokens}
 use Rattle.iodef_tree.proofs.Order.{bytes_eq-refl, bytes_eq-true, same_path-refl}
 use Rattle.iodef_tree.proofs.Inverse.{pointer_tokens-pointer_text}
 use Rattle.circle.specs.Ordered.{pair_cmp}
-use Rattle.circle.proofs.Keeping.{pair_total}
-use Rattle.hub_core.specs.State.{path_cmp, gate_cmp, recipient_cmp, permission_cmp, target_key, grantee_key, same_pair, is_gate_at, is_recipient_being, is_permission_being}
+use Rattle.hub_core.specs.State.{path_cmp, recipient_cmp, permission_cmp, target_key, grantee_key, same_pair, is_gate_at, is_recipient_being, is_permission_being}
 use Rattle.hub_core.specs.declared.state.Gate.{Gate}
 use Rattle.hub_core.specs.declared.state.Recipient.{Recipient}
 use Rattle.hub_core.specs.declared.state.Permission.{Permission}
 
-pub gate_total : IsTotalOrder gate_cmp
-gate_total = then_total (on_total (λ (g : Gate). g.incident) nat_cmp_total) (on_total (λ (g : Gate). pointer_text g.path) nat_list_cmp_total)
-
-pub recipient_total : IsTotalOrder recipient_cmp
-recipient_total = then_total (on_total (λ (r : Recipient). r.incident) nat_cmp_total) (on_total (λ (r : Recipient). target_key r.target) pair_total)
-
-pub permission_total : IsTotalOrder permission_cmp
-permission_total =
-    then_total (then_total (on_total (λ (x : Permission). x.incident) nat_cmp_total) (on_total (λ (x : Permission). pointer_text x.path) nat_list_cmp_total))
-    (on_total (λ (x : Permission). grantee_key x.grantee) pair_total)
-
 -- ---- a path is known by its pointer
 
-one_path : (p q : Tokens) → pointer_text p ≡ pointer_text q → p ≡ q
+pub one_path : (p q : Tokens) → pointer_text p ≡ pointer_text q → p ≡ q
 one_path p q h = let same : Some p ≡ Some q = sym (pointer_tokens-pointer_text p) ∙ (ap pointer_tokens h ∙ pointer_tokens-pointer_text q) in cc
 
 path_of_text : (p q : Tokens) → bytes_eq (pointer_text q) (pointer_text p) ≡ true → same_path q p ≡ true

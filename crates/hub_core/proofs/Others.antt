@@ -83,23 +83,25 @@ spared n (edit ∷ edits) s h =
     let rest = spared n edits (edited edit s) h.1 in
     record { row = rest.row ∙ first.row; gates = rest.gates ∙ first.gates; recipients = rest.recipients ∙ first.recipients; permissions = rest.permissions ∙ first.permissions }
 
-each_append : (n : ℕ) (xs ys : List Edit) → Each (Spares n) xs → Each (Spares n) ys → Each (Spares n) (xs ++ ys)
-each_append n [] ys h k = k
-each_append n (x ∷ xs) ys h k = (h.0, each_append n xs ys h.1 k)
+module _ (P : Edit → Type 0) where
+  each_append : (xs ys : List Edit) → Each P xs → Each P ys → Each P (xs ++ ys)
+  each_append [] ys h k = k
+  each_append (x ∷ xs) ys h k = (h.0, each_append xs ys h.1 k)
 
--- made at a pointer's path, if there is one
-made_spares : (n : ℕ) (make : Tokens → List Edit) (o : Option Tokens) → ((p : Tokens) → Each (Spares n) (make p)) → Each (Spares n) (option_map_or make o [])
-made_spares n make None h = tt
-made_spares n make (Some p) h = h p
+  -- made at a pointer's path, if there is one
+  each_made : (make : Tokens → List Edit) (o : Option Tokens) → ((p : Tokens) → Each P (make p)) → Each P (option_map_or make o [])
+  each_made make None h = tt
+  each_made make (Some p) h = h p
 
-wanted_spare : (n m : ℕ) (gates : List WantedGate) → (m == n) ≡ false → Each (Spares n) (flat_map (λ (g : WantedGate). made_at (put_gate m g.level g.group) g.path) gates)
-wanted_spare n m [] h = tt
-wanted_spare n m (g ∷ gs) h =
-    each_append n (made_at (put_gate m g.level g.group) g.path) (flat_map (λ (g : WantedGate). made_at (put_gate m g.level g.group) g.path) gs)
-    (made_spares n (put_gate m g.level g.group) (pointer_tokens g.path) (λ p. (h, tt))) (wanted_spare n m gs h)
+  -- the gates asked for
+  each_wanted : (m : ℕ) (gates : List WantedGate) → ((g : WantedGate) (p : Tokens) → Each P (put_gate m g.level g.group p)) → Each P (flat_map (λ (g : WantedGate). made_at (put_gate m g.level g.group) g.path) gates)
+  each_wanted m [] h = tt
+  each_wanted m (g ∷ gs) h =
+      each_append (made_at (put_gate m g.level g.group) g.path) (flat_map (λ (g : WantedGate). made_at (put_gate m g.level g.group) g.path) gs)
+      (each_made (put_gate m g.level g.group) (pointer_tokens g.path) (h g)) (each_wanted m gs h)
 
 gates_spare : (n m level : ℕ) (group : Option ℕ) (gates : List WantedGate) → (m == n) ≡ false → Each (Spares n) (put_gates m level group gates)
-gates_spare n m level group gates h = (h, wanted_spare n m gates h)
+gates_spare n m level group gates h = (h, each_wanted (Spares n) m gates (λ g p. (h, tt)))
 
 next_spares : (n : ℕ) (o : Option Incident) (docs : List Lines) → ((i : Incident) → o ≡ Some i → (i.number == n) ≡ false) → Each (Spares n) (put_next o docs)
 next_spares n None docs h = tt
@@ -111,7 +113,7 @@ incidents_spare : (n source m level : ℕ) (group : Option ℕ) (gates : List Wa
 incidents_spare n source m level group gates [] h = tt
 incidents_spare n source m level group gates (doc ∷ docs) h =
     let other : (m == n) ≡ false = ne_eqb m n (λ e. absurd (omega arith)) in
-    each_append n (put_incident source m level group gates doc) (put_incidents source (m + 1) level group gates docs) (other, gates_spare n m level group gates other) (incidents_spare n source (m + 1) level group gates docs (omega arith))
+    each_append (Spares n) (put_incident source m level group gates doc) (put_incidents source (m + 1) level group gates docs) (other, gates_spare n m level group gates other) (incidents_spare n source (m + 1) level group gates docs (omega arith))
 
 rows_spare : (n : ℕ) (rows : List RowEdit) → Each (Spares n) (map Directory rows)
 rows_spare n [] = tt
@@ -119,14 +121,14 @@ rows_spare n (row ∷ rows) = (tt, rows_spare n rows)
 
 -- ---- every request
 
+one_row : (x y : Incident) → Some x ≡ Some y → x ≡ y
+one_row x y e = cc
+
 -- whose incident it is isn't another's
 not_theirs : (s : State) (a : Person) (n : ℕ) (i : Incident) → incident_of i.number s ≡ Some i → i.source ≢ a.org → not (is_own s a n) ≡ false → (n == i.number) ≡ false
 not_theirs s a n i found other h =
     let it = own s a n h in
-    false_from_ne_true (n == i.number) (λ e. other (sym (ap (λ (x : Incident). x.source) (same it.incident i (sym it.found ∙ (ap (λ m. incident_of m s) (eqb-true n i.number e) ∙ found)))) ∙ it.source))
-  where
-    same : (x y : Incident) → Some x ≡ Some y → x ≡ y
-    same x y e = cc
+    false_from_ne_true (n == i.number) (λ e. other (sym (ap (λ (x : Incident). x.source) (one_row it.incident i (sym it.found ∙ (ap (λ m. incident_of m s) (eqb-true n i.number e) ∙ found)))) ∙ it.source))
 
 all_spared : (s : State) (a : Person) (r : Request) (i : Incident) → IsSound s → incident_of i.number s ≡ Some i → i.source ≢ a.org → refusal_of s a r ≡ None → Each (Spares i.number) (edits_of s a r)
 all_spared s a (ask.Circle command) i h found other fine = rows_spare i.number (rows_of (circle.edit_of (circle.next_in s.directory command) a command))
@@ -138,16 +140,13 @@ all_spared s a (ask.Replace n revision level group gates body) i h found other f
     let p = passed (grounds s a (ask.Replace n revision level group gates body)) fine in
     let apart : (n == i.number) ≡ false = not_theirs s a n i found other p.1.1.1.1.1.1.1.0 in
     let it = own s a n p.1.1.1.1.1.1.1.0 in
-    each_append i.number (put_next (incident_of n s) (documents_in body)) (TakePolicy n ∷ put_gates n level group gates)
-    (next_spares i.number (incident_of n s) (documents_in body) (λ x e. subst (λ m. (m == i.number) ≡ false) (sym (ap (λ (y : Incident). y.number) (same x it.incident (sym e ∙ it.found)) ∙ it.number)) apart))
+    each_append (Spares i.number) (put_next (incident_of n s) (documents_in body)) (TakePolicy n ∷ put_gates n level group gates)
+    (next_spares i.number (incident_of n s) (documents_in body) (λ x e. subst (λ m. (m == i.number) ≡ false) (sym (ap (λ (y : Incident). y.number) (one_row x it.incident (sym e ∙ it.found)) ∙ it.number)) apart))
     (apart, gates_spare i.number n level group gates apart)
-  where
-    same : (x y : Incident) → Some x ≡ Some y → x ≡ y
-    same x y e = cc
 all_spared s a (ask.Redistribute n revision path level group) i h found other fine =
     let p = passed (grounds s a (ask.Redistribute n revision path level group)) fine in
     let apart : (n == i.number) ≡ false = not_theirs s a n i found other p.1.1.1.1.0 in
-    made_spares i.number (λ p. TakeGate n p ∷ put_gate n level group p) (pointer_tokens path) (λ q. (apart, (apart, tt)))
+    each_made (Spares i.number) (λ p. TakeGate n p ∷ put_gate n level group p) (pointer_tokens path) (λ q. (apart, (apart, tt)))
 all_spared s a (ask.Address n target) i h found other fine =
     let p = passed (grounds s a (ask.Address n target)) fine in (not_theirs s a n i found other p.1.0, tt)
 all_spared s a (ask.Unaddress n target) i h found other fine =
@@ -155,11 +154,11 @@ all_spared s a (ask.Unaddress n target) i h found other fine =
 all_spared s a (ask.Grant n revision path grantee) i h found other fine =
     let p = passed (grounds s a (ask.Grant n revision path grantee)) fine in
     let apart : (n == i.number) ≡ false = not_theirs s a n i found other p.1.1.0 in
-    made_spares i.number (λ p. PutPermission (record { incident = n; path = p; grantee = grantee }) ∷ []) (pointer_tokens path) (λ q. (apart, tt))
+    each_made (Spares i.number) (λ p. PutPermission (record { incident = n; path = p; grantee = grantee }) ∷ []) (pointer_tokens path) (λ q. (apart, tt))
 all_spared s a (ask.Withdraw n path grantee) i h found other fine =
     let p = passed (grounds s a (ask.Withdraw n path grantee)) fine in
     let apart : (n == i.number) ≡ false = not_theirs s a n i found other p.1.1.0 in
-    made_spares i.number (λ p. TakePermission n p grantee ∷ []) (pointer_tokens path) (λ q. (apart, tt))
+    each_made (Spares i.number) (λ p. TakePermission n p grantee ∷ []) (pointer_tokens path) (λ q. (apart, tt))
 all_spared s a (ask.View n) i h found other fine = tt
 all_spared s a (ask.Explain person n path) i h found other fine = tt
 all_spared s a (ask.List after) i h found other fine = tt
@@ -207,20 +206,6 @@ keeps (edit ∷ edits) s h =
     let rest = keeps edits (edited edit s) h.1 in
     record { recipients = rest.recipients ∙ first.recipients; permissions = rest.permissions ∙ first.permissions }
 
-plain_append : (xs ys : List Edit) → Each IsPlain xs → Each IsPlain ys → Each IsPlain (xs ++ ys)
-plain_append [] ys h k = k
-plain_append (x ∷ xs) ys h k = (h.0, plain_append xs ys h.1 k)
-
-made_plain : (make : Tokens → List Edit) (o : Option Tokens) → ((p : Tokens) → Each IsPlain (make p)) → Each IsPlain (option_map_or make o [])
-made_plain make None h = tt
-made_plain make (Some p) h = h p
-
-wanted_plain : (m : ℕ) (gates : List WantedGate) → Each IsPlain (flat_map (λ (g : WantedGate). made_at (put_gate m g.level g.group) g.path) gates)
-wanted_plain m [] = tt
-wanted_plain m (g ∷ gs) =
-    plain_append (made_at (put_gate m g.level g.group) g.path) (flat_map (λ (g : WantedGate). made_at (put_gate m g.level g.group) g.path) gs)
-    (made_plain (put_gate m g.level g.group) (pointer_tokens g.path) (λ p. (tt, tt))) (wanted_plain m gs)
-
 next_plain : (o : Option Incident) (docs : List Lines) → Each IsPlain (put_next o docs)
 next_plain None docs = tt
 next_plain (Some i) [] = tt
@@ -232,7 +217,7 @@ replaced s n level group gates o docs =
     let t : State = after first s in
     let u : State = edited (TakePolicy n) t in
     let one = keeps first s (next_plain o docs) in
-    let two = keeps (put_gates n level group gates) u (tt, wanted_plain n gates) in
+    let two = keeps (put_gates n level group gates) u (tt, each_wanted IsPlain n gates (λ g p. (tt, tt))) in
     let all : after (first ++ TakePolicy n ∷ put_gates n level group gates) s ≡ after (put_gates n level group gates) u = after_append first (TakePolicy n ∷ put_gates n level group gates) s in
     record {
       permissions = ap (permissions_at n) all ∙ (ap (filter (λ (x : Permission). x.incident == n)) two.permissions ∙ filter_none (λ (x : Permission). x.incident == n) (λ (x : Permission). not (x.incident == n)) t.permissions (λ x h. not-true (x.incident == n) h));

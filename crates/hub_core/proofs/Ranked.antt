@@ -1,5 +1,5 @@
 -- Rows in order: where one goes, and how those that belong together are found.
-use Rattle.std.proofs.Common.{◌≡◌, ℕ, zero, suc, ◌+◌, ◌-◌, ◌≤◌, ◌<◌, ◌==◌, Bool, true, false, not, List, [], ◌∷◌, ◌++◌, filter, take, drop, length, get_or, if◌then◌else◌, refl, sym, ap, ◌∙◌, subst, arith}
+use Rattle.std.proofs.Common.{◌≡◌, ℕ, zero, suc, ◌+◌, ◌-◌, ◌≤◌, ◌<◌, ◌==◌, Bool, true, false, not, List, [], ◌∷◌, ◌++◌, filter, take, drop, length, get_or, if◌then◌else◌, refl, sym, ap, ◌∙◌, subst, arith, true≢false}
 use Rattle.std.specs.Prelude.{nat_lt}
 use Rattle.std.specs.declared.cmp.Ordering.{Ordering}
 use Rattle.std.specs.declared.cmp.Ordering.TheVariants.{Less, Equal, Greater}
@@ -9,10 +9,12 @@ use Rattle.std.specs.List.{AllWithin, insert}
 use Rattle.std.specs.List.Sorted.{IsPartitionedBy, IsPartitionPoint}
 use Rattle.std.proofs.lemmas.List.{get_or-drop, drop-drop}
 use Rattle.std.proofs.Common.{length-drop}
+use Rattle.std.proofs.lemmas.Bool.{not-true, not-false}
 use Rattle.std.proofs.lemmas.Bool.Decides.{nat_tests}
 use Rattle.circle.specs.Ordered.{put_by}
 use Rattle.circle.specs.Sound.{Pairwise, Each}
 use Rattle.circle.proofs.Keeping.{each_put, each_weaker, pairs_left}
+use Rattle.circle.proofs.Lookup.{filter_drop, filter_take, put_at}
 use Rattle.hub_core.specs.InOrder.{IsInOrder, IsStretch, is_alike}
 
 -- ---- by place
@@ -40,23 +42,8 @@ partitioned R p xs back all i j d h k here = split (i == j) refl
 
 pub put_inserted : {X : Type 0} (cmp : X → X → Ordering) (x : X) (xs : List X) (i : ℕ) → i ≤ length xs →
     IsPartitionPoint (λ y. not (is_lt (cmp x y)) ≡ true) (λ y. not (is_lt (cmp x y)) ≡ false) xs i → insert xs i x ≡ put_by cmp x xs
-put_inserted cmp x [] zero h parts = refl
-put_inserted cmp x [] (suc i) h parts = absurd (omega arith)
-put_inserted cmp x (y ∷ ys) zero h parts =
-    let low : is_lt (cmp x y) ≡ true = no_not (is_lt (cmp x y)) (parts.1 0 y (omega arith) (omega arith)) in
-    subst (λ b. x ∷ y ∷ ys ≡ (if b then x ∷ y ∷ ys else y ∷ put_by cmp x ys)) (sym low) refl
-  where
-    no_not : (b : Bool) → not b ≡ false → b ≡ true
-    no_not true e = refl
-    no_not false e = cc
-put_inserted cmp x (y ∷ ys) (suc i) h parts =
-    let high : is_lt (cmp x y) ≡ false = yes_not (is_lt (cmp x y)) (parts.0 0 y (omega arith) (omega arith)) in
-    let rest : insert ys i x ≡ put_by cmp x ys = put_inserted cmp x ys i (omega arith) ((λ k d a b. parts.0 (suc k) d (omega arith) (omega arith)), (λ k d a b. parts.1 (suc k) d (omega arith) (omega arith))) in
-    subst (λ b. insert (y ∷ ys) (suc i) x ≡ (if b then x ∷ y ∷ ys else y ∷ put_by cmp x ys)) (sym high) (ap (λ l. y ∷ l) rest)
-  where
-    yes_not : (b : Bool) → not b ≡ true → b ≡ false
-    yes_not true e = cc
-    yes_not false e = refl
+put_inserted cmp x xs i h parts =
+    sym (put_at cmp x i xs h (λ k d low high. not-true (is_lt (cmp x (get_or xs k d))) (parts.0 k d low high)) (λ k d low high. not-false (is_lt (cmp x (get_or xs k d))) (parts.1 k d low high)))
 
 pub put_in_order : {X : Type 0} (cmp : X → X → Ordering) (x : X) (xs : List X) → IsTotalOrder cmp → IsInOrder cmp xs → IsInOrder cmp (put_by cmp x xs)
 put_in_order cmp x [] total all = (tt, tt)
@@ -66,10 +53,7 @@ put_in_order cmp x (y ∷ ys) total all = split (cmp x y) refl (put_in_order cmp
     above z low h = halves (cmp z x) refl
       where
         halves : (o : Ordering) → cmp z x ≡ o → is_lt o ≡ false
-        halves Less e = absurd (never (sym (ap is_lt (total.trans z x y e low)) ∙ h))
-          where
-            never : true ≡ false → ⊥
-            never f = cc
+        halves Less e = absurd (true≢false (sym (ap is_lt (total.trans z x y e low)) ∙ h))
         halves Equal e = refl
         halves Greater e = refl
 
@@ -80,27 +64,6 @@ put_in_order cmp x (y ∷ ys) total all = split (cmp x y) refl (put_in_order cmp
     split Greater is rest = subst (λ o. IsInOrder cmp (if is_lt o then x ∷ y ∷ ys else y ∷ put_by cmp x ys)) (sym is) (each_put (λ z. is_lt (cmp z y) ≡ false) cmp x ys (ap is_lt is) all.0, rest)
 
 -- ---- rows that stand together
-
-pub none_before : {X : Type 0} (p : X → Bool) (xs : List X) (i : ℕ) → i ≤ length xs → AllWithin (λ y. p y ≡ false) xs 0 i → filter p xs ≡ filter p (drop i xs)
-none_before p xs zero h all = refl
-none_before p [] (suc i) h all = refl
-none_before p (x ∷ xs) (suc i) h all =
-    subst (λ b. (if b then x ∷ filter p xs else filter p xs) ≡ filter p (drop i xs)) (sym (all 0 x (omega arith) (omega arith)))
-    (none_before p xs i (omega arith) (λ k d a b. all (suc k) d (omega arith) (omega arith)))
-
-pub none_within : {X : Type 0} (p : X → Bool) (xs : List X) → AllWithin (λ y. p y ≡ false) xs 0 (length xs) → filter p xs ≡ []
-none_within p [] all = refl
-none_within p (x ∷ xs) all =
-    subst (λ b. (if b then x ∷ filter p xs else filter p xs) ≡ []) (sym (all 0 x (omega arith) (omega arith)))
-    (none_within p xs (λ k d a b. all (suc k) d (omega arith) (omega arith)))
-
-pub all_before : {X : Type 0} (p : X → Bool) (xs : List X) (i : ℕ) → i ≤ length xs → IsPartitionPoint (λ y. p y ≡ true) (λ y. p y ≡ false) xs i → filter p xs ≡ take i xs
-all_before p [] zero h parts = refl
-all_before p [] (suc i) h parts = refl
-all_before p (x ∷ xs) zero h parts = none_within p (x ∷ xs) parts.1
-all_before p (x ∷ xs) (suc i) h parts =
-    subst (λ b. (if b then x ∷ filter p xs else filter p xs) ≡ x ∷ take i xs) (sym (parts.0 0 x (omega arith) (omega arith)))
-    (ap (λ l. x ∷ l) (all_before p xs i (omega arith) ((λ k d a b. parts.0 (suc k) d (omega arith) (omega arith)), (λ k d a b. parts.1 (suc k) d (omega arith) (omega arith)))))
 
 kept_all : {X : Type 0} (q : X → Bool) (xs : List X) → AllWithin (λ y. q y ≡ false) xs 0 (length xs) → filter (λ y. not (q y)) xs ≡ xs
 kept_all q [] all = refl
@@ -133,7 +96,7 @@ found_stretch p q xs from count apart h k one two =
     record {
       rising = omega arith;
       within = (let size = length-drop from xs in omega arith);
-      is = ap (λ n. take n (drop from xs)) (past from count) ∙ sym (none_before q xs from h before ∙ all_before q (drop from xs) count k two);
+      is = ap (λ n. take n (drop from xs)) (past from count) ∙ sym (filter_drop q from xs before ∙ filter_take q count (drop from xs) two.0 two.1);
       without = ap (λ l. take from xs ++ l) (sym (drop-drop count from xs)) ∙ sym (kept_before q xs from h before ∙ ap (λ l. take from xs ++ l) (gone_before q (drop from xs) count k two));
     }
 
@@ -169,10 +132,7 @@ below_back cmp total x a b ab bx = split (cmp a b) refl
     split : (o : Ordering) → cmp a b ≡ o → is_lt (cmp a x) ≡ true
     split Less is = ap is_lt (total.trans a b x is low)
     split Equal is = ap is_lt (total.congr a b x is ∙ low)
-    split Greater is = absurd (never (sym (ap is_lt (total.antisymm b a ∙ ap ordering_reverse is)) ∙ ab))
-      where
-        never : true ≡ false → ⊥
-        never f = cc
+    split Greater is = absurd (true≢false (sym (ap is_lt (total.antisymm b a ∙ ap ordering_reverse is)) ∙ ab))
 
 pub alike_back : {X : Type 0} (cmp : X → X → Ordering) → IsTotalOrder cmp → (x a b : X) → is_lt (cmp b a) ≡ false → is_lt (cmp a x) ≡ false → is_eq (cmp b x) ≡ true → is_eq (cmp a x) ≡ true
 alike_back cmp total x a b ab ax bx = split (cmp a b) refl
@@ -185,29 +145,23 @@ alike_back cmp total x a b ab ax bx = split (cmp a b) refl
         is_equal Equal e = refl
         is_equal Greater e = cc
 
-    never : true ≡ false → ⊥
-    never f = cc
-
     split : (o : Ordering) → cmp a b ≡ o → is_eq (cmp a x) ≡ true
-    split Less is = absurd (never (sym (ap is_lt (total.antisymm a x ∙ ap ordering_reverse (sym (total.congr b x a same) ∙ (total.antisymm b a ∙ ap ordering_reverse is)))) ∙ ax))
+    split Less is = absurd (true≢false (sym (ap is_lt (total.antisymm a x ∙ ap ordering_reverse (sym (total.congr b x a same) ∙ (total.antisymm b a ∙ ap ordering_reverse is)))) ∙ ax))
     split Equal is = ap is_eq (total.congr a b x is ∙ same)
-    split Greater is = absurd (never (sym (ap is_lt (total.antisymm b a ∙ ap ordering_reverse is)) ∙ ab))
+    split Greater is = absurd (true≢false (sym (ap is_lt (total.antisymm b a ∙ ap ordering_reverse is)) ∙ ab))
 
 -- ---- a row above the one that is put
 
 pub above_back : {X : Type 0} (cmp : X → X → Ordering) → IsTotalOrder cmp → (x a b : X) → is_lt (cmp b a) ≡ false → not (is_lt (cmp x b)) ≡ true → not (is_lt (cmp x a)) ≡ true
 above_back cmp total x a b ab xb = split (cmp x a) refl (cmp a b) refl
   where
-    never : true ≡ false → ⊥
-    never f = cc
-
     lower : is_lt (cmp x b) ≡ true → ⊥
-    lower e = never (sym xb ∙ ap not e)
+    lower e = true≢false (sym xb ∙ ap not e)
 
     split : (o : Ordering) → cmp x a ≡ o → (u : Ordering) → cmp a b ≡ u → not (is_lt (cmp x a)) ≡ true
     split Less is Less ab_is = absurd (lower (ap is_lt (total.trans x a b is ab_is)))
     split Less is Equal ab_is = absurd (lower (ap is_lt (total.antisymm x b ∙ ap ordering_reverse (sym (total.congr a b x ab_is) ∙ (total.antisymm a x ∙ ap ordering_reverse is)))))
-    split Less is Greater ab_is = absurd (never (sym (ap is_lt (total.antisymm b a ∙ ap ordering_reverse ab_is)) ∙ ab))
+    split Less is Greater ab_is = absurd (true≢false (sym (ap is_lt (total.antisymm b a ∙ ap ordering_reverse ab_is)) ∙ ab))
     split Equal is u ab_is = ap (λ o. not (is_lt o)) is
     split Greater is u ab_is = ap (λ o. not (is_lt o)) is
 

@@ -19,7 +19,8 @@ use Rattle.hub_core.specs.State.{State, gate_cmp, is_gate_at, is_place_of, root_
 use Rattle.hub_core.specs.declared.edit.Edit.TheVariants.{TakeGate}
 use Rattle.hub_core.specs.declared.request.Request.TheVariants as ask
 use Rattle.hub_core.specs.declared.state.Gate.{Gate}
-use Rattle.hub_core.proofs.Keys.{gate_total, apart_gate}
+use Rattle.hub_core.specs.Orders.{gate_total}
+use Rattle.hub_core.proofs.Keys.{apart_gate}
 use Rattle.hub_core.proofs.Named.{own, counted_is, group_if_any}
 use Rattle.hub_core.proofs.Keeping.{never, each_passes, count_more, count_same, count_none, count_kept}
 

@@ -7,13 +7,13 @@ use Rattle.circle.specs.Reads.{served_by, person_of}
 use Rattle.circle.specs.declared.directory.Client.{Client}
 use Rattle.circle.specs.declared.directory.Person.{Person}
 use Rattle.policy.specs.declared.standing.Standing.{Standing}
+use Rattle.circle.proofs.Lookup.{any_having}
 use Rattle.hub_core.specs.Facts.{known}
 use Rattle.hub_core.specs.Reads.{is_client_for, standing_for, standing_of}
 use Rattle.hub_core.specs.State.{State, incident_of, has_recipient}
 use Rattle.hub_core.specs.declared.facts.Known.{Known}
 use Rattle.hub_core.specs.declared.request.Target.TheVariants as target
 use Rattle.hub_core.specs.declared.state.Incident.{Incident}
-use Rattle.hub_core.proofs.Indexing.{any_left}
 use Rattle.hub_core.proofs.Keeping.{found_is}
 use Rattle.hub_core.proofs.Twins.{any_map}
 
@@ -23,7 +23,7 @@ client_is s i org n source number from =
     ap (λ m. list_any (λ o. o == source || has_recipient m (target.Org o) s) (served_by org s.directory)) (sym number)
     ∙ (ap (λ m. list_any (λ o. o == m || has_recipient i.number (target.Org o) s) (served_by org s.directory)) (sym from)
     ∙ (any_map (λ o. o == i.source || has_recipient i.number (target.Org o) s) (λ (c : Client). c.org) (filter (λ (c : Client). c.client == org) s.directory.clients)
-    ∙ any_left (λ (c : Client). c.org == i.source || has_recipient i.number (target.Org c.org) s) (λ (c : Client). c.client == org) s.directory.clients))
+    ∙ any_having (λ (c : Client). c.client == org) (λ (c : Client). c.org == i.source || has_recipient i.number (target.Org c.org) s) s.directory.clients))
 
 -- a standing to each incident of this number and source is that to the one that was found
 pub standing_is : (s : State) (person n : ℕ) (reader : Person) (k : Known) (standing : Standing) → Some reader ≡ person_of person s.directory → Some k ≡ option_map known (incident_of n s) →

@@ -16,7 +16,8 @@ use Rattle.hub_core.specs.declared.state.Recipient.{Recipient}
 use Rattle.hub_core.specs.declared.state.Permission.{Permission}
 use Rattle.hub_core.specs.declared.edit.Edit.{Edit}
 use Rattle.hub_core.specs.declared.edit.Edit.TheVariants as edit
-use Rattle.hub_core.proofs.Counted.{count_left, count_same}
+use Rattle.hub_core.proofs.Counted.{count_agree, count_filter}
+use Rattle.hub_core.proofs.Gated.{after_append}
 
 -- an edit at the path of a text, or none, leaves what it leaves at each path
 pub along_path : {X : Type 0} (get : State → X) (f : Tokens → List Edit) (path : Bytes) (s : State) → ((p : Tokens) → get (after (f p) s) ≡ get s) → get (after (made_at f path) s) ≡ get s
@@ -25,10 +26,6 @@ along_path get f path s same = split (pointer_tokens path)
     split : (o : Option Tokens) → get (after (option_map_or f o []) s) ≡ get s
     split None = refl
     split (Some p) = same p
-
-after_append : (xs ys : List Edit) (s : State) → after (xs ++ ys) s ≡ after ys (after xs s)
-after_append [] ys s = refl
-after_append (x ∷ xs) ys s = after_append xs ys (edited x s)
 
 -- gates that are put
 gates_leave : {X : Type 0} (get : State → X) → ((g : Gate) (s : State) → get (edited (edit.PutGate g) s) ≡ get s) → (n : ℕ) (gates : List WantedGate) (s : State) →
@@ -74,8 +71,8 @@ none_counted (x ∷ xs) = none_counted xs
 
 -- none of the permissions of the incident is left
 pub none_left : (n : ℕ) (xs : List Permission) → permissions_of n (filter (λ (x : Permission). not (x.incident == n)) xs) ≡ 0
-none_left n xs = count_left (λ (x : Permission). x.incident == n) (λ (x : Permission). not (x.incident == n)) xs
-    ∙ (count_same (λ (x : Permission). not (x.incident == n) && (x.incident == n)) (λ x. false) xs (λ x. nowhere (x.incident == n)) ∙ none_counted xs)
+none_left n xs = count_filter (λ (x : Permission). x.incident == n) (λ (x : Permission). not (x.incident == n)) xs
+    ∙ (count_agree (λ (x : Permission). not (x.incident == n) && (x.incident == n)) (λ x. false) xs (λ x. nowhere (x.incident == n)) ∙ none_counted xs)
 
 pub none_then : (b : Bool) (k : ℕ) → k ≡ 0 → 0 ≡ (if b then k else 0)
 none_then true k h = sym h

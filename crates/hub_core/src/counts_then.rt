@@ -30,108 +30,112 @@ pub(crate) struct Counts {
     pub(crate) permissions: u32,
 }
 
-fn recipients_with<L: LookUps>(rows: &mut L, incident: u32) -> Result<u32, ShelfFault>
-    ensures value { L.doubts rows.new ≡ 0 → (s : State) → L.has rows.old s → IfOk result (λ n. (target : Addressed) → n ≡ recipients_of incident (after (edit.PutRecipient (record { incident = incident; target = target }) ∷ []) s).recipients) }
-    ensures kept { IsKept L.has L.doubts L.failed L.may_leave rows.old rows.new }
-    ensures cause { IsErrOf result ShelfFault.Failed → HasFailed (L.failed rows.old) (L.failed rows.new) }
+fn recipients_with<L: LookUps>(shelf: &mut L, incident: u32) -> Result<u32, ShelfFault>
+    ensures value { L.doubts shelf.new ≡ 0 → (s : State) → L.has shelf.old s → IfOk result (λ n. (target : Addressed) → n ≡ recipients_of incident (after (edit.PutRecipient (record { incident = incident; target = target }) ∷ []) s).recipients) }
+    ensures kept { IsKept L.has L.doubts L.failed L.may_leave shelf.old shelf.new }
+    ensures cause { IsErrOf result ShelfFault.Failed → HasFailed (L.failed shelf.old) (L.failed shelf.new) }
 {
-    Ok(rows.recipient_count(incident)?.saturating_add(1))
+    Ok(shelf.recipient_count(incident)?.saturating_add(1))
 }
 
-fn permissions_with<L: LookUps>(rows: &mut L, incident: u32) -> Result<u32, ShelfFault>
-    ensures value { L.doubts rows.new ≡ 0 → (s : State) → L.has rows.old s → IfOk result (λ n. (path : Tokens) → (grantee : Granted) → n ≡ permissions_of incident (after (edit.PutPermission (record { incident = incident; path = path; grantee = grantee }) ∷ []) s).permissions) }
-    ensures kept { IsKept L.has L.doubts L.failed L.may_leave rows.old rows.new }
-    ensures cause { IsErrOf result ShelfFault.Failed → HasFailed (L.failed rows.old) (L.failed rows.new) }
+fn permissions_with<L: LookUps>(shelf: &mut L, incident: u32) -> Result<u32, ShelfFault>
+    ensures value { L.doubts shelf.new ≡ 0 → (s : State) → L.has shelf.old s → IfOk result (λ n. (path : Tokens) → (grantee : Granted) → n ≡ permissions_of incident (after (edit.PutPermission (record { incident = incident; path = path; grantee = grantee }) ∷ []) s).permissions) }
+    ensures kept { IsKept L.has L.doubts L.failed L.may_leave shelf.old shelf.new }
+    ensures cause { IsErrOf result ShelfFault.Failed → HasFailed (L.failed shelf.old) (L.failed shelf.new) }
 {
-    Ok(rows.permission_count(incident)?.saturating_add(1))
+    Ok(shelf.permission_count(incident)?.saturating_add(1))
 }
 
 fn gates_redistributed<L: LookUps>(
-    rows: &mut L,
+    shelf: &mut L,
     alloc: Global,
     incident: u32,
     path: &Text,
 ) -> Result<u32, ShelfFault>
-    ensures value { L.doubts rows.new ≡ 0 → (s : State) → L.has rows.old s → IfOk result (λ k. (level : ℕ) → (group : Option ℕ) → k ≡ class_gates incident (after (made_at (λ p. edit.TakeGate incident p ∷ put_gate incident level group p) path.now) s).gates) }
-    ensures kept { IsKept L.has L.doubts L.failed L.may_leave rows.old rows.new }
-    ensures cause { IsErrOf result ShelfFault.Failed → HasFailed (L.failed rows.old) (L.failed rows.new) }
+    ensures value { L.doubts shelf.new ≡ 0 → (s : State) → L.has shelf.old s → IfOk result (λ k. (level : ℕ) → (group : Option ℕ) → k ≡ class_gates incident (after (made_at (λ p. edit.TakeGate incident p ∷ put_gate incident level group p) path.now) s).gates) }
+    ensures kept { IsKept L.has L.doubts L.failed L.may_leave shelf.old shelf.new }
+    ensures cause { IsErrOf result ShelfFault.Failed → HasFailed (L.failed shelf.old) (L.failed shelf.new) }
 {
     match path_of(alloc, path)? {
-        None => rows.class_gates(incident),
-        Some(path) => rows.class_gates_with(incident, &path),
+        None => shelf.class_gates(incident),
+        Some(path) => shelf.class_gates_with(incident, &path),
     }
 }
 
 fn permissions_granted<L: LookUps>(
-    rows: &mut L,
+    shelf: &mut L,
     alloc: Global,
     incident: u32,
     path: &Text,
 ) -> Result<u32, ShelfFault>
-    ensures value { L.doubts rows.new ≡ 0 → (s : State) → L.has rows.old s → IfOk result (λ k. (grantee : Granted) → k ≡ permissions_of incident (after (made_at (λ p. edit.PutPermission (record { incident = incident; path = p; grantee = grantee }) ∷ []) path.now) s).permissions) }
-    ensures kept { IsKept L.has L.doubts L.failed L.may_leave rows.old rows.new }
-    ensures cause { IsErrOf result ShelfFault.Failed → HasFailed (L.failed rows.old) (L.failed rows.new) }
+    ensures value { L.doubts shelf.new ≡ 0 → (s : State) → L.has shelf.old s → IfOk result (λ k. (grantee : Granted) → k ≡ permissions_of incident (after (made_at (λ p. edit.PutPermission (record { incident = incident; path = p; grantee = grantee }) ∷ []) path.now) s).permissions) }
+    ensures kept { IsKept L.has L.doubts L.failed L.may_leave shelf.old shelf.new }
+    ensures cause { IsErrOf result ShelfFault.Failed → HasFailed (L.failed shelf.old) (L.failed shelf.new) }
 {
     match path_of(alloc, path)? {
-        None => rows.permission_count(incident),
-        Some(_) => permissions_with(rows, incident),
+        None => shelf.permission_count(incident),
+        Some(_) => permissions_with(shelf, incident),
     }
 }
 
 fn permissions_withdrawn<L: LookUps>(
-    rows: &mut L,
+    shelf: &mut L,
     alloc: Global,
     incident: u32,
     path: &Text,
     grantee: Grantee,
 ) -> Result<u32, ShelfFault>
-    ensures value { L.doubts rows.new ≡ 0 → (s : State) → L.has rows.old s → IfOk result (λ k. k ≡ permissions_of incident (after (made_at (λ p. edit.TakePermission incident p grantee ∷ []) path.now) s).permissions) }
-    ensures kept { IsKept L.has L.doubts L.failed L.may_leave rows.old rows.new }
-    ensures cause { IsErrOf result ShelfFault.Failed → HasFailed (L.failed rows.old) (L.failed rows.new) }
+    ensures value { L.doubts shelf.new ≡ 0 → (s : State) → L.has shelf.old s → IfOk result (λ k. k ≡ permissions_of incident (after (made_at (λ p. edit.TakePermission incident p grantee ∷ []) path.now) s).permissions) }
+    ensures kept { IsKept L.has L.doubts L.failed L.may_leave shelf.old shelf.new }
+    ensures cause { IsErrOf result ShelfFault.Failed → HasFailed (L.failed shelf.old) (L.failed shelf.new) }
 {
     match path_of(alloc, path)? {
-        None => rows.permission_count(incident),
-        Some(path) => rows.permissions_without(incident, &path, grantee),
+        None => shelf.permission_count(incident),
+        Some(path) => shelf.permissions_without(incident, &path, grantee),
     }
 }
 
 /// How many class gates the incident, which is there, would have.
-fn find_gates<L: LookUps>(rows: &mut L, alloc: Global, request: &Request) -> Result<u32, ShelfFault>
-    ensures value { L.doubts rows.new ≡ 0 → (s : State) → L.has rows.old s → is_some (looked_up s (incident_asked request.now)) ≡ true → (actor : Actor) → IfOk result (λ n. n ≡ gates_then s actor request.now) }
-    ensures kept { IsKept L.has L.doubts L.failed L.may_leave rows.old rows.new }
-    ensures cause { IsErrOf result ShelfFault.Failed → HasFailed (L.failed rows.old) (L.failed rows.new) }
+fn find_gates<L: LookUps>(
+    shelf: &mut L,
+    alloc: Global,
+    request: &Request,
+) -> Result<u32, ShelfFault>
+    ensures value { L.doubts shelf.new ≡ 0 → (s : State) → L.has shelf.old s → is_some (looked_up s (incident_asked request.now)) ≡ true → (actor : Actor) → IfOk result (λ n. n ≡ gates_then s actor request.now) }
+    ensures kept { IsKept L.has L.doubts L.failed L.may_leave shelf.old shelf.new }
+    ensures cause { IsErrOf result ShelfFault.Failed → HasFailed (L.failed shelf.old) (L.failed shelf.new) }
 {
     let count = match request {
         Request::Replace { gates, .. } => number_of(gates.as_slice().len()),
         Request::Redistribute { incident, path, .. } => {
-            gates_redistributed(rows, alloc, *incident, path)?
+            gates_redistributed(shelf, alloc, *incident, path)?
         }
         Request::Address { incident, .. }
         | Request::Unaddress { incident, .. }
         | Request::Grant { incident, .. }
         | Request::Withdraw { incident, .. }
         | Request::View { incident }
-        | Request::Explain { incident, .. } => rows.class_gates(*incident)?,
+        | Request::Explain { incident, .. } => shelf.class_gates(*incident)?,
         _ => 0,
     };
     Ok(count)
 }
 
 /// How many recipients the incident, which is there, would have.
-fn find_recipients<L: LookUps>(rows: &mut L, request: &Request) -> Result<u32, ShelfFault>
-    ensures value { L.doubts rows.new ≡ 0 → (s : State) → L.has rows.old s → is_some (looked_up s (incident_asked request.now)) ≡ true → (actor : Actor) → IfOk result (λ n. n ≡ recipients_then s actor request.now) }
-    ensures kept { IsKept L.has L.doubts L.failed L.may_leave rows.old rows.new }
-    ensures cause { IsErrOf result ShelfFault.Failed → HasFailed (L.failed rows.old) (L.failed rows.new) }
+fn find_recipients<L: LookUps>(shelf: &mut L, request: &Request) -> Result<u32, ShelfFault>
+    ensures value { L.doubts shelf.new ≡ 0 → (s : State) → L.has shelf.old s → is_some (looked_up s (incident_asked request.now)) ≡ true → (actor : Actor) → IfOk result (λ n. n ≡ recipients_then s actor request.now) }
+    ensures kept { IsKept L.has L.doubts L.failed L.may_leave shelf.old shelf.new }
+    ensures cause { IsErrOf result ShelfFault.Failed → HasFailed (L.failed shelf.old) (L.failed shelf.new) }
 {
     let count = match request {
-        Request::Address { incident, .. } => recipients_with(rows, *incident)?,
-        Request::Unaddress { incident, target } => rows.recipients_without(*incident, *target)?,
-        Request::Replace { incident, .. } => rows.recipient_count(*incident)?,
+        Request::Address { incident, .. } => recipients_with(shelf, *incident)?,
+        Request::Unaddress { incident, target } => shelf.recipients_without(*incident, *target)?,
+        Request::Replace { incident, .. } => shelf.recipient_count(*incident)?,
         Request::Redistribute { incident, .. }
         | Request::Grant { incident, .. }
         | Request::Withdraw { incident, .. }
         | Request::View { incident }
-        | Request::Explain { incident, .. } => rows.recipient_count(*incident)?,
+        | Request::Explain { incident, .. } => shelf.recipient_count(*incident)?,
         _ => 0,
     };
     Ok(count)
@@ -139,26 +143,28 @@ fn find_recipients<L: LookUps>(rows: &mut L, request: &Request) -> Result<u32, S
 
 /// How many permissions the incident, which is there, would have.
 fn find_permissions<L: LookUps>(
-    rows: &mut L,
+    shelf: &mut L,
     alloc: Global,
     request: &Request,
 ) -> Result<u32, ShelfFault>
-    ensures value { L.doubts rows.new ≡ 0 → (s : State) → L.has rows.old s → is_some (looked_up s (incident_asked request.now)) ≡ true → (actor : Actor) → IfOk result (λ n. n ≡ permissions_then s actor request.now) }
-    ensures kept { IsKept L.has L.doubts L.failed L.may_leave rows.old rows.new }
-    ensures cause { IsErrOf result ShelfFault.Failed → HasFailed (L.failed rows.old) (L.failed rows.new) }
+    ensures value { L.doubts shelf.new ≡ 0 → (s : State) → L.has shelf.old s → is_some (looked_up s (incident_asked request.now)) ≡ true → (actor : Actor) → IfOk result (λ n. n ≡ permissions_then s actor request.now) }
+    ensures kept { IsKept L.has L.doubts L.failed L.may_leave shelf.old shelf.new }
+    ensures cause { IsErrOf result ShelfFault.Failed → HasFailed (L.failed shelf.old) (L.failed shelf.new) }
 {
     let count = match request {
-        Request::Grant { incident, path, .. } => permissions_granted(rows, alloc, *incident, path)?,
+        Request::Grant { incident, path, .. } => permissions_granted(
+            shelf, alloc, *incident, path,
+        )?,
         Request::Withdraw {
             incident,
             path,
             grantee,
-        } => permissions_withdrawn(rows, alloc, *incident, path, *grantee)?,
+        } => permissions_withdrawn(shelf, alloc, *incident, path, *grantee)?,
         Request::Redistribute { incident, .. }
         | Request::Address { incident, .. }
         | Request::Unaddress { incident, .. }
         | Request::View { incident }
-        | Request::Explain { incident, .. } => rows.permission_count(*incident)?,
+        | Request::Explain { incident, .. } => shelf.permission_count(*incident)?,
         // an exchanged document ends them
         Request::Replace { .. } => 0,
         _ => 0,
@@ -178,19 +184,19 @@ fn gates_posted(request: &Request) -> u32
 
 /// What would stand of the incident that the request names; whether it is there is known.
 pub(crate) fn find_counts<L: LookUps>(
-    rows: &mut L,
+    shelf: &mut L,
     alloc: Global,
     request: &Request,
     is_there: bool,
 ) -> Result<Counts, ShelfFault>
-    ensures value { L.doubts rows.new ≡ 0 → (s : State) → L.has rows.old s → is_there ≡ is_some (looked_up s (incident_asked request.now)) → (actor : Actor) → IfOk result (λ found. found ≡ record { gates = gates_then s actor request.now; recipients = recipients_then s actor request.now; permissions = permissions_then s actor request.now }) }
-    ensures kept { IsKept L.has L.doubts L.failed L.may_leave rows.old rows.new }
-    ensures cause { IsErrOf result ShelfFault.Failed → HasFailed (L.failed rows.old) (L.failed rows.new) }
+    ensures value { L.doubts shelf.new ≡ 0 → (s : State) → L.has shelf.old s → is_there ≡ is_some (looked_up s (incident_asked request.now)) → (actor : Actor) → IfOk result (λ found. found ≡ record { gates = gates_then s actor request.now; recipients = recipients_then s actor request.now; permissions = permissions_then s actor request.now }) }
+    ensures kept { IsKept L.has L.doubts L.failed L.may_leave shelf.old shelf.new }
+    ensures cause { IsErrOf result ShelfFault.Failed → HasFailed (L.failed shelf.old) (L.failed shelf.new) }
 {
     if is_there {
-        let gates = find_gates(rows, alloc, request)?;
-        let recipients = find_recipients(rows, request)?;
-        let permissions = find_permissions(rows, alloc, request)?;
+        let gates = find_gates(shelf, alloc, request)?;
+        let recipients = find_recipients(shelf, request)?;
+        let permissions = find_permissions(shelf, alloc, request)?;
         Ok(Counts {
             gates,
             recipients,

@@ -55,36 +55,36 @@ fn plain_facts(exists: bool, stands: bool, count: u32) -> CircleFacts
 }
 
 fn post_facts<L: LookUps>(
-    rows: &mut L,
+    shelf: &mut L,
     actor: &Person,
     group: Option<u32>,
     gates: &WantedGates,
 ) -> Result<CircleFacts, ShelfFault>
-    ensures value { L.doubts rows.new ≡ 0 → (s : State) → L.has rows.old s → IfOk result (λ facts. facts ≡ plain_facts (are_own_groups s actor.now group gates.now) false (length s.incidents)) }
-    ensures kept { IsKept L.has L.doubts L.failed L.may_leave rows.old rows.new }
-    ensures cause { IsErrOf result ShelfFault.Failed → HasFailed (L.failed rows.old) (L.failed rows.new) }
+    ensures value { L.doubts shelf.new ≡ 0 → (s : State) → L.has shelf.old s → IfOk result (λ facts. facts ≡ plain_facts (are_own_groups s actor.now group gates.now) false (length s.incidents)) }
+    ensures kept { IsKept L.has L.doubts L.failed L.may_leave shelf.old shelf.new }
+    ensures cause { IsErrOf result ShelfFault.Failed → HasFailed (L.failed shelf.old) (L.failed shelf.new) }
 {
-    let own = are_own_groups(rows, actor, group, gates)?;
-    let incidents = rows.incident_count()?;
+    let own = are_own_groups(shelf, actor, group, gates)?;
+    let incidents = shelf.incident_count()?;
     Ok(plain_facts(own, false, incidents))
 }
 
 fn replace_facts<L: LookUps>(
-    rows: &mut L,
+    shelf: &mut L,
     actor: &Person,
     group: Option<u32>,
     gates: &WantedGates,
 ) -> Result<CircleFacts, ShelfFault>
-    ensures value { L.doubts rows.new ≡ 0 → (s : State) → L.has rows.old s → IfOk result (λ facts. facts ≡ plain_facts (are_own_groups s actor.now group gates.now) false 0) }
-    ensures kept { IsKept L.has L.doubts L.failed L.may_leave rows.old rows.new }
-    ensures cause { IsErrOf result ShelfFault.Failed → HasFailed (L.failed rows.old) (L.failed rows.new) }
+    ensures value { L.doubts shelf.new ≡ 0 → (s : State) → L.has shelf.old s → IfOk result (λ facts. facts ≡ plain_facts (are_own_groups s actor.now group gates.now) false 0) }
+    ensures kept { IsKept L.has L.doubts L.failed L.may_leave shelf.old shelf.new }
+    ensures cause { IsErrOf result ShelfFault.Failed → HasFailed (L.failed shelf.old) (L.failed shelf.new) }
 {
-    let own = are_own_groups(rows, actor, group, gates)?;
+    let own = are_own_groups(shelf, actor, group, gates)?;
     Ok(plain_facts(own, false, 0))
 }
 
 fn redistribute_facts<L: LookUps>(
-    rows: &mut L,
+    shelf: &mut L,
     alloc: Global,
     actor: &Person,
     incident: u32,
@@ -92,164 +92,167 @@ fn redistribute_facts<L: LookUps>(
     level: u32,
     group: Option<u32>,
 ) -> Result<CircleFacts, ShelfFault>
-    ensures value { L.doubts rows.new ≡ 0 → (s : State) → L.has rows.old s → IfOk result (λ facts. facts ≡ plain_facts (is_own_group s actor.now group) (at_pointer (λ p. has_gate incident p level group s) path.now) 0) }
-    ensures kept { IsKept L.has L.doubts L.failed L.may_leave rows.old rows.new }
-    ensures cause { IsErrOf result ShelfFault.Failed → HasFailed (L.failed rows.old) (L.failed rows.new) }
+    ensures value { L.doubts shelf.new ≡ 0 → (s : State) → L.has shelf.old s → IfOk result (λ facts. facts ≡ plain_facts (is_own_group s actor.now group) (at_pointer (λ p. has_gate incident p level group s) path.now) 0) }
+    ensures kept { IsKept L.has L.doubts L.failed L.may_leave shelf.old shelf.new }
+    ensures cause { IsErrOf result ShelfFault.Failed → HasFailed (L.failed shelf.old) (L.failed shelf.new) }
 {
-    let own = is_own_group(rows, actor, group)?;
-    let stands = stands_gate(rows, alloc, incident, path, level, group)?;
+    let own = is_own_group(shelf, actor, group)?;
+    let stands = stands_gate(shelf, alloc, incident, path, level, group)?;
     Ok(plain_facts(own, stands, 0))
 }
 
 fn address_facts<L: LookUps>(
-    rows: &mut L,
+    shelf: &mut L,
     incident: u32,
     target: Target,
 ) -> Result<CircleFacts, ShelfFault>
-    ensures value { L.doubts rows.new ≡ 0 → (s : State) → L.has rows.old s → IfOk result (λ facts. facts ≡ plain_facts (is_target s.directory target) (has_recipient incident target s) 0) }
-    ensures kept { IsKept L.has L.doubts L.failed L.may_leave rows.old rows.new }
-    ensures cause { IsErrOf result ShelfFault.Failed → HasFailed (L.failed rows.old) (L.failed rows.new) }
+    ensures value { L.doubts shelf.new ≡ 0 → (s : State) → L.has shelf.old s → IfOk result (λ facts. facts ≡ plain_facts (is_target s.directory target) (has_recipient incident target s) 0) }
+    ensures kept { IsKept L.has L.doubts L.failed L.may_leave shelf.old shelf.new }
+    ensures cause { IsErrOf result ShelfFault.Failed → HasFailed (L.failed shelf.old) (L.failed shelf.new) }
 {
-    let exists = is_target(rows, target)?;
-    let stands = rows.has_recipient(incident, target)?;
+    let exists = is_target(shelf, target)?;
+    let stands = shelf.has_recipient(incident, target)?;
     Ok(plain_facts(exists, stands, 0))
 }
 
 fn unaddress_facts<L: LookUps>(
-    rows: &mut L,
+    shelf: &mut L,
     incident: u32,
     target: Target,
 ) -> Result<CircleFacts, ShelfFault>
-    ensures value { L.doubts rows.new ≡ 0 → (s : State) → L.has rows.old s → IfOk result (λ facts. facts ≡ plain_facts true (has_recipient incident target s) 0) }
-    ensures kept { IsKept L.has L.doubts L.failed L.may_leave rows.old rows.new }
-    ensures cause { IsErrOf result ShelfFault.Failed → HasFailed (L.failed rows.old) (L.failed rows.new) }
+    ensures value { L.doubts shelf.new ≡ 0 → (s : State) → L.has shelf.old s → IfOk result (λ facts. facts ≡ plain_facts true (has_recipient incident target s) 0) }
+    ensures kept { IsKept L.has L.doubts L.failed L.may_leave shelf.old shelf.new }
+    ensures cause { IsErrOf result ShelfFault.Failed → HasFailed (L.failed shelf.old) (L.failed shelf.new) }
 {
-    let stands = rows.has_recipient(incident, target)?;
+    let stands = shelf.has_recipient(incident, target)?;
     Ok(plain_facts(true, stands, 0))
 }
 
 fn grant_facts<L: LookUps>(
-    rows: &mut L,
+    shelf: &mut L,
     alloc: Global,
     org: u32,
     incident: u32,
     path: &Text,
     grantee: Grantee,
 ) -> Result<CircleFacts, ShelfFault>
-    ensures value { L.doubts rows.new ≡ 0 → (s : State) → L.has rows.old s → IfOk result (λ facts. facts ≡ plain_facts (is_grantee s.directory org grantee) (at_pointer (λ p. has_permission incident p grantee s) path.now) 0) }
-    ensures kept { IsKept L.has L.doubts L.failed L.may_leave rows.old rows.new }
-    ensures cause { IsErrOf result ShelfFault.Failed → HasFailed (L.failed rows.old) (L.failed rows.new) }
+    ensures value { L.doubts shelf.new ≡ 0 → (s : State) → L.has shelf.old s → IfOk result (λ facts. facts ≡ plain_facts (is_grantee s.directory org grantee) (at_pointer (λ p. has_permission incident p grantee s) path.now) 0) }
+    ensures kept { IsKept L.has L.doubts L.failed L.may_leave shelf.old shelf.new }
+    ensures cause { IsErrOf result ShelfFault.Failed → HasFailed (L.failed shelf.old) (L.failed shelf.new) }
 {
-    let exists = is_grantee(rows, org, grantee)?;
-    let stands = stands_permission(rows, alloc, incident, path, grantee)?;
+    let exists = is_grantee(shelf, org, grantee)?;
+    let stands = stands_permission(shelf, alloc, incident, path, grantee)?;
     Ok(plain_facts(exists, stands, 0))
 }
 
 fn withdraw_facts<L: LookUps>(
-    rows: &mut L,
+    shelf: &mut L,
     alloc: Global,
     incident: u32,
     path: &Text,
     grantee: Grantee,
 ) -> Result<CircleFacts, ShelfFault>
-    ensures value { L.doubts rows.new ≡ 0 → (s : State) → L.has rows.old s → IfOk result (λ facts. facts ≡ plain_facts true (at_pointer (λ p. has_permission incident p grantee s) path.now) 0) }
-    ensures kept { IsKept L.has L.doubts L.failed L.may_leave rows.old rows.new }
-    ensures cause { IsErrOf result ShelfFault.Failed → HasFailed (L.failed rows.old) (L.failed rows.new) }
+    ensures value { L.doubts shelf.new ≡ 0 → (s : State) → L.has shelf.old s → IfOk result (λ facts. facts ≡ plain_facts true (at_pointer (λ p. has_permission incident p grantee s) path.now) 0) }
+    ensures kept { IsKept L.has L.doubts L.failed L.may_leave shelf.old shelf.new }
+    ensures cause { IsErrOf result ShelfFault.Failed → HasFailed (L.failed shelf.old) (L.failed shelf.new) }
 {
-    let stands = stands_permission(rows, alloc, incident, path, grantee)?;
+    let stands = stands_permission(shelf, alloc, incident, path, grantee)?;
     Ok(plain_facts(true, stands, 0))
 }
 
-fn explain_facts<L: LookUps>(rows: &mut L, person: u32) -> Result<CircleFacts, ShelfFault>
-    ensures value { L.doubts rows.new ≡ 0 → (s : State) → L.has rows.old s → IfOk result (λ facts. facts ≡ plain_facts (is_active s.directory person) false 0) }
-    ensures kept { IsKept L.has L.doubts L.failed L.may_leave rows.old rows.new }
-    ensures cause { IsErrOf result ShelfFault.Failed → HasFailed (L.failed rows.old) (L.failed rows.new) }
+fn explain_facts<L: LookUps>(shelf: &mut L, person: u32) -> Result<CircleFacts, ShelfFault>
+    ensures value { L.doubts shelf.new ≡ 0 → (s : State) → L.has shelf.old s → IfOk result (λ facts. facts ≡ plain_facts (is_active s.directory person) false 0) }
+    ensures kept { IsKept L.has L.doubts L.failed L.may_leave shelf.old shelf.new }
+    ensures cause { IsErrOf result ShelfFault.Failed → HasFailed (L.failed shelf.old) (L.failed shelf.new) }
 {
-    let active = is_active(rows, person)?;
+    let active = is_active(shelf, person)?;
     Ok(plain_facts(active, false, 0))
 }
 
 /// The facts that the directory has of a request.
 fn find_circle_facts<L: LookUps>(
-    rows: &mut L,
+    shelf: &mut L,
     alloc: Global,
     actor: &Person,
     request: &Request,
 ) -> Result<CircleFacts, ShelfFault>
-    ensures value { L.doubts rows.new ≡ 0 → (s : State) → L.has rows.old s → IfOk result (λ facts. facts ≡ circle_facts_of s actor.now request.now) }
-    ensures kept { IsKept L.has L.doubts L.failed L.may_leave rows.old rows.new }
-    ensures cause { IsErrOf result ShelfFault.Failed → HasFailed (L.failed rows.old) (L.failed rows.new) }
+    ensures value { L.doubts shelf.new ≡ 0 → (s : State) → L.has shelf.old s → IfOk result (λ facts. facts ≡ circle_facts_of s actor.now request.now) }
+    ensures kept { IsKept L.has L.doubts L.failed L.may_leave shelf.old shelf.new }
+    ensures cause { IsErrOf result ShelfFault.Failed → HasFailed (L.failed shelf.old) (L.failed shelf.new) }
 {
     match request {
-        Request::Circle(command) => rows.circle_facts(actor, command),
-        Request::Post { group, gates, .. } => post_facts(rows, actor, *group, gates),
-        Request::Replace { group, gates, .. } => replace_facts(rows, actor, *group, gates),
+        Request::Circle(command) => shelf.circle_facts(actor, command),
+        Request::Post { group, gates, .. } => post_facts(shelf, actor, *group, gates),
+        Request::Replace { group, gates, .. } => replace_facts(shelf, actor, *group, gates),
         Request::Redistribute {
             incident,
             path,
             level,
             group,
             ..
-        } => redistribute_facts(rows, alloc, actor, *incident, path, *level, *group),
-        Request::Address { incident, target } => address_facts(rows, *incident, *target),
-        Request::Unaddress { incident, target } => unaddress_facts(rows, *incident, *target),
+        } => redistribute_facts(shelf, alloc, actor, *incident, path, *level, *group),
+        Request::Address { incident, target } => address_facts(shelf, *incident, *target),
+        Request::Unaddress { incident, target } => unaddress_facts(shelf, *incident, *target),
         Request::Grant {
             incident,
             path,
             grantee,
             ..
-        } => grant_facts(rows, alloc, actor.org, *incident, path, *grantee),
+        } => grant_facts(shelf, alloc, actor.org, *incident, path, *grantee),
         Request::Withdraw {
             incident,
             path,
             grantee,
-        } => withdraw_facts(rows, alloc, *incident, path, *grantee),
-        Request::Explain { person, .. } => explain_facts(rows, *person),
+        } => withdraw_facts(shelf, alloc, *incident, path, *grantee),
+        Request::Explain { person, .. } => explain_facts(shelf, *person),
         _ => Ok(plain_facts(true, false, 0)),
     }
 }
 
-fn known_asked<L: LookUps>(rows: &mut L, incident: Option<u32>) -> Result<Option<Known>, ShelfFault>
-    ensures value { L.doubts rows.new ≡ 0 → (s : State) → L.has rows.old s → IfOk result (λ found. found ≡ option_map known (looked_up s incident)) }
-    ensures kept { IsKept L.has L.doubts L.failed L.may_leave rows.old rows.new }
-    ensures cause { IsErrOf result ShelfFault.Failed → HasFailed (L.failed rows.old) (L.failed rows.new) }
+fn known_asked<L: LookUps>(
+    shelf: &mut L,
+    incident: Option<u32>,
+) -> Result<Option<Known>, ShelfFault>
+    ensures value { L.doubts shelf.new ≡ 0 → (s : State) → L.has shelf.old s → IfOk result (λ found. found ≡ option_map known (looked_up s incident)) }
+    ensures kept { IsKept L.has L.doubts L.failed L.may_leave shelf.old shelf.new }
+    ensures cause { IsErrOf result ShelfFault.Failed → HasFailed (L.failed shelf.old) (L.failed shelf.new) }
 {
     match incident {
         None => Ok(None),
-        Some(number) => rows.known(number),
+        Some(number) => shelf.known(number),
     }
 }
 
 fn document_asked<L: LookUps>(
-    rows: &mut L,
+    shelf: &mut L,
     incident: Option<u32>,
 ) -> Result<Option<Document>, ShelfFault>
-    ensures value { L.doubts rows.new ≡ 0 → (s : State) → L.has rows.old s → IfOk result (λ found. found ≡ option_map (λ (i : Incident). i.document) (looked_up s incident)) }
-    ensures kept { IsKept L.has L.doubts L.failed L.may_leave rows.old rows.new }
-    ensures cause { IsErrOf result ShelfFault.Failed → HasFailed (L.failed rows.old) (L.failed rows.new) }
+    ensures value { L.doubts shelf.new ≡ 0 → (s : State) → L.has shelf.old s → IfOk result (λ found. found ≡ option_map (λ (i : Incident). i.document) (looked_up s incident)) }
+    ensures kept { IsKept L.has L.doubts L.failed L.may_leave shelf.old shelf.new }
+    ensures cause { IsErrOf result ShelfFault.Failed → HasFailed (L.failed shelf.old) (L.failed shelf.new) }
 {
     match incident {
         None => Ok(None),
-        Some(number) => rows.stored_document(number),
+        Some(number) => shelf.stored_document(number),
     }
 }
 
 fn find_facts<L: LookUps>(
-    rows: &mut L,
+    shelf: &mut L,
     alloc: Global,
     actor: &Person,
     request: &Request,
 ) -> Result<Facts, ShelfFault>
-    ensures value { L.doubts rows.new ≡ 0 → (s : State) → L.has rows.old s → IfOk result (λ facts. facts ≡ facts_of s actor.now request.now) }
-    ensures kept { IsKept L.has L.doubts L.failed L.may_leave rows.old rows.new }
-    ensures cause { IsErrOf result ShelfFault.Failed → HasFailed (L.failed rows.old) (L.failed rows.new) }
+    ensures value { L.doubts shelf.new ≡ 0 → (s : State) → L.has shelf.old s → IfOk result (λ facts. facts ≡ facts_of s actor.now request.now) }
+    ensures kept { IsKept L.has L.doubts L.failed L.may_leave shelf.old shelf.new }
+    ensures cause { IsErrOf result ShelfFault.Failed → HasFailed (L.failed shelf.old) (L.failed shelf.new) }
 {
     let asked = incident_asked(request);
-    let circle = find_circle_facts(rows, alloc, actor, request)?;
-    let incident = known_asked(rows, asked)?;
-    let document = document_asked(rows, asked)?;
-    let posted = find_posted(rows, alloc, actor, request)?;
-    let counts = find_counts(rows, alloc, request, incident.is_some())?;
+    let circle = find_circle_facts(shelf, alloc, actor, request)?;
+    let incident = known_asked(shelf, asked)?;
+    let document = document_asked(shelf, asked)?;
+    let posted = find_posted(shelf, alloc, actor, request)?;
+    let counts = find_counts(shelf, alloc, request, incident.is_some())?;
     Ok(Facts {
         circle,
         incident,
@@ -263,16 +266,16 @@ fn find_facts<L: LookUps>(
 
 /// What there is to know about a person's request, by a shelf's look-ups.
 pub fn facts_by<L: LookUps>(
-    rows: &mut L,
+    shelf: &mut L,
     alloc: Global,
     actor: &Person,
     request: &Request,
 ) -> Result<Facts, ShelfFault>
-    ensures value { L.doubts rows.new ≡ 0 → (s : State) → L.has rows.old s → IfOk result (λ facts. facts ≡ facts_of s actor.now request.now) }
-    ensures kept { IsRead L.has L.doubts L.failed L.may_leave rows.old rows.new result }
+    ensures value { L.doubts shelf.new ≡ 0 → (s : State) → L.has shelf.old s → IfOk result (λ facts. facts ≡ facts_of s actor.now request.now) }
+    ensures kept { IsRead L.has L.doubts L.failed L.may_leave shelf.old shelf.new result }
 {
-    if rows.has_ended() {
+    if shelf.has_ended() {
         return Err(ShelfFault::Failed);
     }
-    find_facts(rows, alloc, actor, request)
+    find_facts(shelf, alloc, actor, request)
 }

@@ -1,7 +1,7 @@
 //! What the shelf in memory looks up.
 use crate::facts::Known;
 use crate::list_shelf::{ListShelf, number_of};
-use crate::look_ups::LookUps;
+use crate::look_ups::{GroupsJoined, LookUps};
 use crate::request::Target;
 use crate::rows::Named;
 use crate::shelf::ShelfFault;
@@ -9,7 +9,7 @@ use circle::command::{CircleCommand, CircleFacts};
 use circle::directory::{Handling, Person};
 use circle::text::Text;
 use iodef_tree::{Document, Path};
-use policy::Grantee;
+use policy::{Grantee, Numbers};
 
 impl LookUps for ListShelf {
     ghost use Rattle.std.specs.Prelude.{◌≡◌};
@@ -57,14 +57,14 @@ impl LookUps for ListShelf {
         Ok(self.directory().has_group_member(group, org))
     }
 
-    fn groups_joined(&mut self, org: u32) -> Result<Vec<u32>, ShelfFault> {
+    fn groups_joined(&mut self, org: u32) -> Result<GroupsJoined, ShelfFault> {
         let alloc = self.alloc();
-        Ok(self.directory().groups_joined(alloc, org)?)
-    }
-
-    fn active_groups_joined(&mut self, org: u32) -> Result<Vec<u32>, ShelfFault> {
-        let alloc = self.alloc();
-        Ok(self.directory().active_groups_joined(alloc, org)?)
+        let all = self.directory().groups_joined(alloc, org)?;
+        let active = self.directory().active_groups_joined(alloc, org)?;
+        Ok(GroupsJoined {
+            all: Numbers::new(all),
+            active: Numbers::new(active),
+        })
     }
 
     fn communities_of(&mut self, org: u32) -> Result<Vec<u32>, ShelfFault> {

@@ -18,7 +18,14 @@ use circle::command::{CircleCommand, CircleFacts};
 use circle::directory::{Handling, Person};
 use circle::text::Text;
 use iodef_tree::{Document, Path};
-use policy::Grantee;
+use policy::{Grantee, Numbers};
+
+/// The groups of which an organisation is a member, by number, and those of them that are active.
+#[derive(Drop)]
+pub struct GroupsJoined {
+    pub all: Numbers,
+    pub active: Numbers,
+}
 
 /// What a shelf looks up in its rows. Standings and facts are made of these, in the same way over each shelf. Each
 /// look-up answers its function of the content, and leaves it.
@@ -66,14 +73,9 @@ pub trait LookUps {
         ensures value { doubts self.new ≡ 0 → (s : State) → has self.old s → IfOk result (λ found. found ≡ is_group_member group org s.directory) }
         ensures kept { IsRead has doubts failed may_leave self.old self.new result };
 
-    /// The groups of which an organisation is a member.
-    fn groups_joined(&mut self, org: u32) -> Result<Vec<u32>, ShelfFault>
-        ensures value { doubts self.new ≡ 0 → (s : State) → has self.old s → IfOk result (λ found. found.items ≡ groups_joined_by org s.directory) }
-        ensures kept { IsRead has doubts failed may_leave self.old self.new result };
-
-    /// Those of them that are active.
-    fn active_groups_joined(&mut self, org: u32) -> Result<Vec<u32>, ShelfFault>
-        ensures value { doubts self.new ≡ 0 → (s : State) → has self.old s → IfOk result (λ found. found.items ≡ active_groups_joined_by org s.directory) }
+    /// The groups of which an organisation is a member, and those of them that are active.
+    fn groups_joined(&mut self, org: u32) -> Result<GroupsJoined, ShelfFault>
+        ensures value { doubts self.new ≡ 0 → (s : State) → has self.old s → IfOk result (λ found. found ≡ record { all = groups_joined_by org s.directory; active = active_groups_joined_by org s.directory }) }
         ensures kept { IsRead has doubts failed may_leave self.old self.new result };
 
     fn communities_of(&mut self, org: u32) -> Result<Vec<u32>, ShelfFault>

@@ -28,31 +28,31 @@ pub(crate) fn path_of(alloc: Global, text: &Text) -> Result<Option<Path>, AllocE
 }
 
 pub(crate) fn is_own_group<L: LookUps>(
-    rows: &mut L,
+    shelf: &mut L,
     actor: &Person,
     group: Option<u32>,
 ) -> Result<bool, ShelfFault>
-    ensures value { L.doubts rows.new ≡ 0 → (s : State) → L.has rows.old s → IfOk result (λ b. b ≡ is_own_group s actor.now group) }
-    ensures kept { IsKept L.has L.doubts L.failed L.may_leave rows.old rows.new }
-    ensures cause { IsErrOf result ShelfFault.Failed → HasFailed (L.failed rows.old) (L.failed rows.new) }
+    ensures value { L.doubts shelf.new ≡ 0 → (s : State) → L.has shelf.old s → IfOk result (λ b. b ≡ is_own_group s actor.now group) }
+    ensures kept { IsKept L.has L.doubts L.failed L.may_leave shelf.old shelf.new }
+    ensures cause { IsErrOf result ShelfFault.Failed → HasFailed (L.failed shelf.old) (L.failed shelf.new) }
 {
     match group {
         None => Ok(true),
-        Some(group) => rows.has_group_member(group, actor.org),
+        Some(group) => shelf.has_group_member(group, actor.org),
     }
 }
 
 fn are_all_own<L: LookUps>(
-    rows: &mut L,
+    shelf: &mut L,
     actor: &Person,
     gates: &[WantedGate],
 ) -> Result<bool, ShelfFault>
-    ensures value { L.doubts rows.new ≡ 0 → (s : State) → L.has rows.old s → IfOk result (λ b. b ≡ list_all (λ g. is_own_group s actor.now g.group) gates.now) }
-    ensures kept { IsKept L.has L.doubts L.failed L.may_leave rows.old rows.new }
-    ensures cause { IsErrOf result ShelfFault.Failed → HasFailed (L.failed rows.old) (L.failed rows.new) }
+    ensures value { L.doubts shelf.new ≡ 0 → (s : State) → L.has shelf.old s → IfOk result (λ b. b ≡ list_all (λ g. is_own_group s actor.now g.group) gates.now) }
+    ensures kept { IsKept L.has L.doubts L.failed L.may_leave shelf.old shelf.new }
+    ensures cause { IsErrOf result ShelfFault.Failed → HasFailed (L.failed shelf.old) (L.failed shelf.new) }
 {
     for gate in gates {
-        if !is_own_group(rows, actor, gate.group)? {
+        if !is_own_group(shelf, actor, gate.group)? {
             return Ok(false);
         }
     }
@@ -60,93 +60,93 @@ fn are_all_own<L: LookUps>(
 }
 
 pub(crate) fn are_own_groups<L: LookUps>(
-    rows: &mut L,
+    shelf: &mut L,
     actor: &Person,
     group: Option<u32>,
     gates: &WantedGates,
 ) -> Result<bool, ShelfFault>
-    ensures value { L.doubts rows.new ≡ 0 → (s : State) → L.has rows.old s → IfOk result (λ b. b ≡ are_own_groups s actor.now group gates.now) }
-    ensures kept { IsKept L.has L.doubts L.failed L.may_leave rows.old rows.new }
-    ensures cause { IsErrOf result ShelfFault.Failed → HasFailed (L.failed rows.old) (L.failed rows.new) }
+    ensures value { L.doubts shelf.new ≡ 0 → (s : State) → L.has shelf.old s → IfOk result (λ b. b ≡ are_own_groups s actor.now group gates.now) }
+    ensures kept { IsKept L.has L.doubts L.failed L.may_leave shelf.old shelf.new }
+    ensures cause { IsErrOf result ShelfFault.Failed → HasFailed (L.failed shelf.old) (L.failed shelf.new) }
 {
-    if is_own_group(rows, actor, group)? {
-        are_all_own(rows, actor, gates.as_slice())
+    if is_own_group(shelf, actor, group)? {
+        are_all_own(shelf, actor, gates.as_slice())
     } else {
         Ok(false)
     }
 }
 
-pub(crate) fn is_target<L: LookUps>(rows: &mut L, target: Target) -> Result<bool, ShelfFault>
-    ensures value { L.doubts rows.new ≡ 0 → (s : State) → L.has rows.old s → IfOk result (λ b. b ≡ is_target s.directory target) }
-    ensures kept { IsKept L.has L.doubts L.failed L.may_leave rows.old rows.new }
-    ensures cause { IsErrOf result ShelfFault.Failed → HasFailed (L.failed rows.old) (L.failed rows.new) }
+pub(crate) fn is_target<L: LookUps>(shelf: &mut L, target: Target) -> Result<bool, ShelfFault>
+    ensures value { L.doubts shelf.new ≡ 0 → (s : State) → L.has shelf.old s → IfOk result (λ b. b ≡ is_target s.directory target) }
+    ensures kept { IsKept L.has L.doubts L.failed L.may_leave shelf.old shelf.new }
+    ensures cause { IsErrOf result ShelfFault.Failed → HasFailed (L.failed shelf.old) (L.failed shelf.new) }
 {
     match target {
-        Target::Person(number) => rows.has_person(number),
-        Target::Org(number) => rows.has_org(number),
+        Target::Person(number) => shelf.has_person(number),
+        Target::Org(number) => shelf.has_org(number),
     }
 }
 
 pub(crate) fn is_grantee<L: LookUps>(
-    rows: &mut L,
+    shelf: &mut L,
     org: u32,
     grantee: Grantee,
 ) -> Result<bool, ShelfFault>
-    ensures value { L.doubts rows.new ≡ 0 → (s : State) → L.has rows.old s → IfOk result (λ b. b ≡ is_grantee s.directory org grantee) }
-    ensures kept { IsKept L.has L.doubts L.failed L.may_leave rows.old rows.new }
-    ensures cause { IsErrOf result ShelfFault.Failed → HasFailed (L.failed rows.old) (L.failed rows.new) }
+    ensures value { L.doubts shelf.new ≡ 0 → (s : State) → L.has shelf.old s → IfOk result (λ b. b ≡ is_grantee s.directory org grantee) }
+    ensures kept { IsKept L.has L.doubts L.failed L.may_leave shelf.old shelf.new }
+    ensures cause { IsErrOf result ShelfFault.Failed → HasFailed (L.failed shelf.old) (L.failed shelf.new) }
 {
     match grantee {
-        Grantee::Person(number) => rows.has_person(number),
-        Grantee::Org(number) => rows.has_org(number),
-        Grantee::Community(number) => rows.has_community(number),
-        Grantee::Group(number) => rows.has_group_member(number, org),
+        Grantee::Person(number) => shelf.has_person(number),
+        Grantee::Org(number) => shelf.has_org(number),
+        Grantee::Community(number) => shelf.has_community(number),
+        Grantee::Group(number) => shelf.has_group_member(number, org),
     }
 }
 
 /// Whether the person is there, and active.
-pub(crate) fn is_active<L: LookUps>(rows: &mut L, person: u32) -> Result<bool, ShelfFault>
-    ensures value { L.doubts rows.new ≡ 0 → (s : State) → L.has rows.old s → IfOk result (λ b. b ≡ is_active s.directory person) }
-    ensures kept { IsKept L.has L.doubts L.failed L.may_leave rows.old rows.new }
-    ensures cause { IsErrOf result ShelfFault.Failed → HasFailed (L.failed rows.old) (L.failed rows.new) }
+pub(crate) fn is_active<L: LookUps>(shelf: &mut L, person: u32) -> Result<bool, ShelfFault>
+    ensures value { L.doubts shelf.new ≡ 0 → (s : State) → L.has shelf.old s → IfOk result (λ b. b ≡ is_active s.directory person) }
+    ensures kept { IsKept L.has L.doubts L.failed L.may_leave shelf.old shelf.new }
+    ensures cause { IsErrOf result ShelfFault.Failed → HasFailed (L.failed shelf.old) (L.failed shelf.new) }
 {
-    match rows.person_of(person)? {
+    match shelf.person_of(person)? {
         None => Ok(false),
         Some(person) => Ok(person.active),
     }
 }
 
 pub(crate) fn stands_gate<L: LookUps>(
-    rows: &mut L,
+    shelf: &mut L,
     alloc: Global,
     incident: u32,
     path: &Text,
     level: u32,
     group: Option<u32>,
 ) -> Result<bool, ShelfFault>
-    ensures value { L.doubts rows.new ≡ 0 → (s : State) → L.has rows.old s → IfOk result (λ b. b ≡ at_pointer (λ p. has_gate incident p level group s) path.now) }
-    ensures kept { IsKept L.has L.doubts L.failed L.may_leave rows.old rows.new }
-    ensures cause { IsErrOf result ShelfFault.Failed → HasFailed (L.failed rows.old) (L.failed rows.new) }
+    ensures value { L.doubts shelf.new ≡ 0 → (s : State) → L.has shelf.old s → IfOk result (λ b. b ≡ at_pointer (λ p. has_gate incident p level group s) path.now) }
+    ensures kept { IsKept L.has L.doubts L.failed L.may_leave shelf.old shelf.new }
+    ensures cause { IsErrOf result ShelfFault.Failed → HasFailed (L.failed shelf.old) (L.failed shelf.new) }
 {
     match path_of(alloc, path)? {
         None => Ok(false),
-        Some(path) => rows.has_gate(incident, &path, level, group),
+        Some(path) => shelf.has_gate(incident, &path, level, group),
     }
 }
 
 pub(crate) fn stands_permission<L: LookUps>(
-    rows: &mut L,
+    shelf: &mut L,
     alloc: Global,
     incident: u32,
     path: &Text,
     grantee: Grantee,
 ) -> Result<bool, ShelfFault>
-    ensures value { L.doubts rows.new ≡ 0 → (s : State) → L.has rows.old s → IfOk result (λ b. b ≡ at_pointer (λ p. has_permission incident p grantee s) path.now) }
-    ensures kept { IsKept L.has L.doubts L.failed L.may_leave rows.old rows.new }
-    ensures cause { IsErrOf result ShelfFault.Failed → HasFailed (L.failed rows.old) (L.failed rows.new) }
+    ensures value { L.doubts shelf.new ≡ 0 → (s : State) → L.has shelf.old s → IfOk result (λ b. b ≡ at_pointer (λ p. has_permission incident p grantee s) path.now) }
+    ensures kept { IsKept L.has L.doubts L.failed L.may_leave shelf.old shelf.new }
+    ensures cause { IsErrOf result ShelfFault.Failed → HasFailed (L.failed shelf.old) (L.failed shelf.new) }
 {
     match path_of(alloc, path)? {
         None => Ok(false),
-        Some(path) => rows.has_permission(incident, &path, grantee),
+        Some(path) => shelf.has_permission(incident, &path, grantee),
     }
 }

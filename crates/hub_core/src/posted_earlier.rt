@@ -26,32 +26,32 @@ fn ident_in(alloc: Global, document: &Document) -> Result<Text, AllocError>
 
 /// The number of the incident that the source has posted under the document's ident.
 fn posted_as<L: LookUps>(
-    rows: &mut L,
+    shelf: &mut L,
     alloc: Global,
     source: u32,
     document: &Document,
 ) -> Result<Option<u32>, ShelfFault>
-    ensures value { L.doubts rows.new ≡ 0 → (s : State) → L.has rows.old s → IfOk result (λ number. number ≡ option_map incident_number (incident_named source (ident_of document.now) s)) }
-    ensures kept { IsKept L.has L.doubts L.failed L.may_leave rows.old rows.new }
-    ensures cause { IsErrOf result ShelfFault.Failed → HasFailed (L.failed rows.old) (L.failed rows.new) }
+    ensures value { L.doubts shelf.new ≡ 0 → (s : State) → L.has shelf.old s → IfOk result (λ number. number ≡ option_map incident_number (incident_named source (ident_of document.now) s)) }
+    ensures kept { IsKept L.has L.doubts L.failed L.may_leave shelf.old shelf.new }
+    ensures cause { IsErrOf result ShelfFault.Failed → HasFailed (L.failed shelf.old) (L.failed shelf.new) }
 {
     let ident = ident_in(alloc, document)?;
-    rows.number_of(source, &ident)
+    shelf.number_of(source, &ident)
 }
 
 /// The number of the first incident of the documents that the source has posted before.
 fn posted_among<L: LookUps>(
-    rows: &mut L,
+    shelf: &mut L,
     alloc: Global,
     source: u32,
     documents: &[Document],
 ) -> Result<Option<u32>, ShelfFault>
-    ensures value { L.doubts rows.new ≡ 0 → (s : State) → L.has rows.old s → IfOk result (λ number. number ≡ posted_in s source documents.now) }
-    ensures kept { IsKept L.has L.doubts L.failed L.may_leave rows.old rows.new }
-    ensures cause { IsErrOf result ShelfFault.Failed → HasFailed (L.failed rows.old) (L.failed rows.new) }
+    ensures value { L.doubts shelf.new ≡ 0 → (s : State) → L.has shelf.old s → IfOk result (λ number. number ≡ posted_in s source documents.now) }
+    ensures kept { IsKept L.has L.doubts L.failed L.may_leave shelf.old shelf.new }
+    ensures cause { IsErrOf result ShelfFault.Failed → HasFailed (L.failed shelf.old) (L.failed shelf.new) }
 {
     for document in documents {
-        let posted = posted_as(rows, alloc, source, document)?;
+        let posted = posted_as(shelf, alloc, source, document)?;
         if posted.is_some() {
             return Ok(posted);
         }
@@ -61,17 +61,17 @@ fn posted_among<L: LookUps>(
 
 /// The number of the first incident of a body that the source has posted before.
 fn posted_in<L: LookUps>(
-    rows: &mut L,
+    shelf: &mut L,
     alloc: Global,
     source: u32,
     body: &Bytes,
 ) -> Result<Option<u32>, ShelfFault>
-    ensures value { L.doubts rows.new ≡ 0 → (s : State) → L.has rows.old s → IfOk result (λ number. number ≡ posted_in s source (documents_in body.now)) }
-    ensures kept { IsKept L.has L.doubts L.failed L.may_leave rows.old rows.new }
-    ensures cause { IsErrOf result ShelfFault.Failed → HasFailed (L.failed rows.old) (L.failed rows.new) }
+    ensures value { L.doubts shelf.new ≡ 0 → (s : State) → L.has shelf.old s → IfOk result (λ number. number ≡ posted_in s source (documents_in body.now)) }
+    ensures kept { IsKept L.has L.doubts L.failed L.may_leave shelf.old shelf.new }
+    ensures cause { IsErrOf result ShelfFault.Failed → HasFailed (L.failed shelf.old) (L.failed shelf.new) }
 {
     match Document::read(alloc, body.as_slice()) {
-        Ok(documents) => posted_among(rows, alloc, source, &documents),
+        Ok(documents) => posted_among(shelf, alloc, source, &documents),
         Err(ReadFault::NoMemory) => Err(ShelfFault::NoMemory),
         Err(_) => Ok(None),
     }
@@ -79,17 +79,17 @@ fn posted_in<L: LookUps>(
 
 /// The number of the first incident of a Post's body that the actor's organisation has posted before.
 pub(crate) fn find_posted<L: LookUps>(
-    rows: &mut L,
+    shelf: &mut L,
     alloc: Global,
     actor: &Person,
     request: &Request,
 ) -> Result<Option<u32>, ShelfFault>
-    ensures value { L.doubts rows.new ≡ 0 → (s : State) → L.has rows.old s → IfOk result (λ number. number ≡ posted_of s actor.now request.now) }
-    ensures kept { IsKept L.has L.doubts L.failed L.may_leave rows.old rows.new }
-    ensures cause { IsErrOf result ShelfFault.Failed → HasFailed (L.failed rows.old) (L.failed rows.new) }
+    ensures value { L.doubts shelf.new ≡ 0 → (s : State) → L.has shelf.old s → IfOk result (λ number. number ≡ posted_of s actor.now request.now) }
+    ensures kept { IsKept L.has L.doubts L.failed L.may_leave shelf.old shelf.new }
+    ensures cause { IsErrOf result ShelfFault.Failed → HasFailed (L.failed shelf.old) (L.failed shelf.new) }
 {
     match request {
-        Request::Post { document, .. } => posted_in(rows, alloc, actor.org, document),
+        Request::Post { document, .. } => posted_in(shelf, alloc, actor.org, document),
         _ => Ok(None),
     }
 }

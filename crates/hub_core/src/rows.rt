@@ -5,8 +5,8 @@ ghost use Rattle.circle.specs.Ordered.{pair_cmp};
 ghost use Rattle.hub_core.specs.State.{grantee_key, target_key};
 ghost use Rattle.hub_core.specs.Orders.{named};
 
+use crate::in_order::Row;
 use crate::request::Target;
-use crate::row::Row;
 use crate::state::{Gate, Incident, Permission, Recipient};
 use circle::text::Text;
 use policy::Grantee;

@@ -32,44 +32,43 @@ struct Ties {
     arrangement: Option<Handling>,
 }
 
-fn find_joined<L: LookUps>(rows: &mut L, org: u32) -> Result<Joined, ShelfFault>
-    ensures value { L.doubts rows.new ≡ 0 → (s : State) → L.has rows.old s → IfOk result (λ found. found ≡ record { groups = groups_joined org s.directory; active_groups = active_groups_joined org s.directory; communities = communities_of org s.directory }) }
-    ensures kept { IsKept L.has L.doubts L.failed L.may_leave rows.old rows.new }
-    ensures cause { IsErrOf result ShelfFault.Failed → HasFailed (L.failed rows.old) (L.failed rows.new) }
+fn find_joined<L: LookUps>(shelf: &mut L, org: u32) -> Result<Joined, ShelfFault>
+    ensures value { L.doubts shelf.new ≡ 0 → (s : State) → L.has shelf.old s → IfOk result (λ found. found ≡ record { groups = groups_joined org s.directory; active_groups = active_groups_joined org s.directory; communities = communities_of org s.directory }) }
+    ensures kept { IsKept L.has L.doubts L.failed L.may_leave shelf.old shelf.new }
+    ensures cause { IsErrOf result ShelfFault.Failed → HasFailed (L.failed shelf.old) (L.failed shelf.new) }
 {
-    let groups = rows.groups_joined(org)?;
-    let active_groups = rows.active_groups_joined(org)?;
-    let communities = rows.communities_of(org)?;
+    let groups = shelf.groups_joined(org)?;
+    let communities = shelf.communities_of(org)?;
     Ok(Joined {
-        groups: Numbers::new(groups),
-        active_groups: Numbers::new(active_groups),
+        groups: groups.all,
+        active_groups: groups.active,
         communities: Numbers::new(communities),
     })
 }
 
 fn find_arranged<L: LookUps>(
-    rows: &mut L,
+    shelf: &mut L,
     source: u32,
     org: u32,
 ) -> Result<Option<Handling>, ShelfFault>
-    ensures value { L.doubts rows.new ≡ 0 → (s : State) → L.has rows.old s → IfOk result (λ found. found ≡ arranged_with source org s.directory) }
-    ensures kept { IsKept L.has L.doubts L.failed L.may_leave rows.old rows.new }
-    ensures cause { IsErrOf result ShelfFault.Failed → HasFailed (L.failed rows.old) (L.failed rows.new) }
+    ensures value { L.doubts shelf.new ≡ 0 → (s : State) → L.has shelf.old s → IfOk result (λ found. found ≡ arranged_with source org s.directory) }
+    ensures kept { IsKept L.has L.doubts L.failed L.may_leave shelf.old shelf.new }
+    ensures cause { IsErrOf result ShelfFault.Failed → HasFailed (L.failed shelf.old) (L.failed shelf.new) }
 {
-    match rows.arranged(source, org)? {
+    match shelf.arranged(source, org)? {
         None => Ok(None),
         Some(handling) => Ok(Some(handling_in(handling))),
     }
 }
 
-fn find_ties<L: LookUps>(rows: &mut L, org: u32, source: u32) -> Result<Ties, ShelfFault>
-    ensures value { L.doubts rows.new ≡ 0 → (s : State) → L.has rows.old s → IfOk result (λ found. found ≡ record { community = share_community org source s.directory; connected = are_connected org source s.directory; arrangement = arranged_with source org s.directory }) }
-    ensures kept { IsKept L.has L.doubts L.failed L.may_leave rows.old rows.new }
-    ensures cause { IsErrOf result ShelfFault.Failed → HasFailed (L.failed rows.old) (L.failed rows.new) }
+fn find_ties<L: LookUps>(shelf: &mut L, org: u32, source: u32) -> Result<Ties, ShelfFault>
+    ensures value { L.doubts shelf.new ≡ 0 → (s : State) → L.has shelf.old s → IfOk result (λ found. found ≡ record { community = share_community org source s.directory; connected = are_connected org source s.directory; arrangement = arranged_with source org s.directory }) }
+    ensures kept { IsKept L.has L.doubts L.failed L.may_leave shelf.old shelf.new }
+    ensures cause { IsErrOf result ShelfFault.Failed → HasFailed (L.failed shelf.old) (L.failed shelf.new) }
 {
-    let community = rows.share_community(org, source)?;
-    let connected = rows.are_connected(org, source)?;
-    let arrangement = find_arranged(rows, source, org)?;
+    let community = shelf.share_community(org, source)?;
+    let connected = shelf.are_connected(org, source)?;
+    let arrangement = find_arranged(shelf, source, org)?;
     Ok(Ties {
         community,
         connected,
@@ -79,35 +78,35 @@ fn find_ties<L: LookUps>(rows: &mut L, org: u32, source: u32) -> Result<Ties, Sh
 
 /// Whether an organisation is the source, or a recipient of the incident.
 fn is_reached<L: LookUps>(
-    rows: &mut L,
+    shelf: &mut L,
     incident: u32,
     source: u32,
     org: u32,
 ) -> Result<bool, ShelfFault>
-    ensures value { L.doubts rows.new ≡ 0 → (s : State) → L.has rows.old s → IfOk result (λ b. b ≡ (org == source || has_recipient incident (target.Org org) s)) }
-    ensures kept { IsKept L.has L.doubts L.failed L.may_leave rows.old rows.new }
-    ensures cause { IsErrOf result ShelfFault.Failed → HasFailed (L.failed rows.old) (L.failed rows.new) }
+    ensures value { L.doubts shelf.new ≡ 0 → (s : State) → L.has shelf.old s → IfOk result (λ b. b ≡ (org == source || has_recipient incident (target.Org org) s)) }
+    ensures kept { IsKept L.has L.doubts L.failed L.may_leave shelf.old shelf.new }
+    ensures cause { IsErrOf result ShelfFault.Failed → HasFailed (L.failed shelf.old) (L.failed shelf.new) }
 {
     if org == source {
         Ok(true)
     } else {
-        rows.has_recipient(incident, Target::Org(org))
+        shelf.has_recipient(incident, Target::Org(org))
     }
 }
 
 /// Whether one of the organisations is the source, or a recipient of the incident.
 fn is_among<L: LookUps>(
-    rows: &mut L,
+    shelf: &mut L,
     incident: u32,
     source: u32,
     orgs: &[u32],
 ) -> Result<bool, ShelfFault>
-    ensures value { L.doubts rows.new ≡ 0 → (s : State) → L.has rows.old s → IfOk result (λ b. b ≡ list_any (λ org. org == source || has_recipient incident (target.Org org) s) orgs.now) }
-    ensures kept { IsKept L.has L.doubts L.failed L.may_leave rows.old rows.new }
-    ensures cause { IsErrOf result ShelfFault.Failed → HasFailed (L.failed rows.old) (L.failed rows.new) }
+    ensures value { L.doubts shelf.new ≡ 0 → (s : State) → L.has shelf.old s → IfOk result (λ b. b ≡ list_any (λ org. org == source || has_recipient incident (target.Org org) s) orgs.now) }
+    ensures kept { IsKept L.has L.doubts L.failed L.may_leave shelf.old shelf.new }
+    ensures cause { IsErrOf result ShelfFault.Failed → HasFailed (L.failed shelf.old) (L.failed shelf.new) }
 {
     for org in orgs {
-        if is_reached(rows, incident, source, *org)? {
+        if is_reached(shelf, incident, source, *org)? {
             return Ok(true);
         }
     }
@@ -116,17 +115,17 @@ fn is_among<L: LookUps>(
 
 /// Whether an organisation is a client of the source or of one that is addressed.
 fn is_client<L: LookUps>(
-    rows: &mut L,
+    shelf: &mut L,
     incident: u32,
     source: u32,
     org: u32,
 ) -> Result<bool, ShelfFault>
-    ensures value { L.doubts rows.new ≡ 0 → (s : State) → L.has rows.old s → (i : Incident) → i.number ≡ incident → i.source ≡ source → IfOk result (λ b. b ≡ is_client_for s i org) }
-    ensures kept { IsKept L.has L.doubts L.failed L.may_leave rows.old rows.new }
-    ensures cause { IsErrOf result ShelfFault.Failed → HasFailed (L.failed rows.old) (L.failed rows.new) }
+    ensures value { L.doubts shelf.new ≡ 0 → (s : State) → L.has shelf.old s → (i : Incident) → i.number ≡ incident → i.source ≡ source → IfOk result (λ b. b ≡ is_client_for s i org) }
+    ensures kept { IsKept L.has L.doubts L.failed L.may_leave shelf.old shelf.new }
+    ensures cause { IsErrOf result ShelfFault.Failed → HasFailed (L.failed shelf.old) (L.failed shelf.new) }
 {
-    let served = rows.served_by(org)?;
-    is_among(rows, incident, source, served.as_slice())
+    let served = shelf.served_by(org)?;
+    is_among(shelf, incident, source, served.as_slice())
 }
 
 /// Whether the reader, its organisation or one that serves it is addressed.
@@ -138,18 +137,18 @@ struct Addressed {
 }
 
 fn find_addressed<L: LookUps>(
-    rows: &mut L,
+    shelf: &mut L,
     reader: &Person,
     incident: u32,
     source: u32,
 ) -> Result<Addressed, ShelfFault>
-    ensures value { L.doubts rows.new ≡ 0 → (s : State) → L.has rows.old s → (i : Incident) → i.number ≡ incident → i.source ≡ source → IfOk result (λ found. found ≡ record { person = has_recipient incident (target.Person reader.now.number) s; org = has_recipient incident (target.Org reader.now.org) s; client = is_client_for s i reader.now.org }) }
-    ensures kept { IsKept L.has L.doubts L.failed L.may_leave rows.old rows.new }
-    ensures cause { IsErrOf result ShelfFault.Failed → HasFailed (L.failed rows.old) (L.failed rows.new) }
+    ensures value { L.doubts shelf.new ≡ 0 → (s : State) → L.has shelf.old s → (i : Incident) → i.number ≡ incident → i.source ≡ source → IfOk result (λ found. found ≡ record { person = has_recipient incident (target.Person reader.now.number) s; org = has_recipient incident (target.Org reader.now.org) s; client = is_client_for s i reader.now.org }) }
+    ensures kept { IsKept L.has L.doubts L.failed L.may_leave shelf.old shelf.new }
+    ensures cause { IsErrOf result ShelfFault.Failed → HasFailed (L.failed shelf.old) (L.failed shelf.new) }
 {
-    let person = rows.has_recipient(incident, Target::Person(reader.number))?;
-    let org = rows.has_recipient(incident, Target::Org(reader.org))?;
-    let client = is_client(rows, incident, source, reader.org)?;
+    let person = shelf.has_recipient(incident, Target::Person(reader.number))?;
+    let org = shelf.has_recipient(incident, Target::Org(reader.org))?;
+    let client = is_client(shelf, incident, source, reader.org)?;
     Ok(Addressed {
         person,
         org,
@@ -158,18 +157,18 @@ fn find_addressed<L: LookUps>(
 }
 
 fn standing_to<L: LookUps>(
-    rows: &mut L,
+    shelf: &mut L,
     reader: &Person,
     incident: u32,
     source: u32,
 ) -> Result<Standing, ShelfFault>
-    ensures value { L.doubts rows.new ≡ 0 → (s : State) → L.has rows.old s → (i : Incident) → i.number ≡ incident → i.source ≡ source → IfOk result (λ found. found ≡ standing_for s reader.now i) }
-    ensures kept { IsKept L.has L.doubts L.failed L.may_leave rows.old rows.new }
-    ensures cause { IsErrOf result ShelfFault.Failed → HasFailed (L.failed rows.old) (L.failed rows.new) }
+    ensures value { L.doubts shelf.new ≡ 0 → (s : State) → L.has shelf.old s → (i : Incident) → i.number ≡ incident → i.source ≡ source → IfOk result (λ found. found ≡ standing_for s reader.now i) }
+    ensures kept { IsKept L.has L.doubts L.failed L.may_leave shelf.old shelf.new }
+    ensures cause { IsErrOf result ShelfFault.Failed → HasFailed (L.failed shelf.old) (L.failed shelf.new) }
 {
-    let addressed = find_addressed(rows, reader, incident, source)?;
-    let ties = find_ties(rows, reader.org, source)?;
-    let joined = find_joined(rows, reader.org)?;
+    let addressed = find_addressed(shelf, reader, incident, source)?;
+    let ties = find_ties(shelf, reader.org, source)?;
+    let joined = find_joined(shelf, reader.org)?;
     Ok(Standing {
         source: reader.org == source,
         person: addressed.person,
@@ -189,34 +188,34 @@ fn standing_to<L: LookUps>(
 
 /// How a person stands to an incident; none where either is missing.
 fn find_standing<L: LookUps>(
-    rows: &mut L,
+    shelf: &mut L,
     person: u32,
     incident: u32,
 ) -> Result<Option<Standing>, ShelfFault>
-    ensures value { L.doubts rows.new ≡ 0 → (s : State) → L.has rows.old s → IfOk result (λ found. found ≡ standing_of person incident s) }
-    ensures kept { IsKept L.has L.doubts L.failed L.may_leave rows.old rows.new }
-    ensures cause { IsErrOf result ShelfFault.Failed → HasFailed (L.failed rows.old) (L.failed rows.new) }
+    ensures value { L.doubts shelf.new ≡ 0 → (s : State) → L.has shelf.old s → IfOk result (λ found. found ≡ standing_of person incident s) }
+    ensures kept { IsKept L.has L.doubts L.failed L.may_leave shelf.old shelf.new }
+    ensures cause { IsErrOf result ShelfFault.Failed → HasFailed (L.failed shelf.old) (L.failed shelf.new) }
 {
-    let Some(reader) = rows.person_of(person)? else {
+    let Some(reader) = shelf.person_of(person)? else {
         return Ok(None);
     };
-    let Some(known) = rows.known(incident)? else {
+    let Some(known) = shelf.known(incident)? else {
         return Ok(None);
     };
-    Ok(Some(standing_to(rows, &reader, incident, known.source)?))
+    Ok(Some(standing_to(shelf, &reader, incident, known.source)?))
 }
 
 /// How a person stands to an incident, by a shelf's look-ups; none where either is missing.
 pub fn standing_by<L: LookUps>(
-    rows: &mut L,
+    shelf: &mut L,
     person: u32,
     incident: u32,
 ) -> Result<Option<Standing>, ShelfFault>
-    ensures value { L.doubts rows.new ≡ 0 → (s : State) → L.has rows.old s → IfOk result (λ found. found ≡ standing_of person incident s) }
-    ensures kept { IsRead L.has L.doubts L.failed L.may_leave rows.old rows.new result }
+    ensures value { L.doubts shelf.new ≡ 0 → (s : State) → L.has shelf.old s → IfOk result (λ found. found ≡ standing_of person incident s) }
+    ensures kept { IsRead L.has L.doubts L.failed L.may_leave shelf.old shelf.new result }
 {
-    if rows.has_ended() {
+    if shelf.has_ended() {
         return Err(ShelfFault::Failed);
     }
-    find_standing(rows, person, incident)
+    find_standing(shelf, person, incident)
 }

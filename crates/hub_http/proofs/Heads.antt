@@ -50,11 +50,16 @@ head_arrives bytes len r method target holds m t a s =
     arrives bytes _ (holds.0, _, holds.1.reads, same) (len + length (drop len bytes)) (omega (arith, length-drop len bytes)) a s
 
 -- the head lies in the window
-pub head_within : (bytes : List ℕ) (len : ℕ) (r : Request) → HoldsSomeRequest (window bytes) r len → (len ≤ 8192) × (len ≤ length bytes)
-head_within bytes len r (h, holds) =
-    let e : length (window bytes) ≡ length (print_request h) + length (drop len (window bytes)) =
-    ap length holds.reads.1 ∙ length-append (print_request h) (drop len (window bytes)) in
-    (omega (arith, e, holds.len_is, length-take {A = ℕ}), omega (arith, e, holds.len_is, length-take {A = ℕ}))
+pub head_fits : (bytes : List ℕ) (h : RequestHead) (rest : List ℕ) → ReadsRequest (window bytes) h rest → (length (print_request h) ≤ 8192) × (length (print_request h) ≤ length bytes)
+head_fits bytes h rest reads =
+    let e : length (window bytes) ≡ length (print_request h) + length rest = ap length reads.1 ∙ length-append (print_request h) rest in
+    (omega (arith, e, length-take {A = ℕ}), omega (arith, e, length-take {A = ℕ}))
+
+-- the same of what the parser holds
+pub within : (bytes front : List ℕ) (len : ℕ) (r : Request) → front ≡ window bytes → HoldsSomeRequest front r len → (len ≤ 8192) × (len ≤ length bytes)
+within bytes front len r same (h, holds) =
+    let fits = head_fits bytes h (drop len front) (subst (λ l. ReadsRequest l h (drop len front)) same holds.reads) in
+    (omega (arith, fits, holds.len_is), omega (arith, fits, holds.len_is))
 
 not_leb : {n : ℕ} → 64 < n → nat_le n 64 ≡ false
 not_leb h = grind (arith, nat_tests)
@@ -97,6 +102,3 @@ never_exceeds bytes room big (front, rest, whole, h, reads, many) =
 pub exceeds_none : (bytes front : List ℕ) (room : ℕ) → front ≡ window bytes → 8192 ≤ room → RequestExceeds room front → ⊥
 exceeds_none bytes front room same full h =
     never_exceeds bytes room full (subst (λ l. RequestExceeds room l) same h)
-
-pub within : (bytes front : List ℕ) (len : ℕ) (r : Request) → front ≡ window bytes → HoldsSomeRequest front r len → (len ≤ 8192) × (len ≤ length bytes)
-within bytes front len r same h = head_within bytes len r (subst (λ l. HoldsSomeRequest l r len) same h)

@@ -1,10 +1,9 @@
 pub mod Numbers
-pub mod Pairs
+pub mod ValuesSoFar
 pub mod OneAnswer
 pub mod Heads
 pub mod Gates
 pub mod NoFloats
-pub mod Whole
 pub mod Readings
-pub mod Standing
+pub mod AnswersStand
 pub mod Replied

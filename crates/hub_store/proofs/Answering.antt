@@ -13,7 +13,7 @@ use Rattle.hub_core.specs.State as core
 use Rattle.hub_core.specs.Sound.{IsSound}
 use Rattle.hub_store.specs.Tables.{hub_schema}
 use Rattle.hub_store.specs.Means.{Holds}
-use Rattle.hub_store.specs.Asked.{HasShown, IsRead, Answers}
+use Rattle.hub_store.specs.Queries.{HasShown, IsReadInside, Answers}
 use Rattle.hub_store.proofs.Forms.{program}
 use Rattle.hub_store.proofs.Outcomes.{unchanged_keeps}
 use Rattle.hub_store.proofs.Asking.{asked_same, asked_rows}
@@ -24,7 +24,7 @@ pub read_shown : {S : Type 0} (g : store.Ghosts S) (text : List ℕ) (params : R
     → command_of (understood hub_schema text) ≡ Select (program q) names → IsPlain (understood hub_schema text) × (reads_listing hub_schema text ≡ false) → Survives (state g old) (state g new) (λ _. ⊥)
     → (HasCleanDisk (state g new) → HasShown g text params old new rows)
     → ((s : core.State) → Holds (state g old).now s → IsSound s → IsAnswer q (state g old).now.trees params rows → IfOk result (Right s))
-    → IsRead (state g old) (state g new) Right result
+    → IsReadInside (state g old) (state g new) Right result
 read_shown g text params old new rows q names Right result is plain survives shown right = record {
   survives = survives;
   kept = λ clean knows. unchanged_keeps _ _ (inl (asked_same g text params old new rows plain.0 (shown clean) knows));
@@ -36,7 +36,7 @@ if_up : {T : Type 0} (r : Result T Error) (Up : Type 0) (P : T → Type 0) → O
 if_up (Ok x) Up P up f = f up
 if_up (Err e) Up P up f = tt
 
-pub rolled : {S : Type 0} (g : store.Ghosts S) (old mid end : Held S) {T : Type 0} (Right : core.State → T → Type 0) (result : Result T Error) → IsRead (state g (record old { in_transaction = true })) (state g mid) Right result
+pub rolled : {S : Type 0} (g : store.Ghosts S) (old mid end : Held S) {T : Type 0} (Right : core.State → T → Type 0) (result : Result T Error) → IsReadInside (state g (record old { in_transaction = true })) (state g mid) Right result
     → (HasCleanDisk (state g end) → IsRolledBack (state g mid) (state g end)) → Survives (state g mid) (state g end) (λ _. ⊥) → Answers (state g old) (state g end) Right result
 rolled g old mid end Right result read back survives = record {
   survives = survives_begin g old (state g end) _ (survives_on (state g (record old { in_transaction = true })) (state g mid) (state g end) read.survives survives);

@@ -1,5 +1,7 @@
 -- The query for the version, whatever the schema is.
 use Rattle.std.proofs.Common.{◌≡◌, ◌⊎◌, inl, inr, ℕ, List, [], map, append-nil, Bool, true, false, cond, IsTrue, is_some, Option, Some, None, Ok, Err, Result, IfOk, refl, sym, ap, subst, ◌∙◌}
+use Rattle.std.proofs.lemmas.Bool.{both_ways}
+use Rattle.std.proofs.lemmas.Result.{IfOk-weaker}
 use Rattle.sqlite_value.specs.Order.{Row, column}
 use Rattle.sqlite_schema.specs.declared.command.Command.{Command}
 use Rattle.sqlite_schema.specs.declared.command.Returning.{Returning}
@@ -60,26 +62,19 @@ versions_same old new rows h =
     let tables = from_tables old.now.schema h.0 h.1.is in
     plain_shown old new version_text h.0 _ rows h.0.returning (bare_anywhere old.now.schema h.0 tables.1).0 h.2
 
-on_if_ok : {T E : Type 0} (r : Result T E) (P Q : T → Type 0) → ((x : T) → P x → Q x) → IfOk r P → IfOk r Q
-on_if_ok (Ok x) P Q f h = f x h
-on_if_ok (Err e) P Q f h = tt
-
-never_both : (b : Bool) → b ≡ false → IsTrue b → ⊥
-never_both b is h = let e = rw is at h in cc
-
 -- the rows of a query tell the version, where there is the column
 pub told_by_rows : (old new : State) (has : Bool) (rows : List Row) (r : Result (Option ℕ) Error) → has ≡ true → has ≡ is_some (version_column old.now.schema) → Shown version_text [] old new rows → IfOk r (λ found. found ≡ only_u32 (map (λ (r : Row). column r 0) rows))
     → IfOk r (λ found. IsTrue old.is_open × IsVersion old.now found)
 told_by_rows old new has rows r up is shown found =
     let there : is_some (version_column old.now.schema) ≡ true = sym is ∙ up in
-    on_if_ok r _ _ (λ n same. (
+    IfOk-weaker r _ _ (λ n same. (
       shown_up old new version_text [] rows shown,
       record { missing = λ none. absurd (let e = sym there ∙ none in cc); there = λ _. (rows, answer_of [] old new rows shown, same) },
     )) found
 
 -- without the column there is none
 pub told_by_schema : (old : State) (has : Bool) → has ≡ false → has ≡ is_some (version_column old.now.schema) → IsVersion old.now None
-told_by_schema old has down is = record { missing = λ _. refl; there = λ up. absurd (never_both _ (sym is ∙ down) up) }
+told_by_schema old has down is = record { missing = λ _. refl; there = λ up. absurd (both_ways _ (sym is ∙ down) up) }
 
 not_stored : (kind : StoreError) (f : CompileError) → SqlInputError f ≡ store_error kind → ⊥
 not_stored OutOfMemory f e = cc

@@ -1,20 +1,17 @@
 -- What queries of the table of pairs show of one of its sets.
-use Rattle.std.proofs.Common.{◌≡◌, ℕ, pos, negsuc, List, [], ◌∷◌, map, filter, drop, Bool, true, false, ◌&&◌, ◌==◌, codes, Option, Some, None, nat_cmp, refl, ap, subst, ◌∙◌, arith}
+use Rattle.std.proofs.Common.{◌≡◌, ℕ, pos, negsuc, List, [], ◌∷◌, map, filter, drop, Bool, true, false, ◌==◌, codes, Option, Some, None, nat_cmp, refl, subst, ◌∙◌}
 use Rattle.std.specs.Option.{option_to_list}
-use Rattle.std.specs.Ordering.{ordering_then}
 use Rattle.std.specs.List.Sorted.{IsPermutation}
-use Rattle.std.specs.declared.cmp.Ordering.{Ordering}
-use Rattle.std.specs.declared.cmp.Ordering.TheVariants.{Less, Equal, Greater}
-use Rattle.std.proofs.lemmas.Bool.Decides.{nat_tests}
+use Rattle.std.specs.declared.cmp.Ordering.TheVariants.{Less}
+use Rattle.std.proofs.lemmas.Bool.{and_parts, eqb-true, false_from_ne_true}
 use Rattle.sqlite_value.specs.declared.value.Value.TheVariants.{Int, Text}
 use Rattle.sqlite_value.specs.declared.keys.Key.{Key}
 use Rattle.sqlite_value.specs.Order.{Row, column}
 use Rattle.sqlite_value.proofs.OrderLemmas.{value_cmp-Int}
 use Rattle.sqlite_trees.specs.Tree.{Trees, IsAscending}
-use Rattle.sqlite_trees.proofs.ListLemmas.{map-map, all_weaker, ascending-map, ascending_weaker}
+use Rattle.sqlite_trees.proofs.ListLemmas.{all_weaker, ascending-map}
 use Rattle.sqlite_sql.specs.Term.{Term, lit, col, eval_all}
-use Rattle.sqlite_sql.specs.Query.{Query, IsAnswer, Output, output_cmp}
-use Rattle.sqlite_sql.proofs.QueryLemmas.{output_cmp_total}
+use Rattle.sqlite_sql.specs.Query.{IsAnswer, Output, output_cmp}
 use Rattle.sqlite.proofs.Callers.{one_permutation}
 use Rattle.circle.specs.Ordered.{pair_cmp}
 use Rattle.circle.specs.Directory.{Directory}
@@ -31,12 +28,10 @@ use Rattle.hub_store.specs.declared.pair_kind.PairKind.TheVariants as kind
 use Rattle.hub_store.proofs.Compare.{begins, equal_numbers, and_true}
 use Rattle.hub_store.proofs.Finding.{seen_through, of_elements, only_one, Once, no_permutation}
 use Rattle.hub_store.proofs.Forms.{one_table, is_param, by_column, in_order}
-use Rattle.hub_store.proofs.Lists.{Rises}
-use Rattle.hub_store.proofs.Listed.{rising_passing, int_below}
+use Rattle.hub_store.proofs.Listed.{in_its_order, int_below, not_less, first_decides, next_decides}
 use Rattle.hub_store.proofs.OneKind.{kind_alone, is_of}
-use Rattle.hub_store.proofs.Orders.{sorted_as}
 use Rattle.hub_store.proofs.Puts.{past_two, past_three}
-use Rattle.hub_store.proofs.Statements.{keeps, shows, selected, ordered_rows}
+use Rattle.hub_store.proofs.Statements.{keeps, shows, selected}
 use Rattle.hub_store.proofs.Unique.{rising}
 
 -- ---- one set of the table
@@ -59,50 +54,15 @@ pairs_rise kind.Connection d sound = ascending-map Below connection_pair d.conne
 pairs_rise kind.GroupMember d sound = ascending-map Below group_member_pair d.group_members (rising _ d.group_members sound.group_members.rising)
 pairs_rise kind.Arrangement d sound = ascending-map Below arrangement_pair d.arrangements (rising _ d.arrangements sound.arrangements.rising)
 
--- ---- two pairs that follow each other
-
-is_number : (a b : ℕ) → (a == b) ≡ true → a ≡ b
-is_number a b h = grind (arith, nat_tests)
-
-not_less : (m n k : ℕ) → m ≡ k → n ≡ k → nat_cmp m n ≡ Less → ⊥
-not_less m n k e f h = grind (arith, nat_tests)
-
--- where both have the same second number, the first decides
-pub first_decides : (m n i j k : ℕ) → (i == k) ≡ true → (j == k) ≡ true → ordering_then (nat_cmp m n) (nat_cmp i j) ≡ Less → nat_cmp m n ≡ Less
-first_decides m n i j k e f h = go (nat_cmp m n) h
-  where
-    go : (c : Ordering) → ordering_then c (nat_cmp i j) ≡ Less → c ≡ Less
-    go Less more = refl
-    go Equal more = absurd (not_less i j k (is_number i k e) (is_number j k f) more)
-    go Greater more = absurd cc
-
--- where both have the same first number, the second decides
-second_decides : (m n k : ℕ) (o : Ordering) → (m == k) ≡ true → (n == k) ≡ true → ordering_then (nat_cmp m n) o ≡ Less → o ≡ Less
-second_decides m n k o e f h = go (nat_cmp m n) refl h
-  where
-    go : (c : Ordering) → nat_cmp m n ≡ c → ordering_then c o ≡ Less → o ≡ Less
-    go Less is more = absurd (not_less m n k (is_number m k e) (is_number n k f) is)
-    go Equal is more = more
-    go Greater is more = absurd cc
-
-split_and : (x y : Bool) → (x && y) ≡ true → (x ≡ true) × (y ≡ true)
-split_and true true h = (refl, refl)
-split_and true false h = absurd cc
-split_and false y h = absurd cc
-
-never_so : (t : Bool) → (t ≡ true → ⊥) → t ≡ false
-never_so true never = absurd (never refl)
-never_so false never = refl
-
 -- two numbers stand once
 pub once_between : (a b : ℕ) (ps : List Pair) → IsAscending Below ps → Once (is_between a b) ps
 once_between a b [] up = tt
-once_between a b (p ∷ ps) up = (all_weaker (Below p) (λ q. is_between a b p ≡ true → is_between a b q ≡ false) (λ q h is. never_so (is_between a b q) (apart q h (split_and (p.0.0 == a) (p.0.1 == b) is))) ps up.0, once_between a b ps up.1)
+once_between a b (p ∷ ps) up = (all_weaker (Below p) (λ q. is_between a b p ≡ true → is_between a b q ≡ false) (λ q h is. false_from_ne_true (is_between a b q) (apart q h (and_parts (p.0.0 == a) (p.0.1 == b) is))) ps up.0, once_between a b ps up.1)
   where
     apart : (q : Pair) → Below p q → ((p.0.0 == a) ≡ true) × ((p.0.1 == b) ≡ true) → is_between a b q ≡ true → ⊥
     apart q h one also =
-        let other = split_and (q.0.0 == a) (q.0.1 == b) also in
-        not_less p.0.1 q.0.1 b (is_number p.0.1 b one.1) (is_number q.0.1 b other.1) (second_decides p.0.0 q.0.0 a (nat_cmp p.0.1 q.0.1) one.0 other.0 h)
+        let other = and_parts (q.0.0 == a) (q.0.1 == b) also in
+        not_less p.0.1 q.0.1 b (eqb-true p.0.1 b one.1) (eqb-true q.0.1 b other.1) (next_decides p.0.0 q.0.0 a (nat_cmp p.0.1 q.0.1) one.0 other.0 h)
 
 -- ---- queries
 
@@ -154,21 +114,14 @@ module _ (db : Trees) (s : core.State) (k : PairKind) (sound : IsSound s) (means
       → ((a b : Pair) → q a ≡ true → Below a b → q b ≡ true → output_cmp (in_order order (one_table 9 terms project)) (out (pair_row (kind_name k) a)) (out (pair_row (kind_name k) b)) ≡ Less)
       → IsAnswer (in_order order (one_table 9 terms project)) db params rows → rows ≡ map (λ p. (out (pair_row (kind_name k) p)).1) (filter q (pairs_of k s.directory))
   ordered terms project order params test out q rows kept show same below answer =
-      let Q : Query = in_order order (one_table 9 terms project) in
-      let row = pair_row (kind_name k) in
-      let pairs = pairs_of k s.directory in
-      let got = ordered_rows db 9 terms project order (lit (Int (negsuc 0))) params rows answer in
-      let found = passing (keeps terms params) (λ r. (eval_all (map (λ (key : Term × Key). key.0) order) (params ∷ r ∷ []), shows project params r)) test out q got.0 kept show same got.1 in
-      let rises : Rises (output_cmp Q) (λ o. o) (map (λ p. out (row p)) (filter q pairs)) =
-      ascending-map _ (λ p. out (row p)) (filter q pairs) (ascending_weaker (λ a b. (q a ≡ true) × (Below a b × (q b ≡ true))) _ (λ a b h. below a b h.0 h.1.0 h.1.1) (filter q pairs) (rising_passing Below q pairs (pairs_rise k s.directory sound.directory))) in
-      let all = sorted_as (output_cmp_total Q) (λ o. o) (map (λ p. out (row p)) (filter q pairs)) got.0 rises found got.2 in
-      got.3 ∙ ap (map (λ (o : Output). o.1)) all ∙ map-map (λ (o : Output). o.1) (λ p. out (row p)) (filter q pairs)
+      in_its_order db 9 (pairs_of k s.directory) q terms project order (lit (Int (negsuc 0))) params (λ p. out (pair_row (kind_name k) p)) rows Below (pairs_rise k s.directory sound.directory) below
+      (λ all found. passing (keeps terms params) (λ r. (eval_all (map (λ (key : Term × Key). key.0) order) (params ∷ r ∷ []), shows project params r)) test out q all kept show same found) answer
 
   pub from_shown : (a : ℕ) (rows : List Row) → IsAnswer (in_order (by_column 3 ∷ []) (one_table 9 (is_param 1 0 ∷ is_param 2 1 ∷ []) (col 1 3 ∷ col 1 4 ∷ []))) db (Text (kind_name k) ∷ Int (pos a) ∷ []) rows → rows ≡ map second_shown (pairs_from k a s.directory)
   from_shown a rows answer =
       let params = Text (kind_name k) ∷ Int (pos a) ∷ [] in
       ordered (is_param 1 0 ∷ is_param 2 1 ∷ []) (col 1 3 ∷ col 1 4 ∷ []) (by_column 3 ∷ []) params (begins 1 (Int (pos a) ∷ [])) from_out (λ (p : Pair). p.0.0 == a) rows (past_two (Text (kind_name k)) (Int (pos a))) (past_from params) (λ p. and_true _ ∙ equal_numbers p.0.0 a)
-      (λ p q one less other. rw (value_cmp-Int (pos p.0.1) (pos q.0.1), int_below p.0.1 q.0.1 (second_decides p.0.0 q.0.0 a (nat_cmp p.0.1 q.0.1) one other less)) refl) answer
+      (λ p q one less other. rw (value_cmp-Int (pos p.0.1) (pos q.0.1), int_below p.0.1 q.0.1 (next_decides p.0.0 q.0.0 a (nat_cmp p.0.1 q.0.1) one other less)) refl) answer
 
   pub to_shown : (b : ℕ) (rows : List Row) → IsAnswer (in_order (by_column 2 ∷ []) (one_table 9 (is_param 1 0 ∷ is_param 3 1 ∷ []) (col 1 2 ∷ col 1 4 ∷ []))) db (Text (kind_name k) ∷ Int (pos b) ∷ []) rows → rows ≡ map first_shown (pairs_to k b s.directory)
   to_shown b rows answer =

@@ -1,10 +1,8 @@
--- What a query by a number finds.
+-- What a query of a table with numbers finds, and one by a number.
 use Rattle.std.proofs.Common.{◌≡◌, ℕ, pos, List, [], ◌∷◌, map, filter, find, length, Bool, true, false, cond, not, ◌||◌, ◌==◌, is_some, option_map, Some, refl, ap, subst, ◌∙◌}
 use Rattle.std.specs.List.{list_any}
 use Rattle.std.specs.Option.{option_to_list}
 use Rattle.std.specs.List.Sorted.{IsPermutation}
-use Rattle.std.proofs.lemmas.List.{length-map}
-use Rattle.std.proofs.lemmas.List.Sorted.{length_permutation}
 use Rattle.sqlite_value.specs.declared.value.Value.TheVariants.{Int}
 use Rattle.sqlite_value.specs.Order.{Row, column}
 use Rattle.sqlite_trees.specs.Tree.{Trees}
@@ -13,7 +11,6 @@ use Rattle.sqlite_sql.specs.Query.{IsAnswer}
 use Rattle.circle.specs.Directory.{has_org, has_community, org_number, community_number, account_number}
 use Rattle.circle.specs.Reads.{person_in, person_of}
 use Rattle.circle.specs.Sound.{CountsFrom}
-use Rattle.circle.proofs.Lookup.{some_having}
 use Rattle.hub_core.specs.State as core
 use Rattle.hub_core.specs.Sound.{IsSound}
 use Rattle.hub_store.specs.Holdings.{IsHeld, by_number}
@@ -23,23 +20,31 @@ use Rattle.hub_store.specs.Shown.{person_shown}
 use Rattle.hub_store.proofs.Compare.{is_same, equal_numbers, and_true}
 use Rattle.hub_store.proofs.Forms.{one_table, is_param}
 use Rattle.hub_store.proofs.Statements.{keeps, shows, selected}
-use Rattle.hub_store.proofs.Finding.{seen_through, of_elements, only_one, once_numbered, as_viewed}
+use Rattle.hub_store.proofs.Finding.{Once, seen_through, of_elements, only_one, once_numbered, as_viewed}
+use Rattle.hub_store.proofs.Whether.{any_shown}
 
--- rows show whether an element passes
-pub any_shown : {X : Type 0} (shown : X → Row) (q : X → Bool) (xs : List X) (rows : List Row) → IsPermutation (map shown (filter q xs)) rows → not (length rows == 0) ≡ list_any q xs
-any_shown shown q xs rows same = ap (λ n. not (n == 0)) (length_permutation _ rows same ∙ length-map (filter q xs) shown) ∙ some_having q xs
-
-module _ {X : Type 0} (db : Trees) (tree : ℕ) (row : X → Row) (number : X → ℕ) (xs : List X) (first : (x : X) → column (row x) 0 ≡ Int (pos (number x))) (n : ℕ) (project : List Term) (rows : List Row) (held : IsHeld db (by_number tree row xs)) (a : IsAnswer (one_table tree (is_param 0 0 ∷ []) project) db (Int (pos n) ∷ []) rows) where
-  pub with_number : IsPermutation (map (λ x. shows project (Int (pos n) ∷ []) (row x)) (filter (λ x. number x == n) xs)) rows
-  with_number =
-      let terms = is_param 0 0 ∷ [] in
-      let params = Int (pos n) ∷ [] in
-      let found = seen_through db (by_number tree row xs) (keeps terms params) (shows project params) (keeps terms params) (shows project params) rows (λ r. refl) (λ r. refl) held (selected db tree terms project params rows a) in
-      of_elements row (keeps terms params) (shows project params) (λ x. number x == n) xs rows (λ x. and_true _ ∙ ap (λ v. is_same v (Int (pos n))) (first x) ∙ equal_numbers (number x) n) found
+module _ {X : Type 0} (db : Trees) (tree : ℕ) (row : X → Row) (xs : List X) (terms project : List Term) (params : Row) (q : X → Bool) (rows : List Row) (same : (x : X) → keeps terms params (row x) ≡ q x) where
+  -- the rows show those that pass
+  found_passing : IsHeld db (by_number tree row xs) → IsAnswer (one_table tree terms project) db params rows → IsPermutation (map (λ x. shows project params (row x)) (filter q xs)) rows
+  found_passing held a =
+      of_elements row (keeps terms params) (shows project params) q xs rows same
+      (seen_through db (by_number tree row xs) (keeps terms params) (shows project params) (keeps terms params) (shows project params) rows (λ r. refl) (λ r. refl) held (selected db tree terms project params rows a))
 
   -- there is one at most
+  pub found_once : Once q xs → IsHeld db (by_number tree row xs) → IsAnswer (one_table tree terms project) db params rows → IsPermutation (map (λ x. shows project params (row x)) (option_to_list (find q xs))) rows
+  found_once once held a = subst (λ l. IsPermutation l rows) (ap (map (λ x. shows project params (row x))) (only_one q xs once)) (found_passing held a)
+
+-- ---- by a number
+
+module _ {X : Type 0} (db : Trees) (tree : ℕ) (row : X → Row) (number : X → ℕ) (xs : List X) (first : (x : X) → column (row x) 0 ≡ Int (pos (number x))) (n : ℕ) (project : List Term) (rows : List Row) (held : IsHeld db (by_number tree row xs)) (a : IsAnswer (one_table tree (is_param 0 0 ∷ []) project) db (Int (pos n) ∷ []) rows) where
+  by_first : (x : X) → keeps (is_param 0 0 ∷ []) (Int (pos n) ∷ []) (row x) ≡ (number x == n)
+  by_first x = and_true _ ∙ ap (λ v. is_same v (Int (pos n))) (first x) ∙ equal_numbers (number x) n
+
+  pub with_number : IsPermutation (map (λ x. shows project (Int (pos n) ∷ []) (row x)) (filter (λ x. number x == n) xs)) rows
+  with_number = found_passing db tree row xs (is_param 0 0 ∷ []) project (Int (pos n) ∷ []) (λ x. number x == n) rows by_first held a
+
   pub one_with_number : CountsFrom number 0 xs → IsPermutation (map (λ x. shows project (Int (pos n) ∷ []) (row x)) (option_to_list (find (λ x. number x == n) xs))) rows
-  one_with_number counts = subst (λ l. IsPermutation l rows) (ap (map (λ x. shows project (Int (pos n) ∷ []) (row x))) (only_one (λ x. number x == n) xs (once_numbered number n xs counts))) with_number
+  one_with_number counts = found_once db tree row xs (is_param 0 0 ∷ []) project (Int (pos n) ∷ []) (λ x. number x == n) rows by_first (once_numbered number n xs counts) held a
 
 pub org_found : (db : Trees) (s : core.State) (n : ℕ) (rows : List Row) → Means db s → IsAnswer (one_table 1 (is_param 0 0 ∷ []) (col 1 0 ∷ [])) db (Int (pos n) ∷ []) rows → not (length rows == 0) ≡ has_org n s.directory
 org_found db s n rows means a = any_shown _ _ s.directory.orgs rows (with_number db 1 org_row org_number s.directory.orgs (λ x. refl) n (col 1 0 ∷ []) rows means.1.0 a)

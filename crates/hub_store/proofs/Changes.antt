@@ -1,21 +1,19 @@
 -- What each edit's statement makes of the state.
-use Rattle.std.proofs.Common.{◌≡◌, ℕ, suc, pos, List, [], ◌∷◌, ◌++◌, map, filter, take, drop, Bool, true, false, cond, not, ◌==◌, if◌then◌else◌, Some, Ok, refl, sym, ap, ◌∙◌, codes}
+use Rattle.std.proofs.Common.{◌≡◌, ℕ, suc, pos, List, [], ◌∷◌, ◌++◌, map, filter, take, drop, Bool, true, false, cond, not, ◌==◌, if◌then◌else◌, Ok, refl, sym, ap, ◌∙◌, codes}
 use Rattle.std.specs.List.{AllByRecursion}
 use Rattle.std.specs.List.Sorted.{IsPermutation}
 use Rattle.std.specs.declared.cmp.Ordering.{Ordering}
 use Rattle.std.specs.Ordering.{is_lt}
-use Rattle.std.specs.Str.{bytes_eq}
 use Rattle.std.proofs.lemmas.List.Sorted.{IsPermutation-map, IsPermutation-cons, IsPermutation-trans, IsPermutation-refl}
 use Rattle.sqlite_value.specs.declared.value.Value.TheVariants.{Null, Int, Text, Blob}
-use Rattle.sqlite_trees.proofs.ListLemmas.{filter-map, all-filter, all-permutation}
+use Rattle.sqlite_trees.proofs.ListLemmas.{filter-map, all-filter}
 use Rattle.sqlite_sql.specs.Term.{lit, col}
 use Rattle.sqlite.specs.State.{State, Executes}
 use Rattle.iodef_tree.specs.Text.{Tokens, same_path}
-use Rattle.iodef_tree.specs.Pointer.{pointer_text, pointer_tokens}
-use Rattle.iodef_tree.proofs.Inverse.{pointer_tokens-pointer_text}
-use Rattle.iodef_tree.proofs.Order.{bytes_eq-refl, bytes_eq-true, same_path-refl, same_path-true}
+use Rattle.iodef_tree.specs.Pointer.{pointer_text}
 use Rattle.policy.specs.declared.permission.Grantee.{Grantee}
 use Rattle.circle.specs.Ordered.{put_by, by_number, by_pair}
+use Rattle.circle.proofs.Keeping.{each_put}
 use Rattle.circle.specs.Directory.{org_number, account_number, community_number, group_number, client_key, membership_key, connection_key, group_member_key, arrangement_key}
 use Rattle.circle.specs.declared.directory.Org.{Org}
 use Rattle.circle.specs.declared.directory.Account.{Account}
@@ -36,6 +34,7 @@ use Rattle.hub_core.specs.declared.state.Gate.{Gate}
 use Rattle.hub_core.specs.declared.state.Recipient.{Recipient}
 use Rattle.hub_core.specs.declared.state.Permission.{Permission}
 use Rattle.hub_core.specs.declared.edit.Edit.TheVariants.{Directory, PutIncident, TakeIncident, TakePolicy, PutGate, TakeGate, PutRecipient, TakeRecipient, PutPermission, TakePermission}
+use Rattle.hub_core.proofs.Indexing.{paths_by_pointers}
 use Rattle.hub_store.specs.Values.{flag}
 use Rattle.hub_store.specs.Pairs.{Pair, pair_row, rows_of_pairs, put_pair, take_pair}
 use Rattle.hub_store.specs.Rows.{role_number, org_row, account_row, community_row, group_row, document_text, incident_row, gate_row, recipient_row, permission_row, client_pair, membership_pair, connection_pair, group_member_pair, arrangement_pair, pair_sets}
@@ -59,41 +58,21 @@ put_by-same cmp x (y ∷ ys) =
     elim (is_lt (cmp x y)) as (λ b. IsPermutation (x ∷ y ∷ ys) (cond b (x ∷ y ∷ ys) (y ∷ put_by cmp x ys)))
     [ true ↦ IsPermutation-refl _ | false ↦ IsPermutation-trans _ _ _ (flipped x y ys) (IsPermutation-cons y _ _ (put_by-same cmp x ys)) ]
 
-each_put : {X : Type 0} (P : X → Type 0) (cmp : X → X → Ordering) (x : X) (xs : List X) → P x → AllByRecursion P xs → AllByRecursion P (put_by cmp x xs)
-each_put P cmp x xs one all = all-permutation P (x ∷ xs) (put_by cmp x xs) (put_by-same cmp x xs) (one, all)
-
 each_exchanged : {X : Type 0} (P : X → Type 0) (k : X → Bool) (f : X → X) → ((x : X) → P x → P (f x)) → (xs : List X) → AllByRecursion P xs → AllByRecursion P (map (λ x. if k x then f x else x) xs)
 each_exchanged P k f step [] all = tt
 each_exchanged P k f step (x ∷ xs) all = (elim (k x) as (λ b. P (cond b (f x) x)) [ true ↦ step x all.0 | false ↦ all.0 ], each_exchanged P k f step xs all.1)
 
 -- ---- tests of rows are tests of elements
 
-pub same_pointer : (p q : Tokens) → bytes_eq (pointer_text p) (pointer_text q) ≡ same_path p q
-same_pointer p q = go (bytes_eq (pointer_text p) (pointer_text q)) (same_path p q) refl refl
-  where
-    some_same : Some p ≡ Some q → p ≡ q
-    some_same e = cc
-
-    go : (a b : Bool) → bytes_eq (pointer_text p) (pointer_text q) ≡ a → same_path p q ≡ b → a ≡ b
-    go true true e f = refl
-    go false false e f = refl
-    go true false e f =
-        let texts : pointer_text p ≡ pointer_text q = bytes_eq-true (pointer_text p) (pointer_text q) e in
-        let tokens : p ≡ q = some_same (sym (pointer_tokens-pointer_text p) ∙ (ap pointer_tokens texts ∙ pointer_tokens-pointer_text q)) in
-        sym (same_path-refl p) ∙ (ap (same_path p) tokens ∙ f)
-    go false true e f =
-        let tokens : p ≡ q = same_path-true p q f in
-        sym e ∙ (ap (λ r. bytes_eq (pointer_text p) (pointer_text r)) (sym tokens) ∙ bytes_eq-refl (pointer_text p))
-
 pub gate_test : (n : ℕ) (p : Tokens) (g : Gate) → begins 0 (Int (pos n) ∷ Text (pointer_text p) ∷ []) (gate_row g) ≡ is_gate_at n p g
-gate_test n p g = rw (equal_numbers g.incident n, equal_texts (pointer_text g.path) (pointer_text p), same_pointer g.path p, and_true (same_path g.path p)) refl
+gate_test n p g = rw (equal_numbers g.incident n, equal_texts (pointer_text g.path) (pointer_text p), paths_by_pointers g.path p, and_true (same_path g.path p)) refl
 
 pub recipient_test : (n : ℕ) (target : Target) (r : Recipient) → begins 0 (Int (pos n) ∷ Int (pos (target_key target).0) ∷ Int (pos (target_key target).1) ∷ []) (recipient_row r) ≡ is_recipient_being n target r
 recipient_test n target r = rw (equal_numbers r.incident n, equal_numbers (target_key r.target).0 (target_key target).0, equal_numbers (target_key r.target).1 (target_key target).1, and_true ((target_key r.target).1 == (target_key target).1)) refl
 
 pub permission_test : (n : ℕ) (p : Tokens) (grantee : Grantee) (x : Permission) → begins 0 (Int (pos n) ∷ Text (pointer_text p) ∷ Int (pos (grantee_key grantee).0) ∷ Int (pos (grantee_key grantee).1) ∷ []) (permission_row x) ≡ is_permission_being n p grantee x
 permission_test n p grantee x =
-    rw (equal_numbers x.incident n, equal_texts (pointer_text x.path) (pointer_text p), same_pointer x.path p, equal_numbers (grantee_key x.grantee).0 (grantee_key grantee).0, equal_numbers (grantee_key x.grantee).1 (grantee_key grantee).1, and_true ((grantee_key x.grantee).1 == (grantee_key grantee).1)) refl
+    rw (equal_numbers x.incident n, equal_texts (pointer_text x.path) (pointer_text p), paths_by_pointers x.path p, equal_numbers (grantee_key x.grantee).0 (grantee_key grantee).0, equal_numbers (grantee_key x.grantee).1 (grantee_key grantee).1, and_true ((grantee_key x.grantee).1 == (grantee_key grantee).1)) refl
 
 -- ---- edits
 

@@ -16,8 +16,8 @@ use Rattle.circle.specs.declared.directory.Arrangement.{Arrangement}
 use Rattle.circle.specs.Directory.{Directory, has_membership, has_group_member}
 use Rattle.circle.specs.Reads.{communities_of, memberships_in_groups, share_community, joins, are_connected, arranged}
 use Rattle.circle.specs.Sound.{IsSound}
+use Rattle.circle.proofs.Lookup.{any_having}
 use Rattle.hub_core.proofs.Found.{any_same}
-use Rattle.hub_core.proofs.Indexing.{any_left}
 use Rattle.hub_core.proofs.Twins.{any_map}
 use Rattle.hub_store.specs.Pairs.{Pair}
 use Rattle.hub_store.specs.PairKinds.{pairs_of, pair_between, is_between, pairs_from, pairs_to, value_shown, first_shown}
@@ -26,10 +26,10 @@ use Rattle.hub_store.specs.ShownPairs.{handling_shown, joined_shown, joined_of, 
 use Rattle.hub_store.specs.Values.{flag}
 use Rattle.hub_store.specs.declared.pair_kind.PairKind.TheVariants as kind
 use Rattle.hub_store.specs.declared.pair_kind.PairKind.{PairKind}
-use Rattle.hub_store.proofs.AskedPairs.{Below, pairs_rise, first_decides}
+use Rattle.hub_store.proofs.AskedPairs.{Below, pairs_rise}
 use Rattle.hub_store.proofs.ByNumber.{some_passes}
 use Rattle.hub_store.proofs.Found.{map_each}
-use Rattle.hub_store.proofs.Listed.{rising_passing}
+use Rattle.hub_store.proofs.Listed.{rising_passing, first_decides}
 use Rattle.hub_store.proofs.PairRows.{found_pair, viewed_pairs}
 
 -- ---- arrangements and groups
@@ -44,9 +44,9 @@ arranged_rows source org d = ap (λ (o : Option Pair). map value_shown (option_t
 pub member_found : (group org : ℕ) (d : Directory) → is_some (pair_between kind.GroupMember group org d) ≡ has_group_member group org d
 member_found group org d = ap is_some (found_pair group_member_pair (is_between group org) d.group_members) ∙ some_passes group_member_pair (λ (m : GroupMember). m.group == group && m.org == org) d.group_members
 
-one_flag : (b : Bool) → ◌≡◌ {A = Value} (Int (pos (one_if b))) (flag b)
-one_flag true = refl
-one_flag false = refl
+pub as_flag : (b : Bool) → ◌≡◌ {A = Value} (Int (pos (one_if b))) (flag b)
+as_flag true = refl
+as_flag false = refl
 
 abbrev two_columns : ℕ → Value → Row
 two_columns n v = Int (pos n) ∷ v ∷ []
@@ -54,7 +54,7 @@ two_columns n v = Int (pos n) ∷ v ∷ []
 pub membership_rows : (org : ℕ) (d : Directory) → map first_shown (pairs_to kind.GroupMember org d) ≡ map joined_shown (map joined_of (memberships_in_groups org d))
 membership_rows org d =
     viewed_pairs group_member_pair first_shown (λ (p : Pair). p.0.1 == org) d.group_members
-    ∙ map_each (λ (m : GroupMember). first_shown (group_member_pair m)) (λ (m : GroupMember). joined_shown (joined_of m)) (λ m. ap (two_columns m.group) (one_flag m.extend)) (memberships_in_groups org d)
+    ∙ map_each (λ (m : GroupMember). first_shown (group_member_pair m)) (λ (m : GroupMember). joined_shown (joined_of m)) (λ m. ap (two_columns m.group) (as_flag m.extend)) (memberships_in_groups org d)
     ∙ sym (map-map joined_shown joined_of (memberships_in_groups org d))
 
 -- ---- communities
@@ -84,7 +84,7 @@ either_way false false = refl
 among_communities : (n org : ℕ) (d : Directory) → is_one_of (communities_of org d) n ≡ has_membership n org d
 among_communities n org d =
     any_map (λ m. m == n) (λ (m : Membership). m.community) (filter (λ (m : Membership). m.org == org) d.memberships)
-    ∙ any_left (λ (m : Membership). m.community == n) (λ (m : Membership). m.org == org) d.memberships
+    ∙ any_having (λ (m : Membership). m.org == org) (λ (m : Membership). m.community == n) d.memberships
     ∙ any_same _ _ d.memberships (λ (m : Membership). either_way (m.org == org) (m.community == n))
 
 pub share_is : (org other : ℕ) (d : Directory) → list_any (is_one_of (communities_of other d)) (communities_of org d) ≡ share_community org other d
@@ -134,9 +134,9 @@ module _ (org other : ℕ) (d : Directory) where
       let above = map (λ (p : Pair). p.0.1) (pairs_from kind.Connection n d) in
       let below = map (λ (p : Pair). p.0.0) (pairs_to kind.Connection n d) in
       let up : list_any (λ m. has_membership m other d) above ≡ list_any (λ (l : Connection). l.low == n && has_membership l.high other d) d.connections =
-      ap (list_any (λ m. has_membership m other d)) (viewed_pairs connection_pair (λ (p : Pair). p.0.1) (λ (p : Pair). p.0.0 == n) d.connections) ∙ any_map (λ m. has_membership m other d) (λ (l : Connection). l.high) (filter (λ (l : Connection). l.low == n) d.connections) ∙ any_left (λ (l : Connection). has_membership l.high other d) (λ (l : Connection). l.low == n) d.connections in
+      ap (list_any (λ m. has_membership m other d)) (viewed_pairs connection_pair (λ (p : Pair). p.0.1) (λ (p : Pair). p.0.0 == n) d.connections) ∙ any_map (λ m. has_membership m other d) (λ (l : Connection). l.high) (filter (λ (l : Connection). l.low == n) d.connections) ∙ any_having (λ (l : Connection). l.low == n) (λ (l : Connection). has_membership l.high other d) d.connections in
       let down : list_any (λ m. has_membership m other d) below ≡ list_any (λ (l : Connection). l.high == n && has_membership l.low other d) d.connections =
-      ap (list_any (λ m. has_membership m other d)) (viewed_pairs connection_pair (λ (p : Pair). p.0.0) (λ (p : Pair). p.0.1 == n) d.connections) ∙ any_map (λ m. has_membership m other d) (λ (l : Connection). l.low) (filter (λ (l : Connection). l.high == n) d.connections) ∙ any_left (λ (l : Connection). has_membership l.low other d) (λ (l : Connection). l.high == n) d.connections in
+      ap (list_any (λ m. has_membership m other d)) (viewed_pairs connection_pair (λ (p : Pair). p.0.0) (λ (p : Pair). p.0.1 == n) d.connections) ∙ any_map (λ m. has_membership m other d) (λ (l : Connection). l.low) (filter (λ (l : Connection). l.high == n) d.connections) ∙ any_having (λ (l : Connection). l.high == n) (λ (l : Connection). has_membership l.low other d) d.connections in
       any_same _ _ (linked_with n d) (λ m. among_communities m other d)
       ∙ list_any-append (λ m. has_membership m other d) above below
       ∙ (ap (λ b. b || list_any (λ m. has_membership m other d) below) up ∙ ap (λ b. list_any (λ (l : Connection). l.low == n && has_membership l.high other d) d.connections || b) down)

@@ -8,6 +8,7 @@ use Rattle.sqlite_trees.specs.declared.store.Shape.TheVariants.{Table}
 use Rattle.sqlite_trees.specs.Tree.{Trees}
 use Rattle.sqlite_trees.specs.View.{IsShaped}
 use Rattle.sqlite.specs.State.{State, Executes}
+use Rattle.circle.proofs.Owners.{empty_sound}
 use Rattle.hub_core.specs.State.{empty}
 use Rattle.hub_core.specs.Sound.{IsSound}
 use Rattle.hub_store.specs.Content.{Has, CommitsState}
@@ -64,17 +65,7 @@ begins_empty old new count h has =
 
 pub sound_empty : IsSound empty
 sound_empty = record {
-  directory = record {
-    orgs = record { numbered = (tt, omega arith); names = tt };
-    accounts = record { numbered = (tt, omega arith); keys = tt; ends = tt };
-    clients = record { rising = tt; ends = tt };
-    communities = record { numbered = (tt, omega arith); names = tt };
-    memberships = record { rising = tt; ends = tt };
-    connections = record { rising = tt; ends = tt };
-    groups = record { numbered = (tt, omega arith); names = tt; ends = tt };
-    group_members = record { rising = tt; ends = tt };
-    arrangements = record { rising = tt; ends = tt };
-  };
+  directory = empty_sound.0;
   incidents = record { numbered = (tt, omega arith); idents = tt; sources = tt; revisions = tt; documents = tt; follow = tt };
   gates = record { rising = tt; places = tt; ends = tt; roots = tt; limit = tt };
   recipients = record { rising = tt; ends = tt; targets = tt; limit = tt };

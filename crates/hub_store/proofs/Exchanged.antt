@@ -1,6 +1,8 @@
 -- What an UPDATE by key makes of a table.
 use Rattle.std.proofs.Common.{◌≡◌, List, [], ◌∷◌, ◌++◌, map, filter, drop, Bool, true, false, cond, not, if◌then◌else◌, refl, sym, ap, subst, ◌∙◌}
 use Rattle.std.specs.List.Sorted.{IsPermutation}
+use Rattle.std.proofs.lemmas.Bool.{and_parts, not-true}
+use Rattle.std.proofs.lemmas.List.{map-id}
 use Rattle.std.proofs.lemmas.List.Sorted.{IsPermutation-map, IsPermutation-cons, IsPermutation-trans, IsPermutation-refl, IsPermutation-sym, IsPermutation-middle, IsPermutation-append, IsPermutation-append_right}
 use Rattle.sqlite_value.specs.Order.{Row}
 use Rattle.sqlite_trees.specs.declared.store.Shape.TheVariants as shape
@@ -21,17 +23,17 @@ use Rattle.hub_store.specs.Holdings.{IsHeld, by_number}
 use Rattle.hub_store.proofs.Forms.{one_table}
 use Rattle.hub_store.proofs.Lists.{came_in}
 use Rattle.hub_store.proofs.Statements.{keeps, shows, selected}
-use Rattle.hub_store.proofs.Found.{filter_rows, map_same, map_each, shown_of}
-use Rattle.hub_store.proofs.Held.{gone_by, split, not_so}
+use Rattle.hub_store.proofs.Found.{filter_rows, map_each, shown_of}
+use Rattle.hub_store.proofs.Held.{gone_by}
 
 -- rows that are new come in, one after another
 all_in : (rows news : List Row) → are_fresh rows news ≡ true → have_rowids news ≡ true → IsShaped shape.Table rows → IsShaped shape.Table (put_all rows news) × IsPermutation (news ++ rows) (put_all rows news)
 all_in rows [] fresh ids shaped = (shaped, IsPermutation-refl rows)
 all_in rows (n ∷ ns) fresh ids shaped =
-    let new = split _ _ fresh in
-    let int = split _ _ ids in
+    let new = and_parts _ _ fresh in
+    let int = and_parts _ _ ids in
     let later = all_in (put_row n rows) ns new.1 int.1 (IsShaped-put_row n rows int.0 shaped) in
-    (later.0, IsPermutation-trans _ _ _ (IsPermutation-sym _ _ (IsPermutation-middle ns n rows)) (IsPermutation-trans _ _ _ (IsPermutation-append_right ns _ _ (came_in n rows (not_so _ new.0))) later.1))
+    (later.0, IsPermutation-trans _ _ _ (IsPermutation-sym _ _ (IsPermutation-middle ns n rows)) (IsPermutation-trans _ _ _ (IsPermutation-append_right ns _ _ (came_in n rows (not-true _ new.0))) later.1))
 
 -- what is changed and what is left make the changed list
 mixed : {X Y : Type 0} (g : X → Y) (k : X → Bool) (f : X → X) (xs : List X) → IsPermutation (map g (map f (filter k xs)) ++ map g (filter (λ x. not (k x)) xs)) (map g (map (λ x. if k x then f x else x) xs))
@@ -55,7 +57,7 @@ pub exchanges : {X : Type 0} (row : X → Row) (k : X → Bool) (f : X → X) (x
 exchanges {X} row k f xs db next table terms project params rows answer a same made held =
     let keep = keeps terms params in
     let cast_up : Row → Row = λ s. cast_row table (drop 1 s) in
-    let all : IsPermutation (map row xs) (db table.tree) = subst (IsPermutation _) (map_same (db table.tree)) held.same in
+    let all : IsPermutation (map row xs) (db table.tree) = subst (IsPermutation _) (map-id (db table.tree)) held.same in
     let left : without_all (db table.tree) (ids_of rows) ≡ filter (λ r. not (keep r)) (db table.tree) = gone_by db table.tree terms project params rows held.shaped answer in
     let in_place = numbered_given (without_all (db table.tree) (ids_of rows)) (map cast_up rows) in
     let in_all = all_in (without_all (db table.tree) (ids_of rows)) _ a.fresh a.keyed (rw left (IsShaped-filter shape.Table (λ r. not (keep r)) (db table.tree) held.shaped)) in
@@ -70,5 +72,5 @@ exchanges {X} row k f xs db next table terms project params rows answer a same m
     let joined = IsPermutation-trans _ _ _ (IsPermutation-sym _ _ (mixed row k f xs)) (IsPermutation-append _ _ _ _ news rest) in
     record {
       shaped = rw a.rows in_all.0;
-      same = subst (IsPermutation _) (sym (map_same (next table.tree) ∙ a.rows)) (IsPermutation-trans _ _ _ (rw (in_place, left) joined) in_all.1);
+      same = subst (IsPermutation _) (sym (map-id (next table.tree) ∙ a.rows)) (IsPermutation-trans _ _ _ (rw (in_place, left) joined) in_all.1);
     }

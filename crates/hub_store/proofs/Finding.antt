@@ -4,6 +4,7 @@ use Rattle.std.specs.Option.{option_to_list}
 use Rattle.std.specs.Str.{bytes_eq}
 use Rattle.std.specs.List.Sorted.{IsPermutation}
 use Rattle.std.specs.declared.cmp.Ordering.TheVariants.{Less}
+use Rattle.std.proofs.lemmas.Bool.{false_from_ne_true}
 use Rattle.std.proofs.lemmas.Bool.Decides.{nat_tests}
 use Rattle.std.proofs.lemmas.List.Sorted.{IsPermutation-map, IsPermutation-trans, length_permutation}
 use Rattle.sqlite_value.specs.Order.{Row}
@@ -61,15 +62,11 @@ once_rising number n (x ∷ xs) up = (all_weaker (λ y. nat_cmp (number x) (numb
 
 -- a number stands once
 pub once_numbered : {X : Type 0} (number : X → ℕ) (n : ℕ) (xs : List X) → CountsFrom number 0 xs → Once (λ x. number x == n) xs
-once_numbered number n xs counts = once_rising number n xs (counted number 0 xs counts).1
-
-pub never_so : (t : Bool) → (t ≡ true → ⊥) → t ≡ false
-never_so true never = absurd (never refl)
-never_so false never = refl
+once_numbered number n xs counts = once_rising number n xs (counted number 0 xs counts)
 
 -- a text or a key stands once
 pub once_keyed : {X : Type 0} (key : X → List ℕ) (k : List ℕ) (xs : List X) → Differ key xs → Once (λ x. bytes_eq (key x) k) xs
-once_keyed key k = weaker_pairs (λ a b. key a ≢ key b) (λ a b. bytes_eq (key a) k ≡ true → bytes_eq (key b) k ≡ false) (λ a b apart is. never_so (bytes_eq (key b) k) (λ also. apart (bytes_eq-true (key a) k is ∙ sym (bytes_eq-true (key b) k also))))
+once_keyed key k = weaker_pairs (λ a b. key a ≢ key b) (λ a b. bytes_eq (key a) k ≡ true → bytes_eq (key b) k ≡ false) (λ a b apart is. false_from_ne_true (bytes_eq (key b) k) (λ also. apart (bytes_eq-true (key a) k is ∙ sym (bytes_eq-true (key b) k also))))
 
 -- ---- what the rows are read as
 

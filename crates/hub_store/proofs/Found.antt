@@ -1,10 +1,11 @@
 -- What a query of one table shows of the elements that the rows stand for.
-use Rattle.std.proofs.Common.{◌≡◌, List, [], ◌∷◌, map, filter, Bool, refl, ap, subst, ◌∙◌}
+use Rattle.std.proofs.Common.{◌≡◌, List, [], ◌∷◌, map, filter, Bool, true, refl, ap, subst, ◌∙◌}
 use Rattle.std.specs.List.{AllByRecursion}
 use Rattle.std.specs.List.Sorted.{IsPermutation}
 use Rattle.std.proofs.lemmas.List.Sorted.{IsPermutation-map, IsPermutation-trans}
 use Rattle.sqlite_value.specs.Order.{Row}
 use Rattle.sqlite_trees.proofs.ListLemmas.{map-map, filter-map, filter_same, IsPermutation-filter}
+use Rattle.iodef_tree.proofs.Siblings.{filter-all}
 
 pub always : {X : Type 0} {P : X → Type 0} → ((x : X) → P x) → (xs : List X) → AllByRecursion P xs
 always h [] = tt
@@ -14,9 +15,8 @@ always h (x ∷ xs) = (h x, always h xs)
 pub filter_rows : {X Y : Type 0} (row : X → Y) (p : Y → Bool) (q : X → Bool) → ((x : X) → p (row x) ≡ q x) → (xs : List X) → filter p (map row xs) ≡ map row (filter q xs)
 filter_rows row p q same xs = filter-map p row xs ∙ ap (map row) (filter_same (λ x. p (row x)) q xs (always same xs))
 
-pub map_same : {X : Type 0} (xs : List X) → map (λ x. x) xs ≡ xs
-map_same [] = refl
-map_same (x ∷ xs) = ap (λ l. x ∷ l) (map_same xs)
+pub filter_all : {X : Type 0} (xs : List X) → filter (λ x. true) xs ≡ xs
+filter_all xs = filter-all (λ x. true) xs (always (λ x. refl) xs)
 
 pub map_each : {X Y : Type 0} (f g : X → Y) → ((x : X) → f x ≡ g x) → (xs : List X) → map f xs ≡ map g xs
 map_each f g same [] = refl

@@ -1,9 +1,10 @@
 -- The groups of an organisation, as queries find them.
-use Rattle.std.proofs.Common.{◌≡◌, ℕ, pos, List, [], ◌∷◌, map, filter, find, Bool, true, false, cond, ◌||◌, ◌==◌, Option, Some, None, option_map, refl, sym, ap, ◌∙◌, arith}
-use Rattle.std.specs.List.{list_any, filter_map, cons_option}
+use Rattle.std.proofs.Common.{◌≡◌, ℕ, pos, List, [], ◌∷◌, map, filter, find, Bool, true, false, cond, ◌||◌, ◌==◌, Option, Some, None, option_map, refl, sym, ap, ◌∙◌}
+use Rattle.std.specs.Prelude.{is_some}
+use Rattle.std.specs.List.{AllByRecursion, list_any, filter_map, cons_option}
 use Rattle.std.specs.Option.{option_to_list}
 use Rattle.std.specs.List.Sorted.{IsPermutation}
-use Rattle.std.proofs.lemmas.Bool.Decides.{nat_tests}
+use Rattle.std.proofs.lemmas.Bool.{eqb-true, false≢true}
 use Rattle.sqlite_value.specs.declared.value.Value.TheVariants.{Int}
 use Rattle.sqlite_value.specs.Order.{Row}
 use Rattle.sqlite_trees.specs.Tree.{Trees}
@@ -12,17 +13,18 @@ use Rattle.sqlite_sql.specs.Query.{IsAnswer}
 use Rattle.circle.specs.declared.directory.Group.{Group}
 use Rattle.circle.specs.declared.directory.GroupMember.{GroupMember}
 use Rattle.circle.specs.Directory.{Directory, group_number, has_group_being}
-use Rattle.circle.specs.Reads.{group_of, memberships_in_groups, active_groups_joined}
+use Rattle.circle.specs.Reads.{group_of, memberships_in_groups, groups_joined, active_groups_joined}
 use Rattle.circle.specs.Sound as circle
+use Rattle.circle.proofs.Keeping.{each_left, each_weaker}
+use Rattle.circle.proofs.Lookup.{any_having}
 use Rattle.hub_core.specs.State as core
 use Rattle.hub_core.specs.Sound.{IsSound}
 use Rattle.hub_core.specs.Reads.{joined}
 use Rattle.hub_core.specs.declared.reply.JoinedGroup.{JoinedGroup}
-use Rattle.hub_core.proofs.Indexing.{any_left}
 use Rattle.hub_store.specs.Means.{Means}
 use Rattle.hub_store.specs.Rows.{group_row}
 use Rattle.hub_store.specs.ShownPairs.{group_shown, joined_of, group_if_any, groups_in}
-use Rattle.hub_store.proofs.ByNumber.{one_with_number}
+use Rattle.hub_store.proofs.ByNumber.{one_with_number, some_passes}
 use Rattle.hub_store.proofs.Finding.{only_one, once_numbered}
 use Rattle.hub_store.proofs.Forms.{one_table, is_param}
 
@@ -39,7 +41,7 @@ joined_each d (m ∷ ms) = ap (cons_option (option_map (joined m) (group_of m.gr
 pub groups_are : (org : ℕ) (d : Directory) → filter_map (group_if_any d) (map joined_of (memberships_in_groups org d)) ≡ groups_in org d
 groups_are org d = joined_each d (memberships_in_groups org d)
 
--- ---- those that are active
+-- ---- a group by its number
 
 or_false : (b : Bool) → (b || false) ≡ b
 or_false true = refl
@@ -55,11 +57,8 @@ any_is (Some g) = or_false g.active
 
 being_is : (n : ℕ) (d : Directory) → circle.IsSound d → has_group_being n true d ≡ is_active (group_of n d)
 being_is n d sound =
-    sym (any_left (λ (g : Group). g.active) (λ (g : Group). g.number == n) d.groups)
+    sym (any_having (λ (g : Group). g.number == n) (λ (g : Group). g.active) d.groups)
     ∙ (ap (list_any (λ (g : Group). g.active)) (only_one (λ (g : Group). g.number == n) d.groups (once_numbered group_number n d.groups sound.groups.numbered.0)) ∙ any_is (group_of n d))
-
-is_number : (a b : ℕ) → (a == b) ≡ true → a ≡ b
-is_number a b h = grind (arith, nat_tests)
 
 some_group : (a b : Group) → ◌≡◌ {A = Option Group} (Some a) (Some b) → a ≡ b
 some_group a b e = cc
@@ -69,8 +68,25 @@ found_number n [] g e = absurd cc
 found_number n (x ∷ xs) g e = go (x.number == n) refl e (found_number n xs g)
   where
     go : (b : Bool) → (x.number == n) ≡ b → cond b (Some x) (find (λ (g : Group). g.number == n) xs) ≡ Some g → (find (λ (g : Group). g.number == n) xs ≡ Some g → g.number ≡ n) → g.number ≡ n
-    go true is f later = ap (λ (g : Group). g.number) (sym (some_group x g f)) ∙ is_number x.number n is
+    go true is f later = ap (λ (g : Group). g.number) (sym (some_group x g f)) ∙ eqb-true x.number n is
     go false is f later = later f
+
+-- ---- all of them
+
+all_each : (d : Directory) (ms : List GroupMember) → AllByRecursion (λ (m : GroupMember). circle.IsGroup d.groups m.group) ms → map (λ (g : JoinedGroup). g.number) (filter_map (λ (m : GroupMember). option_map (joined m) (group_of m.group d)) ms) ≡ map (λ (m : GroupMember). m.group) ms
+all_each d [] there = refl
+all_each d (m ∷ ms) there = go (group_of m.group d) refl (all_each d ms there.1)
+  where
+    go : (o : Option Group) → group_of m.group d ≡ o → map (λ (g : JoinedGroup). g.number) (filter_map (λ (m : GroupMember). option_map (joined m) (group_of m.group d)) ms) ≡ map (λ (m : GroupMember). m.group) ms
+        → map (λ (g : JoinedGroup). g.number) (cons_option (option_map (joined m) o) (filter_map (λ (m : GroupMember). option_map (joined m) (group_of m.group d)) ms)) ≡ m.group ∷ map (λ (m : GroupMember). m.group) ms
+    go None is more = absurd (false≢true (sym (ap (λ o. is_some (option_map (λ (g : Group). g) o)) is) ∙ some_passes (λ (g : Group). g) (λ (g : Group). g.number == m.group) d.groups ∙ there.0))
+    go (Some g) is more = let number : g.number ≡ m.group = found_number m.group d.groups g is in cc
+
+-- the group of each membership is there
+pub all_are : (org : ℕ) (d : Directory) → circle.IsSound d → map (λ (g : JoinedGroup). g.number) (groups_in org d) ≡ groups_joined org d
+all_are org d sound = all_each d (memberships_in_groups org d) (each_left _ _ d.group_members (each_weaker _ _ d.group_members (λ m ends. ends.0) sound.group_members.ends))
+
+-- ---- those that are active
 
 abbrev active_of : List JoinedGroup → List ℕ
 active_of gs = map (λ (g : JoinedGroup). g.number) (filter (λ (g : JoinedGroup). g.active) gs)

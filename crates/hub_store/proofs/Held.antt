@@ -2,6 +2,7 @@
 use Rattle.std.proofs.Common.{◌≡◌, ◌≢◌, ℕ, zero, suc, List, [], ◌∷◌, ◌++◌, map, filter, take, drop, slice_get, Bool, true, false, not, ◌&&◌, ◌||◌, ◌==◌, Some, refl, sym, ap, subst, ◌∙◌, arith}
 use Rattle.std.specs.List.{AllByRecursion, list_any, list_all}
 use Rattle.std.specs.List.Sorted.{IsPermutation}
+use Rattle.std.proofs.lemmas.Bool.{and_parts, eqb-true, not-true}
 use Rattle.std.proofs.lemmas.Bool.Decides.{nat_tests}
 use Rattle.std.proofs.lemmas.List.Sorted.{IsPermutation-map, IsPermutation-cons, IsPermutation-trans, IsPermutation-sym}
 use Rattle.sqlite_value.specs.Order.{Row}
@@ -34,24 +35,17 @@ is_tree n = list_any (λ (t : Table). t.tree == n) hub_schema.tables
 abbrev pub is_other : ℕ → Holding → Bool
 is_other n h = is_tree h.tree && not (h.tree == n)
 
-pub split : (a b : Bool) → (a && b) ≡ true → (a ≡ true) × (b ≡ true)
-split true b h = (refl, h)
-split false b h = absurd cc
-
 of_table : (P : ℕ → Type 0) (n : ℕ) (ts : List Table) → list_any (λ (t : Table). t.tree == n) ts ≡ true → AllByRecursion (λ (t : Table). P t.tree) ts → P n
 of_table P n [] h all = absurd cc
 of_table P n (t ∷ ts) h all = go (t.tree == n) refl h (λ k. of_table P n ts k all.1)
   where
-    same : (t.tree == n) ≡ true → t.tree ≡ n
-    same e = grind (arith, nat_tests)
-
     go : (b : Bool) → (t.tree == n) ≡ b → (b || list_any (λ (t : Table). t.tree == n) ts) ≡ true → (list_any (λ (t : Table). t.tree == n) ts ≡ true → P n) → P n
-    go true e k later = subst P (same e) all.0
+    go true e k later = subst P (eqb-true t.tree n e) all.0
     go false e k later = later k
 
 stays : (db next : Trees) (edit : Edit) → Applies hub_schema Enforced db edit next → (h : Holding) → is_other edit.table.tree h ≡ true → IsHeld db h → IsHeld next h
 stays db next edit a h other held =
-    let both = split _ _ other in
+    let both = and_parts _ _ other in
     let apart : h.tree ≢ edit.table.tree = λ e. differ (h.tree) (edit.table.tree) both.1 e in
     let same = of_table (λ n. n ≢ edit.table.tree → next n ≡ db n) h.tree hub_schema.tables both.0 a.tables apart in
     record { shaped = subst (IsShaped shape.Table) (sym same) held.shaped; same = subst (λ rows. IsPermutation h.rows (map h.seen rows)) (sym same) held.same }
@@ -62,7 +56,7 @@ stays db next edit a h other held =
 all_stay : (db next : Trees) (edit : Edit) → Applies hub_schema Enforced db edit next → (hs : List Holding) → list_all (is_other edit.table.tree) hs ≡ true → AreHeld db hs → AreHeld next hs
 all_stay db next edit a [] others held = tt
 all_stay db next edit a (h ∷ hs) others held =
-    let both = split _ _ others in
+    let both = and_parts _ _ others in
     (stays db next edit a h both.0 held.0, all_stay db next edit a hs both.1 held.1)
 
 -- one table changes: the one at a place among those that are held
@@ -78,7 +72,7 @@ one_changes db next edit a at before after it new is now others held change = su
     go at [] is others held = absurd cc
     go zero (h ∷ hs) is others held = (change (subst (IsHeld db) (some_same h it is) held.0), all_stay db next edit a hs others held.1)
     go (suc at) (h ∷ hs) is others held =
-        let both = split _ _ others in
+        let both = and_parts _ _ others in
         (stays db next edit a h both.0 held.0, go at hs is both.1 held.1)
 
 -- ---- rows come in, go out, and are exchanged
@@ -86,16 +80,12 @@ one_changes db next edit a at before after it new is now others held change = su
 pub permuted : (db : Trees) (tree : ℕ) (seen : Row → Row) (all more : List Row) → IsPermutation all more → IsHeld db (record { tree = tree; seen = seen; rows = all }) → IsHeld db (record { tree = tree; seen = seen; rows = more })
 permuted db tree seen all more same held = record { shaped = held.shaped; same = IsPermutation-trans _ _ _ (IsPermutation-sym _ _ same) held.same }
 
-pub not_so : (b : Bool) → not b ≡ true → b ≡ false
-not_so true h = absurd cc
-not_so false h = refl
-
 pub comes_in : (db next : Trees) (table : Table) (seen : Row → Row) (all : List Row) (new : Row) → Applies hub_schema Enforced db (record { table = table; gone = []; news = new ∷ [] }) next →
     IsHeld db (record { tree = table.tree; seen = seen; rows = all }) → IsHeld next (record { tree = table.tree; seen = seen; rows = seen new ∷ all })
 comes_in db next table seen all new a held =
-    let fresh : is_taken (db table.tree) new ≡ false = not_so _ (split _ _ a.fresh).0 in
+    let fresh : is_taken (db table.tree) new ≡ false = not-true _ (and_parts _ _ a.fresh).0 in
     record {
-      shaped = subst (IsShaped shape.Table) (sym a.rows) (IsShaped-put_row new (db table.tree) (split _ _ a.keyed).0 held.shaped);
+      shaped = subst (IsShaped shape.Table) (sym a.rows) (IsShaped-put_row new (db table.tree) (and_parts _ _ a.keyed).0 held.shaped);
       same = subst (λ rows. IsPermutation (seen new ∷ all) (map seen rows)) (sym a.rows) (IsPermutation-trans _ _ _ (IsPermutation-cons (seen new) _ _ held.same) (IsPermutation-map seen _ _ (came_in new (db table.tree) fresh)));
     }
 

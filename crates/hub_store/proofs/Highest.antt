@@ -1,5 +1,5 @@
 -- The highest number of a table whose numbers have no gap: how many rows there are.
-use Rattle.std.proofs.Common.{◌≡◌, ℕ, zero, suc, pos, ◌+◌, ◌<◌, List, [], ◌∷◌, ◌++◌, map, filter, take, length, reverse, Bool, true, cond, nat_lt, nat_cmp, Result, Ok, Err, IfOk, refl, sym, ap, subst, ◌∙◌, arith}
+use Rattle.std.proofs.Common.{◌≡◌, ℕ, zero, suc, pos, ◌+◌, ◌<◌, List, [], ◌∷◌, ◌++◌, map, take, length, reverse, true, nat_lt, nat_cmp, Result, Ok, Err, IfOk, refl, sym, ap, subst, ◌∙◌, arith}
 use Rattle.std.specs.List.{AllByRecursion}
 use Rattle.std.specs.declared.cmp.Ordering.TheVariants.{Less}
 use Rattle.std.proofs.lemmas.Bool.Decides.{nat_tests}
@@ -19,7 +19,9 @@ use Rattle.sqlite_sql.specs.declared.ops.BinaryOp.TheVariants.{Compare}
 use Rattle.sqlite_sql.specs.declared.ops.CompareOp.TheVariants.{Gt}
 use Rattle.sqlite_sql.specs.Query.{IsAnswer, Output}
 use Rattle.sqlite.specs.declared.error.Error.{Error}
+use Rattle.iodef_tree.proofs.Siblings.{filter-all}
 use Rattle.circle.specs.Sound.{CountsFrom}
+use Rattle.hub_core.proofs.Keeping.{numbers_above}
 use Rattle.hub_store.specs.FirstShown.{number_shown, ShowsNumberOrZero}
 use Rattle.hub_store.specs.Holdings.{IsHeld, by_number}
 use Rattle.hub_store.proofs.Compare.{more_than, and_true}
@@ -28,13 +30,8 @@ use Rattle.hub_store.proofs.Held.{permuted}
 use Rattle.hub_store.proofs.Listed.{listed, int_below}
 use Rattle.hub_store.proofs.Statements.{keeps, shows}
 use Rattle.hub_store.proofs.TextsHighest.{highest_query}
-use Rattle.hub_store.proofs.Unique.{counted}
 
 -- ---- lists
-
-all_pass : {X : Type 0} (q : X → Bool) (xs : List X) → AllByRecursion (λ x. q x ≡ true) xs → filter q xs ≡ xs
-all_pass q [] all = refl
-all_pass q (x ∷ xs) all = ap (λ b. cond b (x ∷ filter q xs) (filter q xs)) all.0 ∙ ap (λ l. x ∷ l) (all_pass q xs all.1)
 
 first_stays : {X : Type 0} (xs ys : List X) (x : X) → take 1 xs ≡ x ∷ [] → take 1 (xs ++ ys) ≡ x ∷ []
 first_stays [] ys x is = absurd cc
@@ -56,7 +53,7 @@ module _ {X : Type 0} (number : X → ℕ) where
   falling n [] counts = tt
   falling n (x ∷ xs) counts =
       let own : number x ≡ n + 1 = counts.0 in
-      let later = all-permutation (λ y. n + 1 < number y) xs (reverse xs) (IsPermutation-reverse xs) (counted number (n + 1) xs counts.1).0 in
+      let later = all-permutation (λ y. n + 1 < number y) xs (reverse xs) (IsPermutation-reverse xs) (numbers_above number (n + 1) xs counts.1) in
       subst (IsAscending (λ a b. nat_cmp (number b) (number a) ≡ Less)) (sym (reverse-cons x xs))
       (ascending-append (λ a b. nat_cmp (number b) (number a) ≡ Less) (reverse xs) (x ∷ []) (falling (n + 1) xs counts.1) (tt, tt)
       (all_weaker (λ y. n + 1 < number y) (λ y. AllByRecursion (λ b. nat_cmp (number b) (number y) ≡ Less) (x ∷ [])) (λ y above. (higher (number x) (number y) (omega arith), tt)) (reverse xs) later))
@@ -80,13 +77,13 @@ highest_listed {X} db tree row number xs rows first counts held a =
     let order : List (Term × Key) = (col 1 0, record { collation = Binary; descending = true }) ∷ [] in
     let passes = λ (x : X). nat_lt 0 (number x) in
     let out : Row → Output = λ r. (eval_all (map (λ (k : Term × Key). k.0) order) ([] ∷ r ∷ []), shows project [] r) in
-    let positive = all_weaker (λ x. 0 < number x) (λ x. passes x ≡ true) (λ x h. above_zero (number x) h) (reverse xs) (all-permutation (λ x. 0 < number x) xs (reverse xs) (IsPermutation-reverse xs) (counted number 0 xs counts).0) in
+    let positive = all_weaker (λ x. 0 < number x) (λ x. passes x ≡ true) (λ x h. above_zero (number x) h) (reverse xs) (all-permutation (λ x. 0 < number x) xs (reverse xs) (IsPermutation-reverse xs) (numbers_above number 0 xs counts)) in
     listed db tree (λ r. r) row (reverse xs) passes terms project order (lit (Int (pos 1))) [] (keeps terms []) out rows (λ r. refl) (λ r. refl)
     (λ x. and_true _ ∙ ap (λ v. is_true (binary (Compare Gt Binary) v (Int (pos 0)))) (first x) ∙ more_than (number x) 0)
     (λ a b. nat_cmp (number b) (number a) ≡ Less) (falling number 0 xs counts)
     (λ a b _ less _. rw (first a, first b, value_cmp-Int (pos (number b)) (pos (number a)), int_below (number b) (number a) less) refl)
     (permuted db tree (λ r. r) (map row xs) (map row (reverse xs)) (IsPermutation-map row _ _ (IsPermutation-reverse xs)) held) a
-    ∙ ap (λ l. take 1 (map (λ x. column (row x) 0 ∷ []) l)) (all_pass passes (reverse xs) positive)
+    ∙ ap (λ l. take 1 (map (λ x. column (row x) 0 ∷ []) l)) (filter-all passes (reverse xs) positive)
     ∙ ap (take 1) (map_each (λ x. column (row x) 0 ∷ []) (λ x. number_shown (number x)) (λ x. ap (λ v. v ∷ []) (first x)) (reverse xs))
     ∙ last_is number 0 xs counts
 

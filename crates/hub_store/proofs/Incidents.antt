@@ -28,14 +28,14 @@ use Rattle.hub_core.specs.declared.state.Gate.{Gate}
 use Rattle.hub_core.specs.declared.state.Permission.{Permission}
 use Rattle.policy.specs.declared.case.Case.{Case}
 use Rattle.hub_store.specs.Fit.{IsFit}
-use Rattle.hub_store.specs.Holdings.{by_number}
 use Rattle.hub_store.specs.Means.{Means}
 use Rattle.hub_store.specs.Rows.{incident_row, document_text}
 use Rattle.hub_store.specs.Shown.{ShowsFirst, ShowsDocument, IsCase, entry_shown, known_shown}
-use Rattle.hub_store.proofs.Compare.{equal_numbers, more_than, and_true}
+use Rattle.hub_store.proofs.ByNumber.{one_with_number}
+use Rattle.hub_store.proofs.Compare.{more_than, and_true}
 use Rattle.hub_store.proofs.Forms.{one_table, is_param, is_above, by_column}
-use Rattle.hub_store.proofs.Statements.{keeps, shows, selected}
-use Rattle.hub_store.proofs.Finding.{seen_through, of_elements, only_one, once_numbered, as_viewed, no_permutation}
+use Rattle.hub_store.proofs.Statements.{keeps, shows}
+use Rattle.hub_store.proofs.Finding.{as_viewed, no_permutation}
 use Rattle.hub_store.proofs.Listed.{listed, int_below}
 use Rattle.hub_store.proofs.Unique.{counted, some_one, read_back, IsStored}
 
@@ -43,13 +43,7 @@ use Rattle.hub_store.proofs.Unique.{counted, some_one, read_back, IsStored}
 
 pub incident_found : (db : Trees) (s : core.State) (n : ℕ) (project : List Term) (rows : List Row) → IsSound s → Means db s → IsAnswer (one_table 18 (is_param 0 0 ∷ []) project) db (Int (pos n) ∷ []) rows
     → IsPermutation (map (λ (i : Incident). shows project (Int (pos n) ∷ []) (incident_row i)) (option_to_list (incident_of n s))) rows
-incident_found db s n project rows sound means a =
-    let terms = is_param 0 0 ∷ [] in
-    let params = Int (pos n) ∷ [] in
-    let is_it = λ (i : Incident). i.number == n in
-    let found = seen_through db (by_number 18 incident_row s.incidents) (keeps terms params) (shows project params) (keeps terms params) (shows project params) rows (λ r. refl) (λ r. refl) means.1.1.1.1.1.1.1.1.1.0 (selected db 18 terms project params rows a) in
-    let passed = of_elements incident_row (keeps terms params) (shows project params) is_it s.incidents rows (λ i. and_true _ ∙ equal_numbers i.number n) found in
-    subst (λ l. IsPermutation l rows) (ap (map (λ (i : Incident). shows project params (incident_row i))) (only_one is_it s.incidents (once_numbered incident_number n s.incidents sound.incidents.numbered.0))) passed
+incident_found db s n project rows sound means a = one_with_number db 18 incident_row incident_number s.incidents (λ i. refl) n project rows means.1.1.1.1.1.1.1.1.1.0 a sound.incidents.numbered.0
 
 pub known_found : (db : Trees) (s : core.State) (n : ℕ) (rows : List Row) → IsSound s → Means db s → IsAnswer (one_table 18 (is_param 0 0 ∷ []) (col 1 2 ∷ col 1 4 ∷ col 1 3 ∷ [])) db (Int (pos n) ∷ []) rows
     → IsPermutation (map known_shown (option_to_list (option_map known (incident_of n s)))) rows
@@ -97,7 +91,7 @@ entries_listed db s number most rows sound means a =
     let passes = λ (i : Incident). nat_lt number i.number in
     let out : Row → Output = λ r. (eval_all (map (λ (k : Term × Key). k.0) order) (params ∷ r ∷ []), shows project params r) in
     listed db 18 (λ r. r) incident_row s.incidents passes terms project order (col 0 1) params (keeps terms params) out rows (λ r. refl) (λ r. refl) (λ i. and_true _ ∙ more_than i.number number)
-    (λ (a b : Incident). nat_cmp a.number b.number ≡ Less) (counted incident_number 0 s.incidents sound.incidents.numbered.0).1
+    (λ (a b : Incident). nat_cmp a.number b.number ≡ Less) (counted incident_number 0 s.incidents sound.incidents.numbered.0)
     (λ a b _ less _. rw (value_cmp-Int (pos a.number) (pos b.number), int_below a.number b.number less) refl)
     means.1.1.1.1.1.1.1.1.1.0 a
     ∙ (sym (ap (take most) (map-map entry_shown entry_of (filter passes s.incidents))) ∙ take-map entry_shown most (map entry_of (filter passes s.incidents)))

@@ -33,10 +33,8 @@ pub mod Telling
 pub mod AnyVersion
 pub mod ByNumber
 pub mod AskedPairs
-pub mod MoreReading
 pub mod PairRows
 pub mod Extending
-pub mod IncidentTexts
 pub mod OfIncident
 pub mod Recipients
 pub mod Named

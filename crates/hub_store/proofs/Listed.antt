@@ -1,9 +1,12 @@
 -- What a query of one table lists in the order of a key.
-use Rattle.std.proofs.Common.{◌≡◌, ℕ, pos, List, [], ◌∷◌, Vec, map, filter, Bool, true, false, cond, Result, Ok, Err, IfOk, nat_cmp, refl, ap, subst, ◌∙◌, arith}
+use Rattle.std.proofs.Common.{◌≡◌, ℕ, pos, List, [], ◌∷◌, Vec, map, filter, Bool, true, false, cond, ◌==◌, Result, Ok, Err, IfOk, nat_cmp, refl, ap, subst, ◌∙◌, arith}
 use Rattle.std.specs.List.{AllByRecursion}
-use Rattle.std.specs.Ordering.{int_cmp}
+use Rattle.std.specs.List.Sorted.{IsPermutation}
+use Rattle.std.specs.Ordering.{int_cmp, ordering_then}
 use Rattle.std.specs.declared.alloc.Global.{Global}
-use Rattle.std.specs.declared.cmp.Ordering.TheVariants.{Less}
+use Rattle.std.specs.declared.cmp.Ordering.{Ordering}
+use Rattle.std.specs.declared.cmp.Ordering.TheVariants.{Less, Equal, Greater}
+use Rattle.std.proofs.lemmas.Bool.{eqb-true}
 use Rattle.std.proofs.lemmas.Bool.Decides.{nat_tests}
 use Rattle.sqlite_value.specs.declared.keys.Key.{Key}
 use Rattle.sqlite_value.specs.Order.{Row}
@@ -42,20 +45,53 @@ rising_passing R q (x ∷ xs) up = go (q x) refl (rising_passing R q xs up.1)
 
 -- ---- queries
 
--- the rows that a query lists, by the elements that pass, which stand in the order of the query
+-- the rows that a query lists, where what it shows of those that pass is shown of elements that stand in its order
+pub in_its_order : {X : Type 0} (db : Trees) (tree : ℕ) (xs : List X) (q : X → Bool) (terms project : List Term) (order : List (Term × Key)) (limit : Term) (params : Row) (out : X → Output) (rows : List Row)
+    → (R : X → X → Type 0) → IsAscending R xs → ((a b : X) → q a ≡ true → R a b → q b ≡ true → output_cmp (record (one_table tree terms project) { order = order; limit = limit }) (out a) (out b) ≡ Less)
+    → ((all : List Output) → IsPermutation (map (λ r. (eval_all (map (λ (k : Term × Key). k.0) order) (params ∷ r ∷ []), shows project params r)) (filter (keeps terms params) (db tree))) all → IsPermutation (map out (filter q xs)) all)
+    → IsAnswer (record (one_table tree terms project) { order = order; limit = limit }) db params rows
+    → rows ≡ limited (as_count (eval limit (params ∷ []))) (map (λ x. (out x).1) (filter q xs))
+in_its_order db tree xs q terms project order limit params out rows R up below of_rows a =
+    let Q : Query = record (one_table tree terms project) { order = order; limit = limit } in
+    let got = ordered_rows db tree terms project order limit params rows a in
+    let rises : Rises (output_cmp Q) (λ o. o) (map out (filter q xs)) =
+    ascending-map _ out (filter q xs) (ascending_weaker (λ a b. (q a ≡ true) × (R a b × (q b ≡ true))) _ (λ a b h. below a b h.0 h.1.0 h.1.1) (filter q xs) (rising_passing R q xs up)) in
+    let all = sorted_as (output_cmp_total Q) (λ o. o) (map out (filter q xs)) got.0 rises (of_rows got.0 got.1) got.2 in
+    got.3 ∙ ap (λ l. limited (as_count (eval limit (params ∷ []))) (map (λ (o : Output). o.1) l)) all ∙ ap (limited (as_count (eval limit (params ∷ [])))) (map-map (λ (o : Output). o.1) out (filter q xs))
+
+-- the same of a table whose rows are those of the elements
 pub listed : {X : Type 0} (db : Trees) (tree : ℕ) (seen : Row → Row) (row : X → Row) (xs : List X) (q : X → Bool) (terms project : List Term) (order : List (Term × Key)) (limit : Term) (params : Row) (p : Row → Bool) (out : Row → Output) (rows : List Row)
     → ((r : Row) → keeps terms params r ≡ p (seen r)) → ((r : Row) → (eval_all (map (λ (k : Term × Key). k.0) order) (params ∷ r ∷ []), shows project params r) ≡ out (seen r)) → ((x : X) → p (row x) ≡ q x)
     → (R : X → X → Type 0) → IsAscending R xs → ((a b : X) → q a ≡ true → R a b → q b ≡ true → output_cmp (record (one_table tree terms project) { order = order; limit = limit }) (out (row a)) (out (row b)) ≡ Less)
     → IsHeld db (record { tree = tree; seen = seen; rows = map row xs }) → IsAnswer (record (one_table tree terms project) { order = order; limit = limit }) db params rows
     → rows ≡ limited (as_count (eval limit (params ∷ []))) (map (λ x. (out (row x)).1) (filter q xs))
 listed db tree seen row xs q terms project order limit params p out rows keep show same R up below held a =
-    let Q : Query = record (one_table tree terms project) { order = order; limit = limit } in
-    let got = ordered_rows db tree terms project order limit params rows a in
-    let found = of_elements row p out q xs got.0 same (seen_through db (record { tree = tree; seen = seen; rows = map row xs }) (keeps terms params) (λ r. (eval_all (map (λ (k : Term × Key). k.0) order) (params ∷ r ∷ []), shows project params r)) p out got.0 keep show held got.1) in
-    let rises : Rises (output_cmp Q) (λ o. o) (map (λ x. out (row x)) (filter q xs)) =
-    ascending-map _ (λ x. out (row x)) (filter q xs) (ascending_weaker (λ a b. (q a ≡ true) × (R a b × (q b ≡ true))) _ (λ a b h. below a b h.0 h.1.0 h.1.1) (filter q xs) (rising_passing R q xs up)) in
-    let all = sorted_as (output_cmp_total Q) (λ o. o) (map (λ x. out (row x)) (filter q xs)) got.0 rises found got.2 in
-    got.3 ∙ ap (λ l. limited (as_count (eval limit (params ∷ []))) (map (λ (o : Output). o.1) l)) all ∙ ap (limited (as_count (eval limit (params ∷ [])))) (map-map (λ (o : Output). o.1) (λ x. out (row x)) (filter q xs))
+    in_its_order db tree xs q terms project order limit params (λ x. out (row x)) rows R up below
+    (λ all found. of_elements row p out q xs all same (seen_through db (record { tree = tree; seen = seen; rows = map row xs }) (keeps terms params) (λ r. (eval_all (map (λ (k : Term × Key). k.0) order) (params ∷ r ∷ []), shows project params r)) p out all keep show held found))
+    a
+
+-- ---- keys that decide
+
+pub not_less : (m n k : ℕ) → m ≡ k → n ≡ k → nat_cmp m n ≡ Less → ⊥
+not_less m n k e f h = grind (arith, nat_tests)
+
+-- where both have the same second number, the first decides
+pub first_decides : (m n i j k : ℕ) → (i == k) ≡ true → (j == k) ≡ true → ordering_then (nat_cmp m n) (nat_cmp i j) ≡ Less → nat_cmp m n ≡ Less
+first_decides m n i j k e f h = go (nat_cmp m n) h
+  where
+    go : (c : Ordering) → ordering_then c (nat_cmp i j) ≡ Less → c ≡ Less
+    go Less more = refl
+    go Equal more = absurd (not_less i j k (eqb-true i k e) (eqb-true j k f) more)
+    go Greater more = absurd cc
+
+-- where both have the same number, the next key decides
+pub next_decides : (m n k : ℕ) (o : Ordering) → (m == k) ≡ true → (n == k) ≡ true → ordering_then (nat_cmp m n) o ≡ Less → o ≡ Less
+next_decides m n k o e f h = go (nat_cmp m n) refl h
+  where
+    go : (c : Ordering) → nat_cmp m n ≡ c → ordering_then c o ≡ Less → o ≡ Less
+    go Less is more = absurd (not_less m n k (eqb-true m k e) (eqb-true n k f) is)
+    go Equal is more = more
+    go Greater is more = absurd cc
 
 pub int_below : (a b : ℕ) → nat_cmp a b ≡ Less → int_cmp (pos a) (pos b) ≡ Less
 int_below a b h = grind (arith, nat_tests)

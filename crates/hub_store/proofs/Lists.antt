@@ -18,6 +18,7 @@ use Rattle.sqlite_trees.specs.View.{is_int, IsShaped}
 use Rattle.sqlite_trees.proofs.ListLemmas.{filter_same, all_weaker, all_both, along_permutation}
 use Rattle.sqlite_rules.specs.Edit.{id_in, without_all, is_taken}
 use Rattle.sqlite_rules.specs.Lists.{Has}
+use Rattle.hub_store.proofs.Found.{always, filter_all}
 
 -- ---- a row that is new comes in
 
@@ -53,18 +54,10 @@ is_among ids r = list_any (λ id. has_rowid id r) ids
 
 without_all-filter : (rows : List Row) (ids : List ℤ) → without_all rows ids ≡ filter (λ r. not (is_among ids r)) rows
 unfolding is_among
-without_all-filter rows [] = sym (all_in rows)
-  where
-    all_in : (xs : List Row) → filter (λ r. true) xs ≡ xs
-    all_in [] = refl
-    all_in (x ∷ xs) = ap (λ l. x ∷ l) (all_in xs)
+without_all-filter rows [] = sym (filter_all rows)
 without_all-filter rows (id ∷ ids) =
     without_all-filter (without_rowid id rows) ids ∙ filter-then _ _ rows
     ∙ filter_same _ (λ r. not (is_among (id ∷ ids) r)) rows (always (λ r. sym (not-or (has_rowid id r) (is_among ids r))) rows)
-  where
-    always : {P : Row → Type 0} → ((r : Row) → P r) → (xs : List Row) → AllByRecursion P xs
-    always h [] = tt
-    always h (x ∷ xs) = (h x, always h xs)
 
 own_id : (r : Row) → IsTrue (is_int (rowid r)) → rowid r ≡ Int (id_in (rowid r))
 own_id r = go (rowid r)
@@ -125,7 +118,7 @@ went_out keep rows ids shaped same =
 abbrev pub Rises : {X K : Type 0} → (K → K → Ordering) → (X → K) → List X → Type 0
 Rises R key = IsAscending (λ a b. R (key a) (key b) ≡ Less)
 
-has_below : {X : Type 0} (P : X → Type 0) (xs : List X) (x : X) → AllByRecursion P xs → Has xs x → P x
+pub has_below : {X : Type 0} (P : X → Type 0) (xs : List X) (x : X) → AllByRecursion P xs → Has xs x → P x
 has_below P [] x all h = absurd h
 has_below P (y ∷ ys) x all (inl is) = subst P (sym is) all.0
 has_below P (y ∷ ys) x all (inr h) = has_below P ys x all.1 h

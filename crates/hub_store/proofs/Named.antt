@@ -1,9 +1,9 @@
 -- The incident that a query finds by its source and ident.
-use Rattle.std.proofs.Common.{◌≡◌, ◌≢◌, ℕ, pos, List, [], ◌∷◌, map, Bool, true, false, ◌==◌, ◌&&◌, Option, Some, None, option_map, Result, Ok, Err, IfOk, refl, sym, ap, subst, ◌∙◌}
+use Rattle.std.proofs.Common.{◌≡◌, ◌≢◌, ℕ, pos, List, [], ◌∷◌, map, Bool, true, false, ◌==◌, ◌&&◌, Option, Some, None, option_map, Result, Ok, Err, IfOk, refl, ap, subst}
 use Rattle.std.specs.Option.{option_to_list}
 use Rattle.std.specs.Str.{bytes_eq}
 use Rattle.std.specs.List.Sorted.{IsPermutation}
-use Rattle.std.proofs.lemmas.Bool.{eqb-true}
+use Rattle.std.proofs.lemmas.Bool.{false_from_ne_true}
 use Rattle.sqlite_value.specs.declared.value.Value.TheVariants.{Int, Text}
 use Rattle.sqlite_value.specs.Order.{Row, column}
 use Rattle.sqlite_trees.specs.Tree.{Trees}
@@ -11,23 +11,22 @@ use Rattle.sqlite_trees.proofs.ListLemmas.{all_weaker}
 use Rattle.sqlite_sql.specs.Term.{col}
 use Rattle.sqlite_sql.specs.Query.{IsAnswer}
 use Rattle.sqlite.specs.declared.error.Error.{Error}
-use Rattle.iodef_tree.proofs.Order.{bytes_eq-true}
 use Rattle.circle.specs.Sound.{Differ}
 use Rattle.hub_core.specs.State as core
 use Rattle.hub_core.specs.State.{incident_named, incident_number}
 use Rattle.hub_core.specs.Sound.{IsSound}
 use Rattle.hub_core.specs.declared.state.Incident.{Incident}
-use Rattle.hub_store.specs.Holdings.{by_number}
+use Rattle.hub_core.proofs.Found.{one_name}
 use Rattle.hub_store.specs.Means.{Means}
 use Rattle.hub_store.specs.FirstShown.{number_shown}
 use Rattle.hub_store.specs.Rows.{incident_row}
 use Rattle.hub_store.specs.Shown.{IsShownBy, ShowsFirst}
 use Rattle.hub_store.specs.ShownPairs.{ShowsNumber}
+use Rattle.hub_store.proofs.ByNumber.{found_once}
 use Rattle.hub_store.proofs.Compare.{equal_numbers, equal_texts, and_true}
 use Rattle.hub_store.proofs.Forms.{one_table, is_param}
-use Rattle.hub_store.proofs.Held.{split}
-use Rattle.hub_store.proofs.Statements.{keeps, shows, selected}
-use Rattle.hub_store.proofs.Finding.{Once, never_so, seen_through, of_elements, only_one, as_viewed, reads_first}
+use Rattle.hub_store.proofs.Statements.{shows}
+use Rattle.hub_store.proofs.Finding.{Once, as_viewed, reads_first}
 
 abbrev is_named : ℕ → List ℕ → Incident → Bool
 is_named source ident i = i.source == source && bytes_eq i.ident ident
@@ -35,34 +34,22 @@ is_named source ident i = i.source == source && bytes_eq i.ident ident
 abbrev name_of : Incident → ℕ × List ℕ
 name_of i = (i.source, i.ident)
 
-one_name : (source : ℕ) (ident : List ℕ) (a b : Incident) → is_named source ident a ≡ true → is_named source ident b ≡ true → name_of a ≡ name_of b
-one_name source ident a b one two =
-    let first = split _ _ one in
-    let second = split _ _ two in
-    let sources : a.source ≡ b.source = eqb-true a.source source first.0 ∙ sym (eqb-true b.source source second.0) in
-    let idents : a.ident ≡ b.ident = bytes_eq-true a.ident ident first.1 ∙ sym (bytes_eq-true b.ident ident second.1) in
-    cc
-
 -- a source posts an ident once
 once_named : (source : ℕ) (ident : List ℕ) (xs : List Incident) → Differ name_of xs → Once (is_named source ident) xs
 once_named source ident [] apart = tt
 once_named source ident (x ∷ xs) apart = (
-  all_weaker (λ y. name_of x ≢ name_of y) (λ y. is_named source ident x ≡ true → is_named source ident y ≡ false) (λ y other is. never_so (is_named source ident y) (λ also. other (one_name source ident x y is also))) xs apart.0,
+  all_weaker (λ y. name_of x ≢ name_of y) (λ y. is_named source ident x ≡ true → is_named source ident y ≡ false) (λ y other is. false_from_ne_true (is_named source ident y) (λ also. other (one_name source ident x y is also))) xs apart.0,
   once_named source ident xs apart.1,
 )
 
 pub number_found : (db : Trees) (s : core.State) (source : ℕ) (ident : List ℕ) (rows : List Row) → IsSound s → Means db s → IsAnswer (one_table 18 (is_param 2 0 ∷ is_param 3 1 ∷ []) (col 1 0 ∷ [])) db (Int (pos source) ∷ Text ident ∷ []) rows
     → IsPermutation (map number_shown (option_to_list (option_map incident_number (incident_named source ident s)))) rows
 number_found db s source ident rows sound means a =
-    let terms = is_param 2 0 ∷ is_param 3 1 ∷ [] in
     let project = col 1 0 ∷ [] in
     let params = Int (pos source) ∷ Text ident ∷ [] in
     let is_it = is_named source ident in
-    let found = seen_through db (by_number 18 incident_row s.incidents) (keeps terms params) (shows project params) (keeps terms params) (shows project params) rows (λ r. refl) (λ r. refl) means.1.1.1.1.1.1.1.1.1.0 (selected db 18 terms project params rows a) in
-    let passed = of_elements incident_row (keeps terms params) (shows project params) is_it s.incidents rows (λ i. rw (equal_numbers i.source source, equal_texts i.ident ident) (ap (λ b. i.source == source && b) (and_true (bytes_eq i.ident ident)))) found in
-    subst (λ l. IsPermutation l rows)
-    (ap (map (λ (i : Incident). shows project params (incident_row i))) (only_one is_it s.incidents (once_named source ident s.incidents sound.incidents.idents)) ∙ as_viewed (λ (i : Incident). shows project params (incident_row i)) incident_number number_shown (λ i. refl) (incident_named source ident s))
-    passed
+    subst (λ l. IsPermutation l rows) (as_viewed (λ (i : Incident). shows project params (incident_row i)) incident_number number_shown (λ i. refl) (incident_named source ident s))
+    (found_once db 18 incident_row s.incidents (is_param 2 0 ∷ is_param 3 1 ∷ []) project params is_it rows (λ i. rw (equal_numbers i.source source, equal_texts i.ident ident) (ap (λ b. i.source == source && b) (and_true (bytes_eq i.ident ident)))) (once_named source ident s.incidents sound.incidents.idents) means.1.1.1.1.1.1.1.1.1.0 a)
 
 -- ---- what the rows are read as
 

@@ -26,22 +26,10 @@ use Rattle.hub_store.specs.Rows.{gate_row, permission_row}
 use Rattle.hub_store.specs.Shown.{gate_shown, permission_shown}
 use Rattle.hub_store.proofs.Compare.{begins, equal_numbers, and_true}
 use Rattle.hub_store.proofs.Forms.{one_table, is_param, by_column, in_order}
-use Rattle.hub_store.proofs.Listed.{listed, int_below}
+use Rattle.hub_store.proofs.Listed.{listed, int_below, not_less, next_decides}
 use Rattle.hub_store.proofs.Puts.{past_one}
 use Rattle.hub_store.proofs.Statements.{shows}
 use Rattle.hub_store.proofs.Unique.{rising}
-
-not_less : (m n k : ℕ) → m ≡ k → n ≡ k → nat_cmp m n ≡ Less → ⊥
-not_less m n k e f h = grind (arith, nat_tests)
-
--- of one incident, so the next key decides
-pub next_decides : (m n k : ℕ) (o : Ordering) → (m == k) ≡ true → (n == k) ≡ true → ordering_then (nat_cmp m n) o ≡ Less → o ≡ Less
-next_decides m n k o e f h = go (nat_cmp m n) refl h
-  where
-    go : (c : Ordering) → nat_cmp m n ≡ c → ordering_then c o ≡ Less → o ≡ Less
-    go Less is more = absurd (not_less m n k (eqb-true m k e) (eqb-true n k f) is)
-    go Equal is more = more
-    go Greater is more = absurd cc
 
 abbrev gates_query : Query
 gates_query = in_order (by_column 2 ∷ []) (one_table 12 (is_param 1 0 ∷ []) (col 1 2 ∷ col 1 3 ∷ col 1 4 ∷ []))

@@ -20,16 +20,16 @@ use Rattle.hub_store.specs.Holdings.{without_rowids}
 use Rattle.hub_store.specs.Means.{Means}
 use Rattle.hub_store.specs.Rows.{recipient_row}
 use Rattle.hub_store.specs.TargetsShown.{target_shown, targets_of}
-use Rattle.hub_store.proofs.ByNumber.{any_shown}
 use Rattle.hub_store.proofs.Changes.{recipient_test}
 use Rattle.hub_store.proofs.Compare.{begins, equal_numbers, and_true}
 use Rattle.hub_store.proofs.Finding.{seen_through, of_elements}
 use Rattle.hub_store.proofs.Forms.{one_table, is_param, by_column, in_order}
-use Rattle.hub_store.proofs.Listed.{listed}
-use Rattle.hub_store.proofs.Placed.{int_as_nat, next_decides}
+use Rattle.hub_store.proofs.Listed.{listed, next_decides}
+use Rattle.hub_store.proofs.Placed.{int_as_nat}
 use Rattle.hub_store.proofs.Puts.{past_one, past_three}
 use Rattle.hub_store.proofs.Statements.{shows, keeps, selected}
 use Rattle.hub_store.proofs.Unique.{rising}
+use Rattle.hub_store.proofs.Whether.{any_shown}
 
 -- ---- all of an incident, by kind and number
 

@@ -1,5 +1,5 @@
 -- Edits one after another, and the transaction around them.
-use Rattle.std.proofs.Common.{◌≡◌, ℕ, ◌+◌, ◌<◌, List, [], ◌∷◌, ◌++◌, take, length, get_or, refl, sym, ap, subst, ◌∙◌, IsTrue, true, false}
+use Rattle.std.proofs.Common.{◌≡◌, ℕ, ◌+◌, ◌<◌, List, [], ◌∷◌, ◌++◌, take, length, get_or, sym, ap, subst, ◌∙◌, IsTrue, true, false}
 use Rattle.std.proofs.lemmas.List.{take_more}
 use Rattle.sqlite_trees.specs.declared.store.Store as store
 use Rattle.sqlite.specs.Held.{Held, state}
@@ -7,16 +7,13 @@ use Rattle.sqlite.specs.State.{State, Shows, IsUnchanged}
 use Rattle.hub_core.specs.State as core
 use Rattle.hub_core.specs.Edits.{edited, after}
 use Rattle.hub_core.specs.declared.edit.Edit.{Edit}
+use Rattle.hub_core.proofs.Gated.{after_append}
 use Rattle.hub_store.specs.Content.{Has, CommitsState}
 use Rattle.hub_store.specs.Keeps.{Knows, KeepsCommitted}
 use Rattle.hub_store.specs.Means.{Holds}
 
-after-append : (edits : List Edit) (edit : Edit) (s : core.State) → after (edits ++ edit ∷ []) s ≡ edited edit (after edits s)
-after-append [] edit s = refl
-after-append (e ∷ edits) edit s = after-append edits edit (edited e s)
-
 pub after_more : (edits : List Edit) (i : ℕ) (edit : Edit) (s : core.State) → i < length edits → edit ≡ get_or edits i edit → after (take (i + 1) edits) s ≡ edited edit (after (take i edits) s)
-after_more edits i edit s low is = ap (λ l. after l s) (take_more edits i edit low) ∙ ap (λ e. after (take i edits ++ e ∷ []) s) (sym is) ∙ after-append (take i edits) edit s
+after_more edits i edit s low is = ap (λ l. after l s) (take_more edits i edit low) ∙ ap (λ e. after (take i edits ++ e ∷ []) s) (sym is) ∙ after_append (take i edits) (edit ∷ []) s
 
 pub committed_made : (mid last : State) (s : core.State) → Holds mid.now s → Shows mid last mid.now mid.now false → CommitsState last s
 committed_made mid last s holds shows = record { is_open = shows.is_open; holds = subst (λ d. Holds d s) (sym shows.committed_is) holds; settled = shows.now_is ∙ sym shows.committed_is }

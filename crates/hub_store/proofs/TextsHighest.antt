@@ -60,3 +60,14 @@ highest_group_is = refl
 pub highest_group_plain : IsPlain (understood hub_schema highest_group) × (reads_listing hub_schema highest_group ≡ false)
 unfolding understood everything
 highest_group_plain = ((refl, refl), refl)
+
+abbrev pub highest_incident : List ℕ
+highest_incident = codes "SELECT number FROM incident WHERE number > 0 ORDER BY number DESC LIMIT 1"
+
+pub highest_incident_is : command_of (understood hub_schema highest_incident) ≡ Select (program (highest_query 18)) (codes "number" ∷ [])
+unfolding understood everything
+highest_incident_is = refl
+
+pub highest_incident_plain : IsPlain (understood hub_schema highest_incident) × (reads_listing hub_schema highest_incident ≡ false)
+unfolding understood everything
+highest_incident_plain = ((refl, refl), refl)

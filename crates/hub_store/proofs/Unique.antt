@@ -1,15 +1,13 @@
 -- The tables stand for one state.
-use Rattle.std.proofs.Common.{◌≡◌, inl, inr, ℕ, zero, suc, ◌+◌, ◌<◌, List, [], ◌∷◌, ◌++◌, map, filter, take, drop, slice_get, Bool, true, false, Option, Some, None, Ok, Result, refl, sym, ap, subst, subst₂, ◌∙◌, nat_cmp, codes, arith}
+use Rattle.std.proofs.Common.{◌≡◌, inl, inr, ℕ, zero, suc, ◌+◌, ◌<◌, List, [], ◌∷◌, ◌++◌, map, filter, take, drop, slice_get, Bool, true, false, Option, Some, None, Ok, Result, refl, sym, ap, subst₂, ◌∙◌, nat_cmp, codes, arith}
 use Rattle.std.specs.List.{AllByRecursion, list_all}
 use Rattle.std.specs.Str.{bytes_eq, IsUtf8}
 use Rattle.std.specs.List.Sorted.{IsPermutation}
 use Rattle.std.specs.declared.cmp.Ordering.{Ordering}
 use Rattle.std.specs.declared.cmp.Ordering.TheVariants.{Less}
-use Rattle.std.specs.Ordering.{ordering_then}
 use Rattle.std.specs.Cmp.{IsTotalOrder}
-use Rattle.std.specs.Cmp.Lexicographic.{slice_cmp}
 use Rattle.std.proofs.lemmas.Bool.Decides.{nat_tests}
-use Rattle.std.proofs.lemmas.Cmp.{nat_cmp_total, on_total, then_total, nat_list_cmp_total}
+use Rattle.std.proofs.lemmas.Cmp.{nat_cmp_total}
 use Rattle.std.specs.Str.{is_utf8}
 use Rattle.std.proofs.lemmas.List.Elements.{All-contains, All-from_recursion}
 use Rattle.std.proofs.lemmas.Str.{is_utf8-from_IsUtf8}
@@ -20,14 +18,12 @@ use Rattle.sqlite_trees.proofs.ListLemmas.{map-map, IsPermutation-filter, all_bo
 use Rattle.sqlite_rules.specs.Lists.{Has}
 use Rattle.iodef_tree.specs.Reading.{reading}
 use Rattle.iodef_tree.specs.declared.fault.ReadFault.{ReadFault}
-use Rattle.iodef_tree.specs.Text.{Tokens}
-use Rattle.iodef_tree.specs.Pointer.{pointer_text, pointer_tokens}
-use Rattle.iodef_tree.proofs.Inverse.{pointer_tokens-pointer_text}
+use Rattle.iodef_tree.specs.Pointer.{pointer_text}
 use Rattle.iodef_tree.proofs.ReadBack.{texts-read-back}
 use Rattle.policy.specs.declared.permission.Grantee.{Grantee}
 use Rattle.policy.specs.declared.permission.Grantee.TheVariants as grantee
-use Rattle.circle.specs.Ordered.{pair_cmp}
 use Rattle.circle.specs.Sound.{Pairwise, CountsFrom}
+use Rattle.circle.proofs.Keeping.{pair_total}
 use Rattle.circle.specs.Directory.{Directory, org_number, account_number, community_number, group_number, client_key, membership_key, connection_key, group_member_key, arrangement_key}
 use Rattle.circle.specs.declared.directory.Role.{Role}
 use Rattle.circle.specs.declared.directory.Role.TheVariants.{Administrator, Coordinator, Poster, Reader}
@@ -45,29 +41,28 @@ use Rattle.circle.specs.declared.directory.Arrangement.{Arrangement}
 use Rattle.hub_core.specs.Documents.{Lines}
 use Rattle.hub_core.specs.Sound.{IsSound, IsAccepted}
 use Rattle.hub_core.specs.State as core
-use Rattle.hub_core.specs.State.{incident_number, target_key, grantee_key, gate_cmp, recipient_cmp, permission_cmp}
+use Rattle.hub_core.specs.Orders.{gate_total, recipient_total, permission_total}
+use Rattle.hub_core.specs.State.{incident_number, target_key, grantee_key}
 use Rattle.hub_core.specs.declared.request.Target.{Target}
 use Rattle.hub_core.specs.declared.request.Target.TheVariants as target
 use Rattle.hub_core.specs.declared.state.Incident.{Incident}
 use Rattle.hub_core.specs.declared.state.Gate.{Gate}
 use Rattle.hub_core.specs.declared.state.Recipient.{Recipient}
 use Rattle.hub_core.specs.declared.state.Permission.{Permission}
+use Rattle.hub_core.proofs.Keeping.{numbers_above}
+use Rattle.hub_core.proofs.Keys.{one_path}
 use Rattle.hub_store.specs.Values.{number_or_null, flag}
 use Rattle.hub_store.specs.Pairs.{Pair, PairSet, pair_row, rows_of_pairs}
 use Rattle.hub_store.specs.Holdings.{IsHeld}
 use Rattle.hub_store.specs.Rows.{role_number, handling_number, org_row, account_row, community_row, group_row, document_text, incident_row, gate_row, recipient_row, permission_row, client_pair, membership_pair, connection_pair, group_member_pair, arrangement_pair, one_if, pair_sets}
 use Rattle.hub_store.specs.Fit.{IsFit, FitIncident}
 use Rattle.hub_store.specs.Means.{Means}
+use Rattle.hub_store.proofs.Found.{filter_all}
 use Rattle.hub_store.proofs.OneKind.{kind_alone, is_of}
-use Rattle.hub_store.proofs.Lists.{Rises, same_rising, has_permuted}
-use Rattle.hub_store.proofs.PairSets.{is_other_kind, filter_all}
+use Rattle.hub_store.proofs.Lists.{Rises, has_below, same_rising, has_permuted}
+use Rattle.hub_store.proofs.PairSets.{is_other_kind}
 
 -- ---- members by their rows
-
-had : {X : Type 0} (P : X → Type 0) (xs : List X) (x : X) → AllByRecursion P xs → Has xs x → P x
-had P [] x all h = absurd h
-had P (y ∷ ys) x all (inl is) = subst P (sym is) all.0
-had P (y ∷ ys) x all (inr h) = had P ys x all.1 h
 
 module _ {X : Type 0} (row : X → Row) (P : X → Type 0) (one : (a b : X) → P a → P b → row a ≡ row b → a ≡ b) where
   into : (xs : List X) (x : X) → Has xs x → Has (map row xs) (row x)
@@ -81,7 +76,7 @@ module _ {X : Type 0} (row : X → Row) (P : X → Type 0) (one : (a b : X) → 
   out (y ∷ ys) x all p (inr h) = inr (out ys x all.1 p h)
 
   members : (xs ys : List X) → AllByRecursion P xs → AllByRecursion P ys → IsPermutation (map row xs) (map row ys) → (x : X) → Has xs x → Has ys x
-  members xs ys all also same x h = out ys x also (had P xs x all h) (has_permuted _ _ same (row x) (into xs x h))
+  members xs ys all also same x h = out ys x also (has_below P xs x all h) (has_permuted _ _ same (row x) (into xs x h))
 
   -- two lists that rise and have the same rows are one
   pub same_set : {K : Type 0} {R : K → K → Ordering} → IsTotalOrder R → (key : X → K) (xs ys : List X) → Rises R key xs → Rises R key ys → AllByRecursion P xs → AllByRecursion P ys → IsPermutation (map row xs) (map row ys) → xs ≡ ys
@@ -93,44 +88,14 @@ pub rising : {X : Type 0} (R : X → X → Type 0) (xs : List X) → Pairwise R 
 rising R [] up = tt
 rising R (x ∷ xs) up = (up.0, rising R xs up.1)
 
-pub counted : {X : Type 0} (number : X → ℕ) (n : ℕ) (xs : List X) → CountsFrom number n xs → AllByRecursion (λ x. n < number x) xs × Rises nat_cmp number xs
-counted number n [] counts = (tt, tt)
+-- numbers that count on rise
+pub counted : {X : Type 0} (number : X → ℕ) (n : ℕ) (xs : List X) → CountsFrom number n xs → Rises nat_cmp number xs
+counted number n [] counts = tt
 counted number n (x ∷ xs) counts =
-    let later = counted number (n + 1) xs counts.1 in (
-      (first (number x) counts.0, all_weaker (λ y. n + 1 < number y) (λ y. n < number y) (λ y h. over (number y) h) xs later.0),
-      (all_weaker (λ y. n + 1 < number y) (λ y. nat_cmp (number x) (number y) ≡ Less) (λ y h. less (number x) (number y) counts.0 h) xs later.0, later.1),
-    )
+    (all_weaker (λ y. n + 1 < number y) (λ y. nat_cmp (number x) (number y) ≡ Less) (λ y h. less (number x) (number y) counts.0 h) xs (numbers_above number (n + 1) xs counts.1), counted number (n + 1) xs counts.1)
   where
-    first : (m : ℕ) → m ≡ n + 1 → n < m
-    first m e = omega (arith, e)
-
-    over : (m : ℕ) → n + 1 < m → n < m
-    over m h = omega (arith, h)
-
     less : (a b : ℕ) → a ≡ n + 1 → n + 1 < b → nat_cmp a b ≡ Less
     less a b e h = grind (arith, nat_tests)
-
-pub pair_total : IsTotalOrder pair_cmp
-pair_total = then_total (on_total (λ p. p.0) nat_cmp_total) (on_total (λ p. p.1) nat_cmp_total)
-
--- by incident, then by the bytes of the pointer
-abbrev pub place_cmp : ℕ × List ℕ → ℕ × List ℕ → Ordering
-place_cmp a b = ordering_then (nat_cmp a.0 b.0) (slice_cmp nat_cmp a.1 b.1)
-
-pub place_total : IsTotalOrder place_cmp
-place_total = then_total (on_total (λ p. p.0) nat_cmp_total) (on_total (λ p. p.1) nat_list_cmp_total)
-
-abbrev pub receiver_cmp : ℕ × (ℕ × ℕ) → ℕ × (ℕ × ℕ) → Ordering
-receiver_cmp a b = ordering_then (nat_cmp a.0 b.0) (pair_cmp a.1 b.1)
-
-pub receiver_total : IsTotalOrder receiver_cmp
-receiver_total = then_total (on_total (λ p. p.0) nat_cmp_total) (on_total (λ p. p.1) pair_total)
-
-abbrev pub grant_cmp : (ℕ × List ℕ) × (ℕ × ℕ) → (ℕ × List ℕ) × (ℕ × ℕ) → Ordering
-grant_cmp a b = ordering_then (place_cmp a.0 b.0) (pair_cmp a.1 b.1)
-
-pub grant_total : IsTotalOrder grant_cmp
-grant_total = then_total (on_total (λ p. p.0) place_total) (on_total (λ p. p.1) pair_total)
 
 -- ---- the row of an element is of no other
 
@@ -256,12 +221,6 @@ one_group a b e =
     let active = one_flag a.active b.active on in
     λ i. record { number = number i; owner = owner i; name = name i; releasability = releasability i; active = active i }
 
-pub one_path : (p q : Tokens) → pointer_text p ≡ pointer_text q → p ≡ q
-one_path p q e = some_same (sym (pointer_tokens-pointer_text p) ∙ (ap pointer_tokens e ∙ pointer_tokens-pointer_text q))
-  where
-    some_same : Some p ≡ Some q → p ≡ q
-    some_same f = cc
-
 one_gate : (a b : Gate) → gate_row a ≡ gate_row b → a ≡ b
 one_gate a b e =
     let incident : a.incident ≡ b.incident = cc in
@@ -352,7 +311,7 @@ any [] = tt
 any (x ∷ xs) = (tt, any xs)
 
 numbered : {X : Type 0} (row : X → Row) → ((a b : X) → row a ≡ row b → a ≡ b) → (number : X → ℕ) (xs ys : List X) → CountsFrom number 0 xs → CountsFrom number 0 ys → IsPermutation (map row xs) (map row ys) → xs ≡ ys
-numbered row one number xs ys u v same = same_set row Any (λ a b _ _ f. one a b f) nat_cmp_total number xs ys (counted number 0 xs u).1 (counted number 0 ys v).1 (any xs) (any ys) same
+numbered row one number xs ys u v same = same_set row Any (λ a b _ _ f. one a b f) nat_cmp_total number xs ys (counted number 0 xs u) (counted number 0 ys v) (any xs) (any ys) same
 
 -- ---- the sets of the table of pairs
 
@@ -393,10 +352,10 @@ same_means db a b up vp fit gut m n =
     (pairs_of_kind (codes "grp_member") group_member_pair 3 d e d.group_members e.group_members refl refl refl refl refl pairs) in
     let arrangements = same_set (λ x. pair_row (codes "arrangement") (arrangement_pair x)) Any (λ a b _ _ f. one_arrangement a b f) pair_total arrangement_key d.arrangements e.arrangements (rising _ d.arrangements s.arrangements.rising) (rising _ e.arrangements t.arrangements.rising) (any d.arrangements) (any e.arrangements)
     (pairs_of_kind (codes "arrangement") arrangement_pair 4 d e d.arrangements e.arrangements refl refl refl refl refl pairs) in
-    let gates = same_set gate_row Any (λ a b _ _ f. one_gate a b f) place_total (λ (g : Gate). (g.incident, pointer_text g.path)) a.gates b.gates (rising _ a.gates up.gates.rising) (rising _ b.gates vp.gates.rising) (any a.gates) (any b.gates) (between db 12 (drop 1) _ _ m.1.1.1.1.1.1.0 n.1.1.1.1.1.1.0) in
-    let recipients = same_set recipient_row Any (λ a b _ _ f. one_recipient a b f) receiver_total (λ (r : Recipient). (r.incident, target_key r.target)) a.recipients b.recipients (rising _ a.recipients up.recipients.rising) (rising _ b.recipients vp.recipients.rising) (any a.recipients) (any b.recipients) (between db 14 (drop 1) _ _ m.1.1.1.1.1.1.1.0 n.1.1.1.1.1.1.1.0) in
-    let permissions = same_set permission_row Any (λ a b _ _ f. one_permission a b f) grant_total (λ (x : Permission). ((x.incident, pointer_text x.path), grantee_key x.grantee)) a.permissions b.permissions (rising _ a.permissions up.permissions.rising) (rising _ b.permissions vp.permissions.rising) (any a.permissions) (any b.permissions) (between db 16 (drop 1) _ _ m.1.1.1.1.1.1.1.1.0 n.1.1.1.1.1.1.1.1.0) in
-    let incidents = same_set incident_row IsStored one_incident nat_cmp_total incident_number a.incidents b.incidents (counted incident_number 0 a.incidents up.incidents.numbered.0).1 (counted incident_number 0 b.incidents vp.incidents.numbered.0).1
+    let gates = same_set gate_row Any (λ a b _ _ f. one_gate a b f) gate_total (λ (g : Gate). g) a.gates b.gates (rising _ a.gates up.gates.rising) (rising _ b.gates vp.gates.rising) (any a.gates) (any b.gates) (between db 12 (drop 1) _ _ m.1.1.1.1.1.1.0 n.1.1.1.1.1.1.0) in
+    let recipients = same_set recipient_row Any (λ a b _ _ f. one_recipient a b f) recipient_total (λ (r : Recipient). r) a.recipients b.recipients (rising _ a.recipients up.recipients.rising) (rising _ b.recipients vp.recipients.rising) (any a.recipients) (any b.recipients) (between db 14 (drop 1) _ _ m.1.1.1.1.1.1.1.0 n.1.1.1.1.1.1.1.0) in
+    let permissions = same_set permission_row Any (λ a b _ _ f. one_permission a b f) permission_total (λ (x : Permission). x) a.permissions b.permissions (rising _ a.permissions up.permissions.rising) (rising _ b.permissions vp.permissions.rising) (any a.permissions) (any b.permissions) (between db 16 (drop 1) _ _ m.1.1.1.1.1.1.1.1.0 n.1.1.1.1.1.1.1.1.0) in
+    let incidents = same_set incident_row IsStored one_incident nat_cmp_total incident_number a.incidents b.incidents (counted incident_number 0 a.incidents up.incidents.numbered.0) (counted incident_number 0 b.incidents vp.incidents.numbered.0)
     (all_both _ _ IsStored (λ i p q. (p, q)) a.incidents up.incidents.documents fit.incidents) (all_both _ _ IsStored (λ i p q. (p, q)) b.incidents vp.incidents.documents gut.incidents) (between db 18 (λ r. r) _ _ m.1.1.1.1.1.1.1.1.1.0 n.1.1.1.1.1.1.1.1.1.0) in
     λ i. record {
       directory = record { orgs = orgs i; accounts = accounts i; clients = clients i; communities = communities i; memberships = memberships i; connections = connections i; groups = groups i; group_members = group_members i; arrangements = arrangements i };

@@ -10,7 +10,7 @@ pub mod Partly
 pub mod Means
 pub mod Content
 pub mod Keeps
-pub mod Asked
+pub mod Queries
 pub mod Shown
 pub mod FirstShown
 pub mod Looks

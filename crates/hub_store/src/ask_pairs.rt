@@ -3,7 +3,7 @@
 ghost use Rattle.std.specs.Prelude.{◌≡◌, map};
 ghost use Rattle.std.specs.Option.{option_to_list};
 ghost use Rattle.sqlite.specs.Held.{state};
-ghost use Rattle.hub_store.specs.Asked.{IsRead};
+ghost use Rattle.hub_store.specs.Queries.{IsReadInside};
 ghost use Rattle.hub_store.specs.PairKinds.{pair_between, pairs_from, pairs_to, value_shown, first_shown, second_shown};
 
 use crate::pair_kind::PairKind;
@@ -18,7 +18,7 @@ pub(crate) fn ask_between<S: Alter>(
     b: u32,
 ) -> Result<Vec<Row>, Error>
     ensures same_reference { tx.new.conn.ghost_name ≡ tx.old.conn.ghost_name }
-    ensures read { IsRead (state S.Store tx.old.conn.now) (state S.Store tx.new.conn.now) (λ s rows. rows.items ≡ map value_shown (option_to_list (pair_between kind a b s.directory))) result }
+    ensures read { IsReadInside (state S.Store tx.old.conn.now) (state S.Store tx.new.conn.now) (λ s rows. rows.items ≡ map value_shown (option_to_list (pair_between kind a b s.directory))) result }
 {
     let rows = ask(
         tx,
@@ -35,7 +35,7 @@ pub(crate) fn ask_from<S: Alter>(
     a: u32,
 ) -> Result<Vec<Row>, Error>
     ensures same_reference { tx.new.conn.ghost_name ≡ tx.old.conn.ghost_name }
-    ensures read { IsRead (state S.Store tx.old.conn.now) (state S.Store tx.new.conn.now) (λ s rows. rows.items ≡ map second_shown (pairs_from kind a s.directory)) result }
+    ensures read { IsReadInside (state S.Store tx.old.conn.now) (state S.Store tx.new.conn.now) (λ s rows. rows.items ≡ map second_shown (pairs_from kind a s.directory)) result }
 {
     let rows = ask(
         tx,
@@ -52,7 +52,7 @@ pub(crate) fn ask_to<S: Alter>(
     b: u32,
 ) -> Result<Vec<Row>, Error>
     ensures same_reference { tx.new.conn.ghost_name ≡ tx.old.conn.ghost_name }
-    ensures read { IsRead (state S.Store tx.old.conn.now) (state S.Store tx.new.conn.now) (λ s rows. rows.items ≡ map first_shown (pairs_to kind b s.directory)) result }
+    ensures read { IsReadInside (state S.Store tx.old.conn.now) (state S.Store tx.new.conn.now) (λ s rows. rows.items ≡ map first_shown (pairs_to kind b s.directory)) result }
 {
     let rows = ask(
         tx,

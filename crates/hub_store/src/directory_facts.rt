@@ -4,19 +4,19 @@ ghost use Rattle.std.specs.Prelude.{◌≡◌, ◌&&◌, false};
 ghost use Rattle.sqlite.specs.Held.{state};
 ghost use Rattle.circle.specs.Directory.{has_org, has_community, has_group_member};
 ghost use Rattle.circle.specs.Facts.{exists_in, may_extend_in, owns_in, target_owns_in, is_own_person, stands_in, count_in, facts_of};
-ghost use Rattle.hub_store.specs.Asked.{IsRead, Answers};
+ghost use Rattle.hub_store.specs.Queries.{IsReadInside, Answers};
 ghost use Rattle.hub_store.specs.Looks.{IsLook};
 
 use crate::counts::{count_communities, count_groups, count_orgs, count_persons};
-use crate::directory_lookups::{
-    read_has_community_named, read_has_group_being, read_has_group_named, read_has_group_of,
-    read_has_key, read_has_nominated, read_has_org_named, read_has_person_of, read_has_suspended,
-};
 use crate::find_groups::read_has_group_member;
 use crate::find_numbered::{read_has_community, read_has_org, read_has_person};
-use crate::pair_lookups::{
+use crate::has_pair::{
     read_has_arrangement, read_has_client, read_has_connection, read_has_extender,
     read_has_membership,
+};
+use crate::has_row::{
+    read_has_community_named, read_has_group_being, read_has_group_named, read_has_group_of,
+    read_has_key, read_has_nominated, read_has_org_named, read_has_person_of, read_has_suspended,
 };
 use circle::command::{CircleCommand, CircleFacts};
 use circle::directory::Person;
@@ -25,7 +25,7 @@ use std::alloc::Global;
 
 fn has_both_orgs<S: Alter>(tx: &mut Transaction<'_, S>, org: u32, other: u32) -> Result<bool, Error>
     ensures same_reference { tx.new.conn.ghost_name ≡ tx.old.conn.ghost_name }
-    ensures read { IsRead (state S.Store tx.old.conn.now) (state S.Store tx.new.conn.now) (λ s found. found ≡ (has_org org s.directory && has_org other s.directory)) result }
+    ensures read { IsReadInside (state S.Store tx.old.conn.now) (state S.Store tx.new.conn.now) (λ s found. found ≡ (has_org org s.directory && has_org other s.directory)) result }
 {
     let first = read_has_org(tx, org)?;
     if !first {
@@ -40,7 +40,7 @@ fn has_both_communities<S: Alter>(
     other: u32,
 ) -> Result<bool, Error>
     ensures same_reference { tx.new.conn.ghost_name ≡ tx.old.conn.ghost_name }
-    ensures read { IsRead (state S.Store tx.old.conn.now) (state S.Store tx.new.conn.now) (λ s found. found ≡ (has_community community s.directory && has_community other s.directory)) result }
+    ensures read { IsReadInside (state S.Store tx.old.conn.now) (state S.Store tx.new.conn.now) (λ s found. found ≡ (has_community community s.directory && has_community other s.directory)) result }
 {
     let first = read_has_community(tx, community)?;
     if !first {
@@ -55,7 +55,7 @@ fn has_community_and_org<S: Alter>(
     org: u32,
 ) -> Result<bool, Error>
     ensures same_reference { tx.new.conn.ghost_name ≡ tx.old.conn.ghost_name }
-    ensures read { IsRead (state S.Store tx.old.conn.now) (state S.Store tx.new.conn.now) (λ s found. found ≡ (has_community community s.directory && has_org org s.directory)) result }
+    ensures read { IsReadInside (state S.Store tx.old.conn.now) (state S.Store tx.new.conn.now) (λ s found. found ≡ (has_community community s.directory && has_org org s.directory)) result }
 {
     let first = read_has_community(tx, community)?;
     if !first {
@@ -71,7 +71,7 @@ fn has_member_and_org<S: Alter>(
     org: u32,
 ) -> Result<bool, Error>
     ensures same_reference { tx.new.conn.ghost_name ≡ tx.old.conn.ghost_name }
-    ensures read { IsRead (state S.Store tx.old.conn.now) (state S.Store tx.new.conn.now) (λ s found. found ≡ (has_group_member group member s.directory && has_org org s.directory)) result }
+    ensures read { IsReadInside (state S.Store tx.old.conn.now) (state S.Store tx.new.conn.now) (λ s found. found ≡ (has_group_member group member s.directory && has_org org s.directory)) result }
 {
     let first = read_has_group_member(tx, group, member)?;
     if !first {
@@ -188,7 +188,7 @@ fn stands<S: Alter>(
     command: &CircleCommand,
 ) -> Result<bool, Error>
     ensures same_reference { tx.new.conn.ghost_name ≡ tx.old.conn.ghost_name }
-    ensures read { IsRead (state S.Store tx.old.conn.now) (state S.Store tx.new.conn.now) (λ s stands. stands ≡ stands_in s.directory actor.now command.now) result }
+    ensures read { IsReadInside (state S.Store tx.old.conn.now) (state S.Store tx.new.conn.now) (λ s stands. stands ≡ stands_in s.directory actor.now command.now) result }
 {
     match command {
         CircleCommand::AddOrg { name } => read_has_org_named(tx, name.as_str()),
@@ -243,7 +243,7 @@ fn read_facts<S: Alter>(
     command: &CircleCommand,
 ) -> Result<CircleFacts, Error>
     ensures same_reference { tx.new.conn.ghost_name ≡ tx.old.conn.ghost_name }
-    ensures read { IsRead (state S.Store tx.old.conn.now) (state S.Store tx.new.conn.now) (λ s facts. facts ≡ facts_of s.directory actor.now command.now) result }
+    ensures read { IsReadInside (state S.Store tx.old.conn.now) (state S.Store tx.new.conn.now) (λ s facts. facts ≡ facts_of s.directory actor.now command.now) result }
 {
     let stands = stands(tx, alloc, actor, command)?;
     let exists = knows(tx, alloc, actor, command)?;

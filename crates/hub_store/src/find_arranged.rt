@@ -3,7 +3,7 @@
 ghost use Rattle.std.specs.Prelude.{◌≡◌, false};
 ghost use Rattle.sqlite.specs.Held.{state};
 ghost use Rattle.circle.specs.Reads.{arranged as arranged_with, served_by as organisations_served_by};
-ghost use Rattle.hub_store.specs.Asked.{IsRead, Answers};
+ghost use Rattle.hub_store.specs.Queries.{IsReadInside, Answers};
 
 use crate::ask_pairs::ask_between;
 use crate::from_row::first;
@@ -20,7 +20,7 @@ fn read_arranged<S: Alter>(
     org: u32,
 ) -> Result<Option<Handling>, Error>
     ensures same_reference { tx.new.conn.ghost_name ≡ tx.old.conn.ghost_name }
-    ensures read { IsRead (state S.Store tx.old.conn.now) (state S.Store tx.new.conn.now) (λ s found. found ≡ arranged_with source org s.directory) result }
+    ensures read { IsReadInside (state S.Store tx.old.conn.now) (state S.Store tx.new.conn.now) (λ s found. found ≡ arranged_with source org s.directory) result }
 {
     let rows = ask_between(tx, PairKind::Arrangement, source, org)?;
     first(alloc, &rows)
@@ -32,7 +32,7 @@ fn read_served_by<S: Alter>(
     client: u32,
 ) -> Result<Vec<u32>, Error>
     ensures same_reference { tx.new.conn.ghost_name ≡ tx.old.conn.ghost_name }
-    ensures read { IsRead (state S.Store tx.old.conn.now) (state S.Store tx.new.conn.now) (λ s found. found.items ≡ organisations_served_by client s.directory) result }
+    ensures read { IsReadInside (state S.Store tx.old.conn.now) (state S.Store tx.new.conn.now) (λ s found. found.items ≡ organisations_served_by client s.directory) result }
 {
     read_firsts(tx, alloc, PairKind::Client, client)
 }

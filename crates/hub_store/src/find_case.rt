@@ -3,7 +3,7 @@
 ghost use Rattle.std.specs.Prelude.{◌≡◌, ◌==◌, false, map, filter};
 ghost use Rattle.sqlite.specs.Held.{state};
 ghost use Rattle.hub_core.specs.Reads.{case_gate, case_permission, case_of};
-ghost use Rattle.hub_store.specs.Asked.{IsRead, Answers};
+ghost use Rattle.hub_store.specs.Queries.{IsReadInside, Answers};
 ghost use Rattle.hub_store.specs.Shown.{IsCase};
 
 use crate::find_known::read_known;
@@ -19,7 +19,7 @@ pub(crate) fn read_gates<S: Alter>(
     incident: u32,
 ) -> Result<Vec<Gate>, Error>
     ensures same_reference { tx.new.conn.ghost_name ≡ tx.old.conn.ghost_name }
-    ensures read { IsRead (state S.Store tx.old.conn.now) (state S.Store tx.new.conn.now) (λ s found. found.items ≡ map case_gate (filter (λ g. g.incident == incident) s.gates)) result }
+    ensures read { IsReadInside (state S.Store tx.old.conn.now) (state S.Store tx.new.conn.now) (λ s found. found.items ≡ map case_gate (filter (λ g. g.incident == incident) s.gates)) result }
 {
     let rows = ask(
         tx,
@@ -35,7 +35,7 @@ pub(crate) fn read_permissions<S: Alter>(
     incident: u32,
 ) -> Result<Vec<Permission>, Error>
     ensures same_reference { tx.new.conn.ghost_name ≡ tx.old.conn.ghost_name }
-    ensures read { IsRead (state S.Store tx.old.conn.now) (state S.Store tx.new.conn.now) (λ s found. found.items ≡ map case_permission (filter (λ x. x.incident == incident) s.permissions)) result }
+    ensures read { IsReadInside (state S.Store tx.old.conn.now) (state S.Store tx.new.conn.now) (λ s found. found.items ≡ map case_permission (filter (λ x. x.incident == incident) s.permissions)) result }
 {
     let rows = ask(
         tx,
@@ -53,7 +53,7 @@ fn read_policy<S: Alter>(
     incident: u32,
 ) -> Result<Case, Error>
     ensures same_reference { tx.new.conn.ghost_name ≡ tx.old.conn.ghost_name }
-    ensures read { IsRead (state S.Store tx.old.conn.now) (state S.Store tx.new.conn.now) (λ s case. IsCase source incident s case) result }
+    ensures read { IsReadInside (state S.Store tx.old.conn.now) (state S.Store tx.new.conn.now) (λ s case. IsCase source incident s case) result }
 {
     let gates = read_gates(tx, alloc, incident)?;
     let permissions = read_permissions(tx, alloc, incident)?;
@@ -70,7 +70,7 @@ fn read_case<S: Alter>(
     incident: u32,
 ) -> Result<Option<Case>, Error>
     ensures same_reference { tx.new.conn.ghost_name ≡ tx.old.conn.ghost_name }
-    ensures read { IsRead (state S.Store tx.old.conn.now) (state S.Store tx.new.conn.now) (λ s found. found ≡ case_of incident s) result }
+    ensures read { IsReadInside (state S.Store tx.old.conn.now) (state S.Store tx.new.conn.now) (λ s found. found ≡ case_of incident s) result }
 {
     let known = read_known(tx, alloc, incident)?;
     match known {

@@ -4,7 +4,7 @@ ghost use Rattle.std.specs.Prelude.{◌≡◌, false};
 ghost use Rattle.std.specs.List.{list_any};
 ghost use Rattle.sqlite.specs.Held.{state};
 ghost use Rattle.circle.specs.Reads.{communities_of as communities_joined, share_community as are_in_one_community, are_connected as are_in_connected};
-ghost use Rattle.hub_store.specs.Asked.{IsRead, Answers};
+ghost use Rattle.hub_store.specs.Queries.{IsReadInside, Answers};
 ghost use Rattle.hub_store.specs.ShownPairs.{AreRising, is_one_of, linked_with};
 
 use crate::common_numbers::have_common;
@@ -19,7 +19,7 @@ fn read_communities<S: Alter>(
     org: u32,
 ) -> Result<Vec<u32>, Error>
     ensures same_reference { tx.new.conn.ghost_name ≡ tx.old.conn.ghost_name }
-    ensures read { IsRead (state S.Store tx.old.conn.now) (state S.Store tx.new.conn.now) (λ s found. found.items ≡ communities_joined org s.directory) result }
+    ensures read { IsReadInside (state S.Store tx.old.conn.now) (state S.Store tx.new.conn.now) (λ s found. found.items ≡ communities_joined org s.directory) result }
 {
     read_firsts(tx, alloc, PairKind::Membership, org)
 }
@@ -31,7 +31,7 @@ fn read_share<S: Alter>(
     other: u32,
 ) -> Result<bool, Error>
     ensures same_reference { tx.new.conn.ghost_name ≡ tx.old.conn.ghost_name }
-    ensures read { IsRead (state S.Store tx.old.conn.now) (state S.Store tx.new.conn.now) (λ s found. found ≡ are_in_one_community org other s.directory) result }
+    ensures read { IsReadInside (state S.Store tx.old.conn.now) (state S.Store tx.new.conn.now) (λ s found. found ≡ are_in_one_community org other s.directory) result }
 {
     let own = read_communities(tx, alloc, org)?;
     let others = read_communities(tx, alloc, other)?;
@@ -46,7 +46,7 @@ fn read_linked<S: Alter>(
     others: &[u32],
 ) -> Result<bool, Error>
     ensures same_reference { tx.new.conn.ghost_name ≡ tx.old.conn.ghost_name }
-    ensures read { IsRead (state S.Store tx.old.conn.now) (state S.Store tx.new.conn.now) (λ s found. AreRising others.now → found ≡ list_any (is_one_of others.now) (linked_with community s.directory)) result }
+    ensures read { IsReadInside (state S.Store tx.old.conn.now) (state S.Store tx.new.conn.now) (λ s found. AreRising others.now → found ≡ list_any (is_one_of others.now) (linked_with community s.directory)) result }
 {
     let above = read_seconds(tx, alloc, PairKind::Connection, community)?;
     if have_common(&above, others) {
@@ -63,7 +63,7 @@ fn read_connected<S: Alter>(
     other: u32,
 ) -> Result<bool, Error>
     ensures same_reference { tx.new.conn.ghost_name ≡ tx.old.conn.ghost_name }
-    ensures read { IsRead (state S.Store tx.old.conn.now) (state S.Store tx.new.conn.now) (λ s found. found ≡ are_in_connected org other s.directory) result }
+    ensures read { IsReadInside (state S.Store tx.old.conn.now) (state S.Store tx.new.conn.now) (λ s found. found ≡ are_in_connected org other s.directory) result }
 {
     let own = read_communities(tx, alloc, org)?;
     let others = read_communities(tx, alloc, other)?;

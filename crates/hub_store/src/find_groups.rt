@@ -6,7 +6,7 @@ ghost use Rattle.sqlite.specs.Held.{state};
 ghost use Rattle.circle.specs.Directory.{has_group_member as is_group_member};
 ghost use Rattle.circle.specs.Reads.{group_of, memberships_in_groups, groups_joined as groups_joined_by, active_groups_joined as active_groups_joined_by};
 ghost use Rattle.hub_core.specs.Reads.{groups_of};
-ghost use Rattle.hub_store.specs.Asked.{IsRead, Answers};
+ghost use Rattle.hub_store.specs.Queries.{IsReadInside, Answers};
 ghost use Rattle.hub_store.specs.ShownPairs.{joined_of, joined_group as joined_with, groups_in};
 
 use crate::ask_pairs::ask_to;
@@ -14,9 +14,10 @@ use crate::from_row::{all, first};
 use crate::joined_rows::Joined;
 use crate::pair_kind::PairKind;
 use crate::query::ask;
-use crate::read_pairs::{read_firsts, read_has_pair};
+use crate::read_pairs::read_has_pair;
 use circle::directory::{Group, Person};
-use hub_core::JoinedGroup;
+use hub_core::{GroupsJoined, JoinedGroup};
+use policy::Numbers;
 use sqlite::{Alter, Connection, Error, Transaction, params};
 use std::alloc::{AllocError, Global};
 
@@ -26,20 +27,9 @@ pub(crate) fn read_has_group_member<S: Alter>(
     org: u32,
 ) -> Result<bool, Error>
     ensures same_reference { tx.new.conn.ghost_name ≡ tx.old.conn.ghost_name }
-    ensures read { IsRead (state S.Store tx.old.conn.now) (state S.Store tx.new.conn.now) (λ s found. found ≡ is_group_member group org s.directory) result }
+    ensures read { IsReadInside (state S.Store tx.old.conn.now) (state S.Store tx.new.conn.now) (λ s found. found ≡ is_group_member group org s.directory) result }
 {
     read_has_pair(tx, PairKind::GroupMember, group, org)
-}
-
-fn read_groups_joined<S: Alter>(
-    tx: &mut Transaction<'_, S>,
-    alloc: Global,
-    org: u32,
-) -> Result<Vec<u32>, Error>
-    ensures same_reference { tx.new.conn.ghost_name ≡ tx.old.conn.ghost_name }
-    ensures read { IsRead (state S.Store tx.old.conn.now) (state S.Store tx.new.conn.now) (λ s found. found.items ≡ groups_joined_by org s.directory) result }
-{
-    read_firsts(tx, alloc, PairKind::GroupMember, org)
 }
 
 /// The organisation's rows among the members of groups.
@@ -49,7 +39,7 @@ fn read_memberships<S: Alter>(
     org: u32,
 ) -> Result<Vec<Joined>, Error>
     ensures same_reference { tx.new.conn.ghost_name ≡ tx.old.conn.ghost_name }
-    ensures read { IsRead (state S.Store tx.old.conn.now) (state S.Store tx.new.conn.now) (λ s found. found.items ≡ map joined_of (memberships_in_groups org s.directory)) result }
+    ensures read { IsReadInside (state S.Store tx.old.conn.now) (state S.Store tx.new.conn.now) (λ s found. found.items ≡ map joined_of (memberships_in_groups org s.directory)) result }
 {
     let rows = ask_to(tx, PairKind::GroupMember, org)?;
     all(alloc, &rows)
@@ -61,7 +51,7 @@ pub(crate) fn read_group<S: Alter>(
     number: u32,
 ) -> Result<Option<Group>, Error>
     ensures same_reference { tx.new.conn.ghost_name ≡ tx.old.conn.ghost_name }
-    ensures read { IsRead (state S.Store tx.old.conn.now) (state S.Store tx.new.conn.now) (λ s found. found ≡ group_of number s.directory) result }
+    ensures read { IsReadInside (state S.Store tx.old.conn.now) (state S.Store tx.new.conn.now) (λ s found. found ≡ group_of number s.directory) result }
 {
     let rows = ask(
         tx,
@@ -104,7 +94,7 @@ fn read_groups<S: Alter>(
     org: u32,
 ) -> Result<Vec<JoinedGroup>, Error>
     ensures same_reference { tx.new.conn.ghost_name ≡ tx.old.conn.ghost_name }
-    ensures read { IsRead (state S.Store tx.old.conn.now) (state S.Store tx.new.conn.now) (λ s found. found.items ≡ groups_in org s.directory) result }
+    ensures read { IsReadInside (state S.Store tx.old.conn.now) (state S.Store tx.new.conn.now) (λ s found. found.items ≡ groups_in org s.directory) result }
 {
     let members = read_memberships(tx, alloc, org)?;
     let mut groups = Vec::new(alloc);
@@ -113,6 +103,12 @@ fn read_groups<S: Alter>(
         push_joined(&mut groups, *member, group)?;
     }
     Ok(groups)
+}
+
+fn all_numbers(alloc: Global, groups: &[JoinedGroup]) -> Result<Vec<u32>, AllocError>
+    ensures { IfOk result (λ found. found.items ≡ map (λ g. g.number) groups.now) }
+{
+    groups.iter().map(|group| group.number).collect(alloc)
 }
 
 fn active_numbers(alloc: Global, groups: &[JoinedGroup]) -> Result<Vec<u32>, AllocError>
@@ -125,17 +121,21 @@ fn active_numbers(alloc: Global, groups: &[JoinedGroup]) -> Result<Vec<u32>, All
         .collect(alloc)
 }
 
-fn read_active_groups<S: Alter>(
+fn read_groups_joined<S: Alter>(
     tx: &mut Transaction<'_, S>,
     alloc: Global,
     org: u32,
-) -> Result<Vec<u32>, Error>
+) -> Result<GroupsJoined, Error>
     ensures same_reference { tx.new.conn.ghost_name ≡ tx.old.conn.ghost_name }
-    ensures read { IsRead (state S.Store tx.old.conn.now) (state S.Store tx.new.conn.now) (λ s found. found.items ≡ active_groups_joined_by org s.directory) result }
+    ensures read { IsReadInside (state S.Store tx.old.conn.now) (state S.Store tx.new.conn.now) (λ s found. found ≡ record { all = groups_joined_by org s.directory; active = active_groups_joined_by org s.directory }) result }
 {
     let groups = read_groups(tx, alloc, org)?;
-    let numbers = active_numbers(alloc, &groups)?;
-    Ok(numbers)
+    let all = all_numbers(alloc, &groups)?;
+    let active = active_numbers(alloc, &groups)?;
+    Ok(GroupsJoined {
+        all: Numbers::new(all),
+        active: Numbers::new(active),
+    })
 }
 
 /// Whether the organisation is a member of the group.
@@ -154,34 +154,18 @@ pub(crate) fn has_group_member<S: Alter>(
     found
 }
 
-/// The groups of which the organisation is a member, by number.
+/// The groups of which the organisation is a member, by number, and those of them that are active.
 pub(crate) fn groups_joined<S: Alter>(
     conn: &mut Connection<S>,
     alloc: Global,
     org: u32,
-) -> Result<Vec<u32>, Error>
+) -> Result<GroupsJoined, Error>
     requires { conn.old.in_transaction ≡ false }
     ensures idle { conn.new.in_transaction ≡ false }
-    ensures answers { Answers (state S.Store conn.old) (state S.Store conn.new) (λ s found. found.items ≡ groups_joined_by org s.directory) result }
+    ensures answers { Answers (state S.Store conn.old) (state S.Store conn.new) (λ s found. found ≡ record { all = groups_joined_by org s.directory; active = active_groups_joined_by org s.directory }) result }
 {
     let mut tx = conn.transaction();
     let found = read_groups_joined(&mut tx, alloc, org);
-    tx.rollback();
-    found
-}
-
-/// Those of them that are active.
-pub(crate) fn active_groups_joined<S: Alter>(
-    conn: &mut Connection<S>,
-    alloc: Global,
-    org: u32,
-) -> Result<Vec<u32>, Error>
-    requires { conn.old.in_transaction ≡ false }
-    ensures idle { conn.new.in_transaction ≡ false }
-    ensures answers { Answers (state S.Store conn.old) (state S.Store conn.new) (λ s found. found.items ≡ active_groups_joined_by org s.directory) result }
-{
-    let mut tx = conn.transaction();
-    let found = read_active_groups(&mut tx, alloc, org);
     tx.rollback();
     found
 }

@@ -4,7 +4,7 @@ ghost use Rattle.std.specs.Prelude.{◌≡◌, false, option_map};
 ghost use Rattle.sqlite.specs.Held.{state};
 ghost use Rattle.hub_core.specs.Facts.{known};
 ghost use Rattle.hub_core.specs.State.{incident_of};
-ghost use Rattle.hub_store.specs.Asked.{IsRead, Answers};
+ghost use Rattle.hub_store.specs.Queries.{IsReadInside, Answers};
 
 use crate::from_row::first;
 use crate::query::ask;
@@ -19,7 +19,7 @@ pub(crate) fn read_known<S: Alter>(
     incident: u32,
 ) -> Result<Option<Known>, Error>
     ensures same_reference { tx.new.conn.ghost_name ≡ tx.old.conn.ghost_name }
-    ensures read { IsRead (state S.Store tx.old.conn.now) (state S.Store tx.new.conn.now) (λ s found. found ≡ option_map known (incident_of incident s)) result }
+    ensures read { IsReadInside (state S.Store tx.old.conn.now) (state S.Store tx.new.conn.now) (λ s found. found ≡ option_map known (incident_of incident s)) result }
 {
     let rows = ask(
         tx,

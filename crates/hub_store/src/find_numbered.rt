@@ -4,7 +4,7 @@ ghost use Rattle.std.specs.Prelude.{◌≡◌, false};
 ghost use Rattle.sqlite.specs.Held.{state};
 ghost use Rattle.circle.specs.Directory.{has_org as is_org, has_person as is_person, has_community as is_community};
 ghost use Rattle.circle.specs.Reads.{person_of as person_numbered};
-ghost use Rattle.hub_store.specs.Asked.{IsRead, Answers};
+ghost use Rattle.hub_store.specs.Queries.{IsReadInside, Answers};
 
 use crate::any_row::is_any;
 use crate::from_row::first;
@@ -18,7 +18,7 @@ pub(crate) fn read_has_org<S: Alter>(
     number: u32,
 ) -> Result<bool, Error>
     ensures same_reference { tx.new.conn.ghost_name ≡ tx.old.conn.ghost_name }
-    ensures read { IsRead (state S.Store tx.old.conn.now) (state S.Store tx.new.conn.now) (λ s found. found ≡ is_org number s.directory) result }
+    ensures read { IsReadInside (state S.Store tx.old.conn.now) (state S.Store tx.new.conn.now) (λ s found. found ≡ is_org number s.directory) result }
 {
     let rows = ask(
         tx,
@@ -33,7 +33,7 @@ pub(crate) fn read_has_community<S: Alter>(
     number: u32,
 ) -> Result<bool, Error>
     ensures same_reference { tx.new.conn.ghost_name ≡ tx.old.conn.ghost_name }
-    ensures read { IsRead (state S.Store tx.old.conn.now) (state S.Store tx.new.conn.now) (λ s found. found ≡ is_community number s.directory) result }
+    ensures read { IsReadInside (state S.Store tx.old.conn.now) (state S.Store tx.new.conn.now) (λ s found. found ≡ is_community number s.directory) result }
 {
     let rows = ask(
         tx,
@@ -49,7 +49,7 @@ pub(crate) fn read_person_of<S: Alter>(
     number: u32,
 ) -> Result<Option<Person>, Error>
     ensures same_reference { tx.new.conn.ghost_name ≡ tx.old.conn.ghost_name }
-    ensures read { IsRead (state S.Store tx.old.conn.now) (state S.Store tx.new.conn.now) (λ s found. found ≡ person_numbered number s.directory) result }
+    ensures read { IsReadInside (state S.Store tx.old.conn.now) (state S.Store tx.new.conn.now) (λ s found. found ≡ person_numbered number s.directory) result }
 {
     let rows = ask(
         tx,
@@ -65,7 +65,7 @@ pub(crate) fn read_has_person<S: Alter>(
     number: u32,
 ) -> Result<bool, Error>
     ensures same_reference { tx.new.conn.ghost_name ≡ tx.old.conn.ghost_name }
-    ensures read { IsRead (state S.Store tx.old.conn.now) (state S.Store tx.new.conn.now) (λ s found. found ≡ is_person number s.directory) result }
+    ensures read { IsReadInside (state S.Store tx.old.conn.now) (state S.Store tx.new.conn.now) (λ s found. found ≡ is_person number s.directory) result }
 {
     let found = read_person_of(tx, alloc, number)?;
     Ok(found.is_some())

@@ -3,7 +3,7 @@
 ghost use Rattle.std.specs.Prelude.{◌≡◌, false};
 ghost use Rattle.sqlite.specs.Held.{state};
 ghost use Rattle.hub_core.specs.Reads.{person_by_key};
-ghost use Rattle.hub_store.specs.Asked.{IsRead, Answers};
+ghost use Rattle.hub_store.specs.Queries.{IsReadInside, Answers};
 
 use crate::from_row::first;
 use crate::query::ask;
@@ -17,7 +17,7 @@ pub(crate) fn read_person<S: Alter>(
     key: &[u8; 32],
 ) -> Result<Option<Person>, Error>
     ensures same_reference { tx.new.conn.ghost_name ≡ tx.old.conn.ghost_name }
-    ensures read { IsRead (state S.Store tx.old.conn.now) (state S.Store tx.new.conn.now) (λ s found. found ≡ person_by_key key.now s) result }
+    ensures read { IsReadInside (state S.Store tx.old.conn.now) (state S.Store tx.new.conn.now) (λ s found. found ≡ person_by_key key.now s) result }
 {
     let rows = ask(
         tx,

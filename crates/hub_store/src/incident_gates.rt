@@ -7,7 +7,7 @@ ghost use Rattle.iodef_tree.specs.Text.{is_root, same_path};
 ghost use Rattle.hub_core.specs.Edits.{edited};
 ghost use Rattle.hub_core.specs.State.{same_group, has_gate as is_gate, class_gates as class_gates_in};
 ghost use Rattle.hub_core.specs.declared.edit.Edit.TheVariants as edit;
-ghost use Rattle.hub_store.specs.Asked.{IsRead, Answers};
+ghost use Rattle.hub_store.specs.Queries.{IsReadInside, Answers};
 
 use crate::find_case::read_gates;
 use crate::small_counts::counted;
@@ -92,7 +92,7 @@ pub(crate) fn read_has_gate<S: Alter>(
     group: Option<u32>,
 ) -> Result<bool, Error>
     ensures same_reference { tx.new.conn.ghost_name ≡ tx.old.conn.ghost_name }
-    ensures read { IsRead (state S.Store tx.old.conn.now) (state S.Store tx.new.conn.now) (λ s found. found ≡ is_gate incident path.now level group s) result }
+    ensures read { IsReadInside (state S.Store tx.old.conn.now) (state S.Store tx.new.conn.now) (λ s found. found ≡ is_gate incident path.now level group s) result }
 {
     let gates = read_gates(tx, alloc, incident)?;
     Ok(is_among(&gates, path, level, group))
@@ -105,7 +105,7 @@ pub(crate) fn read_class_gates<S: Alter>(
     incident: u32,
 ) -> Result<u32, Error>
     ensures same_reference { tx.new.conn.ghost_name ≡ tx.old.conn.ghost_name }
-    ensures read { IsRead (state S.Store tx.old.conn.now) (state S.Store tx.new.conn.now) (λ s found. found ≡ class_gates_in incident s.gates) result }
+    ensures read { IsReadInside (state S.Store tx.old.conn.now) (state S.Store tx.new.conn.now) (λ s found. found ≡ class_gates_in incident s.gates) result }
 {
     let gates = read_gates(tx, alloc, incident)?;
     Ok(counted(count_at_classes(&gates)))
@@ -119,7 +119,7 @@ pub(crate) fn read_class_gates_with<S: Alter>(
     path: &Path,
 ) -> Result<u32, Error>
     ensures same_reference { tx.new.conn.ghost_name ≡ tx.old.conn.ghost_name }
-    ensures read { IsRead (state S.Store tx.old.conn.now) (state S.Store tx.new.conn.now) (λ s found. (level : ℕ) → (group : Option ℕ) → found ≡ class_gates_in incident (edited (edit.PutGate (record { incident = incident; path = path.now; level = level; group = group })) (edited (edit.TakeGate incident path.now) s)).gates) result }
+    ensures read { IsReadInside (state S.Store tx.old.conn.now) (state S.Store tx.new.conn.now) (λ s found. (level : ℕ) → (group : Option ℕ) → found ≡ class_gates_in incident (edited (edit.PutGate (record { incident = incident; path = path.now; level = level; group = group })) (edited (edit.TakeGate incident path.now) s)).gates) result }
 {
     let gates = read_gates(tx, alloc, incident)?;
     Ok(counted(count_at_classes_with(&gates, path)))

@@ -7,7 +7,7 @@ ghost use Rattle.iodef_tree.specs.Text.{same_path};
 ghost use Rattle.hub_core.specs.Edits.{edited};
 ghost use Rattle.hub_core.specs.State.{same_grantee, has_permission as is_permission, permissions_of};
 ghost use Rattle.hub_core.specs.declared.edit.Edit.TheVariants as edit;
-ghost use Rattle.hub_store.specs.Asked.{IsRead, Answers};
+ghost use Rattle.hub_store.specs.Queries.{IsReadInside, Answers};
 
 use crate::find_case::read_permissions;
 use crate::small_counts::counted;
@@ -60,7 +60,7 @@ pub(crate) fn read_has_permission<S: Alter>(
     grantee: Grantee,
 ) -> Result<bool, Error>
     ensures same_reference { tx.new.conn.ghost_name ≡ tx.old.conn.ghost_name }
-    ensures read { IsRead (state S.Store tx.old.conn.now) (state S.Store tx.new.conn.now) (λ s found. found ≡ is_permission incident path.now grantee s) result }
+    ensures read { IsReadInside (state S.Store tx.old.conn.now) (state S.Store tx.new.conn.now) (λ s found. found ≡ is_permission incident path.now grantee s) result }
 {
     let permissions = read_permissions(tx, alloc, incident)?;
     Ok(is_among(&permissions, path, grantee))
@@ -73,7 +73,7 @@ pub(crate) fn read_permission_count<S: Alter>(
     incident: u32,
 ) -> Result<u32, Error>
     ensures same_reference { tx.new.conn.ghost_name ≡ tx.old.conn.ghost_name }
-    ensures read { IsRead (state S.Store tx.old.conn.now) (state S.Store tx.new.conn.now) (λ s found. found ≡ permissions_of incident s.permissions) result }
+    ensures read { IsReadInside (state S.Store tx.old.conn.now) (state S.Store tx.new.conn.now) (λ s found. found ≡ permissions_of incident s.permissions) result }
 {
     let permissions = read_permissions(tx, alloc, incident)?;
     Ok(counted(permissions.len()))
@@ -88,7 +88,7 @@ pub(crate) fn read_permissions_without<S: Alter>(
     grantee: Grantee,
 ) -> Result<u32, Error>
     ensures same_reference { tx.new.conn.ghost_name ≡ tx.old.conn.ghost_name }
-    ensures read { IsRead (state S.Store tx.old.conn.now) (state S.Store tx.new.conn.now) (λ s found. found ≡ permissions_of incident (edited (edit.TakePermission incident path.now grantee) s).permissions) result }
+    ensures read { IsReadInside (state S.Store tx.old.conn.now) (state S.Store tx.new.conn.now) (λ s found. found ≡ permissions_of incident (edited (edit.TakePermission incident path.now grantee) s).permissions) result }
 {
     let permissions = read_permissions(tx, alloc, incident)?;
     Ok(counted(count_beside(&permissions, path, grantee)))

@@ -5,7 +5,7 @@ ghost use Rattle.sqlite.specs.Held.{state};
 ghost use Rattle.hub_core.specs.Edits.{edited};
 ghost use Rattle.hub_core.specs.State.{target_key, same_target, has_recipient as is_recipient, recipients_of};
 ghost use Rattle.hub_core.specs.declared.edit.Edit.TheVariants as edit;
-ghost use Rattle.hub_store.specs.Asked.{IsRead, Answers};
+ghost use Rattle.hub_store.specs.Queries.{IsReadInside, Answers};
 ghost use Rattle.hub_store.specs.Shown.{IsShownBy};
 ghost use Rattle.hub_store.specs.TargetsShown.{target_shown, targets_of};
 
@@ -62,7 +62,7 @@ fn read_targets<S: Alter>(
     incident: u32,
 ) -> Result<Vec<Target>, Error>
     ensures same_reference { tx.new.conn.ghost_name ≡ tx.old.conn.ghost_name }
-    ensures read { IsRead (state S.Store tx.old.conn.now) (state S.Store tx.new.conn.now) (λ s found. found.items ≡ targets_of incident s) result }
+    ensures read { IsReadInside (state S.Store tx.old.conn.now) (state S.Store tx.new.conn.now) (λ s found. found.items ≡ targets_of incident s) result }
 {
     let rows = ask(
         tx,
@@ -79,7 +79,7 @@ pub(crate) fn read_has_recipient<S: Alter>(
     target: Target,
 ) -> Result<bool, Error>
     ensures same_reference { tx.new.conn.ghost_name ≡ tx.old.conn.ghost_name }
-    ensures read { IsRead (state S.Store tx.old.conn.now) (state S.Store tx.new.conn.now) (λ s found. found ≡ is_recipient incident target s) result }
+    ensures read { IsReadInside (state S.Store tx.old.conn.now) (state S.Store tx.new.conn.now) (λ s found. found ≡ is_recipient incident target s) result }
 {
     let (kind, number) = numbers::target_key(target);
     let rows = ask(
@@ -97,7 +97,7 @@ pub(crate) fn read_recipient_count<S: Alter>(
     incident: u32,
 ) -> Result<u32, Error>
     ensures same_reference { tx.new.conn.ghost_name ≡ tx.old.conn.ghost_name }
-    ensures read { IsRead (state S.Store tx.old.conn.now) (state S.Store tx.new.conn.now) (λ s found. found ≡ recipients_of incident s.recipients) result }
+    ensures read { IsReadInside (state S.Store tx.old.conn.now) (state S.Store tx.new.conn.now) (λ s found. found ≡ recipients_of incident s.recipients) result }
 {
     let targets = read_targets(tx, alloc, incident)?;
     Ok(counted(targets.len()))
@@ -111,7 +111,7 @@ pub(crate) fn read_recipients_without<S: Alter>(
     target: Target,
 ) -> Result<u32, Error>
     ensures same_reference { tx.new.conn.ghost_name ≡ tx.old.conn.ghost_name }
-    ensures read { IsRead (state S.Store tx.old.conn.now) (state S.Store tx.new.conn.now) (λ s found. found ≡ recipients_of incident (edited (edit.TakeRecipient (record { incident = incident; target = target })) s).recipients) result }
+    ensures read { IsReadInside (state S.Store tx.old.conn.now) (state S.Store tx.new.conn.now) (λ s found. found ≡ recipients_of incident (edited (edit.TakeRecipient (record { incident = incident; target = target })) s).recipients) result }
 {
     let targets = read_targets(tx, alloc, incident)?;
     Ok(counted(count_beside(&targets, target)))

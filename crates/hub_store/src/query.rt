@@ -4,7 +4,7 @@ ghost use Rattle.std.specs.Prelude.{◌≡◌, IfOk, OnOk, OnErr, IsTrue};
 ghost use Rattle.sqlite.specs.State.{HasCleanDisk, KeepsCommit, IsUnchanged, Survives};
 ghost use Rattle.sqlite.specs.Held.{state};
 ghost use Rattle.sqlite.specs.Values.{bound};
-ghost use Rattle.hub_store.specs.Asked.{HasShown};
+ghost use Rattle.hub_store.specs.Queries.{HasShown};
 
 use sqlite::types::ValueRef;
 use sqlite::{Alter, Error, Row, Transaction};

@@ -8,7 +8,7 @@ use crate::directory_facts::find_circle_facts;
 use crate::find_arranged::{arranged, served_by};
 use crate::find_communities::{are_connected, communities_of, share_community};
 use crate::find_document::find_document;
-use crate::find_groups::{active_groups_joined, groups_joined, has_group_member};
+use crate::find_groups::{groups_joined, has_group_member};
 use crate::find_known::find_known;
 use crate::find_number::number_of;
 use crate::find_numbered::{has_community, has_org, has_person, person_of};
@@ -19,7 +19,7 @@ use crate::told::told;
 use circle::command::{CircleCommand, CircleFacts};
 use circle::directory::{Handling, Person};
 use circle::text::Text;
-use hub_core::{Known, LookUps, ShelfFault, Target};
+use hub_core::{GroupsJoined, Known, LookUps, ShelfFault, Target};
 use iodef_tree::{Document, Path};
 use policy::Grantee;
 use sqlite::Alter;
@@ -83,15 +83,9 @@ impl<S: Alter> LookUps for SqlShelf<S> {
         told(&mut self.failures, found)
     }
 
-    fn groups_joined(&mut self, org: u32) -> Result<Vec<u32>, ShelfFault> {
+    fn groups_joined(&mut self, org: u32) -> Result<GroupsJoined, ShelfFault> {
         self.may_ask()?;
         let found = groups_joined(&mut self.conn, self.alloc, org);
-        told(&mut self.failures, found)
-    }
-
-    fn active_groups_joined(&mut self, org: u32) -> Result<Vec<u32>, ShelfFault> {
-        self.may_ask()?;
-        let found = active_groups_joined(&mut self.conn, self.alloc, org);
         told(&mut self.failures, found)
     }
 

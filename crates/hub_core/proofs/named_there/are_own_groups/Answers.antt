@@ -7,7 +7,7 @@ use Rattle.hub_core.proofs.named_there.are_own_groups.Goals as goal
 
 pub returns-then-branch-clause-value : goal.returns-then-branch-clause-value
 returns-then-branch-clause-value g c = λ clean s has.
-    let mid : g.L.LookUps.doubts c.is_own_group.new.rows ≡ 0 = omega (arith, c.are_all_own.ensures.kept.doubt) in
+    let mid : g.L.LookUps.doubts c.is_own_group.new.shelf ≡ 0 = omega (arith, c.are_all_own.ensures.kept.doubt) in
     let own = c.in_ok-is_own_group.ensures in
     let a = c.args.actor.now in
     let first : true ≡ is_own_group s a c.args.group = sym c.if-branch.true ∙ own.value mid s has in

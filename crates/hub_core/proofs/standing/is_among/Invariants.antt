@@ -9,6 +9,6 @@ abbrev pub invariant-loop-org : goal.invariant-loop-org
 invariant-loop-org g l =
     let shelf = g.L.LookUps in
     record {
-      kept : IsKept shelf.has shelf.doubts shelf.failed shelf.may_leave l.initial.rows l.rows;
-      none : shelf.doubts l.rows ≡ 0 → (s : State) → shelf.has l.initial.rows s → list_any (λ org. org == l.source || has_recipient l.incident (target.Org org) s) (take l.org-index l.orgs) ≡ false;
+      kept : IsKept shelf.has shelf.doubts shelf.failed shelf.may_leave l.initial.shelf l.shelf;
+      none : shelf.doubts l.shelf ≡ 0 → (s : State) → shelf.has l.initial.shelf s → list_any (λ org. org == l.source || has_recipient l.incident (target.Org org) s) (take l.org-index l.orgs) ≡ false;
     }

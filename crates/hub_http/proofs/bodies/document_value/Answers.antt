@@ -4,7 +4,7 @@ use Rattle.serde_json.specs.Written.{has_float}
 use Rattle.std.proofs.lemmas.Result.{IfOk-weaker}
 use Rattle.iodef_tree.specs.Json.{data_of}
 use Rattle.iodef_tree.specs.View.{forest}
-use Rattle.hub_http.proofs.Whole.{document-whole}
+use Rattle.hub_http.proofs.NoFloats.{document-whole}
 use Rattle.hub_http.proofs.bodies.document_value.Goals as goal
 
 pub returns-clause-whole : goal.returns-clause-whole

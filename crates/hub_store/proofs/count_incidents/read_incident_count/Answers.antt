@@ -4,7 +4,7 @@ use Rattle.hub_core.specs.State.{incident_number}
 use Rattle.hub_store.specs.Rows.{incident_row}
 use Rattle.hub_store.proofs.Answering.{read_shown}
 use Rattle.hub_store.proofs.Highest.{highest_listed, reads_count}
-use Rattle.hub_store.proofs.IncidentTexts.{highest_incident, highest_incident_is, highest_incident_plain}
+use Rattle.hub_store.proofs.TextsHighest.{highest_incident, highest_incident_is, highest_incident_plain}
 use Rattle.hub_store.proofs.count_incidents.read_incident_count.Goals as goal
 
 pub returns-clause-read : goal.returns-clause-read

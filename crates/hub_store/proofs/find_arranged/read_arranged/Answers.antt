@@ -5,7 +5,7 @@ use Rattle.hub_store.specs.PairKinds.{pair_between, value_shown}
 use Rattle.hub_store.specs.ShownPairs.{handling_shown}
 use Rattle.hub_store.specs.declared.pair_kind.PairKind.TheVariants as kind
 use Rattle.hub_store.proofs.DirectorySets.{arranged_rows}
-use Rattle.hub_store.proofs.MoreReading.{read_made}
+use Rattle.hub_store.proofs.Reading.{read_made}
 use Rattle.hub_store.proofs.PairRows.{reads_alone}
 use Rattle.hub_store.proofs.find_arranged.read_arranged.Goals as goal
 

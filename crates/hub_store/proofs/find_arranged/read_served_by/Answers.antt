@@ -4,7 +4,7 @@ use Rattle.hub_store.specs.Pairs.{Pair}
 use Rattle.hub_store.specs.PairKinds.{pairs_to}
 use Rattle.hub_store.specs.Rows.{client_pair}
 use Rattle.hub_store.specs.declared.pair_kind.PairKind.TheVariants as kind
-use Rattle.hub_store.proofs.MoreReading.{read_turned}
+use Rattle.hub_store.proofs.Reading.{read_turned}
 use Rattle.hub_store.proofs.PairRows.{viewed_pairs}
 use Rattle.hub_store.proofs.find_arranged.read_served_by.Goals as goal
 

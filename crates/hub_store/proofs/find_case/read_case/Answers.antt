@@ -3,7 +3,7 @@ use Rattle.sqlite.specs.Held.{state}
 use Rattle.hub_core.specs.Facts.{known}
 use Rattle.hub_core.specs.State.{incident_of}
 use Rattle.hub_core.specs.Reads.{case_of}
-use Rattle.hub_store.specs.Asked.{IsRead}
+use Rattle.hub_store.specs.Queries.{IsReadInside}
 use Rattle.hub_store.specs.Shown.{IsCase}
 use Rattle.hub_store.proofs.Incidents.{case_is}
 use Rattle.hub_store.proofs.Reading.{read_then, read_gives}
@@ -17,6 +17,6 @@ returns-in_ok-case-in-Some-clause-read g c =
     let n = c.args.incident in
     let k = c.in-Some.known in
     let case = c.in_ok-case-in-Some.case in
-    let first : IsRead old mid (λ s found. found ≡ option_map known (incident_of n s)) (Ok (Some k)) = rw c.in-Some.is at c.in_ok-known.ensures.read in
+    let first : IsReadInside old mid (λ s found. found ≡ option_map known (incident_of n s)) (Ok (Some k)) = rw c.in-Some.is at c.in_ok-known.ensures.read in
     let both = read_then old mid new (λ s found. found ≡ option_map known (incident_of n s)) (IsCase k.source n) (Some k) (Ok case) first c.in_ok-case-in-Some.ensures.read in
     read_gives old new (λ s it. (Some k ≡ option_map known (incident_of n s)) × IsCase k.source n s it) (λ s found. found ≡ case_of n s) case (Some case) both (λ s sound it. case_is s n k case it.0 it.1)

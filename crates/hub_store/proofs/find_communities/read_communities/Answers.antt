@@ -4,7 +4,7 @@ use Rattle.hub_store.specs.Pairs.{Pair}
 use Rattle.hub_store.specs.PairKinds.{pairs_to}
 use Rattle.hub_store.specs.declared.pair_kind.PairKind.TheVariants as kind
 use Rattle.hub_store.proofs.DirectorySets.{communities_are}
-use Rattle.hub_store.proofs.MoreReading.{read_turned}
+use Rattle.hub_store.proofs.Reading.{read_turned}
 use Rattle.hub_store.proofs.find_communities.read_communities.Goals as goal
 
 pub returns-clause-read : goal.returns-clause-read

@@ -5,7 +5,7 @@ use Rattle.hub_store.specs.ShownPairs.{joined_of, joined_shown}
 use Rattle.hub_store.specs.declared.pair_kind.PairKind.TheVariants as kind
 use Rattle.hub_store.proofs.DirectorySets.{membership_rows}
 use Rattle.hub_store.proofs.Listed.{reads_all}
-use Rattle.hub_store.proofs.MoreReading.{read_made}
+use Rattle.hub_store.proofs.Reading.{read_made}
 use Rattle.hub_store.proofs.find_groups.read_memberships.Goals as goal
 
 pub returns-clause-read : goal.returns-clause-read

@@ -4,7 +4,7 @@ use Rattle.sqlite.specs.Held.{state}
 use Rattle.hub_core.specs.State.{target_key}
 use Rattle.hub_store.proofs.Answering.{read_shown}
 use Rattle.hub_store.proofs.Recipients.{recipient_is_shown}
-use Rattle.hub_store.proofs.IncidentTexts.{recipient_being, recipient_being_is, recipient_being_plain}
+use Rattle.hub_store.proofs.Texts.{recipient_being, recipient_being_is, recipient_being_plain}
 use Rattle.hub_store.proofs.incident_recipients.read_has_recipient.Goals as goal
 
 pub returns-clause-read : goal.returns-clause-read

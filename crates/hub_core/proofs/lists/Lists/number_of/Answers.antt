@@ -3,11 +3,12 @@ use Rattle.std.specs.List.{slice_get, find}
 use Rattle.hub_core.specs.InOrder.{is_alike}
 use Rattle.hub_core.specs.Orders.{named_cmp}
 use Rattle.hub_core.specs.declared.rows.Named.{Named}
-use Rattle.hub_core.proofs.Found.{first_found, name_found}
+use Rattle.circle.proofs.Lookup.{first_having}
+use Rattle.hub_core.proofs.Found.{name_found}
 use Rattle.hub_core.proofs.lists.Lists.number_of.Goals as goal
 
 chain : (key : Named) (names from rows : List Named) → from ≡ names → rows ≡ filter (λ (e : Named). is_alike named_cmp e key) from → slice_get rows 0 ≡ find (λ (e : Named). is_alike named_cmp e key) names
-chain key names from rows same is = ap (λ l. slice_get l 0) is ∙ (ap (λ l. slice_get (filter (λ (e : Named). is_alike named_cmp e key) l) 0) same ∙ first_found (λ (e : Named). is_alike named_cmp e key) names)
+chain key names from rows same is = ap (λ l. slice_get l 0) is ∙ (ap (λ l. slice_get (filter (λ (e : Named). is_alike named_cmp e key) l) 0) same ∙ first_having (λ (e : Named). is_alike named_cmp e key) names)
 
 pub returns-in-None : goal.returns-in-None
 returns-in-None c = λ d apart.

@@ -1,0 +1,11 @@
+use Rattle.std.proofs.Common.{◌≡◌, is_some, ◌∙◌}
+use Rattle.hub_store.specs.PairKinds.{pair_between}
+use Rattle.hub_store.specs.Rows.{connection_pair}
+use Rattle.hub_store.specs.declared.pair_kind.PairKind.TheVariants as kind
+use Rattle.hub_store.proofs.Extending.{pair_there}
+use Rattle.hub_store.proofs.Reading.{read_turned}
+use Rattle.hub_store.proofs.has_pair.read_has_connection.Goals as goal
+
+pub returns-clause-read : goal.returns-clause-read
+returns-clause-read g c =
+    read_turned _ _ (λ s found. found ≡ is_some (pair_between kind.Connection c.args.low c.args.high s.directory)) _ c.read_has_pair.result c.read_has_pair.ensures.read (λ s found sound is. is ∙ pair_there connection_pair c.args.low c.args.high s.directory.connections)

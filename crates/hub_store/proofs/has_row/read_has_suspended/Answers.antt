@@ -1,0 +1,15 @@
+use Rattle.std.proofs.Common.{◌≡◌, ◌==◌, not}
+use Rattle.circle.specs.declared.directory.Account.{Account}
+use Rattle.circle.specs.declared.directory.Person.{Person}
+use Rattle.circle.specs.Directory.{account_number, has_suspended}
+use Rattle.circle.specs.Reads.{person_in, person_of}
+use Rattle.hub_store.proofs.Finding.{once_numbered}
+use Rattle.hub_store.proofs.Reading.{read_gives}
+use Rattle.hub_store.proofs.Whether.{one_passes}
+use Rattle.hub_store.proofs.has_row.read_has_suspended.Goals as goal
+
+pub returns-clause-read : goal.returns-clause-read
+returns-clause-read g c =
+    let n = c.args.person in
+    read_gives _ _ (λ s found. found ≡ person_of n s.directory) (λ s found. found ≡ has_suspended n s.directory) c.in_ok-found.found c.is_suspended.result c.in_ok-found.ensures.read
+    (λ s sound is. one_passes person_in (λ (a : Account). a.person.number == n) (λ (p : Person). not p.active) s.directory.accounts c.in_ok-found.found c.is_suspended.result (once_numbered account_number n s.directory.accounts sound.directory.accounts.numbered.0) is c.is_suspended.ensures)

@@ -1,8 +1,0 @@
-use Rattle.hub_store.proofs.Telling.{read_keeps, read_value}
-use Rattle.hub_store.proofs.sql_shelf.look_ups.SqlShelfLookUps.active_groups_joined.Goals as goal
-
-pub returns-clause-value : goal.returns-clause-value
-returns-clause-value g c clean s has = read_value g.S.Store c.args.self.now.conn c.active_groups_joined-found.new.conn _ _ _ c.active_groups_joined-found.ensures.answers c.told.ensures.value clean s has
-
-pub returns-clause-kept : goal.returns-clause-kept
-returns-clause-kept g c = read_keeps g.S.Store (λ d. d.conn) (λ d. d.failures) _ _ _ _ _ c.active_groups_joined-found.ensures.answers c.told.ensures.cause

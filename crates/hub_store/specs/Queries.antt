@@ -1,0 +1,31 @@
+-- What a query in a transaction leaves and shows.
+use Rattle.std.specs.Prelude.{List, ℕ, Result, IfOk, OnOk}
+use Rattle.sqlite_value.specs.Order.{Row}
+use Rattle.sqlite_trees.specs.declared.store.Store as store
+use Rattle.sqlite.specs.declared.error.Error.{Error}
+use Rattle.sqlite.specs.Held.{Held, state}
+use Rattle.sqlite.specs.State.{State, HasCleanDisk, KeepsCommit, IsUnchanged, Shown, Survives}
+use Rattle.hub_core.specs.State as core
+use Rattle.hub_core.specs.Sound.{IsSound}
+use Rattle.hub_store.specs.Content.{Has}
+use Rattle.hub_store.specs.Keeps.{Knows, KeepsCommitted}
+use Rattle.hub_store.specs.Means.{Holds}
+
+-- the text was prepared, which changed nothing, and has shown these rows
+pub record HasShown {S : Type 0} (g : store.Ghosts S) (text : List ℕ) (params : Row) (old new : Held S) (rows : List Row) : Type 0 where
+  pub mid : Held S
+  pub same : IsUnchanged (state g old) (state g mid)
+  pub shown : Shown text params (state g mid) (state g new) rows
+
+-- A read in a transaction: it commits nothing, after an Ok all is as it was, and the answer is right of the state that the tables stand for.
+pub record IsReadInside {T : Type 0} (old new : State) (Right : core.State → T → Type 0) (result : Result T Error) : Type 0 where
+  pub survives : Survives old new (λ _. ⊥)
+  pub kept : HasCleanDisk new → Knows old → KeepsCommit old new
+  pub same : HasCleanDisk new → Knows old → OnOk result (IsUnchanged old new)
+  pub right : HasCleanDisk new → (s : core.State) → Holds old.now s → IsSound s → IfOk result (Right s)
+
+-- A read of the connection: the last commit stands, nothing is committed, and the answer is right of the state that it is.
+pub record Answers {T : Type 0} (old new : State) (Right : core.State → T → Type 0) (result : Result T Error) : Type 0 where
+  pub survives : Survives old new (λ _. ⊥)
+  pub kept : HasCleanDisk new → Knows old → KeepsCommitted old new
+  pub right : HasCleanDisk new → (s : core.State) → Has old s → IfOk result (Right s)
