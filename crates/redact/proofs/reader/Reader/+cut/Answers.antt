@@ -1,6 +1,7 @@
 use Rattle.std.proofs.Common.{vec_len, List, Bool, ◌||◌, ◌≡◌, ◌==◌, ℕ, suc, ◌+◌, [], ◌∷◌, ◌++◌, map, length, get_or, drop, take, refl, sym, ◌∙◌, ap, subst, arith, add-one, decimal, false, true, rules, if◌then◌else◌, Option, Some, None, option_map, is_some, append-nil, eqb-true}
 use Rattle.std.proofs.lemmas.List.{drop_all, map-append, at_drop_more}
 use Rattle.std.proofs.lemmas.Bool.{eqb-false}
+use Rattle.std.proofs.lemmas.Grind.{common_steps}
 use Rattle.std.specs.List.{AllByRecursion, cons_option, list_any}
 use Rattle.iodef_tree.specs.declared.text.Text.{Text}
 use Rattle.iodef_tree.specs.declared.object.Member.{Member}
@@ -224,3 +225,10 @@ cut_items-loop-i-preserved t c =
           (rw split at inv.goes) (simp (inv.goes.path, inv.goes.place, map-append token_of st.place.items, c.len-n.ensures ∙ c.loop-i.kept.ok.0) at c.in_ok-x.ensures.goes)));
       quiet = λ none. let z = pushed-none own ks o (ap length (sym grown) ∙ none) in c.in_ok-x.ensures.quiet z.0 ∙ inv.quiet z.1;
     }
+
+-- the check would find these two only after a long search
+pub cut_array-returns-then-is_empty-clause-goes : goal.cut_array-returns-then-is_empty-clause-goes
+cut_array-returns-then-is_empty-clause-goes t c = grind (arith, common_steps)
+
+pub cut_array-returns-clause-goes : goal.cut_array-returns-clause-goes
+cut_array-returns-clause-goes t c = grind (arith, common_steps)
