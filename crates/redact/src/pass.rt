@@ -10,8 +10,7 @@ ghost use Rattle.redact.specs.Judged.{inside, is_end, put_attributes, with_label
 ghost use Rattle.redact.specs.Pass.{judgment_by};
 ghost use Rattle.redact.specs.Here.{carries, judged_for, LiesAhead};
 ghost use Rattle.iodef_tree.specs.Text.{Tokens};
-ghost use Rattle.iodef_tree.specs.Tree.{many, says};
-ghost use Rattle.iodef_tree.specs.Tree.{Content};
+ghost use Rattle.iodef_tree.specs.Tree.{Content, many, says};
 ghost use Rattle.policy.specs.Inherited.{hides};
 ghost use Rattle.std.specs.List.{AllByRecursion};
 ghost use Rattle.iodef_tree.specs.Filled.{IsFilled, IsMemberFilled, IsItemFilled};
