@@ -90,12 +90,7 @@ last-push P m = ap (last_place None) (members-push P m) ∙ last-append None (me
 -- an array may begin behind a member that is none
 pub first-behind_one : (P : List (Text × Member)) (n : Text) (i : Item) (name : Bytes) →
     is_numbered (last_place None (members_forest (P ++ (n, One i) ∷ []))) name (Some 0) ≡ true
-first-behind_one P n i name =
-    ap (λ o. is_numbered o name (Some 0)) (
-    last-push P (n, One i)
-    ∙ ap (λ m. last_place (last_place None (members_forest P)) (member_front n m end)) (bodies-One i)
-    ∙ last-front (last_place None (members_forest P)) n None (body i) end
-    )
+first-behind_one P n i name = search (arith, bodies-One, last-front, last-push)
 
 -- the standing of the last element of an array that has one
 last-array : (o : Option SiblingPlace) (n : Bytes) (bs : List Body) → has_some bs ≡ true → last_place o (elements n 0 bs end) ≡ Some (n, Some (length bs - 1))

@@ -27,8 +27,7 @@ deeper (l ∷ ls) d h = let k = h.0 in (omega arith, deeper ls d h.1)
 lines-deep : (f : Forest) (d : ℕ) → AreDeep d (lines d f)
 lines-deep end d = tt
 lines-deep (leaf i rest) d = (omega arith, lines-deep rest d)
-lines-deep (branch n o kids rest) d =
-    (omega arith, all-append (λ (l : Line). d ≤ l.depth) (lines (suc d) kids) (lines d rest) (deeper (lines (suc d) kids) d (lines-deep kids (suc d))) (lines-deep rest d))
+lines-deep (branch n o kids rest) d = search (arith, all-append, deeper, (lines-deep kids (suc d)), (lines-deep rest d))
 
 lines-shallow : (f : Forest) (d : ℕ) → IsShallow d (lines d f)
 lines-shallow end d = tt
