@@ -6,8 +6,9 @@ ghost use Rattle.hub_core.specs.Lists.{AreInOrder};
 ghost use Rattle.hub_core.specs.State.{gate_cmp, is_gate_at, is_recipient_being, is_permission_being, class_gates, recipients_of, permissions_of, same_target, same_grantee};
 
 use crate::lists::Lists;
-use crate::of_incident::{is_same_permission, is_same_target};
+use crate::of_incident::is_same_permission;
 use crate::request::Target;
+use crate::row_keys::is_same_target;
 use crate::rows::{PlacedGate, PlacedPermission};
 use crate::state::Recipient;
 use iodef_tree::Path;

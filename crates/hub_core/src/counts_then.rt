@@ -13,11 +13,11 @@ ghost use Rattle.hub_core.specs.declared.request.Target.{Target as Addressed};
 ghost use Rattle.iodef_tree.specs.Text.{Tokens};
 ghost use Rattle.policy.specs.declared.permission.Grantee.{Grantee as Granted};
 
-use crate::list_shelf::number_of;
 use crate::look_ups::LookUps;
 use crate::named_there::path_of;
 use crate::request::{Request, Target};
 use crate::shelf::ShelfFault;
+use crate::small_counts::capped;
 use circle::text::Text;
 use policy::Grantee;
 use std::alloc::Global;
@@ -106,7 +106,7 @@ fn find_gates<L: LookUps>(
     ensures cause { IsErrOf result ShelfFault.Failed → HasFailed (L.failed shelf.old) (L.failed shelf.new) }
 {
     let count = match request {
-        Request::Replace { gates, .. } => number_of(gates.as_slice().len()),
+        Request::Replace { gates, .. } => capped(gates.as_slice().len()),
         Request::Redistribute { incident, path, .. } => {
             gates_redistributed(shelf, alloc, *incident, path)?
         }
@@ -177,7 +177,7 @@ fn gates_posted(request: &Request) -> u32
     ensures { (s : State) → (actor : Actor) → is_some (looked_up s (incident_asked request.now)) ≡ false → result ≡ gates_then s actor request.now }
 {
     match request {
-        Request::Post { gates, .. } => number_of(gates.as_slice().len()),
+        Request::Post { gates, .. } => capped(gates.as_slice().len()),
         _ => 0,
     }
 }

@@ -1,10 +1,11 @@
 //! What the shelf in memory looks up.
 use crate::facts::Known;
-use crate::list_shelf::{ListShelf, number_of};
+use crate::list_shelf::ListShelf;
 use crate::look_ups::{GroupsJoined, LookUps};
 use crate::request::Target;
 use crate::rows::Named;
 use crate::shelf::ShelfFault;
+use crate::small_counts::capped;
 use circle::command::{CircleCommand, CircleFacts};
 use circle::directory::{Handling, Person};
 use circle::text::Text;
@@ -134,23 +135,23 @@ impl LookUps for ListShelf {
     }
 
     fn class_gates(&mut self, incident: u32) -> Result<u32, ShelfFault> {
-        Ok(number_of(ListShelf::class_gates(self, incident)))
+        Ok(capped(ListShelf::class_gates(self, incident)))
     }
 
     fn class_gates_with(&mut self, incident: u32, path: &Path) -> Result<u32, ShelfFault> {
-        Ok(number_of(ListShelf::class_gates_with(self, incident, path)))
+        Ok(capped(ListShelf::class_gates_with(self, incident, path)))
     }
 
     fn recipient_count(&mut self, incident: u32) -> Result<u32, ShelfFault> {
-        Ok(number_of(ListShelf::recipient_count(self, incident)))
+        Ok(capped(ListShelf::recipient_count(self, incident)))
     }
 
     fn recipients_without(&mut self, incident: u32, target: Target) -> Result<u32, ShelfFault> {
-        Ok(number_of(ListShelf::recipients_without(self, incident, target)))
+        Ok(capped(ListShelf::recipients_without(self, incident, target)))
     }
 
     fn permission_count(&mut self, incident: u32) -> Result<u32, ShelfFault> {
-        Ok(number_of(ListShelf::permission_count(self, incident)))
+        Ok(capped(ListShelf::permission_count(self, incident)))
     }
 
     fn permissions_without(
@@ -159,6 +160,6 @@ impl LookUps for ListShelf {
         path: &Path,
         grantee: Grantee,
     ) -> Result<u32, ShelfFault> {
-        Ok(number_of(ListShelf::permissions_without(self, incident, path, grantee)))
+        Ok(capped(ListShelf::permissions_without(self, incident, path, grantee)))
     }
 }

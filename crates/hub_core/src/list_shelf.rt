@@ -16,6 +16,7 @@ use crate::reply::{Entry, JoinedGroup};
 use crate::request::{Request, Target};
 use crate::rows::Named;
 use crate::shelf::{Shelf, ShelfFault};
+use crate::small_counts::capped;
 use crate::standing::standing_by;
 use crate::state::Incident;
 use circle::directory::Person;
@@ -100,7 +101,7 @@ impl ListShelf {
     pub(crate) fn incident_count(&self) -> u32
         ensures { result ≡ min (length self.now.incidents) 4294967295 }
     {
-        number_of(self.lists.incidents.as_slice().len())
+        capped(self.lists.incidents.as_slice().len())
     }
 
     /// How many class gates the incident has.
@@ -180,17 +181,6 @@ impl ListShelf {
         self.directory.apply(changes.directory)?;
         self.lists.make_all(changes.rows);
         Ok(())
-    }
-}
-
-/// The number, as far as a u32 counts.
-pub(crate) fn number_of(count: usize) -> u32
-    ensures { result ≡ min count 4294967295 }
-{
-    if count <= u32::MAX as usize {
-        count as u32
-    } else {
-        u32::MAX
     }
 }
 

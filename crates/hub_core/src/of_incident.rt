@@ -16,6 +16,7 @@ use crate::in_order::{rows_alike, rows_of};
 use crate::lists::Lists;
 use crate::reply::Entry;
 use crate::request::Target;
+use crate::row_keys::{are_same_groups, is_same_grantee, is_same_target};
 use crate::rows::{Named, PlacedGate, PlacedPermission};
 use crate::state::{Incident, Recipient};
 use iodef_tree::Path;
@@ -220,26 +221,6 @@ fn is_same_gate(gate: &PlacedGate, path: &Path, level: u32, group: Option<u32>) 
     gate.path == *path && u32::from(gate.level) == level && are_same_groups(gate.group, group)
 }
 
-fn are_same_groups(one: Option<u32>, other: Option<u32>) -> bool
-    ensures { result ≡ same_group one other }
-{
-    match (one, other) {
-        (None, None) => true,
-        (Some(one), Some(other)) => one == other,
-        (Some(_), None) | (None, Some(_)) => false,
-    }
-}
-
-pub(crate) fn is_same_target(one: Target, other: Target) -> bool
-    ensures { result ≡ same_target one other }
-{
-    match (one, other) {
-        (Target::Person(one), Target::Person(other)) => one == other,
-        (Target::Org(one), Target::Org(other)) => one == other,
-        (Target::Person(_), Target::Org(_)) | (Target::Org(_), Target::Person(_)) => false,
-    }
-}
-
 pub(crate) fn is_same_permission(
     permission: &PlacedPermission,
     path: &Path,
@@ -249,16 +230,4 @@ pub(crate) fn is_same_permission(
 {
     let permission = permission.permission();
     permission.path == *path && is_same_grantee(permission.grantee, grantee)
-}
-
-fn is_same_grantee(one: Grantee, other: Grantee) -> bool
-    ensures { result ≡ same_grantee one other }
-{
-    match (one, other) {
-        (Grantee::Person(one), Grantee::Person(other)) => one == other,
-        (Grantee::Org(one), Grantee::Org(other)) => one == other,
-        (Grantee::Community(one), Grantee::Community(other)) => one == other,
-        (Grantee::Group(one), Grantee::Group(other)) => one == other,
-        _ => false,
-    }
 }

@@ -2,11 +2,12 @@
 ghost use Rattle.std.specs.Prelude.{◌≡◌, IfOk, string_bytes};
 ghost use Rattle.iodef_tree.specs.Pointer.{pointer_text};
 ghost use Rattle.circle.specs.Ordered.{pair_cmp};
-ghost use Rattle.hub_core.specs.State.{grantee_key, target_key};
+ghost use Rattle.hub_core.specs.State.{grantee_key as key_of_grantee};
 ghost use Rattle.hub_core.specs.Orders.{named};
 
 use crate::in_order::Row;
 use crate::request::Target;
+use crate::row_keys::{grantee_key, target_key};
 use crate::state::{Gate, Incident, Permission, Recipient};
 use circle::text::Text;
 use policy::Grantee;
@@ -159,27 +160,6 @@ impl Row for PlacedPermission {
     }
 }
 
-/// Kind and number.
-fn key_of_grantee(grantee: Grantee) -> (u32, u32)
-    ensures { (result.0, result.1) ≡ grantee_key grantee }
-{
-    match grantee {
-        Grantee::Person(number) => (0, number),
-        Grantee::Org(number) => (1, number),
-        Grantee::Community(number) => (2, number),
-        Grantee::Group(number) => (3, number),
-    }
-}
-
-fn key_of_target(target: Target) -> (u32, u32)
-    ensures { (result.0, result.1) ≡ target_key target }
-{
-    match target {
-        Target::Person(number) => (0, number),
-        Target::Org(number) => (1, number),
-    }
-}
-
 fn compare_pairs(ours: (u32, u32), theirs: (u32, u32)) -> Ordering
     ensures { result ≡ pair_cmp (ours.0, ours.1) (theirs.0, theirs.1) }
 {
@@ -191,9 +171,9 @@ fn compare_pairs(ours: (u32, u32), theirs: (u32, u32)) -> Ordering
 }
 
 fn compare_grantees(ours: Grantee, theirs: Grantee) -> Ordering
-    ensures { result ≡ pair_cmp (grantee_key ours) (grantee_key theirs) }
+    ensures { result ≡ pair_cmp (key_of_grantee ours) (key_of_grantee theirs) }
 {
-    compare_pairs(key_of_grantee(ours), key_of_grantee(theirs))
+    compare_pairs(grantee_key(ours), grantee_key(theirs))
 }
 
 impl Row for Recipient {
@@ -212,9 +192,7 @@ impl Row for Recipient {
     fn compare(&self, other: &Recipient) -> Ordering {
         match self.incident.cmp(&other.incident) {
             Ordering::Less => Ordering::Less,
-            Ordering::Equal => {
-                compare_pairs(key_of_target(self.target), key_of_target(other.target))
-            }
+            Ordering::Equal => { compare_pairs(target_key(self.target), target_key(other.target)) }
             Ordering::Greater => Ordering::Greater,
         }
     }

@@ -12,9 +12,8 @@ ghost use Rattle.hub_store.specs.Means.{Holds};
 ghost use Rattle.hub_store.specs.Makes.{Makes};
 
 use crate::directory_edits::make_row;
-use crate::numbers::{grantee_key, target_key};
 use crate::statement::run;
-use hub_core::{Edit, Gate, Incident, Permission, Recipient};
+use hub_core::{Edit, Gate, Incident, Permission, Recipient, grantee_key, target_key};
 use iodef_tree::Path;
 use policy::Grantee;
 use sqlite::{Alter, Error, Transaction, params};

@@ -10,21 +10,11 @@ ghost use Rattle.hub_core.specs.declared.edit.Edit.TheVariants as edit;
 ghost use Rattle.hub_store.specs.Queries.{IsReadInside, Answers};
 
 use crate::find_case::read_gates;
-use crate::small_counts::counted;
+use hub_core::{are_same_groups, capped};
 use iodef_tree::Path;
 use policy::Gate;
 use sqlite::{Alter, Connection, Error, Transaction};
 use std::alloc::Global;
-
-fn are_same_groups(one: Option<u32>, other: Option<u32>) -> bool
-    ensures { result ≡ same_group one other }
-{
-    match (one, other) {
-        (None, None) => true,
-        (Some(one), Some(other)) => one == other,
-        (Some(_), None) | (None, Some(_)) => false,
-    }
-}
 
 fn is_same_gate(gate: &Gate, path: &Path, level: u32, group: Option<u32>) -> bool
     ensures { result ≡ (same_path gate.now.path path.now && (gate.now.level == level && same_group gate.now.group group)) }
@@ -108,7 +98,7 @@ pub(crate) fn read_class_gates<S: Alter>(
     ensures read { IsReadInside (state S.Store tx.old.conn.now) (state S.Store tx.new.conn.now) (λ s found. found ≡ class_gates_in incident s.gates) result }
 {
     let gates = read_gates(tx, alloc, incident)?;
-    Ok(counted(count_at_classes(&gates)))
+    Ok(capped(count_at_classes(&gates)))
 }
 
 /// How many it would have with a gate at this path, in the place of the one that stands there, in a transaction.
@@ -122,7 +112,7 @@ pub(crate) fn read_class_gates_with<S: Alter>(
     ensures read { IsReadInside (state S.Store tx.old.conn.now) (state S.Store tx.new.conn.now) (λ s found. (level : ℕ) → (group : Option ℕ) → found ≡ class_gates_in incident (edited (edit.PutGate (record { incident = incident; path = path.now; level = level; group = group })) (edited (edit.TakeGate incident path.now) s)).gates) result }
 {
     let gates = read_gates(tx, alloc, incident)?;
-    Ok(counted(count_at_classes_with(&gates, path)))
+    Ok(capped(count_at_classes_with(&gates, path)))
 }
 
 /// Whether an incident has this gate.

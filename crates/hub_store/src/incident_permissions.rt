@@ -10,23 +10,11 @@ ghost use Rattle.hub_core.specs.declared.edit.Edit.TheVariants as edit;
 ghost use Rattle.hub_store.specs.Queries.{IsReadInside, Answers};
 
 use crate::find_case::read_permissions;
-use crate::small_counts::counted;
+use hub_core::{capped, is_same_grantee};
 use iodef_tree::Path;
 use policy::{Grantee, Permission};
 use sqlite::{Alter, Connection, Error, Transaction};
 use std::alloc::Global;
-
-fn is_same_grantee(one: Grantee, other: Grantee) -> bool
-    ensures { result ≡ same_grantee one other }
-{
-    match (one, other) {
-        (Grantee::Person(one), Grantee::Person(other)) => one == other,
-        (Grantee::Org(one), Grantee::Org(other)) => one == other,
-        (Grantee::Community(one), Grantee::Community(other)) => one == other,
-        (Grantee::Group(one), Grantee::Group(other)) => one == other,
-        _ => false,
-    }
-}
 
 fn is_same_permission(permission: &Permission, path: &Path, grantee: Grantee) -> bool
     ensures { result ≡ (same_path permission.now.path path.now && same_grantee permission.now.grantee grantee) }
@@ -76,7 +64,7 @@ pub(crate) fn read_permission_count<S: Alter>(
     ensures read { IsReadInside (state S.Store tx.old.conn.now) (state S.Store tx.new.conn.now) (λ s found. found ≡ permissions_of incident s.permissions) result }
 {
     let permissions = read_permissions(tx, alloc, incident)?;
-    Ok(counted(permissions.len()))
+    Ok(capped(permissions.len()))
 }
 
 /// How many it would have without the one at this path for this grantee, in a transaction.
@@ -91,7 +79,7 @@ pub(crate) fn read_permissions_without<S: Alter>(
     ensures read { IsReadInside (state S.Store tx.old.conn.now) (state S.Store tx.new.conn.now) (λ s found. found ≡ permissions_of incident (edited (edit.TakePermission incident path.now grantee) s).permissions) result }
 {
     let permissions = read_permissions(tx, alloc, incident)?;
-    Ok(counted(count_beside(&permissions, path, grantee)))
+    Ok(capped(count_beside(&permissions, path, grantee)))
 }
 
 /// Whether an incident has this permission.

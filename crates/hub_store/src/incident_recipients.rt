@@ -11,10 +11,8 @@ ghost use Rattle.hub_store.specs.TargetsShown.{target_shown, targets_of};
 
 use crate::any_row::is_any;
 use crate::from_row::{FromRow, STRANGE, all};
-use crate::numbers;
 use crate::query::ask;
-use crate::small_counts::counted;
-use hub_core::Target;
+use hub_core::{Target, capped, is_same_target};
 use sqlite::{Alter, Connection, Error, Row, Transaction, params};
 use std::alloc::Global;
 
@@ -34,16 +32,6 @@ impl FromRow for Target {
     fn from_row(_alloc: Global, row: &Row) -> Result<Target, Error> {
         let kind: u32 = row.get(0)?;
         target_of(kind, row.get(1)?)
-    }
-}
-
-fn is_same_target(one: Target, other: Target) -> bool
-    ensures { result ≡ same_target one other }
-{
-    match (one, other) {
-        (Target::Person(one), Target::Person(other)) => one == other,
-        (Target::Org(one), Target::Org(other)) => one == other,
-        (Target::Person(_), Target::Org(_)) | (Target::Org(_), Target::Person(_)) => false,
     }
 }
 
@@ -81,7 +69,7 @@ pub(crate) fn read_has_recipient<S: Alter>(
     ensures same_reference { tx.new.conn.ghost_name ≡ tx.old.conn.ghost_name }
     ensures read { IsReadInside (state S.Store tx.old.conn.now) (state S.Store tx.new.conn.now) (λ s found. found ≡ is_recipient incident target s) result }
 {
-    let (kind, number) = numbers::target_key(target);
+    let (kind, number) = hub_core::target_key(target);
     let rows = ask(
         tx,
         "SELECT target FROM recipient WHERE incident = ?1 AND kind = ?2 AND target = ?3",
@@ -100,7 +88,7 @@ pub(crate) fn read_recipient_count<S: Alter>(
     ensures read { IsReadInside (state S.Store tx.old.conn.now) (state S.Store tx.new.conn.now) (λ s found. found ≡ recipients_of incident s.recipients) result }
 {
     let targets = read_targets(tx, alloc, incident)?;
-    Ok(counted(targets.len()))
+    Ok(capped(targets.len()))
 }
 
 /// How many it would have without this one, in a transaction.
@@ -114,7 +102,7 @@ pub(crate) fn read_recipients_without<S: Alter>(
     ensures read { IsReadInside (state S.Store tx.old.conn.now) (state S.Store tx.new.conn.now) (λ s found. found ≡ recipients_of incident (edited (edit.TakeRecipient (record { incident = incident; target = target })) s).recipients) result }
 {
     let targets = read_targets(tx, alloc, incident)?;
-    Ok(counted(count_beside(&targets, target)))
+    Ok(capped(count_beside(&targets, target)))
 }
 
 /// Whether an incident is addressed to this target.

@@ -34,7 +34,6 @@ mod pair_kind;
 mod person_rows;
 mod query;
 mod read_pairs;
-mod small_counts;
 mod sql_shelf;
 mod statement;
 mod tables;

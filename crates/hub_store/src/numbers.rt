@@ -1,12 +1,9 @@
 //! The numbers that stand for names in the tables.
 
 ghost use Rattle.std.specs.Prelude.{◌≡◌};
-ghost use Rattle.hub_core.specs.State.{target_key as key_of_target, grantee_key as key_of_grantee};
 ghost use Rattle.hub_store.specs.Rows.{role_number as number_of_role, handling_number as number_of_handling, one_if as number_of_flag};
 
 use circle::directory::{Handling, Role};
-use hub_core::Target;
-use policy::Grantee;
 
 pub(crate) fn role_number(role: Role) -> u32
     ensures { result ≡ number_of_role role }
@@ -35,26 +32,4 @@ pub(crate) fn one_if(flag: bool) -> u32
     ensures { result ≡ number_of_flag flag }
 {
     if flag { 1 } else { 0 }
-}
-
-/// The kind and the number.
-pub(crate) fn target_key(target: Target) -> (u32, u32)
-    ensures { result ≡ key_of_target target }
-{
-    match target {
-        Target::Person(number) => (0, number),
-        Target::Org(number) => (1, number),
-    }
-}
-
-/// The kind and the number.
-pub(crate) fn grantee_key(grantee: Grantee) -> (u32, u32)
-    ensures { result ≡ key_of_grantee grantee }
-{
-    match grantee {
-        Grantee::Person(number) => (0, number),
-        Grantee::Org(number) => (1, number),
-        Grantee::Community(number) => (2, number),
-        Grantee::Group(number) => (3, number),
-    }
 }

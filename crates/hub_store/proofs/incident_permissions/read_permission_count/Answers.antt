@@ -7,4 +7,4 @@ pub returns-clause-read : goal.returns-clause-read
 returns-clause-read g c =
     let all = c.in_ok-permissions.permissions in
     let as_many : vec_len all ≡ length all.items = omega (arith, all.ok) in
-    read_gives _ _ _ _ _ _ c.in_ok-permissions.ensures.read (λ s sound is. c.counted.ensures ∙ (ap (λ m. min m 4294967295) (c.len.ensures ∙ as_many) ∙ permissions_counted s c.args.incident all.items is sound))
+    read_gives _ _ _ _ _ _ c.in_ok-permissions.ensures.read (λ s sound is. c.capped.ensures ∙ (ap (λ m. min m 4294967295) (c.len.ensures ∙ as_many) ∙ permissions_counted s c.args.incident all.items is sound))

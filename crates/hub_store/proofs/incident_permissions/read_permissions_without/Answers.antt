@@ -5,4 +5,4 @@ use Rattle.hub_store.proofs.incident_permissions.read_permissions_without.Goals 
 
 pub returns-clause-read : goal.returns-clause-read
 returns-clause-read g c = read_gives _ _ _ _ _ _ c.in_ok-permissions.ensures.read (λ s sound is.
-    c.counted.ensures ∙ (ap (λ m. min m 4294967295) c.count_beside.ensures ∙ permissions_beside s c.args.incident c.deref.result.now (c.deref.ensures.value ∙ is) sound c.args.path.now c.args.grantee))
+    c.capped.ensures ∙ (ap (λ m. min m 4294967295) c.count_beside.ensures ∙ permissions_beside s c.args.incident c.deref.result.now (c.deref.ensures.value ∙ is) sound c.args.path.now c.args.grantee))

@@ -5,4 +5,4 @@ use Rattle.hub_store.proofs.incident_recipients.read_recipients_without.Goals as
 
 pub returns-clause-read : goal.returns-clause-read
 returns-clause-read g c = read_gives _ _ _ _ _ _ c.in_ok-targets.ensures.read (λ s sound is.
-    c.counted.ensures ∙ (ap (λ m. min m 4294967295) c.count_beside.ensures ∙ recipients_beside s c.args.incident c.deref.result.now (c.deref.ensures.value ∙ is) sound c.args.target))
+    c.capped.ensures ∙ (ap (λ m. min m 4294967295) c.count_beside.ensures ∙ recipients_beside s c.args.incident c.deref.result.now (c.deref.ensures.value ∙ is) sound c.args.target))

@@ -7,6 +7,6 @@ use Rattle.hub_core.proofs.list_look_ups.ListShelfLookUps.permissions_without.Go
 
 pub returns-clause-value : goal.returns-clause-value
 returns-clause-value c = λ clean s has.
-    c.number_of.ensures
+    c.capped.ensures
     ∙ permissions_told_left s c.args.incident c.args.path.now c.args.grantee c.permissions_without.result has.1
     (c.permissions_without.ensures ∙ ap (λ (t : State). permissions_of c.args.incident (edited (edit.TakePermission c.args.incident c.args.path.now c.args.grantee) t).permissions) has.0)

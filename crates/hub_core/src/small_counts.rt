@@ -1,9 +1,8 @@
 //! Counts as numbers of 32 bits.
-
 ghost use Rattle.std.specs.Prelude.{◌≡◌, min};
 
 /// The count, as far as a u32 counts.
-pub(crate) fn counted(count: usize) -> u32
+pub fn capped(count: usize) -> u32
     ensures { result ≡ min count 4294967295 }
 {
     if count <= u32::MAX as usize {

@@ -1,0 +1,61 @@
+//! What recipients and permissions are told apart by: the keys of targets and grantees, and when two of them, or two
+//! groups, are the same.
+ghost use Rattle.std.specs.Prelude.{◌≡◌};
+ghost use Rattle.hub_core.specs.State.{target_key as key_of_target, grantee_key as key_of_grantee, same_group, same_target, same_grantee};
+
+use crate::request::Target;
+use policy::Grantee;
+
+/// Kind and number.
+pub fn target_key(target: Target) -> (u32, u32)
+    ensures { result ≡ key_of_target target }
+{
+    match target {
+        Target::Person(number) => (0, number),
+        Target::Org(number) => (1, number),
+    }
+}
+
+/// Kind and number.
+pub fn grantee_key(grantee: Grantee) -> (u32, u32)
+    ensures { result ≡ key_of_grantee grantee }
+{
+    match grantee {
+        Grantee::Person(number) => (0, number),
+        Grantee::Org(number) => (1, number),
+        Grantee::Community(number) => (2, number),
+        Grantee::Group(number) => (3, number),
+    }
+}
+
+pub fn is_same_target(one: Target, other: Target) -> bool
+    ensures { result ≡ same_target one other }
+{
+    match (one, other) {
+        (Target::Person(one), Target::Person(other)) => one == other,
+        (Target::Org(one), Target::Org(other)) => one == other,
+        (Target::Person(_), Target::Org(_)) | (Target::Org(_), Target::Person(_)) => false,
+    }
+}
+
+pub fn is_same_grantee(one: Grantee, other: Grantee) -> bool
+    ensures { result ≡ same_grantee one other }
+{
+    match (one, other) {
+        (Grantee::Person(one), Grantee::Person(other)) => one == other,
+        (Grantee::Org(one), Grantee::Org(other)) => one == other,
+        (Grantee::Community(one), Grantee::Community(other)) => one == other,
+        (Grantee::Group(one), Grantee::Group(other)) => one == other,
+        _ => false,
+    }
+}
+
+pub fn are_same_groups(one: Option<u32>, other: Option<u32>) -> bool
+    ensures { result ≡ same_group one other }
+{
+    match (one, other) {
+        (None, None) => true,
+        (Some(one), Some(other)) => one == other,
+        (Some(_), None) | (None, Some(_)) => false,
+    }
+}
