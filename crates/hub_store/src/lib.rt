@@ -1,4 +1,27 @@
-//! The tables of the hub in SQL.
+//! The hub's shelf over SQL tables.
+//!
+//! To read first: the contracts of [`SqlShelf`]. It is a `Shelf` of `hub_core`: each read is its function of the state that
+//! the tables stand for, and `apply` makes its edits in one transaction, all or none. What a store has, what a crash
+//! leaves of it, and why it isn't opened stand in `specs/`, in this order:
+//!
+//! 1. `Tables` and `Versions`: the schema of version 1, and the version that a store tells.
+//! 2. `Rows`, `Values`, `Pairs` and `PairKinds`: each element of a set as a row; `Fit`: the limits that every row keeps.
+//! 3. `Means`: which state the tables stand for, set by set; `Content`: what a connection has, and what an open after a
+//!    crash may find; `Opening`: why a store isn't opened.
+//!
+//! The rooms, in the way of the data:
+//!
+//! - `tables`, `create` and `version`: a new store, and the version of one that is there;
+//! - `pair_kind`, `numbers`, `from_row`, `person_rows`, `joined_rows`, `incident_rows`: values as rows, and rows as values;
+//! - `statement` and `query`: a text that is prepared and run, and asked in a transaction; `any_row`, `ask_pairs`,
+//!   `read_pairs`: the forms of queries that return;
+//! - `find_person`, `find_numbered`, `find_number`, `find_known`, `find_document`, `find_case`, `find_groups`,
+//!   `find_communities`, `find_arranged`, `list_entries`, `has_row`, `has_pair`, `common_numbers`: what is looked up;
+//! - `counts`, `count_incidents`, `incident_gates`, `incident_recipients`, `incident_permissions`, `directory_facts`: what
+//!   the facts of a request want;
+//! - `directory_edits`, `incident_edits` and `apply`: the edits, each by its statements, in one transaction;
+//! - `sql_shelf`: [`SqlShelf`], made, opened, brought up to date and released, its look-ups and its reads; `told`: how a
+//!   failure of the store is told.
 #![tactic(auto)]
 
 mod any_row;
