@@ -33,6 +33,7 @@ abbrev is_element : Option SiblingPlace → Bool
 is_element None = false
 is_element (Some s) = is_some s.1
 
+-- no array goes on behind what is no element, and none at first
 starts : (o : Option SiblingPlace) (f : Forest) → is_element o ≡ false → IsOrderedBehind o f → goes_on f ≡ false
 starts o f e h = grind arith
 
