@@ -33,6 +33,7 @@ abbrev is_element : Option SiblingPlace → Bool
 is_element None = false
 is_element (Some s) = is_some s.1
 
+-- no array goes on behind what is no element, and none at first
 starts : (o : Option SiblingPlace) (f : Forest) → is_element o ≡ false → IsOrderedBehind o f → goes_on f ≡ false
 starts o f e h = grind arith
 
@@ -77,7 +78,7 @@ in_front-means n (Some (suc j)) t d rest is alone k = record {
 }
 
 alone-behind : (n : Bytes) (p : Option ℕ) (rest : Forest) → IsOrderedBehind (Some (n, p)) rest → p ≡ None → goes_on rest ≡ false
-alone-behind n p rest h e = grind (arith, starts)
+alone-behind n p rest h e = grind arith
 
 means : (f : Forest) (o : Option SiblingPlace) → IsOrderedBehind o f → HasTexts f → Means (λ later. written later f) (goes_on f) (closing (goes_on f)) (items_of f) (members_of f)
 means end o h k = record { members = λ later e. refl; items = refl }
@@ -179,4 +180,4 @@ data-is f h = data-ordered f h.ordered
 
 -- what is written of a document's tree is the compact JSON of the object that its lines mean
 pub text-is : (f : Forest) → IsSound f → 123 ∷ (written false f ++ 125 ∷ []) ≡ compact_text (json.object (data_of (lines 1 f)))
-text-is f h = grind (arith, data-is, means, starts)
+text-is f h = grind (arith, data-is, means)

@@ -7,7 +7,7 @@ use Rattle.std.proofs.lemmas.Map.Text.{is_eq-slice_cmp}
 use Rattle.std.proofs.lemmas.Grind.{common_steps}
 use Rattle.serde_json.specs.Data as json
 use Rattle.serde_json.specs.Data.{Data}
-use Rattle.serde_json.specs.Find.{get, get_member, as_object}
+use Rattle.serde_json.specs.Find.{get_member, as_object}
 use Rattle.serde_json.specs.Written.{compact_text}
 use Rattle.iodef_tree.specs.FitValues.{IsBodyOrdered, AreBodiesOrdered}
 use Rattle.iodef_tree.specs.Json.{zeroth, id_in, incident_id}
@@ -71,12 +71,9 @@ kept-ordered (many bs) k = each bs k
 
 -- ---- the IncidentID
 
-get-then : (k : Bytes) (o : Option Data) → option_and_then (get_member k) (option_and_then as_object o) ≡ option_and_then (get k) o
-get-then k o = grind arith
-
 pub id-found : (ms own : json.Members) (d : Data) (r : Option Data) → Some d ≡ get_member (codes "Incident") ms → Some own ≡ option_and_then as_object (zeroth d) → r ≡ get_member (codes "IncidentID") own →
     r ≡ id_in (json.object ms)
-id-found ms own d r first at is = grind (arith, get-then)
+id-found ms own d r first at is = grind arith
 
 -- with its text
 pub id-is : (f : Forest) (ls : List Line) (o : Option Data) (r : Option Bytes) → IsSound f → lines 1 f ≡ ls → o ≡ id_in (json.object (members_of f)) → r ≡ option_map compact_text o → r ≡ incident_id ls
