@@ -49,6 +49,8 @@ few-seen v (branch name place kids rest) d p =
       count_by-append (λ l. not (is_label_line l)) K (lines d rest),
     )
 
+-- ---- members in place of others
+
 -- Members in place of others: with no more classes below one another, no deeper but by a label, with no more lines that
 -- count, and with fitting texts.
 pub record IsWithin (f g : Forest) : Type 0 where

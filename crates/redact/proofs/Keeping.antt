@@ -14,6 +14,8 @@ use Rattle.redact.specs.Kept.{Attribute, comes_after, put, put_all, attribute_li
 use Rattle.redact.specs.Judged.{put_leaf, attribute_leaf, put_attributes, judge, inside, keeps_plain, shows_label, home_at, left_before, new_place, left_with, moved, is_end, cut}
 use Rattle.redact.proofs.Fates.{by_verdict}
 
+-- ---- attributes put in among lines
+
 -- the first line is less deep than d, or there is none
 abbrev pub IsShallow : ℕ → List Line → Type 0
 IsShallow d [] = Unit {0}
@@ -62,6 +64,8 @@ pub label-lines : (says : Bool) (d : ℕ) (label : List Attribute) (f : Forest) 
     put_all (if says then attribute_lines d label else []) (lines d f ++ ys) ≡ lines d (if says then put_attributes label f else f) ++ ys
 label-lines true d label f ys h = attributes-lines d label f ys h
 label-lines false d label f ys h = refl
+
+-- ---- lines that are kept
 
 in_array-kept : (n : ℕ) (place : Option ℕ) → is_some (new_place n place) ≡ is_some place
 in_array-kept n place = grind arith

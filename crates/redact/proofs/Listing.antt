@@ -73,12 +73,6 @@ pub any-known : (test : Rule → Bool) (r : Rule) (rs : List Rule) → list_any 
     list_any test rs ≡ (list_any test rs || test r)
 any-known test r [] e = absurd (false≢true e)
 any-known test r (x ∷ rs) e = elim (or_cases (bytes_eq (name_of x) (name_of r)) _ e) [
-  | inl is ↦ here (test x) (test r) (list_any test rs) (ap test (named-same x r is))
-  | inr among ↦ behind (test x) (test r) (list_any test rs) (any-known test r rs among)
+  | inl is ↦ let same = ap test (named-same x r is) in grind (arith, same)
+  | inr among ↦ let later = any-known test r rs among in grind (arith, later)
 ]
-  where
-    here : (a b d : Bool) → a ≡ b → (a || d) ≡ ((a || d) || b)
-    here a b d h = grind arith
-
-    behind : (a b d : Bool) → d ≡ (d || b) → (a || d) ≡ ((a || d) || b)
-    behind a b d h = grind arith

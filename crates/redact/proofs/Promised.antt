@@ -22,17 +22,11 @@ use Rattle.redact.specs.Laws.{is_shown, VerdictIsServed}
 
 any-count : {X : Type 0} (P : X → Bool) (xs : List X) → list_any P xs ≡ not (count_by P xs == 0)
 any-count P [] = refl
-any-count P (x ∷ xs) = by_test (P x) (list_any P xs) (count_by P xs) (any-count P xs) ∙ ap (λ n. not (n == 0)) (sym (count_by-cons P x xs))
-  where
-    by_test : (b later : Bool) (n : ℕ) → later ≡ not (n == 0) → (b || later) ≡ not ((cond b 1 0 + n) == 0)
-    by_test b later n h = grind arith
+any-count P (x ∷ xs) = let later = any-count P xs in grind (arith, later, count_by-cons P x xs)
 
 any-less : {X : Type 0} (P Q : X → Bool) (xs : List X) → list_any (λ x. P x && Q x) xs ≡ true → list_any P xs ≡ true
 any-less P Q [] h = h
-any-less P Q (x ∷ xs) h = by_tests (P x) (Q x) _ _ h (any-less P Q xs)
-  where
-    by_tests : (p q both one : Bool) → ((p && q) || both) ≡ true → (both ≡ true → one ≡ true) → (p || one) ≡ true
-    by_tests p q both one h later = grind arith
+any-less P Q (x ∷ xs) h = let later = any-less P Q xs in grind (arith, later, h)
 
 pub listed-served : (ls : List Line) (c : Case) (s : Standing) → is_listed ls c s ≡ not (visible_count ls c s == 0)
 listed-served ls c s = any-count (is_seen_class ls c s) (located ls)

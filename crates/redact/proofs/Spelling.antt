@@ -26,6 +26,8 @@ use Rattle.redact.proofs.Counts.{AreLabelNames}
 use Rattle.redact.proofs.Fates.{by_fate, put-keeps}
 use Rattle.redact.proofs.Keeping.{leaf_line-moved}
 
+-- ---- a class in which no label is written
+
 held-kind : (in_array : Bool) (c : Content) → (if in_array then other else held_by_kind (kind_of c) (text_of c)) ≡ absent → ⊥
 held-kind in_array c h = grind arith
 
