@@ -1,5 +1,5 @@
 //! What the lists tell of an incident: its row by its number or its name, and its gates, recipients and permissions,
-//! which stand together.
+//! which stand together; and the entries of incidents above a number.
 ghost use Rattle.std.specs.Prelude.{◌≡◌, ℕ, List, ◌==◌, ◌&&◌, filter, map, take, option_map, option_copied, IfOk};
 ghost use Rattle.std.specs.List.{list_any};
 ghost use Rattle.circle.specs.Directory.{Directory};

@@ -1,5 +1,5 @@
-//! What recipients and permissions are told apart by: the keys of targets and grantees, and when two of them, or two
-//! groups, are the same.
+//! What recipients, permissions and gates are told apart by: the keys of targets and grantees, and when two of them, or
+//! the groups of two gates, are the same.
 ghost use Rattle.std.specs.Prelude.{◌≡◌};
 ghost use Rattle.hub_core.specs.State.{target_key as key_of_target, grantee_key as key_of_grantee, same_group, same_target, same_grantee};
 
@@ -28,6 +28,7 @@ pub fn grantee_key(grantee: Grantee) -> (u32, u32)
     }
 }
 
+/// Whether both are one person, or one organisation.
 pub fn is_same_target(one: Target, other: Target) -> bool
     ensures { result ≡ same_target one other }
 {
@@ -38,6 +39,7 @@ pub fn is_same_target(one: Target, other: Target) -> bool
     }
 }
 
+/// Whether both are of one kind and have one number.
 pub fn is_same_grantee(one: Grantee, other: Grantee) -> bool
     ensures { result ≡ same_grantee one other }
 {
@@ -50,6 +52,7 @@ pub fn is_same_grantee(one: Grantee, other: Grantee) -> bool
     }
 }
 
+/// Whether both name one group, or neither names any.
 pub fn are_same_groups(one: Option<u32>, other: Option<u32>) -> bool
     ensures { result ≡ same_group one other }
 {

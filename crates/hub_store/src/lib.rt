@@ -14,7 +14,7 @@
 //! - `tables`, `create` and `version`: a new store, and the version of one that is there;
 //! - `pair_kind`, `numbers`, `from_row`, `person_rows`, `joined_rows`, `incident_rows`: values as rows, and rows as values;
 //! - `statement` and `query`: a text that is prepared and run, and asked in a transaction; `any_row`, `ask_pairs`,
-//!   `read_pairs`: the forms of queries that return;
+//!   `read_pairs`: the queries that several of these ask;
 //! - `find_person`, `find_numbered`, `find_number`, `find_known`, `find_document`, `find_case`, `find_groups`,
 //!   `find_communities`, `find_arranged`, `list_entries`, `has_row`, `has_pair`, `common_numbers`: what is looked up;
 //! - `counts`, `count_incidents`, `incident_gates`, `incident_recipients`, `incident_permissions`, `directory_facts`: what
