@@ -90,13 +90,9 @@ impl DirectoryRows {
     pub fn active_groups_joined(&self, alloc: Global, org: u32) -> Result<Vec<u32>, AllocError>
         ensures { IfOk result (λ found. found.items ≡ active_groups_joined org self.now) }
     {
-        self.sets
-            .group_members
-            .iter()
-            .filter(|row| row.org == org)
-            .map(|row| row.group)
-            .filter(|group| self.has_group_being(*group, true))
-            .collect(alloc)
+        let mut groups = self.groups_joined(alloc, org)?;
+        groups.retain(|group| self.has_group_being(*group, true));
+        Ok(groups)
     }
 
     /// The organisations whose client this one is, by number.
