@@ -1,5 +1,5 @@
 -- The facts of a directory tell its refusals, and the next number where it is sound.
-use Rattle.std.proofs.Common.{◌≡◌, ℕ, ◌+◌, List, [], ◌∷◌, map, length, max, Option, Some, None, Bool, true, false, if◌then◌else◌, refl, sym, ap, ◌∙◌, arith, not, ◌&&◌, ◌<◌}
+use Rattle.std.proofs.Common.{◌≡◌, ℕ, ◌+◌, List, [], ◌∷◌, map, length, max, Option, Some, None, Result, Ok, Err, IfOk, OnOk, Bool, true, false, if◌then◌else◌, refl, sym, ap, ◌∙◌, arith, not, ◌&&◌, ◌<◌}
 use Rattle.std.specs.Prelude.{nat_le}
 use Rattle.std.proofs.lemmas.Bool.Decides.{nat_tests}
 use Rattle.circle.specs.declared.directory.Person.{Person}
@@ -94,17 +94,21 @@ room_left f c h =
     let put = none_said (not (is_removal c) && f.stands) _ _ taken.1 in
     below_limit c f.count (none_said (nat_le (limit_of c) f.count) _ _ put.1).0
 
--- nothing refuses by the facts
-none_by : (f : CircleFacts) (a : Person) (c : CircleCommand) → is_allowed c a.role ≡ true → bad_field c a ≡ None → objection_of f c ≡ None → refusal_by f a c ≡ None
-none_by f a c allowed good fine = rw allowed (rw good fine)
-
 -- where the facts have nothing against a command, its number is one more than what they count
 pub counted_edit : (a : Person) (c : CircleCommand) (f : CircleFacts) (n : ℕ) (edit : Edit) → objection_of f c ≡ None → (f.count < 10000 → n ≡ f.count + 1) → edit ≡ edit_of n a c → edit ≡ edit_of (f.count + 1) a c
 counted_edit a c f n edit fine next made = made ∙ ap (λ (m : ℕ). edit_of m a c) (next (room_left f c fine))
 
+-- the facts of a directory refuse as it does
+pub by_facts : (d : Directory) (a : Person) (c : CircleCommand) (f : CircleFacts) → f ≡ facts_of d a c → refusal_of d a c ≡ refusal_by f a c
+by_facts d a c f is = sym (ap (λ (g : CircleFacts). refusal_by g a c) is ∙ agrees d a c)
+
 -- the edit by the facts makes the aftermath
-pub makes : (d : Directory) (a : Person) (c : CircleCommand) (f : CircleFacts) (n : ℕ) (edit : Edit) → IsSound d → f ≡ facts_of d a c → is_allowed c a.role ≡ true → bad_field c a ≡ None → objection_of f c ≡ None → (f.count < 10000 → n ≡ f.count + 1) → edit ≡ edit_of n a c → edited edit d ≡ state_after d a c
-makes d a c f n edit sound is allowed good fine next made =
-    let none : refusal_of d a c ≡ None = sym (agrees d a c) ∙ (ap (λ (g : CircleFacts). refusal_by g a c) (sym is) ∙ none_by f a c allowed good fine) in
-    let by_next : edit ≡ edit_of (next_in d c) a c = counted_edit a c f n edit fine next made ∙ (ap (λ (g : CircleFacts). edit_of (g.count + 1) a c) is ∙ same_edit d a c sound) in
+makes : (d : Directory) (a : Person) (c : CircleCommand) (f : CircleFacts) (edit : Edit) → IsSound d → f ≡ facts_of d a c → refusal_by f a c ≡ None → edit ≡ edit_of (f.count + 1) a c → edited edit d ≡ state_after d a c
+makes d a c f edit sound is fine made =
+    let none : refusal_of d a c ≡ None = by_facts d a c f is ∙ fine in
+    let by_next : edit ≡ edit_of (next_in d c) a c = made ∙ (ap (λ (g : CircleFacts). edit_of (g.count + 1) a c) is ∙ same_edit d a c sound) in
     ap (λ (e : Edit). edited e d) by_next ∙ sym (ap (λ (r : Option Refusal). unless_refused r d (changed d a c)) none)
+
+pub answer_makes : (d : Directory) (a : Person) (c : CircleCommand) (f : CircleFacts) (answer : Result Edit Refusal) → IsSound d → f ≡ facts_of d a c → OnOk answer (refusal_by f a c ≡ None) → IfOk answer (λ edit. edit ≡ edit_of (f.count + 1) a c) → IfOk answer (λ edit. edited edit d ≡ state_after d a c)
+answer_makes d a c f (Ok edit) sound is fine made = makes d a c f edit sound is fine made
+answer_makes d a c f (Err refusal) sound is fine made = tt

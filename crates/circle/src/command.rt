@@ -4,9 +4,10 @@ use crate::directory::{
     Org, Role,
 };
 use crate::text::Text;
+use std::alloc::AllocError;
 
 /// What an administrator (as far as `Unlink`) or a coordinator asks to change.
-#[derive(Debug, Drop)]
+#[derive(Drop)]
 pub enum CircleCommand {
     AddOrg {
         name: Text,
@@ -100,7 +101,7 @@ pub struct CircleFacts {
 }
 
 /// The whole change that a command makes.
-#[derive(Debug, Drop)]
+#[derive(Drop)]
 pub enum Edit {
     Row(RowEdit),
     /// The group, and its owner as a member that may extend it.
@@ -108,7 +109,7 @@ pub enum Edit {
 }
 
 /// One row put or taken out, or one flag exchanged.
-#[derive(Clone, Debug, Drop)]
+#[derive(Drop)]
 pub enum RowEdit {
     PutOrg(Org),
     PutAccount(Account),
@@ -128,4 +129,45 @@ pub enum RowEdit {
     PutArrangement(Arrangement),
     TakeArrangement { source: u32, org: u32 },
     SetNominated { person: u32, nominated: bool },
+}
+
+// Derived, it would have an exit for want of memory in each variant; only four of them hold a text.
+impl Clone for RowEdit {
+    ghost use Rattle.std.specs.Prelude.{◌≡◌};
+
+    ghost is_clone = { λ edit copy. copy ≡ edit };
+
+    fn clone(&self) -> Result<RowEdit, AllocError> {
+        Ok(match self {
+            RowEdit::PutOrg(org) => RowEdit::PutOrg(org.clone()?),
+            RowEdit::PutAccount(account) => RowEdit::PutAccount(account.clone()?),
+            RowEdit::PutCommunity(community) => RowEdit::PutCommunity(community.clone()?),
+            RowEdit::PutGroup(group) => RowEdit::PutGroup(group.clone()?),
+            RowEdit::Suspend(person) => RowEdit::Suspend(*person),
+            RowEdit::PutClient(client) => RowEdit::PutClient(*client),
+            RowEdit::TakeClient(client) => RowEdit::TakeClient(*client),
+            RowEdit::PutMembership(membership) => RowEdit::PutMembership(*membership),
+            RowEdit::TakeMembership(membership) => RowEdit::TakeMembership(*membership),
+            RowEdit::PutConnection(connection) => RowEdit::PutConnection(*connection),
+            RowEdit::TakeConnection(connection) => RowEdit::TakeConnection(*connection),
+            RowEdit::PutGroupMember(member) => RowEdit::PutGroupMember(*member),
+            RowEdit::TakeGroupMember { group, org } => RowEdit::TakeGroupMember {
+                group: *group,
+                org: *org,
+            },
+            RowEdit::SetGroupActive { group, active } => RowEdit::SetGroupActive {
+                group: *group,
+                active: *active,
+            },
+            RowEdit::PutArrangement(arrangement) => RowEdit::PutArrangement(*arrangement),
+            RowEdit::TakeArrangement { source, org } => RowEdit::TakeArrangement {
+                source: *source,
+                org: *org,
+            },
+            RowEdit::SetNominated { person, nominated } => RowEdit::SetNominated {
+                person: *person,
+                nominated: *nominated,
+            },
+        })
+    }
 }

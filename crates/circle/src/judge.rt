@@ -5,7 +5,7 @@ ghost use Rattle.circle.specs.Directory.{Directory};
 ghost use Rattle.circle.specs.Facts.{facts_of};
 ghost use Rattle.circle.specs.Refusals.{refusal_of};
 ghost use Rattle.circle.specs.Aftermath.{edit_of, edited, state_after};
-ghost use Rattle.circle.specs.Judgement.{objection_of, is_allowed, lacks_right, is_strange, is_removal, limit_of};
+ghost use Rattle.circle.specs.Judgement.{refusal_by, objection_of, is_allowed, lacks_right, is_strange, is_removal, limit_of};
 ghost use Rattle.circle.specs.Sound.{IsSound};
 
 use crate::command::{CircleCommand, CircleFacts, Edit};
@@ -27,6 +27,20 @@ pub fn judge(
     ensures allowed { (d : Directory) → facts.now ≡ facts_of d actor.now command.now → OnOk result (refusal_of d actor.now command.now ≡ None) }
     ensures edit { IfOk result (λ edit. edit ≡ edit_of (facts.now.count + 1) actor.now command.now) }
     ensures made { (d : Directory) → IsSound d → facts.now ≡ facts_of d actor.now command.now → IfOk result (λ edit. edited edit d ≡ state_after d actor.now command.now) }
+{
+    judged(alloc, actor, facts, command)
+}
+
+/// The same by the facts, without a directory.
+fn judged(
+    alloc: Global,
+    actor: &Person,
+    facts: &CircleFacts,
+    command: &CircleCommand,
+) -> Result<Edit, Refusal>
+    ensures refused { IfErr result (RefusedAs (refusal_by facts.now actor.now command.now)) }
+    ensures allowed { OnOk result (refusal_by facts.now actor.now command.now ≡ None) }
+    ensures edit { IfOk result (λ edit. edit ≡ edit_of (facts.now.count + 1) actor.now command.now) }
 {
     if !command.is_allowed(actor.role) {
         return Err(Refusal::bare(alloc, Code::W1));

@@ -1,9 +1,8 @@
 -- A tree as data, member by member.
-use Rattle.std.proofs.Common.{◌≡◌, ℕ, suc, ◌+◌, ◌<◌, Bool, true, false, List, [], ◌∷◌, map, length, drop, drop-cons, get_or, refl, sym, ◌∙◌, ap, subst, arith, true≢false, Greater, String, Global, string_bytes, string_cmp, Option, Some, None, is_some, ◌==◌, bytes_eq}
+use Rattle.std.proofs.Common.{◌≡◌, ℕ, suc, ◌+◌, ◌<◌, Bool, true, false, List, [], ◌∷◌, map, length, drop, drop-cons, get_or, refl, sym, ◌∙◌, ap, subst, arith, true≢false, Greater, Option, Some, None, is_some, ◌==◌, bytes_eq}
 use Rattle.std.specs.List.{AllByRecursion}
 use Rattle.std.specs.Ordering.{nat_cmp, ordering_reverse}
 use Rattle.std.specs.Cmp.Lexicographic.{slice_cmp}
-use Rattle.std.specs.BTreeMap.{insert_entry}
 use Rattle.std.proofs.lemmas.Bool.{and_parts}
 use Rattle.std.proofs.lemmas.Cmp.{nat_list_cmp_total}
 use Rattle.std.proofs.lemmas.Grind.{common_steps}
@@ -11,7 +10,6 @@ use Rattle.serde_json.specs.Data as json
 use Rattle.serde_json.specs.Data.{Data, put}
 use Rattle.serde_json.specs.View.{view, members_view, items_of as listed}
 use Rattle.serde_json.specs.declared.value.Value.{Value}
-use Rattle.serde_json.proofs.Views.{members_view-insert_entry}
 use Rattle.iodef_tree.specs.FitValues.{IsBodyOrdered, AreBodiesOrdered}
 use Rattle.iodef_tree.specs.Sound.{SiblingPlace, may_stand, IsOrderedBehind, IsOrdered}
 use Rattle.iodef_tree.specs.Text.{Bytes, bytes_lt}
@@ -152,10 +150,10 @@ put-ordered f h = put-ascending (members_of f) (ascend f None h)
 one-more : (i : ℕ) → suc i ≡ i + 1
 one-more i = omega arith
 
-pub put-member : (old new : List MapEntry) (name : String Global) (v : Value) (R : json.Members) (xs : List (Text × Member)) (i : ℕ) (m : Text × Member) → i < length xs → m ≡ get_or xs i m →
-    has_elements (bodies m.1) ≡ true → string_bytes name ≡ m.0 → view v ≡ bodies_data (bodies m.1) → new ≡ insert_entry string_cmp old name v →
+pub put-member : (old new : List MapEntry) (v : Value) (R : json.Members) (xs : List (Text × Member)) (i : ℕ) (m : Text × Member) → i < length xs → m ≡ get_or xs i m →
+    has_elements (bodies m.1) ≡ true → view v ≡ bodies_data (bodies m.1) → members_view new ≡ put m.0 (view v) (members_view old) →
     put_all (members_of (members_forest (drop i xs))) (members_view old) ≡ R → put_all (members_of (members_forest (drop (i + 1) xs))) (members_view new) ≡ R
-put-member old new name v R xs i m h e filled is means put_in left = grind (arith, common_steps, member-data, members-next, members_view-insert_entry, no-items)
+put-member old new v R xs i m h e filled means put_in left = grind (arith, common_steps, member-data, members-next, no-items)
 
 -- what holds of each member that is left
 pub all-left : (P : Bytes × Bodies → Type 0) (xs : List (Text × Member)) (i : ℕ) (m : Text × Member) → i < length xs → m ≡ get_or xs i m → AllByRecursion P (map named (drop i xs)) →

@@ -10,14 +10,14 @@ use Rattle.iodef_tree.proofs.Accepted.{lines-outline}
 use Rattle.iodef_tree.proofs.ByPath.{has_class-root}
 use Rattle.iodef_tree.proofs.ClassesBelow.{classes-lines}
 use Rattle.iodef_tree.proofs.DocumentLists.{fit_parts, failed_front, gives_err, failed_last, last_done, room_lacks, too_long, room_kept, sound, short_enough}
-use Rattle.iodef_tree.proofs.Exchanged.{taken_none, taken_some, put_in}
+use Rattle.iodef_tree.proofs.Exchanged.{taken_none, taken_some}
 use Rattle.iodef_tree.proofs.Fitness.{plain_at_once}
 use Rattle.iodef_tree.proofs.Meaning.{text-is, data-is}
 use Rattle.iodef_tree.proofs.MembersByName.{id-found, kept-ordered}
 use Rattle.iodef_tree.proofs.NoFloat.{kept-whole, value-no_float}
 use Rattle.iodef_tree.proofs.Order.{starts_with-is_prefix}
 use Rattle.iodef_tree.proofs.Outlines.{no-outline, back-upto, upto, outline-back}
-use Rattle.iodef_tree.proofs.Pointers.{escaped-append, escaped-encode}
+use Rattle.iodef_tree.proofs.Pointers.{escaped-encode}
 
 pub ruleset from_outline_steps = (common_steps, no-outline, back-upto, upto, outline-back, take_all)
 
@@ -33,7 +33,7 @@ pub ruleset has_class_steps = (common_steps, eqb-true, has_class-root, nil_from_
 
 pub ruleset is_prefix_of_steps = (common_steps, starts_with-is_prefix)
 
-pub ruleset push_escaped_steps = (common_steps, append_assoc, escaped-append, escaped-encode)
+pub ruleset push_escaped_char_steps = (common_steps, escaped-encode)
 
 pub ruleset are_incidents_steps = (common_steps, nat_tests, items_len-items_view)
 
@@ -43,7 +43,7 @@ pub ruleset take_incidents_steps = (common_steps, taken_none, taken_some)
 
 pub ruleset documents_from_steps = (common_steps, fit_parts, failed_front, gives_err, failed_last, last_done)
 
-pub ruleset document_from_steps = (common_steps, put_in, room_lacks, too_long, room_kept, sound, short_enough)
+pub ruleset document_from_steps = (common_steps, room_lacks, too_long, room_kept, sound, short_enough)
 
 pub ruleset id_in_steps = (common_steps, id-found)
 

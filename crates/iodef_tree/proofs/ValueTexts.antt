@@ -1,5 +1,5 @@
 -- The texts of a tree made of what serde_json read.
-use Rattle.std.proofs.Common.{◌≡◌, ◌≤◌, ℕ, suc, ◌-◌, Bool, true, false, ◌&&◌, ◌||◌, List, [], ◌∷◌, sym, ap, ◌∙◌, arith, true≢false, Option, Some, None, is_some, nat_lt, bytes_eq}
+use Rattle.std.proofs.Common.{◌≡◌, ◌≤◌, ℕ, suc, ◌-◌, Bool, true, false, ◌&&◌, ◌||◌, List, [], ◌∷◌, refl, sym, ap, ◌∙◌, arith, true≢false, Option, Some, None, is_some, nat_lt, bytes_eq}
 use Rattle.std.specs.List.{AllByRecursion}
 use Rattle.std.specs.Option.{option_map_or}
 use Rattle.std.proofs.lemmas.Bool.{and_parts, ltb-true}
@@ -13,7 +13,8 @@ use Rattle.serde_json.specs.declared.value.Value.{Value}
 use Rattle.iodef_tree.specs.FitValues.{HasBodyTexts, HaveTexts}
 use Rattle.iodef_tree.specs.Text.{Bytes}
 use Rattle.iodef_tree.specs.Texts.{is_plain, are_plain, is_empty, may_be_value, may_be_text, HasTexts}
-use Rattle.iodef_tree.specs.Tree.{Forest, Body, Bodies, one, many, in_front, elements}
+use Rattle.iodef_tree.specs.Tree.{Forest, Body, says, value, Bodies, one, many, in_front, elements}
+use Rattle.iodef_tree.specs.Values.{bodies_of_data, body_of_data}
 use Rattle.iodef_tree.specs.View.{forest_of_members}
 use Rattle.iodef_tree.specs.declared.TheConstants.{DEPTH_LIMIT}
 use Rattle.iodef_tree.specs.declared.line.Kind.TheVariants as kind
@@ -69,7 +70,14 @@ written-text in_array v t may is back =
     ∙ ap (λ b. b && bytes_eq (compact_text d) t) may
     ∙ (bytes_eq-Decides (compact_text d) t).1 (sym is)
 
--- an array inside an array
-pub inner-value : (ds : json.Items) → is_plain DEPTH_LIMIT (json.array ds) ≡ true → may_be_value true (json.array ds) ≡ true
-inner-value json.no_items h = h
-inner-value (json.item d ds) h = h
+-- such a value is no more than its text
+pub value-body : (d : Data) → may_be_value true d ≡ true → body_of_data d ≡ says (value (compact_text d))
+value-body (json.string s) h = absurd (true≢false (sym h))
+value-body (json.object ms) h = absurd (true≢false (sym h))
+value-body _ h = refl
+
+pub value-bodies : (d : Data) → may_be_value false d ≡ true → bodies_of_data d ≡ one (says (value (compact_text d)))
+value-bodies (json.string s) h = absurd (true≢false (sym h))
+value-bodies (json.object ms) h = absurd (true≢false (sym h))
+value-bodies (json.array (json.item d ds)) h = absurd (true≢false (sym h))
+value-bodies _ h = refl

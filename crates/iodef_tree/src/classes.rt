@@ -1,6 +1,6 @@
 //! The paths of the classes, by one walk that builds one path as it goes.
 
-ghost use Rattle.std.specs.Prelude.{◌≡◌, ◌++◌, [], OnOk, IfOk, Option, Some, None};
+ghost use Rattle.std.specs.Prelude.{◌≡◌, ◌++◌, ◌∷◌, [], OnOk, IfOk, Option, Some, None};
 ghost use Rattle.iodef_tree.specs.Tree.{end, in_front, member_front, steps};
 ghost use Rattle.iodef_tree.specs.Walk.{classes_below};
 ghost use Rattle.iodef_tree.specs.View.{forest, bodies, body};
@@ -75,14 +75,29 @@ fn push_item(
     match item {
         Item::Class(object) => {
             let depth = above.len();
-            push_steps(above, alloc, name, place)?;
-            paths.push(path_of(alloc, above)?)?;
+            push_path(paths, alloc, above, name, place)?;
             push_object(paths, alloc, above, object)?;
             above.truncate(depth);
             Ok(())
         }
         Item::Text(_) | Item::Value(_) => Ok(()),
     }
+}
+
+/// Goes on to a class, whose path is one more.
+fn push_path(
+    paths: &mut Vec<Path>,
+    alloc: Global,
+    above: &mut Vec<Text>,
+    name: &Text,
+    place: Option<usize>,
+) -> Result<(), AllocError>
+    ensures pushed { OnOk result (paths.new.items ≡ paths.old.items ++ (above.old.items ++ steps name.now place) ∷ []) }
+    ensures above { OnOk result (above.new.items ≡ above.old.items ++ steps name.now place) }
+{
+    push_steps(above, alloc, name, place)?;
+    paths.push(path_of(alloc, above)?)?;
+    Ok(())
 }
 
 /// Goes on to the member of a name, or to its element at a place.

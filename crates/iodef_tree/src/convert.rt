@@ -1,13 +1,13 @@
 //! From what `serde_json` read to the tree, each text moved and not copied.
 
-ghost use Rattle.std.specs.Prelude.{◌≡◌, ◌≤◌, IfOk, Some, true, false, map};
+ghost use Rattle.std.specs.Prelude.{◌≡◌, ◌≤◌, ◌++◌, ◌∷◌, [], IfOk, OnOk, Some, true, false, map, string_bytes};
 ghost use Rattle.std.specs.List.{AllByRecursion};
 ghost use Rattle.serde_json.specs.View.{view, items_view, members_view};
 ghost use Rattle.serde_json.specs.Written.{compact_text, has_float, items_have_float, members_have_float};
 ghost use Rattle.serde_json.specs.Data.{array, depth as nesting};
 ghost use Rattle.serde_json.specs.Read.{max_depth, read as read_text};
 ghost use Rattle.iodef_tree.specs.Sound.{IsOrdered};
-ghost use Rattle.iodef_tree.specs.Texts.{HasTexts};
+ghost use Rattle.iodef_tree.specs.Texts.{HasTexts, may_be_value};
 ghost use Rattle.iodef_tree.specs.Filled.{IsFilled, IsMemberFilled, IsItemFilled};
 ghost use Rattle.iodef_tree.specs.FitValues.{IsBodyOrdered, AreBodiesOrdered, HasBodyTexts, HaveTexts, is_flat, is_element_flat, are_flat, are_members_flat};
 ghost use Rattle.iodef_tree.specs.Values.{forest_of_data, bodies_of_data, body_of_data, items_of_data};
@@ -30,8 +30,7 @@ pub(crate) fn object_from(alloc: Global, members: Map<String, Value>) -> Result<
 {
     let mut made = Vec::with_capacity(alloc, members.len())?;
     for (name, value) in members {
-        let member = member_from(alloc, value)?;
-        made.push((Text::new(name), member))?;
+        push_member(&mut made, name, member_from(alloc, value)?)?;
     }
     Ok(Object { members: made })
 }
@@ -49,12 +48,7 @@ fn member_from(alloc: Global, value: Value) -> Result<Member, AllocError>
         Value::Array(items) => array_from(alloc, items),
         Value::Object(members) => Ok(Member::One(Item::Class(object_from(alloc, members)?))),
         Value::String(text) => Ok(Member::One(Item::Text(Text::new(text)))),
-        Value::Number(number) => Ok(Member::One(Item::Value(written(
-            alloc,
-            Value::Number(number),
-        )?))),
-        Value::Bool(truth) => Ok(Member::One(Item::Value(written(alloc, Value::Bool(truth))?))),
-        Value::Null => Ok(Member::One(Item::Value(written(alloc, Value::Null)?))),
+        plain => plain_member(alloc, plain),
     }
 }
 
@@ -68,7 +62,7 @@ fn array_from(alloc: Global, items: Vec<Value>) -> Result<Member, AllocError>
     ensures filled { IfOk result (λ m. IsMemberFilled m) }
 {
     if items.as_slice().is_empty() {
-        Ok(Member::One(Item::Value(written(alloc, Value::Array(items))?)))
+        plain_member(alloc, Value::Array(items))
     } else {
         Ok(Member::Many(items_from(alloc, items)?))
     }
@@ -102,11 +96,44 @@ fn item_from(alloc: Global, value: Value) -> Result<Item, AllocError>
     match value {
         Value::Object(members) => Ok(Item::Class(object_from(alloc, members)?)),
         Value::String(text) => Ok(Item::Text(Text::new(text))),
-        Value::Array(items) => Ok(Item::Value(written(alloc, Value::Array(items))?)),
-        Value::Number(number) => Ok(Item::Value(written(alloc, Value::Number(number))?)),
-        Value::Bool(truth) => Ok(Item::Value(written(alloc, Value::Bool(truth))?)),
-        Value::Null => Ok(Item::Value(written(alloc, Value::Null)?)),
+        plain => plain_item(alloc, plain),
     }
+}
+
+/// What a member holds that is neither an object, nor a text, nor an array with elements.
+fn plain_member(alloc: Global, value: Value) -> Result<Member, AllocError>
+    requires whole { has_float (view value) ≡ false }
+    requires plain { may_be_value false (view value) ≡ true }
+    ensures made { IfOk result (λ m. bodies m ≡ bodies_of_data (view value)) }
+    ensures ordered { IfOk result (λ m. AreBodiesOrdered (bodies m)) }
+    ensures texts { IfOk result (λ m. HaveTexts (bodies m)) }
+    ensures filled { IfOk result (λ m. IsMemberFilled m) }
+{
+    Ok(Member::One(Item::Value(written(alloc, value)?)))
+}
+
+/// An element that is neither an object nor a text.
+fn plain_item(alloc: Global, value: Value) -> Result<Item, AllocError>
+    requires whole { has_float (view value) ≡ false }
+    requires plain { may_be_value true (view value) ≡ true }
+    ensures made { IfOk result (λ i. body i ≡ body_of_data (view value)) }
+    ensures ordered { IfOk result (λ i. IsBodyOrdered (body i)) }
+    ensures texts { IfOk result (λ i. HasBodyTexts true (body i)) }
+    ensures filled { IfOk result (λ i. IsItemFilled i) }
+{
+    Ok(Item::Value(written(alloc, value)?))
+}
+
+/// A member more.
+fn push_member(
+    made: &mut Vec<(Text, Member)>,
+    name: String,
+    member: Member,
+) -> Result<(), AllocError>
+    ensures { OnOk result (made.new.items ≡ made.old.items ++ (string_bytes name, member) ∷ []) }
+{
+    made.push((Text::new(name), member))?;
+    Ok(())
 }
 
 /// The compact JSON of a value.

@@ -1,7 +1,8 @@
 //! A tree that is told apart from none of which it is the copy.
 
-ghost use Rattle.std.specs.Prelude.{◌≡◌, IfOk, map};
-ghost use Rattle.iodef_tree.specs.Filled.{is_object_filled, is_member_filled, is_item_filled};
+ghost use Rattle.std.specs.Prelude.{◌≡◌, ◌++◌, ◌∷◌, [], IfOk, OnOk, map};
+ghost use Rattle.iodef_tree.specs.Filled.{is_object_filled, is_member_filled, is_item_filled, IsItemFilled};
+ghost use Rattle.iodef_tree.specs.Tree.{says, value, text as plain_text};
 ghost use Rattle.iodef_tree.specs.View.{forest, bodies, body, named};
 
 use crate::object::{Item, Member, Object};
@@ -28,7 +29,7 @@ fn copy_members(
 {
     let mut made = Vec::with_capacity(alloc, members.len())?;
     for (name, member) in members {
-        made.push((name.clone()?, copy_member(alloc, member)?))?;
+        push_copied(&mut made, name, copy_member(alloc, member)?)?;
     }
     Ok(made)
 }
@@ -63,7 +64,33 @@ fn copy_item(alloc: Global, item: &Item) -> Result<Item, AllocError>
 {
     match item {
         Item::Class(object) => Ok(Item::Class(copy_object(alloc, object)?)),
-        Item::Text(text) => Ok(Item::Text(text.clone()?)),
-        Item::Value(text) => Ok(Item::Value(text.clone()?)),
+        Item::Text(text) => copy_text(text),
+        Item::Value(text) => copy_value(text),
     }
+}
+
+/// A member more, under a copy of its name.
+fn push_copied(
+    made: &mut Vec<(Text, Member)>,
+    name: &Text,
+    member: Member,
+) -> Result<(), AllocError>
+    ensures { OnOk result (made.new.items ≡ made.old.items ++ (name.now, member) ∷ []) }
+{
+    made.push((name.clone()?, member))?;
+    Ok(())
+}
+
+fn copy_text(text: &Text) -> Result<Item, AllocError>
+    ensures same { IfOk result (λ i. body i ≡ says (plain_text text.now)) }
+    ensures filled { IfOk result (λ i. IsItemFilled i) }
+{
+    Ok(Item::Text(text.clone()?))
+}
+
+fn copy_value(text: &Text) -> Result<Item, AllocError>
+    ensures same { IfOk result (λ i. body i ≡ says (value text.now)) }
+    ensures filled { IfOk result (λ i. IsItemFilled i) }
+{
+    Ok(Item::Value(text.clone()?))
 }

@@ -1,8 +1,10 @@
 //! Documents: the one type that the crates above hold, and its calls.
 
-ghost use Rattle.std.specs.Prelude.{◌≡◌, ◌||◌, IfOk, IfSome, is_some};
+ghost use Rattle.std.specs.Prelude.{◌≡◌, ◌||◌, ◌++◌, ◌∷◌, [], IfOk, IfSome, IsTrue, is_some};
 ghost use Rattle.iodef_tree.specs.Filled.{IsFilled};
+ghost use Rattle.iodef_tree.specs.Outline.{back, may_come};
 ghost use Rattle.iodef_tree.specs.Paths.{located, classes_of as class_paths_of, has_class as has_class_at};
+ghost use Rattle.iodef_tree.specs.Shown.{Shows};
 ghost use Rattle.iodef_tree.specs.Text.{is_root};
 ghost use Rattle.iodef_tree.specs.Tree.{lines};
 ghost use Rattle.iodef_tree.specs.View.{forest};
@@ -46,6 +48,20 @@ impl Model for Document {
     ghost invariant = { λ d. IsSound (forest d.root) × IsFilled d.root };
 }
 
+/// Whether the line may come behind those before it; then it is the last of them.
+fn add_line(shape: &mut Shape, builder: &mut Builder, line: &Line) -> Result<bool, AllocError>
+    requires { Shows shape.old (back builder.old) }
+    ensures exact { IfOk result (λ fits. fits ≡ may_come (back builder.old) line.now) }
+    ensures added { IfOk result (λ fits. IsTrue fits → builder.new ≡ builder.old ++ line.now ∷ []) }
+    ensures shown { IfOk result (λ fits. IsTrue fits → Shows shape.new (back builder.new)) }
+{
+    if !shape.accept(line)? {
+        return Ok(false);
+    }
+    builder.add(line.clone()?)?;
+    Ok(true)
+}
+
 impl Document {
     ghost use Rattle.std.specs.Prelude.{true, false, string_bytes, IfErr, option_map};
     ghost use Rattle.serde_json.specs.Data.{object};
@@ -83,10 +99,9 @@ impl Document {
         let mut shape = Shape::new(alloc);
         let mut builder = Builder::new(alloc);
         for line in lines {
-            if !shape.accept(line)? {
+            if !add_line(&mut shape, &mut builder, line)? {
                 return Err(OutlineFault::BadOutline);
             }
-            builder.add(line.clone()?)?;
         }
         Ok(builder.finish()?)
     }

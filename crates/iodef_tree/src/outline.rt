@@ -1,6 +1,6 @@
 //! The lines of a tree.
 
-ghost use Rattle.std.specs.Prelude.{◌≡◌, ◌+◌, ◌^◌, ◌<◌, ◌++◌, Option, Some, None, OnOk, IfOk};
+ghost use Rattle.std.specs.Prelude.{◌≡◌, ◌+◌, ◌^◌, ◌<◌, ◌++◌, ◌∷◌, [], Option, Some, None, OnOk, IfOk};
 ghost use Rattle.iodef_tree.specs.Tree.{end, in_front, member_front, lines as lines_of, height};
 ghost use Rattle.iodef_tree.specs.View.{forest, bodies, body};
 ghost use Rattle.iodef_tree.specs.Tree.{place_of};
@@ -72,40 +72,51 @@ fn push_item(
     ensures { OnOk result (lines.new.items ≡ lines.old.items
         ++ lines_of depth (in_front name.now (place_of in_array 0) (body item.now) end)) }
 {
-    let name = name.clone()?;
     match item {
         Item::Class(object) => {
             let text = Text::new(String::new(alloc));
-            lines.push(Line {
-                depth,
-                name,
-                in_array,
-                kind: Kind::Class,
-                text,
-            })?;
+            push_line(lines, depth, name, in_array, Kind::Class, text)?;
             push_object(lines, alloc, depth + 1, object)
         }
-        Item::Text(text) => {
-            let text = text.clone()?;
-            lines.push(Line {
-                depth,
-                name,
-                in_array,
-                kind: Kind::Text,
-                text,
-            })?;
-            Ok(())
-        }
-        Item::Value(text) => {
-            let text = text.clone()?;
-            lines.push(Line {
-                depth,
-                name,
-                in_array,
-                kind: Kind::Value,
-                text,
-            })?;
-            Ok(())
-        }
+        Item::Text(text) => push_plain(lines, depth, name, in_array, Kind::Text, text),
+        Item::Value(text) => push_plain(lines, depth, name, in_array, Kind::Value, text),
     }
+}
+
+/// A line more, under a copy of its name.
+fn push_line(
+    lines: &mut Vec<Line>,
+    depth: u32,
+    name: &Text,
+    in_array: bool,
+    kind: Kind,
+    text: Text,
+) -> Result<(), AllocError>
+    ensures { OnOk result (lines.new.items ≡ lines.old.items
+        ++ record { depth = depth; name = name.now; in_array = in_array; kind = kind; text = text } ∷ []) }
+{
+    let name = name.clone()?;
+    lines.push(Line {
+        depth,
+        name,
+        in_array,
+        kind,
+        text,
+    })?;
+    Ok(())
+}
+
+/// A plain line more, with a copy of its text.
+fn push_plain(
+    lines: &mut Vec<Line>,
+    depth: u32,
+    name: &Text,
+    in_array: bool,
+    kind: Kind,
+    text: &Text,
+) -> Result<(), AllocError>
+    ensures { OnOk result (lines.new.items ≡ lines.old.items
+        ++ record { depth = depth; name = name.now; in_array = in_array; kind = kind; text = text.now } ∷ []) }
+{
+    push_line(lines, depth, name, in_array, kind, text.clone()?)
 }

@@ -1,6 +1,6 @@
 //! JSON pointers as texts (RFC 6901).
 
-ghost use Rattle.std.specs.Prelude.{◌≡◌, ◌++◌, ◌∷◌, map, string_bytes, OnOk, IfOk};
+ghost use Rattle.std.specs.Prelude.{◌≡◌, ◌++◌, ◌∷◌, map, string_bytes, OnOk, IfOk, encode_utf8};
 ghost use Rattle.std.specs.List.{list_any};
 ghost use Rattle.std.specs.Str.{byte};
 ghost use Rattle.iodef_tree.specs.Pointer.{is_escaped_byte, escaped, escaped_by, unescaped, slash_separated, fault_name};
@@ -73,20 +73,26 @@ fn is_written_otherwise(token: &str) -> bool
     found
 }
 
-#[tactic(auto, using(crate::proofs::Steps::push_escaped_steps))]
 fn push_escaped(pointer: &mut String, token: &str) -> Result<(), AllocError>
     ensures { OnOk result (string_bytes pointer.new ≡ string_bytes pointer.old ++ escaped token.now) }
 {
     for c in token.chars() {
-        if c == '~' {
-            pointer.push_str("~0")?;
-        } else if c == '/' {
-            pointer.push_str("~1")?;
-        } else {
-            pointer.push(c)?;
-        }
+        push_escaped_char(pointer, c)?;
     }
     Ok(())
+}
+
+/// Writes a character of a token: `~` as `~0` and `/` as `~1` (RFC 6901 section 3).
+#[tactic(auto, using(crate::proofs::Steps::push_escaped_char_steps))]
+fn push_escaped_char(pointer: &mut String, c: char) -> Result<(), AllocError>
+    ensures { OnOk result
+        (string_bytes pointer.new ≡ string_bytes pointer.old ++ escaped (encode_utf8 c)) }
+{
+    match c {
+        '~' => pointer.push_str("~0"),
+        '/' => pointer.push_str("~1"),
+        _ => pointer.push(c),
+    }
 }
 
 /// Reads what follows the first slash of a pointer: reference tokens with a slash between each two (RFC 6901 section 3).

@@ -5,7 +5,7 @@ ghost use Rattle.serde_json.specs.Data.{depth as nesting, null, put};
 ghost use Rattle.serde_json.specs.Find.{as_array, as_object, get_member};
 ghost use Rattle.serde_json.specs.Read.{max_depth};
 ghost use Rattle.serde_json.specs.View.{view, items_view, members_view};
-ghost use Rattle.iodef_tree.specs.Reading.{Returns, parsed, lacking, all_objects, are_incidents, incidents_of, all_complete, all_fit, document_of, if_short, documents, reading};
+ghost use Rattle.iodef_tree.specs.Reading.{Returns, parsed, lacking, all_objects, are_incidents, incidents_of, all_complete, all_fit, with_incident, document_of, if_short, documents, reading};
 ghost use Rattle.iodef_tree.specs.FitValues.{IsFit, AreFit, taken};
 ghost use Rattle.iodef_tree.specs.Tree.{lines};
 
@@ -17,7 +17,7 @@ use crate::path::Path;
 use crate::unfit_values::{Sought, first_in, is_plain};
 use crate::{INCIDENT_LIMIT, LINE_LIMIT};
 use serde_json::{Map, Value};
-use std::alloc::Global;
+use std::alloc::{AllocError, Global};
 
 /// The documents that the bytes are, one for each Incident, or the first fault.
 #[tactic(auto, unfolding(crate::specs::Reading::reading))]
@@ -221,19 +221,31 @@ fn documents_beside(
 #[tactic(auto, using(crate::proofs::Steps::document_from_steps))]
 fn document_from(
     alloc: Global,
-    mut root: Map<String, Value>,
+    root: Map<String, Value>,
     incident: Value,
 ) -> Result<Document, ReadFault>
     requires { IsFit (members_view root.entries) (view incident) }
     ensures { Returns (λ d. d) result (if_short (lines 1 (document_of (view incident) (members_view root.entries)))) }
 {
-    let mut incidents = Vec::with_capacity(alloc, 1)?;
-    incidents.push(incident)?;
-    let name = String::from_str(alloc, "Incident")?;
-    drop(root.insert(name, Value::Array(incidents))?);
-    let root = object_from(alloc, root)?;
+    let root = object_from(alloc, with_incident(alloc, root, incident)?)?;
     if room_left(&root, LINE_LIMIT).is_none() {
         return Err(ReadFault::TooManyLines);
     }
     Ok(Document::new(root))
+}
+
+/// The root's members with this one Incident.
+#[tactic(auto, using(crate::proofs::Exchanged::put_in))]
+fn with_incident(
+    alloc: Global,
+    mut root: Map<String, Value>,
+    incident: Value,
+) -> Result<Map<String, Value>, AllocError>
+    ensures { IfOk result (λ m. members_view m.entries ≡ with_incident (view incident) (members_view root.entries)) }
+{
+    let mut incidents = Vec::with_capacity(alloc, 1)?;
+    incidents.push(incident)?;
+    let name = String::from_str(alloc, "Incident")?;
+    drop(root.insert(name, Value::Array(incidents))?);
+    Ok(root)
 }

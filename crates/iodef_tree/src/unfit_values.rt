@@ -1,10 +1,10 @@
 //! The values of a body that no document can hold.
 #![tactic(auto, using(crate::proofs::Seeking::seeking))]
 
-ghost use Rattle.std.specs.Prelude.{◌≡◌, ◌+◌, ◌<◌, ◌^◌, not, IfOk, option_map};
+ghost use Rattle.std.specs.Prelude.{◌≡◌, ◌+◌, ◌<◌, ◌^◌, ◌∷◌, not, IfOk, Some, option_map, decimal, string_bytes};
 ghost use Rattle.serde_json.specs.Data.{depth as nesting, items_depth, members_depth};
 ghost use Rattle.serde_json.specs.View.{view, items_view, members_view};
-ghost use Rattle.iodef_tree.specs.Values.{nodes, item_nodes, member_nodes, first_at};
+ghost use Rattle.iodef_tree.specs.Values.{node, nodes, item_nodes, member_nodes, first_at};
 ghost use Rattle.iodef_tree.specs.FitValues.{any_at, is_refused, is_sought};
 
 use crate::DEPTH_LIMIT;
@@ -21,8 +21,6 @@ pub(crate) enum Sought {
 }
 
 impl Sought {
-    ghost use Rattle.iodef_tree.specs.Values.{node};
-
     /// Whether it is this value, inside so many objects, and so many arrays of the nearest.
     fn is(self, objects: u32, arrays: u32, value: &Value) -> bool
         ensures { result ≡ is_sought self (node objects arrays (view value.now)).seen }
@@ -35,19 +33,22 @@ impl Sought {
     }
 }
 
+/// Whether the value is any that is looked for, inside so many objects, and so many arrays of the nearest.
+fn is_refused(objects: u32, arrays: u32, value: &Value) -> bool
+    ensures { result ≡ is_refused (node objects arrays (view value.now)).seen }
+{
+    Sought::NotWhole.is(objects, arrays, value)
+        || (Sought::NestedClass.is(objects, arrays, value)
+            || Sought::TooDeep.is(objects, arrays, value))
+}
+
 /// Whether nothing that is looked for is at the value or inside it; takes no memory.
 #[cycle(plain)]
 pub(crate) fn is_plain(objects: u32, arrays: u32, value: &Value) -> bool
     requires { (objects + arrays) + nesting (view value.now) < 2 ^ 32 }
     ensures { result ≡ not (any_at is_refused (nodes objects arrays (view value.now))) }
 {
-    if Sought::NotWhole.is(objects, arrays, value) {
-        return false;
-    }
-    if Sought::NestedClass.is(objects, arrays, value) {
-        return false;
-    }
-    if Sought::TooDeep.is(objects, arrays, value) {
+    if is_refused(objects, arrays, value) {
         return false;
     }
     match value {
@@ -119,9 +120,8 @@ fn first_in_items(
         ≡ first_at (is_sought sought) (item_nodes objects arrays 0 (items_view items.now.items))) }
 {
     for (index, item) in items.iter().enumerate() {
-        if let Some(mut pointer) = first_in(alloc, sought, objects, arrays, item)? {
-            pointer.insert(0, Text::new(format!(in alloc; "{index}")?))?;
-            return Ok(Some(pointer));
+        if let Some(pointer) = first_in(alloc, sought, objects, arrays, item)? {
+            return below_index(alloc, index, pointer);
         }
     }
     Ok(None)
@@ -139,10 +139,29 @@ fn first_in_members(
         ≡ first_at (is_sought sought) (member_nodes objects (members_view members.now.entries))) }
 {
     for (name, value) in members.iter() {
-        if let Some(mut pointer) = first_in(alloc, sought, objects, 0, value)? {
-            pointer.insert(0, Text::new(name.clone()?))?;
-            return Ok(Some(pointer));
+        if let Some(pointer) = first_in(alloc, sought, objects, 0, value)? {
+            return below_name(name, pointer);
         }
     }
     Ok(None)
+}
+
+/// The pointer from the array above.
+fn below_index(
+    alloc: Global,
+    index: usize,
+    mut pointer: Vec<Text>,
+) -> Result<Option<Vec<Text>>, AllocError>
+    ensures { IfOk result (λ o. option_map (λ p. p.items) o ≡ Some (decimal index ∷ pointer.items)) }
+{
+    pointer.insert(0, Text::new(format!(in alloc; "{index}")?))?;
+    Ok(Some(pointer))
+}
+
+/// The pointer from the object above.
+fn below_name(name: &String, mut pointer: Vec<Text>) -> Result<Option<Vec<Text>>, AllocError>
+    ensures { IfOk result (λ o. option_map (λ p. p.items) o ≡ Some (string_bytes name.now ∷ pointer.items)) }
+{
+    pointer.insert(0, Text::new(name.clone()?))?;
+    Ok(Some(pointer))
 }

@@ -1,8 +1,8 @@
 //! The JSON value that a tree means.
 
-ghost use Rattle.std.specs.Prelude.{◌≡◌, IfOk, IfSome, map, option_map, option_and_then, unwrap_or, string_bytes};
+ghost use Rattle.std.specs.Prelude.{◌≡◌, IfOk, OnOk, IfSome, map, option_map, option_and_then, unwrap_or, string_bytes};
 ghost use Rattle.std.specs.List.{AllByRecursion};
-ghost use Rattle.serde_json.specs.Data.{null, object as json_object};
+ghost use Rattle.serde_json.specs.Data.{null, put, string, object as json_object};
 ghost use Rattle.serde_json.specs.Find.{get_member, as_object};
 ghost use Rattle.serde_json.specs.Read.{read as read_text};
 ghost use Rattle.serde_json.specs.View.{view, members_view};
@@ -29,9 +29,7 @@ pub(crate) fn object_value(alloc: Global, object: &Object) -> Result<Map<String,
 {
     let mut made = Map::new(alloc);
     for (name, member) in &object.members {
-        let value = member_value(alloc, member)?;
-        let name = String::from_str(alloc, name.as_str())?;
-        drop(made.insert(name, value)?);
+        put_member(alloc, &mut made, name, member_value(alloc, member)?)?;
     }
     Ok(made)
 }
@@ -69,9 +67,29 @@ fn item_value(alloc: Global, item: &Item) -> Result<Value, AllocError>
 {
     match item {
         Item::Class(object) => Ok(Value::Object(object_value(alloc, object)?)),
-        Item::Text(text) => Ok(Value::String(String::from_str(alloc, text.as_str())?)),
+        Item::Text(text) => text_value(alloc, text),
         Item::Value(text) => read_value(alloc, text),
     }
+}
+
+/// A member more, under a copy of its name.
+fn put_member(
+    alloc: Global,
+    made: &mut Map<String, Value>,
+    name: &Text,
+    value: Value,
+) -> Result<(), AllocError>
+    ensures { OnOk result (members_view made.new.entries ≡ put name.now (view value) (members_view made.old.entries)) }
+{
+    let name = String::from_str(alloc, name.as_str())?;
+    drop(made.insert(name, value)?);
+    Ok(())
+}
+
+fn text_value(alloc: Global, text: &Text) -> Result<Value, AllocError>
+    ensures { IfOk result (λ v. view v ≡ string text.now) }
+{
+    Ok(Value::String(String::from_str(alloc, text.as_str())?))
 }
 
 /// The value that the text is.

@@ -33,6 +33,14 @@ fn quote(alloc: Global, mut out: String, text: &str) -> Result<String, AllocErro
     Ok(out)
 }
 
+/// With the text as it is at the end.
+fn with_text(mut out: String, text: &str) -> Result<String, AllocError>
+    ensures { IfOk result (λ s. string_bytes s ≡ string_bytes out ++ text.now) }
+{
+    out.push_str(text)?;
+    Ok(out)
+}
+
 /// With the members of the object at the end.
 #[cycle(write)]
 pub(crate) fn write_members(
@@ -63,10 +71,18 @@ fn write_member(
     requires { IsMemberFilled member.now }
     ensures { IfOk result (λ s. string_bytes s ≡ string_bytes out ++ member_text later name.now (bodies member.now)) }
 {
+    let out = write_front(alloc, out, later, name)?;
+    write_bodies(alloc, out, member)
+}
+
+/// With what stands in front of the value of a member at the end.
+fn write_front(alloc: Global, out: String, later: bool, name: &Text) -> Result<String, AllocError>
+    ensures { IfOk result (λ s. string_bytes s ≡ string_bytes out ++ (comma_if later ++ (quoted name.now ++ 58 ∷ []))) }
+{
     let mut out = write_comma(out, later)?;
     out = quote(alloc, out, name.as_str())?;
     out.push(':')?;
-    write_bodies(alloc, out, member)
+    Ok(out)
 }
 
 /// With a comma at the end where something stands before.
@@ -80,14 +96,14 @@ fn write_comma(mut out: String, later: bool) -> Result<String, AllocError>
 }
 
 #[cycle(write)]
-fn write_bodies(alloc: Global, mut out: String, member: &Member) -> Result<String, AllocError>
+fn write_bodies(alloc: Global, out: String, member: &Member) -> Result<String, AllocError>
     requires { IsMemberFilled member.now }
     ensures { IfOk result (λ s. string_bytes s ≡ string_bytes out ++ bodies_text (bodies member.now)) }
 {
     match member {
         Member::One(item) => write_item(alloc, out, item),
         Member::Many(items) => {
-            out.push('[')?;
+            let out = with_text(out, "[")?;
             write_items(alloc, out, items)
         }
     }
@@ -105,27 +121,22 @@ fn write_items(alloc: Global, mut out: String, items: &Vec<Item>) -> Result<Stri
         out = write_item(alloc, out, item)?;
         later = true;
     }
-    out.push(']')?;
-    Ok(out)
+    with_text(out, "]")
 }
 
 /// With the item at the end, a value as the text that it is.
 #[cycle(write)]
-pub(crate) fn write_item(alloc: Global, mut out: String, item: &Item) -> Result<String, AllocError>
+pub(crate) fn write_item(alloc: Global, out: String, item: &Item) -> Result<String, AllocError>
     requires { IsItemFilled item.now }
     ensures { IfOk result (λ s. string_bytes s ≡ string_bytes out ++ body_text (body item.now)) }
 {
     match item {
         Item::Class(object) => {
-            out.push('{')?;
-            out = write_members(alloc, out, object)?;
-            out.push('}')?;
-            Ok(out)
+            let out = with_text(out, "{")?;
+            let out = write_members(alloc, out, object)?;
+            with_text(out, "}")
         }
         Item::Text(text) => quote(alloc, out, text.as_str()),
-        Item::Value(text) => {
-            out.push_str(text.as_str())?;
-            Ok(out)
-        }
+        Item::Value(text) => with_text(out, text.as_str()),
     }
 }

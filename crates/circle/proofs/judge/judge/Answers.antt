@@ -1,9 +1,8 @@
-use Rattle.std.proofs.Common.{rules, arith}
-use Rattle.circle.proofs.Judged.{counted_edit, makes}
+use Rattle.circle.proofs.Judged.{by_facts, answer_makes}
 use Rattle.circle.proofs.judge.judge.Goals as goal
 
-pub returns-in-None-clause-edit : goal.returns-in-None-clause-edit
-returns-in-None-clause-edit c = counted_edit c.args.actor.now c.args.command.now c.args.facts.now c.saturating_add.result c.in-Ok.edit (search rules) (λ low. omega (arith, c.saturating_add.ensures, low)) c.in-Ok.ensures.value
+pub returns-clause-refused : goal.returns-clause-refused
+returns-clause-refused c = λ d is. rw (by_facts d c.args.actor.now c.args.command.now c.args.facts.now is) c.judged.ensures.refused
 
-pub returns-in-None-clause-made : goal.returns-in-None-clause-made
-returns-in-None-clause-made c = λ d sound is. makes d c.args.actor.now c.args.command.now c.args.facts.now c.saturating_add.result c.in-Ok.edit sound is (search rules) c.in-Ok.ensures.good (search rules) (λ low. omega (arith, c.saturating_add.ensures, low)) c.in-Ok.ensures.value
+pub returns-clause-made : goal.returns-clause-made
+returns-clause-made c = λ d sound is. answer_makes d c.args.actor.now c.args.command.now c.args.facts.now c.judged.result sound is c.judged.ensures.allowed c.judged.ensures.edit

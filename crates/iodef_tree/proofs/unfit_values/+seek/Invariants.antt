@@ -7,8 +7,8 @@ use Rattle.iodef_tree.proofs.unfit_values.+seek.Given as goal
 
 abbrev pub invariant-first_in_items-loop-index : goal.invariant-first_in_items-loop-index
 invariant-first_in_items-loop-index l = record {
-  left : first_at (is_sought l.sought) (item_nodes l.objects l.arrays l.index-counter (items_view (drop l.index-counter l.item-items))) ≡ first_at (is_sought l.sought) (item_nodes l.objects l.arrays 0 (items_view l.items.items));
-  room : (l.objects + l.arrays) + items_depth (items_view (drop l.index-counter l.item-items)) < 2 ^ 32;
+  left : first_at (is_sought l.sought) (item_nodes l.objects l.arrays l.index (items_view (drop l.index l.item-items))) ≡ first_at (is_sought l.sought) (item_nodes l.objects l.arrays 0 (items_view l.items.items));
+  room : (l.objects + l.arrays) + items_depth (items_view (drop l.index l.item-items)) < 2 ^ 32;
 }
 
 abbrev pub invariant-first_in_members-loop-name : goal.invariant-first_in_members-loop-name

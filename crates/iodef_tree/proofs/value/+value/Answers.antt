@@ -39,7 +39,7 @@ object_value-loop-name-preserved t c =
     let m = c.loop-name-item.result in
     let filled = member-elements m.1 (member-at c.args.object.now c.deref-name-items.result.now c.loop-name.name-index m c.requires.filled c.deref-name-items.ensures.value c.loop-name-test.true c.loop-name-item.is) in
     record {
-      left = put-member c.loop-name.made.entries c.insert.new.self.entries c.in_ok-name.name c.in_ok-value.value (members_of (forest c.args.object.now)) c.deref-name-items.result.now c.loop-name.name-index m
-          c.loop-name-test.true c.loop-name-item.is filled (c.in_ok-name.ensures.ok ∙ c.as_str.ensures) c.in_ok-value.ensures c.in_ok-insert.ensures.entries c.loop-name.invariant.left;
+      left = put-member c.loop-name.made.entries c.put_member.new.made.entries c.in_ok-member_value.field-0 (members_of (forest c.args.object.now)) c.deref-name-items.result.now c.loop-name.name-index m
+          c.loop-name-test.true c.loop-name-item.is filled c.in_ok-member_value.ensures c.in_ok-put_member.ensures c.loop-name.invariant.left;
       ordered = (all-left (λ x. AreBodiesOrdered x.1) c.deref-name-items.result.now c.loop-name.name-index m c.loop-name-test.true c.loop-name-item.is c.loop-name.invariant.ordered).1;
     }

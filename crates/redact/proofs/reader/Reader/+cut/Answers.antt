@@ -232,3 +232,9 @@ cut_array-returns-then-is_empty-clause-goes t c = grind (arith, common_steps)
 
 pub cut_array-returns-clause-goes : goal.cut_array-returns-clause-goes
 cut_array-returns-clause-goes t c = grind (arith, common_steps)
+
+pub cut_array-returns-then-is_empty-clause-left : goal.cut_array-returns-then-is_empty-clause-left
+cut_array-returns-then-is_empty-clause-left t c = grind (arith, common_steps)
+
+pub cut_class-returns-in_ok-kept-2-clause-goes : goal.cut_class-returns-in_ok-kept-2-clause-goes
+cut_class-returns-in_ok-kept-2-clause-goes t c = grind (arith, common_steps)
