@@ -1,4 +1,5 @@
-use Rattle.std.proofs.Common.{◌++◌, ◌∙◌, ap}
+use Rattle.std.proofs.lemmas.Grind.{common_steps}
+use Rattle.std.proofs.Common.{arith, ◌++◌, ◌∙◌, ap}
 use Rattle.iodef_tree.specs.Tree.{end, member_front}
 use Rattle.iodef_tree.specs.View.{bodies}
 use Rattle.iodef_tree.specs.Walk.{classes_below}
@@ -16,3 +17,15 @@ push_object-loop-name-preserved t c =
           ∙ c.loop-name.invariant.pushed;
       kept = c.in_ok-push_member.ensures.kept ∙ c.loop-name.invariant.kept;
     }
+
+pub push_item-returns-in_ok-push_object-in-Class-clause-kept : goal.push_item-returns-in_ok-push_object-in-Class-clause-kept
+push_item-returns-in_ok-push_object-in-Class-clause-kept t c = grind (arith, common_steps)
+
+pub push_member-loop-place-preserved : goal.push_member-loop-place-preserved
+push_member-loop-place-preserved t c = grind (arith, common_steps)
+
+pub push_member-returns-after-loop-place-clause-pushed : goal.push_member-returns-after-loop-place-clause-pushed
+push_member-returns-after-loop-place-clause-pushed t c = grind (arith, common_steps)
+
+pub push_object-returns-clause-pushed : goal.push_object-returns-clause-pushed
+push_object-returns-clause-pushed t c = grind (arith, common_steps)

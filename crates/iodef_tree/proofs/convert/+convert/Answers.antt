@@ -1,3 +1,4 @@
+use Rattle.std.proofs.lemmas.Grind.{common_steps}
 use Rattle.std.proofs.Common.{map, sym, ◌∙◌, subst, arith}
 use Rattle.iodef_tree.specs.Texts.{HasTexts}
 use Rattle.iodef_tree.specs.View.{named}
@@ -25,3 +26,12 @@ object_from-returns-clause-filled t c = made-filled c.loop-name.made c.loop-name
 
 pub array_from-returns-in_ok-items_from-clause-filled : goal.array_from-returns-in_ok-items_from-clause-filled
 array_from-returns-in_ok-items_from-clause-filled t c = grind (arith, many-filled, some_given)
+
+pub items_from-loop-item-preserved : goal.items_from-loop-item-preserved
+items_from-loop-item-preserved t c = grind (arith, common_steps)
+
+pub items_from-returns-clause-made : goal.items_from-returns-clause-made
+items_from-returns-clause-made t c = grind (arith, common_steps)
+
+pub object_from-loop-name-preserved : goal.object_from-loop-name-preserved
+object_from-loop-name-preserved t c = grind (arith, common_steps)

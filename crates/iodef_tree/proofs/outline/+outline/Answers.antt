@@ -1,3 +1,4 @@
+use Rattle.std.proofs.lemmas.Grind.{common_steps}
 use Rattle.std.proofs.Common.{◌∙◌, arith, rules}
 use Rattle.iodef_tree.specs.declared.object.Object.{the_lemmas}
 use Rattle.iodef_tree.proofs.Fronts.{lines-append, list-next, height-next}
@@ -16,3 +17,12 @@ push_object-loop-name-preserved t c = record {
       ∙ c.loop-name.invariant.lines;
   room = let high = height-next c.deref-name-items.result.now c.loop-name.name-index c.loop-name-item.result c.loop-name-test.true c.loop-name-item.is in omega arith;
 }
+
+pub push_member-loop-item-preserved : goal.push_member-loop-item-preserved
+push_member-loop-item-preserved t c = grind (arith, common_steps)
+
+pub push_member-returns-after-loop-item : goal.push_member-returns-after-loop-item
+push_member-returns-after-loop-item t c = grind (arith, common_steps)
+
+pub push_object-returns : goal.push_object-returns
+push_object-returns t c = grind (arith, common_steps)

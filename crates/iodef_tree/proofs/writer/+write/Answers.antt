@@ -1,4 +1,5 @@
-use Rattle.std.proofs.Common.{string_bytes, ◌++◌, false, subst, rules}
+use Rattle.std.proofs.lemmas.Grind.{common_steps}
+use Rattle.std.proofs.Common.{arith, string_bytes, ◌++◌, false, subst, rules}
 use Rattle.iodef_tree.specs.Filled.{IsMemberFilled}
 use Rattle.iodef_tree.specs.View.{forest}
 use Rattle.iodef_tree.specs.Written.{written}
@@ -23,3 +24,15 @@ write_members-write_member-requires t c = (
   search (rules, the_lemmas),
   member-at c.args.object.now c.deref-name-items.result.now c.loop-name.name-index c.loop-name-item.result c.requires c.deref-name-items.ensures.value c.loop-name-test.true c.loop-name-item.is,
 )
+
+pub write_items-loop-item-preserved : goal.write_items-loop-item-preserved
+write_items-loop-item-preserved t c = grind (arith, common_steps)
+
+pub write_items-returns : goal.write_items-returns
+write_items-returns t c = grind (arith, common_steps)
+
+pub write_member-returns : goal.write_member-returns
+write_member-returns t c = grind (arith, common_steps)
+
+pub write_members-returns : goal.write_members-returns
+write_members-returns t c = grind (arith, common_steps)

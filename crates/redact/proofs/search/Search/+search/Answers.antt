@@ -1,3 +1,4 @@
+use Rattle.std.proofs.lemmas.Grind.{common_steps}
 use Rattle.std.proofs.Common.{◌≡◌, [], ◌∷◌, ◌++◌, List, map, sym, ◌∙◌, ap, arith, rules}
 use Rattle.std.proofs.lemmas.List.{map-append}
 use Rattle.iodef_tree.specs.View.{body, bodies}
@@ -61,3 +62,21 @@ in_member-returns-in_ok-found-in-Many-clause-found t c =
     ∙ ap (λ h. found_items C S T h c.args.name.now 0 (map body items.items))
     (array-door C S c.args.above c.at_array-array.result c.args.trail.now.items _ _ _ c.as_slice.ensures.value c.in_ok-inside-in-Many.ensures.trail c.at_array-array.ensures)
     ∙ ap (found_member C S T (carried (path_of c.args.trail.now.items) c.args.above) c.args.name.now) (sym (ap bodies c.in-Many.is ∙ bodies-Many items))
+
+pub among-returns-clause-found : goal.among-returns-clause-found
+among-returns-clause-found t c = grind (arith, common_steps)
+
+pub at-returns-in_ok-found-in-Class-clause-trail : goal.at-returns-in_ok-found-in-Class-clause-trail
+at-returns-in_ok-found-in-Class-clause-trail t c = grind (arith, common_steps)
+
+pub in_array-returns-then-branch-clause-found : goal.in_array-returns-then-branch-clause-found
+in_array-returns-then-branch-clause-found t c = grind (arith, common_steps)
+
+pub in_array-loop-i-preserved : goal.in_array-loop-i-preserved
+in_array-loop-i-preserved t c = grind (arith, common_steps)
+
+pub in_array-returns-clause-found : goal.in_array-returns-clause-found
+in_array-returns-clause-found t c = grind (arith, common_steps)
+
+pub in_member-returns-in_ok-found-in-Many-clause-trail : goal.in_member-returns-in_ok-found-in-Many-clause-trail
+in_member-returns-in_ok-found-in-Many-clause-trail t c = grind (arith, common_steps)
