@@ -91,7 +91,6 @@ impl Document {
     }
 
     /// The document with these lines. BadOutline exactly where they are no outline.
-    #[tactic(auto, using(crate::proofs::Steps::from_outline_steps))]
     pub fn from_outline(alloc: Global, lines: &[Line]) -> Result<Document, OutlineFault>
         ensures ok { IfOk result (λ d. (is_outline lines.now ≡ true) × (d ≡ lines.now)) }
         ensures err { IfErr result (λ e. e ≡ BadOutline → is_outline lines.now ≡ false) }

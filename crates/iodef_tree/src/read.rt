@@ -152,7 +152,6 @@ fn find_fault(alloc: Global, body: &Value) -> Result<(), ReadFault>
 }
 
 /// The members of the root, null standing in place of the Incidents, and the array of these.
-#[tactic(auto, using(crate::proofs::Steps::take_incidents_steps))]
 fn take_incidents(
     alloc: Global,
     body: Value,
@@ -183,7 +182,6 @@ fn array_in(value: Value) -> Option<Vec<Value>>
     }
 }
 
-#[tactic(auto, using(crate::proofs::Steps::documents_from_steps))]
 fn documents_from(
     alloc: Global,
     root: Map<String, Value>,
@@ -218,7 +216,6 @@ fn documents_beside(
     Ok(all)
 }
 
-#[tactic(auto, using(crate::proofs::Steps::document_from_steps))]
 fn document_from(
     alloc: Global,
     root: Map<String, Value>,

@@ -6,7 +6,7 @@ ghost use Rattle.marking.specs.Marks.{first_bad_marking};
 
 use crate::dice::Dice;
 use crate::documents::report_text;
-use crate::entry::located;
+use crate::entry::{Entry, located};
 use crate::judged::{
     Judged, Told, count_seen, in_order, judge, kept_outline, places, search, withheld,
 };
@@ -20,6 +20,14 @@ use marking::check;
 use policy::{Case, Rule, Standing};
 use redact::{Excerpt, excerpt, finds, is_listed};
 use std::alloc::{AllocError, Global};
+
+/// The needles, and the classes in which they are searched.
+const SEARCHES: &[(&str, Option<&str>)] = &[
+    ("needle", None),
+    ("needles", Some("Node")),
+    ("", Some("Flow")),
+    ("private", None),
+];
 
 pub fn same_line(one: &Line, other: &Line) -> bool {
     one.depth == other.depth
@@ -55,22 +63,41 @@ pub struct Expected {
     pub withheld: Vec<Told>,
 }
 
-/// The slow program's answer; the tally is told what the case shows.
+/// What is withheld beside these kept lines; the tally is told where they stand.
+fn withheld_beside(
+    tally: &mut Tally,
+    world: &World<'_, '_>,
+    list: &[Judged<'_>],
+    lines: &[Entry<'_>],
+) -> Result<Vec<Told>, AllocError> {
+    let pairs = places(world.alloc, list, lines)?;
+    note_places(tally, world, list, lines, &pairs);
+    let told = withheld(world.alloc, list, &pairs)?;
+    let count = told.len();
+    let withheld = in_order(world.alloc, told)?;
+    note_withheld(tally, count, &withheld);
+    Ok(withheld)
+}
+
+/// What is withheld beside this kept outline.
+fn slow_withheld(
+    tally: &mut Tally,
+    world: &World<'_, '_>,
+    list: &[Judged<'_>],
+    outline: &[Line],
+) -> Result<Vec<Told>, AllocError> {
+    let lines = located(world.alloc, outline)?;
+    withheld_beside(tally, world, list, &lines)
+}
+
+/// The slow program's answer.
 fn slow_answer(
     tally: &mut Tally,
     world: &World<'_, '_>,
     list: &[Judged<'_>],
 ) -> Result<Expected, AllocError> {
     let outline = kept_outline(world, list)?;
-    let pairs = places(world.alloc, list, &outline)?;
-    let told = withheld(world.alloc, list, &pairs)?;
-    let count = told.len();
-    let withheld = in_order(world.alloc, told)?;
-    note_reader(tally, world.standing);
-    note_classes(tally, world, list)?;
-    note_places(tally, world, list, &outline, &pairs)?;
-    note_withheld(tally, count, &withheld);
-    note_stations(tally, world)?;
+    let withheld = slow_withheld(tally, world, list, &outline)?;
     Ok(Expected {
         outline,
         classes: count_seen(list),
@@ -131,11 +158,43 @@ fn agrees_on_searches(
     list: &[Judged<'_>],
     document: &Document,
 ) -> Result<bool, AllocError> {
+    for (needle, class) in SEARCHES {
+        if !agrees_on_search(tally, world, list, document, needle, *class)? {
+            return Ok(false);
+        }
+    }
+    Ok(true)
+}
+
+/// Whether the excerpt is as expected, and the report is listed where there is one.
+fn agrees_on_excerpt(
+    world: &World<'_, '_>,
+    document: &Document,
+    expected: &Expected,
+) -> Result<bool, AllocError>
+    requires { first_bad_marking (entries_of document.now) ≡ None }
+{
+    let listed = is_listed(world.alloc, document, world.case, world.standing)?;
+    let answer = excerpt(world.alloc, document, world.case, world.standing)?;
+    Ok(listed == (expected.classes > 0) && is_expected(world.alloc, &answer, expected)?)
+}
+
+/// Whether both agree; the tally is told what the case shows.
+fn agrees_in(
+    tally: &mut Tally,
+    world: &World<'_, '_>,
+    document: &Document,
+) -> Result<bool, AllocError>
+    requires { first_bad_marking (entries_of document.now) ≡ None }
+{
+    let list = judge(world)?;
+    let expected = slow_answer(tally, world, &list)?;
+    note_reader(tally, world.standing);
+    note_classes(tally, world, &list);
+    note_stations(tally, world)?;
     Ok(
-        agrees_on_search(tally, world, list, document, "needle", None)?
-            && agrees_on_search(tally, world, list, document, "needles", Some("Node"))?
-            && agrees_on_search(tally, world, list, document, "", Some("Flow"))?
-            && agrees_on_search(tally, world, list, document, "private", None)?,
+        agrees_on_excerpt(world, document, &expected)?
+            && agrees_on_searches(tally, world, &list, document)?,
     )
 }
 
@@ -153,35 +212,40 @@ pub fn agrees(
     let entries = located(alloc, &lines)?;
     let world = World {
         alloc,
-        entries,
+        entries: entries.as_slice(),
         case,
         standing,
     };
-    let list = judge(&world)?;
-    let expected = slow_answer(tally, &world, &list)?;
-    let answer = excerpt(alloc, document, case, standing)?;
-    let listed = is_listed(alloc, document, case, standing)?;
-    if listed != (expected.classes > 0) || !is_expected(alloc, &answer, &expected)? {
-        return Ok(false);
-    }
-    agrees_on_searches(tally, &world, &list, document)
+    agrees_in(tally, &world, document)
 }
 
-/// Whether both agree on the case of this seed. A report that isn't read, or not accepted, agrees on nothing.
-pub fn agrees_at(alloc: Global, tally: &mut Tally, seed: u64) -> Result<bool, AllocError> {
-    let mut dice = Dice::new(seed);
-    let text = report_text(alloc, &mut dice)?;
-    let Ok(mut documents) = Document::read(alloc, text.as_bytes()) else {
-        return Ok(false);
-    };
-    let Some(document) = documents.pop() else {
-        return Ok(false);
-    };
-    let Ok(()) = check(alloc, &document) else {
+/// Whether both agree on the document, for any case and reader. One that isn't accepted agrees on nothing.
+fn agrees_on(
+    alloc: Global,
+    tally: &mut Tally,
+    dice: &mut Dice,
+    document: &Document,
+) -> Result<bool, AllocError> {
+    let Ok(()) = check(alloc, document) else {
         return Ok(false);
     };
     let classes = document.classes(alloc)?;
-    let case = any_case(alloc, &mut dice, &classes)?;
-    let standing = any_standing(alloc, &mut dice)?;
-    agrees(alloc, tally, &document, &case, &standing)
+    let case = any_case(alloc, dice, &classes)?;
+    let standing = any_standing(alloc, dice)?;
+    agrees(alloc, tally, document, &case, &standing)
+}
+
+/// The document of a report, if it is read.
+pub fn document_of(alloc: Global, text: &str) -> Option<Document> {
+    Document::read(alloc, text.as_bytes()).ok()?.pop()
+}
+
+/// Whether both agree on the case of this seed. A report that isn't read agrees on nothing.
+pub fn agrees_at(alloc: Global, tally: &mut Tally, seed: u64) -> Result<bool, AllocError> {
+    let mut dice = Dice::new(seed);
+    let text = report_text(alloc, &mut dice)?;
+    match document_of(alloc, text.as_str()) {
+        Some(document) => agrees_on(alloc, tally, &mut dice, &document),
+        None => Ok(false),
+    }
 }

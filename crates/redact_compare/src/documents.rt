@@ -178,20 +178,23 @@ fn level(alloc: Global, dice: &mut Dice, classes: &[String]) -> Result<Vec<Strin
     Ok(made)
 }
 
-/// A class at the end of a chain of classes in one another, each alone in an array, some with a label.
+/// A class, some with a label, over this one alone in an array.
+fn link_text(alloc: Global, dice: &mut Dice, inner: &str) -> Result<String, AllocError> {
+    let mut text = String::from_str(alloc, "{")?;
+    if dice.once_in(4) {
+        push_marking(&mut text, marking(dice))?;
+    }
+    push_member(&mut text, class_name(dice), "[")?;
+    text.push_str(inner)?;
+    text.push_str("]}")?;
+    Ok(text)
+}
+
+/// A class at the end of a chain of such classes in one another.
 fn chain_text(alloc: Global, dice: &mut Dice, last: &str) -> Result<String, AllocError> {
     let mut text = String::from_str(alloc, last)?;
     for _ in 0..dice.roll(12) {
-        let mut outer = String::from_str(alloc, "{")?;
-        if dice.once_in(4) {
-            push_marking(&mut outer, marking(dice))?;
-        }
-        let mut array = String::from_str(alloc, "[")?;
-        array.push_str(text.as_str())?;
-        array.push(']')?;
-        push_member(&mut outer, class_name(dice), array.as_str())?;
-        outer.push('}')?;
-        text = outer;
+        text = link_text(alloc, dice, text.as_str())?;
     }
     Ok(text)
 }

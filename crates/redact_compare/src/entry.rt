@@ -29,30 +29,30 @@ fn place_among(before: &[Entry<'_>], parent: &Path, name: &Text) -> usize {
         .count()
 }
 
+/// A line behind these.
+fn entry_of<'a>(
+    alloc: Global,
+    before: &[Entry<'a>],
+    line: &'a Line,
+) -> Result<Entry<'a>, AllocError> {
+    let parent = parent_of(alloc, before, line.depth)?;
+    let named = parent.member(alloc, line.name.as_str())?;
+    let path = if line.in_array {
+        named.index(alloc, place_among(before, &parent, &line.name))?
+    } else {
+        named
+    };
+    Ok(Entry { parent, path, line })
+}
+
 /// The lines of an outline with their paths.
 pub fn located<'a>(alloc: Global, lines: &'a [Line]) -> Result<Vec<Entry<'a>>, AllocError> {
     let mut entries: Vec<Entry<'a>> = Vec::new(alloc);
     for line in lines {
-        let parent = parent_of(alloc, &entries, line.depth)?;
-        let named = parent.member(alloc, line.name.as_str())?;
-        let path = if line.in_array {
-            named.index(alloc, place_among(&entries, &parent, &line.name))?
-        } else {
-            named
-        };
-        entries.push(Entry { parent, path, line })?;
+        let entry = entry_of(alloc, &entries, line)?;
+        entries.push(entry)?;
     }
     Ok(entries)
-}
-
-/// Every prefix of a path, the shortest first.
-pub fn prefixes<'a>(alloc: Global, path: &'a [Text]) -> Result<Vec<&'a [Text]>, AllocError> {
-    let mut list = Vec::new(alloc);
-    for length in 0..path.len() {
-        list.push(&path[..length])?;
-    }
-    list.push(path)?;
-    Ok(list)
 }
 
 /// Whether one path lies below another.

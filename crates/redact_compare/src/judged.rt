@@ -1,6 +1,6 @@
 //! What is kept of a document, and what is withheld, from the verdict of each path.
 
-use crate::entry::{is_below, located};
+use crate::entry::{Entry, is_below};
 use crate::world::World;
 use iodef_tree::{Kind, Line, Path, Text};
 use std::alloc::{AllocError, Global};
@@ -15,6 +15,13 @@ pub struct Judged<'a> {
     pub rule: &'static str,
 }
 
+/// A kept class: its path, and the path of its line in the kept outline.
+#[derive(Clone, Copy)]
+pub struct Moved<'a> {
+    pub path: &'a Path,
+    pub place: &'a Path,
+}
+
 /// Something that is withheld: the printed place, and the rule.
 #[derive(Drop)]
 pub struct Told {
@@ -22,23 +29,22 @@ pub struct Told {
     pub rule: &'static str,
 }
 
-pub fn judge<'a>(world: &'a World<'_, '_>) -> Result<Vec<Judged<'a>>, AllocError> {
+fn verdict<'a>(world: &World<'_, '_>, entry: &'a Entry<'_>) -> Judged<'a> {
+    let class = entry.line.kind == Kind::Class;
+    let path = entry.path.tokens();
+    Judged {
+        parent: &entry.parent,
+        path: &entry.path,
+        line: entry.line,
+        visible: class && world.is_visible(path),
+        rule: if class { world.hiding_rule(path) } else { "" },
+    }
+}
+
+pub fn judge<'r>(world: &World<'_, 'r>) -> Result<Vec<Judged<'r>>, AllocError> {
     let mut list = Vec::new(world.alloc);
-    for entry in &world.entries {
-        let class = entry.line.kind == Kind::Class;
-        let visible = class && world.is_visible(entry.path.tokens())?;
-        let rule = if class {
-            world.hiding_rule(entry.path.tokens())?
-        } else {
-            ""
-        };
-        list.push(Judged {
-            parent: &entry.parent,
-            path: &entry.path,
-            line: entry.line,
-            visible,
-            rule,
-        })?;
+    for entry in world.entries {
+        list.push(verdict(world, entry))?;
     }
     Ok(list)
 }
@@ -118,7 +124,7 @@ fn add_label(
     judged: &Judged<'_>,
     lines: &mut Vec<Line>,
 ) -> Result<(), AllocError> {
-    let label = world.label(judged.path.tokens())?;
+    let label = world.label(judged.path.tokens());
     let depth = judged.line.depth.saturating_add(1);
     put(
         lines,
@@ -153,55 +159,63 @@ pub fn count_seen(list: &[Judged<'_>]) -> usize {
     list.iter().filter(|judged| judged.visible).count()
 }
 
-/// The path of each kept class, with the path of its line in the kept outline.
-pub fn places(
+/// The kept classes, by the lines of the kept outline.
+pub fn places<'a>(
     alloc: Global,
-    list: &[Judged<'_>],
-    kept: &[Line],
-) -> Result<Vec<(Path, Path)>, AllocError> {
-    let mut stored = Vec::new(alloc);
+    list: &[Judged<'a>],
+    kept: &'a [Entry<'_>],
+) -> Result<Vec<Moved<'a>>, AllocError> {
+    let mut pairs = Vec::new(alloc);
+    let mut classes = kept.iter().filter(|entry| entry.line.kind == Kind::Class);
     for judged in list {
         if judged.line.kind == Kind::Class && is_kept(list, judged) {
-            stored.push(judged.path.clone()?)?;
+            if let Some(entry) = classes.next() {
+                pairs.push(Moved {
+                    path: judged.path,
+                    place: &entry.path,
+                })?;
+            }
         }
-    }
-    let mut pairs = Vec::new(alloc);
-    let lines = located(alloc, kept)?;
-    let classes = lines.iter().filter(|entry| entry.line.kind == Kind::Class);
-    for (path, entry) in stored.into_iter().zip(classes) {
-        pairs.push((path, entry.path.clone()?))?;
     }
     Ok(pairs)
 }
 
 /// The printed place of a kept class; the root's is the root's path.
-fn place_of(alloc: Global, pairs: &[(Path, Path)], path: &Path) -> Result<String, AllocError> {
-    for (stored, place) in pairs {
-        if *stored == *path {
-            return place.print(alloc);
+fn place_of(alloc: Global, pairs: &[Moved<'_>], path: &Path) -> Result<String, AllocError> {
+    for pair in pairs {
+        if *pair.path == *path {
+            return pair.place.print(alloc);
         }
     }
     Ok(String::new(alloc))
+}
+
+/// The path at which the rule of a class is told, if it is.
+fn told_at<'a>(list: &[Judged<'_>], judged: &Judged<'a>) -> Option<&'a Path> {
+    let path = judged.path.tokens();
+    if judged.line.kind != Kind::Class {
+        return None;
+    }
+    if is_frame(list, path) {
+        return Some(judged.path);
+    }
+    if is_wholly_hidden(list, path) && !is_wholly_hidden(list, judged.parent.tokens()) {
+        return Some(judged.parent);
+    }
+    None
 }
 
 /// What is withheld, in stored order and with repeats.
 pub fn withheld(
     alloc: Global,
     list: &[Judged<'_>],
-    pairs: &[(Path, Path)],
+    pairs: &[Moved<'_>],
 ) -> Result<Vec<Told>, AllocError> {
     let mut told = Vec::new(alloc);
     for judged in list {
-        let path = judged.path.tokens();
-        let rule = judged.rule;
-        if judged.line.kind != Kind::Class {
-            continue;
-        }
-        if is_frame(list, path) {
-            let place = place_of(alloc, pairs, judged.path)?;
-            told.push(Told { place, rule })?;
-        } else if is_wholly_hidden(list, path) && !is_wholly_hidden(list, judged.parent.tokens()) {
-            let place = place_of(alloc, pairs, judged.parent)?;
+        if let Some(path) = told_at(list, judged) {
+            let place = place_of(alloc, pairs, path)?;
+            let rule = judged.rule;
             told.push(Told { place, rule })?;
         }
     }

@@ -5,7 +5,7 @@ ghost use Rattle.std.specs.Prelude.{◌≡◌, None};
 ghost use Rattle.iodef_tree.specs.Paths.{located};
 ghost use Rattle.marking.specs.Marks.{first_bad_marking};
 
-use crate::compared::same_line;
+use crate::compared::{document_of, same_line};
 use iodef_tree::{Document, LINE_LIMIT, Line, Path};
 use marking::check;
 use policy::{Case, Gate, Gates, Grantee, Permission, Permissions, Rule, Standing};
@@ -96,27 +96,52 @@ fn is_added(line: &Line) -> bool {
     line.depth == 2 && line.name.as_str() == "restriction"
 }
 
+/// Whether the last line but one is the label.
+fn says_label(lines: &[Line]) -> bool {
+    match lines.iter().rev().nth(1) {
+        Some(line) => is_added(line) && line.text.as_str() == "private",
+        None => false,
+    }
+}
+
+/// Whether all lines but the label are the stored ones.
+fn others_are(stored: &[Line], lines: &[Line]) -> bool {
+    let mut others = stored.iter();
+    for line in lines {
+        if !is_added(line) {
+            match others.next() {
+                Some(other) if same_line(line, other) => {}
+                _ => return false,
+            }
+        }
+    }
+    true
+}
+
+/// Whether it has every stored line and the label.
+fn has_all(alloc: Global, document: &Document, shown: &Document) -> Result<bool, AllocError> {
+    let stored = document.outline(alloc)?;
+    let lines = shown.outline(alloc)?;
+    Ok(
+        stored.len() == LINE_LIMIT
+            && lines.len() == LINE_LIMIT + 1
+            && says_label(&lines)
+            && others_are(&stored, &lines),
+    )
+}
+
 /// The source is shown every line and, behind the last of the Incident, its label.
 fn shows_all(alloc: Global, document: &Document, case: &Case) -> Result<bool, AllocError>
     requires { first_bad_marking (located document.now) ≡ None }
 {
-    let Some(whole) = excerpt(alloc, document, case, &reader(alloc, 2, true))? else {
-        return Ok(false);
-    };
-    let stored = document.outline(alloc)?;
-    let lines = whole.document.outline(alloc)?;
-    let said = lines.iter().rev().nth(1);
-    let others = lines.iter().filter(|line| !is_added(line));
-    Ok(
-        stored.len() == LINE_LIMIT
-            && lines.len() == LINE_LIMIT + 1
-            && said.is_some_and(|line| is_added(line) && line.text.as_str() == "private")
-            && others
-                .zip(stored.iter())
-                .all(|(line, second)| same_line(line, second))
-            && whole.classes == 1383
-            && whole.withheld.is_empty(),
-    )
+    match excerpt(alloc, document, case, &reader(alloc, 2, true))? {
+        Some(whole) => Ok(
+            whole.classes == 1383
+                && whole.withheld.is_empty()
+                && has_all(alloc, document, &whole.document)?,
+        ),
+        None => Ok(false),
+    }
 }
 
 /// At the Incident G0 hides the gated events and H-RED the others; each class of the chain but the last is a frame.
@@ -136,36 +161,43 @@ fn is_withheld(alloc: Global, pairs: &[(Path, Rule)]) -> Result<bool, AllocError
     Ok(pairs.len() == 31)
 }
 
+/// Whether it has the text at the end of the chain, and as many lines as are to be shown.
+fn has_deepest(alloc: Global, shown: &Document) -> Result<bool, AllocError> {
+    let lines = shown.outline(alloc)?;
+    let deepest = lines
+        .iter()
+        .any(|line| line.depth == 32 && line.text.as_str() == "deep");
+    Ok(lines.len() == 184 && deepest)
+}
+
 /// A reader for whom the permissions are is shown the Incident, the last of the chain in 29 frames, and 48 events.
 fn shows_some(alloc: Global, document: &Document, case: &Case) -> Result<bool, AllocError>
     requires { first_bad_marking (located document.now) ≡ None }
 {
-    let Some(part) = excerpt(alloc, document, case, &reader(alloc, ORG, false))? else {
-        return Ok(false);
-    };
-    let lines = part.document.outline(alloc)?;
-    Ok(
-        lines.len() == 184
-            && part.classes == 50
-            && lines
-                .iter()
-                .any(|line| line.depth == 32 && line.text.as_str() == "deep")
-            && is_withheld(alloc, &part.withheld)?,
-    )
+    match excerpt(alloc, document, case, &reader(alloc, ORG, false))? {
+        Some(part) => Ok(
+            part.classes == 50
+                && has_deepest(alloc, &part.document)?
+                && is_withheld(alloc, &part.withheld)?,
+        ),
+        None => Ok(false),
+    }
 }
 
-/// Whether both readers are shown what they are to be shown.
-pub fn holds_at_limits(alloc: Global) -> Result<bool, AllocError> {
-    let text = report_text(alloc)?;
-    let Ok(mut documents) = Document::read(alloc, text.as_bytes()) else {
-        return Ok(false);
-    };
-    let Some(document) = documents.pop() else {
-        return Ok(false);
-    };
-    let Ok(()) = check(alloc, &document) else {
+/// Whether both readers are shown of the document what they are to be shown.
+fn holds_of(alloc: Global, document: &Document) -> Result<bool, AllocError> {
+    let Ok(()) = check(alloc, document) else {
         return Ok(false);
     };
     let case = full_case(alloc)?;
-    Ok(shows_all(alloc, &document, &case)? && shows_some(alloc, &document, &case)?)
+    Ok(shows_all(alloc, document, &case)? && shows_some(alloc, document, &case)?)
+}
+
+/// Whether that holds of the report.
+pub fn holds_at_limits(alloc: Global) -> Result<bool, AllocError> {
+    let text = report_text(alloc)?;
+    match document_of(alloc, text.as_str()) {
+        Some(document) => holds_of(alloc, &document),
+        None => Ok(false),
+    }
 }

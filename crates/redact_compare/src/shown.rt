@@ -1,13 +1,12 @@
 //! What a generated case shows, as the slow program finds it.
 
-use crate::entry::{located, prefixes};
-use crate::judged::{Judged, Told, holds_seen, is_frame, is_wholly_hidden, says_label};
+use crate::entry::Entry;
+use crate::judged::{Judged, Moved, Told, holds_seen, is_frame, is_wholly_hidden, says_label};
 use crate::policy_tables::{cleared, refused};
 use crate::tally::Tally;
 use crate::world::World;
-use iodef_tree::{Kind, Line, Path, Text};
+use iodef_tree::{Kind, Path, Text};
 use policy::Standing;
-use std::alloc::AllocError;
 
 pub fn note_reader(tally: &mut Tally, standing: &Standing) {
     tally.note("readers of the source", standing.source);
@@ -32,70 +31,84 @@ fn refusing(world: &World<'_, '_>, path: &[Text]) -> usize {
         .count()
 }
 
-fn note_gates(tally: &mut Tally, world: &World<'_, '_>, path: &[Text]) -> Result<(), AllocError> {
+fn note_gates(tally: &mut Tally, world: &World<'_, '_>, path: &[Text]) {
     let mut places: u32 = 0;
-    for prefix in &prefixes(world.alloc, path)? {
-        let count = refusing(world, prefix);
+    for length in 0..=path.len() {
+        let count = refusing(world, &path[..length]);
         tally.note("gates that refuse at one place", count > 1);
         if count > 0 {
             places = places.saturating_add(1);
         }
     }
     tally.note("gates that refuse at two places of a path", places > 1);
-    Ok(())
 }
 
-fn note_permissions(
-    tally: &mut Tally,
-    world: &World<'_, '_>,
-    judged: &Judged<'_>,
-) -> Result<(), AllocError> {
+fn note_permissions(tally: &mut Tally, world: &World<'_, '_>, judged: &Judged<'_>) {
     let path = judged.path.tokens();
-    let needed = !world.standing.source
-        && world.refusal(path)?.is_none()
-        && !world.is_cleared(path)?;
+    let needed = !world.standing.source && world.refusal(path).is_none() && !world.is_cleared(path);
     tally.note("permissions that show a class", needed && judged.visible);
     for permission in world.case.permissions.as_slice() {
-        let ended = world.reaches(permission, path) && world.is_ended(permission, path)?;
+        let ended = world.reaches(permission, path) && world.is_ended(permission, path);
         tally.note(
             "permissions that end at a label",
             needed && ended && !judged.visible,
         );
     }
-    Ok(())
+}
+
+fn note_class(tally: &mut Tally, world: &World<'_, '_>, list: &[Judged<'_>], judged: &Judged<'_>) {
+    let path = judged.path.tokens();
+    let above = judged.parent.tokens();
+    let frame = is_frame(list, path);
+    tally.note("frames", frame);
+    tally.note(
+        "frames below frames",
+        frame && !above.is_empty() && is_frame(list, above),
+    );
+    tally.note(
+        "hidden classes below hidden ones",
+        is_wholly_hidden(list, path) && is_wholly_hidden(list, above),
+    );
+    tally.note(
+        "added extended labels",
+        says_label(world, list, judged) && world.label(path).word == "ext-value",
+    );
+    note_gates(tally, world, path);
+    note_permissions(tally, world, judged);
 }
 
 /// What is decided of each class.
-pub fn note_classes(
-    tally: &mut Tally,
-    world: &World<'_, '_>,
-    list: &[Judged<'_>],
-) -> Result<(), AllocError> {
+pub fn note_classes(tally: &mut Tally, world: &World<'_, '_>, list: &[Judged<'_>]) {
     for judged in list {
-        if judged.line.kind != Kind::Class {
-            continue;
+        if judged.line.kind == Kind::Class {
+            note_class(tally, world, list, judged);
         }
-        let path = judged.path.tokens();
-        let above = judged.parent.tokens();
-        let frame = is_frame(list, path);
-        tally.note("frames", frame);
-        tally.note(
-            "frames below frames",
-            frame && !above.is_empty() && is_frame(list, above),
-        );
-        tally.note(
-            "hidden classes below hidden ones",
-            is_wholly_hidden(list, path) && is_wholly_hidden(list, above),
-        );
-        tally.note(
-            "added extended labels",
-            says_label(world, list, judged) && world.label(path)?.word == "ext-value",
-        );
-        note_gates(tally, world, path)?;
-        note_permissions(tally, world, judged)?;
     }
     tally.note("nothing visible", !holds_seen(list, &[]));
-    Ok(())
+}
+
+/// Between which members of the class at the place a label was added.
+fn note_added(tally: &mut Tally, lines: &[Entry<'_>], place: &Path) {
+    let mut before = false;
+    let mut behind = false;
+    for entry in lines {
+        if entry.parent == *place {
+            before = before || entry.line.name.as_str() < "ext-restriction";
+            behind = behind || entry.line.name.as_str() > "restriction";
+        }
+    }
+    tally.note("added labels", true);
+    tally.note("added labels between members", before && behind);
+}
+
+/// Whether the class at the path has its label added.
+fn says_label_at(world: &World<'_, '_>, list: &[Judged<'_>], path: &Path) -> bool {
+    for judged in list {
+        if *judged.path == *path && says_label(world, list, judged) {
+            return true;
+        }
+    }
+    false
 }
 
 /// Which classes moved in an array, and where labels were added.
@@ -103,28 +116,18 @@ pub fn note_places(
     tally: &mut Tally,
     world: &World<'_, '_>,
     list: &[Judged<'_>],
-    kept: &[Line],
-    pairs: &[(Path, Path)],
-) -> Result<(), AllocError> {
-    let lines = located(world.alloc, kept)?;
-    for (path, place) in pairs {
-        tally.note("places that differ from the paths", *path != *place);
-        for judged in list {
-            if *judged.path == *path && says_label(world, list, judged) {
-                let mut before = false;
-                let mut behind = false;
-                for entry in &lines {
-                    if entry.parent == *place {
-                        before = before || entry.line.name.as_str() < "ext-restriction";
-                        behind = behind || entry.line.name.as_str() > "restriction";
-                    }
-                }
-                tally.note("added labels", true);
-                tally.note("added labels between members", before && behind);
-            }
+    lines: &[Entry<'_>],
+    pairs: &[Moved<'_>],
+) {
+    for pair in pairs {
+        tally.note(
+            "places that differ from the paths",
+            *pair.path != *pair.place,
+        );
+        if says_label_at(world, list, pair.path) {
+            note_added(tally, lines, pair.place);
         }
     }
-    Ok(())
 }
 
 pub fn note_withheld(tally: &mut Tally, count: usize, told: &[Told]) {

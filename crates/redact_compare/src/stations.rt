@@ -1,5 +1,6 @@
 //! Where the gates and permissions of a generated case stand.
 
+use crate::entry::Entry;
 use crate::tally::Tally;
 use crate::world::World;
 use iodef_tree::{Kind, Path, Text};
@@ -32,25 +33,35 @@ fn are_siblings(one: &[Text], other: &[Text]) -> bool {
     }
 }
 
+/// Whether the path is that of an array with this element.
+fn is_array_of(path: &Path, entry: &Entry<'_>) -> bool {
+    match entry.path.tokens().split_last() {
+        Some((_, above)) => entry.line.in_array && above == path.tokens(),
+        None => false,
+    }
+}
+
+/// Whether the line stands at the path, or in an array that does.
+fn note_line(tally: &mut Tally, entry: &Entry<'_>, path: &Path) -> bool {
+    let here = entry.path == *path;
+    let class = entry.line.kind == Kind::Class;
+    let inside = is_array_of(path, entry);
+    tally.note(
+        "gates or permissions at elements",
+        here && class && entry.line.in_array,
+    );
+    tally.note("gates or permissions at plain members", here && !class);
+    tally.note("gates or permissions at arrays", inside);
+    here || inside
+}
+
 /// What stands at the path.
 fn note_kind(tally: &mut Tally, world: &World<'_, '_>, path: &Path) {
     let mut nothing = !path.tokens().is_empty();
-    for entry in &world.entries {
-        let here = entry.path == *path;
-        let class = entry.line.kind == Kind::Class;
-        let inside = entry.line.in_array
-            && entry
-                .path
-                .tokens()
-                .split_last()
-                .is_some_and(|(_, above)| above == path.tokens());
-        tally.note(
-            "gates or permissions at elements",
-            here && class && entry.line.in_array,
-        );
-        tally.note("gates or permissions at plain members", here && !class);
-        tally.note("gates or permissions at arrays", inside);
-        nothing = nothing && !here && !inside;
+    for entry in world.entries {
+        if note_line(tally, entry, path) {
+            nothing = false;
+        }
     }
     tally.note("gates or permissions at nothing", nothing);
 }
@@ -68,7 +79,7 @@ pub fn note_stations(tally: &mut Tally, world: &World<'_, '_>) -> Result<(), All
             tally.note("several at one path", **path == **other);
         }
     }
-    for entry in &world.entries {
+    for entry in world.entries {
         tally.note("long names", entry.line.name.as_str().len() > LONG);
         tally.note("deep chains", entry.path.tokens().len() > DEEP);
     }

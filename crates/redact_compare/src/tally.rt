@@ -3,7 +3,7 @@
 use std::alloc::{AllocError, Global};
 
 /// What is to be shown, each at least `FLOOR` times.
-const WANTED: [&str; 38] = [
+const WANTED: &[&str] = &[
     "readers of the source",
     "readers cleared for CLEAR",
     "readers cleared for GREEN",
@@ -60,7 +60,7 @@ pub struct Tally {
 impl Tally {
     pub fn new(alloc: Global) -> Result<Tally, AllocError> {
         let mut counts = Vec::new(alloc);
-        for name in WANTED {
+        for &name in WANTED {
             counts.push(Count { name, count: 0 })?;
         }
         Ok(Tally { counts })

@@ -1,10 +1,10 @@
 //! The verdict of each path, judged alone against all its prefixes over the flat outline.
 
-use crate::entry::{Entry, prefixes};
+use crate::entry::Entry;
 use crate::policy_tables::{Written, cleared, is_meant, refused, rule_of, strictness};
 use iodef_tree::{Kind, Text};
 use policy::{Case, Permission, Standing};
-use std::alloc::{AllocError, Global};
+use std::alloc::Global;
 
 const PRIVATE: Written<'static> = Written {
     word: "private",
@@ -12,10 +12,10 @@ const PRIVATE: Written<'static> = Written {
 };
 
 /// The lines of a document, and by what they are judged.
-#[derive(Drop)]
+#[derive(Clone, Copy)]
 pub struct World<'a, 'r> {
     pub alloc: Global,
-    pub entries: Vec<Entry<'a>>,
+    pub entries: &'r [Entry<'a>],
     pub case: &'r Case,
     pub standing: &'r Standing,
 }
@@ -35,7 +35,7 @@ impl<'a, 'r> World<'a, 'r> {
 
     /// The text of this name directly in the class at the path.
     fn text_in(&self, path: &[Text], name: &str) -> Option<&'a str> {
-        for entry in &self.entries {
+        for entry in self.entries {
             if entry.line.kind == Kind::Text
                 && !entry.line.in_array
                 && entry.line.name.as_str() == name
@@ -70,13 +70,13 @@ impl<'a, 'r> World<'a, 'r> {
     }
 
     /// The own label of the longest prefix that has one.
-    pub fn label(&self, path: &[Text]) -> Result<Written<'a>, AllocError> {
-        for prefix in prefixes(self.alloc, path)?.iter().rev() {
-            if let Some(label) = self.own(prefix) {
-                return Ok(label);
+    pub fn label(&self, path: &[Text]) -> Written<'a> {
+        for cut in 0..=path.len() {
+            if let Some(label) = self.own(&path[..path.len() - cut]) {
+                return label;
             }
         }
-        Ok(PRIVATE)
+        PRIVATE
     }
 
     /// The first refusal of a gate at this very path.
@@ -92,13 +92,13 @@ impl<'a, 'r> World<'a, 'r> {
     }
 
     /// The refusal of the shortest prefix.
-    pub fn refusal(&self, path: &[Text]) -> Result<Option<&'static str>, AllocError> {
-        for prefix in &prefixes(self.alloc, path)? {
-            if let Some(rule) = self.refused_at(prefix) {
-                return Ok(Some(rule));
+    pub fn refusal(&self, path: &[Text]) -> Option<&'static str> {
+        for length in 0..=path.len() {
+            if let Some(rule) = self.refused_at(&path[..length]) {
+                return Some(rule);
             }
         }
-        Ok(None)
+        None
     }
 
     /// Whether the permission stands at the path or above it, for this reader.
@@ -107,48 +107,45 @@ impl<'a, 'r> World<'a, 'r> {
     }
 
     /// Whether a label is written below the permission, down to the path.
-    pub fn is_ended(&self, permission: &Permission, path: &[Text]) -> Result<bool, AllocError> {
-        for prefix in &prefixes(self.alloc, path)? {
-            if prefix.len() > permission.path.tokens().len() && self.written(prefix).is_some() {
-                return Ok(true);
+    pub fn is_ended(&self, permission: &Permission, path: &[Text]) -> bool {
+        for length in 0..=path.len() {
+            if length > permission.path.tokens().len() && self.written(&path[..length]).is_some() {
+                return true;
             }
         }
-        Ok(false)
+        false
     }
 
-    pub fn is_covered(&self, path: &[Text]) -> Result<bool, AllocError> {
+    pub fn is_covered(&self, path: &[Text]) -> bool {
         for permission in self.case.permissions.as_slice() {
-            if self.reaches(permission, path) && !self.is_ended(permission, path)? {
-                return Ok(true);
+            if self.reaches(permission, path) && !self.is_ended(permission, path) {
+                return true;
             }
         }
-        Ok(false)
+        false
     }
 
     /// How strictly what stands at the path is handled.
-    pub fn strictness(&self, path: &[Text]) -> Result<u32, AllocError> {
-        Ok(strictness(self.label(path)?, self.standing.arrangement))
+    pub fn strictness(&self, path: &[Text]) -> u32 {
+        strictness(self.label(path), self.standing.arrangement)
     }
 
-    pub fn is_cleared(&self, path: &[Text]) -> Result<bool, AllocError> {
-        Ok(self.strictness(path)? <= cleared(self.standing))
+    pub fn is_cleared(&self, path: &[Text]) -> bool {
+        self.strictness(path) <= cleared(self.standing)
     }
 
-    pub fn is_visible(&self, path: &[Text]) -> Result<bool, AllocError> {
+    pub fn is_visible(&self, path: &[Text]) -> bool {
         if self.standing.source {
-            return Ok(true);
+            return true;
         }
-        if self.refusal(path)?.is_some() {
-            return Ok(false);
-        }
-        Ok(self.is_cleared(path)? || self.is_covered(path)?)
+        self.refusal(path).is_none() && (self.is_cleared(path) || self.is_covered(path))
     }
 
     /// The rule that hides the class at the path, where it isn't visible.
-    pub fn hiding_rule(&self, path: &[Text]) -> Result<&'static str, AllocError> {
-        match self.refusal(path)? {
-            Some(rule) => Ok(rule),
-            None => Ok(rule_of(self.strictness(path)?)),
+    pub fn hiding_rule(&self, path: &[Text]) -> &'static str {
+        match self.refusal(path) {
+            Some(rule) => rule,
+            None => rule_of(self.strictness(path)),
         }
     }
 }

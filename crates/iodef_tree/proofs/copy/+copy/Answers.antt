@@ -1,4 +1,5 @@
-use Rattle.std.proofs.Common.{◌≡◌, ◌&&◌, List, [], ◌∷◌, map, refl, sym, ◌∙◌, ap}
+use Rattle.std.proofs.lemmas.Grind.{common_steps}
+use Rattle.std.proofs.Common.{arith, ◌≡◌, ◌&&◌, List, [], ◌∷◌, map, refl, sym, ◌∙◌, ap}
 use Rattle.std.specs.List.{list_all}
 use Rattle.iodef_tree.specs.Filled.{is_member_filled}
 use Rattle.iodef_tree.specs.declared.object.Member.{Member}
@@ -15,3 +16,21 @@ copy_object-returns-clause-filled t c =
     let made = c.in_ok-copy_members.field-0 in
     filled-made made ∙ all-asked made.items ∙ ap (list_all (λ b. b)) c.in_ok-copy_members.ensures.filled
     ∙ sym (all-asked c.args.object.now.members.items) ∙ sym (filled-members c.args.object.now)
+
+pub copy_items-loop-item-preserved : goal.copy_items-loop-item-preserved
+copy_items-loop-item-preserved t c = grind (arith, common_steps)
+
+pub copy_items-returns-clause-same : goal.copy_items-returns-clause-same
+copy_items-returns-clause-same t c = grind (arith, common_steps)
+
+pub copy_items-returns-clause-filled : goal.copy_items-returns-clause-filled
+copy_items-returns-clause-filled t c = grind (arith, common_steps)
+
+pub copy_members-loop-name-preserved : goal.copy_members-loop-name-preserved
+copy_members-loop-name-preserved t c = grind (arith, common_steps)
+
+pub copy_members-returns-clause-same : goal.copy_members-returns-clause-same
+copy_members-returns-clause-same t c = grind (arith, common_steps)
+
+pub copy_members-returns-clause-filled : goal.copy_members-returns-clause-filled
+copy_members-returns-clause-filled t c = grind (arith, common_steps)

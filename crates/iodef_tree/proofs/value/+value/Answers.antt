@@ -1,4 +1,5 @@
-use Rattle.std.proofs.Common.{◌∙◌, ap, subst, rules}
+use Rattle.std.proofs.lemmas.Grind.{common_steps}
+use Rattle.std.proofs.Common.{arith, ◌∙◌, ap, subst, rules}
 use Rattle.iodef_tree.specs.FitValues.{AreBodiesOrdered}
 use Rattle.iodef_tree.specs.Filled.{IsMemberFilled}
 use Rattle.iodef_tree.specs.View.{forest, bodies}
@@ -43,3 +44,12 @@ object_value-loop-name-preserved t c =
           c.loop-name-test.true c.loop-name-item.is filled c.in_ok-member_value.ensures c.in_ok-put_member.ensures c.loop-name.invariant.left;
       ordered = (all-left (λ x. AreBodiesOrdered x.1) c.deref-name-items.result.now c.loop-name.name-index m c.loop-name-test.true c.loop-name-item.is c.loop-name.invariant.ordered).1;
     }
+
+pub items_value-loop-item-preserved : goal.items_value-loop-item-preserved
+items_value-loop-item-preserved t c = grind (arith, common_steps)
+
+pub items_value-returns : goal.items_value-returns
+items_value-returns t c = grind (arith, common_steps)
+
+pub object_value-returns : goal.object_value-returns
+object_value-returns t c = grind (arith, common_steps)

@@ -41,3 +41,12 @@ write_member-write_item-requires-in-loop-index g t c = λ k s. (
     element-at c.args.member.now c.in-Many.items c.deref-item-items.result.now c.loop-index.index c.item-item.result c.requires.1.1.1 c.in-Many.is c.deref-item-items.ensures.value c.loop-index-test.true c.item-item.is,
   ),
 )
+
+pub write_member-loop-index-preserved : goal.write_member-loop-index-preserved
+write_member-loop-index-preserved g t c = grind (arith, common_steps)
+
+pub write_member-returns-after-loop-index : goal.write_member-returns-after-loop-index
+write_member-returns-after-loop-index g t c = grind (arith, common_steps)
+
+pub write_members-returns : goal.write_members-returns
+write_members-returns g t c = grind (arith, common_steps)

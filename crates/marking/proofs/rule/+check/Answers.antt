@@ -38,3 +38,15 @@ bad_in_member-bad_in_item-requires-in-loop-index t c = (
 
 pub bad_in_member-returns-in_ok-push-in-Some : goal.bad_in_member-returns-in_ok-push-in-Some
 bad_in_member-returns-in_ok-push-in-Some t c = grind (arith, common_steps, bodies-One c.in-One.item, bad-one c.args.name.now None (body c.in-One.item) end)
+
+pub bad_below-returns : goal.bad_below-returns
+bad_below-returns t c = grind (arith, common_steps)
+
+pub bad_in_member-returns-in-Some-2 : goal.bad_in_member-returns-in-Some-2
+bad_in_member-returns-in-Some-2 t c = grind (arith, common_steps)
+
+pub bad_in_member-loop-index-preserved : goal.bad_in_member-loop-index-preserved
+bad_in_member-loop-index-preserved t c = grind (arith, common_steps)
+
+pub bad_in_member-returns-after-loop-index : goal.bad_in_member-returns-after-loop-index
+bad_in_member-returns-after-loop-index t c = grind (arith, common_steps)
