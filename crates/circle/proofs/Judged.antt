@@ -12,7 +12,7 @@ use Rattle.circle.specs.declared.refusal.Refusal.{Refusal}
 use Rattle.circle.specs.Directory.{Directory, org_number, account_number, community_number, group_number}
 use Rattle.circle.specs.Facts.{facts_of, count_in}
 use Rattle.circle.specs.Refusals.{Ground, first_of, refusal_of}
-use Rattle.circle.specs.Judgement.{refusal_by, objection_of, is_allowed, bad_field, lacks_right, is_strange, is_removal, limit_of, with_field, field_if}
+use Rattle.circle.specs.Judgement.{refusal_by, objection_of, lacks_right, is_strange, is_removal, limit_of, with_field, field_if}
 use Rattle.circle.specs.Aftermath.{greatest, next_in, edit_of, edited, changed, state_after, unless_refused}
 use Rattle.circle.specs.Sound.{IsSound, IsNumbered, CountsFrom, Each}
 

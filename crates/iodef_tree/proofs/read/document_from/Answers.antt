@@ -1,6 +1,5 @@
 use Rattle.iodef_tree.proofs.Steps.{document_from_steps}
 use Rattle.std.proofs.Common.{arith}
-use Rattle.std.proofs.lemmas.Grind.{common_steps}
 use Rattle.iodef_tree.proofs.read.document_from.Goals as goal
 
 pub returns-then-is_none : goal.returns-then-is_none

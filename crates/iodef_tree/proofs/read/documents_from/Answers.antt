@@ -1,6 +1,5 @@
 use Rattle.iodef_tree.proofs.Steps.{documents_from_steps}
 use Rattle.std.proofs.Common.{arith}
-use Rattle.std.proofs.lemmas.Grind.{common_steps}
 use Rattle.iodef_tree.proofs.read.documents_from.Goals as goal
 
 pub documents_beside-requires : goal.documents_beside-requires

@@ -1,6 +1,5 @@
 use Rattle.iodef_tree.proofs.Seeking.{seeking}
 use Rattle.std.proofs.Common.{arith}
-use Rattle.std.proofs.lemmas.Grind.{common_steps}
 use Rattle.iodef_tree.proofs.unfit_values.+plain.Goals as goal
 
 pub are_items_plain-returns-then-not-is_plain : goal.are_items_plain-returns-then-not-is_plain

@@ -1,5 +1,5 @@
-use Rattle.std.proofs.Common.{◌∙◌, ap, [], sym}
-use Rattle.policy.specs.Ahead.{Met, met_at}
+use Rattle.std.proofs.Common.{◌∙◌, ap, []}
+use Rattle.policy.specs.Ahead.{Met}
 use Rattle.policy.specs.Inherited.{Inherited}
 use Rattle.marking.specs.Label.{private}
 use Rattle.iodef_tree.specs.Text.{Tokens}
