@@ -7,7 +7,7 @@ use crate::text::Text;
 use std::alloc::AllocError;
 
 /// What an administrator (as far as `Unlink`) or a coordinator asks to change.
-#[derive(Drop)]
+#[derive(Debug, Drop)]
 pub enum CircleCommand {
     AddOrg {
         name: Text,
@@ -101,7 +101,7 @@ pub struct CircleFacts {
 }
 
 /// The whole change that a command makes.
-#[derive(Drop)]
+#[derive(Debug, Drop)]
 pub enum Edit {
     Row(RowEdit),
     /// The group, and its owner as a member that may extend it.
@@ -109,7 +109,7 @@ pub enum Edit {
 }
 
 /// One row put or taken out, or one flag exchanged.
-#[derive(Drop)]
+#[derive(Debug, Drop)]
 pub enum RowEdit {
     PutOrg(Org),
     PutAccount(Account),
