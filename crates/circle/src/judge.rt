@@ -28,11 +28,11 @@ pub fn judge(
     ensures edit { IfOk result (λ edit. edit ≡ edit_of (facts.now.count + 1) actor.now command.now) }
     ensures made { (d : Directory) → IsSound d → facts.now ≡ facts_of d actor.now command.now → IfOk result (λ edit. edited edit d ≡ state_after d actor.now command.now) }
 {
-    judged(alloc, actor, facts, command)
+    judge_by_facts(alloc, actor, facts, command)
 }
 
-/// The same by the facts, without a directory.
-fn judged(
+/// The refusal, or the change, by the facts alone, whatever the directory.
+fn judge_by_facts(
     alloc: Global,
     actor: &Person,
     facts: &CircleFacts,

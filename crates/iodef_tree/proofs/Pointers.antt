@@ -2,16 +2,12 @@
 use Rattle.std.proofs.Common.{◌≡◌, ◌≢◌, ℕ, false, ◌==◌, List, [], ◌∷◌, ◌++◌, refl, ap, ◌∙◌, arith, encode_utf8}
 use Rattle.std.specs.List.{list_any}
 use Rattle.std.proofs.lemmas.Bool.{ne_eqb, cond-false, or_parts}
-use Rattle.std.proofs.lemmas.List.Concat.{flat_map-append}
 use Rattle.iodef_tree.specs.Pointer.{escaped_byte, is_escaped_byte, escaped}
 use Rattle.iodef_tree.proofs.Characters.{AreHigh, encode_utf8-cases}
 
 -- a byte that is neither a tilde nor a slash stays
 plain_byte : (b : ℕ) → b ≢ 126 → b ≢ 47 → escaped_byte b ≡ b ∷ []
 plain_byte b t s = cond-false _ _ _ (ne_eqb b 126 t) ∙ cond-false _ _ _ (ne_eqb b 47 s)
-
-pub escaped-append : (a b : List ℕ) → escaped (a ++ b) ≡ escaped a ++ escaped b
-escaped-append a b = flat_map-append escaped_byte a b
 
 escaped-high : (bs : List ℕ) → AreHigh bs → escaped bs ≡ bs
 escaped-high [] h = refl

@@ -1,4 +1,4 @@
--- The lemmas that a function's goals follow from with no answer, by its name.
+-- The lemmas that a function's goals follow from, by its name.
 use Rattle.std.proofs.lemmas.Grind.{common_steps}
 use Rattle.std.proofs.Common.{append_assoc}
 use Rattle.std.proofs.lemmas.Bool.{eqb-true, not-true}
