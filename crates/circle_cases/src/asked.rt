@@ -40,27 +40,46 @@ fn is_named(rows: &DirectoryRows, question: &str, name: &str, owner: u32) -> Opt
     }
 }
 
-/// The rows of a set.
-fn set(alloc: Global, rows: &DirectoryRows, name: &str) -> Result<Option<String>, AllocError> {
-    let told = match name {
-        "clients" => format!(in alloc; "{:?}", rows.clients())?,
-        "memberships" => format!(in alloc; "{:?}", rows.memberships())?,
-        "connections" => format!(in alloc; "{:?}", rows.connections())?,
-        "group_members" => format!(in alloc; "{:?}", rows.group_members())?,
-        "arrangements" => format!(in alloc; "{:?}", rows.arrangements())?,
-        "orgs" => format!(in alloc; "{:?}", rows.orgs())?,
-        "communities" => format!(in alloc; "{:?}", rows.communities())?,
-        "groups" => format!(in alloc; "{:?}", rows.groups())?,
-        "accounts" => {
-            let mut numbers = Vec::new(alloc);
-            for account in rows.accounts() {
-                numbers.push(account.person.number)?;
-            }
-            format!(in alloc; "{numbers:?}")?
-        }
-        _ => return Ok(None),
-    };
-    Ok(Some(told))
+/// The numbers of the accounts.
+fn accounts(alloc: Global, rows: &DirectoryRows) -> Result<String, AllocError> {
+    let mut numbers = Vec::new(alloc);
+    for account in rows.accounts() {
+        numbers.push(account.person.number)?;
+    }
+    format!(in alloc; "{numbers:?}")
+}
+
+/// The rows of a set, if it is one of pairs.
+fn pairs(alloc: Global, rows: &DirectoryRows, name: &str) -> Option<Result<String, AllocError>> {
+    match name {
+        "clients" => Some(format!(in alloc; "{:?}", rows.clients())),
+        "memberships" => Some(format!(in alloc; "{:?}", rows.memberships())),
+        "connections" => Some(format!(in alloc; "{:?}", rows.connections())),
+        "group_members" => Some(format!(in alloc; "{:?}", rows.group_members())),
+        "arrangements" => Some(format!(in alloc; "{:?}", rows.arrangements())),
+        _ => None,
+    }
+}
+
+/// The rows of a set, if it is one of numbered rows.
+fn numbered(alloc: Global, rows: &DirectoryRows, name: &str) -> Option<Result<String, AllocError>> {
+    match name {
+        "orgs" => Some(format!(in alloc; "{:?}", rows.orgs())),
+        "communities" => Some(format!(in alloc; "{:?}", rows.communities())),
+        "groups" => Some(format!(in alloc; "{:?}", rows.groups())),
+        "accounts" => Some(accounts(alloc, rows)),
+        _ => None,
+    }
+}
+
+fn numbers(alloc: Global, found: Result<Vec<u32>, AllocError>) -> Result<String, AllocError> {
+    let numbers = found?;
+    format!(in alloc; "{numbers:?}")
+}
+
+fn memberships(alloc: Global, rows: &DirectoryRows, org: u32) -> Result<String, AllocError> {
+    let found = rows.memberships_in_groups(alloc, org)?;
+    format!(in alloc; "{found:?}")
 }
 
 /// What an organisation is part of.
@@ -69,20 +88,15 @@ fn parts_of(
     rows: &DirectoryRows,
     question: &str,
     org: u32,
-) -> Result<Option<String>, AllocError> {
-    let told = match question {
-        "communities_of" => format!(in alloc; "{:?}", rows.communities_of(alloc, org)?)?,
-        "groups_joined" => format!(in alloc; "{:?}", rows.groups_joined(alloc, org)?)?,
-        "active_groups_joined" => {
-            format!(in alloc; "{:?}", rows.active_groups_joined(alloc, org)?)?
-        }
-        "memberships_in_groups" => {
-            format!(in alloc; "{:?}", rows.memberships_in_groups(alloc, org)?)?
-        }
-        "served_by" => format!(in alloc; "{:?}", rows.served_by(alloc, org)?)?,
-        _ => return Ok(None),
-    };
-    Ok(Some(told))
+) -> Option<Result<String, AllocError>> {
+    match question {
+        "communities_of" => Some(numbers(alloc, rows.communities_of(alloc, org))),
+        "groups_joined" => Some(numbers(alloc, rows.groups_joined(alloc, org))),
+        "active_groups_joined" => Some(numbers(alloc, rows.active_groups_joined(alloc, org))),
+        "served_by" => Some(numbers(alloc, rows.served_by(alloc, org))),
+        "memberships_in_groups" => Some(memberships(alloc, rows, org)),
+        _ => None,
+    }
 }
 
 /// A row that may be there.
@@ -103,22 +117,41 @@ fn row(
     }
 }
 
+/// The answer to a question that isn't one of the sets.
+fn answer_of(
+    alloc: Global,
+    rows: &DirectoryRows,
+    question: &str,
+    first: &str,
+    second: &str,
+) -> Result<String, AllocError> {
+    let one = number_of(first);
+    let other = number_of(second);
+    if let Some(told) = parts_of(alloc, rows, question, one) {
+        return told;
+    }
+    match is_so(rows, question, one, other).or(is_named(rows, question, first, other)) {
+        Some(true) => String::from_str(alloc, "yes"),
+        Some(false) => String::from_str(alloc, "no"),
+        None => row(alloc, rows, question, one, other),
+    }
+}
+
+/// The answer of the directory to QUESTION|ONE|OTHER.
+fn answer_in(alloc: Global, rows: &DirectoryRows, line: &str) -> Result<String, AllocError> {
+    let (question, rest) = line.split_once('|').unwrap_or((line, ""));
+    let (first, second) = rest.split_once('|').unwrap_or((rest, ""));
+    if let Some(told) = pairs(alloc, rows, question) {
+        return told;
+    }
+    match numbered(alloc, rows, question) {
+        Some(told) => told,
+        None => answer_of(alloc, rows, question, first, second),
+    }
+}
+
 /// The answer to QUESTION|ONE|OTHER.
 pub fn answer(alloc: Global, line: &str) -> Result<String, AllocError> {
     let rows = world(alloc)?;
-    let (question, rest) = line.split_once('|').unwrap_or((line, ""));
-    let (first, second) = rest.split_once('|').unwrap_or((rest, ""));
-    let one = number_of(first);
-    let other = number_of(second);
-    if let Some(told) = set(alloc, &rows, question)? {
-        return Ok(told);
-    }
-    if let Some(told) = parts_of(alloc, &rows, question, one)? {
-        return Ok(told);
-    }
-    match is_so(&rows, question, one, other).or(is_named(&rows, question, first, other)) {
-        Some(true) => String::from_str(alloc, "yes"),
-        Some(false) => String::from_str(alloc, "no"),
-        None => row(alloc, &rows, question, one, other),
-    }
+    answer_in(alloc, &rows, line)
 }

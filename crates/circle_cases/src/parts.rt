@@ -103,6 +103,43 @@ fn between(alloc: Global, one: &str, other: &str) -> Result<String, AllocError> 
     format!(in alloc; "{row:?}")
 }
 
+/// Whether the texts are kept, or are the same; none of another kind.
+fn word(
+    alloc: Global,
+    kind: &str,
+    one: &str,
+    other: &str,
+) -> Result<Option<&'static str>, AllocError> {
+    match kind {
+        "name" => Ok(Some(name(alloc, one)?)),
+        "releasability" => Ok(Some(releasability(alloc, one)?)),
+        "text" => Ok(Some(texts(alloc, one, other)?)),
+        _ => Ok(None),
+    }
+}
+
+/// What is shown of a code, a refusal or a connection; none of another kind.
+fn shown(alloc: Global, kind: &str, one: &str, other: &str) -> Option<Result<String, AllocError>> {
+    match kind {
+        "between" => Some(between(alloc, one, other)),
+        "refusal" => Some(refusal(alloc, one, other)),
+        "code" => Some(code(alloc, one)),
+        _ => None,
+    }
+}
+
+fn answer_to(
+    alloc: Global,
+    kind: &str,
+    one: &str,
+    other: &str,
+) -> Result<Option<String>, AllocError> {
+    match word(alloc, kind, one, other)? {
+        Some(told) => Ok(Some(String::from_str(alloc, told)?)),
+        None => shown(alloc, kind, one, other).transpose(),
+    }
+}
+
 /// The answer to a line of these kinds; none of another.
 pub fn answer(alloc: Global, line: &str) -> Result<Option<String>, AllocError> {
     let Some((kind, rest)) = line.split_once('|') else {
@@ -111,19 +148,5 @@ pub fn answer(alloc: Global, line: &str) -> Result<Option<String>, AllocError> {
     let (one, other) = rest.split_once('|').unwrap_or((rest, ""));
     let first = text_of(alloc, one)?;
     let second = text_of(alloc, other)?;
-    match kind {
-        "name" => Ok(Some(String::from_str(alloc, name(alloc, first.as_str())?)?)),
-        "releasability" => {
-            let told = releasability(alloc, first.as_str())?;
-            Ok(Some(String::from_str(alloc, told)?))
-        }
-        "text" => {
-            let told = texts(alloc, first.as_str(), second.as_str())?;
-            Ok(Some(String::from_str(alloc, told)?))
-        }
-        "between" => Ok(Some(between(alloc, one, other)?)),
-        "refusal" => Ok(Some(refusal(alloc, one, second.as_str())?)),
-        "code" => Ok(Some(code(alloc, one)?)),
-        _ => Ok(None),
-    }
+    answer_to(alloc, kind, first.as_str(), second.as_str())
 }

@@ -55,20 +55,34 @@ fn put_group(alloc: Global, number: u32, owner: u32, name: &str) -> Result<RowEd
     }
 }
 
-/// The numbered rows, not in their order.
-fn numbered(alloc: Global) -> Result<Vec<RowEdit>, AllocError> {
-    let mut edits = Vec::new(alloc);
+/// The organisations and communities, not in their order.
+fn push_named(edits: &mut Vec<RowEdit>, alloc: Global) -> Result<(), AllocError> {
     for (number, name) in [(3, "Mem"), (1, "Hub"), (5, "Cli"), (2, "Src"), (4, "Far")] {
         edits.push(put_org(alloc, number, name)?)?;
     }
-    edits.push(put_person(alloc, 2, 2, Role::Coordinator)?)?;
-    edits.push(put_person(alloc, 3, 3, Role::Reader)?)?;
-    edits.push(put_person(alloc, 1, 1, Role::Administrator)?)?;
     for (number, name) in [(2, "south"), (3, "east"), (1, "north")] {
         edits.push(put_community(alloc, number, name)?)?;
     }
-    edits.push(put_group(alloc, 2, 3, "h")?)?;
-    edits.push(put_group(alloc, 1, 2, "g")?)?;
+    Ok(())
+}
+
+/// The persons and groups, not in their order.
+fn push_members(edits: &mut Vec<RowEdit>, alloc: Global) -> Result<(), AllocError> {
+    for (number, org, role) in [
+        (2, 2, Role::Coordinator),
+        (3, 3, Role::Reader),
+        (1, 1, Role::Administrator),
+    ] {
+        edits.push(put_person(alloc, number, org, role)?)?;
+    }
+    for (number, owner, name) in [(2, 3, "h"), (1, 2, "g")] {
+        edits.push(put_group(alloc, number, owner, name)?)?;
+    }
+    Ok(())
+}
+
+/// What changes in them.
+fn push_changes(edits: &mut Vec<RowEdit>) -> Result<(), AllocError> {
     edits.push(RowEdit::Suspend(3))?;
     edits.push(RowEdit::SetNominated {
         person: 2,
@@ -78,12 +92,11 @@ fn numbered(alloc: Global) -> Result<Vec<RowEdit>, AllocError> {
         group: 2,
         active: false,
     })?;
-    Ok(edits)
+    Ok(())
 }
 
 /// The pairs, not in their order.
-fn pairs(alloc: Global) -> Result<Vec<RowEdit>, AllocError> {
-    let mut edits = Vec::new(alloc);
+fn push_pairs(edits: &mut Vec<RowEdit>) -> Result<(), AllocError> {
     for (org, client) in [(3, 5), (4, 5), (2, 5), (2, 4)] {
         edits.push(RowEdit::PutClient(Client { org, client }))?;
     }
@@ -93,12 +106,11 @@ fn pairs(alloc: Global) -> Result<Vec<RowEdit>, AllocError> {
     for (low, high) in [(2, 3), (1, 2), (1, 3)] {
         edits.push(RowEdit::PutConnection(Connection { low, high }))?;
     }
-    Ok(edits)
+    Ok(())
 }
 
 /// The rows with a value beside the pair, not in their order.
-fn valued(alloc: Global) -> Result<Vec<RowEdit>, AllocError> {
-    let mut edits = Vec::new(alloc);
+fn push_valued(edits: &mut Vec<RowEdit>) -> Result<(), AllocError> {
     for (group, org, extend) in [
         (2, 4, false),
         (1, 3, false),
@@ -119,12 +131,11 @@ fn valued(alloc: Global) -> Result<Vec<RowEdit>, AllocError> {
             handling,
         }))?;
     }
-    Ok(edits)
+    Ok(())
 }
 
 /// A row of each set of pairs is taken out again.
-fn taken(alloc: Global) -> Result<Vec<RowEdit>, AllocError> {
-    let mut edits = Vec::new(alloc);
+fn push_taken(edits: &mut Vec<RowEdit>) -> Result<(), AllocError> {
     edits.push(RowEdit::TakeClient(Client { org: 4, client: 5 }))?;
     edits.push(RowEdit::TakeMembership(Membership {
         community: 3,
@@ -133,15 +144,24 @@ fn taken(alloc: Global) -> Result<Vec<RowEdit>, AllocError> {
     edits.push(RowEdit::TakeConnection(Connection { low: 2, high: 3 }))?;
     edits.push(RowEdit::TakeGroupMember { group: 1, org: 4 })?;
     edits.push(RowEdit::TakeArrangement { source: 2, org: 4 })?;
+    Ok(())
+}
+
+fn edits(alloc: Global) -> Result<Vec<RowEdit>, AllocError> {
+    let mut edits = Vec::new(alloc);
+    push_named(&mut edits, alloc)?;
+    push_members(&mut edits, alloc)?;
+    push_changes(&mut edits)?;
+    push_pairs(&mut edits)?;
+    push_valued(&mut edits)?;
+    push_taken(&mut edits)?;
     Ok(edits)
 }
 
 /// The small directory.
 pub fn world(alloc: Global) -> Result<DirectoryRows, AllocError> {
     let mut rows = DirectoryRows::new(alloc);
-    rows.apply(numbered(alloc)?)?;
-    rows.apply(pairs(alloc)?)?;
-    rows.apply(valued(alloc)?)?;
-    rows.apply(taken(alloc)?)?;
+    let edits = edits(alloc)?;
+    rows.apply(edits)?;
     Ok(rows)
 }

@@ -42,30 +42,32 @@ pub fn obey(
     own: u32,
     command: &CircleCommand,
 ) -> Result<(), AllocError> {
+    add(world, alloc, own, command)?;
+    relate(world, command)?;
+    coordinate(world, own, command)
+}
+
+/// The numbered rows that are added.
+fn add(
+    world: &mut World,
+    alloc: Global,
+    own: u32,
+    command: &CircleCommand,
+) -> Result<(), AllocError> {
     match command {
-        CircleCommand::AddOrg { name } => add_org(world, alloc, name),
+        CircleCommand::AddOrg { name } => add_org(&mut world.orgs, alloc, name),
         CircleCommand::AddPerson {
             org,
             name,
             role,
             key,
-        } => { add_person(world, alloc, *org, name, *role, *key) }
-        CircleCommand::AddCommunity { name } => add_community(world, alloc, name),
+        } => { add_person(&mut world.accounts, alloc, *org, name, *role, *key) }
+        CircleCommand::AddCommunity { name } => add_community(&mut world.communities, alloc, name),
         CircleCommand::NewGroup {
             name,
             releasability,
         } => { found(world, alloc, own, name, releasability) }
-        CircleCommand::SuspendPerson { person } => {
-            suspend(world, *person);
-            Ok(())
-        }
-        CircleCommand::AddClient { .. }
-        | CircleCommand::RemoveClient { .. }
-        | CircleCommand::Join { .. }
-        | CircleCommand::Leave { .. }
-        | CircleCommand::Link { .. }
-        | CircleCommand::Unlink { .. } => relate(world, command),
-        _ => coordinate(world, own, command),
+        _ => Ok(()),
     }
 }
 
@@ -74,23 +76,23 @@ fn behind(greatest: Option<u32>) -> u32 {
     greatest.unwrap_or(0).saturating_add(1)
 }
 
-fn add_org(world: &mut World, alloc: Global, name: &Text) -> Result<(), AllocError> {
-    let number = behind(world.orgs.iter().map(|o| o.number).max());
+fn add_org(orgs: &mut Vec<Org>, alloc: Global, name: &Text) -> Result<(), AllocError> {
+    let number = behind(orgs.iter().map(|o| o.number).max());
     if let Some(name) = Name::of(alloc, name.as_str())? {
-        world.orgs.push(Org { number, name })?;
+        orgs.push(Org { number, name })?;
     }
     Ok(())
 }
 
 fn add_person(
-    world: &mut World,
+    accounts: &mut Vec<Account>,
     alloc: Global,
     org: u32,
     name: &Text,
     role: Role,
     key: [u8; 32],
 ) -> Result<(), AllocError> {
-    let number = behind(world.accounts.iter().map(|a| a.person.number).max());
+    let number = behind(accounts.iter().map(|a| a.person.number).max());
     if let Some(name) = Name::of(alloc, name.as_str())? {
         let person = Person {
             number,
@@ -100,15 +102,19 @@ fn add_person(
             active: true,
             nominated: false,
         };
-        world.accounts.push(Account { person, key })?;
+        accounts.push(Account { person, key })?;
     }
     Ok(())
 }
 
-fn add_community(world: &mut World, alloc: Global, name: &Text) -> Result<(), AllocError> {
-    let number = behind(world.communities.iter().map(|c| c.number).max());
+fn add_community(
+    communities: &mut Vec<Community>,
+    alloc: Global,
+    name: &Text,
+) -> Result<(), AllocError> {
+    let number = behind(communities.iter().map(|c| c.number).max());
     if let Some(name) = Name::of(alloc, name.as_str())? {
-        world.communities.push(Community { number, name })?;
+        communities.push(Community { number, name })?;
     }
     Ok(())
 }
@@ -120,17 +126,7 @@ fn found(
     name: &Text,
     releasability: &Text,
 ) -> Result<(), AllocError> {
-    let number = behind(world.groups.iter().map(|g| g.number).max());
-    let name = Name::of(alloc, name.as_str())?;
-    let releasability = Releasability::of(alloc, releasability.as_str())?;
-    if let (Some(name), Some(releasability)) = (name, releasability) {
-        world.groups.push(Group {
-            number,
-            owner: own,
-            name,
-            releasability,
-            active: true,
-        })?;
+    if let Some(number) = add_group(&mut world.groups, alloc, own, name, releasability)? {
         world.members.push(GroupMember {
             group: number,
             org: own,
@@ -140,9 +136,35 @@ fn found(
     Ok(())
 }
 
-/// The pairs that an administrator puts and takes out.
+/// Adds a group. Its number, where both texts are within the limits.
+fn add_group(
+    groups: &mut Vec<Group>,
+    alloc: Global,
+    own: u32,
+    name: &Text,
+    releasability: &Text,
+) -> Result<Option<u32>, AllocError> {
+    let number = behind(groups.iter().map(|g| g.number).max());
+    let Some(name) = Name::of(alloc, name.as_str())? else {
+        return Ok(None);
+    };
+    let Some(releasability) = Releasability::of(alloc, releasability.as_str())? else {
+        return Ok(None);
+    };
+    groups.push(Group {
+        number,
+        owner: own,
+        name,
+        releasability,
+        active: true,
+    })?;
+    Ok(Some(number))
+}
+
+/// What an administrator changes beside them.
 fn relate(world: &mut World, command: &CircleCommand) -> Result<(), AllocError> {
     match command {
+        CircleCommand::SuspendPerson { person } => suspend(world, *person),
         CircleCommand::AddClient { org, client } => {
             world.clients.push(Client {
                 org: *org,

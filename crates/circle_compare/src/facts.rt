@@ -35,7 +35,7 @@ impl World {
             }
             CircleCommand::AddClient { org, client }
             | CircleCommand::RemoveClient { org, client } => {
-                facts.exists = self.has_org(*org) && self.has_org(*client);
+                facts.exists = self.has_orgs(*org, *client);
                 facts.stands = self.has_client(*org, *client);
             }
             CircleCommand::AddCommunity { name } => {
@@ -43,12 +43,12 @@ impl World {
                 facts.count = as_count(self.communities.len());
             }
             CircleCommand::Join { community, org } | CircleCommand::Leave { community, org } => {
-                facts.exists = self.has_community(*community) && self.has_org(*org);
+                facts.exists = self.has_both(*community, *org);
                 facts.stands = self.has_membership(*community, *org);
             }
             CircleCommand::Link { community, other } | CircleCommand::Unlink { community, other } =>
                 {
-                    facts.exists = self.has_community(*community) && self.has_community(*other);
+                    facts.exists = self.has_communities(*community, *other);
                     facts.stands = self.are_connected(*community, *other);
                 }
             CircleCommand::NewGroup { name, .. } => {
@@ -57,13 +57,13 @@ impl World {
             }
             CircleCommand::GroupAdd { group, org, .. } => {
                 self.group_facts(&mut facts, actor.org, *group);
-                facts.exists = self.has_member(*group, actor.org) && self.has_org(*org);
+                facts.exists = self.sees_in(actor.org, *group, *org);
                 facts.stands = self.has_member(*group, *org);
             }
             CircleCommand::GroupRemove { group, org } => {
                 self.group_facts(&mut facts, actor.org, *group);
-                facts.exists = self.has_member(*group, actor.org) && self.has_org(*org);
-                facts.target_is_owner = self.owner_of(*group) == Some(*org);
+                facts.exists = self.sees_in(actor.org, *group, *org);
+                facts.target_is_owner = self.owns(*org, *group);
                 facts.stands = self.has_member(*group, *org);
             }
             CircleCommand::GroupActive { group, active } => {
@@ -77,7 +77,7 @@ impl World {
             }
             CircleCommand::Nominate { person } | CircleCommand::Unnominate { person } => {
                 facts.exists = self.has_person(*person);
-                facts.own_person = self.org_of(*person) == Some(actor.org);
+                facts.own_person = self.is_person_of(*person, actor.org);
                 facts.stands = self.is_nominated(*person);
             }
         }
@@ -86,6 +86,6 @@ impl World {
 
     fn group_facts(&self, facts: &mut CircleFacts, org: u32, group: u32) {
         facts.may_extend = self.may_extend(group, org);
-        facts.owner = self.owner_of(group) == Some(org);
+        facts.owner = self.owns(org, group);
     }
 }

@@ -3,6 +3,7 @@ use crate::changes::obey;
 use crate::commands::{ADMINISTRATORS, KINDS, any_command, any_role};
 use crate::dice::Dice;
 use crate::reads::agree_on_reads;
+use crate::refusals::code_of;
 use crate::rows::World;
 use crate::tally::Tally;
 use circle::command::{CircleCommand, Edit};
@@ -32,16 +33,31 @@ impl Pair {
         }
     }
 
-    /// Has both change their rows: the one by the edit, the plain one by the command.
+    /// What the crate answers to the command.
+    fn answer(
+        &self,
+        alloc: Global,
+        actor: &Person,
+        command: &CircleCommand,
+    ) -> Result<Edit, Refusal> {
+        let facts = self.judged.facts(actor, command);
+        judge(alloc, actor, &facts, command)
+    }
+
+    /// Has both change their rows, the one by the edit, the plain one by the command. Whether there is an edit.
     fn change(
         &mut self,
         alloc: Global,
-        edit: Edit,
         org: u32,
         command: &CircleCommand,
-    ) -> Result<(), AllocError> {
+        answer: Result<Edit, Refusal>,
+    ) -> Result<bool, AllocError> {
+        let Ok(edit) = answer else {
+            return Ok(false);
+        };
         self.judged.apply(edit.into_rows(alloc)?)?;
-        obey(&mut self.plain, alloc, org, command)
+        obey(&mut self.plain, alloc, org, command)?;
+        Ok(true)
     }
 }
 
@@ -56,78 +72,98 @@ fn setter(alloc: Global, role: Role, org: u32) -> Result<Option<Person>, AllocEr
     }))
 }
 
-/// Has both change their rows by an administrator's or coordinator's command, whoever asks. Whether it is let through.
-fn obey_both(
+/// Has both obey a command that is let through. Whether it is.
+fn begin_by(
     alloc: Global,
     pair: &mut Pair,
-    actor: &Person,
+    role: Role,
+    org: u32,
     command: &CircleCommand,
 ) -> Result<bool, AllocError> {
-    let facts = pair.judged.facts(actor, command);
-    match judge(alloc, actor, &facts, command) {
-        Ok(edit) => {
-            pair.change(alloc, edit, actor.org, command)?;
-            Ok(true)
+    match setter(alloc, role, org)? {
+        Some(actor) => {
+            let answer = pair.answer(alloc, &actor, command);
+            pair.change(alloc, org, command, answer)
         }
-        Err(_) => Ok(false),
+        None => Ok(false),
     }
 }
 
-/// The commands that make five organisations with a person each, the first an administrator and the next two
-/// coordinators, two communities and a group.
-fn beginnings(
-    alloc: Global,
-    dice: &mut Dice,
-) -> Result<Vec<(Role, u32, CircleCommand)>, AllocError> {
-    let mut commands = Vec::new(alloc);
+fn begin_orgs(alloc: Global, pair: &mut Pair) -> Result<bool, AllocError> {
     for name in ["Hub", "Src", "Mem", "Far", "Cli"] {
         let name = Text::of(alloc, name)?;
-        commands.push((Role::Administrator, 0, CircleCommand::AddOrg { name }))?;
-    }
-    for (org, key) in [(1, 1), (2, 2), (3, 3), (4, 4), (5, 5), (2, 6)] {
-        let command = CircleCommand::AddPerson {
-            org,
-            name: Text::of(alloc, "p")?,
-            role: match key {
-                1 => Role::Administrator,
-                2 | 3 => Role::Coordinator,
-                _ => any_role(dice),
-            },
-            key: [key; 32],
-        };
-        commands.push((Role::Administrator, 0, command))?;
-    }
-    for name in ["first", "second"] {
-        let name = Text::of(alloc, name)?;
-        let command = CircleCommand::AddCommunity { name };
-        commands.push((Role::Administrator, 0, command))?;
-    }
-    let group = CircleCommand::NewGroup {
-        name: Text::of(alloc, "g")?,
-        releasability: Text::of(alloc, "")?,
-    };
-    commands.push((Role::Coordinator, 2, group))?;
-    let member = CircleCommand::GroupAdd {
-        group: 1,
-        org: 3,
-        extend: dice.once_in(2),
-    };
-    commands.push((Role::Coordinator, 2, member))?;
-    Ok(commands)
-}
-
-/// Has both directories begin. Whether each command is let through.
-fn begins(alloc: Global, dice: &mut Dice, pair: &mut Pair) -> Result<bool, AllocError> {
-    for (role, org, command) in beginnings(alloc, dice)?.iter() {
-        let is_done = match setter(alloc, *role, *org)? {
-            Some(actor) => obey_both(alloc, pair, &actor, command)?,
-            None => false,
-        };
-        if !is_done {
+        let command = CircleCommand::AddOrg { name };
+        if !begin_by(alloc, pair, Role::Administrator, 0, &command)? {
             return Ok(false);
         }
     }
     Ok(true)
+}
+
+/// The first person is an administrator, the next two are coordinators.
+fn begin_persons(alloc: Global, dice: &mut Dice, pair: &mut Pair) -> Result<bool, AllocError> {
+    for (org, key) in [(1, 1), (2, 2), (3, 3), (4, 4), (5, 5), (2, 6)] {
+        let role = match key {
+            1 => Role::Administrator,
+            2 | 3 => Role::Coordinator,
+            _ => any_role(dice),
+        };
+        let name = Text::of(alloc, "p")?;
+        let key = [key; 32];
+        let command = CircleCommand::AddPerson {
+            org,
+            name,
+            role,
+            key,
+        };
+        if !begin_by(alloc, pair, Role::Administrator, 0, &command)? {
+            return Ok(false);
+        }
+    }
+    Ok(true)
+}
+
+fn begin_communities(alloc: Global, pair: &mut Pair) -> Result<bool, AllocError> {
+    for name in ["first", "second"] {
+        let name = Text::of(alloc, name)?;
+        let command = CircleCommand::AddCommunity { name };
+        if !begin_by(alloc, pair, Role::Administrator, 0, &command)? {
+            return Ok(false);
+        }
+    }
+    Ok(true)
+}
+
+/// A group of organisation 2.
+fn begin_group(alloc: Global, pair: &mut Pair) -> Result<bool, AllocError> {
+    let name = Text::of(alloc, "g")?;
+    let releasability = Text::new(String::new(alloc));
+    let command = CircleCommand::NewGroup {
+        name,
+        releasability,
+    };
+    begin_by(alloc, pair, Role::Coordinator, 2, &command)
+}
+
+/// Organisation 3 is a member of it, and may extend it or not.
+fn begin_member(alloc: Global, dice: &mut Dice, pair: &mut Pair) -> Result<bool, AllocError> {
+    let command = CircleCommand::GroupAdd {
+        group: 1,
+        org: 3,
+        extend: dice.once_in(2),
+    };
+    begin_by(alloc, pair, Role::Coordinator, 2, &command)
+}
+
+/// Has both directories begin. Whether each command is let through.
+fn begins(alloc: Global, dice: &mut Dice, pair: &mut Pair) -> Result<bool, AllocError> {
+    Ok(
+        begin_orgs(alloc, pair)?
+            && begin_persons(alloc, dice, pair)?
+            && begin_communities(alloc, pair)?
+            && begin_group(alloc, pair)?
+            && begin_member(alloc, dice, pair)?,
+    )
 }
 
 /// Who asks: as a rule the administrator or a coordinator, as the kind wants it; anybody in one of four.
@@ -141,8 +177,12 @@ fn any_place(dice: &mut Dice, kind: u32) -> usize {
     }
 }
 
-fn is_told(wanted: Option<(Code, &'static str)>, refusal: &Refusal) -> bool {
-    wanted == Some((refusal.code, refusal.detail.as_str()))
+/// Whether the answer is an edit where no refusal is wanted, or the wanted one.
+fn is_answer(answer: &Result<Edit, Refusal>, wanted: Option<(Code, &'static str)>) -> bool {
+    match answer {
+        Ok(_) => wanted.is_none(),
+        Err(refusal) => wanted == Some((refusal.code, refusal.detail.as_str())),
+    }
 }
 
 /// Has both judge the command, and change their rows where it is let through. Whether they agree.
@@ -154,25 +194,37 @@ fn agree_on_command(
     actor: &Person,
     command: &CircleCommand,
 ) -> Result<bool, AllocError> {
-    let facts = pair.judged.facts(actor, command);
-    if facts != pair.plain.facts(actor, command) {
+    if pair.judged.facts(actor, command) != pair.plain.facts(actor, command) {
         return Ok(false);
     }
     let wanted = pair.plain.refusal(actor, command);
-    match judge(alloc, actor, &facts, command) {
-        Ok(edit) => {
-            tally.note(kind, None)?;
-            pair.change(alloc, edit, actor.org, command)?;
-            Ok(wanted.is_none())
-        }
-        Err(refusal) => {
-            tally.note(kind, Some(refusal.code))?;
-            Ok(is_told(wanted, &refusal))
-        }
-    }
+    tally.note(kind, code_of(wanted))?;
+    let answer = pair.answer(alloc, actor, command);
+    let is_same = is_answer(&answer, wanted);
+    pair.change(alloc, actor.org, command, answer)?;
+    Ok(is_same)
 }
 
-/// Asks for one command of a random person. Whether both agree on it, and on the rows behind it.
+/// Has the person at this place among all ask for the command. Whether both agree on it, and on the rows behind it.
+fn agree_on_asked(
+    alloc: Global,
+    pair: &mut Pair,
+    tally: &mut Tally,
+    kind: u32,
+    place: usize,
+    command: &CircleCommand,
+) -> Result<bool, AllocError> {
+    let Some(account) = pair.plain.accounts.get(place) else {
+        return Ok(false);
+    };
+    let actor = account.person.clone()?;
+    Ok(
+        agree_on_command(alloc, pair, tally, kind, &actor, command)?
+            && pair.plain.is_same(&pair.judged),
+    )
+}
+
+/// Asks for one command of a random person. Whether both agree.
 fn step(
     alloc: Global,
     dice: &mut Dice,
@@ -182,14 +234,7 @@ fn step(
     let kind = dice.roll(KINDS);
     let command = any_command(alloc, dice, kind)?;
     let place = any_place(dice, kind);
-    let actor = match pair.plain.accounts.get(place) {
-        Some(account) => account.person.clone()?,
-        None => return Ok(false),
-    };
-    Ok(
-        agree_on_command(alloc, pair, tally, kind, &actor, &command)?
-            && pair.plain.is_same(&pair.judged),
-    )
+    agree_on_asked(alloc, pair, tally, kind, place, &command)
 }
 
 fn agree_on_steps(
@@ -206,13 +251,23 @@ fn agree_on_steps(
     Ok(true)
 }
 
+/// Whether both agree on a directory that begins so, on the commands that change it, and on all that may be asked of it.
+fn agree_on(
+    alloc: Global,
+    tally: &mut Tally,
+    dice: &mut Dice,
+    pair: &mut Pair,
+) -> Result<bool, AllocError> {
+    Ok(
+        begins(alloc, dice, pair)?
+            && agree_on_steps(alloc, dice, pair, tally)?
+            && agree_on_reads(alloc, &pair.judged, &pair.plain)?,
+    )
+}
+
 /// Whether the crate and the plain program agree on a directory of this seed.
 pub fn agrees_at(alloc: Global, tally: &mut Tally, seed: u64) -> Result<bool, AllocError> {
     let mut dice = Dice::new(seed);
     let mut pair = Pair::new(alloc);
-    Ok(
-        begins(alloc, &mut dice, &mut pair)?
-            && agree_on_steps(alloc, &mut dice, &mut pair, tally)?
-            && agree_on_reads(alloc, &pair.judged, &pair.plain)?,
-    )
+    agree_on(alloc, tally, &mut dice, &mut pair)
 }

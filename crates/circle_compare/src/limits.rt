@@ -1,32 +1,96 @@
 //! The last numbered row of each kind, and the one behind it.
 use crate::changes::obey;
+use crate::refusals::code_of;
 use crate::rows::World;
 use circle::command::{CircleCommand, Edit, RowEdit};
-use circle::directory::{Account, Community, Group, Org, Person, Role};
+use circle::directory::{Account, Person, Role};
 use circle::judge::judge;
 use circle::name::Name;
-use circle::refusal::Code;
-use circle::releasability::Releasability;
+use circle::refusal::{Code, Refusal};
 use circle::text::Text;
 use std::alloc::{AllocError, Global};
 
-fn add_rows(world: &mut World, alloc: Global, number: u32, name: &Name) -> Result<(), AllocError> {
-    world.orgs.push(Org {
-        number,
-        name: name.clone()?,
-    })?;
-    world.communities.push(Community {
-        number,
-        name: name.clone()?,
-    })?;
-    if let Some(releasability) = Releasability::of(alloc, "")? {
-        world.groups.push(Group {
-            number,
-            owner: 1,
-            name: name.clone()?,
-            releasability,
-            active: true,
-        })?;
+/// Whether the edit puts the last row that there is now.
+fn is_last(world: &World, edit: &Edit) -> bool {
+    match edit {
+        Edit::Row(RowEdit::PutOrg(org)) => world.orgs.last() == Some(org),
+        Edit::Row(RowEdit::PutAccount(account)) => world.accounts.last() == Some(account),
+        Edit::Row(RowEdit::PutCommunity(community)) => world.communities.last() == Some(community),
+        Edit::Row(_) => false,
+        Edit::Found(group) => world.groups.last() == Some(group),
+    }
+}
+
+fn anna(alloc: Global, role: Role) -> Result<Option<Person>, AllocError> {
+    Ok(Name::of(alloc, "anna")?.map(|name| Person {
+        number: 1,
+        org: 1,
+        name,
+        role,
+        active: true,
+        nominated: false,
+    }))
+}
+
+/// What the crate answers to the command.
+fn answer_of(
+    alloc: Global,
+    world: &World,
+    actor: &Person,
+    command: &CircleCommand,
+) -> Result<Edit, Refusal> {
+    let facts = world.facts(actor, command);
+    judge(alloc, actor, &facts, command)
+}
+
+/// Whether the answer puts the last row that there is now, or is the wanted refusal.
+fn is_answer(world: &World, answer: &Result<Edit, Refusal>, wanted: Option<Code>) -> bool {
+    match answer {
+        Ok(edit) => wanted.is_none() && is_last(world, edit),
+        Err(refusal) => wanted == Some(refusal.code),
+    }
+}
+
+/// Whether the command is done, or refused so.
+fn is_outcome(
+    alloc: Global,
+    world: &mut World,
+    actor: &Person,
+    command: &CircleCommand,
+    wanted: Option<Code>,
+) -> Result<bool, AllocError> {
+    let plain = code_of(world.refusal(actor, command));
+    let answer = answer_of(alloc, world, actor, command);
+    if plain.is_none() {
+        obey(world, alloc, actor.org, command)?;
+    }
+    Ok(plain == wanted && is_answer(world, &answer, wanted))
+}
+
+fn naming(alloc: Global, kind: u32, name: &str, key: u8) -> Result<CircleCommand, AllocError> {
+    let name = Text::of(alloc, name)?;
+    match kind {
+        0 => Ok(CircleCommand::AddOrg { name }),
+        1 => Ok(CircleCommand::AddPerson {
+            org: 1,
+            name,
+            role: Role::Reader,
+            key: [key; 32],
+        }),
+        2 => Ok(CircleCommand::AddCommunity { name }),
+        _ => Ok(CircleCommand::NewGroup {
+            name,
+            releasability: Text::of(alloc, "")?,
+        }),
+    }
+}
+
+/// So many rows of this kind.
+fn fill(world: &mut World, alloc: Global, kind: u32, count: u32) -> Result<(), AllocError> {
+    for number in 0..count {
+        let text = format!(in alloc; "row {number}")?;
+        let command = naming(alloc, kind, text.as_str(), 0)?;
+        obey(world, alloc, 1, &command)?;
     }
     Ok(())
 }
@@ -53,74 +117,25 @@ fn add_persons(world: &mut World, alloc: Global, count: u32) -> Result<(), Alloc
 }
 
 /// Each numbered set with all rows but one that there may be.
-fn nearly_full(alloc: Global) -> Result<World, AllocError> {
-    let mut world = World::new(alloc);
-    for number in 1..1000u32 {
-        let text = format!(in alloc; "row {number}")?;
-        if let Some(name) = Name::of(alloc, text.as_str())? {
-            add_rows(&mut world, alloc, number, &name)?;
-        }
+fn fill_nearly(world: &mut World, alloc: Global) -> Result<(), AllocError> {
+    for kind in [0, 2, 3] {
+        fill(world, alloc, kind, 999)?;
     }
-    add_persons(&mut world, alloc, 9999)?;
-    Ok(world)
+    add_persons(world, alloc, 9999)
 }
 
-/// Whether the edit puts the last row that there is now.
-fn is_last(world: &World, edit: &Edit) -> bool {
-    match edit {
-        Edit::Row(RowEdit::PutOrg(org)) => world.orgs.last() == Some(org),
-        Edit::Row(RowEdit::PutAccount(account)) => world.accounts.last() == Some(account),
-        Edit::Row(RowEdit::PutCommunity(community)) => world.communities.last() == Some(community),
-        Edit::Row(_) => false,
-        Edit::Found(group) => world.groups.last() == Some(group),
-    }
-}
-
-fn anna(alloc: Global, role: Role) -> Result<Option<Person>, AllocError> {
-    Ok(Name::of(alloc, "anna")?.map(|name| Person {
-        number: 1,
-        org: 1,
-        name,
-        role,
-        active: true,
-        nominated: false,
-    }))
-}
-
-/// Whether the command is done so, or refused.
-fn is_outcome(
+/// Whether a row of this kind and name is let in, or refused.
+fn is_let_in(
     alloc: Global,
     world: &mut World,
     actor: &Person,
-    command: &CircleCommand,
+    kind: u32,
+    name: &str,
     wanted: Option<Code>,
 ) -> Result<bool, AllocError> {
-    let plain = world.refusal(actor, command).map(|told| told.0);
-    match judge(alloc, actor, &world.facts(actor, command), command) {
-        Ok(edit) => {
-            obey(world, alloc, actor.org, command)?;
-            Ok(wanted.is_none() && plain.is_none() && is_last(world, &edit))
-        }
-        Err(refusal) => Ok(wanted == Some(refusal.code) && plain == wanted),
-    }
-}
-
-fn naming(alloc: Global, kind: u32, name: &str, key: u8) -> Result<CircleCommand, AllocError> {
-    let name = Text::of(alloc, name)?;
-    match kind {
-        0 => Ok(CircleCommand::AddOrg { name }),
-        1 => Ok(CircleCommand::AddPerson {
-            org: 1,
-            name,
-            role: Role::Reader,
-            key: [key; 32],
-        }),
-        2 => Ok(CircleCommand::AddCommunity { name }),
-        _ => Ok(CircleCommand::NewGroup {
-            name,
-            releasability: Text::of(alloc, "")?,
-        }),
-    }
+    let key = if wanted.is_none() { 1 } else { 2 };
+    let command = naming(alloc, kind, name, key)?;
+    is_outcome(alloc, world, actor, &command, wanted)
 }
 
 /// Whether the last row of this kind is let in, and the next is refused.
@@ -133,11 +148,9 @@ fn holds_limit(alloc: Global, world: &mut World, kind: u32) -> Result<bool, Allo
     let Some(actor) = anna(alloc, role)? else {
         return Ok(false);
     };
-    let last = naming(alloc, kind, "last", 1)?;
-    let more = naming(alloc, kind, "one more", 2)?;
     Ok(
-        is_outcome(alloc, world, &actor, &last, None)?
-            && is_outcome(alloc, world, &actor, &more, Some(Code::L1))?,
+        is_let_in(alloc, world, &actor, kind, "last", None)?
+            && is_let_in(alloc, world, &actor, kind, "one more", Some(Code::L1))?,
     )
 }
 
@@ -165,13 +178,19 @@ fn has_last_rows(world: &World) -> bool {
             .any(|g| is_last_named(g.number, &g.name, 1000))
 }
 
-/// Whether the last row of each kind is let in under its number, and the next is refused.
-pub fn hold_limits(alloc: Global) -> Result<bool, AllocError> {
-    let mut world = nearly_full(alloc)?;
+/// Whether each kind, with all rows but one, takes the last and no other.
+fn hold_in(alloc: Global, world: &mut World) -> Result<bool, AllocError> {
+    fill_nearly(world, alloc)?;
     for kind in 0..4u32 {
-        if !holds_limit(alloc, &mut world, kind)? {
+        if !holds_limit(alloc, world, kind)? {
             return Ok(false);
         }
     }
-    Ok(has_last_rows(&world))
+    Ok(true)
+}
+
+/// Whether the last row of each kind is let in under its number, and the next is refused.
+pub fn hold_limits(alloc: Global) -> Result<bool, AllocError> {
+    let mut world = World::new(alloc);
+    Ok(hold_in(alloc, &mut world)? && has_last_rows(&world))
 }

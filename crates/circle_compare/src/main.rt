@@ -30,10 +30,14 @@ fn compare(rt: &HostRuntime, tally: &mut Tally, seeds: u64) -> io::Result<bool> 
         }
     }
     println!(rt; "{seeds} directories of 200 commands, no difference")?;
-    for line in tally.lines(rt.alloc())?.iter() {
-        println!(rt; "{line}")?;
-    }
     Ok(true)
+}
+
+/// Tells which outcomes each kind of command met.
+fn tell(rt: &HostRuntime, tally: &Tally) -> io::Result<()> {
+    let mut lines = String::new(rt.alloc());
+    tally.push_lines(&mut lines)?;
+    print!(rt; "{lines}")
 }
 
 fn compare_at_limits(rt: &HostRuntime) -> io::Result<bool> {
@@ -45,13 +49,25 @@ fn compare_at_limits(rt: &HostRuntime) -> io::Result<bool> {
     Ok(true)
 }
 
-fn main(rt: HostRuntime) -> io::Result<ExitCode> {
-    let words: Vec<String> = env::args(&rt)?.skip(1).collect(rt.alloc())?;
-    let seeds = words
-        .first()
-        .and_then(|word| word.parse::<u64>().ok())
-        .unwrap_or(SEEDS);
+/// How many directories are asked for.
+fn asked(rt: &HostRuntime) -> io::Result<u64> {
+    let words: Vec<String> = env::args(rt)?.skip(1).collect(rt.alloc())?;
+    let seeds = words.first().and_then(|word| word.parse::<u64>().ok());
+    Ok(seeds.unwrap_or(SEEDS))
+}
+
+/// Compares so many directories, and the one at the limits. Whether there is no difference.
+fn holds(rt: &HostRuntime, seeds: u64) -> io::Result<bool> {
     let mut tally = Tally::new(rt.alloc());
-    let is_same = compare(&rt, &mut tally, seeds)? && compare_at_limits(&rt)?;
+    if !compare(rt, &mut tally, seeds)? {
+        return Ok(false);
+    }
+    tell(rt, &tally)?;
+    compare_at_limits(rt)
+}
+
+fn main(rt: HostRuntime) -> io::Result<ExitCode> {
+    let seeds = asked(&rt)?;
+    let is_same = holds(&rt, seeds)?;
     Ok(ExitCode::from(u8::from(!is_same)))
 }

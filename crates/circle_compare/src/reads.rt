@@ -101,6 +101,37 @@ fn is_member_of(plain: &World, rows: &[GroupMember], org: u32, groups: &[u32]) -
             && plain.may_extend(row.group, org) == row.extend)
 }
 
+/// Whether both answer alike about the groups of an organisation.
+fn agree_on_groups(
+    alloc: Global,
+    rows: &DirectoryRows,
+    plain: &World,
+    org: u32,
+) -> Result<bool, AllocError> {
+    let groups = plain.related(alloc, 1, org)?;
+    let members = rows.memberships_in_groups(alloc, org)?;
+    Ok(
+        is_member_of(plain, members.as_slice(), org, groups.as_slice())
+            && rows.groups_joined(alloc, org)? == groups,
+    )
+}
+
+/// Whether both answer alike about what else an organisation has to do with.
+fn agree_on_related(
+    alloc: Global,
+    rows: &DirectoryRows,
+    plain: &World,
+    kind: u32,
+    org: u32,
+) -> Result<bool, AllocError> {
+    let numbers = match kind {
+        0 => rows.communities_of(alloc, org)?,
+        2 => rows.active_groups_joined(alloc, org)?,
+        _ => rows.served_by(alloc, org)?,
+    };
+    Ok(numbers == plain.related(alloc, kind, org)?)
+}
+
 /// Whether both answer alike for an organisation, or for the person or the group of its number.
 fn agree_on_number(
     alloc: Global,
@@ -108,14 +139,13 @@ fn agree_on_number(
     plain: &World,
     number: u32,
 ) -> Result<bool, AllocError> {
-    let groups = plain.related(alloc, 1, number)?;
-    let members = rows.memberships_in_groups(alloc, number)?;
+    for kind in [0, 2, 3] {
+        if !agree_on_related(alloc, rows, plain, kind, number)? {
+            return Ok(false);
+        }
+    }
     Ok(
-        rows.communities_of(alloc, number)? == plain.related(alloc, 0, number)?
-            && rows.groups_joined(alloc, number)? == groups
-            && is_member_of(plain, members.as_slice(), number, groups.as_slice())
-            && rows.active_groups_joined(alloc, number)? == plain.related(alloc, 2, number)?
-            && rows.served_by(alloc, number)? == plain.related(alloc, 3, number)?
+        agree_on_groups(alloc, rows, plain, number)?
             && rows.person_of(number) == plain.person_of(number)
             && rows.group_of(number) == plain.group_of(number),
     )

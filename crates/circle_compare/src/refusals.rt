@@ -18,6 +18,12 @@ fn first(grounds: &[Ground]) -> Option<(Code, &'static str)> {
     None
 }
 
+/// The code of what is told, where it is a refusal.
+pub fn code_of(told: Option<(Code, &'static str)>) -> Option<Code> {
+    let (code, _) = told?;
+    Some(code)
+}
+
 fn is_bad_name(text: &Text) -> bool {
     let bytes = text.as_str().as_bytes();
     bytes.is_empty() || 128 < bytes.len() || bytes.iter().any(|b| b.is_ascii_control())
@@ -54,13 +60,13 @@ impl World {
             CircleCommand::AddClient { org, client } => first(&[
                 role,
                 (*org == *client, Code::B1, "client"),
-                (!self.has_org(*org) || !self.has_org(*client), Code::N2, ""),
+                (!self.has_orgs(*org, *client), Code::N2, ""),
                 (self.has_client(*org, *client), Code::S1, ""),
             ]),
             CircleCommand::RemoveClient { org, client } => first(&[
                 role,
                 (*org == *client, Code::B1, "client"),
-                (!self.has_org(*org) || !self.has_org(*client), Code::N2, ""),
+                (!self.has_orgs(*org, *client), Code::N2, ""),
                 (!self.has_client(*org, *client), Code::S2, ""),
             ]),
             CircleCommand::AddCommunity { name } => first(&[
@@ -71,40 +77,24 @@ impl World {
             ]),
             CircleCommand::Join { community, org } => first(&[
                 role,
-                (
-                    !self.has_community(*community) || !self.has_org(*org),
-                    Code::N2,
-                    "",
-                ),
+                (!self.has_both(*community, *org), Code::N2, ""),
                 (self.has_membership(*community, *org), Code::S1, ""),
             ]),
             CircleCommand::Leave { community, org } => first(&[
                 role,
-                (
-                    !self.has_community(*community) || !self.has_org(*org),
-                    Code::N2,
-                    "",
-                ),
+                (!self.has_both(*community, *org), Code::N2, ""),
                 (!self.has_membership(*community, *org), Code::S2, ""),
             ]),
             CircleCommand::Link { community, other } => first(&[
                 role,
                 (*community == *other, Code::B1, "other"),
-                (
-                    !self.has_community(*community) || !self.has_community(*other),
-                    Code::N2,
-                    "",
-                ),
+                (!self.has_communities(*community, *other), Code::N2, ""),
                 (self.are_connected(*community, *other), Code::S1, ""),
             ]),
             CircleCommand::Unlink { community, other } => first(&[
                 role,
                 (*community == *other, Code::B1, "other"),
-                (
-                    !self.has_community(*community) || !self.has_community(*other),
-                    Code::N2,
-                    "",
-                ),
+                (!self.has_communities(*community, *other), Code::N2, ""),
                 (!self.are_connected(*community, *other), Code::S2, ""),
             ]),
             _ => None,
@@ -135,32 +125,21 @@ impl World {
             ]),
             CircleCommand::GroupAdd { group, org, .. } => first(&[
                 role,
-                (
-                    !self.has_member(*group, actor.org) || !self.has_org(*org),
-                    Code::N2,
-                    "",
-                ),
+                (!self.sees_in(actor.org, *group, *org), Code::N2, ""),
                 (!self.may_extend(*group, actor.org), Code::W2, ""),
                 (self.has_member(*group, *org), Code::S1, ""),
             ]),
             CircleCommand::GroupRemove { group, org } => first(&[
                 role,
-                (
-                    !self.has_member(*group, actor.org) || !self.has_org(*org),
-                    Code::N2,
-                    "",
-                ),
-                (
-                    self.owner_of(*group) != Some(actor.org) || self.owner_of(*group) == Some(*org),
-                    Code::W2,
-                    "",
-                ),
+                (!self.sees_in(actor.org, *group, *org), Code::N2, ""),
+                (!self.owns(actor.org, *group), Code::W2, ""),
+                (self.owns(*org, *group), Code::W2, ""),
                 (!self.has_member(*group, *org), Code::S2, ""),
             ]),
             CircleCommand::GroupActive { group, active } => first(&[
                 role,
                 (!self.has_member(*group, actor.org), Code::N2, ""),
-                (self.owner_of(*group) != Some(actor.org), Code::W2, ""),
+                (!self.owns(actor.org, *group), Code::W2, ""),
                 (self.is_switched(*group, *active), Code::S1, ""),
             ]),
             CircleCommand::Arrange { org, .. } => first(&[
@@ -177,13 +156,13 @@ impl World {
             CircleCommand::Nominate { person } => first(&[
                 role,
                 (!self.has_person(*person), Code::N2, ""),
-                (self.org_of(*person) != Some(actor.org), Code::W3, ""),
+                (!self.is_person_of(*person, actor.org), Code::W3, ""),
                 (self.is_nominated(*person), Code::S1, ""),
             ]),
             CircleCommand::Unnominate { person } => first(&[
                 role,
                 (!self.has_person(*person), Code::N2, ""),
-                (self.org_of(*person) != Some(actor.org), Code::W3, ""),
+                (!self.is_person_of(*person, actor.org), Code::W3, ""),
                 (!self.is_nominated(*person), Code::S2, ""),
             ]),
             _ => None,

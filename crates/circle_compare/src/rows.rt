@@ -66,13 +66,27 @@ impl World {
         self.accounts.iter().any(|a| a.person.number == n)
     }
 
-    pub fn org_of(&self, person: u32) -> Option<u32> {
-        for row in self.accounts.iter() {
-            if row.person.number == person {
-                return Some(row.person.org);
-            }
-        }
-        None
+    pub fn has_orgs(&self, one: u32, other: u32) -> bool {
+        self.has_org(one) && self.has_org(other)
+    }
+
+    pub fn has_communities(&self, one: u32, other: u32) -> bool {
+        self.has_community(one) && self.has_community(other)
+    }
+
+    pub fn has_both(&self, community: u32, org: u32) -> bool {
+        self.has_community(community) && self.has_org(org)
+    }
+
+    /// A member of the group names an organisation.
+    pub fn sees_in(&self, member: u32, group: u32, org: u32) -> bool {
+        self.has_member(group, member) && self.has_org(org)
+    }
+
+    pub fn is_person_of(&self, person: u32, org: u32) -> bool {
+        self.accounts
+            .iter()
+            .any(|a| a.person.number == person && a.person.org == org)
     }
 
     pub fn is_suspended(&self, n: u32) -> bool {
@@ -106,13 +120,10 @@ impl World {
         })
     }
 
-    pub fn owner_of(&self, group: u32) -> Option<u32> {
-        for row in self.groups.iter() {
-            if row.number == group {
-                return Some(row.owner);
-            }
-        }
-        None
+    pub fn owns(&self, org: u32, group: u32) -> bool {
+        self.groups
+            .iter()
+            .any(|g| g.number == group && g.owner == org)
     }
 
     pub fn has_org_named(&self, name: &Text) -> bool {

@@ -79,26 +79,25 @@ impl Tally {
     }
 
     /// For the kind its name, and each outcome that was met often enough.
-    fn line(&self, alloc: Global, kind: u32, name: &str) -> Result<String, AllocError> {
-        let mut line = String::from_str(alloc, name)?;
-        line.push(':')?;
+    fn push_line(&self, text: &mut String, kind: u32, name: &str) -> Result<(), AllocError> {
+        text.push_str(name)?;
+        text.push(':')?;
         for outcome in OUTCOMES {
             if self.is_met(kind, outcome) {
-                line.push(' ')?;
-                line.push_str(outcome.map_or("done", |code| code.name()))?;
+                text.push(' ')?;
+                text.push_str(outcome.map_or("done", |code| code.name()))?;
             }
         }
-        Ok(line)
+        text.push('\n')
     }
 
     /// A line for each kind.
-    pub fn lines(&self, alloc: Global) -> Result<Vec<String>, AllocError> {
-        let mut lines = Vec::new(alloc);
+    pub fn push_lines(&self, text: &mut String) -> Result<(), AllocError> {
         let mut kind = 0u32;
         for name in NAMES {
-            lines.push(self.line(alloc, kind, name)?)?;
+            self.push_line(text, kind, name)?;
             kind = kind.saturating_add(1);
         }
-        Ok(lines)
+        Ok(())
     }
 }

@@ -8,7 +8,7 @@ use crate::dice::Dice;
 use crate::documents::report_text;
 use crate::entry::{Entry, located};
 use crate::judged::{
-    Judged, Told, count_seen, in_order, judge, kept_outline, places, search, withheld,
+    Judged, Moved, Told, count_seen, in_order, judge, kept_outline, places, search, withheld,
 };
 use crate::readers::{any_case, any_standing};
 use crate::shown::{note_classes, note_places, note_reader, note_withheld};
@@ -63,6 +63,20 @@ pub struct Expected {
     pub withheld: Vec<Told>,
 }
 
+/// What is withheld beside the classes that are kept at these places.
+fn withheld_at(
+    tally: &mut Tally,
+    alloc: Global,
+    list: &[Judged<'_>],
+    pairs: &[Moved<'_>],
+) -> Result<Vec<Told>, AllocError> {
+    let told = withheld(alloc, list, pairs)?;
+    let count = told.len();
+    let withheld = in_order(alloc, told)?;
+    note_withheld(tally, count, &withheld);
+    Ok(withheld)
+}
+
 /// What is withheld beside these kept lines; the tally is told where they stand.
 fn withheld_beside(
     tally: &mut Tally,
@@ -72,11 +86,7 @@ fn withheld_beside(
 ) -> Result<Vec<Told>, AllocError> {
     let pairs = places(world.alloc, list, lines)?;
     note_places(tally, world, list, lines, &pairs);
-    let told = withheld(world.alloc, list, &pairs)?;
-    let count = told.len();
-    let withheld = in_order(world.alloc, told)?;
-    note_withheld(tally, count, &withheld);
-    Ok(withheld)
+    withheld_at(tally, world.alloc, list, &pairs)
 }
 
 /// What is withheld beside this kept outline.
@@ -128,6 +138,23 @@ fn is_stored(list: &[Judged<'_>], needle: &str) -> bool {
     list.iter().any(|line| line.line.kind == Kind::Text && line.line.text.as_str().contains(needle))
 }
 
+/// What the crate finds.
+fn answer_found(
+    world: &World<'_, '_>,
+    document: &Document,
+    needle: &str,
+    class: Option<&str>,
+) -> Result<bool, AllocError> {
+    finds(
+        world.alloc,
+        document,
+        world.case,
+        world.standing,
+        needle,
+        class,
+    )
+}
+
 /// Whether both find it, or neither does.
 fn agrees_on_search(
     tally: &mut Tally,
@@ -139,16 +166,8 @@ fn agrees_on_search(
 ) -> Result<bool, AllocError> {
     let found = search(list, needle, class);
     tally.note("needles found", found);
-    tally.note("needles hidden", is_stored(list, needle) && !found);
-    let answer = finds(
-        world.alloc,
-        document,
-        world.case,
-        world.standing,
-        needle,
-        class,
-    )?;
-    Ok(answer == found)
+    tally.note("needles hidden", !found && is_stored(list, needle));
+    Ok(answer_found(world, document, needle, class)? == found)
 }
 
 /// Whether the searches agree.
@@ -179,6 +198,33 @@ fn agrees_on_excerpt(
     Ok(listed == (expected.classes > 0) && is_expected(world.alloc, &answer, expected)?)
 }
 
+/// Tells the tally what the case shows.
+fn note_case(
+    tally: &mut Tally,
+    world: &World<'_, '_>,
+    list: &[Judged<'_>],
+) -> Result<(), AllocError> {
+    note_reader(tally, world.standing);
+    note_classes(tally, world, list);
+    note_stations(tally, world)
+}
+
+/// Whether both agree where the slow program's verdicts are these.
+fn agrees_by(
+    tally: &mut Tally,
+    world: &World<'_, '_>,
+    list: &[Judged<'_>],
+    document: &Document,
+) -> Result<bool, AllocError>
+    requires { first_bad_marking (entries_of document.now) ≡ None }
+{
+    let expected = slow_answer(tally, world, list)?;
+    Ok(
+        agrees_on_excerpt(world, document, &expected)?
+            && agrees_on_searches(tally, world, list, document)?,
+    )
+}
+
 /// Whether both agree; the tally is told what the case shows.
 fn agrees_in(
     tally: &mut Tally,
@@ -188,14 +234,8 @@ fn agrees_in(
     requires { first_bad_marking (entries_of document.now) ≡ None }
 {
     let list = judge(world)?;
-    let expected = slow_answer(tally, world, &list)?;
-    note_reader(tally, world.standing);
-    note_classes(tally, world, &list);
-    note_stations(tally, world)?;
-    Ok(
-        agrees_on_excerpt(world, document, &expected)?
-            && agrees_on_searches(tally, world, &list, document)?,
-    )
+    note_case(tally, world, &list)?;
+    agrees_by(tally, world, &list, document)
 }
 
 /// Whether both agree on a document for a reader.
@@ -219,20 +259,37 @@ pub fn agrees(
     agrees_in(tally, &world, document)
 }
 
-/// Whether both agree on the document, for any case and reader. One that isn't accepted agrees on nothing.
+/// Any case over the classes of the document.
+fn case_over(alloc: Global, dice: &mut Dice, document: &Document) -> Result<Case, AllocError> {
+    let classes = document.classes(alloc)?;
+    any_case(alloc, dice, &classes)
+}
+
+/// Whether both agree on the document, for any case and reader.
+fn agrees_for_any(
+    alloc: Global,
+    tally: &mut Tally,
+    dice: &mut Dice,
+    document: &Document,
+) -> Result<bool, AllocError>
+    requires { first_bad_marking (entries_of document.now) ≡ None }
+{
+    let case = case_over(alloc, dice, document)?;
+    let standing = any_standing(alloc, dice)?;
+    agrees(alloc, tally, document, &case, &standing)
+}
+
+/// Whether both agree on the document. One that isn't accepted agrees on nothing.
 fn agrees_on(
     alloc: Global,
     tally: &mut Tally,
     dice: &mut Dice,
     document: &Document,
 ) -> Result<bool, AllocError> {
-    let Ok(()) = check(alloc, document) else {
-        return Ok(false);
-    };
-    let classes = document.classes(alloc)?;
-    let case = any_case(alloc, dice, &classes)?;
-    let standing = any_standing(alloc, dice)?;
-    agrees(alloc, tally, document, &case, &standing)
+    match check(alloc, document) {
+        Ok(()) => agrees_for_any(alloc, tally, dice, document),
+        Err(_) => Ok(false),
+    }
 }
 
 /// The document of a report, if it is read.

@@ -199,28 +199,52 @@ fn chain_text(alloc: Global, dice: &mut Dice, last: &str) -> Result<String, Allo
     Ok(text)
 }
 
-/// These classes, of which the first may stand at the end of a chain.
-fn with_chain(
+/// Puts the first of the classes at the end of a chain, once in three times.
+fn put_into_chain(
     alloc: Global,
     dice: &mut Dice,
-    classes: Vec<String>,
-) -> Result<Vec<String>, AllocError> {
-    let mut made = Vec::new(alloc);
-    for (i, class) in classes.iter().enumerate() {
-        if i == 0 && dice.once_in(3) {
-            made.push(chain_text(alloc, dice, class.as_str())?)?;
-        } else {
-            made.push(class.clone()?)?;
+    classes: &mut Vec<String>,
+) -> Result<(), AllocError> {
+    if let Some(first) = classes.first_mut() {
+        if dice.once_in(3) {
+            *first = chain_text(alloc, dice, first.as_str())?;
         }
     }
-    Ok(made)
+    Ok(())
+}
+
+/// The classes that a report is made of.
+fn any_classes(alloc: Global, dice: &mut Dice) -> Result<Vec<String>, AllocError> {
+    let mut classes = Vec::new(alloc);
+    for _ in 0..dice.roll(4) {
+        classes = level(alloc, dice, &classes)?;
+    }
+    put_into_chain(alloc, dice, &mut classes)?;
+    Ok(classes)
+}
+
+/// What stands in front of the Incident.
+fn push_front(
+    text: &mut String,
+    alloc: Global,
+    dice: &mut Dice,
+    classes: &[String],
+) -> Result<(), AllocError> {
+    text.push_str("{\"version\":\"2.0\"")?;
+    push_plain(text, dice)?;
+    if dice.once_in(4) {
+        push_member(text, "restriction", "\"public\"")?;
+    }
+    if dice.once_in(3) {
+        push_classes(text, alloc, dice, classes)?;
+    }
+    Ok(())
 }
 
 fn incident_text(alloc: Global, dice: &mut Dice, classes: &[String]) -> Result<String, AllocError> {
     let mut text = String::from_str(alloc, "{\"GenerationTime\":\"g\",\"purpose\":\"reporting\"")?;
     push_member(&mut text, "IncidentID", any_class(dice, classes, 0))?;
-    let contacts = array_text(alloc, dice, classes, 0)?;
-    push_member(&mut text, "Contact", contacts.as_str())?;
+    push_contacts(&mut text, alloc, dice, classes)?;
     push_marking(&mut text, marking(dice))?;
     push_plain(&mut text, dice)?;
     push_classes(&mut text, alloc, dice, classes)?;
@@ -228,24 +252,33 @@ fn incident_text(alloc: Global, dice: &mut Dice, classes: &[String]) -> Result<S
     Ok(text)
 }
 
-/// A report with one Incident.
-pub fn report_text(alloc: Global, dice: &mut Dice) -> Result<String, AllocError> {
-    let mut classes = Vec::new(alloc);
-    for _ in 0..dice.roll(4) {
-        classes = level(alloc, dice, &classes)?;
-    }
-    let classes = with_chain(alloc, dice, classes)?;
-    let mut text = String::from_str(alloc, "{\"version\":\"2.0\"")?;
-    push_plain(&mut text, dice)?;
-    if dice.once_in(4) {
-        push_member(&mut text, "restriction", "\"public\"")?;
-    }
-    if dice.once_in(3) {
-        push_classes(&mut text, alloc, dice, &classes)?;
-    }
-    let incident = incident_text(alloc, dice, &classes)?;
+fn push_contacts(
+    text: &mut String,
+    alloc: Global,
+    dice: &mut Dice,
+    classes: &[String],
+) -> Result<(), AllocError> {
+    let contacts = array_text(alloc, dice, classes, 0)?;
+    push_member(text, "Contact", contacts.as_str())
+}
+
+fn push_incident(
+    text: &mut String,
+    alloc: Global,
+    dice: &mut Dice,
+    classes: &[String],
+) -> Result<(), AllocError> {
+    let incident = incident_text(alloc, dice, classes)?;
     text.push_str(",\"Incident\":[")?;
     text.push_str(incident.as_str())?;
-    text.push_str("]}")?;
+    text.push_str("]}")
+}
+
+/// A report with one Incident.
+pub fn report_text(alloc: Global, dice: &mut Dice) -> Result<String, AllocError> {
+    let classes = any_classes(alloc, dice)?;
+    let mut text = String::new(alloc);
+    push_front(&mut text, alloc, dice, &classes)?;
+    push_incident(&mut text, alloc, dice, &classes)?;
     Ok(text)
 }

@@ -45,12 +45,21 @@ fn entry_of<'a>(
     Ok(Entry { parent, path, line })
 }
 
+fn push_entry<'a>(
+    entries: &mut Vec<Entry<'a>>,
+    alloc: Global,
+    line: &'a Line,
+) -> Result<(), AllocError> {
+    let entry = entry_of(alloc, entries, line)?;
+    entries.push(entry)?;
+    Ok(())
+}
+
 /// The lines of an outline with their paths.
 pub fn located<'a>(alloc: Global, lines: &'a [Line]) -> Result<Vec<Entry<'a>>, AllocError> {
     let mut entries: Vec<Entry<'a>> = Vec::new(alloc);
     for line in lines {
-        let entry = entry_of(alloc, &entries, line)?;
-        entries.push(entry)?;
+        push_entry(&mut entries, alloc, line)?;
     }
     Ok(entries)
 }

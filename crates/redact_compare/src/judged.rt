@@ -118,6 +118,18 @@ fn put(lines: &mut Vec<Line>, line: Line) -> Result<(), AllocError> {
     Ok(())
 }
 
+/// Puts a text of the class one above this depth among the lines behind the class's own.
+fn put_text(
+    lines: &mut Vec<Line>,
+    alloc: Global,
+    depth: u32,
+    name: &str,
+    text: &str,
+) -> Result<(), AllocError> {
+    let line = text_line(alloc, depth, name, text)?;
+    put(lines, line)
+}
+
 /// Puts the label of a class among the lines behind the class's own.
 fn add_label(
     world: &World<'_, '_>,
@@ -126,19 +138,27 @@ fn add_label(
 ) -> Result<(), AllocError> {
     let label = world.label(judged.path.tokens());
     let depth = judged.line.depth.saturating_add(1);
-    put(
-        lines,
-        text_line(world.alloc, depth, "restriction", label.word)?,
-    )?;
+    put_text(lines, world.alloc, depth, "restriction", label.word)?;
     match label.ext {
         Some(text) if label.word == "ext-value" => {
-            put(
-                lines,
-                text_line(world.alloc, depth, "ext-restriction", text)?,
-            )
+            put_text(lines, world.alloc, depth, "ext-restriction", text)
         }
         _ => Ok(()),
     }
+}
+
+/// Puts a kept line in front, and its label behind it where it says it.
+fn put_kept(
+    world: &World<'_, '_>,
+    list: &[Judged<'_>],
+    judged: &Judged<'_>,
+    lines: &mut Vec<Line>,
+) -> Result<(), AllocError> {
+    if says_label(world, list, judged) {
+        add_label(world, judged, lines)?;
+    }
+    lines.insert(0, copy(judged.line)?)?;
+    Ok(())
 }
 
 /// The kept outline.
@@ -146,10 +166,7 @@ pub fn kept_outline(world: &World<'_, '_>, list: &[Judged<'_>]) -> Result<Vec<Li
     let mut lines = Vec::new(world.alloc);
     for judged in list.iter().rev() {
         if is_kept(list, judged) {
-            if says_label(world, list, judged) {
-                add_label(world, judged, &mut lines)?;
-            }
-            lines.insert(0, copy(judged.line)?)?;
+            put_kept(world, list, judged, &mut lines)?;
         }
     }
     Ok(lines)

@@ -9,7 +9,7 @@ use crate::compared::{document_of, same_line};
 use iodef_tree::{Document, LINE_LIMIT, Line, Path};
 use marking::check;
 use policy::{Case, Gate, Gates, Grantee, Permission, Permissions, Rule, Standing};
-use redact::excerpt;
+use redact::{Excerpt, excerpt};
 use std::alloc::{AllocError, Global};
 
 /// Classes one below the other: the first stands at depth 2, and the text in the last at depth 32.
@@ -52,8 +52,8 @@ fn event(alloc: Global, place: usize) -> Result<Path, AllocError> {
         .index(alloc, place)
 }
 
-/// 16 gates for the source alone at events 48 to 63, and 64 permissions: at events 0 to 62 and at the Incident.
-fn full_case(alloc: Global) -> Result<Case, AllocError> {
+/// 16 gates for the source alone at events 48 to 63, and one at the root for everybody.
+fn full_gates(alloc: Global) -> Result<Gates, AllocError> {
     let mut gates = Vec::new(alloc);
     gates.push(Gate {
         path: Path::root(alloc),
@@ -67,6 +67,11 @@ fn full_case(alloc: Global) -> Result<Case, AllocError> {
             group: None,
         })?;
     }
+    Ok(Gates::new(gates))
+}
+
+/// 64 permissions: at events 0 to 62 and at the Incident.
+fn full_permissions(alloc: Global) -> Result<Permissions, AllocError> {
     let mut permissions = Vec::new(alloc);
     for place in 0..63 {
         permissions.push(Permission {
@@ -78,10 +83,16 @@ fn full_case(alloc: Global) -> Result<Case, AllocError> {
         path: incident(alloc)?,
         grantee: Grantee::Org(ORG),
     })?;
+    Ok(Permissions::new(permissions))
+}
+
+fn full_case(alloc: Global) -> Result<Case, AllocError> {
+    let gates = full_gates(alloc)?;
+    let permissions = full_permissions(alloc)?;
     Ok(Case {
         source: 2,
-        gates: Gates::new(gates),
-        permissions: Permissions::new(permissions),
+        gates,
+        permissions,
     })
 }
 
@@ -130,11 +141,13 @@ fn has_all(alloc: Global, document: &Document, shown: &Document) -> Result<bool,
     )
 }
 
-/// The source is shown every line and, behind the last of the Incident, its label.
-fn shows_all(alloc: Global, document: &Document, case: &Case) -> Result<bool, AllocError>
-    requires { first_bad_marking (located document.now) ≡ None }
-{
-    match excerpt(alloc, document, case, &reader(alloc, 2, true))? {
+/// Whether it is the whole document, with nothing withheld.
+fn is_whole(
+    alloc: Global,
+    document: &Document,
+    answer: &Option<Excerpt>,
+) -> Result<bool, AllocError> {
+    match answer {
         Some(whole) => Ok(
             whole.classes == 1383
                 && whole.withheld.is_empty()
@@ -142,6 +155,15 @@ fn shows_all(alloc: Global, document: &Document, case: &Case) -> Result<bool, Al
         ),
         None => Ok(false),
     }
+}
+
+/// The source is shown every line and, behind the last of the Incident, its label.
+fn shows_all(alloc: Global, document: &Document, case: &Case) -> Result<bool, AllocError>
+    requires { first_bad_marking (located document.now) ≡ None }
+{
+    let source = reader(alloc, 2, true);
+    let answer = excerpt(alloc, document, case, &source)?;
+    is_whole(alloc, document, &answer)
 }
 
 /// At the Incident G0 hides the gated events and H-RED the others; each class of the chain but the last is a frame.
@@ -170,11 +192,9 @@ fn has_deepest(alloc: Global, shown: &Document) -> Result<bool, AllocError> {
     Ok(lines.len() == 184 && deepest)
 }
 
-/// A reader for whom the permissions are is shown the Incident, the last of the chain in 29 frames, and 48 events.
-fn shows_some(alloc: Global, document: &Document, case: &Case) -> Result<bool, AllocError>
-    requires { first_bad_marking (located document.now) ≡ None }
-{
-    match excerpt(alloc, document, case, &reader(alloc, ORG, false))? {
+/// Whether it is the Incident, the last of the chain in 29 frames, and 48 events.
+fn is_part(alloc: Global, answer: &Option<Excerpt>) -> Result<bool, AllocError> {
+    match answer {
         Some(part) => Ok(
             part.classes == 50
                 && has_deepest(alloc, &part.document)?
@@ -184,13 +204,29 @@ fn shows_some(alloc: Global, document: &Document, case: &Case) -> Result<bool, A
     }
 }
 
+/// A reader for whom the permissions are is shown that part.
+fn shows_some(alloc: Global, document: &Document, case: &Case) -> Result<bool, AllocError>
+    requires { first_bad_marking (located document.now) ≡ None }
+{
+    let grantee = reader(alloc, ORG, false);
+    let answer = excerpt(alloc, document, case, &grantee)?;
+    is_part(alloc, &answer)
+}
+
 /// Whether both readers are shown of the document what they are to be shown.
-fn holds_of(alloc: Global, document: &Document) -> Result<bool, AllocError> {
-    let Ok(()) = check(alloc, document) else {
-        return Ok(false);
-    };
+fn holds_for(alloc: Global, document: &Document) -> Result<bool, AllocError>
+    requires { first_bad_marking (located document.now) ≡ None }
+{
     let case = full_case(alloc)?;
     Ok(shows_all(alloc, document, &case)? && shows_some(alloc, document, &case)?)
+}
+
+/// Whether the document is accepted, and they are.
+fn holds_of(alloc: Global, document: &Document) -> Result<bool, AllocError> {
+    match check(alloc, document) {
+        Ok(()) => holds_for(alloc, document),
+        Err(_) => Ok(false),
+    }
 }
 
 /// Whether that holds of the report.

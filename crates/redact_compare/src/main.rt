@@ -60,13 +60,21 @@ fn compare_at_limits(rt: &HostRuntime) -> io::Result<bool> {
     Ok(true)
 }
 
-fn main(rt: HostRuntime) -> io::Result<ExitCode> {
-    let words: Vec<String> = env::args(&rt)?.skip(1).collect(rt.alloc())?;
-    let cases = words
-        .first()
-        .and_then(|word| word.parse::<u64>().ok())
-        .unwrap_or(CASES);
+/// How many cases are asked for.
+fn asked(rt: &HostRuntime) -> io::Result<u64> {
+    let words: Vec<String> = env::args(rt)?.skip(1).collect(rt.alloc())?;
+    let cases = words.first().and_then(|word| word.parse::<u64>().ok());
+    Ok(cases.unwrap_or(CASES))
+}
+
+/// Compares so many cases, and the one at the limits. Whether there is no difference, and nothing was rare.
+fn holds(rt: &HostRuntime, cases: u64) -> io::Result<bool> {
     let mut tally = Tally::new(rt.alloc())?;
-    let is_same = compare(&rt, &mut tally, cases)? && tell(&rt, &tally)? && compare_at_limits(&rt)?;
+    Ok(compare(rt, &mut tally, cases)? && tell(rt, &tally)? && compare_at_limits(rt)?)
+}
+
+fn main(rt: HostRuntime) -> io::Result<ExitCode> {
+    let cases = asked(&rt)?;
+    let is_same = holds(&rt, cases)?;
     Ok(ExitCode::from(u8::from(!is_same)))
 }

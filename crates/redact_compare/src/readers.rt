@@ -50,29 +50,37 @@ fn any_level(dice: &mut Dice) -> u8 {
     }
 }
 
+/// A gate at the path.
+fn push_gate(gates: &mut Vec<Gate>, dice: &mut Dice, path: Path) -> Result<(), AllocError> {
+    let level = any_level(dice);
+    let group = any_group(dice);
+    gates.push(Gate { path, level, group })?;
+    Ok(())
+}
+
+/// A gate at any path, or two.
+fn push_gates(
+    gates: &mut Vec<Gate>,
+    alloc: Global,
+    dice: &mut Dice,
+    classes: &[Path],
+) -> Result<(), AllocError> {
+    let path = any_path(alloc, dice, classes)?;
+    if dice.once_in(3) {
+        push_gate(gates, dice, path.clone()?)?;
+    }
+    push_gate(gates, dice, path)
+}
+
 /// A gate at the root, and some at other places, of which two may have one.
 fn any_gates(alloc: Global, dice: &mut Dice, classes: &[Path]) -> Result<Gates, AllocError> {
     let mut gates = Vec::new(alloc);
     let level = if dice.once_in(8) { any_level(dice) } else { 3 };
-    gates.push(Gate {
-        path: Path::root(alloc),
-        level,
-        group: any_group(dice),
-    })?;
+    let group = any_group(dice);
+    let path = Path::root(alloc);
+    gates.push(Gate { path, level, group })?;
     for _ in 0..dice.roll(4) {
-        let path = any_path(alloc, dice, classes)?;
-        if dice.once_in(3) {
-            gates.push(Gate {
-                path: path.clone()?,
-                level: any_level(dice),
-                group: any_group(dice),
-            })?;
-        }
-        gates.push(Gate {
-            path,
-            level: any_level(dice),
-            group: any_group(dice),
-        })?;
+        push_gates(&mut gates, alloc, dice, classes)?;
     }
     Ok(Gates::new(gates))
 }
@@ -87,6 +95,24 @@ fn any_grantee(dice: &mut Dice) -> Grantee {
     }
 }
 
+/// A permission at any path, or two.
+fn push_permissions(
+    permissions: &mut Vec<Permission>,
+    alloc: Global,
+    dice: &mut Dice,
+    classes: &[Path],
+) -> Result<(), AllocError> {
+    let path = any_path(alloc, dice, classes)?;
+    if dice.once_in(3) {
+        let path = path.clone()?;
+        let grantee = any_grantee(dice);
+        permissions.push(Permission { path, grantee })?;
+    }
+    let grantee = any_grantee(dice);
+    permissions.push(Permission { path, grantee })?;
+    Ok(())
+}
+
 fn any_permissions(
     alloc: Global,
     dice: &mut Dice,
@@ -94,17 +120,7 @@ fn any_permissions(
 ) -> Result<Permissions, AllocError> {
     let mut permissions = Vec::new(alloc);
     for _ in 0..dice.roll(6) {
-        let path = any_path(alloc, dice, classes)?;
-        if dice.once_in(3) {
-            permissions.push(Permission {
-                path: path.clone()?,
-                grantee: any_grantee(dice),
-            })?;
-        }
-        permissions.push(Permission {
-            path,
-            grantee: any_grantee(dice),
-        })?;
+        push_permissions(&mut permissions, alloc, dice, classes)?;
     }
     Ok(Permissions::new(permissions))
 }

@@ -66,22 +66,32 @@ fn note_kind(tally: &mut Tally, world: &World<'_, '_>, path: &Path) {
     tally.note("gates or permissions at nothing", nothing);
 }
 
+/// Notes what stands at the path, and which of these have to do with it.
+fn note_beside(tally: &mut Tally, world: &World<'_, '_>, path: &Path, others: &[&Path]) {
+    note_kind(tally, world, path);
+    for other in others {
+        tally.note(
+            "gates or permissions at siblings",
+            are_siblings(path.tokens(), other.tokens()),
+        );
+        tally.note("several at one path", *path == **other);
+    }
+}
+
+/// Notes what names and depths the case has.
+fn note_entries(tally: &mut Tally, entries: &[Entry<'_>]) {
+    for entry in entries {
+        tally.note("long names", entry.line.name.as_str().len() > LONG);
+        tally.note("deep chains", entry.path.tokens().len() > DEEP);
+    }
+}
+
 /// Notes where they stand, and what names and depths the case has.
 pub fn note_stations(tally: &mut Tally, world: &World<'_, '_>) -> Result<(), AllocError> {
     let paths = stations(world)?;
     for (i, path) in paths.iter().enumerate() {
-        note_kind(tally, world, path);
-        for other in &paths[..i] {
-            tally.note(
-                "gates or permissions at siblings",
-                are_siblings(path.tokens(), other.tokens()),
-            );
-            tally.note("several at one path", **path == **other);
-        }
+        note_beside(tally, world, path, &paths[..i]);
     }
-    for entry in world.entries {
-        tally.note("long names", entry.line.name.as_str().len() > LONG);
-        tally.note("deep chains", entry.path.tokens().len() > DEEP);
-    }
+    note_entries(tally, world.entries);
     Ok(())
 }
