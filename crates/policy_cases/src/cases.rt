@@ -21,14 +21,14 @@ ghost use Rattle.std.specs.Prelude.{◌≡◌, None};
 ghost use Rattle.iodef_tree.specs.Paths.{located};
 ghost use Rattle.marking.specs.Marks.{first_bad_marking};
 
-use crate::labels::{compared, marked, sited, spelled};
+use crate::alone::answer_alone;
+use crate::labels::{marked, sited};
 use crate::unfit::Unfit;
-use crate::verdicts::{cleared, given_back, groups_given_back, passed, verdicts};
-use crate::words::{arranged_of, case_of, gate_of, grantee_of, handling_of, standing_of};
+use crate::verdicts::verdicts;
+use crate::words::{case_of, standing_of};
 use iodef_tree::{Document, Path};
-use marking::{MarkingFault, check, is_incident};
-use policy::includes;
-use std::alloc::{AllocError, Global};
+use marking::{MarkingFault, check};
+use std::alloc::Global;
 
 /// A report whose markings were accepted.
 #[derive(Drop)]
@@ -103,40 +103,5 @@ impl Table {
         let standing = standing_of(alloc, standing)?;
         let case = case_of(alloc, gates, permissions)?;
         verdicts(alloc, &report.document, &case, &standing, pointers)
-    }
-}
-
-fn truth(alloc: Global, holds: bool) -> Result<String, AllocError> {
-    String::from_str(alloc, if holds { "yes" } else { "no" })
-}
-
-/// The answer of a line that asks of no report.
-fn answer_alone(alloc: Global, words: &[&str]) -> Result<String, Unfit> {
-    match words {
-        ["label", arranged, restriction] => {
-            Ok(spelled(alloc, restriction, None, arranged_of(arranged)?)?)
-        }
-        ["label", arranged, restriction, ext] => {
-            Ok(spelled(alloc, restriction, Some(ext), arranged_of(arranged)?)?)
-        }
-        ["order", first, second] => {
-            Ok(compared(alloc, handling_of(first)?, handling_of(second)?)?)
-        }
-        ["incident", first, second] => Ok(truth(alloc, is_incident(first, second))?),
-        ["clearance", standing] => Ok(cleared(alloc, &standing_of(alloc, standing)?)?),
-        ["gate", standing, level] => {
-            let gate = gate_of(alloc, format!(in alloc; "{level}@")?.as_str())?;
-            let standing = standing_of(alloc, standing)?;
-            Ok(String::from_str(alloc, passed(&standing, &gate))?)
-        }
-        ["grantee", standing, grantee] => {
-            let standing = standing_of(alloc, standing)?;
-            Ok(truth(alloc, includes(&standing, &grantee_of(grantee)?))?)
-        }
-        ["lists", gates, permissions] => {
-            Ok(given_back(alloc, case_of(alloc, gates, permissions)?)?)
-        }
-        ["numbers", standing] => { Ok(groups_given_back(alloc, standing_of(alloc, standing)?)?) }
-        _ => Err(Unfit::NoCase),
     }
 }

@@ -2,6 +2,7 @@
 //! stands in `cases`.
 #![tactic(auto)]
 
+mod alone;
 mod cases;
 mod labels;
 mod unfit;

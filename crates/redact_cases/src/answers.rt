@@ -5,25 +5,36 @@ ghost use Rattle.iodef_tree.specs.Paths.{located};
 ghost use Rattle.marking.specs.Marks.{first_bad_marking};
 
 use crate::cases::{Line, case_of, line_of, reader_of};
-use iodef_tree::Document;
+use iodef_tree::{Document, Path};
 use marking::check;
-use policy::{Case, Standing};
+use policy::{Case, Rule, Standing};
 use redact::{Excerpt, excerpt, finds, is_listed};
 use std::alloc::{AllocError, Global};
 
+fn push_count(alloc: Global, out: &mut String, classes: u32) -> Result<(), AllocError> {
+    let count = format!(in alloc; "{classes} ")?;
+    out.push_str(count.as_str())
+}
+
+fn push_document(alloc: Global, out: &mut String, document: &Document) -> Result<(), AllocError> {
+    let text = document.text(alloc)?;
+    out.push_str(text.as_str())
+}
+
+fn push_pair(alloc: Global, out: &mut String, place: &Path, rule: Rule) -> Result<(), AllocError> {
+    let pointer = place.print(alloc)?;
+    out.push(' ')?;
+    out.push_str(pointer.as_str())?;
+    out.push(':')?;
+    out.push_str(rule.name())
+}
+
 /// How many classes are visible, the document, and each withheld pair; `none` where there is no excerpt.
 fn push_excerpt(alloc: Global, out: &mut String, told: &Excerpt) -> Result<(), AllocError> {
-    let classes = told.classes;
-    let count = format!(in alloc; "{classes} ")?;
-    out.push_str(count.as_str())?;
-    let document = told.document.text(alloc)?;
-    out.push_str(document.as_str())?;
+    push_count(alloc, out, told.classes)?;
+    push_document(alloc, out, &told.document)?;
     for (place, rule) in &told.withheld {
-        let pointer = place.print(alloc)?;
-        out.push_str(" ")?;
-        out.push_str(pointer.as_str())?;
-        out.push_str(":")?;
-        out.push_str(rule.name())?;
+        push_pair(alloc, out, place, *rule)?;
     }
     Ok(())
 }
@@ -81,19 +92,28 @@ fn called(
     }
 }
 
-fn of_line(alloc: Global, line: &Line<'_>) -> Result<String, AllocError> {
-    let Ok(mut documents) = Document::read(alloc, line.document.as_bytes()) else {
-        return String::from_str(alloc, "not read");
-    };
-    let Some(document) = documents.pop() else {
-        return String::from_str(alloc, "not read");
-    };
-    let Ok(()) = check(alloc, &document) else {
-        return String::from_str(alloc, "bad marking");
-    };
+/// The document of a report, if it is read.
+fn document_of(alloc: Global, text: &str) -> Option<Document> {
+    Document::read(alloc, text.as_bytes()).ok()?.pop()
+}
+
+/// What is answered of a document whose markings were accepted.
+fn of_document(alloc: Global, document: &Document, line: &Line<'_>) -> Result<String, AllocError>
+    requires { first_bad_marking (located document.now) ≡ None }
+{
     let case = case_of(alloc, line)?;
     let reader = reader_of(alloc, line.reader)?;
-    called(alloc, &document, &case, &reader, line.call)
+    called(alloc, document, &case, &reader, line.call)
+}
+
+fn of_line(alloc: Global, line: &Line<'_>) -> Result<String, AllocError> {
+    let Some(document) = document_of(alloc, line.document) else {
+        return String::from_str(alloc, "not read");
+    };
+    match check(alloc, &document) {
+        Ok(()) => of_document(alloc, &document, line),
+        Err(_) => String::from_str(alloc, "bad marking"),
+    }
 }
 
 /// The answer to a line of the table.

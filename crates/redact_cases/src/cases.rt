@@ -47,27 +47,32 @@ fn numbers(alloc: Global, words: &str, name: &str) -> Result<Numbers, AllocError
     Ok(Numbers::new(list))
 }
 
+/// Sets what the word says of the reader; one that names no such thing sets nothing.
+fn set(standing: &mut Standing, word: &str) {
+    let mut parts = word.split('=');
+    let name = parts.next().unwrap_or("");
+    let number = number_of(parts.next().unwrap_or(""));
+    match name {
+        "source" => standing.source = true,
+        "person" => standing.person = true,
+        "nominated" => standing.nominated = true,
+        "addressed" => standing.addressed = true,
+        "client" => standing.client = true,
+        "community" => standing.community = true,
+        "connected" => standing.connected = true,
+        "org" => standing.org = number,
+        "who" => standing.who = number,
+        _ => {}
+    }
+}
+
 pub fn reader_of(alloc: Global, words: &str) -> Result<Standing, AllocError> {
     let mut standing = Standing::stranger(alloc, 0, 0);
     standing.groups = numbers(alloc, words, "member")?;
     standing.active_groups = numbers(alloc, words, "active")?;
     standing.communities = numbers(alloc, words, "in")?;
     for word in words.split(',') {
-        let mut parts = word.split('=');
-        let name = parts.next().unwrap_or("");
-        let number = number_of(parts.next().unwrap_or(""));
-        match name {
-            "source" => standing.source = true,
-            "person" => standing.person = true,
-            "nominated" => standing.nominated = true,
-            "addressed" => standing.addressed = true,
-            "client" => standing.client = true,
-            "community" => standing.community = true,
-            "connected" => standing.connected = true,
-            "org" => standing.org = number,
-            "who" => standing.who = number,
-            _ => {}
-        }
+        set(&mut standing, word);
     }
     Ok(standing)
 }
