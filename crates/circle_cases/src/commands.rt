@@ -129,14 +129,32 @@ pub fn command_of(alloc: Global, case: &Named<'_>) -> Result<CircleCommand, Allo
     }
 }
 
+/// A flag and two texts: FLAG|TEXT|MORE.
+fn flag_and_texts<'a>(words: &mut Split<'a, char>) -> Option<(bool, &'a str, &'a str)> {
+    let flag = words.next()? == "yes";
+    let text = words.next()?;
+    let more = words.next()?;
+    Some((flag, text, more))
+}
+
+/// A command's name and two numbers: COMMAND|ONE|OTHER.
+fn name_and_numbers<'a>(words: &mut Split<'a, char>) -> Option<(&'a str, u32, u32)> {
+    let command = words.next()?;
+    let one = words.next()?;
+    let other = words.next()?;
+    Some((command, number_of(one), number_of(other)))
+}
+
 /// The command behind the first fields: COMMAND|ONE|OTHER|FLAG|TEXT|MORE.
 pub fn command_fields<'a>(words: &mut Split<'a, char>) -> Option<Named<'a>> {
+    let (command, one, other) = name_and_numbers(words)?;
+    let (flag, text, more) = flag_and_texts(words)?;
     Some(Named {
-        command: words.next()?,
-        one: number_of(words.next()?),
-        other: number_of(words.next()?),
-        flag: words.next()? == "yes",
-        text: words.next()?,
-        more: words.next()?,
+        command,
+        one,
+        other,
+        flag,
+        text,
+        more,
     })
 }

@@ -1,7 +1,7 @@
 //! ROLE|FACTS|COUNT|COMMAND|ONE|OTHER|FLAG|TEXT|MORE: what is answered to the command of person 2 of organisation 2.
 use crate::commands::{Named, command_fields, command_of, role_of};
 use crate::written::number_of;
-use circle::command::CircleFacts;
+use circle::command::{CircleCommand, CircleFacts};
 use circle::directory::{Person, Role};
 use circle::judge::judge;
 use circle::name::Name;
@@ -54,13 +54,24 @@ fn actor(alloc: Global, role: Role) -> Result<Option<Person>, AllocError> {
 }
 
 /// The edit or the refusal, as `Debug` shows them.
-fn judged(alloc: Global, case: &Case<'_>) -> Result<String, AllocError> {
+fn told(
+    alloc: Global,
+    actor: &Person,
+    facts: &CircleFacts,
+    command: &CircleCommand,
+) -> Result<String, AllocError> {
+    let answer = judge(alloc, actor, facts, command);
+    format!(in alloc; "{answer:?}")
+}
+
+fn judged_by(alloc: Global, actor: &Person, case: &Case<'_>) -> Result<String, AllocError> {
     let command = command_of(alloc, &case.named)?;
+    told(alloc, actor, &case.facts, &command)
+}
+
+fn judged(alloc: Global, case: &Case<'_>) -> Result<String, AllocError> {
     match actor(alloc, case.role)? {
-        Some(actor) => {
-            let answer = judge(alloc, &actor, &case.facts, &command);
-            format!(in alloc; "{answer:?}")
-        }
+        Some(actor) => judged_by(alloc, &actor, case),
         None => String::from_str(alloc, "no actor"),
     }
 }

@@ -66,8 +66,8 @@ fn push_named(edits: &mut Vec<RowEdit>, alloc: Global) -> Result<(), AllocError>
     Ok(())
 }
 
-/// The persons and groups, not in their order.
-fn push_members(edits: &mut Vec<RowEdit>, alloc: Global) -> Result<(), AllocError> {
+/// The persons, not in their order.
+fn push_persons(edits: &mut Vec<RowEdit>, alloc: Global) -> Result<(), AllocError> {
     for (number, org, role) in [
         (2, 2, Role::Coordinator),
         (3, 3, Role::Reader),
@@ -75,9 +75,12 @@ fn push_members(edits: &mut Vec<RowEdit>, alloc: Global) -> Result<(), AllocErro
     ] {
         edits.push(put_person(alloc, number, org, role)?)?;
     }
-    for (number, owner, name) in [(2, 3, "h"), (1, 2, "g")] {
-        edits.push(put_group(alloc, number, owner, name)?)?;
-    }
+    Ok(())
+}
+
+fn push_groups(edits: &mut Vec<RowEdit>, alloc: Global) -> Result<(), AllocError> {
+    edits.push(put_group(alloc, 2, 3, "h")?)?;
+    edits.push(put_group(alloc, 1, 2, "g")?)?;
     Ok(())
 }
 
@@ -150,7 +153,8 @@ fn push_taken(edits: &mut Vec<RowEdit>) -> Result<(), AllocError> {
 fn edits(alloc: Global) -> Result<Vec<RowEdit>, AllocError> {
     let mut edits = Vec::new(alloc);
     push_named(&mut edits, alloc)?;
-    push_members(&mut edits, alloc)?;
+    push_persons(&mut edits, alloc)?;
+    push_groups(&mut edits, alloc)?;
     push_changes(&mut edits)?;
     push_pairs(&mut edits)?;
     push_valued(&mut edits)?;

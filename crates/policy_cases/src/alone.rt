@@ -3,7 +3,8 @@
 use crate::labels::{compared, spelled};
 use crate::unfit::Unfit;
 use crate::verdicts::{cleared, given_back, groups_given_back, passed};
-use crate::words::{arranged_of, case_of, gate_of, grantee_of, handling_of, standing_of};
+use crate::words::{arranged_of, case_of, grantee_of, handling_of, passage_of, standing_of};
+use iodef_tree::Path;
 use marking::is_incident;
 use policy::{Gate, includes};
 use std::alloc::Global;
@@ -33,16 +34,13 @@ fn clearance(alloc: Global, standing: &str) -> Result<String, Unfit> {
     Ok(cleared(alloc, &standing)?)
 }
 
-/// A gate of this level at the root.
-fn root_gate(alloc: Global, level: &str) -> Result<Gate, Unfit> {
-    let text = format!(in alloc; "{level}@")?;
-    gate_of(alloc, text.as_str())
-}
-
-fn gate(alloc: Global, standing: &str, level: &str) -> Result<String, Unfit> {
-    let gate = root_gate(alloc, level)?;
+/// How the reader passes a gate of this level at the root.
+fn gate(alloc: Global, standing: &str, passage: &str) -> Result<String, Unfit> {
+    let (level, group) = passage_of(passage)?;
     let standing = standing_of(alloc, standing)?;
-    Ok(String::from_str(alloc, passed(&standing, &gate))?)
+    let path = Path::root(alloc);
+    let told = passed(&standing, &Gate { path, level, group });
+    Ok(String::from_str(alloc, told)?)
 }
 
 fn grantee(alloc: Global, standing: &str, grantee: &str) -> Result<String, Unfit> {
@@ -61,6 +59,18 @@ fn numbers(alloc: Global, standing: &str) -> Result<String, Unfit> {
     Ok(groups_given_back(alloc, standing)?)
 }
 
+/// The answer of a line that asks of a reader, or of a case.
+fn answer_of_reader(alloc: Global, words: &[&str]) -> Result<String, Unfit> {
+    match words {
+        ["clearance", standing] => clearance(alloc, standing),
+        ["gate", standing, passage] => gate(alloc, standing, passage),
+        ["grantee", standing, named] => grantee(alloc, standing, named),
+        ["lists", gates, permissions] => lists(alloc, gates, permissions),
+        ["numbers", standing] => numbers(alloc, standing),
+        _ => Err(Unfit::NoCase),
+    }
+}
+
 /// The answer of a line that asks of no report.
 pub fn answer_alone(alloc: Global, words: &[&str]) -> Result<String, Unfit> {
     match words {
@@ -68,11 +78,6 @@ pub fn answer_alone(alloc: Global, words: &[&str]) -> Result<String, Unfit> {
         ["label", arranged, restriction, ext] => label(alloc, arranged, restriction, Some(ext)),
         ["order", first, second] => order(alloc, first, second),
         ["incident", first, second] => truth(alloc, is_incident(first, second)),
-        ["clearance", standing] => clearance(alloc, standing),
-        ["gate", standing, level] => gate(alloc, standing, level),
-        ["grantee", standing, named] => grantee(alloc, standing, named),
-        ["lists", gates, permissions] => lists(alloc, gates, permissions),
-        ["numbers", standing] => numbers(alloc, standing),
-        _ => Err(Unfit::NoCase),
+        _ => answer_of_reader(alloc, words),
     }
 }

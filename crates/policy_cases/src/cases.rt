@@ -52,6 +52,13 @@ impl Table {
         let words: Vec<&str> = line.split('|').collect(alloc)?;
         match words.as_slice() {
             ["report", body] => self.read(alloc, body),
+            words => self.asked(alloc, words),
+        }
+    }
+
+    /// The answer of a line that reads no report.
+    fn asked(&self, alloc: Global, words: &[&str]) -> Result<String, Unfit> {
+        match words {
             ["marks"] => self.marks(alloc),
             ["site", pointer] => self.site(alloc, pointer),
             ["decide", standing, gates, permissions, pointers] => {
@@ -67,16 +74,17 @@ impl Table {
             return Ok(String::from_str(alloc, "not read")?);
         };
         let document = documents.pop().ok_or(Unfit::NoCase)?;
+        self.keep(alloc, document)
+    }
+
+    /// Keeps a document whose markings are accepted.
+    fn keep(&mut self, alloc: Global, document: Document) -> Result<String, Unfit> {
         match check(alloc, &document) {
             Ok(()) => {
                 self.report = Some(Report { document });
                 Ok(String::from_str(alloc, "accepted")?)
             }
-            Err(MarkingFault::BadMarking(path)) => {
-                let pointer = path.print(alloc)?;
-                Ok(format!(in alloc; "BadMarking {pointer}")?)
-            }
-            Err(MarkingFault::NoMemory) => Err(Unfit::NoMemory),
+            Err(fault) => told(alloc, fault),
         }
     }
 
@@ -104,4 +112,13 @@ impl Table {
         let case = case_of(alloc, gates, permissions)?;
         verdicts(alloc, &report.document, &case, &standing, pointers)
     }
+}
+
+/// Which marking isn't accepted.
+fn told(alloc: Global, fault: MarkingFault) -> Result<String, Unfit> {
+    let MarkingFault::BadMarking(path) = fault else {
+        return Err(Unfit::NoMemory);
+    };
+    let pointer = path.print(alloc)?;
+    Ok(format!(in alloc; "BadMarking {pointer}")?)
 }

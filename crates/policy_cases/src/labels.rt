@@ -59,12 +59,16 @@ impl MarkWriter for Told {
     ghost line = { λ _. [] };
 
     fn write(&mut self, alloc: Global, mark: Mark<'_>) -> Result<(), AllocError> {
-        let Mark { path, label, site } = mark;
-        let text = label.text(alloc)?;
-        let handling = label.handling(None).name();
-        let line = format!(in alloc; "[{path}] {text}: {handling} by [{site}]; ")?;
+        let line = line_of(alloc, mark)?;
         self.text.push_str(line.as_str())
     }
+}
+
+fn line_of(alloc: Global, mark: Mark<'_>) -> Result<String, AllocError> {
+    let Mark { path, label, site } = mark;
+    let text = label.text(alloc)?;
+    let handling = label.handling(None).name();
+    format!(in alloc; "[{path}] {text}: {handling} by [{site}]; ")
 }
 
 fn text_of(alloc: Global, label: Option<Label<'_>>) -> Result<String, AllocError> {
@@ -74,19 +78,29 @@ fn text_of(alloc: Global, label: Option<Label<'_>>) -> Result<String, AllocError
     }
 }
 
+/// The label that holds at a path, and its site.
+fn placed(alloc: Global, site: &Path, label: Label<'_>) -> Result<String, AllocError> {
+    let site = site.print(alloc)?;
+    let label = label.text(alloc)?;
+    format!(in alloc; "{label} by [{site}]")
+}
+
+fn site_of(alloc: Global, document: &Document, path: &Path) -> Result<String, AllocError>
+    requires { first_bad_marking (located document.now) ≡ None }
+{
+    match site(alloc, document, path) {
+        Ok((site, label)) => placed(alloc, &site, label),
+        Err(SiteFault::NoClass) => String::from_str(alloc, "NoClass"),
+        Err(SiteFault::NoMemory) => String::from_str(alloc, "NoMemory"),
+    }
+}
+
 /// What is written at the path, its own label, and the site with the label that holds there.
 pub fn sited(alloc: Global, document: &Document, path: &Path) -> Result<String, AllocError>
     requires { first_bad_marking (located document.now) ≡ None }
 {
     let written = text_of(alloc, written_at(document, path))?;
     let own = text_of(alloc, own(document, path))?;
-    match site(alloc, document, path) {
-        Ok((site, label)) => {
-            let site = site.print(alloc)?;
-            let label = label.text(alloc)?;
-            format!(in alloc; "written: {written}, own: {own}, {label} by [{site}]")
-        }
-        Err(SiteFault::NoClass) => { format!(in alloc; "written: {written}, own: {own}, NoClass") }
-        Err(SiteFault::NoMemory) => String::from_str(alloc, "NoMemory"),
-    }
+    let site = site_of(alloc, document, path)?;
+    format!(in alloc; "written: {written}, own: {own}, {site}")
 }

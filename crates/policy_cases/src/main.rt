@@ -10,6 +10,7 @@ mod verdicts;
 mod words;
 
 use cases::Table;
+use std::alloc::{AllocError, Global};
 use std::io;
 use std::io::Read;
 
@@ -22,13 +23,16 @@ fn main(rt: HostRuntime) -> io::Result<()> {
         if line.is_empty() || line.starts_with('#') {
             continue;
         }
-        match table.answer(alloc, line) {
-            Ok(answer) => println!(rt; "{answer}")?,
-            Err(unfit) => {
-                let name = unfit.name();
-                println!(rt; "{name}")?;
-            }
-        }
+        let answer = answer(&mut table, alloc, line)?;
+        println!(rt; "{answer}")?;
     }
     Ok(())
+}
+
+/// The answer of the table, or why there is none.
+fn answer(table: &mut Table, alloc: Global, line: &str) -> Result<String, AllocError> {
+    match table.answer(alloc, line) {
+        Ok(answer) => Ok(answer),
+        Err(unfit) => String::from_str(alloc, unfit.name()),
+    }
 }

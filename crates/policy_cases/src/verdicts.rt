@@ -6,7 +6,10 @@ ghost use Rattle.marking.specs.Marks.{first_bad_marking};
 
 use crate::unfit::Unfit;
 use iodef_tree::{Document, Path};
-use policy::{Case, DecideFault, Gate, Grantee, Standing, Verdict, clearance, decide, passes};
+use policy::{
+    Case, DecideFault, Gate, Gates, Grantee, Permission, Permissions, Standing, Verdict, clearance,
+    decide, passes,
+};
 use std::alloc::{AllocError, Global};
 
 pub fn cleared(alloc: Global, standing: &Standing) -> Result<String, AllocError> {
@@ -70,38 +73,65 @@ fn kind_of(grantee: Grantee) -> (&'static str, u32) {
     }
 }
 
+fn push_gate(told: &mut String, alloc: Global, gate: &Gate) -> Result<(), AllocError> {
+    let level = gate.level;
+    let pointer = gate.path.print(alloc)?;
+    let line = match gate.group {
+        Some(group) => format!(in alloc; "; {level}:{group}@{pointer}")?,
+        None => format!(in alloc; "; {level}@{pointer}")?,
+    };
+    told.push_str(line.as_str())
+}
+
+fn push_permission(
+    told: &mut String,
+    alloc: Global,
+    permission: &Permission,
+) -> Result<(), AllocError> {
+    let (kind, number) = kind_of(permission.grantee);
+    let pointer = permission.path.print(alloc)?;
+    let line = format!(in alloc; "; {kind}:{number}@{pointer}")?;
+    told.push_str(line.as_str())
+}
+
+fn push_gates(told: &mut String, alloc: Global, gates: Gates) -> Result<(), AllocError> {
+    for gate in &gates.into_vec() {
+        push_gate(told, alloc, gate)?;
+    }
+    Ok(())
+}
+
+fn push_permissions(
+    told: &mut String,
+    alloc: Global,
+    permissions: Permissions,
+) -> Result<(), AllocError> {
+    for permission in &permissions.into_vec() {
+        push_permission(told, alloc, permission)?;
+    }
+    Ok(())
+}
+
 /// The gates and permissions that a case gives back.
 pub fn given_back(alloc: Global, case: Case) -> Result<String, AllocError> {
-    let Case {
-        source,
-        gates,
-        permissions,
-    } = case;
+    let source = case.source;
     let mut told = format!(in alloc; "source {source}")?;
-    for gate in &gates.into_vec() {
-        let level = gate.level;
-        let pointer = gate.path.print(alloc)?;
-        let line = match gate.group {
-            Some(group) => format!(in alloc; "; {level}:{group}@{pointer}")?,
-            None => format!(in alloc; "; {level}@{pointer}")?,
-        };
-        told.push_str(line.as_str())?;
-    }
-    for permission in &permissions.into_vec() {
-        let (kind, number) = kind_of(permission.grantee);
-        let pointer = permission.path.print(alloc)?;
-        let line = format!(in alloc; "; {kind}:{number}@{pointer}")?;
-        told.push_str(line.as_str())?;
+    push_gates(&mut told, alloc, case.gates)?;
+    push_permissions(&mut told, alloc, case.permissions)?;
+    Ok(told)
+}
+
+fn groups_told(alloc: Global, groups: &[u32]) -> Result<String, AllocError> {
+    let mut told = String::from_str(alloc, "groups")?;
+    for number in groups {
+        let word = format!(in alloc; " {number}")?;
+        told.push_str(word.as_str())?;
     }
     Ok(told)
 }
 
 /// The numbers of the groups that a standing gives back.
 pub fn groups_given_back(alloc: Global, standing: Standing) -> Result<String, AllocError> {
-    let mut told = String::from_str(alloc, "groups")?;
-    for number in &standing.groups.into_vec() {
-        let word = format!(in alloc; " {number}")?;
-        told.push_str(word.as_str())?;
-    }
-    Ok(told)
+    let groups = standing.groups.into_vec();
+    groups_told(alloc, &groups)
 }

@@ -43,13 +43,19 @@ fn numbers_of(alloc: Global, words: &str) -> Result<Numbers, Unfit> {
 /// as `groups:1,7`, `active:7` and `communities:2`.
 pub fn standing_of(alloc: Global, words: &str) -> Result<Standing, Unfit> {
     let mut words = words.split(' ');
-    let first = words.next().ok_or(Unfit::NoCase)?;
-    let (who, org) = first.split_once('/').ok_or(Unfit::NoCase)?;
-    let mut standing = Standing::stranger(alloc, number_of(who)?, number_of(org)?);
+    let mut standing = stranger_of(alloc, words.next().unwrap_or(""))?;
     for word in words {
         hold(alloc, &mut standing, word)?;
     }
     Ok(standing)
+}
+
+/// A reader of whom nothing holds, by its two numbers.
+fn stranger_of(alloc: Global, word: &str) -> Result<Standing, Unfit> {
+    let (who, org) = word.split_once('/').ok_or(Unfit::NoCase)?;
+    let who = number_of(who)?;
+    let org = number_of(org)?;
+    Ok(Standing::stranger(alloc, who, org))
 }
 
 fn hold(alloc: Global, standing: &mut Standing, word: &str) -> Result<(), Unfit> {
@@ -80,15 +86,21 @@ fn hold_named(alloc: Global, standing: &mut Standing, name: &str, list: &str) ->
     Ok(())
 }
 
-/// A gate by its level, its group behind a colon if it has one, and its pointer behind an `@`: `4:1@/Incident/0`.
-pub fn gate_of(alloc: Global, word: &str) -> Result<Gate, Unfit> {
-    let (passage, pointer) = word.split_once('@').ok_or(Unfit::NoCase)?;
-    let path = Path::parse(alloc, pointer)?;
-    let (level, group) = match passage.split_once(':') {
+/// A level, and its group behind a colon if it has one: `4:1`.
+pub fn passage_of(word: &str) -> Result<(u8, Option<u32>), Unfit> {
+    let (level, group) = match word.split_once(':') {
         Some((level, group)) => (level, Some(number_of(group)?)),
-        None => (passage, None),
+        None => (word, None),
     };
     let level = level.parse::<u8>().ok().ok_or(Unfit::NoCase)?;
+    Ok((level, group))
+}
+
+/// A gate by its level and group, and its pointer behind an `@`: `4:1@/Incident/0`.
+fn gate_of(alloc: Global, word: &str) -> Result<Gate, Unfit> {
+    let (passage, pointer) = word.split_once('@').ok_or(Unfit::NoCase)?;
+    let (level, group) = passage_of(passage)?;
+    let path = Path::parse(alloc, pointer)?;
     Ok(Gate { path, level, group })
 }
 
@@ -108,8 +120,8 @@ pub fn grantee_of(word: &str) -> Result<Grantee, Unfit> {
 /// A permission by its grantee and its pointer: `org:4@/Incident/0`.
 fn permission_of(alloc: Global, word: &str) -> Result<Permission, Unfit> {
     let (grantee, pointer) = word.split_once('@').ok_or(Unfit::NoCase)?;
-    let path = Path::parse(alloc, pointer)?;
     let grantee = grantee_of(grantee)?;
+    let path = Path::parse(alloc, pointer)?;
     Ok(Permission { path, grantee })
 }
 

@@ -66,11 +66,17 @@ fn set(standing: &mut Standing, word: &str) {
     }
 }
 
-pub fn reader_of(alloc: Global, words: &str) -> Result<Standing, AllocError> {
+/// A reader of whom no word says anything, with the groups and communities of the words.
+fn member_of(alloc: Global, words: &str) -> Result<Standing, AllocError> {
     let mut standing = Standing::stranger(alloc, 0, 0);
     standing.groups = numbers(alloc, words, "member")?;
     standing.active_groups = numbers(alloc, words, "active")?;
     standing.communities = numbers(alloc, words, "in")?;
+    Ok(standing)
+}
+
+pub fn reader_of(alloc: Global, words: &str) -> Result<Standing, AllocError> {
+    let mut standing = member_of(alloc, words)?;
     for word in words.split(',') {
         set(&mut standing, word);
     }
@@ -84,18 +90,23 @@ fn path_of(alloc: Global, pointer: &str) -> Result<Path, AllocError> {
     }
 }
 
+/// A gate, if the word names a level.
+fn push_gate(gates: &mut Vec<Gate>, alloc: Global, word: &str) -> Result<(), AllocError> {
+    let mut parts = word.split(':');
+    let pointer = parts.next().unwrap_or("");
+    if let Some(level) = parts.next() {
+        let level = level.parse::<u8>().unwrap_or(0);
+        let group = parts.next().map(|number| number_of(number));
+        let path = path_of(alloc, pointer)?;
+        gates.push(Gate { path, level, group })?;
+    }
+    Ok(())
+}
+
 fn gates_of(alloc: Global, words: &str) -> Result<Gates, AllocError> {
     let mut gates = Vec::new(alloc);
     for word in words.split(';') {
-        let mut parts = word.split(':');
-        let pointer = parts.next().unwrap_or("");
-        if let Some(level) = parts.next() {
-            gates.push(Gate {
-                path: path_of(alloc, pointer)?,
-                level: level.parse::<u8>().unwrap_or(0),
-                group: parts.next().map(|number| number_of(number)),
-            })?;
-        }
+        push_gate(&mut gates, alloc, word)?;
     }
     Ok(Gates::new(gates))
 }
@@ -109,17 +120,26 @@ fn grantee_of(kind: &str, number: u32) -> Grantee {
     }
 }
 
+/// A permission, if the word names a grantee.
+fn push_permission(
+    permissions: &mut Vec<Permission>,
+    alloc: Global,
+    word: &str,
+) -> Result<(), AllocError> {
+    let mut parts = word.split(':');
+    let pointer = parts.next().unwrap_or("");
+    if let Some(kind) = parts.next() {
+        let grantee = grantee_of(kind, number_of(parts.next().unwrap_or("")));
+        let path = path_of(alloc, pointer)?;
+        permissions.push(Permission { path, grantee })?;
+    }
+    Ok(())
+}
+
 fn permissions_of(alloc: Global, words: &str) -> Result<Permissions, AllocError> {
     let mut permissions = Vec::new(alloc);
     for word in words.split(';') {
-        let mut parts = word.split(':');
-        let pointer = parts.next().unwrap_or("");
-        if let Some(kind) = parts.next() {
-            permissions.push(Permission {
-                path: path_of(alloc, pointer)?,
-                grantee: grantee_of(kind, number_of(parts.next().unwrap_or(""))),
-            })?;
-        }
+        push_permission(&mut permissions, alloc, word)?;
     }
     Ok(Permissions::new(permissions))
 }

@@ -8,7 +8,8 @@ use crate::dice::Dice;
 use crate::documents::report_text;
 use crate::entry::{Entry, located};
 use crate::judged::{
-    Judged, Moved, Told, count_seen, in_order, judge, kept_outline, places, search, withheld,
+    Judged, Moved, Sought, Told, count_seen, in_order, judge, kept_outline, places, search,
+    withheld,
 };
 use crate::readers::{any_case, any_standing};
 use crate::shown::{note_classes, note_places, note_reader, note_withheld};
@@ -22,11 +23,23 @@ use redact::{Excerpt, excerpt, finds, is_listed};
 use std::alloc::{AllocError, Global};
 
 /// The needles, and the classes in which they are searched.
-const SEARCHES: &[(&str, Option<&str>)] = &[
-    ("needle", None),
-    ("needles", Some("Node")),
-    ("", Some("Flow")),
-    ("private", None),
+const SEARCHES: &[Sought<'static>] = &[
+    Sought {
+        needle: "needle",
+        class: None,
+    },
+    Sought {
+        needle: "needles",
+        class: Some("Node"),
+    },
+    Sought {
+        needle: "",
+        class: Some("Flow"),
+    },
+    Sought {
+        needle: "private",
+        class: None,
+    },
 ];
 
 pub fn same_line(one: &Line, other: &Line) -> bool {
@@ -142,17 +155,24 @@ fn is_stored(list: &[Judged<'_>], needle: &str) -> bool {
 fn answer_found(
     world: &World<'_, '_>,
     document: &Document,
-    needle: &str,
-    class: Option<&str>,
+    sought: &Sought<'_>,
 ) -> Result<bool, AllocError> {
     finds(
         world.alloc,
         document,
         world.case,
         world.standing,
-        needle,
-        class,
+        sought.needle,
+        sought.class,
     )
+}
+
+/// What the slow program finds; the tally is told.
+fn slow_found(tally: &mut Tally, list: &[Judged<'_>], sought: &Sought<'_>) -> bool {
+    let found = search(list, sought);
+    tally.note("needles found", found);
+    tally.note("needles hidden", !found && is_stored(list, sought.needle));
+    found
 }
 
 /// Whether both find it, or neither does.
@@ -161,13 +181,10 @@ fn agrees_on_search(
     world: &World<'_, '_>,
     list: &[Judged<'_>],
     document: &Document,
-    needle: &str,
-    class: Option<&str>,
+    sought: &Sought<'_>,
 ) -> Result<bool, AllocError> {
-    let found = search(list, needle, class);
-    tally.note("needles found", found);
-    tally.note("needles hidden", !found && is_stored(list, needle));
-    Ok(answer_found(world, document, needle, class)? == found)
+    let found = slow_found(tally, list, sought);
+    Ok(answer_found(world, document, sought)? == found)
 }
 
 /// Whether the searches agree.
@@ -177,8 +194,8 @@ fn agrees_on_searches(
     list: &[Judged<'_>],
     document: &Document,
 ) -> Result<bool, AllocError> {
-    for (needle, class) in SEARCHES {
-        if !agrees_on_search(tally, world, list, document, needle, *class)? {
+    for sought in SEARCHES {
+        if !agrees_on_search(tally, world, list, document, sought)? {
             return Ok(false);
         }
     }

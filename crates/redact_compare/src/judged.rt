@@ -263,17 +263,26 @@ pub fn in_order(alloc: Global, pairs: Vec<Told>) -> Result<Vec<Told>, AllocError
     Ok(list)
 }
 
+/// What is searched, and the name of the class in which, if it is to be one.
+#[derive(Clone, Copy)]
+pub struct Sought<'a> {
+    pub needle: &'a str,
+    pub class: Option<&'a str>,
+}
+
+/// Whether it is a visible class that directly holds the text, of the sought name if there is one.
+fn is_holder(judged: &Judged<'_>, text: &Judged<'_>, sought: &Sought<'_>) -> bool {
+    judged.visible
+        && *judged.path == *text.parent
+        && (sought.class.is_none() || sought.class == Some(judged.line.name.as_str()))
+}
+
 /// Whether a visible class, of this name if one is given, directly holds a text with the needle.
-pub fn search(list: &[Judged<'_>], needle: &str, class: Option<&str>) -> bool {
+pub fn search(list: &[Judged<'_>], sought: &Sought<'_>) -> bool {
     for text in list {
-        if text.line.kind == Kind::Text && text.line.text.as_str().contains(needle) {
-            for holder in list {
-                if holder.visible
-                    && *holder.path == *text.parent
-                    && (class.is_none() || class == Some(holder.line.name.as_str()))
-                {
-                    return true;
-                }
+        if text.line.kind == Kind::Text && text.line.text.as_str().contains(sought.needle) {
+            if list.iter().any(|judged| is_holder(judged, text, sought)) {
+                return true;
             }
         }
     }
