@@ -19,6 +19,13 @@ impl World {
             stands: false,
             count: 0,
         };
+        self.find_of_administrators(&mut facts, command);
+        self.find_of_coordinators(&mut facts, actor, command);
+        facts
+    }
+
+    /// Of an administrator's command.
+    fn find_of_administrators(&self, facts: &mut CircleFacts, command: &CircleCommand) {
         match command {
             CircleCommand::AddOrg { name } => {
                 facts.stands = self.has_org_named(name);
@@ -51,23 +58,35 @@ impl World {
                     facts.exists = self.has_communities(*community, *other);
                     facts.stands = self.are_connected(*community, *other);
                 }
+            _ => {}
+        }
+    }
+
+    /// Of a coordinator's command.
+    fn find_of_coordinators(
+        &self,
+        facts: &mut CircleFacts,
+        actor: &Person,
+        command: &CircleCommand,
+    ) {
+        match command {
             CircleCommand::NewGroup { name, .. } => {
                 facts.stands = self.has_group_named(actor.org, name);
                 facts.count = as_count(self.groups.len());
             }
             CircleCommand::GroupAdd { group, org, .. } => {
-                self.group_facts(&mut facts, actor.org, *group);
+                self.group_facts(facts, actor.org, *group);
                 facts.exists = self.sees_in(actor.org, *group, *org);
                 facts.stands = self.has_member(*group, *org);
             }
             CircleCommand::GroupRemove { group, org } => {
-                self.group_facts(&mut facts, actor.org, *group);
+                self.group_facts(facts, actor.org, *group);
                 facts.exists = self.sees_in(actor.org, *group, *org);
                 facts.target_is_owner = self.owns(*org, *group);
                 facts.stands = self.has_member(*group, *org);
             }
             CircleCommand::GroupActive { group, active } => {
-                self.group_facts(&mut facts, actor.org, *group);
+                self.group_facts(facts, actor.org, *group);
                 facts.exists = self.has_member(*group, actor.org);
                 facts.stands = self.is_switched(*group, *active);
             }
@@ -80,8 +99,8 @@ impl World {
                 facts.own_person = self.is_person_of(*person, actor.org);
                 facts.stands = self.is_nominated(*person);
             }
+            _ => {}
         }
-        facts
     }
 
     fn group_facts(&self, facts: &mut CircleFacts, org: u32, group: u32) {

@@ -30,8 +30,8 @@ fn is_bad_name(text: &Text) -> bool {
 }
 
 impl World {
-    /// Why an administrator's command is refused, from the rows alone.
-    fn administrators_refusal(
+    /// Why an administrator's command on organisations and persons is refused.
+    fn refusal_of_members(
         &self,
         actor: &Person,
         command: &CircleCommand,
@@ -57,6 +57,18 @@ impl World {
                 (!self.has_person(*person), Code::N2, ""),
                 (self.is_suspended(*person), Code::S1, ""),
             ]),
+            _ => None,
+        }
+    }
+
+    /// Why an administrator's command on clients, or on the members of communities, is refused.
+    fn refusal_of_pairs(
+        &self,
+        actor: &Person,
+        command: &CircleCommand,
+    ) -> Option<(Code, &'static str)> {
+        let role = (actor.role != Role::Administrator, Code::W1, "");
+        match command {
             CircleCommand::AddClient { org, client } => first(&[
                 role,
                 (*org == *client, Code::B1, "client"),
@@ -69,12 +81,6 @@ impl World {
                 (!self.has_orgs(*org, *client), Code::N2, ""),
                 (!self.has_client(*org, *client), Code::S2, ""),
             ]),
-            CircleCommand::AddCommunity { name } => first(&[
-                role,
-                (is_bad_name(name), Code::B1, "name"),
-                (self.has_community_named(name), Code::S1, ""),
-                (self.communities.len() >= 1000, Code::L1, ""),
-            ]),
             CircleCommand::Join { community, org } => first(&[
                 role,
                 (!self.has_both(*community, *org), Code::N2, ""),
@@ -84,6 +90,24 @@ impl World {
                 role,
                 (!self.has_both(*community, *org), Code::N2, ""),
                 (!self.has_membership(*community, *org), Code::S2, ""),
+            ]),
+            _ => None,
+        }
+    }
+
+    /// Why an administrator's command on communities is refused.
+    fn refusal_of_communities(
+        &self,
+        actor: &Person,
+        command: &CircleCommand,
+    ) -> Option<(Code, &'static str)> {
+        let role = (actor.role != Role::Administrator, Code::W1, "");
+        match command {
+            CircleCommand::AddCommunity { name } => first(&[
+                role,
+                (is_bad_name(name), Code::B1, "name"),
+                (self.has_community_named(name), Code::S1, ""),
+                (self.communities.len() >= 1000, Code::L1, ""),
             ]),
             CircleCommand::Link { community, other } => first(&[
                 role,
@@ -101,8 +125,8 @@ impl World {
         }
     }
 
-    /// Why a coordinator's command is refused, from the rows alone.
-    fn coordinators_refusal(
+    /// Why a coordinator's command on groups is refused.
+    fn refusal_of_groups(
         &self,
         actor: &Person,
         command: &CircleCommand,
@@ -142,6 +166,18 @@ impl World {
                 (!self.owns(actor.org, *group), Code::W2, ""),
                 (self.is_switched(*group, *active), Code::S1, ""),
             ]),
+            _ => None,
+        }
+    }
+
+    /// Why a coordinator's command on arrangements and nominations is refused.
+    fn refusal_of_trust(
+        &self,
+        actor: &Person,
+        command: &CircleCommand,
+    ) -> Option<(Code, &'static str)> {
+        let role = (actor.role != Role::Coordinator, Code::W1, "");
+        match command {
             CircleCommand::Arrange { org, .. } => first(&[
                 role,
                 (*org == actor.org, Code::B1, "org"),
@@ -171,9 +207,10 @@ impl World {
 
     /// Why the command is refused, from the rows alone: the code and its detail.
     pub fn refusal(&self, actor: &Person, command: &CircleCommand) -> Option<(Code, &'static str)> {
-        match self.administrators_refusal(actor, command) {
-            Some(told) => Some(told),
-            None => self.coordinators_refusal(actor, command),
-        }
+        self.refusal_of_members(actor, command)
+            .or(self.refusal_of_pairs(actor, command))
+            .or(self.refusal_of_communities(actor, command))
+            .or(self.refusal_of_groups(actor, command))
+            .or(self.refusal_of_trust(actor, command))
     }
 }
