@@ -7,5 +7,3 @@ pub mod Others
 pub mod Owners
 pub mod Growth
 pub mod Lookup
-pub mod Exchanged
-pub mod InKeys

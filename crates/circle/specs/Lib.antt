@@ -14,5 +14,4 @@ pub mod Order
 pub mod Others
 pub mod Growth
 pub mod Laws
-pub mod Rows
 pub mod Reads

@@ -1,7 +1,7 @@
 //! ask|QUESTION|ONE|OTHER: what the small directory answers.
 use crate::world::world;
 use crate::written::number_of;
-use circle::rows::DirectoryRows;
+use circle_rows::DirectoryRows;
 use std::alloc::{AllocError, Global};
 
 /// A test of a number, or of two.

@@ -6,7 +6,7 @@ use circle::directory::{
 };
 use circle::name::Name;
 use circle::releasability::Releasability;
-use circle::rows::DirectoryRows;
+use circle_rows::DirectoryRows;
 use std::alloc::{AllocError, Global};
 
 /// A name; where the text is none, an edit that changes nothing stands in its place.

@@ -11,7 +11,7 @@ use circle::directory::{Person, Role};
 use circle::judge::judge;
 use circle::name::Name;
 use circle::refusal::{Code, Refusal};
-use circle::rows::DirectoryRows;
+use circle_rows::DirectoryRows;
 use circle::text::Text;
 use std::alloc::{AllocError, Global};
 

@@ -1,7 +1,7 @@
 //! What is asked of a directory beside its commands, by the plain program.
 use crate::rows::World;
 use circle::directory::{Group, GroupMember, Handling, Person};
-use circle::rows::DirectoryRows;
+use circle_rows::DirectoryRows;
 use std::alloc::{AllocError, Global};
 
 impl World {

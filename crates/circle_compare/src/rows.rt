@@ -2,7 +2,7 @@
 use circle::directory::{
     Account, Arrangement, Client, Community, Connection, Group, GroupMember, Membership, Org,
 };
-use circle::rows::DirectoryRows;
+use circle_rows::DirectoryRows;
 use circle::text::Text;
 use std::alloc::Global;
 

@@ -20,7 +20,7 @@ use crate::small_counts::capped;
 use crate::standing::standing_by;
 use crate::state::Incident;
 use circle::directory::Person;
-use circle::rows::DirectoryRows;
+use circle_rows::DirectoryRows;
 use iodef_tree::{Document, Path};
 use policy::{Case, Gates, Grantee, Permissions, Standing};
 use std::alloc::{AllocError, Global};

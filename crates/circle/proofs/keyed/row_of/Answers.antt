@@ -1,9 +1,0 @@
-use Rattle.std.proofs.Common.{ap, ◌∙◌}
-use Rattle.std.specs.Prelude.{slice_get}
-use Rattle.circle.specs.Stretches.{same_pair}
-use Rattle.circle.proofs.Lookup.{first_having}
-use Rattle.circle.proofs.keyed.row_of.Goals as goal
-
-pub returns : goal.returns
-returns g c up =
-    c.first.ensures.value ∙ (ap (λ l. slice_get l 0) (c.rows_of_key.ensures up) ∙ first_having (λ x. same_pair (g.T.Keyed.key x) c.args.key) c.args.rows.now)

@@ -1,8 +1,0 @@
-use Rattle.std.proofs.Common.{rules}
-use Rattle.std.specs.Prelude.{not}
-use Rattle.std.proofs.lemmas.Fn.{filter_same}
-use Rattle.circle.specs.Stretches.{same_pair}
-use Rattle.circle.proofs.keyed.take_rows.Goals as goal
-
-pub returns-clause-items : goal.returns-clause-items
-returns-clause-items g c = filter_same _ (λ x. not (same_pair (g.T.Keyed.key x) c.args.key)) _ (λ f x b k. search rules) _ _ c.retain.ensures.filtered

@@ -1,7 +1,0 @@
-use Rattle.std.proofs.Common.{◌≡◌, ◌++◌, take, drop}
-use Rattle.circle.specs.declared.directory.Group.{Group}
-use Rattle.circle.specs.Aftermath.{exchange_group}
-use Rattle.circle.proofs.sets.switch.Given as goal
-
-abbrev pub invariant-loop-row : goal.invariant-loop-row
-invariant-loop-row l = l.row-items ≡ exchange_group l.group (λ (g : Group). record g { active = l.active }) (take l.row-index l.fn.rows.items) ++ drop l.row-index l.fn.rows.items

@@ -1,0 +1,7 @@
+use Rattle.std.proofs.Common.{◌≡◌, ◌++◌, take, drop}
+use Rattle.circle.specs.declared.directory.Person.{Person}
+use Rattle.circle.specs.Aftermath.{exchange_account}
+use Rattle.circle_rows.proofs.sets.nominate.Given as goal
+
+abbrev pub invariant-loop-row : goal.invariant-loop-row
+invariant-loop-row l = l.row-items ≡ exchange_account l.person (λ (p : Person). record p { nominated = l.nominated }) (take l.row-index l.fn.rows.items) ++ drop l.row-index l.fn.rows.items

@@ -1,0 +1,48 @@
+//! A directory in memory: its rows in sorted vectors, found by halving.
+ghost use Rattle.std.specs.Prelude.{◌≡◌, OnOk, OnErr};
+ghost use Rattle.circle.specs.Directory.{empty};
+ghost use Rattle.circle.specs.Aftermath.{edited_rows};
+
+use circle::command::RowEdit;
+use crate::sets::Sets;
+use std::alloc::{AllocError, Global};
+use std::marker::Model;
+
+/// A directory in memory, which contracts see as its nine lists of rows, each in the order of its key.
+#[derive(Drop)]
+pub struct DirectoryRows {
+    pub(crate) sets: Sets,
+}
+
+impl Model for DirectoryRows {
+    ghost use Rattle.circle.specs.Directory.{Directory};
+
+    ghost Value = { Directory };
+
+    ghost use Rattle.circle_rows.specs.Rows.{directory_of, IsAscending};
+
+    ghost view = { λ r. directory_of r.sets };
+
+    ghost invariant = { λ r. IsAscending (directory_of r.sets) };
+}
+
+impl DirectoryRows {
+    /// The directory without a row; takes no memory.
+    pub fn new(alloc: Global) -> DirectoryRows
+        ensures { result ≡ empty }
+    {
+        DirectoryRows {
+            sets: Sets::new(alloc),
+        }
+    }
+
+    /// Makes the edits one after another, or, where the memory doesn't suffice, none.
+    pub fn apply(&mut self, edits: Vec<RowEdit>) -> Result<(), AllocError>
+        ensures made { OnOk result (self.new ≡ edited_rows edits.items self.old) }
+        ensures none { OnErr result (self.new ≡ self.old) }
+    {
+        self.sets.reserve(edits.len())?;
+        self.sets.edit_all(edits);
+        Ok(())
+    }
+}
