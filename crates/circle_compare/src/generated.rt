@@ -11,8 +11,8 @@ use circle::directory::{Person, Role};
 use circle::judge::judge;
 use circle::name::Name;
 use circle::refusal::{Code, Refusal};
-use circle_rows::DirectoryRows;
 use circle::text::Text;
+use circle_rows::DirectoryRows;
 use std::alloc::{AllocError, Global};
 
 /// How many commands are asked of one directory.

@@ -2,8 +2,8 @@
 use circle::directory::{
     Account, Arrangement, Client, Community, Connection, Group, GroupMember, Membership, Org,
 };
-use circle_rows::DirectoryRows;
 use circle::text::Text;
+use circle_rows::DirectoryRows;
 use std::alloc::Global;
 
 /// The rows of a directory, in the order in which they came.

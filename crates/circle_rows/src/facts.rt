@@ -3,9 +3,9 @@ ghost use Rattle.std.specs.Prelude.{◌≡◌, ◌≤◌};
 ghost use Rattle.circle.specs.Facts.{exists_in, may_extend_in, owns_in, target_owns_in, is_own_person, stands_in, count_in, facts_of};
 ghost use Rattle.circle.specs.Sound.{IsSound};
 
+use crate::rows::DirectoryRows;
 use circle::command::{CircleCommand, CircleFacts};
 use circle::directory::Person;
-use crate::rows::DirectoryRows;
 
 impl DirectoryRows {
     /// The facts of the actor's command, where the directory is sound.

@@ -1,8 +1,8 @@
 //! The keys of the directory's rows.
+use crate::keyed::Keyed;
 use circle::directory::{
     Account, Arrangement, Client, Community, Connection, Group, GroupMember, Membership, Org,
 };
-use crate::keyed::Keyed;
 
 impl Keyed for Org {
     ghost use Rattle.circle.specs.Directory.{org_number};

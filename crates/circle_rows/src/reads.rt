@@ -3,12 +3,12 @@ ghost use Rattle.std.specs.Prelude.{◌≡◌, IfOk};
 ghost use Rattle.std.specs.Option.{option_copied};
 ghost use Rattle.circle.specs.Reads.{person_of_key, person_of, group_of, communities_of, memberships_in_groups, groups_joined, active_groups_joined, served_by, share_community, joins, are_connected, arranged};
 
+use crate::keyed::row_of;
+use crate::rows::DirectoryRows;
 use circle::directory::{
     Account, Arrangement, Client, Community, Connection, Group, GroupMember, Handling, Membership,
     Org, Person,
 };
-use crate::keyed::row_of;
-use crate::rows::DirectoryRows;
 use std::alloc::{AllocError, Global};
 
 impl DirectoryRows {

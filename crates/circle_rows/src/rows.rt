@@ -3,8 +3,8 @@ ghost use Rattle.std.specs.Prelude.{◌≡◌, OnOk, OnErr};
 ghost use Rattle.circle.specs.Directory.{empty};
 ghost use Rattle.circle.specs.Aftermath.{edited_rows};
 
-use circle::command::RowEdit;
 use crate::sets::Sets;
+use circle::command::RowEdit;
 use std::alloc::{AllocError, Global};
 use std::marker::Model;
 

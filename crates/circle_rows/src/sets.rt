@@ -4,11 +4,11 @@ ghost use Rattle.std.specs.Vec.{vec_len, vec_capacity};
 ghost use Rattle.circle.specs.Directory.{empty};
 ghost use Rattle.circle.specs.Aftermath.{edited_row, exchange_account, exchange_group};
 
+use crate::keyed::{Keyed, put_row, take_rows};
 use circle::command::RowEdit;
 use circle::directory::{
     Account, Arrangement, Client, Community, Connection, Group, GroupMember, Membership, Org,
 };
-use crate::keyed::{Keyed, put_row, take_rows};
 use std::alloc::{AllocError, Global};
 
 #[derive(Drop)]
