@@ -11,9 +11,9 @@ use Rattle.circle.specs.Directory.{Directory, org_number, account_number, commun
 use Rattle.circle.specs.Aftermath.{edited_row}
 use Rattle.circle.specs.Sound.{Each}
 use Rattle.circle.specs.Stretches.{Ascend, numbered}
-use Rattle.circle_rows.specs.Rows.{IsAscending}
 use Rattle.circle.proofs.Keeping.{each_put, each_weaker, pairs_left}
 use Rattle.circle.proofs.Kept.{same_when}
+use Rattle.circle_rows.specs.Rows.{IsAscending}
 
 -- x is below y and z isn't: so z isn't below x
 above_new : (x y z : ℕ × ℕ) → is_lt (pair_cmp x y) ≡ true → is_lt (pair_cmp z y) ≡ false → is_lt (pair_cmp z x) ≡ false

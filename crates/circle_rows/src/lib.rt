@@ -1,4 +1,4 @@
-//! A directory of the circle in memory, for a hub without a file and for tests: what the rules of `circle` ask of a
+//! A directory of the circle in memory, for the shelf in memory and for tests: what the rules of `circle` ask of a
 //! directory, and the edits that they lead to, over sorted rows.
 //!
 //! To read first: the contracts of [`DirectoryRows::facts`] and [`DirectoryRows::apply`], and `Rows` in `specs/`, the
