@@ -22,16 +22,18 @@ use std::io;
 use std::io::Read;
 
 fn main(rt: HostRuntime) -> io::Result<()> {
-    let alloc = rt.alloc();
-    let mut cases = String::new(alloc);
+    let mut cases = String::new(rt.alloc());
     rt.reader().read_to_string(&mut cases)?;
     for line in cases.lines() {
-        if line.starts_with('#') {
-            println!(rt; "{line}")?;
-        } else {
-            let answer = table::answer(alloc, line)?;
-            println!(rt; "{answer}")?;
-        }
+        print_answer(&rt, line)?;
     }
     Ok(())
+}
+
+fn print_answer(rt: &HostRuntime, line: &str) -> io::Result<()> {
+    if line.starts_with('#') {
+        return println!(rt; "{line}");
+    }
+    let answer = table::answer(rt.alloc(), line)?;
+    println!(rt; "{answer}")
 }

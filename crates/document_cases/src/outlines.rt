@@ -1,10 +1,17 @@
 //! Cases of outlines, and outlines as they are written in the table.
 
+use crate::bodies::id;
 use crate::pointers::json;
 use crate::table::parts;
 use iodef_tree::{Document, Kind, Line, OutlineFault, Text};
 use serde_json::Value;
 use std::alloc::{AllocError, Global};
+
+/// The text as JSON.
+fn quoted(alloc: Global, text: &str) -> Result<String, AllocError> {
+    let value = Value::String(String::from_str(alloc, text)?);
+    value.to_string(alloc)
+}
 
 /// The line as DEPTH NAME KIND TEXT.
 pub fn written(alloc: Global, line: &Line) -> Result<String, AllocError> {
@@ -16,7 +23,7 @@ pub fn written(alloc: Global, line: &Line) -> Result<String, AllocError> {
         Kind::Class => format!(in alloc; "{depth} {name}{element} class"),
         Kind::Value => format!(in alloc; "{depth} {name}{element} value {text}"),
         Kind::Text => {
-            let quoted = Value::String(String::from_str(alloc, text)?).to_string(alloc)?;
+            let quoted = quoted(alloc, text)?;
             format!(in alloc; "{depth} {name}{element} text {quoted}")
         }
     }
@@ -30,6 +37,16 @@ fn kind_of(word: &str) -> Kind {
     }
 }
 
+/// What stands behind the kind: of a text what its JSON says, and else as it is.
+fn text_of(alloc: Global, kind: &str, text: &str) -> Result<Text, AllocError> {
+    let quoted = json(alloc, text)?;
+    let text = match kind {
+        "text" => quoted.as_str().unwrap_or(text),
+        _ => text,
+    };
+    Ok(Text::new(String::from_str(alloc, text)?))
+}
+
 fn line_of(alloc: Global, row: &str) -> Result<Line, AllocError> {
     let (depth, rest) = parts(row);
     let (place, rest) = parts(rest);
@@ -38,17 +55,12 @@ fn line_of(alloc: Global, row: &str) -> Result<Line, AllocError> {
         Some(name) => (name, true),
         None => (place, false),
     };
-    let quoted = json(alloc, text)?;
-    let text = match kind {
-        "text" => quoted.as_str().unwrap_or(text),
-        _ => text,
-    };
     Ok(Line {
         depth: depth.parse::<u32>().unwrap_or(0),
         name: Text::new(String::from_str(alloc, name)?),
         in_array,
         kind: kind_of(kind),
-        text: Text::new(String::from_str(alloc, text)?),
+        text: text_of(alloc, kind, text)?,
     })
 }
 
@@ -63,18 +75,23 @@ fn lines_of(alloc: Global, about: &str) -> Result<Vec<Line>, AllocError> {
     Ok(lines)
 }
 
-pub fn answer(alloc: Global, verb: &str, about: &str) -> Result<String, AllocError> {
-    let lines = lines_of(alloc, about)?;
-    match Document::from_outline(alloc, &lines) {
+fn answer_of(alloc: Global, verb: &str, document: &Document) -> Result<String, AllocError> {
+    match verb {
+        "made" => document.text(alloc),
+        "id" => id(alloc, document),
+        _ => String::from_str(alloc, "an outline"),
+    }
+}
+
+fn answer_by(alloc: Global, verb: &str, lines: &[Line]) -> Result<String, AllocError> {
+    match Document::from_outline(alloc, lines) {
+        Ok(document) => answer_of(alloc, verb, &document),
         Err(OutlineFault::NoMemory) => Err(AllocError),
         Err(OutlineFault::BadOutline) => String::from_str(alloc, "BadOutline"),
-        Ok(document) => match verb {
-            "made" => document.text(alloc),
-            "id" => match document.incident_id(alloc)? {
-                Some(id) => Ok(id),
-                None => String::from_str(alloc, "none"),
-            },
-            _ => String::from_str(alloc, "an outline"),
-        },
     }
+}
+
+pub fn answer(alloc: Global, verb: &str, about: &str) -> Result<String, AllocError> {
+    let lines = lines_of(alloc, about)?;
+    answer_by(alloc, verb, &lines)
 }

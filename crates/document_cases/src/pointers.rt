@@ -35,34 +35,26 @@ fn tokens(alloc: Global, path: &Path) -> Result<String, AllocError> {
     Value::Array(all).to_string(alloc)
 }
 
-pub fn pointer(alloc: Global, about: &str) -> Result<String, AllocError> {
-    let value = json(alloc, about)?;
-    let text = value.as_str().unwrap_or("no text");
-    match path_of(alloc, text)? {
-        None => String::from_str(alloc, PathFault::BadPath.name()),
-        Some(path) => {
-            let printed = path.print(alloc)?;
-            if printed.as_str() == text {
-                tokens(alloc, &path)
-            } else {
-                Ok(printed)
-            }
-        }
+/// The tokens of the path, where it prints as the text; else what it prints as.
+fn printed_as(alloc: Global, path: &Path, text: &str) -> Result<String, AllocError> {
+    let printed = path.print(alloc)?;
+    if printed.as_str() == text {
+        tokens(alloc, path)
+    } else {
+        Ok(printed)
     }
 }
 
-pub fn print(alloc: Global, about: &str) -> Result<String, AllocError> {
-    let value = json(alloc, about)?;
-    let mut path = Path::root(alloc);
-    if let Some(parts) = value.as_array() {
-        for part in parts {
-            path = match part.as_str() {
-                Some(name) => path.member(alloc, name)?,
-                None => path.index(alloc, place_of(part))?,
-            };
-        }
+fn read_back(alloc: Global, text: &str) -> Result<String, AllocError> {
+    match path_of(alloc, text)? {
+        Some(path) => printed_as(alloc, &path, text),
+        None => String::from_str(alloc, PathFault::BadPath.name()),
     }
-    path.print(alloc)
+}
+
+pub fn pointer(alloc: Global, about: &str) -> Result<String, AllocError> {
+    let value = json(alloc, about)?;
+    read_back(alloc, value.as_str().unwrap_or("no text"))
 }
 
 fn place_of(part: &Value) -> usize {
@@ -72,19 +64,55 @@ fn place_of(part: &Value) -> usize {
     }
 }
 
-pub fn prefix(alloc: Global, about: &str) -> Result<String, AllocError> {
+/// The path with one token more.
+fn below(alloc: Global, path: &Path, part: &Value) -> Result<Path, AllocError> {
+    match part.as_str() {
+        Some(name) => path.member(alloc, name),
+        None => path.index(alloc, place_of(part)),
+    }
+}
+
+fn path_to(alloc: Global, parts: &[Value]) -> Result<Path, AllocError> {
+    let mut path = Path::root(alloc);
+    for part in parts {
+        path = below(alloc, &path, part)?;
+    }
+    Ok(path)
+}
+
+fn printed(alloc: Global, parts: &[Value]) -> Result<String, AllocError> {
+    let path = path_to(alloc, parts)?;
+    path.print(alloc)
+}
+
+pub fn print(alloc: Global, about: &str) -> Result<String, AllocError> {
     let value = json(alloc, about)?;
+    match value.as_array() {
+        Some(parts) => printed(alloc, parts),
+        None => Ok(String::new(alloc)),
+    }
+}
+
+/// Whether the first path is a prefix of the second, if both texts are pointers.
+fn compared(alloc: Global, first: &str, second: &str) -> Result<Option<bool>, AllocError> {
+    match (path_of(alloc, first)?, path_of(alloc, second)?) {
+        (Some(prefix), Some(path)) => Ok(Some(prefix.is_prefix_of(&path))),
+        _ => Ok(None),
+    }
+}
+
+fn prefix_of(alloc: Global, value: &Value) -> Result<Option<bool>, AllocError> {
     let first = value.get(0usize).and_then(Value::as_str).unwrap_or("");
     let second = value.get(1usize).and_then(Value::as_str).unwrap_or("");
-    let answer = match (path_of(alloc, first)?, path_of(alloc, second)?) {
-        (Some(prefix), Some(path)) => {
-            if prefix.is_prefix_of(&path) {
-                "yes"
-            } else {
-                "no"
-            }
-        }
-        _ => PathFault::BadPath.name(),
+    compared(alloc, first, second)
+}
+
+pub fn prefix(alloc: Global, about: &str) -> Result<String, AllocError> {
+    let value = json(alloc, about)?;
+    let answer = match prefix_of(alloc, &value)? {
+        Some(true) => "yes",
+        Some(false) => "no",
+        None => PathFault::BadPath.name(),
     };
     String::from_str(alloc, answer)
 }

@@ -3,17 +3,21 @@
 use crate::{bodies, outlines, pointers};
 use std::alloc::{AllocError, Global};
 
+fn push_piece(all: &mut String, piece: &str) -> Result<(), AllocError> {
+    match piece.split_once('>') {
+        Some((repeated, behind)) => {
+            push_times(all, repeated)?;
+            all.push_str(behind)
+        }
+        None => all.push_str(piece),
+    }
+}
+
 /// The line with each `<3*0,>` written out as `0,0,0,`.
 fn written_out(alloc: Global, line: &str) -> Result<String, AllocError> {
     let mut all = String::new(alloc);
     for piece in line.split('<') {
-        match piece.split_once('>') {
-            Some((repeated, behind)) => {
-                push_times(&mut all, repeated)?;
-                all.push_str(behind)?;
-            }
-            None => all.push_str(piece)?,
-        }
+        push_piece(&mut all, piece)?;
     }
     Ok(all)
 }

@@ -1,7 +1,7 @@
 //! The answers of the lines that ask of no report.
 
 use crate::labels::{compared, spelled};
-use crate::unfit::Unfit;
+use crate::unfit::{Unfit, said};
 use crate::verdicts::{cleared, given_back, groups_given_back, passed};
 use crate::words::{arranged_of, case_of, grantee_of, handling_of, passage_of, standing_of};
 use iodef_tree::Path;
@@ -10,7 +10,7 @@ use policy::{Gate, includes};
 use std::alloc::Global;
 
 fn truth(alloc: Global, holds: bool) -> Result<String, Unfit> {
-    Ok(String::from_str(alloc, if holds { "yes" } else { "no" })?)
+    said(alloc, if holds { "yes" } else { "no" })
 }
 
 fn label(
@@ -31,7 +31,7 @@ fn order(alloc: Global, first: &str, second: &str) -> Result<String, Unfit> {
 
 fn clearance(alloc: Global, standing: &str) -> Result<String, Unfit> {
     let standing = standing_of(alloc, standing)?;
-    Ok(cleared(alloc, &standing)?)
+    cleared(alloc, &standing)
 }
 
 /// How the reader passes a gate of this level at the root.
@@ -39,8 +39,7 @@ fn gate(alloc: Global, standing: &str, passage: &str) -> Result<String, Unfit> {
     let (level, group) = passage_of(passage)?;
     let standing = standing_of(alloc, standing)?;
     let path = Path::root(alloc);
-    let told = passed(&standing, &Gate { path, level, group });
-    Ok(String::from_str(alloc, told)?)
+    said(alloc, passed(&standing, &Gate { path, level, group }))
 }
 
 fn grantee(alloc: Global, standing: &str, grantee: &str) -> Result<String, Unfit> {

@@ -11,6 +11,10 @@
 //!     gate|STANDING|LEVEL                   whether it passes the gate; LEVEL may have a group, as 4:7
 //!     grantee|STANDING|GRANTEE              whether the grantee includes it
 //!     decide|STANDING|GATES|PERMISSIONS|POINTERS      the verdict of each pointer
+//!     excerpt|STANDING|GATES|PERMISSIONS              what the reader is served of it
+//!     listed|STANDING|GATES|PERMISSIONS               whether it is listed to the reader
+//!     find|STANDING|GATES|PERMISSIONS|NEEDLE          whether the reader finds the needle in it
+//!     find|STANDING|GATES|PERMISSIONS|NEEDLE|CLASS    the same, in classes of this name
 //!     lists|GATES|PERMISSIONS               the gates and permissions that a case gives back
 //!     numbers|STANDING                      the groups that the reader's standing gives back
 //!
@@ -23,9 +27,9 @@ ghost use Rattle.marking.specs.Marks.{first_bad_marking};
 
 use crate::alone::answer_alone;
 use crate::labels::{marked, sited};
-use crate::unfit::Unfit;
-use crate::verdicts::verdicts;
-use crate::words::{case_of, standing_of};
+use crate::served::{Asked, answer_to};
+use crate::unfit::{Unfit, said};
+use crate::words::asker_of;
 use iodef_tree::{Document, Path};
 use marking::{MarkingFault, check};
 use std::alloc::Global;
@@ -62,7 +66,22 @@ impl Table {
             ["marks"] => self.marks(alloc),
             ["site", pointer] => self.site(alloc, pointer),
             ["decide", standing, gates, permissions, pointers] => {
-                self.decide(alloc, standing, gates, permissions, pointers)
+                let asked = Asked::Verdicts(pointers);
+                self.asked_by(alloc, standing, gates, permissions, asked)
+            }
+            ["excerpt", standing, gates, permissions] => {
+                self.asked_by(alloc, standing, gates, permissions, Asked::Excerpt)
+            }
+            ["listed", standing, gates, permissions] => {
+                self.asked_by(alloc, standing, gates, permissions, Asked::Listed)
+            }
+            ["find", standing, gates, permissions, needle] => {
+                let asked = Asked::Find(needle, None);
+                self.asked_by(alloc, standing, gates, permissions, asked)
+            }
+            ["find", standing, gates, permissions, needle, class] => {
+                let asked = Asked::Find(needle, Some(class));
+                self.asked_by(alloc, standing, gates, permissions, asked)
             }
             words => answer_alone(alloc, words),
         }
@@ -71,7 +90,7 @@ impl Table {
     fn read(&mut self, alloc: Global, body: &str) -> Result<String, Unfit> {
         self.report = None;
         let Ok(mut documents) = Document::read(alloc, body.as_bytes()) else {
-            return Ok(String::from_str(alloc, "not read")?);
+            return said(alloc, "not read");
         };
         let document = documents.pop().ok_or(Unfit::NoCase)?;
         self.keep(alloc, document)
@@ -82,7 +101,7 @@ impl Table {
         match check(alloc, &document) {
             Ok(()) => {
                 self.report = Some(Report { document });
-                Ok(String::from_str(alloc, "accepted")?)
+                said(alloc, "accepted")
             }
             Err(fault) => told(alloc, fault),
         }
@@ -90,27 +109,27 @@ impl Table {
 
     fn marks(&self, alloc: Global) -> Result<String, Unfit> {
         let report = self.report.as_ref().ok_or(Unfit::NoCase)?;
-        Ok(marked(alloc, &report.document)?)
+        marked(alloc, &report.document)
     }
 
     fn site(&self, alloc: Global, pointer: &str) -> Result<String, Unfit> {
         let report = self.report.as_ref().ok_or(Unfit::NoCase)?;
         let path = Path::parse(alloc, pointer)?;
-        Ok(sited(alloc, &report.document, &path)?)
+        sited(alloc, &report.document, &path)
     }
 
-    fn decide(
+    /// What is answered of the report to who asks.
+    fn asked_by(
         &self,
         alloc: Global,
         standing: &str,
         gates: &str,
         permissions: &str,
-        pointers: &str,
+        asked: Asked<'_>,
     ) -> Result<String, Unfit> {
         let report = self.report.as_ref().ok_or(Unfit::NoCase)?;
-        let standing = standing_of(alloc, standing)?;
-        let case = case_of(alloc, gates, permissions)?;
-        verdicts(alloc, &report.document, &case, &standing, pointers)
+        let asker = asker_of(alloc, standing, gates, permissions)?;
+        answer_to(alloc, &report.document, &asker, asked)
     }
 }
 

@@ -4,6 +4,7 @@ ghost use Rattle.std.specs.Prelude.{◌≡◌, [], None};
 ghost use Rattle.iodef_tree.specs.Paths.{located};
 ghost use Rattle.marking.specs.Marks.{first_bad_marking};
 
+use crate::unfit::Unfit;
 use iodef_tree::{Document, Path};
 use marking::{Handling, Label, Mark, MarkWriter, SiteFault, own, site, write_marks, written_at};
 use std::alloc::{AllocError, Global};
@@ -36,7 +37,7 @@ pub fn compared(alloc: Global, first: Handling, second: Handling) -> Result<Stri
 }
 
 /// Each class with its label, that label's handling and its site.
-pub fn marked(alloc: Global, document: &Document) -> Result<String, AllocError>
+pub fn marked(alloc: Global, document: &Document) -> Result<String, Unfit>
     requires { first_bad_marking (located document.now) ≡ None }
 {
     let mut told = Told {
@@ -96,11 +97,11 @@ fn site_of(alloc: Global, document: &Document, path: &Path) -> Result<String, Al
 }
 
 /// What is written at the path, its own label, and the site with the label that holds there.
-pub fn sited(alloc: Global, document: &Document, path: &Path) -> Result<String, AllocError>
+pub fn sited(alloc: Global, document: &Document, path: &Path) -> Result<String, Unfit>
     requires { first_bad_marking (located document.now) ≡ None }
 {
     let written = text_of(alloc, written_at(document, path))?;
     let own = text_of(alloc, own(document, path))?;
     let site = site_of(alloc, document, path)?;
-    format!(in alloc; "written: {written}, own: {own}, {site}")
+    Ok(format!(in alloc; "written: {written}, own: {own}, {site}")?)
 }

@@ -1,10 +1,11 @@
-//! Labels, markings and verdicts of the cases on standard input, one a line; each answer is a line. What a line may say
-//! stands in `cases`.
+//! Labels, markings, verdicts and what readers are served, by the cases on standard input, one a line; each answer is a line.
+//! What a line may say stands in `cases`.
 #![tactic(auto)]
 
 mod alone;
 mod cases;
 mod labels;
+mod served;
 mod unfit;
 mod verdicts;
 mod words;
@@ -15,18 +16,24 @@ use std::io;
 use std::io::Read;
 
 fn main(rt: HostRuntime) -> io::Result<()> {
-    let alloc = rt.alloc();
-    let mut lines = String::new(alloc);
+    let mut lines = String::new(rt.alloc());
     rt.reader().read_to_string(&mut lines)?;
+    answer_all(&rt, lines.as_str())
+}
+
+fn answer_all(rt: &HostRuntime, lines: &str) -> io::Result<()> {
     let mut table = Table::new();
     for line in lines.lines() {
-        if line.is_empty() || line.starts_with('#') {
-            continue;
+        if !line.is_empty() && !line.starts_with('#') {
+            print_answer(rt, &mut table, line)?;
         }
-        let answer = answer(&mut table, alloc, line)?;
-        println!(rt; "{answer}")?;
     }
     Ok(())
+}
+
+fn print_answer(rt: &HostRuntime, table: &mut Table, line: &str) -> io::Result<()> {
+    let answer = answer(table, rt.alloc(), line)?;
+    println!(rt; "{answer}")
 }
 
 /// The answer of the table, or why there is none.

@@ -1,6 +1,6 @@
 //! Why a line has no answer.
 use iodef_tree::PathFault;
-use std::alloc::{AllocError, AllocFailed};
+use std::alloc::{AllocError, AllocFailed, Global};
 
 /// Why a line has no answer.
 #[derive(Clone, Copy)]
@@ -38,4 +38,9 @@ impl From<PathFault> for Unfit {
             PathFault::NoMemory => Unfit::NoMemory,
         }
     }
+}
+
+/// The answer of these words.
+pub fn said(alloc: Global, words: &str) -> Result<String, Unfit> {
+    Ok(String::from_str(alloc, words)?)
 }

@@ -5,6 +5,7 @@ ghost use Rattle.iodef_tree.specs.Paths.{located};
 ghost use Rattle.marking.specs.Marks.{first_bad_marking};
 
 use crate::unfit::Unfit;
+use crate::words::Asker;
 use iodef_tree::{Document, Path};
 use policy::{
     Case, DecideFault, Gate, Gates, Grantee, Permission, Permissions, Standing, Verdict, clearance,
@@ -12,11 +13,11 @@ use policy::{
 };
 use std::alloc::{AllocError, Global};
 
-pub fn cleared(alloc: Global, standing: &Standing) -> Result<String, AllocError> {
+pub fn cleared(alloc: Global, standing: &Standing) -> Result<String, Unfit> {
     let (handling, rule) = clearance(standing);
     let handling = handling.name();
     let rule = rule.name();
-    format!(in alloc; "{handling} by {rule}")
+    Ok(format!(in alloc; "{handling} by {rule}")?)
 }
 
 pub fn passed(standing: &Standing, gate: &Gate) -> &'static str {
@@ -29,13 +30,12 @@ pub fn passed(standing: &Standing, gate: &Gate) -> &'static str {
 fn decided(
     alloc: Global,
     document: &Document,
-    case: &Case,
-    standing: &Standing,
+    asker: &Asker,
     path: &Path,
 ) -> (&'static str, &'static str)
     requires { first_bad_marking (located document.now) ≡ None }
 {
-    match decide(alloc, document, case, standing, path) {
+    match decide(alloc, document, &asker.case, &asker.standing, path) {
         Ok(Verdict::Shown(rule)) => ("Shown ", rule.name()),
         Ok(Verdict::Hidden(rule)) => ("Hidden ", rule.name()),
         Err(DecideFault::NoClass) => ("", "NoClass"),
@@ -43,23 +43,38 @@ fn decided(
     }
 }
 
+fn push_words(told: &mut String, side: &str, rule: &str) -> Result<(), Unfit> {
+    told.push_str(side)?;
+    told.push_str(rule)?;
+    Ok(told.push_str("; ")?)
+}
+
+fn push_verdict(
+    told: &mut String,
+    alloc: Global,
+    document: &Document,
+    asker: &Asker,
+    pointer: &str,
+) -> Result<(), Unfit>
+    requires { first_bad_marking (located document.now) ≡ None }
+{
+    let path = Path::parse(alloc, pointer)?;
+    let (side, rule) = decided(alloc, document, asker, &path);
+    push_words(told, side, rule)
+}
+
 /// The verdict of each pointer, with commas between them.
 pub fn verdicts(
     alloc: Global,
     document: &Document,
-    case: &Case,
-    standing: &Standing,
+    asker: &Asker,
     pointers: &str,
 ) -> Result<String, Unfit>
     requires { first_bad_marking (located document.now) ≡ None }
 {
     let mut told = String::new(alloc);
     for pointer in pointers.split(',') {
-        let path = Path::parse(alloc, pointer)?;
-        let (side, rule) = decided(alloc, document, case, standing, &path);
-        told.push_str(side)?;
-        told.push_str(rule)?;
-        told.push_str("; ")?;
+        push_verdict(&mut told, alloc, document, asker, pointer)?;
     }
     Ok(told)
 }

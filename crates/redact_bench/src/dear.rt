@@ -4,11 +4,12 @@ ghost use Rattle.std.specs.Prelude.{◌≡◌, None};
 ghost use Rattle.iodef_tree.specs.Paths.{located};
 ghost use Rattle.marking.specs.Marks.{first_bad_marking};
 
+use crate::reading::document_of;
 use crate::reports::Report;
-use iodef_tree::{Document, ReadFault};
+use iodef_tree::Document;
 use marking::{MarkingFault, check};
 use policy::{Case, Standing};
-use redact::{excerpt, finds};
+use redact::{Excerpt, excerpt, finds};
 use std::alloc::{AllocError, Global};
 
 /// What is asked of the report.
@@ -36,6 +37,20 @@ pub struct Answered {
     pub withheld: usize,
 }
 
+/// What an excerpt has, which is nothing where there is none.
+fn served(excerpt: Option<Excerpt>) -> Answered {
+    match excerpt {
+        Some(excerpt) => Answered {
+            classes: excerpt.classes,
+            withheld: excerpt.withheld.len(),
+        },
+        None => Answered {
+            classes: 0,
+            withheld: 0,
+        },
+    }
+}
+
 fn answer(
     alloc: Global,
     document: &Document,
@@ -46,16 +61,7 @@ fn answer(
     requires { first_bad_marking (located document.now) ≡ None }
 {
     match call {
-        Call::Excerpt => match excerpt(alloc, document, case, reader)? {
-            Some(excerpt) => Ok(Answered {
-                classes: excerpt.classes,
-                withheld: excerpt.withheld.len(),
-            }),
-            None => Ok(Answered {
-                classes: 0,
-                withheld: 0,
-            }),
-        },
+        Call::Excerpt => Ok(served(excerpt(alloc, document, case, reader)?)),
         Call::Finds => {
             let found = finds(alloc, document, case, reader, "nowhere", None)?;
             Ok(Answered {
@@ -64,6 +70,23 @@ fn answer(
             })
         }
     }
+}
+
+fn answer_again(
+    alloc: Global,
+    document: &Document,
+    case: &Case,
+    reader: &Standing,
+    call: Call,
+    turns: u32,
+) -> Result<Answered, AllocError>
+    requires { first_bad_marking (located document.now) ≡ None }
+{
+    let mut last = served(None);
+    for _ in 0..turns {
+        last = answer(alloc, document, case, reader, call)?;
+    }
+    Ok(last)
 }
 
 fn in_turns(
@@ -77,14 +100,22 @@ fn in_turns(
 {
     let case = report.case(alloc)?;
     let reader = report.reader(alloc);
-    let mut last = Answered {
-        classes: 0,
-        withheld: 0,
-    };
-    for _ in 0..turns {
-        last = answer(alloc, document, &case, &reader, call)?;
+    answer_again(alloc, document, &case, &reader, call, turns)
+}
+
+/// The answer of a document whose markings are accepted.
+fn of_accepted(
+    alloc: Global,
+    document: &Document,
+    report: Report,
+    call: Call,
+    turns: u32,
+) -> Result<Option<Answered>, AllocError> {
+    match check(alloc, document) {
+        Ok(()) => Ok(Some(in_turns(alloc, document, report, call, turns)?)),
+        Err(MarkingFault::BadMarking(_)) => Ok(None),
+        Err(MarkingFault::NoMemory) => Err(AllocError),
     }
-    Ok(last)
 }
 
 /// The answer after so many turns; `None` where the report isn't accepted.
@@ -95,17 +126,8 @@ pub fn asked(
     turns: u32,
 ) -> Result<Option<Answered>, AllocError> {
     let text = report.text(alloc)?;
-    let mut documents = match Document::read(alloc, text.as_bytes()) {
-        Ok(documents) => documents,
-        Err(ReadFault::NoMemory) => return Err(AllocError),
-        Err(_) => return Ok(None),
-    };
-    let Some(document) = documents.pop() else {
-        return Ok(None);
-    };
-    match check(alloc, &document) {
-        Ok(()) => Ok(Some(in_turns(alloc, &document, report, call, turns)?)),
-        Err(MarkingFault::BadMarking(_)) => Ok(None),
-        Err(MarkingFault::NoMemory) => Err(AllocError),
+    match document_of(alloc, text.as_bytes())? {
+        Some(document) => of_accepted(alloc, &document, report, call, turns),
+        None => Ok(None),
     }
 }

@@ -6,37 +6,48 @@
 #![tactic(auto)]
 
 mod dear;
+mod reading;
 mod reports;
 mod turns;
 
 use dear::{Answered, Call, asked};
 use reports::Report;
-use std::alloc::Global;
 use std::io::Read;
 use std::process::ExitCode;
 use std::{env, io};
 use turns::{Excerpts, redacted};
 
 fn main(rt: HostRuntime) -> io::Result<ExitCode> {
-    let alloc = rt.alloc();
-    let words: Vec<String> = env::args(&rt)?.skip(1).collect(alloc)?;
-    let Some(turns) = words.first().and_then(|word| word.parse::<u32>().ok()) else {
-        return Ok(ExitCode::from(2));
-    };
-    match words.as_slice() {
-        [_] => from_input(&rt, alloc, turns),
-        [_, report, call] => match (Report::of(report.as_str()), Call::of(call.as_str())) {
-            (Some(report), Some(call)) => made(&rt, alloc, report, call, turns),
+    let words: Vec<String> = env::args(&rt)?.skip(1).collect(rt.alloc())?;
+    obeyed(&rt, words.as_slice())
+}
+
+fn obeyed(rt: &HostRuntime, words: &[String]) -> io::Result<ExitCode> {
+    match words {
+        [turns] => match turns.parse::<u32>() {
+            Ok(turns) => from_input(rt, turns),
+            Err(_) => Ok(ExitCode::from(2)),
+        },
+        [turns, report, call] => match (
+            turns.parse::<u32>(),
+            Report::of(report.as_str()),
+            Call::of(call.as_str()),
+        ) {
+            (Ok(turns), Some(report), Some(call)) => made(rt, report, call, turns),
             _ => Ok(ExitCode::from(2)),
         },
         _ => Ok(ExitCode::from(2)),
     }
 }
 
-fn from_input(rt: &HostRuntime, alloc: Global, turns: u32) -> io::Result<ExitCode> {
-    let mut body = Vec::new(alloc);
+fn from_input(rt: &HostRuntime, turns: u32) -> io::Result<ExitCode> {
+    let mut body = Vec::new(rt.alloc());
     rt.reader().read_to_end(&mut body)?;
-    match redacted(alloc, &body, turns)? {
+    print(rt, redacted(rt.alloc(), &body, turns)?)
+}
+
+fn print(rt: &HostRuntime, excerpts: Option<Excerpts>) -> io::Result<ExitCode> {
+    match excerpts {
         Some(Excerpts { text, bytes }) => {
             println!(rt; "{text}\n{bytes}")?;
             Ok(ExitCode::from(0))
@@ -45,14 +56,8 @@ fn from_input(rt: &HostRuntime, alloc: Global, turns: u32) -> io::Result<ExitCod
     }
 }
 
-fn made(
-    rt: &HostRuntime,
-    alloc: Global,
-    report: Report,
-    call: Call,
-    turns: u32,
-) -> io::Result<ExitCode> {
-    match asked(alloc, report, call, turns)? {
+fn made(rt: &HostRuntime, report: Report, call: Call, turns: u32) -> io::Result<ExitCode> {
+    match asked(rt.alloc(), report, call, turns)? {
         Some(Answered { classes, withheld }) => {
             println!(rt; "{classes} {withheld}")?;
             Ok(ExitCode::from(0))

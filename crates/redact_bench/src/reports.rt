@@ -53,25 +53,23 @@ impl Report {
 
     /// Its JSON text.
     pub fn text(self, alloc: Global) -> Result<String, AllocError> {
+        let mut text = String::new(alloc);
+        self.push_text(&mut text, alloc)?;
+        Ok(text)
+    }
+
+    fn push_text(self, text: &mut String, alloc: Global) -> Result<(), AllocError> {
         let (label, class, count) = self.parts();
-        let mut text = String::from_str(
-            alloc,
-            "{\"Incident\":[{\"Contact\":[],\"GenerationTime\":\"g\",\"IncidentID\":\"1\",",
-        )?;
-        let name = name(alloc)?;
-        for _ in 0..CHAIN {
-            text.push_str("\"")?;
-            text.push_str(name.as_str())?;
-            text.push_str("\":[{")?;
-        }
-        push_classes(&mut text, class, count)?;
+        text.push_str("{\"Incident\":[{\"Contact\":[],")?;
+        text.push_str("\"GenerationTime\":\"g\",\"IncidentID\":\"1\",")?;
+        push_opened(text, alloc)?;
+        push_classes(text, class, count)?;
         for _ in 0..CHAIN {
             text.push_str("}]")?;
         }
         text.push_str(",\"purpose\":\"p\",\"restriction\":\"")?;
         text.push_str(label)?;
-        text.push_str("\"}]}")?;
-        Ok(text)
+        text.push_str("\"}]}")
     }
 
     /// What it is judged by.
@@ -105,10 +103,25 @@ fn name(alloc: Global) -> Result<String, AllocError> {
     Ok(name)
 }
 
+/// The classes in one another, which are left open.
+fn push_opened(text: &mut String, alloc: Global) -> Result<(), AllocError> {
+    let name = name(alloc)?;
+    for _ in 0..CHAIN {
+        push_member(text, name.as_str())?;
+        text.push('{')?;
+    }
+    Ok(())
+}
+
+/// The name of a member that is an array, which is left open.
+fn push_member(text: &mut String, name: &str) -> Result<(), AllocError> {
+    text.push('"')?;
+    text.push_str(name)?;
+    text.push_str("\":[")
+}
+
 fn push_classes(text: &mut String, class: &str, count: u32) -> Result<(), AllocError> {
-    text.push_str("\"")?;
-    text.push_str(LAST)?;
-    text.push_str("\":[")?;
+    push_member(text, LAST)?;
     for i in 0..count {
         if i > 0 {
             text.push_str(",")?;
@@ -123,19 +136,29 @@ fn push(tokens: &mut Vec<Text>, alloc: Global, token: &str) -> Result<(), AllocE
     Ok(())
 }
 
+/// The names and places of the classes in one another.
+fn push_chain(tokens: &mut Vec<Text>, alloc: Global) -> Result<(), AllocError> {
+    let name = name(alloc)?;
+    for _ in 0..CHAIN {
+        push(tokens, alloc, name.as_str())?;
+        push(tokens, alloc, "0")?;
+    }
+    Ok(())
+}
+
+fn push_tokens(tokens: &mut Vec<Text>, alloc: Global, place: &str) -> Result<(), AllocError> {
+    push(tokens, alloc, "Incident")?;
+    push(tokens, alloc, "0")?;
+    push_chain(tokens, alloc)?;
+    push(tokens, alloc, LAST)?;
+    push(tokens, alloc, place)
+}
+
 /// The path of a class below the last.
 fn path_of(alloc: Global, place: u32) -> Result<Path, AllocError> {
-    let name = name(alloc)?;
-    let mut tokens = Vec::new(alloc);
-    push(&mut tokens, alloc, "Incident")?;
-    push(&mut tokens, alloc, "0")?;
-    for _ in 0..CHAIN {
-        push(&mut tokens, alloc, name.as_str())?;
-        push(&mut tokens, alloc, "0")?;
-    }
-    push(&mut tokens, alloc, LAST)?;
     let digits = format!(in alloc; "{place}")?;
-    push(&mut tokens, alloc, digits.as_str())?;
+    let mut tokens = Vec::new(alloc);
+    push_tokens(&mut tokens, alloc, digits.as_str())?;
     Ok(Path::new(tokens))
 }
 

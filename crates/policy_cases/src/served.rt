@@ -1,0 +1,90 @@
+//! What a reader is answered of a report: verdicts, its excerpt, whether it is listed, and what a search finds in it.
+
+ghost use Rattle.std.specs.Prelude.{◌≡◌, None};
+ghost use Rattle.iodef_tree.specs.Paths.{located};
+ghost use Rattle.marking.specs.Marks.{first_bad_marking};
+
+use crate::unfit::{Unfit, said};
+use crate::verdicts::verdicts;
+use crate::words::Asker;
+use iodef_tree::{Document, Path};
+use policy::Rule;
+use redact::{Excerpt, excerpt, finds, is_listed};
+use std::alloc::{AllocError, Global};
+
+fn push_pair(told: &mut String, alloc: Global, place: &Path, rule: Rule) -> Result<(), AllocError> {
+    let pointer = place.print(alloc)?;
+    let rule = rule.name();
+    let pair = format!(in alloc; " {pointer}:{rule}")?;
+    told.push_str(pair.as_str())
+}
+
+/// How many classes are visible, the document, and each withheld pair.
+fn shown(alloc: Global, excerpt: &Excerpt) -> Result<String, Unfit> {
+    let classes = excerpt.classes;
+    let text = excerpt.document.text(alloc)?;
+    let mut told = format!(in alloc; "{classes} {text}")?;
+    for (place, rule) in &excerpt.withheld {
+        push_pair(&mut told, alloc, place, *rule)?;
+    }
+    Ok(told)
+}
+
+fn served(alloc: Global, document: &Document, asker: &Asker) -> Result<String, Unfit>
+    requires { first_bad_marking (located document.now) ≡ None }
+{
+    match excerpt(alloc, document, &asker.case, &asker.standing)? {
+        Some(excerpt) => shown(alloc, &excerpt),
+        None => said(alloc, "none"),
+    }
+}
+
+fn listed(alloc: Global, document: &Document, asker: &Asker) -> Result<String, Unfit> {
+    if is_listed(alloc, document, &asker.case, &asker.standing)? {
+        said(alloc, "listed")
+    } else {
+        said(alloc, "not listed")
+    }
+}
+
+fn found(
+    alloc: Global,
+    document: &Document,
+    asker: &Asker,
+    needle: &str,
+    class: Option<&str>,
+) -> Result<String, Unfit> {
+    if finds(alloc, document, &asker.case, &asker.standing, needle, class)? {
+        said(alloc, "found")
+    } else {
+        said(alloc, "not found")
+    }
+}
+
+/// What is asked of a report.
+#[derive(Clone, Copy)]
+pub enum Asked<'a> {
+    /// The verdict of each of these pointers.
+    Verdicts(&'a str),
+    /// What is served of it, `none` where no class is visible.
+    Excerpt,
+    Listed,
+    /// Whether the needle is found, in classes of the name if one is given.
+    Find(&'a str, Option<&'a str>),
+}
+
+pub fn answer_to(
+    alloc: Global,
+    document: &Document,
+    asker: &Asker,
+    asked: Asked<'_>,
+) -> Result<String, Unfit>
+    requires { first_bad_marking (located document.now) ≡ None }
+{
+    match asked {
+        Asked::Verdicts(pointers) => verdicts(alloc, document, asker, pointers),
+        Asked::Excerpt => served(alloc, document, asker),
+        Asked::Listed => listed(alloc, document, asker),
+        Asked::Find(needle, class) => found(alloc, document, asker, needle, class),
+    }
+}
