@@ -27,9 +27,9 @@ ghost use Rattle.marking.specs.Marks.{first_bad_marking};
 
 use crate::alone::answer_alone;
 use crate::labels::{marked, sited};
-use crate::served::{Asked, answer_to};
+use crate::questions::{Question, question_of};
+use crate::served::answer_to;
 use crate::unfit::{Unfit, said};
-use crate::words::asker_of;
 use iodef_tree::{Document, Path};
 use marking::{MarkingFault, check};
 use std::alloc::Global;
@@ -62,27 +62,17 @@ impl Table {
 
     /// The answer of a line that reads no report.
     fn asked(&self, alloc: Global, words: &[&str]) -> Result<String, Unfit> {
+        match question_of(words) {
+            Some(question) => self.answer_to(alloc, &question),
+            None => self.answer_of(alloc, words),
+        }
+    }
+
+    /// The answer of a line that asks of labels in the report, or of no report.
+    fn answer_of(&self, alloc: Global, words: &[&str]) -> Result<String, Unfit> {
         match words {
             ["marks"] => self.marks(alloc),
             ["site", pointer] => self.site(alloc, pointer),
-            ["decide", standing, gates, permissions, pointers] => {
-                let asked = Asked::Verdicts(pointers);
-                self.asked_by(alloc, standing, gates, permissions, asked)
-            }
-            ["excerpt", standing, gates, permissions] => {
-                self.asked_by(alloc, standing, gates, permissions, Asked::Excerpt)
-            }
-            ["listed", standing, gates, permissions] => {
-                self.asked_by(alloc, standing, gates, permissions, Asked::Listed)
-            }
-            ["find", standing, gates, permissions, needle] => {
-                let asked = Asked::Find(needle, None);
-                self.asked_by(alloc, standing, gates, permissions, asked)
-            }
-            ["find", standing, gates, permissions, needle, class] => {
-                let asked = Asked::Find(needle, Some(class));
-                self.asked_by(alloc, standing, gates, permissions, asked)
-            }
             words => answer_alone(alloc, words),
         }
     }
@@ -118,18 +108,10 @@ impl Table {
         sited(alloc, &report.document, &path)
     }
 
-    /// What is answered of the report to who asks.
-    fn asked_by(
-        &self,
-        alloc: Global,
-        standing: &str,
-        gates: &str,
-        permissions: &str,
-        asked: Asked<'_>,
-    ) -> Result<String, Unfit> {
+    fn answer_to(&self, alloc: Global, question: &Question<'_>) -> Result<String, Unfit> {
         let report = self.report.as_ref().ok_or(Unfit::NoCase)?;
-        let asker = asker_of(alloc, standing, gates, permissions)?;
-        answer_to(alloc, &report.document, &asker, asked)
+        let asker = question.asker(alloc)?;
+        answer_to(alloc, &report.document, &asker, question.asked)
     }
 }
 

@@ -5,6 +5,7 @@
 mod alone;
 mod cases;
 mod labels;
+mod questions;
 mod served;
 mod unfit;
 mod verdicts;

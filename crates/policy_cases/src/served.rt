@@ -4,9 +4,9 @@ ghost use Rattle.std.specs.Prelude.{◌≡◌, None};
 ghost use Rattle.iodef_tree.specs.Paths.{located};
 ghost use Rattle.marking.specs.Marks.{first_bad_marking};
 
+use crate::questions::{Asked, Asker};
 use crate::unfit::{Unfit, said};
 use crate::verdicts::verdicts;
-use crate::words::Asker;
 use iodef_tree::{Document, Path};
 use policy::Rule;
 use redact::{Excerpt, excerpt, finds, is_listed};
@@ -59,18 +59,6 @@ fn found(
     } else {
         said(alloc, "not found")
     }
-}
-
-/// What is asked of a report.
-#[derive(Clone, Copy)]
-pub enum Asked<'a> {
-    /// The verdict of each of these pointers.
-    Verdicts(&'a str),
-    /// What is served of it, `none` where no class is visible.
-    Excerpt,
-    Listed,
-    /// Whether the needle is found, in classes of the name if one is given.
-    Find(&'a str, Option<&'a str>),
 }
 
 pub fn answer_to(

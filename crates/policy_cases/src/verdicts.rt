@@ -4,8 +4,8 @@ ghost use Rattle.std.specs.Prelude.{◌≡◌, None};
 ghost use Rattle.iodef_tree.specs.Paths.{located};
 ghost use Rattle.marking.specs.Marks.{first_bad_marking};
 
+use crate::questions::Asker;
 use crate::unfit::Unfit;
-use crate::words::Asker;
 use iodef_tree::{Document, Path};
 use policy::{
     Case, DecideFault, Gate, Gates, Grantee, Permission, Permissions, Standing, Verdict, clearance,

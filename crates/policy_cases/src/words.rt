@@ -149,22 +149,3 @@ pub fn case_of(alloc: Global, gates: &str, permissions: &str) -> Result<Case, Un
         permissions: permissions_of(alloc, permissions)?,
     })
 }
-
-/// Who asks of a report, and by what it is judged.
-#[derive(Drop)]
-pub struct Asker {
-    pub standing: Standing,
-    pub case: Case,
-}
-
-pub fn asker_of(
-    alloc: Global,
-    standing: &str,
-    gates: &str,
-    permissions: &str,
-) -> Result<Asker, Unfit> {
-    Ok(Asker {
-        standing: standing_of(alloc, standing)?,
-        case: case_of(alloc, gates, permissions)?,
-    })
-}
