@@ -226,7 +226,7 @@ cut_items-loop-i-preserved t c =
       quiet = λ none. let z = pushed-none own ks o (ap length (sym grown) ∙ none) in c.in_ok-x.ensures.quiet z.0 ∙ inv.quiet z.1;
     }
 
--- the check would find these four only after a long search
+-- the check would find these six only after a long search
 pub cut_array-returns-then-is_empty-clause-goes : goal.cut_array-returns-then-is_empty-clause-goes
 cut_array-returns-then-is_empty-clause-goes t c = grind (arith, common_steps)
 
@@ -238,3 +238,9 @@ cut_array-returns-then-is_empty-clause-left t c = grind (arith, common_steps)
 
 pub cut_class-returns-in_ok-kept-2-clause-goes : goal.cut_class-returns-in_ok-kept-2-clause-goes
 cut_class-returns-in_ok-kept-2-clause-goes t c = grind (arith, common_steps)
+
+pub cut_items-returns-clause-left : goal.cut_items-returns-clause-left
+cut_items-returns-clause-left t c = grind (arith, common_steps)
+
+pub cut_items-returns-clause-goes : goal.cut_items-returns-clause-goes
+cut_items-returns-clause-goes t c = grind (arith, common_steps)
