@@ -54,7 +54,12 @@ pub fn question_of<'a>(words: &'a [&'a str]) -> Option<Question<'a>> {
             (standing, gates, permissions, Asked::Find(needle, None))
         }
         ["find", standing, gates, permissions, needle, class] => {
-            (standing, gates, permissions, Asked::Find(needle, Some(class)))
+            (
+                standing,
+                gates,
+                permissions,
+                Asked::Find(needle, Some(class)),
+            )
         }
         _ => return None,
     };
