@@ -18,7 +18,7 @@ fn missing(alloc: Global, name: &str, path: &Path, member: &str) -> Result<Strin
     format!(in alloc; "{name} {pointer} {member}")
 }
 
-/// The fault, as far as it says more than its name.
+/// The fault's name, and what more it says.
 fn told(alloc: Global, fault: ReadFault) -> Result<String, AllocError> {
     let name = fault.name();
     match fault {

@@ -226,7 +226,7 @@ cut_items-loop-i-preserved t c =
       quiet = λ none. let z = pushed-none own ks o (ap length (sym grown) ∙ none) in c.in_ok-x.ensures.quiet z.0 ∙ inv.quiet z.1;
     }
 
--- the check would find these six only after a long search
+-- `search` doesn't find these six, four of them only after long
 pub cut_array-returns-then-is_empty-clause-goes : goal.cut_array-returns-then-is_empty-clause-goes
 cut_array-returns-then-is_empty-clause-goes t c = grind (arith, common_steps)
 
