@@ -7,6 +7,7 @@ pub mod Whole
 pub mod Listing
 pub mod Fronts
 pub mod Going
+pub mod Entering
 pub mod Filling
 pub mod Needles
 pub mod Searching

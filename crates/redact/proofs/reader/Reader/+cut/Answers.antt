@@ -5,7 +5,7 @@ use Rattle.std.proofs.lemmas.Grind.{common_steps}
 use Rattle.std.specs.List.{AllByRecursion, cons_option, list_any}
 use Rattle.iodef_tree.specs.declared.text.Text.{Text}
 use Rattle.iodef_tree.specs.declared.object.Member.{Member}
-use Rattle.iodef_tree.specs.declared.object.Item.{Item}
+use Rattle.iodef_tree.specs.declared.object.Item.{Item, Class}
 use Rattle.iodef_tree.specs.declared.object.Object.{Object, the_lemmas}
 use Rattle.iodef_tree.specs.Text.{Bytes}
 use Rattle.iodef_tree.specs.Tree.{Forest}
@@ -14,6 +14,7 @@ use Rattle.iodef_tree.specs.Filled.{has_some, IsFilled, IsItemFilled, IsMemberFi
 use Rattle.iodef_tree.proofs.Filled.{made-filled, many-filled, members-filled, member-at, elements-kept}
 use Rattle.iodef_tree.proofs.Views.{forest-members, forest-made}
 use Rattle.policy.specs.Ahead.{ahead_of}
+use Rattle.marking.specs.Label.{marking_of}
 use Rattle.policy.specs.Inherited.{carried, is_seen, hides}
 use Rattle.policy.specs.declared.rule.Rule.{Rule}
 use Rattle.redact.specs.Judged.{inside, is_end, cut, told}
@@ -24,6 +25,7 @@ use Rattle.redact.specs.declared.pass.State.{State}
 use Rattle.redact.specs.declared.trail.Token.{Token}
 use Rattle.redact.proofs.Fronts.{Outcome, of_object}
 use Rattle.redact.proofs.Filling.{filled-end}
+use Rattle.redact.proofs.Entering.{class-left, class-goes}
 use Rattle.redact.proofs.Going.{goes-step, told-seen, told-frame, told-gone, pushed, pushed-left, pushed-all, pushed-none, length-pushed}
 use Rattle.redact.proofs.reader.Reader.+cut.Goals as goal
 use Rattle.redact.proofs.reader.Reader.+cut.Goals.{cut_items-in-Some+in_ok-push, cut_items-in_default, cut-in-Some+in_ok-push_member, cut-in_default}
@@ -244,3 +246,30 @@ cut_items-returns-clause-left t c = grind (arith, common_steps)
 
 pub cut_items-returns-clause-goes : goal.cut_items-returns-clause-goes
 cut_items-returns-clause-goes t c = grind (arith, common_steps)
+
+-- `search` finds these four only after long
+pub cut_item-returns-in-Class-clause-left : goal.cut_item-returns-in-Class-clause-left
+cut_item-returns-in-Class-clause-left t c =
+    class-left c.args.self.now.case.now c.args.self.now.standing.now c.args.state.now.path.items c.step.new.trail.items c.as_slice.result.now c.args.door c.at_class-at.result c.args.token c.args.item.now c.in-Class.object
+    (option_map marking_of c.written.result) c.in-Class.is c.in_ok-inside-in-Class.ensures.trail c.written.ensures c.as_slice.ensures.value c.at_class-at.ensures
+    (home_of c.args.home) c.in_ok-left-in-Class.left None (ap (option_map Class) (sym c.in-None.is)) c.in_ok-left-in-Class.ensures.left
+
+pub cut_item-returns-in-Some-clause-left : goal.cut_item-returns-in-Some-clause-left
+cut_item-returns-in-Some-clause-left t c =
+    class-left c.args.self.now.case.now c.args.self.now.standing.now c.args.state.now.path.items c.step.new.trail.items c.as_slice.result.now c.args.door c.at_class-at.result c.args.token c.args.item.now c.in-Class.object
+    (option_map marking_of c.written.result) c.in-Class.is c.in_ok-inside-in-Class.ensures.trail c.written.ensures c.as_slice.ensures.value c.at_class-at.ensures
+    (home_of c.args.home) c.in_ok-left-in-Class.left (Some (Class c.in-Some.kept)) (ap (option_map Class) (sym c.in-Some.is)) c.in_ok-left-in-Class.ensures.left
+
+pub cut_item-returns-in-Class-clause-goes : goal.cut_item-returns-in-Class-clause-goes
+cut_item-returns-in-Class-clause-goes t c =
+    class-goes c.args.self.now.case.now c.args.self.now.standing.now c.args.state.now.path.items c.step.new.trail.items c.as_slice.result.now c.args.door c.at_class-at.result c.args.token c.args.item.now c.in-Class.object
+    (option_map marking_of c.written.result) c.in-Class.is c.in_ok-inside-in-Class.ensures.trail c.written.ensures c.as_slice.ensures.value c.at_class-at.ensures
+    c.args.base c.args.state.now c.cut_class.new.state c.step.new.trail c.push.new.self c.pop.new.self c.pop-in-Class.new.self c.args.place c.requires.base refl refl c.in_ok-push-in-Class.ensures.items
+    c.in_ok-left-in-Class.ensures.goes c.pop.ensures.rest c.pop-in-Class.ensures.rest
+
+pub cut_item-returns-in-Some-clause-goes : goal.cut_item-returns-in-Some-clause-goes
+cut_item-returns-in-Some-clause-goes t c =
+    class-goes c.args.self.now.case.now c.args.self.now.standing.now c.args.state.now.path.items c.step.new.trail.items c.as_slice.result.now c.args.door c.at_class-at.result c.args.token c.args.item.now c.in-Class.object
+    (option_map marking_of c.written.result) c.in-Class.is c.in_ok-inside-in-Class.ensures.trail c.written.ensures c.as_slice.ensures.value c.at_class-at.ensures
+    c.args.base c.args.state.now c.cut_class.new.state c.step.new.trail c.push.new.self c.pop.new.self c.pop-in-Class.new.self c.args.place c.requires.base refl refl c.in_ok-push-in-Class.ensures.items
+    c.in_ok-left-in-Class.ensures.goes c.pop.ensures.rest c.pop-in-Class.ensures.rest

@@ -1,10 +1,11 @@
 use Rattle.std.proofs.lemmas.Grind.{common_steps}
-use Rattle.std.proofs.Common.{◌≡◌, [], ◌∷◌, ◌++◌, List, map, sym, ◌∙◌, ap, arith, rules}
+use Rattle.std.proofs.Common.{◌≡◌, [], ◌∷◌, ◌++◌, List, map, option_map, sym, ◌∙◌, ap, arith, rules}
 use Rattle.std.proofs.lemmas.List.{map-append}
 use Rattle.iodef_tree.specs.View.{body, bodies}
 use Rattle.iodef_tree.specs.declared.object.Object.{the_lemmas}
 use Rattle.iodef_tree.proofs.Filled.{member-at, elements-kept}
 use Rattle.iodef_tree.proofs.Views.{bodies-Many}
+use Rattle.marking.specs.Label.{marking_of}
 use Rattle.policy.specs.Ahead.{ahead_of}
 use Rattle.policy.specs.Inherited.{carried, array_step, enter_array}
 use Rattle.policy.specs.declared.inherited.Carried.{Carried}
@@ -13,6 +14,7 @@ use Rattle.policy.specs.declared.case.Case.{Case}
 use Rattle.redact.specs.Tokens.{token_of, path_of}
 use Rattle.redact.specs.Search.{asked_of, found_items, found_member}
 use Rattle.redact.specs.declared.trail.Token.{Token}
+use Rattle.redact.proofs.Entering.{class-found}
 use Rattle.redact.proofs.Searching.{found_next}
 use Rattle.redact.proofs.search.Search.+search.Goals as goal
 
@@ -80,3 +82,10 @@ in_array-returns-clause-found t c = grind (arith, common_steps)
 
 pub in_member-returns-in_ok-found-in-Many-clause-trail : goal.in_member-returns-in_ok-found-in-Many-clause-trail
 in_member-returns-in_ok-found-in-Many-clause-trail t c = grind (arith, common_steps)
+
+-- `search` finds this one only after long
+pub at-returns-in_ok-found-in-Class-clause-found : goal.at-returns-in_ok-found-in-Class-clause-found
+at-returns-in_ok-found-in-Class-clause-found t c =
+    c.in_ok-found-in-Class.ensures.found
+    ∙ class-found c.args.self.now.reader.case.now c.args.self.now.reader.standing.now c.args.trail.now.items c.step.new.trail.items c.as_slice.result.now c.args.door c.at_class-at.result c.args.token c.args.item.now c.in-Class.object
+    (option_map marking_of c.written.result) c.in-Class.is c.in_ok-inside-in-Class.ensures.trail c.written.ensures c.as_slice.ensures.value c.at_class-at.ensures (asked_of c.args.self.now.asked) c.args.name.now
