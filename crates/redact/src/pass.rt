@@ -324,10 +324,7 @@ impl<'a> Reader<'a> {
                 let left = self.cut_class(state, home, &inside, at, base, object)?;
                 state.path.pop();
                 state.place.pop();
-                match left {
-                    Some(kept) => Ok(Some(Item::Class(kept))),
-                    None => Ok(None),
-                }
+                Ok(left.map(Item::Class))
             }
             _ => plain_left(home, item),
         }

@@ -5,7 +5,7 @@ use Rattle.std.proofs.lemmas.Grind.{common_steps}
 use Rattle.std.specs.List.{AllByRecursion, cons_option, list_any}
 use Rattle.iodef_tree.specs.declared.text.Text.{Text}
 use Rattle.iodef_tree.specs.declared.object.Member.{Member}
-use Rattle.iodef_tree.specs.declared.object.Item.{Item, Class}
+use Rattle.iodef_tree.specs.declared.object.Item.{Item}
 use Rattle.iodef_tree.specs.declared.object.Object.{Object, the_lemmas}
 use Rattle.iodef_tree.specs.Text.{Bytes}
 use Rattle.iodef_tree.specs.Tree.{Forest}
@@ -247,28 +247,15 @@ cut_items-returns-clause-left t c = grind (arith, common_steps)
 pub cut_items-returns-clause-goes : goal.cut_items-returns-clause-goes
 cut_items-returns-clause-goes t c = grind (arith, common_steps)
 
--- `search` finds these four only after long
-pub cut_item-returns-in-Class-clause-left : goal.cut_item-returns-in-Class-clause-left
-cut_item-returns-in-Class-clause-left t c =
+-- `search` finds these two only after long
+pub cut_item-returns-in_ok-left-in-Class-clause-left : goal.cut_item-returns-in_ok-left-in-Class-clause-left
+cut_item-returns-in_ok-left-in-Class-clause-left t c =
     class-left c.args.self.now.case.now c.args.self.now.standing.now c.args.state.now.path.items c.step.new.trail.items c.as_slice.result.now c.args.door c.at_class-at.result c.args.token c.args.item.now c.in-Class.object
     (option_map marking_of c.written.result) c.in-Class.is c.in_ok-inside-in-Class.ensures.trail c.written.ensures c.as_slice.ensures.value c.at_class-at.ensures
-    (home_of c.args.home) c.in_ok-left-in-Class.left None (ap (option_map Class) (sym c.in-None.is)) c.in_ok-left-in-Class.ensures.left
+    (home_of c.args.home) c.in_ok-left-in-Class.left c.map.result (search (rules, c.map.ensures.cases)) c.in_ok-left-in-Class.ensures.left
 
-pub cut_item-returns-in-Some-clause-left : goal.cut_item-returns-in-Some-clause-left
-cut_item-returns-in-Some-clause-left t c =
-    class-left c.args.self.now.case.now c.args.self.now.standing.now c.args.state.now.path.items c.step.new.trail.items c.as_slice.result.now c.args.door c.at_class-at.result c.args.token c.args.item.now c.in-Class.object
-    (option_map marking_of c.written.result) c.in-Class.is c.in_ok-inside-in-Class.ensures.trail c.written.ensures c.as_slice.ensures.value c.at_class-at.ensures
-    (home_of c.args.home) c.in_ok-left-in-Class.left (Some (Class c.in-Some.kept)) (ap (option_map Class) (sym c.in-Some.is)) c.in_ok-left-in-Class.ensures.left
-
-pub cut_item-returns-in-Class-clause-goes : goal.cut_item-returns-in-Class-clause-goes
-cut_item-returns-in-Class-clause-goes t c =
-    class-goes c.args.self.now.case.now c.args.self.now.standing.now c.args.state.now.path.items c.step.new.trail.items c.as_slice.result.now c.args.door c.at_class-at.result c.args.token c.args.item.now c.in-Class.object
-    (option_map marking_of c.written.result) c.in-Class.is c.in_ok-inside-in-Class.ensures.trail c.written.ensures c.as_slice.ensures.value c.at_class-at.ensures
-    c.args.base c.args.state.now c.cut_class.new.state c.step.new.trail c.push.new.self c.pop.new.self c.pop-in-Class.new.self c.args.place c.requires.base refl refl c.in_ok-push-in-Class.ensures.items
-    c.in_ok-left-in-Class.ensures.goes c.pop.ensures.rest c.pop-in-Class.ensures.rest
-
-pub cut_item-returns-in-Some-clause-goes : goal.cut_item-returns-in-Some-clause-goes
-cut_item-returns-in-Some-clause-goes t c =
+pub cut_item-returns-in_ok-left-in-Class-clause-goes : goal.cut_item-returns-in_ok-left-in-Class-clause-goes
+cut_item-returns-in_ok-left-in-Class-clause-goes t c =
     class-goes c.args.self.now.case.now c.args.self.now.standing.now c.args.state.now.path.items c.step.new.trail.items c.as_slice.result.now c.args.door c.at_class-at.result c.args.token c.args.item.now c.in-Class.object
     (option_map marking_of c.written.result) c.in-Class.is c.in_ok-inside-in-Class.ensures.trail c.written.ensures c.as_slice.ensures.value c.at_class-at.ensures
     c.args.base c.args.state.now c.cut_class.new.state c.step.new.trail c.push.new.self c.pop.new.self c.pop-in-Class.new.self c.args.place c.requires.base refl refl c.in_ok-push-in-Class.ensures.items
