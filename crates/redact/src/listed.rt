@@ -143,6 +143,5 @@ pub fn listed(alloc: Global, notes: Vec<Note<'_>>) -> Result<Vec<(Path, Rule)>, 
     let mut entries = entries_of(alloc, notes)?;
     entries.sort()?;
     entries.dedup();
-    let list = pairs_of(alloc, entries)?;
-    Ok(list)
+    pairs_of(alloc, entries)
 }

@@ -360,8 +360,7 @@ impl<'a> Reader<'a> {
             let kept = self.cut_seen(state, home, ahead, at, object)?;
             Ok(Some(kept))
         } else {
-            let kept = self.cut_hidden(state, ahead, at, base, object)?;
-            Ok(kept)
+            self.cut_hidden(state, ahead, at, base, object)
         }
     }
 
@@ -391,8 +390,7 @@ impl<'a> Reader<'a> {
         let outside = replace(&mut state.gone, Vec::new(state.alloc));
         let kept = self.cut(state, Home::Class(true), ahead, at, object)?;
         tell_and_leave(state, outside)?;
-        let said = with_own_label(state.alloc, home, object, kept, at.label)?;
-        Ok(said)
+        with_own_label(state.alloc, home, object, kept, at.label)
     }
 
     /// What is left of a class that isn't visible: it is told at its place where something is, else at that of its parent.

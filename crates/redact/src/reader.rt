@@ -43,8 +43,7 @@ impl<'a> Reader<'a> {
         ensures ahead { IfOk result (λ a. LiesAhead self.now trail.new.items a) }
     {
         trail.push(token)?;
-        let inside = further(alloc, ahead, token)?;
-        Ok(inside)
+        further(alloc, ahead, token)
     }
 
     /// What holds at the root.

@@ -48,8 +48,7 @@ pub fn is_listed(
 ) -> Result<bool, AllocError>
     ensures { IfOk result (λ b. b ≡ is_shown document.now case.now standing.now) }
 {
-    let shown = shows_some(alloc, document, case, standing)?;
-    Ok(shown)
+    shows_some(alloc, document, case, standing)
 }
 
 fn shows_some<'a>(
@@ -68,8 +67,7 @@ fn shows_some<'a>(
     let mut trail = Vec::new(alloc);
     let ahead = search.reader.ahead(alloc)?;
     let above = search.reader.at_root(&ahead);
-    let shown = search.among(&mut trail, &ahead, above, document.root())?;
-    Ok(shown)
+    search.among(&mut trail, &ahead, above, document.root())
 }
 
 /// Whether a class that the reader may see directly holds a text that contains `needle`, byte for byte; of the classes of
@@ -85,8 +83,7 @@ pub fn finds(
 ) -> Result<bool, AllocError>
     ensures { IfOk result (λ b. b ≡ is_found document.now case.now standing.now needle.now (option_map (λ name. name.now) class.entry)) }
 {
-    let found = found(alloc, document, case, standing, needle, class)?;
-    Ok(found)
+    found(alloc, document, case, standing, needle, class)
 }
 
 fn found<'a>(
@@ -110,8 +107,7 @@ fn found<'a>(
     let mut trail = Vec::new(alloc);
     let ahead = search.reader.ahead(alloc)?;
     let above = search.reader.at_root(&ahead);
-    let found = search.among(&mut trail, &ahead, above, document.root())?;
-    Ok(found)
+    search.among(&mut trail, &ahead, above, document.root())
 }
 
 #[tactic(auto, using(crate::proofs::Needles::finds_has))]
@@ -208,10 +204,7 @@ impl<'a> Search<'a> {
         ensures trail { IfOk result (λ b. trail.new.items ≡ trail.old.items) }
     {
         match member {
-            Member::One(item) => {
-                let found = self.at(trail, ahead, above, Token::Name(name), name, item)?;
-                Ok(found)
-            }
+            Member::One(item) => self.at(trail, ahead, above, Token::Name(name), name, item),
             Member::Many(items) => {
                 let inside = self
                     .reader
@@ -300,7 +293,6 @@ impl<'a> Search<'a> {
         if self.reader.sees(at) && self.asked.is_met(name, object) {
             return Ok(true);
         }
-        let found = self.among(trail, ahead, at, object)?;
-        Ok(found)
+        self.among(trail, ahead, at, object)
     }
 }

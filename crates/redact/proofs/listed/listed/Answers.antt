@@ -1,4 +1,5 @@
 use Rattle.std.proofs.Common.{◌≡◌, List, sym, ◌∙◌, subst, IsPermutation}
+use Rattle.std.proofs.lemmas.Result.{IfOk-weaker}
 use Rattle.std.specs.List.{dedup}
 use Rattle.std.proofs.lemmas.List.Filters.{dedup_is}
 use Rattle.redact.specs.Withheld.{Withheld, same_withheld, Lists}
@@ -12,4 +13,4 @@ returns c =
     let zs : List Withheld = c.dedup.new.self.items in
     let once : zs ≡ dedup same_withheld ys = dedup_is same_withheld ys zs c.dedup.ensures.filtered in
     let moved : IsPermutation xs ys = subst (λ ws. IsPermutation ws ys) c.in_ok-entries.ensures c.in_ok-sort.ensures.permutation in
-    subst (Lists xs) (sym (c.in_ok-list.ensures ∙ once)) (lists-dedup xs ys moved c.in_ok-sort.ensures.sorted)
+    IfOk-weaker c.pairs_of.result _ _ (λ v is. subst (Lists xs) (sym (is ∙ once)) (lists-dedup xs ys moved c.in_ok-sort.ensures.sorted)) c.pairs_of.ensures

@@ -1,4 +1,5 @@
 use Rattle.std.proofs.Common.{◌∙◌, ap, option_map}
+use Rattle.std.proofs.lemmas.Result.{IfOk-weaker}
 use Rattle.iodef_tree.specs.View.{forest}
 use Rattle.policy.specs.Inherited.{carried}
 use Rattle.redact.specs.Tokens.{path_of}
@@ -7,6 +8,6 @@ use Rattle.redact.proofs.search.found.Goals as goal
 
 pub returns : goal.returns
 returns c =
-    c.in_ok-found.ensures.found
+    IfOk-weaker c.among.result _ _ (λ b is. is
     ∙ found_all c.args.case.now c.args.standing.now c.args.needle.now (option_map (λ n. n.now) c.args.class) (forest c.root.result.now) c.root.ensures.sound c.root.ensures.lines
-    (ap (λ ts. carried (path_of ts) c.at_root-above.result) c.new-trail.ensures.items ∙ c.at_root-above.ensures) (c.new.ensures ∙ c.as_bytes.ensures.value)
+    (ap (λ ts. carried (path_of ts) c.at_root-above.result) c.new-trail.ensures.items ∙ c.at_root-above.ensures) (c.new.ensures ∙ c.as_bytes.ensures.value)) c.among.ensures.found

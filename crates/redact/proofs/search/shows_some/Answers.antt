@@ -1,4 +1,5 @@
 use Rattle.std.proofs.Common.{◌∙◌, ap}
+use Rattle.std.proofs.lemmas.Result.{IfOk-weaker}
 use Rattle.iodef_tree.specs.View.{forest}
 use Rattle.policy.specs.Inherited.{carried}
 use Rattle.redact.specs.Tokens.{path_of}
@@ -7,6 +8,6 @@ use Rattle.redact.proofs.search.shows_some.Goals as goal
 
 pub returns : goal.returns
 returns c =
-    c.in_ok-shown.ensures.found
+    IfOk-weaker c.among.result _ _ (λ b is. is
     ∙ listed_all c.args.case.now c.args.standing.now (forest c.root.result.now) c.root.ensures.sound c.root.ensures.lines
-    (ap (λ ts. carried (path_of ts) c.at_root-above.result) c.new-trail.ensures.items ∙ c.at_root-above.ensures)
+    (ap (λ ts. carried (path_of ts) c.at_root-above.result) c.new-trail.ensures.items ∙ c.at_root-above.ensures)) c.among.ensures.found

@@ -2,6 +2,7 @@ use Rattle.std.proofs.Common.{vec_len, List, Bool, ◌||◌, ◌≡◌, ◌==◌
 use Rattle.std.proofs.lemmas.List.{drop_all, map-append, at_drop_more}
 use Rattle.std.proofs.lemmas.Bool.{eqb-false}
 use Rattle.std.proofs.lemmas.Grind.{common_steps}
+use Rattle.std.proofs.lemmas.Result.{IfOk-weaker}
 use Rattle.std.specs.List.{AllByRecursion, cons_option, list_any}
 use Rattle.iodef_tree.specs.declared.text.Text.{Text}
 use Rattle.iodef_tree.specs.declared.object.Member.{Member}
@@ -78,7 +79,7 @@ pub cut_member-cut_array-requires : goal.cut_member-cut_array-requires
 cut_member-cut_array-requires t c = (search (rules, the_lemmas), (elements-kept c.args.member.now c.in-Many.items c.requires.1.1.0 c.in-Many.is, c.requires.1.1.1))
 
 pub cut_seen-returns-clause-goes : goal.cut_seen-returns-clause-goes
-cut_seen-returns-clause-goes t c = λ q.
+cut_seen-returns-clause-goes t c = IfOk-weaker c.with_own_label.result _ _ (λ o _ q.
     let st = c.args.state.now in
     let b : State = record st { classes = c.saturating_add-state.result; gone = c.replace-outside.new.dest } in
     let k = c.cut.new.state in
@@ -92,7 +93,7 @@ cut_seen-returns-clause-goes t c = λ q.
       withheld = told-seen q r st b k c.tell_and_leave.new.state (told (inside true) r 0 J) refl (ap (λ v. v.items) c.replace-outside.ensures.after ∙ c.new.ensures.items) g.withheld
           (cc (told_all.withheld, g.place)) (cc (told_all.gone, c.replace-outside.ensures.value));
       classes = λ h. let more = c.saturating_add-state.ensures in let e = g.classes (omega (arith, more, h)) in omega (arith, more, e, told_all.classes, h);
-    }
+    }) c.with_own_label.ensures.left
 
 -- what is left of the members has an end only where there are none
 ended : (o : Object) (left : Forest) → IsFilled o → forest o ≡ left → is_end left ≡ (vec_len o.members == 0)
@@ -237,9 +238,6 @@ cut_array-returns-clause-goes t c = grind (arith, common_steps)
 
 pub cut_array-returns-then-is_empty-clause-left : goal.cut_array-returns-then-is_empty-clause-left
 cut_array-returns-then-is_empty-clause-left t c = grind (arith, common_steps)
-
-pub cut_class-returns-in_ok-kept-2-clause-goes : goal.cut_class-returns-in_ok-kept-2-clause-goes
-cut_class-returns-in_ok-kept-2-clause-goes t c = grind (arith, common_steps)
 
 pub cut_items-returns-clause-left : goal.cut_items-returns-clause-left
 cut_items-returns-clause-left t c = grind (arith, common_steps)
