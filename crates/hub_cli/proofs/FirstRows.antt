@@ -1,5 +1,5 @@
 -- The state of a new store is sound.
-use Rattle.std.proofs.Common.{◌≡◌, ℕ, List, rules, arith, refl}
+use Rattle.std.proofs.Common.{◌≡◌, ℕ, List, rules, refl}
 use Rattle.iodef_tree.specs.Text.{Bytes}
 use Rattle.hub_core.specs.State.{empty}
 use Rattle.hub_core.specs.Edits.{after}

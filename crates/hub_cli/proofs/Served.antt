@@ -1,11 +1,10 @@
 -- One connection after another is one run.
-use Rattle.std.proofs.Common.{◌≡◌, ◌⊎◌, inl, inr, ℕ, ◌+◌, ℤ, List, [], ◌∷◌, ◌++◌, Option, Result, Ok, Err, refl, sym, subst, arith}
+use Rattle.std.proofs.Common.{◌≡◌, inl, inr, ℕ, ◌+◌, ℤ, List, [], ◌∷◌, ◌++◌, Option, Result, Ok, Err, refl, sym, subst, arith}
 use Rattle.std.proofs.lemmas.List.{length-append}
 use Rattle.hub_core.specs.State.{State}
-use Rattle.hub_core.specs.Sound.{IsSound}
 use Rattle.hub_core.specs.declared.reply.Reply.{Reply}
 use Rattle.hub_core.specs.declared.request.Request.{Request}
-use Rattle.hub.specs.Machine.{Asked, IsStep, IsRun}
+use Rattle.hub.specs.Machine.{Asked, IsRun}
 use Rattle.hub.specs.declared.key.Key.{Key}
 use Rattle.hub.proofs.Runs.{runs_sound}
 use Rattle.hub_http.specs.Serving.{Steps, Serves, MayHaveAnswered}

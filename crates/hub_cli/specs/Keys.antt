@@ -1,5 +1,5 @@
 -- The key of a reader on standard input, and the digest of an administrator's key among the words.
-use Rattle.std.specs.Prelude.{◌≡◌, ◌⊎◌, ℕ, List, [], ◌∷◌, ◌++◌, ◌==◌, length, ◌&&◌, nat_le, not, if◌then◌else◌, Bool, Option, Some, None, Result, Ok, Err, IsTrue}
+use Rattle.std.specs.Prelude.{◌⊎◌, ℕ, List, [], ◌∷◌, ◌++◌, ◌==◌, length, ◌&&◌, nat_le, not, if◌then◌else◌, Bool, Option, Some, None, Result, Ok, Err, IsTrue}
 use Rattle.std.specs.List.{list_all}
 use Rattle.std.specs.Io.KnownBytes.{Consumes, IsAtEnd}
 use Rattle.sha2.specs.Sha256.{sha256}

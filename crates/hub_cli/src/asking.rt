@@ -17,6 +17,7 @@ use hub::Hub;
 use hub_core::{Reply, Request, Shelf};
 use std::alloc::Global;
 use std::io::{Read, Write};
+use std::time::Clock;
 
 /// What the hub replies to who has this line as key.
 fn reply_to<Sh: Shelf>(
@@ -31,6 +32,26 @@ fn reply_to<Sh: Shelf>(
     hub.answer(alloc, now, &line_key(line), request)
 }
 
+/// The reply to who has the first line of the input as key, at the present moment. It knows no more of the shelf than any
+/// shelf promises, which is all that its proof has to carry from call to call.
+fn reply_to_input<Sh: Shelf, R: Read, C: Clock>(
+    alloc: Global,
+    hub: &mut Hub<Sh>,
+    clock: &C,
+    request: &Request,
+    reader: &mut R,
+) -> Result<Reply, Fault> {
+    let line = read_line(alloc, reader)?;
+    let now = seconds(clock)?;
+    Ok(reply_to(alloc, hub, now, &line, request))
+}
+
+/// Prints the reply, and tells how the program ends with it.
+fn print_reply<W: Write>(alloc: Global, writer: &mut W, reply: &Reply) -> Result<Status, Fault> {
+    print(writer, printed(alloc, reply)?.as_str())?;
+    Ok(status_of(reply))
+}
+
 /// Asks this at the present moment for who has the first line of the input as key, and prints the reply.
 pub fn ask<R: Read, W: Write>(
     rt: &HostRuntime,
@@ -41,10 +62,7 @@ pub fn ask<R: Read, W: Write>(
 ) -> Result<Status, Fault> {
     let alloc = rt.alloc();
     let mut hub = Hub::new(open_store(rt, store)?);
-    let line = read_line(alloc, reader)?;
-    let now = seconds(rt)?;
-    let reply = reply_to(alloc, &mut hub, now, &line, request);
+    let answered = reply_to_input(alloc, &mut hub, rt, request, reader);
     close(hub.into_shelf());
-    print(writer, printed(alloc, &reply)?.as_str())?;
-    Ok(status_of(&reply))
+    print_reply(alloc, writer, &answered?)
 }

@@ -1,13 +1,16 @@
 //! `explain` over stores in files: what it prints, how it ends, and which fault comes first.
 
+use crate::cases::{STORE, begins, first_wrong, prints, refused, tells, words_over};
 use crate::cli::cli_run;
 use crate::input::INPUT_LIMIT;
 use crate::status::Status;
 use crate::store::{close, open_store};
-use crate::store_tests::{ABC, K1, N1, ends, is, new_path, remove};
-use crate::tests::{AMBER, Full, run_program};
+use crate::store_tests::{K1, N1, line_of, made, new_path, remove};
+use crate::tests::{AMBER, Full};
 use hub::Hub;
+use hub_core::Shelf;
 use hub_http::serve_one;
+use std::alloc::Global;
 use std::io;
 use std::io::ErrorKind;
 
@@ -55,6 +58,9 @@ const CIRCLE: [Post; 16] = [
     ("key-2", "/groups/1/add", "org=3&extend=0"),
 ];
 
+/// The administrator's key, and a line that isn't read.
+const KEY: &str = "abc\nand more";
+
 /// An extended label of a colour, in small letters.
 const SMALL_CLEAR: &str =
     r#"{"Incident":[{"Contact":[],"EventData":[{"Description":["x"],"restriction":"amber"},{"Description":["y"],"ext-restriction":"tlp:clear","restriction":"ext-value"}],"GenerationTime":"g","IncidentID":"4","purpose":"reporting","restriction":"public"}],"version":"2.0"}"#;
@@ -82,13 +88,8 @@ const GRANTED: [Post; 2] = [
     ),
 ];
 
-/// Posts to the hub over the store; all are answered as done.
-fn post_all(rt: &HostRuntime, path: &str, posts: &[Post]) -> io::Result<()> {
-    let alloc = rt.alloc();
-    let Ok(shelf) = open_store(rt, path) else {
-        return Err(io::Error::from(ErrorKind::NotFound));
-    };
-    let mut hub = Hub::new(shelf);
+/// Posts to the hub; all are answered as done.
+fn post_each<Sh: Shelf>(alloc: Global, hub: &mut Hub<Sh>, posts: &[Post]) -> io::Result<()> {
     for (key, target, body) in posts {
         let length = body.len();
         let bytes = format!(in alloc;
@@ -96,20 +97,29 @@ fn post_all(rt: &HostRuntime, path: &str, posts: &[Post]) -> io::Result<()> {
         )?;
         let mut reader = bytes.as_bytes();
         let mut reply: Vec<u8> = Vec::new(alloc);
-        let served = serve_one(alloc, &mut reader, &mut reply, &mut hub, 0);
+        let served = serve_one(alloc, &mut reader, &mut reply, hub, 0);
         if served.is_err() || !reply.as_slice().starts_with(b"HTTP/1.1 200 OK\r\n") {
             return Err(io::Error::from(ErrorKind::InvalidInput));
         }
     }
-    close(hub.into_shelf());
     Ok(())
+}
+
+/// Posts to the hub over the store.
+fn post_all(rt: &HostRuntime, path: &str, posts: &[Post]) -> io::Result<()> {
+    let Ok(shelf) = open_store(rt, path) else {
+        return Err(io::Error::from(ErrorKind::NotFound));
+    };
+    let mut hub = Hub::new(shelf);
+    let outcome = post_each(rt.alloc(), &mut hub, posts);
+    close(hub.into_shelf());
+    outcome
 }
 
 /// The path of a new store with the circle, and what these posts bring.
 fn store_with(rt: &HostRuntime, name: &str, posts: &[Post]) -> io::Result<String> {
     let path = new_path(rt, name)?;
-    let made = ["init", path.as_str(), "Hub", ABC];
-    if !ends(rt, &made, Status::Done, "created\n", "")? {
+    if first_wrong(rt, path.as_str(), &[made()])?.is_some() {
         return Err(io::Error::from(ErrorKind::InvalidInput));
     }
     post_all(rt, path.as_str(), &CIRCLE)?;
@@ -117,69 +127,62 @@ fn store_with(rt: &HostRuntime, name: &str, posts: &[Post]) -> io::Result<String
     Ok(path)
 }
 
-/// Whether these words behind the store's path, with this key, end so.
-fn explains(
-    rt: &HostRuntime,
-    path: &str,
-    key: &str,
-    words: [&str; 3],
-    status: Status,
-    output: &str,
-) -> io::Result<bool> {
-    let [person, number, pointer] = words;
-    let line = format!(in rt.alloc(); "{key}\nand more")?;
-    let words = ["explain", path, person, number, pointer];
-    let run = run_program(rt, &words, line.as_bytes())?;
-    Ok(is(&run, status, output, ""))
-}
+const SECOND: &str = "/Incident/0/EventData/1";
 
-/// Whether an administrator is told this first of what is asked.
-fn begins(rt: &HostRuntime, path: &str, words: [&str; 3], verdict: &str) -> io::Result<bool> {
-    let [person, number, pointer] = words;
-    let words = ["explain", path, person, number, pointer];
-    let run = run_program(rt, &words, b"abc\n")?;
-    let output = run.output.as_slice();
-    let is_told = run.status == Status::Done && run.errors.as_slice().is_empty();
-    Ok(is_told && output.starts_with(verdict.as_bytes()))
-}
+/// Some posts, what is asked behind them, and the verdict that is told first.
+type LabelCase = (
+    &'static [Post<'static>],
+    &'static [&'static str],
+    &'static str,
+);
+
+const LABEL_CASES: &[LabelCase] = &[
+    (
+        &[
+            ("abc", "/orgs/2/clients", "client=5"),
+            ("key-5", "/persons/5/nominate", ""),
+            ("key-2", "/incidents?level=3", AMBER),
+        ],
+        &["explain", STORE, "5", "1", SECOND],
+        "verdict Shown C\n",
+    ),
+    (
+        &[("key-2", "/incidents?level=3", SMALL_CLEAR)],
+        &["explain", STORE, "4", "1", SECOND],
+        "verdict Shown A\n",
+    ),
+    (
+        &[("key-2", "/incidents?level=3", CHATHAM)],
+        &["explain", STORE, "4", "1", SECOND],
+        "verdict Hidden H-RED\n",
+    ),
+];
 
 #[test]
 fn verdicts_of_extended_labels(rt: HostRuntime) -> io::Result<()> {
-    let posts = [
-        ("abc", "/orgs/2/clients", "client=5"),
-        ("key-5", "/persons/5/nominate", ""),
-        ("key-2", "/incidents?level=3", AMBER),
-    ];
-    let path = store_with(&rt, "client", &posts)?;
-    let second = "/Incident/0/EventData/1";
-    assert!(rt; begins(&rt, path.as_str(), ["5", "1", second], "verdict Shown C\n")?);
-    remove(&rt, path.as_str())?;
-    let path = store_with(
-        &rt,
-        "clear",
-        &[("key-2", "/incidents?level=3", SMALL_CLEAR)],
-    )?;
-    assert!(rt; begins(&rt, path.as_str(), ["4", "1", second], "verdict Shown A\n")?);
-    remove(&rt, path.as_str())?;
-    let path = store_with(&rt, "chatham", &[("key-2", "/incidents?level=3", CHATHAM)])?;
-    assert!(rt;
-        begins(
-            &rt,
-            path.as_str(),
-            ["4", "1", second],
-            "verdict Hidden H-RED\n"
-        )?
-    );
-    remove(&rt, path.as_str())
+    for (posts, words, verdict) in LABEL_CASES {
+        let path = store_with(&rt, "labels", posts)?;
+        let cases = [begins(words, KEY, verdict)];
+        assert_eq!(rt; first_wrong(&rt, path.as_str(), &cases)?, None);
+        remove(&rt, path.as_str())?;
+    }
+    Ok(())
 }
+
+/// A class below one that is gated or granted.
+const BELOW: &str = "/Incident/0/EventData/0/Flow/0";
 
 #[test]
 fn gates_refuse_below(rt: HostRuntime) -> io::Result<()> {
     let target =
         "/incidents?level=3&gate=4:1:/Incident/0/EventData/0&gate=3:0:/Incident/0/EventData/0/Flow/0";
     let path = store_with(&rt, "gates", &[("key-2", target, FLOW)])?;
-    let flow = "/Incident/0/EventData/0/Flow/0";
-    assert!(rt; begins(&rt, path.as_str(), ["4", "1", flow], "verdict Hidden G4\n")?);
+    let cases = [begins(
+        &["explain", STORE, "4", "1", BELOW],
+        KEY,
+        "verdict Hidden G4\n",
+    )];
+    assert_eq!(rt; first_wrong(&rt, path.as_str(), &cases)?, None);
     remove(&rt, path.as_str())
 }
 
@@ -200,14 +203,16 @@ fn an_addressed_person_behind_a_gate(rt: HostRuntime) -> io::Result<()> {
     ];
     let path = store_with(&rt, "addressed", &posts)?;
     let path = path.as_str();
-    let asked = ["4", "1", "/Incident/0"];
-    assert!(rt; explains(&rt, path, "abc", asked, Status::Done, HIDDEN_BY_GATE)?);
-    post_all(
-        &rt,
-        path,
-        &[("key-2", "/incidents/1/gate", "revision=1&path=&level=3")],
-    )?;
-    assert!(rt; explains(&rt, path, "abc", ["4", "1", ""], Status::Refused, N3)?);
+    let cases = [prints(
+        &["explain", STORE, "4", "1", "/Incident/0"],
+        KEY,
+        HIDDEN_BY_GATE,
+    )];
+    assert_eq!(rt; first_wrong(&rt, path, &cases)?, None);
+    let opened = ("key-2", "/incidents/1/gate", "revision=1&path=&level=3");
+    post_all(&rt, path, &[opened])?;
+    let cases = [refused(&["explain", STORE, "4", "1", ""], KEY, N3)];
+    assert_eq!(rt; first_wrong(&rt, path, &cases)?, None);
     remove(&rt, path)
 }
 
@@ -233,97 +238,83 @@ const W1: &str = "{\"code\":\"W1\",\"detail\":\"\",\"reason\":\"role does not al
 
 const B1: &str = "{\"code\":\"B1\",\"detail\":\"path\",\"reason\":\"bad argument\"}\n";
 
+const EVENT: &str = "/Incident/0/EventData/0";
+
 #[test]
 fn a_grant_and_a_label_below_it(rt: HostRuntime) -> io::Result<()> {
     let path = store_with(&rt, "granted", &GRANTED)?;
-    let path = path.as_str();
-    let event = "/Incident/0/EventData/0";
-    assert!(rt;
-        explains(
-            &rt,
-            path,
-            "abc",
-            ["4", "1", event],
-            Status::Done,
-            SHOWN_BY_GRANT
-        )?
-    );
-    let flow = "/Incident/0/EventData/0/Flow/0";
-    assert!(rt;
-        explains(
-            &rt,
-            path,
-            "abc",
-            ["4", "1", flow],
-            Status::Done,
-            HIDDEN_BELOW_GRANT
-        )?
-    );
-    assert!(rt; explains(&rt, path, "abc", ["4", "9", event], Status::Refused, N1)?);
-    assert!(rt; explains(&rt, path, "abc", ["99", "1", event], Status::Refused, N2)?);
-    assert!(rt; explains(&rt, path, "key-2", ["4", "1", event], Status::Refused, W1)?);
-    remove(&rt, path)
+    let asked = &["explain", STORE, "4", "1", EVENT];
+    let cases = [
+        prints(asked, KEY, SHOWN_BY_GRANT),
+        prints(
+            &["explain", STORE, "4", "1", BELOW],
+            KEY,
+            HIDDEN_BELOW_GRANT,
+        ),
+        refused(&["explain", STORE, "4", "9", EVENT], KEY, N1),
+        refused(&["explain", STORE, "99", "1", EVENT], KEY, N2),
+        refused(asked, "key-2\nand more", W1),
+    ];
+    assert_eq!(rt; first_wrong(&rt, path.as_str(), &cases)?, None);
+    remove(&rt, path.as_str())
 }
 
 /// Each refusal comes before those behind it.
 #[test]
 fn refusals_of_explain_in_order(rt: HostRuntime) -> io::Result<()> {
     let path = store_with(&rt, "refusals", &GRANTED)?;
-    let path = path.as_str();
-    for key in ["", "abd", "abc ", " abc"] {
-        assert!(rt; explains(&rt, path, key, ["99", "9", "a"], Status::Refused, K1)?);
-    }
-    assert!(rt; explains(&rt, path, "key-4", ["99", "9", "a"], Status::Refused, W1)?);
-    assert!(rt; explains(&rt, path, "abc", ["99", "9", "a"], Status::Refused, B1)?);
-    assert!(rt; explains(&rt, path, "abc", ["99", "9", "/a~2"], Status::Refused, B1)?);
-    assert!(rt; explains(&rt, path, "abc", ["99", "9", "/a"], Status::Refused, N1)?);
-    assert!(rt; explains(&rt, path, "abc", ["0", "0", "/a"], Status::Refused, N1)?);
-    assert!(rt; explains(&rt, path, "abc", ["99", "1", "/a"], Status::Refused, N2)?);
-    assert!(rt;
-        explains(
-            &rt,
-            path,
-            "abc",
-            ["4", "1", "/Incident"],
-            Status::Refused,
-            N3
-        )?
-    );
-    let run = run_program(&rt, &["explain", path, "4", "1", "/Incident/0"], b"")?;
-    assert!(rt; is(&run, Status::Refused, K1, ""));
-    remove(&rt, path)
+    let all_wrong = &["explain", STORE, "99", "9", "a"];
+    let cases = [
+        refused(all_wrong, "\nand more", K1),
+        refused(all_wrong, "abd\nand more", K1),
+        refused(all_wrong, "abc \nand more", K1),
+        refused(all_wrong, " abc\nand more", K1),
+        refused(all_wrong, "key-4\nand more", W1),
+        refused(all_wrong, KEY, B1),
+        refused(&["explain", STORE, "99", "9", "/a~2"], KEY, B1),
+        refused(&["explain", STORE, "99", "9", "/a"], KEY, N1),
+        refused(&["explain", STORE, "0", "0", "/a"], KEY, N1),
+        refused(&["explain", STORE, "99", "1", "/a"], KEY, N2),
+        refused(&["explain", STORE, "4", "1", "/Incident"], KEY, N3),
+        refused(&["explain", STORE, "4", "1", "/Incident/0"], "", K1),
+    ];
+    assert_eq!(rt; first_wrong(&rt, path.as_str(), &cases)?, None);
+    remove(&rt, path.as_str())
 }
 
-/// The store's faults come before the input's, and both before a refusal; then the output's.
+/// The store's faults come before the input's, and both before a refusal.
 #[test]
 fn faults_of_explain_in_order(rt: HostRuntime) -> io::Result<()> {
-    let alloc = rt.alloc();
-    let line = vec![in alloc; b'a'; INPUT_LIMIT + 1]?;
-    let run = run_program(&rt, &["explain", "", "99", "9", "a"], &line)?;
-    assert!(rt; is(&run, Status::Failed, "", "Failed\n"));
     let path = new_path(&rt, "faults")?;
+    let line = line_of(&rt, INPUT_LIMIT + 1)?;
+    let line = line.as_str();
+    let asked = &["explain", STORE, "99", "9", "a"];
+    let cases = [
+        tells(
+            &["explain", "", "99", "9", "a"],
+            line,
+            "Failed\n",
+            Status::Failed,
+        ),
+        tells(asked, line, "NotOurs\n", Status::Failed),
+        made(),
+        tells(asked, line, "ReadFailed\n", Status::Failed),
+    ];
+    assert_eq!(rt; first_wrong(&rt, path.as_str(), &cases)?, None);
+    remove(&rt, path.as_str())
+}
+
+/// The output's fault comes last.
+#[test]
+fn an_explanation_that_cannot_be_written(rt: HostRuntime) -> io::Result<()> {
+    let path = new_path(&rt, "unwritten")?;
     let path = path.as_str();
-    let words = ["explain", path, "99", "9", "a"];
-    let run = run_program(&rt, &words, &line)?;
-    assert!(rt; is(&run, Status::Failed, "", "NotOurs\n"));
-    assert!(rt;
-        ends(
-            &rt,
-            &["init", path, "Hub", ABC],
-            Status::Done,
-            "created\n",
-            ""
-        )?
-    );
-    let run = run_program(&rt, &words, &line)?;
-    assert!(rt; is(&run, Status::Failed, "", "ReadFailed\n"));
-    let mut owned = Vec::new(alloc);
-    for word in words {
-        owned.push(String::from_str(alloc, word)?)?;
-    }
-    let mut errors: Vec<u8> = Vec::new(alloc);
-    let mut input: &[u8] = b"abc\n";
-    let status = cli_run(&rt, &owned, &mut input, &mut Full, &mut errors);
+    assert_eq!(rt; first_wrong(&rt, path, &[made()])?, None);
+    let asked = ["explain", STORE, "99", "9", "a"];
+    let words = words_over(rt.alloc(), path, &asked)?;
+    let mut errors: Vec<u8> = Vec::new(rt.alloc());
+    let mut input = KEY.as_bytes();
+    let status = cli_run(&rt, &words, &mut input, &mut Full, &mut errors);
     assert!(rt; status == Status::Failed);
     assert!(rt; errors.as_slice() == "WriteFailed\n".as_bytes());
     remove(&rt, path)

@@ -2,6 +2,8 @@
 #![tactic(auto)]
 
 mod asking;
+#[cfg(test)]
+mod cases;
 mod cli;
 mod clock;
 mod commands;

@@ -5,7 +5,8 @@ ghost use Rattle.hub_cli.specs.Faults.{told_of_shelf, told_of_opening};
 use crate::fault::Fault;
 use hub_core::ShelfFault;
 use hub_store::{OpenFault, SqlShelf};
-use sqlite::{Connection, Error, ErrorCode, File, FileStore};
+use sqlite::{Alter, Connection, Error, ErrorCode, File, FileStore};
+use std::alloc::Global;
 
 /// The hub's tables in a file.
 pub type FileShelf = SqlShelf<FileStore<File>>;
@@ -43,12 +44,19 @@ pub fn connect(rt: &HostRuntime, path: &str) -> Result<Connection<FileStore<File
     }
 }
 
-/// The shelf over the file, whose tables are of the newest version.
-pub fn open_store(rt: &HostRuntime, path: &str) -> Result<FileShelf, Fault> {
-    match SqlShelf::open(rt.alloc(), connect(rt, path)?) {
+/// The shelf over a connection whose tables are of the newest version.
+fn open_over<S: Alter + Drop>(alloc: Global, conn: Connection<S>) -> Result<SqlShelf<S>, Fault>
+    requires { conn.in_transaction ≡ false }
+{
+    match SqlShelf::open(alloc, conn) {
         Ok(shelf) => Ok(shelf),
         Err((fault, _)) => Err(open_fault(fault)),
     }
+}
+
+/// The shelf over the file, whose tables are of the newest version.
+pub fn open_store(rt: &HostRuntime, path: &str) -> Result<FileShelf, Fault> {
+    open_over(rt.alloc(), connect(rt, path)?)
 }
 
 /// Gives up a shelf. What was committed stands in the log beside the file already, so a fault here loses nothing: the next

@@ -1,9 +1,9 @@
 //! The commands over a store in a file: what they print, what they tell, how they end, and which fault comes first.
 
+use crate::cases::{Case, STORE, first_wrong, prints, refused, tells};
 use crate::input::INPUT_LIMIT;
 use crate::status::Status;
 use crate::store::connect;
-use crate::tests::{Run, run_program};
 use std::io::ErrorKind;
 use std::net::{Ipv4Addr, TcpListener};
 use std::{env, fs, io, process};
@@ -34,62 +34,57 @@ pub fn remove(rt: &HostRuntime, path: &str) -> io::Result<()> {
     Ok(())
 }
 
-pub fn is(run: &Run, status: Status, output: &str, errors: &str) -> bool {
-    let is_printed = run.output.as_slice() == output.as_bytes();
-    let is_told = run.errors.as_slice() == errors.as_bytes();
-    run.status == status && is_printed && is_told
-}
-
-/// Whether these words, over no input, end so.
-pub fn ends(
-    rt: &HostRuntime,
-    words: &[&str],
-    status: Status,
-    output: &str,
-    errors: &str,
-) -> io::Result<bool> {
-    let run = run_program(rt, words, b"")?;
-    Ok(is(&run, status, output, errors))
+/// A store is made, with one organisation and its administrator, whose key is `abc`.
+pub fn made<'a>() -> Case<'a> {
+    prints(&["init", STORE, "Hub", ABC], "", "created\n")
 }
 
 #[test]
 fn a_store_is_made_once(rt: HostRuntime) -> io::Result<()> {
     let path = new_path(&rt, "made")?;
-    let words = ["init", path.as_str(), "Hub", ABC];
-    assert!(rt; ends(&rt, &words, Status::Done, "created\n", "")?);
-    assert!(rt; ends(&rt, &words, Status::Failed, "", "Failed\n")?);
-    let migrate = ["migrate", path.as_str()];
-    assert!(rt; ends(&rt, &migrate, Status::Done, "version 1\n", "")?);
+    let cases = [
+        made(),
+        tells(&["init", STORE, "Hub", ABC], "", "Failed\n", Status::Failed),
+        prints(&["migrate", STORE], "", "version 1\n"),
+    ];
+    assert_eq!(rt; first_wrong(&rt, path.as_str(), &cases)?, None);
     remove(&rt, path.as_str())
 }
 
 #[test]
 fn names_and_digests_come_before_the_store(rt: HostRuntime) -> io::Result<()> {
-    let words = ["init", "", "", ABC];
-    assert!(rt; ends(&rt, &words, Status::Refused, "", "B1\n")?);
-    let words = ["init", "", "a\tb", ABC];
-    assert!(rt; ends(&rt, &words, Status::Refused, "", "B1\n")?);
-    let words = ["init", "", "Hub", &ABC[1..]];
-    assert!(rt; ends(&rt, &words, Status::Refused, "", "B1\n")?);
-    let words = ["init", "", "Hub", "abc"];
-    assert!(rt; ends(&rt, &words, Status::Refused, "", "B1\n")?);
-    let words = ["init", "", "Hub", ABC];
-    assert!(rt; ends(&rt, &words, Status::Failed, "", "Failed\n")?);
+    let cut = ["init", "", "Hub", &ABC[1..]];
+    let cases = [
+        tells(&["init", "", "", ABC], "", "B1\n", Status::Refused),
+        tells(&["init", "", "a\tb", ABC], "", "B1\n", Status::Refused),
+        tells(&cut, "", "B1\n", Status::Refused),
+        tells(&["init", "", "Hub", "abc"], "", "B1\n", Status::Refused),
+        tells(&["init", "", "Hub", ABC], "", "Failed\n", Status::Failed),
+    ];
+    assert_eq!(rt; first_wrong(&rt, "", &cases)?, None);
     Ok(())
+}
+
+/// Another program's port, and its number.
+fn taken_port(rt: &HostRuntime) -> io::Result<(TcpListener, String)> {
+    let listener = TcpListener::bind(rt, (Ipv4Addr::LOCALHOST, 0))?;
+    let number = listener.local_addr()?.port();
+    let port = format!(in rt.alloc(); "{number}")?;
+    Ok((listener, port))
 }
 
 #[test]
 fn a_file_without_a_store(rt: HostRuntime) -> io::Result<()> {
     let path = new_path(&rt, "empty")?;
-    let path = path.as_str();
-    assert!(rt; ends(&rt, &["view", path, "1"], Status::Failed, "", "NotOurs\n")?);
-    assert!(rt; ends(&rt, &["migrate", path], Status::Failed, "", "NotOurs\n")?);
-    let listener = TcpListener::bind(&rt, (Ipv4Addr::LOCALHOST, 0))?;
-    let port = listener.local_addr()?.port();
-    let port = format!(in rt.alloc(); "{port}")?;
-    let serve = ["serve", path, port.as_str(), "0"];
-    assert!(rt; ends(&rt, &serve, Status::Failed, "", "NotOurs\n")?);
-    remove(&rt, path)
+    let (_listener, port) = taken_port(&rt)?;
+    let serve = ["serve", STORE, port.as_str(), "0"];
+    let cases = [
+        tells(&["view", STORE, "1"], "", "NotOurs\n", Status::Failed),
+        tells(&["migrate", STORE], "", "NotOurs\n", Status::Failed),
+        tells(&serve, "", "NotOurs\n", Status::Failed),
+    ];
+    assert_eq!(rt; first_wrong(&rt, path.as_str(), &cases)?, None);
+    remove(&rt, path.as_str())
 }
 
 /// Runs these statements over the file.
@@ -102,78 +97,85 @@ pub fn change(rt: &HostRuntime, path: &str, statements: &str) -> io::Result<()> 
     Err(io::Error::from(ErrorKind::InvalidInput))
 }
 
+/// A line of so many bytes.
+pub fn line_of(rt: &HostRuntime, count: usize) -> io::Result<String> {
+    let mut line = String::new(rt.alloc());
+    for _ in 0..count {
+        line.push('a')?;
+    }
+    Ok(line)
+}
+
 /// The tables' version is asked before the port, the input and what is asked for; and nobody changes them.
 #[test]
 fn a_store_of_another_version(rt: HostRuntime) -> io::Result<()> {
     let path = new_path(&rt, "version")?;
-    let path = path.as_str();
     change(
         &rt,
-        path,
+        path.as_str(),
         "CREATE TABLE hub (version INTEGER NOT NULL) STRICT; INSERT INTO hub (version) VALUES (9)",
     )?;
+    let (_listener, port) = taken_port(&rt)?;
+    let serve = ["serve", STORE, port.as_str(), "0"];
+    let line = line_of(&rt, INPUT_LIMIT + 1)?;
+    let line = line.as_str();
     let told = "WrongVersion\n";
-    let listener = TcpListener::bind(&rt, (Ipv4Addr::LOCALHOST, 0))?;
-    let port = listener.local_addr()?.port();
-    let port = format!(in rt.alloc(); "{port}")?;
-    let serve = ["serve", path, port.as_str(), "0"];
-    assert!(rt; ends(&rt, &serve, Status::Failed, "", told)?);
-    assert!(rt; ends(&rt, &["migrate", path], Status::Failed, "", told)?);
-    let line = vec![in rt.alloc(); b'a'; INPUT_LIMIT + 1]?;
-    let run = run_program(&rt, &["view", path, "1"], &line)?;
-    assert!(rt; is(&run, Status::Failed, "", told));
-    let run = run_program(&rt, &["explain", path, "1", "1", "a"], &line)?;
-    assert!(rt; is(&run, Status::Failed, "", told));
-    remove(&rt, path)
+    let cases = [
+        tells(&serve, "", told, Status::Failed),
+        tells(&["migrate", STORE], "", told, Status::Failed),
+        tells(&["view", STORE, "1"], line, told, Status::Failed),
+        tells(
+            &["explain", STORE, "1", "1", "a"],
+            line,
+            told,
+            Status::Failed,
+        ),
+    ];
+    assert_eq!(rt; first_wrong(&rt, path.as_str(), &cases)?, None);
+    remove(&rt, path.as_str())
 }
 
 #[test]
 fn a_port_that_is_taken(rt: HostRuntime) -> io::Result<()> {
     let path = new_path(&rt, "port")?;
-    let path = path.as_str();
-    let made = ["init", path, "Hub", ABC];
-    assert!(rt; ends(&rt, &made, Status::Done, "created\n", "")?);
-    let listener = TcpListener::bind(&rt, (Ipv4Addr::LOCALHOST, 0))?;
-    let number = listener.local_addr()?.port();
-    let port = format!(in rt.alloc(); "{number}")?;
-    let serve = ["serve", path, port.as_str(), "0"];
-    assert!(rt; ends(&rt, &serve, Status::Failed, "", "ListenFailed\n")?);
+    let (listener, port) = taken_port(&rt)?;
+    let serve = ["serve", STORE, port.as_str(), "0"];
+    let cases = [made(), tells(&serve, "", "ListenFailed\n", Status::Failed)];
+    assert_eq!(rt; first_wrong(&rt, path.as_str(), &cases)?, None);
     drop(listener);
-    let line = format!(in rt.alloc(); "listening {number}\n")?;
-    assert!(rt; ends(&rt, &serve, Status::Done, line.as_str(), "")?);
-    remove(&rt, path)
+    let line = format!(in rt.alloc(); "listening {port}\n")?;
+    let cases = [prints(&serve, "", line.as_str())];
+    assert_eq!(rt; first_wrong(&rt, path.as_str(), &cases)?, None);
+    remove(&rt, path.as_str())
 }
 
 #[test]
 fn views_by_the_first_line(rt: HostRuntime) -> io::Result<()> {
     let path = new_path(&rt, "view")?;
-    let path = path.as_str();
-    let made = ["init", path, "Hub", ABC];
-    assert!(rt; ends(&rt, &made, Status::Done, "created\n", "")?);
-    let view = ["view", path, "1"];
-    let run = run_program(&rt, &view, b"abc\nand more")?;
-    assert!(rt; is(&run, Status::Refused, N1, ""));
-    let run = run_program(&rt, &view, b"abc")?;
-    assert!(rt; is(&run, Status::Refused, N1, ""));
-    let run = run_program(&rt, &view, b"abc \n")?;
-    assert!(rt; is(&run, Status::Refused, K1, ""));
-    let run = run_program(&rt, &view, b"")?;
-    assert!(rt; is(&run, Status::Refused, K1, ""));
-    remove(&rt, path)
+    let view = &["view", STORE, "1"];
+    let cases = [
+        made(),
+        refused(view, "abc\nand more", N1),
+        refused(view, "abc", N1),
+        refused(view, "abc \n", K1),
+        refused(view, "", K1),
+    ];
+    assert_eq!(rt; first_wrong(&rt, path.as_str(), &cases)?, None);
+    remove(&rt, path.as_str())
 }
 
 #[test]
 fn first_lines_at_the_limit(rt: HostRuntime) -> io::Result<()> {
     let path = new_path(&rt, "line")?;
-    let path = path.as_str();
-    let made = ["init", path, "Hub", ABC];
-    assert!(rt; ends(&rt, &made, Status::Done, "created\n", "")?);
-    let view = ["view", path, "1"];
-    let mut line = vec![in rt.alloc(); b'a'; INPUT_LIMIT]?;
-    let run = run_program(&rt, &view, &line)?;
-    assert!(rt; is(&run, Status::Refused, K1, ""));
-    line.push(b'\n')?;
-    let run = run_program(&rt, &view, &line)?;
-    assert!(rt; is(&run, Status::Failed, "", "ReadFailed\n"));
-    remove(&rt, path)
+    let line = line_of(&rt, INPUT_LIMIT)?;
+    let line = line.as_str();
+    let ended = format!(in rt.alloc(); "{line}\n")?;
+    let view = &["view", STORE, "1"];
+    let cases = [
+        made(),
+        refused(view, line, K1),
+        tells(view, ended.as_str(), "ReadFailed\n", Status::Failed),
+    ];
+    assert_eq!(rt; first_wrong(&rt, path.as_str(), &cases)?, None);
+    remove(&rt, path.as_str())
 }

@@ -1,4 +1,5 @@
 //! `init`: a store with one organisation and its administrator.
+ghost use Rattle.std.specs.Prelude.{◌≡◌, false};
 
 use crate::fault::Fault;
 use crate::first_rows::put_first_rows;
@@ -7,8 +8,29 @@ use crate::output::print;
 use crate::status::Status;
 use crate::store::{close, connect, shelf_fault};
 use circle::name::Name;
+use hub_core::ShelfFault;
 use hub_store::SqlShelf;
+use sqlite::{Alter, Connection};
+use std::alloc::Global;
 use std::io::Write;
+
+/// Makes the tables over a connection that has none, and their first rows.
+fn make_over<S: Alter + Drop>(
+    alloc: Global,
+    conn: Connection<S>,
+    name: Name,
+    key: [u8; 32],
+) -> Result<SqlShelf<S>, ShelfFault>
+    requires { conn.in_transaction ≡ false }
+{
+    match SqlShelf::create(alloc, conn) {
+        Ok(mut shelf) => {
+            put_first_rows(alloc, &mut shelf, name, key)?;
+            Ok(shelf)
+        }
+        Err((fault, _)) => Err(fault),
+    }
+}
 
 /// Makes the store in a file that has no tables.
 pub fn run<W: Write>(
@@ -18,20 +40,15 @@ pub fn run<W: Write>(
     digest: &str,
     writer: &mut W,
 ) -> Result<Status, Fault> {
-    let alloc = rt.alloc();
-    let Some(name) = Name::of(alloc, name)? else {
+    let Some(name) = Name::of(rt.alloc(), name)? else {
         return Err(Fault::BadArgument);
     };
     let Some(key) = digest_of(digest) else {
         return Err(Fault::BadArgument);
     };
-    let mut shelf = match SqlShelf::create(alloc, connect(rt, store)?) {
-        Ok(shelf) => shelf,
-        Err((fault, _)) => return Err(shelf_fault(fault)),
-    };
-    if let Err(fault) = put_first_rows(alloc, &mut shelf, name, key) {
-        return Err(shelf_fault(fault));
+    match make_over(rt.alloc(), connect(rt, store)?, name, key) {
+        Ok(shelf) => close(shelf),
+        Err(fault) => return Err(shelf_fault(fault)),
     }
-    close(shelf);
     print(writer, "created\n")
 }

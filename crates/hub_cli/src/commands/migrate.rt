@@ -1,18 +1,28 @@
 //! `migrate`: a store's tables in their newest version.
+ghost use Rattle.std.specs.Prelude.{◌≡◌, false};
 
 use crate::fault::Fault;
 use crate::output::print;
 use crate::status::Status;
 use crate::store::{close, connect, open_fault};
 use hub_store::{NEWEST, SqlShelf};
+use sqlite::{Alter, Connection};
+use std::alloc::Global;
 use std::io::Write;
+
+/// The shelf over a connection, whose tables are brought to the newest version.
+fn migrate_over<S: Alter + Drop>(alloc: Global, conn: Connection<S>) -> Result<SqlShelf<S>, Fault>
+    requires { conn.in_transaction ≡ false }
+{
+    match SqlShelf::migrate(alloc, conn) {
+        Ok(shelf) => Ok(shelf),
+        Err((fault, _)) => Err(open_fault(fault)),
+    }
+}
 
 /// Brings the store to the newest version.
 pub fn run<W: Write>(rt: &HostRuntime, store: &str, writer: &mut W) -> Result<Status, Fault> {
-    match SqlShelf::migrate(rt.alloc(), connect(rt, store)?) {
-        Ok(shelf) => close(shelf),
-        Err((fault, _)) => return Err(open_fault(fault)),
-    }
+    close(migrate_over(rt.alloc(), connect(rt, store)?)?);
     let line = format!(in rt.alloc(); "version {NEWEST}\n")?;
     print(writer, line.as_str())
 }

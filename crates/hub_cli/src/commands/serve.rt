@@ -6,8 +6,26 @@ use crate::output::print;
 use crate::status::Status;
 use crate::store::{close, open_store};
 use hub::Hub;
+use hub_core::Shelf;
 use std::io::Write;
 use std::net::{Ipv4Addr, TcpListener};
+
+/// Serves so many connections on 127.0.0.1 for the hub over any shelf.
+fn serve_hub<Sh: Shelf, W: Write, E: Write>(
+    rt: &HostRuntime,
+    hub: &mut Hub<Sh>,
+    port: u16,
+    count: u32,
+    writer: &mut W,
+    errors: &mut E,
+) -> Result<Status, Fault> {
+    let Ok(listener) = TcpListener::bind(rt, (Ipv4Addr::LOCALHOST, port)) else {
+        return Err(Fault::ListenFailed);
+    };
+    let line = format!(in rt.alloc(); "listening {port}\n")?;
+    print(writer, line.as_str())?;
+    Ok(serve_count(rt.alloc(), &listener, count, hub, rt, errors))
+}
 
 /// Serves so many connections on 127.0.0.1.
 pub fn run<W: Write, E: Write>(
@@ -18,14 +36,8 @@ pub fn run<W: Write, E: Write>(
     writer: &mut W,
     errors: &mut E,
 ) -> Result<Status, Fault> {
-    let shelf = open_store(rt, store)?;
-    let Ok(listener) = TcpListener::bind(rt, (Ipv4Addr::LOCALHOST, port)) else {
-        return Err(Fault::ListenFailed);
-    };
-    let line = format!(in rt.alloc(); "listening {port}\n")?;
-    print(writer, line.as_str())?;
-    let mut hub = Hub::new(shelf);
-    let status = serve_count(rt.alloc(), &listener, count, &mut hub, rt, errors);
+    let mut hub = Hub::new(open_store(rt, store)?);
+    let outcome = serve_hub(rt, &mut hub, port, count, writer, errors);
     close(hub.into_shelf());
-    Ok(status)
+    outcome
 }

@@ -1,4 +1,4 @@
-use Rattle.std.proofs.Common.{◌≡◌, refl, arith, rules}
+use Rattle.std.proofs.Common.{◌≡◌, refl, arith}
 use Rattle.hub_cli.proofs.Served.{none_asked, runs_on}
 use Rattle.hub_cli.proofs.listen.serve_count.Goals as goal
 
