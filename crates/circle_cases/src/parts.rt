@@ -29,8 +29,8 @@ fn name(alloc: Global, text: &str) -> Result<&'static str, AllocError> {
     match Name::of(alloc, text)? {
         Some(name) => {
             let copy = name.clone()?;
-            let is_kept = name == copy && name.as_str() == text;
-            Ok(as_told(is_kept && copy.into_string().as_str() == text))
+            let is_same = name == copy;
+            Ok(as_told(is_same && name.as_str() == text, copy.into_string(), text))
         }
         None => Ok("refused"),
     }
@@ -40,28 +40,41 @@ fn releasability(alloc: Global, text: &str) -> Result<&'static str, AllocError> 
     match Releasability::of(alloc, text)? {
         Some(found) => {
             let copy = found.clone()?;
-            let is_kept = found == copy && found.as_str() == text;
-            Ok(as_told(is_kept && copy.into_string().as_str() == text))
+            let is_same = found == copy;
+            Ok(as_told(is_same && found.as_str() == text, copy.into_string(), text))
         }
         None => Ok("refused"),
     }
 }
 
-fn as_told(is_kept: bool) -> &'static str {
-    if is_kept { "kept" } else { "changed" }
+/// Whether the text is kept in the copy that was given back, too.
+fn as_told(is_kept: bool, copy: String, text: &str) -> &'static str {
+    if is_kept && copy.as_str() == text {
+        "kept"
+    } else {
+        "changed"
+    }
 }
 
-/// Whether two texts are the same, and each its own copy.
+/// Whether the text is its own copy, and keeps what it was made of.
+fn keeps(text: &Text, copy: Text, made_of: &str) -> bool {
+    let is_same = *text == copy;
+    is_same && text.as_str() == made_of && as_told(true, copy.into_string(), made_of) == "kept"
+}
+
+/// Whether two texts are the same, and the first its own copy.
 fn texts(alloc: Global, one: &str, other: &str) -> Result<&'static str, AllocError> {
     let text = Text::of(alloc, one)?;
-    let copy = text.clone()?;
-    if text != copy || text.as_str() != one || copy.into_string().as_str() != one {
-        return Ok("changed");
-    }
-    if text == Text::of(alloc, other)? {
-        Ok("the same")
-    } else {
-        Ok("different")
+    let is_kept = keeps(&text, text.clone()?, one);
+    let is_same = text == Text::of(alloc, other)?;
+    Ok(compared(is_kept, is_same))
+}
+
+fn compared(is_kept: bool, is_same: bool) -> &'static str {
+    match (is_kept, is_same) {
+        (false, _) => "changed",
+        (true, true) => "the same",
+        (true, false) => "different",
     }
 }
 

@@ -9,6 +9,37 @@ use circle::releasability::Releasability;
 use circle_rows::DirectoryRows;
 use std::alloc::{AllocError, Global};
 
+/// The organisations, not in their order.
+const ORGS: &[(u32, &str)] = &[(3, "Mem"), (1, "Hub"), (5, "Cli"), (2, "Src"), (4, "Far")];
+
+const COMMUNITIES: &[(u32, &str)] = &[(2, "south"), (3, "east"), (1, "north")];
+
+const PERSONS: &[(u32, u32, Role)] = &[
+    (2, 2, Role::Coordinator),
+    (3, 3, Role::Reader),
+    (1, 1, Role::Administrator),
+];
+
+const CLIENTS: &[(u32, u32)] = &[(3, 5), (4, 5), (2, 5), (2, 4)];
+
+const MEMBERSHIPS: &[(u32, u32)] = &[(2, 4), (1, 3), (3, 5), (1, 2)];
+
+const CONNECTIONS: &[(u32, u32)] = &[(2, 3), (1, 2), (1, 3)];
+
+const GROUP_MEMBERS: &[(u32, u32, bool)] = &[
+    (2, 4, false),
+    (1, 3, false),
+    (2, 3, true),
+    (1, 2, true),
+    (1, 4, true),
+];
+
+const ARRANGEMENTS: &[(u32, u32, Handling)] = &[
+    (3, 2, Handling::Red),
+    (2, 3, Handling::Green),
+    (2, 4, Handling::Strict),
+];
+
 /// A name; where the text is none, an edit that changes nothing stands in its place.
 fn put_org(alloc: Global, number: u32, name: &str) -> Result<RowEdit, AllocError> {
     match Name::of(alloc, name)? {
@@ -55,25 +86,19 @@ fn put_group(alloc: Global, number: u32, owner: u32, name: &str) -> Result<RowEd
     }
 }
 
-/// The organisations and communities, not in their order.
 fn push_named(edits: &mut Vec<RowEdit>, alloc: Global) -> Result<(), AllocError> {
-    for (number, name) in [(3, "Mem"), (1, "Hub"), (5, "Cli"), (2, "Src"), (4, "Far")] {
-        edits.push(put_org(alloc, number, name)?)?;
+    for (number, name) in ORGS {
+        edits.push(put_org(alloc, *number, name)?)?;
     }
-    for (number, name) in [(2, "south"), (3, "east"), (1, "north")] {
-        edits.push(put_community(alloc, number, name)?)?;
+    for (number, name) in COMMUNITIES {
+        edits.push(put_community(alloc, *number, name)?)?;
     }
     Ok(())
 }
 
-/// The persons, not in their order.
 fn push_persons(edits: &mut Vec<RowEdit>, alloc: Global) -> Result<(), AllocError> {
-    for (number, org, role) in [
-        (2, 2, Role::Coordinator),
-        (3, 3, Role::Reader),
-        (1, 1, Role::Administrator),
-    ] {
-        edits.push(put_person(alloc, number, org, role)?)?;
+    for (number, org, role) in PERSONS {
+        edits.push(put_person(alloc, *number, *org, *role)?)?;
     }
     Ok(())
 }
@@ -98,36 +123,25 @@ fn push_changes(edits: &mut Vec<RowEdit>) -> Result<(), AllocError> {
     Ok(())
 }
 
-/// The pairs, not in their order.
 fn push_pairs(edits: &mut Vec<RowEdit>) -> Result<(), AllocError> {
-    for (org, client) in [(3, 5), (4, 5), (2, 5), (2, 4)] {
+    for &(org, client) in CLIENTS {
         edits.push(RowEdit::PutClient(Client { org, client }))?;
     }
-    for (community, org) in [(2, 4), (1, 3), (3, 5), (1, 2)] {
+    for &(community, org) in MEMBERSHIPS {
         edits.push(RowEdit::PutMembership(Membership { community, org }))?;
     }
-    for (low, high) in [(2, 3), (1, 2), (1, 3)] {
+    for &(low, high) in CONNECTIONS {
         edits.push(RowEdit::PutConnection(Connection { low, high }))?;
     }
     Ok(())
 }
 
-/// The rows with a value beside the pair, not in their order.
+/// The rows with a value beside the pair.
 fn push_valued(edits: &mut Vec<RowEdit>) -> Result<(), AllocError> {
-    for (group, org, extend) in [
-        (2, 4, false),
-        (1, 3, false),
-        (2, 3, true),
-        (1, 2, true),
-        (1, 4, true),
-    ] {
+    for &(group, org, extend) in GROUP_MEMBERS {
         edits.push(RowEdit::PutGroupMember(GroupMember { group, org, extend }))?;
     }
-    for (source, org, handling) in [
-        (3, 2, Handling::Red),
-        (2, 3, Handling::Green),
-        (2, 4, Handling::Strict),
-    ] {
+    for &(source, org, handling) in ARRANGEMENTS {
         edits.push(RowEdit::PutArrangement(Arrangement {
             source,
             org,

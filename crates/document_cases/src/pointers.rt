@@ -57,25 +57,11 @@ pub fn pointer(alloc: Global, about: &str) -> Result<String, AllocError> {
     read_back(alloc, value.as_str().unwrap_or("no text"))
 }
 
-fn place_of(part: &Value) -> usize {
-    match part.as_u64() {
-        Some(place) => usize::try_from(place).unwrap_or(0),
-        None => 0,
-    }
-}
-
-/// The path with one token more.
-fn below(alloc: Global, path: &Path, part: &Value) -> Result<Path, AllocError> {
-    match part.as_str() {
-        Some(name) => path.member(alloc, name),
-        None => path.index(alloc, place_of(part)),
-    }
-}
-
+/// The path of these tokens.
 fn path_to(alloc: Global, parts: &[Value]) -> Result<Path, AllocError> {
     let mut path = Path::root(alloc);
     for part in parts {
-        path = below(alloc, &path, part)?;
+        path = path.member(alloc, part.as_str().unwrap_or("no text"))?;
     }
     Ok(path)
 }

@@ -4,7 +4,7 @@ use Rattle.std.specs.List.{AllByRecursion}
 use Rattle.std.specs.List.Sorted.{IsStrictlySortedBy}
 use Rattle.std.specs.Map.{keys_of}
 use Rattle.std.proofs.lemmas.Bool.Decides.{nat_tests}
-use Rattle.iodef_tree.specs.Text.{Bytes, bytes_lt}
+use Rattle.json_pointer.specs.Text.{Bytes, bytes_lt}
 use Rattle.iodef_tree.specs.Tree.{Forest, Body, holds, says, Bodies, one, many, in_front, elements}
 use Rattle.iodef_tree.specs.Sound.{SiblingPlace, may_stand, IsOrderedBehind}
 use Rattle.iodef_tree.specs.FitValues.{IsBodyOrdered, AreBodiesOrdered}

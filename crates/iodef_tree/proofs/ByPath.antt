@@ -4,7 +4,7 @@ use Rattle.std.specs.Option.{option_map_or}
 use Rattle.std.specs.List.{AllByRecursion, slice_get}
 use Rattle.std.proofs.lemmas.Bool.{and_left, and_right, cond-true, cond-false, cond_both}
 use Rattle.std.proofs.lemmas.List.Folds.{list_any-append}
-use Rattle.iodef_tree.specs.Text.{Bytes, Tokens, same_path, is_root, is_prefix}
+use Rattle.json_pointer.specs.Text.{Bytes, Tokens, same_path, is_root, is_prefix}
 use Rattle.iodef_tree.specs.Tree.{Content, Forest, end, leaf, branch, Body, Bodies, elements, member_front, steps, kind_of}
 use Rattle.iodef_tree.specs.Paths.{LocatedLine, is_class_kind, is_class, placed, located_after, located, has_class}
 use Rattle.iodef_tree.specs.Walk.{walk}

@@ -2,7 +2,7 @@
 use Rattle.std.proofs.Common.{◌≡◌, ℕ, suc, List, [], ◌∷◌, ◌++◌, map, filter, refl, ◌∙◌, ap, append_assoc, cond, arith}
 use Rattle.std.proofs.lemmas.List.{map-append}
 use Rattle.std.proofs.lemmas.List.Elements.{filter-append}
-use Rattle.iodef_tree.specs.Text.{Tokens}
+use Rattle.json_pointer.specs.Text.{Tokens}
 use Rattle.iodef_tree.specs.Tree.{Content, text, value, Forest, end, leaf, branch, steps, kind_of, lines}
 use Rattle.iodef_tree.specs.Paths.{LocatedLine, is_class_kind, is_class, class_paths, classes_of}
 use Rattle.iodef_tree.specs.Sound.{IsSound}

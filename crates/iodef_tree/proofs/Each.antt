@@ -5,7 +5,7 @@ use Rattle.std.specs.Cmp.Lexicographic.{slice_cmp}
 use Rattle.serde_json.specs.Data as json
 use Rattle.serde_json.specs.Data.{Data, put}
 use Rattle.serde_json.specs.Find.{get_member}
-use Rattle.iodef_tree.specs.Text.{Bytes}
+use Rattle.json_pointer.specs.Text.{Bytes}
 
 pub record IsEach (P : Data → Type 0) (Q : json.Members → Type 0) : Type 0 where
   pub made : (k : Bytes) (d : Data) (ms : json.Members) → P d → Q ms → Q (json.member k d ms)

@@ -5,7 +5,7 @@ use Rattle.std.proofs.lemmas.Bool.{and_parts, and_from}
 use Rattle.iodef_tree.specs.Tree.{Forest, Body, Bodies, one, many}
 use Rattle.iodef_tree.specs.View.{item_step, member_step, object_step, forest, bodies, body}
 use Rattle.iodef_tree.specs.Filled.{has_some, item_filled, member_filled, object_filled, is_object_filled, is_member_filled, is_item_filled, IsFilled, IsMemberFilled, IsItemFilled}
-use Rattle.iodef_tree.specs.declared.text.Text.{Text as Bytes}
+use Rattle.json_pointer.specs.declared.text.Text.{Text as Bytes}
 use Rattle.iodef_tree.specs.declared.object.Object.{Object, roll-Object, the_lemmas}
 use Rattle.iodef_tree.specs.declared.object.Member.{Member}
 use Rattle.iodef_tree.specs.declared.object.Member.TheVariants.{One, Many}

@@ -1,9 +1,9 @@
 -- A member in front of others: what is made of it, joined with what is made of those.
 use Rattle.std.proofs.Common.{◌≡◌, ℕ, suc, ◌+◌, ◌<◌, max, List, [], ◌∷◌, ◌++◌, length, get_or, drop, refl, ◌∙◌, ap, append_assoc, arith}
-use Rattle.iodef_tree.specs.Text.{Bytes}
+use Rattle.json_pointer.specs.Text.{Bytes}
 use Rattle.iodef_tree.specs.Tree.{Forest, end, leaf, branch, Body, Bodies, elements, member_front, leaf_line, lines, height}
 use Rattle.iodef_tree.specs.View.{bodies, members_forest}
-use Rattle.iodef_tree.specs.declared.text.Text.{Text}
+use Rattle.json_pointer.specs.declared.text.Text.{Text}
 use Rattle.iodef_tree.specs.declared.object.Member.{Member}
 use Rattle.iodef_tree.proofs.Members.{members-next}
 

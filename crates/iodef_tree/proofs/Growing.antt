@@ -4,13 +4,13 @@ use Rattle.std.specs.List.{AllByRecursion}
 use Rattle.std.proofs.lemmas.List.{map-append}
 use Rattle.std.proofs.lemmas.Bool.{eq-eqb}
 use Rattle.std.proofs.lemmas.Grind.{common_steps}
-use Rattle.iodef_tree.specs.Text.{Bytes}
+use Rattle.json_pointer.specs.Text.{Bytes}
 use Rattle.iodef_tree.specs.Tree.{Forest, end, leaf, branch, Body, Bodies, many, in_front, elements, member_front, place_of, lines}
 use Rattle.iodef_tree.specs.Sound.{SiblingPlace}
 use Rattle.iodef_tree.specs.View.{forest_of_members, body, bodies, named, members_forest}
 use Rattle.iodef_tree.specs.Built.{is_numbered, IsNumberedBehind, IsBodyNumbered, last_place, IsGrown, Grows}
 use Rattle.iodef_tree.specs.Filled.{has_some, IsMemberFilled, IsItemFilled}
-use Rattle.iodef_tree.specs.declared.text.Text.{Text}
+use Rattle.json_pointer.specs.declared.text.Text.{Text}
 use Rattle.iodef_tree.specs.declared.object.Item.{Item}
 use Rattle.iodef_tree.specs.declared.object.Member.{Member}
 use Rattle.iodef_tree.specs.declared.object.Member.TheVariants.{One, Many}

@@ -8,7 +8,7 @@ use Rattle.serde_json.specs.Written.{compact_text}
 use Rattle.serde_json.proofs.Views.{get_member-put}
 use Rattle.iodef_tree.specs.Json.{zeroth, id_in, incident_id}
 use Rattle.iodef_tree.specs.Reading.{reading, are_incidents, lacking, documents}
-use Rattle.iodef_tree.specs.Text.{Bytes}
+use Rattle.json_pointer.specs.Text.{Bytes}
 use Rattle.iodef_tree.specs.declared.fault.Required.{Required}
 use Rattle.iodef_tree.specs.declared.line.Line.{Line}
 use Rattle.iodef_tree.proofs.Passed.{passed}

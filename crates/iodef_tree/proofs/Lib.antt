@@ -1,6 +1,4 @@
 pub mod Views
-pub mod Characters
-pub mod Pointers
 pub mod Outlines
 mod Growing
 pub mod Sounds
@@ -32,8 +30,7 @@ pub mod Onward
 pub mod Members
 pub mod ClassesBelow
 pub mod Fronts
-pub mod Unescaping
-pub mod Inverse
+pub use Rattle.json_pointer.proofs.Inverse
 pub mod Seeking
 pub mod Counts
 pub mod FromValues

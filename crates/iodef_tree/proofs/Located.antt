@@ -5,7 +5,7 @@ use Rattle.std.specs.List.{before_first, prefix_len}
 use Rattle.std.proofs.lemmas.Bool.{and_parts, and_left, and_right, and_from, false≢true, eqb-true, eq-eqb, ne_eqb}
 use Rattle.std.proofs.lemmas.List.Sums.{sum_by-cons}
 use Rattle.std.proofs.lemmas.Grind.{common_steps}
-use Rattle.iodef_tree.specs.Text.{Bytes, Tokens, bytes_lt}
+use Rattle.json_pointer.specs.Text.{Bytes, Tokens, bytes_lt}
 use Rattle.iodef_tree.specs.Tree.{Forest, end, leaf, branch, lines, leaf_line, class_line}
 use Rattle.iodef_tree.specs.Paths.{LocatedLine, is_one_less_deep, parent_path, is_like, place_among, entry_at, placed, located_after, located}
 use Rattle.iodef_tree.specs.Sound.{SiblingPlace, may_stand, may_stand_behind, may_stand_first, IsOrderedBehind, IsSound}

@@ -7,7 +7,7 @@ use Rattle.json.specs.Print.{quoted}
 use Rattle.serde_json.specs.Data as json
 use Rattle.serde_json.specs.Data.{Data}
 use Rattle.serde_json.specs.Written.{comma_if, compact_text, items_text, members_text}
-use Rattle.iodef_tree.specs.Text.{Bytes}
+use Rattle.json_pointer.specs.Text.{Bytes}
 use Rattle.iodef_tree.specs.Texts.{may_be_value, may_be_text, HasTexts}
 use Rattle.iodef_tree.specs.Tree.{Content, Forest, end, leaf, branch, kind_of, text_of, leaf_line, class_line, lines}
 use Rattle.iodef_tree.specs.Sound.{SiblingPlace, may_stand, IsOrderedBehind, IsSound}

@@ -13,13 +13,13 @@ use Rattle.iodef_tree.specs.FitValues.{IsBodyOrdered, AreBodiesOrdered}
 use Rattle.iodef_tree.specs.Json.{zeroth, id_in, incident_id}
 use Rattle.iodef_tree.specs.SoundParts.{IsKept, IsBodyKept, AreKept}
 use Rattle.iodef_tree.specs.Sound.{SiblingPlace, IsOrderedBehind, IsSound}
-use Rattle.iodef_tree.specs.Text.{Bytes}
+use Rattle.json_pointer.specs.Text.{Bytes}
 use Rattle.iodef_tree.specs.Texts.{HasTexts}
 use Rattle.iodef_tree.specs.Tree.{Forest, Body, Bodies, one, many, in_front, lines}
 use Rattle.iodef_tree.specs.View.{forest, bodies, named, members_forest}
 use Rattle.iodef_tree.specs.Written.{members_of, bodies_data}
 use Rattle.iodef_tree.specs.declared.line.Line.{Line}
-use Rattle.iodef_tree.specs.declared.text.Text.{Text}
+use Rattle.json_pointer.specs.declared.text.Text.{Text}
 use Rattle.iodef_tree.specs.declared.object.Member.{Member}
 use Rattle.iodef_tree.specs.declared.object.Object.{Object}
 use Rattle.iodef_tree.proofs.Data.{members-each, no-items, member-data}

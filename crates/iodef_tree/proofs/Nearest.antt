@@ -3,7 +3,7 @@ use Rattle.std.proofs.Common.{◌≡◌, ℕ, suc, List, [], ◌∷◌, ◌++◌
 use Rattle.std.specs.List.{AllByRecursion}
 use Rattle.std.proofs.lemmas.Bool.{and_parts, and_right, cond-false, cond_both, or_left, or_right}
 use Rattle.std.proofs.lemmas.List.Folds.{list_any-append}
-use Rattle.iodef_tree.specs.Text.{Bytes, Tokens, same_path, is_root, is_prefix, is_under}
+use Rattle.json_pointer.specs.Text.{Bytes, Tokens, same_path, is_root, is_prefix, is_under}
 use Rattle.iodef_tree.specs.Tree.{Forest, end, leaf, branch, steps, lines}
 use Rattle.iodef_tree.specs.Paths.{LocatedLine, is_class, located, has_class, below}
 use Rattle.iodef_tree.specs.Lookup.{past, class_at}

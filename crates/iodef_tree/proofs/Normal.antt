@@ -20,7 +20,7 @@ use Rattle.serde_json.specs.Read.{float_of, number_from, number_of, of_json, of_
 use Rattle.serde_json.specs.Written.{number_text, outline, items_outline, members_outline, has_float, items_have_float, members_have_float, compact_text}
 use Rattle.serde_json.proofs.Numbers.{number_of-decimal, number_of-negative}
 use Rattle.serde_json.proofs.Texts.{print-outline}
-use Rattle.iodef_tree.specs.Text.{Bytes, bytes_lt}
+use Rattle.json_pointer.specs.Text.{Bytes, bytes_lt}
 use Rattle.iodef_tree.specs.Written.{put_all}
 use Rattle.iodef_tree.proofs.Data.{AreAfter, Ascend, after-trans, put-ascending}
 use Rattle.iodef_tree.proofs.Each.{IsEach, put-each}

@@ -2,7 +2,7 @@
 use Rattle.std.proofs.Common.{◌≡◌, ℕ, zero, suc, ◌≤◌, List, [], ◌∷◌, ◌++◌, true, ◌==◌, refl, sym, ◌∙◌, ap, subst, arith, true≢false, Option, Some, None, is_some, bytes_eq}
 use Rattle.std.specs.List.{AllByRecursion}
 use Rattle.std.proofs.lemmas.Bool.{and_parts, false≢true, eqb-true}
-use Rattle.iodef_tree.specs.Text.{Bytes, bytes_lt}
+use Rattle.json_pointer.specs.Text.{Bytes, bytes_lt}
 use Rattle.iodef_tree.specs.Tree.{Content, Leaf, Forest, end, leaf, branch, kind_of, text_of, leaf_line, class_line, lines}
 use Rattle.iodef_tree.specs.Sound.{SiblingPlace, may_stand, IsOrderedBehind, IsSound}
 use Rattle.iodef_tree.specs.declared.line.Line.{Line}

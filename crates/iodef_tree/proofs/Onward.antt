@@ -2,7 +2,7 @@
 use Rattle.std.proofs.Common.{◌≡◌, List, [], ◌∷◌, ◌++◌, Bool, true, false, cond, ◌&&◌, ◌||◌, refl, sym, ◌∙◌, ap, subst, append-nil, true≢false, Bor, ℕ, suc, append_assoc, Option, Some, None, is_some, option_map, IfSome, arith}
 use Rattle.std.specs.Option.{option_map_or}
 use Rattle.std.proofs.lemmas.Bool.{and_right, cond-true, cond-false}
-use Rattle.iodef_tree.specs.Text.{Bytes, Tokens, same_path, is_root, is_under}
+use Rattle.json_pointer.specs.Text.{Bytes, Tokens, same_path, is_root, is_under}
 use Rattle.iodef_tree.specs.Tree.{Forest, end, leaf, branch, steps, lines}
 use Rattle.iodef_tree.specs.Paths.{LocatedLine, is_class, located, has_class, below}
 use Rattle.iodef_tree.specs.Sound.{IsSound}

@@ -3,13 +3,12 @@ use Rattle.std.proofs.Common.{◌≡◌, ℕ, ◌^◌, ◌<◌, [], ◌∷◌, �
 use Rattle.std.specs.Cmp.Lexicographic.{slice_cmp}
 use Rattle.std.proofs.lemmas.Bool.{and_parts, false≢true}
 pub use Rattle.std.proofs.lemmas.Bool.{false_from_ne_true as is_false}
-use Rattle.std.specs.List.{starts_with}
 use Rattle.std.proofs.lemmas.Cmp.{nat_list_cmp_total}
 use Rattle.std.proofs.lemmas.Fmt.{decimal_injective}
 use Rattle.std.proofs.lemmas.Map.Text.{is_eq-slice_cmp}
 use Rattle.std.proofs.lemmas.Slice.Eq.{bytes_eq-Decides}
 use Rattle.std.proofs.lemmas.Grind.{common_steps}
-use Rattle.iodef_tree.specs.Text.{Bytes, Tokens, bytes_lt, same_path, is_prefix, is_under}
+use Rattle.json_pointer.specs.Text.{Bytes, Tokens, bytes_lt, same_path, is_prefix, is_under}
 use Rattle.iodef_tree.specs.Tree.{steps}
 
 -- ---- texts
@@ -98,8 +97,3 @@ is_under-steps p name place z = grind arith
 -- it is not its parent
 pub same_path-longer : (p : Tokens) (name : Bytes) (place : Option ℕ) (z : Tokens) → same_path p (p ++ (steps name place ++ z)) ≡ false
 same_path-longer p name place z = grind (arith, common_steps, bytes_eq-refl)
-
-pub starts_with-is_prefix : (p q : Tokens) → starts_with bytes_eq p q ≡ is_prefix q p
-starts_with-is_prefix p [] = refl
-starts_with-is_prefix [] (x ∷ q) = refl
-starts_with-is_prefix (y ∷ p) (x ∷ q) = ap (λ b. bytes_eq x y && b) (starts_with-is_prefix p q)

@@ -7,7 +7,7 @@ use Rattle.serde_json.specs.Data.{Data}
 use Rattle.serde_json.specs.Find.{get_member, as_array, as_object}
 use Rattle.serde_json.specs.Read.{read}
 use Rattle.iodef_tree.specs.Reading.{or_fault, parsed, are_incidents, if_incidents, incidents_of, all_complete, all_fit, if_short, documents, reading}
-use Rattle.iodef_tree.specs.Text.{Bytes}
+use Rattle.json_pointer.specs.Text.{Bytes}
 use Rattle.iodef_tree.specs.declared.TheConstants.{LINE_LIMIT}
 use Rattle.iodef_tree.specs.declared.fault.ReadFault.{ReadFault}
 use Rattle.iodef_tree.specs.declared.fault.ReadFault.TheVariants.{NotDocument, TooManyLines}

@@ -3,9 +3,8 @@ use Rattle.iodef_tree.proofs.Accepted.{lines-outline}
 use Rattle.iodef_tree.proofs.Apart.{sound-apart}
 use Rattle.iodef_tree.proofs.Blocks.{blocks-located}
 use Rattle.iodef_tree.proofs.Distinct.{paths-distinct, class_paths-distinct}
-use Rattle.iodef_tree.proofs.Inverse.{pointer_tokens-pointer_text, pointer_text-pointer_tokens}
 use Rattle.iodef_tree.proofs.Located.{located-lines}
 use Rattle.iodef_tree.proofs.Nearest.{nearest-located}
 use Rattle.iodef_tree.proofs.OneToOne.{one-to-one}
 
-pub ruleset laws = (lines-outline, sound-apart, blocks-located, paths-distinct, class_paths-distinct, pointer_tokens-pointer_text, pointer_text-pointer_tokens, located-lines, nearest-located, one-to-one)
+pub ruleset laws = (lines-outline, sound-apart, blocks-located, paths-distinct, class_paths-distinct, located-lines, nearest-located, one-to-one)

@@ -16,7 +16,7 @@ use Rattle.iodef_tree.specs.FitValues.{IsBodyOrdered, AreBodiesOrdered, AreFit}
 use Rattle.iodef_tree.specs.Json.{data_of}
 use Rattle.iodef_tree.specs.Reading.{◌>>=◌, or_fault, unless, parsed, all_objects, are_incidents, if_incidents, incidents_of, lacking, all_complete, all_fit, incident_at, with_incident, document_of, if_short, documents, reading}
 use Rattle.iodef_tree.specs.Sound.{IsOrdered}
-use Rattle.iodef_tree.specs.Text.{Bytes}
+use Rattle.json_pointer.specs.Text.{Bytes}
 use Rattle.iodef_tree.specs.Tree.{Body, Bodies, member_front, lines}
 use Rattle.iodef_tree.specs.Values.{nodes, item_nodes, member_nodes, one_or_many, forest_of_data, body_of_data, elements_of_data, items_of_data, bodies_of_data}
 use Rattle.iodef_tree.specs.View.{forest_of_members}

@@ -2,7 +2,7 @@
 use Rattle.std.proofs.Common.{◌≡◌, List, [], ◌∷◌, ◌++◌, Bool, ◌||◌, Some, None, refl, arith}
 use Rattle.std.proofs.lemmas.Grind.{common_steps}
 use Rattle.iodef_tree.specs.FitValues.{any_at}
-use Rattle.iodef_tree.specs.Text.{Bytes, Tokens}
+use Rattle.json_pointer.specs.Text.{Bytes, Tokens}
 use Rattle.iodef_tree.specs.Values.{Surrounded, Node, beneath, first_at}
 
 pub first_at-none : (f : Surrounded → Bool) (t : Bytes) (a b : List Node) → first_at f a ≡ None → first_at f (beneath t a ++ b) ≡ first_at f b

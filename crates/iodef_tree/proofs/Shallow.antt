@@ -3,7 +3,7 @@ use Rattle.std.proofs.Common.{◌≡◌, ℕ, suc, ◌+◌, ◌≤◌, max, List
 use Rattle.serde_json.specs.Data as json
 use Rattle.serde_json.specs.Data.{Data}
 use Rattle.serde_json.specs.Find.{as_array}
-use Rattle.iodef_tree.specs.Text.{Bytes}
+use Rattle.json_pointer.specs.Text.{Bytes}
 use Rattle.iodef_tree.specs.Tree.{Forest, Body, holds, says, Bodies, one, many, elements, member_front, height}
 use Rattle.iodef_tree.specs.Values.{Node, node, nodes, item_nodes, member_nodes, one_or_many, bodies_of_data, body_of_data, elements_of_data, items_of_data, forest_of_data}
 use Rattle.iodef_tree.specs.declared.TheConstants.{DEPTH_LIMIT}

@@ -2,7 +2,7 @@
 use Rattle.std.proofs.Common.{◌≡◌, ℕ, suc, List, [], ◌∷◌, ◌++◌, Bool, true, false, map, filter, refl, sym, ◌∙◌, ap, subst, append-nil, append_assoc, Option}
 use Rattle.std.specs.List.{AllByRecursion}
 use Rattle.std.proofs.lemmas.Bool.{cond-true, cond-false}
-use Rattle.iodef_tree.specs.Text.{Bytes, Tokens}
+use Rattle.json_pointer.specs.Text.{Bytes, Tokens}
 use Rattle.iodef_tree.specs.Tree.{Forest, end, leaf, branch, steps}
 use Rattle.iodef_tree.specs.Paths.{LocatedLine}
 use Rattle.iodef_tree.specs.Walk.{walk}

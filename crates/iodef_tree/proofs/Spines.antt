@@ -4,7 +4,7 @@ use Rattle.std.specs.List.{AllByRecursion}
 use Rattle.std.proofs.lemmas.Bool.{and_parts}
 use Rattle.std.proofs.lemmas.List.{append-nil, length_push}
 use Rattle.std.proofs.lemmas.Grind.{common_steps}
-use Rattle.iodef_tree.specs.Text.{Bytes}
+use Rattle.json_pointer.specs.Text.{Bytes}
 use Rattle.iodef_tree.specs.Texts.{may_be_text, is_empty_text}
 use Rattle.iodef_tree.specs.Tree.{Content, text, value, Forest, end, Body, holds, says, in_front, place_of, class_line, kind_of, text_of, lines}
 use Rattle.iodef_tree.specs.Sound.{IsSound}

@@ -15,9 +15,7 @@ use Rattle.iodef_tree.proofs.Fitness.{plain_at_once}
 use Rattle.iodef_tree.proofs.Meaning.{text-is, data-is}
 use Rattle.iodef_tree.proofs.MembersByName.{id-found, kept-ordered}
 use Rattle.iodef_tree.proofs.NoFloat.{kept-whole, value-no_float}
-use Rattle.iodef_tree.proofs.Order.{starts_with-is_prefix}
 use Rattle.iodef_tree.proofs.Outlines.{no-outline, back-upto, upto, outline-back}
-use Rattle.iodef_tree.proofs.Pointers.{escaped-encode}
 
 pub ruleset from_outline_steps = (common_steps, no-outline, back-upto, upto, outline-back, take_all)
 
@@ -30,10 +28,6 @@ pub ruleset value_steps = (common_steps, data-is, view-Object)
 pub ruleset classes_steps = (common_steps, classes-lines)
 
 pub ruleset has_class_steps = (common_steps, eqb-true, has_class-root, nil_from_length)
-
-pub ruleset is_prefix_of_steps = (common_steps, starts_with-is_prefix)
-
-pub ruleset push_escaped_char_steps = (common_steps, escaped-encode)
 
 pub ruleset are_incidents_steps = (common_steps, nat_tests, items_len-items_view)
 

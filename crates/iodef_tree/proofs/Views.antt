@@ -2,7 +2,7 @@
 use Rattle.std.proofs.Common.{◌≡◌, map, Vec, Global, rules}
 use Rattle.iodef_tree.specs.Tree.{text, value, holds, says, one, many}
 use Rattle.iodef_tree.specs.View.{forest, bodies, body, members_forest}
-use Rattle.iodef_tree.specs.declared.text.Text.{Text as Bytes}
+use Rattle.json_pointer.specs.declared.text.Text.{Text as Bytes}
 use Rattle.iodef_tree.specs.declared.object.Object.{Object, roll-Object, the_lemmas}
 use Rattle.iodef_tree.specs.declared.object.Member.{Member}
 use Rattle.iodef_tree.specs.declared.object.Member.TheVariants.{One, Many}

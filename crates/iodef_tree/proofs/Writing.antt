@@ -3,10 +3,10 @@ use Rattle.std.proofs.Common.{◌≡◌, ℕ, suc, ◌+◌, ◌<◌, Bool, true,
 use Rattle.std.proofs.lemmas.Grind.{common_steps}
 use Rattle.json.specs.Print.{quoted}
 use Rattle.serde_json.specs.Written.{comma_if}
-use Rattle.iodef_tree.specs.Text.{Bytes}
+use Rattle.json_pointer.specs.Text.{Bytes}
 use Rattle.iodef_tree.specs.Tree.{Forest, Body, Bodies, one, many, in_front, elements, member_front}
 use Rattle.iodef_tree.specs.View.{forest_of_members, bodies, members_forest}
-use Rattle.iodef_tree.specs.declared.text.Text.{Text}
+use Rattle.json_pointer.specs.declared.text.Text.{Text}
 use Rattle.iodef_tree.specs.declared.object.Member.{Member}
 use Rattle.iodef_tree.proofs.Filled.{has_elements}
 use Rattle.iodef_tree.specs.Written.{goes_on, close_text, written, array_text, member_text}

@@ -3,7 +3,7 @@
 use Rattle.std.specs.Prelude.{◌≡◌, ℕ, [], ◌∷◌, Bool, true, false, codes}
 use Rattle.serde_json.specs.Data as json
 use Rattle.serde_json.specs.Data.{Data, string, number, unsigned, array, object, no_items, no_members}
-use Rattle.iodef_tree.specs.Text.{Bytes}
+use Rattle.json_pointer.specs.Text.{Bytes}
 use Rattle.iodef_tree.specs.Tree.{lines}
 use Rattle.iodef_tree.specs.Values.{forest_of_data}
 use Rattle.iodef_tree.specs.declared.line.Line.{Line}

@@ -7,7 +7,7 @@ use Rattle.serde_json.specs.Written.{compact_text}
 use Rattle.iodef_tree.specs.Json.{data_of}
 use Rattle.iodef_tree.specs.Reading.{reading}
 use Rattle.iodef_tree.specs.declared.line.Line.{Line}
-use Rattle.iodef_tree.specs.Text.{Bytes, Tokens, same_path, is_root, is_prefix, is_under}
+use Rattle.json_pointer.specs.Text.{Bytes, Tokens, same_path, is_root, is_prefix, is_under}
 use Rattle.iodef_tree.specs.Tree.{Forest, end, leaf, branch, steps, lines}
 use Rattle.iodef_tree.specs.Paths.{LocatedLine, located, classes_of, has_class}
 use Rattle.iodef_tree.specs.Outline.{is_outline}

@@ -1,7 +1,7 @@
-pub mod Text
+pub use Rattle.json_pointer.specs.Text
 pub mod Tree
 pub mod Paths
-pub mod Pointer
+pub use Rattle.json_pointer.specs.Pointer
 pub mod Texts
 pub mod Sound
 pub mod Outline

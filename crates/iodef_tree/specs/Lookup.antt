@@ -3,7 +3,7 @@
 use Rattle.std.specs.Prelude.{ℕ, suc, List, [], ◌∷◌, if◌then◌else◌, Option, Some, None, option_map, decimal}
 use Rattle.std.specs.Option.{option_map_or}
 use Rattle.std.specs.Str.{bytes_eq}
-use Rattle.iodef_tree.specs.Text.{Bytes, Tokens, is_root}
+use Rattle.json_pointer.specs.Text.{Bytes, Tokens, is_root}
 use Rattle.iodef_tree.specs.Tree.{Forest, end, leaf, branch, Body, holds, says, Bodies, one, many, steps}
 
 -- what is left of a path behind these first tokens

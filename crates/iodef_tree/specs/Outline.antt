@@ -1,7 +1,7 @@
 -- When a list of lines is the outline of a document. The lines before a line go with the newest first.
 use Rattle.std.specs.Prelude.{ℕ, suc, ◌+◌, ◌-◌, Bool, true, ◌&&◌, ◌||◌, List, [], ◌∷◌, ◌++◌, take, nat_lt, nat_le, ◌==◌, if◌then◌else◌, Option, Some, None}
 use Rattle.std.specs.Str.{bytes_eq}
-use Rattle.iodef_tree.specs.Text.{bytes_lt}
+use Rattle.json_pointer.specs.Text.{bytes_lt}
 use Rattle.iodef_tree.specs.Paths.{is_class_kind}
 use Rattle.iodef_tree.specs.Sound.{counted}
 use Rattle.iodef_tree.specs.Texts.{may_be_text}

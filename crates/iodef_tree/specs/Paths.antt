@@ -3,7 +3,7 @@ use Rattle.std.specs.Prelude.{ℕ, suc, List, [], ◌∷◌, ◌++◌, map, filt
 use Rattle.std.specs.Option.{option_map_or}
 use Rattle.std.specs.List.{before_first, list_any}
 use Rattle.std.specs.Str.{bytes_eq}
-use Rattle.iodef_tree.specs.Text.{Bytes, Tokens, same_path, is_under}
+use Rattle.json_pointer.specs.Text.{Bytes, Tokens, same_path, is_under}
 use Rattle.iodef_tree.specs.Tree.{steps, place_of}
 use Rattle.iodef_tree.specs.declared.line.Line.{Line}
 use Rattle.iodef_tree.specs.declared.line.Kind.{Kind}

@@ -6,7 +6,7 @@ use Rattle.serde_json.specs.Data.{Data, put}
 use Rattle.serde_json.specs.Find.{get, get_member, as_array, as_object}
 use Rattle.serde_json.specs.Events.{items_len}
 use Rattle.serde_json.specs.Read.{read}
-use Rattle.iodef_tree.specs.Text.{Bytes, Tokens}
+use Rattle.json_pointer.specs.Text.{Bytes, Tokens}
 use Rattle.iodef_tree.specs.Tree.{Forest, lines}
 use Rattle.iodef_tree.specs.Values.{forest_of_data, nodes, first_at, is_not_whole, is_nested_class, is_too_deep}
 use Rattle.iodef_tree.specs.declared.TheConstants.{INCIDENT_LIMIT, LINE_LIMIT}

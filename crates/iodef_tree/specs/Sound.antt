@@ -1,7 +1,7 @@
 -- What the tree of each document keeps.
 use Rattle.std.specs.Prelude.{◌≡◌, ◌≤◌, ℕ, zero, suc, ◌+◌, max, List, count_by, Bool, true, false, not, ◌==◌, ◌&&◌, ◌||◌, Option, Some, None, codes}
 use Rattle.std.specs.Str.{bytes_eq}
-use Rattle.iodef_tree.specs.Text.{Bytes, bytes_lt}
+use Rattle.json_pointer.specs.Text.{Bytes, bytes_lt}
 use Rattle.iodef_tree.specs.Tree.{Forest, end, leaf, branch, lines, height}
 use Rattle.iodef_tree.specs.Texts.{HasTexts}
 use Rattle.iodef_tree.specs.Paths.{is_class_kind}

@@ -7,7 +7,7 @@ use Rattle.serde_json.specs.Data.{Data}
 use Rattle.serde_json.specs.Find.{is_float}
 use Rattle.serde_json.specs.Read.{read}
 use Rattle.serde_json.specs.Written.{compact_text}
-use Rattle.iodef_tree.specs.Text.{Bytes}
+use Rattle.json_pointer.specs.Text.{Bytes}
 use Rattle.iodef_tree.specs.Tree.{Forest, end, leaf, branch, kind_of, text_of}
 use Rattle.iodef_tree.specs.declared.TheConstants.{DEPTH_LIMIT}
 use Rattle.iodef_tree.specs.declared.line.Kind.{Kind}

@@ -1,6 +1,6 @@
 -- A document as a tree (RFC 8727 section 2): the members of a JSON object in stored order, and its lines.
 use Rattle.std.specs.Prelude.{ℕ, suc, max, List, [], ◌∷◌, ◌++◌, Bool, if◌then◌else◌, Option, Some, None, is_some, decimal}
-use Rattle.iodef_tree.specs.Text.{Bytes, Tokens}
+use Rattle.json_pointer.specs.Text.{Bytes, Tokens}
 use Rattle.iodef_tree.specs.declared.line.Line.{Line}
 use Rattle.iodef_tree.specs.declared.line.Kind.{Kind}
 use Rattle.iodef_tree.specs.declared.line.Kind.TheVariants as kind

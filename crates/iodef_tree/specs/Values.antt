@@ -4,7 +4,7 @@ use Rattle.serde_json.specs.Data as json
 use Rattle.serde_json.specs.Data.{Data}
 use Rattle.serde_json.specs.Find.{as_array, as_number, as_object, is_float}
 use Rattle.serde_json.specs.Written.{compact_text}
-use Rattle.iodef_tree.specs.Text.{Bytes, Tokens}
+use Rattle.json_pointer.specs.Text.{Bytes, Tokens}
 use Rattle.iodef_tree.specs.Tree.{Forest, end, Body, holds, says, Bodies, one, many, text, value, member_front}
 use Rattle.iodef_tree.specs.declared.TheConstants.{DEPTH_LIMIT}
 

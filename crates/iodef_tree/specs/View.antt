@@ -1,8 +1,8 @@
 -- The tree that an `Object` stands for.
 use Rattle.std.specs.Prelude.{List, [], ◌∷◌, map}
-use Rattle.iodef_tree.specs.Text.{Bytes}
+use Rattle.json_pointer.specs.Text.{Bytes}
 use Rattle.iodef_tree.specs.Tree.{Forest, end, Body, holds, says, Bodies, one, many, member_front, text, value}
-use Rattle.iodef_tree.specs.declared.text.Text.{Text}
+use Rattle.json_pointer.specs.declared.text.Text.{Text}
 use Rattle.iodef_tree.specs.declared.object.Object.{Object, fold-Object}
 use Rattle.iodef_tree.specs.declared.object.Item.{Item, fold-Item}
 use Rattle.iodef_tree.specs.declared.object.Member.{Member, fold-Member}

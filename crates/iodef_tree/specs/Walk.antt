@@ -1,6 +1,6 @@
 -- The entries of a tree, by a walk down it.
 use Rattle.std.specs.Prelude.{◌≡◌, ℕ, suc, List, [], ◌∷◌, ◌++◌, Option}
-use Rattle.iodef_tree.specs.Text.{Bytes, Tokens}
+use Rattle.json_pointer.specs.Text.{Bytes, Tokens}
 use Rattle.iodef_tree.specs.Tree.{Leaf, Forest, end, leaf, branch, steps, leaf_line, class_line}
 use Rattle.iodef_tree.specs.Paths.{LocatedLine, entry_at, below}
 

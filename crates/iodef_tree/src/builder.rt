@@ -10,7 +10,7 @@ ghost use Rattle.iodef_tree.specs.Outline.{back, may_come};
 use crate::document::Document;
 use crate::line::{Kind, Line};
 use crate::object::{Item, Member, Object};
-use crate::text::Text;
+use json_pointer::Text;
 use std::alloc::{AllocError, Global};
 use std::marker::Model;
 use std::mem;

@@ -6,8 +6,7 @@ ghost use Rattle.iodef_tree.specs.Walk.{classes_below};
 ghost use Rattle.iodef_tree.specs.View.{forest, bodies, body};
 
 use crate::object::{Item, Member, Object};
-use crate::path::Path;
-use crate::text::Text;
+use json_pointer::{Path, Text};
 use std::alloc::{AllocError, Global};
 
 /// The paths of the classes below an object whose path is empty, in stored order.

@@ -14,7 +14,7 @@ ghost use Rattle.iodef_tree.specs.Values.{forest_of_data, bodies_of_data, body_o
 ghost use Rattle.iodef_tree.specs.View.{forest, bodies, body};
 
 use crate::object::{Item, Member, Object};
-use crate::text::Text;
+use json_pointer::Text;
 use serde_json::{Map, Value};
 use std::alloc::{AllocError, Global};
 

@@ -6,7 +6,7 @@ ghost use Rattle.iodef_tree.specs.Tree.{says, value, text as plain_text};
 ghost use Rattle.iodef_tree.specs.View.{forest, bodies, body, named};
 
 use crate::object::{Item, Member, Object};
-use crate::text::Text;
+use json_pointer::Text;
 use std::alloc::{AllocError, Global};
 
 #[cycle(copy)]

@@ -4,7 +4,7 @@ ghost use Rattle.std.specs.Prelude.{◌≡◌};
 ghost use Rattle.iodef_tree.specs.declared.fault.ReadFault.TheVariants.{NoMemory};
 ghost use Rattle.iodef_tree.specs.Reading.{fault_name, required_name};
 
-use crate::path::Path;
+use json_pointer::Path;
 use std::alloc::{AllocError, AllocFailed};
 use thiserror::Error;
 

@@ -1,5 +1,4 @@
-//! What holds of every sound tree, and so of every document, and of every path, as the definitions of later crates stand
-//! on it. Each law is the contract of a function that does nothing.
+//! What holds of every sound tree, and so of every document, as the definitions of later crates stand on it. Each law is the contract of a function that does nothing.
 #![tactic(auto, using(crate::proofs::Proven::laws))]
 
 ghost use Rattle.std.specs.Prelude.{◌≡◌};
@@ -15,7 +14,6 @@ ghost use Rattle.iodef_tree.specs.Laws.{
   ParentsAreNearestClasses,
   TextsReadBack,
 };
-ghost use Rattle.iodef_tree.specs.Pointer.{PointerIsRead, ReadIsPrinted};
 
 /// The lines of an outline, each with its path and its parent's path as the flat list gives them, are those that a walk
 /// down the tree meets.
@@ -56,16 +54,6 @@ pub fn parents_are_nearest_classes()
 /// The lines of a document are an outline.
 pub fn lines_are_an_outline()
     ensures { LinesAreAnOutline }
-{}
-
-/// The pointer of a path is read as that path.
-pub fn pointer_is_read()
-    ensures { PointerIsRead }
-{}
-
-/// A text that is read as a path is the path's pointer.
-pub fn read_is_printed()
-    ensures { ReadIsPrinted }
 {}
 
 /// The text of each document of a body that is read is read as that one document.

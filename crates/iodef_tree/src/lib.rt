@@ -30,12 +30,9 @@ mod line_limit;
 mod lookup;
 mod object;
 mod outline;
-mod path;
-mod pointer;
 mod read;
 mod shape;
 mod string;
-mod text;
 mod unfit_values;
 mod value;
 mod value_text;
@@ -44,13 +41,11 @@ mod writer;
 pub use builder::Builder;
 pub use document::Document;
 pub use fault::{OutlineFault, ReadFault, Required};
+pub use json_pointer::{Path, PathFault, Text, push_token};
 pub use line::{Kind, Line};
 pub use object::{Item, Member, Object};
-pub use path::Path;
-pub use pointer::{PathFault, push_token};
 pub use shape::{Shape, Sibling};
 pub use string::push_quoted;
-pub use text::Text;
 
 /// How many classes may stand one below the other in a document that is read.
 pub const DEPTH_LIMIT: u32 = 32;

@@ -2,7 +2,7 @@
 
 ghost use Rattle.std.specs.Prelude.{◌≡◌};
 
-use crate::text::Text;
+use json_pointer::Text;
 use std::alloc::AllocError;
 
 /// What a line of an outline stands for.

@@ -27,7 +27,7 @@ ghost use Rattle.iodef_tree.specs.Lookup.{
 ghost use Rattle.iodef_tree.specs.View.{forest, bodies, body};
 
 use crate::object::{Item, Member, Object};
-use crate::text::Text;
+use json_pointer::Text;
 
 /// The place whose decimal digits the token is.
 fn place_of_token(token: &str) -> Option<usize>

@@ -4,11 +4,11 @@ ghost use Rattle.std.specs.Prelude.{◌≡◌, ◌||◌, ◌++◌, List, IfSome,
 ghost use Rattle.iodef_tree.specs.Filled.{IsFilled};
 ghost use Rattle.iodef_tree.specs.Laws.{StandsAt};
 ghost use Rattle.iodef_tree.specs.Paths.{LocatedLine, has_class};
-ghost use Rattle.iodef_tree.specs.Text.{Tokens, is_root};
+ghost use Rattle.json_pointer.specs.Text.{Tokens, is_root};
 ghost use Rattle.iodef_tree.specs.View.{forest};
 
 use crate::lookup::object_at;
-use crate::text::Text;
+use json_pointer::Text;
 
 /// A JSON object: its members in the byte order of their names.
 #[derive(Drop)]

@@ -7,7 +7,7 @@ ghost use Rattle.iodef_tree.specs.Tree.{place_of};
 
 use crate::line::{Kind, Line};
 use crate::object::{Item, Member, Object};
-use crate::text::Text;
+use json_pointer::Text;
 use std::alloc::{AllocError, Global};
 
 /// The outline of a tree whose members are the root's.

@@ -5,7 +5,7 @@ ghost use Rattle.serde_json.specs.Data.{depth as nesting, null, put};
 ghost use Rattle.serde_json.specs.Find.{as_array, as_object, get_member};
 ghost use Rattle.serde_json.specs.Read.{max_depth};
 ghost use Rattle.serde_json.specs.View.{view, items_view, members_view};
-ghost use Rattle.iodef_tree.specs.Reading.{Returns, parsed, lacking, all_objects, are_incidents, incidents_of, all_complete, all_fit, with_incident, document_of, if_short, documents, reading};
+ghost use Rattle.iodef_tree.specs.Reading.{Returns, parsed, lacking, all_objects, are_incidents, incidents_of, incident_at, all_complete, all_fit, with_incident, document_of, if_short, documents, reading};
 ghost use Rattle.iodef_tree.specs.FitValues.{IsFit, AreFit, taken};
 ghost use Rattle.iodef_tree.specs.Tree.{lines};
 
@@ -13,9 +13,9 @@ use crate::convert::object_from;
 use crate::document::Document;
 use crate::fault::{ReadFault, Required};
 use crate::line_limit::room_left;
-use crate::path::Path;
 use crate::unfit_values::{Sought, first_in, is_plain};
 use crate::{INCIDENT_LIMIT, LINE_LIMIT};
+use json_pointer::Path;
 use serde_json::{Map, Value};
 use std::alloc::{AllocError, Global};
 
@@ -95,13 +95,20 @@ fn check_members(alloc: Global, incidents: &Vec<Value>) -> Result<(), ReadFault>
 {
     for (index, incident) in incidents.iter().enumerate() {
         if let Some(required) = first_lacking(incident) {
-            let path = Path::root(alloc)
-                .member(alloc, "Incident")?
-                .index(alloc, index)?;
-            return Err(ReadFault::Missing(path, required));
+            return Err(ReadFault::Missing(incident_path(alloc, index)?, required));
         }
     }
     Ok(())
+}
+
+/// The path of the Incident at this place.
+fn incident_path(alloc: Global, index: usize) -> Result<Path, AllocError>
+    ensures { IfOk result (λ p. p ≡ incident_at index) }
+{
+    let place = format!(in alloc; "{index}")?;
+    Path::root(alloc)
+        .member(alloc, "Incident")?
+        .member(alloc, place.as_str())
 }
 
 fn first_lacking(incident: &Value) -> Option<Required>

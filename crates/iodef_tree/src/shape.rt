@@ -9,9 +9,9 @@ ghost use Rattle.iodef_tree.specs.Outline.{sibling, deepest, may_follow, is_with
 ghost use Rattle.iodef_tree.specs.declared.line.Line.{Line};
 
 use crate::line::{Kind, Line};
-use crate::text::Text;
 use crate::value_text::is_value_text;
 use crate::{DEPTH_LIMIT, LINE_LIMIT};
+use json_pointer::Text;
 use std::alloc::{AllocError, Global};
 
 /// What of a line the next one of the same parent has to follow.

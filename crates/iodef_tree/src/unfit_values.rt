@@ -8,7 +8,7 @@ ghost use Rattle.iodef_tree.specs.Values.{node, nodes, item_nodes, member_nodes,
 ghost use Rattle.iodef_tree.specs.FitValues.{any_at, is_refused, is_sought};
 
 use crate::DEPTH_LIMIT;
-use crate::text::Text;
+use json_pointer::Text;
 use serde_json::{Map, Value};
 use std::alloc::{AllocError, Global};
 

@@ -16,7 +16,7 @@ ghost use Rattle.iodef_tree.specs.View.{forest, bodies, body};
 ghost use Rattle.iodef_tree.specs.Written.{members_of, body_data, bodies_data};
 
 use crate::object::{Item, Member, Object};
-use crate::text::Text;
+use json_pointer::Text;
 use serde_json::{Map, Value};
 use std::alloc::{AllocError, Global};
 

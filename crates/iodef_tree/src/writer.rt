@@ -10,7 +10,7 @@ ghost use Rattle.iodef_tree.specs.Written.{written, body_text, array_text, bodie
 
 use crate::object::{Item, Member, Object};
 use crate::string::push_quoted;
-use crate::text::Text;
+use json_pointer::Text;
 use std::alloc::{AllocError, Global};
 
 /// The object as compact JSON.

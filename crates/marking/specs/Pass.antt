@@ -7,7 +7,7 @@ use Rattle.std.specs.Prelude.{Vec}
 use Rattle.iodef_tree.specs.Text.{Bytes, Tokens}
 use Rattle.iodef_tree.specs.Tree.{Forest, end, leaf, branch, Body, holds, says, steps}
 use Rattle.iodef_tree.specs.Pointer.{pointer_text}
-use Rattle.iodef_tree.specs.declared.text.Text.{Text}
+use Rattle.iodef_tree.specs.declared.Text.{Text}
 use Rattle.marking.specs.Label.{Marking, private}
 use Rattle.marking.specs.Marks.{Marked}
 use Rattle.marking.specs.Members.{spelled_in, is_rule_kept_in}

@@ -4,7 +4,7 @@ use Rattle.std.specs.Option.{option_or}
 use Rattle.iodef_tree.specs.Text.{Tokens, same_path, is_root}
 use Rattle.iodef_tree.specs.Tree.{Forest}
 use Rattle.iodef_tree.specs.Paths.{LocatedLine, has_class}
-use Rattle.iodef_tree.specs.declared.path.Path.{Path}
+use Rattle.iodef_tree.specs.declared.Path.{Path}
 use Rattle.marking.specs.Label.{Marking, private, marking_of}
 use Rattle.marking.specs.Marks.{incident_path, site_of, label_at}
 use Rattle.marking.specs.Members.{spelled_in}

@@ -4,7 +4,7 @@ use Rattle.std.specs.List.{cons_option}
 use Rattle.iodef_tree.specs.Text.{Bytes, Tokens}
 use Rattle.iodef_tree.specs.Tree.{Leaf, Forest, leaf, branch, Body, holds, says, Bodies, one, many, in_front, elements, steps}
 use Rattle.iodef_tree.specs.View.{forest, named, members_forest, forest_of_members}
-use Rattle.iodef_tree.specs.declared.text.Text.{Text}
+use Rattle.iodef_tree.specs.declared.Text.{Text}
 use Rattle.iodef_tree.specs.declared.object.Object.{Object}
 use Rattle.iodef_tree.specs.declared.object.Member.{Member}
 use Rattle.iodef_tree.proofs.Views.{forest-members}

@@ -7,7 +7,7 @@ use Rattle.std.proofs.lemmas.List.Folds.{list_any-append}
 use Rattle.iodef_tree.specs.Text.{Bytes, Tokens, same_path, is_under}
 use Rattle.iodef_tree.specs.Tree.{Forest, Body, holds, says, Bodies, one, many, in_front, elements, member_front, Content, end, leaf, branch, steps, lines, leaf_line}
 use Rattle.iodef_tree.specs.View.{bodies, members_forest}
-use Rattle.iodef_tree.specs.declared.text.Text.{Text}
+use Rattle.iodef_tree.specs.declared.Text.{Text}
 use Rattle.iodef_tree.specs.declared.object.Member.{Member}
 use Rattle.iodef_tree.proofs.Members.{members-next}
 use Rattle.iodef_tree.specs.Paths.{LocatedLine, is_class, located, below}

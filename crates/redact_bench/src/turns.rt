@@ -1,100 +1,154 @@
-//! A report, redacted again and again.
+//! A report, redacted or searched again and again.
 
 ghost use Rattle.std.specs.Prelude.{◌≡◌, None};
 ghost use Rattle.iodef_tree.specs.Paths.{located};
 ghost use Rattle.marking.specs.Marks.{first_bad_marking};
 
-use crate::reading::document_of;
-use iodef_tree::{Document, Path};
+use crate::asked::{Asked, Call};
+use crate::case::{READER, case_of};
+use iodef_tree::{Document, Path, PathFault, ReadFault};
 use marking::{MarkingFault, check};
-use policy::{Case, Gate, Gates, Permissions, Standing};
-use redact::excerpt;
+use policy::{Case, Standing};
+use redact::{excerpt, finds};
 use std::alloc::{AllocError, Global};
 
-/// The last excerpt, and the bytes of all.
+/// What the last call answered (the excerpt's text where that is asked, visible classes or hits, withheld pairs), and the
+/// bytes of all texts.
 #[derive(Drop)]
-pub struct Excerpts {
+pub struct Answered {
     pub text: String,
     pub bytes: u64,
+    pub classes: u32,
+    pub withheld: usize,
 }
 
-/// A gate at the root, which everybody passes.
-fn open_case(alloc: Global) -> Result<Case, AllocError> {
-    let mut gates = Vec::new(alloc);
-    gates.push(Gate {
-        path: Path::root(alloc),
-        level: 3,
-        group: None,
-    })?;
-    Ok(Case {
-        source: 1,
-        gates: Gates::new(gates),
-        permissions: Permissions::new(Vec::new(alloc)),
-    })
-}
-
-/// The text of the excerpt, empty where there is none.
-fn excerpt_text(
-    alloc: Global,
-    document: &Document,
-    case: &Case,
-    reader: &Standing,
-) -> Result<String, AllocError>
-    requires { first_bad_marking (located document.now) ≡ None }
-{
-    match excerpt(alloc, document, case, reader)? {
-        Some(excerpt) => excerpt.document.text(alloc),
-        None => Ok(String::new(alloc)),
+fn nothing(alloc: Global) -> Answered {
+    Answered {
+        text: String::new(alloc),
+        bytes: 0,
+        classes: 0,
+        withheld: 0,
     }
 }
 
-fn redact_again(
+fn served(
     alloc: Global,
     document: &Document,
     case: &Case,
     reader: &Standing,
-    turns: u32,
-) -> Result<Excerpts, AllocError>
+    call: Call,
+) -> Result<Answered, AllocError>
     requires { first_bad_marking (located document.now) ≡ None }
 {
-    let mut last = Excerpts {
-        text: String::new(alloc),
-        bytes: 0,
+    let Some(excerpt) = excerpt(alloc, document, case, reader)? else {
+        return Ok(nothing(alloc));
     };
-    for _ in 0..turns {
-        let text = excerpt_text(alloc, document, case, reader)?;
-        let bytes = last.bytes.saturating_add(text.len() as u64);
-        last = Excerpts { text, bytes };
+    let text = match call {
+        Call::Text => excerpt.document.text(alloc)?,
+        _ => String::new(alloc),
+    };
+    Ok(Answered {
+        text,
+        bytes: 0,
+        classes: excerpt.classes,
+        withheld: excerpt.withheld.len(),
+    })
+}
+
+fn answer(
+    alloc: Global,
+    document: &Document,
+    case: &Case,
+    reader: &Standing,
+    call: Call,
+) -> Result<Answered, AllocError>
+    requires { first_bad_marking (located document.now) ≡ None }
+{
+    if call == Call::Finds {
+        let found = finds(alloc, document, case, reader, "nowhere", None)?;
+        let mut answered = nothing(alloc);
+        answered.classes = u32::from(found);
+        return Ok(answered);
+    }
+    served(alloc, document, case, reader, call)
+}
+
+fn in_turns(
+    alloc: Global,
+    document: &Document,
+    array: &Path,
+    asked: Asked,
+) -> Result<Answered, AllocError>
+    requires { first_bad_marking (located document.now) ≡ None }
+{
+    let case = case_of(alloc, array, asked)?;
+    // Nothing else holds of the reader, who is cleared for CLEAR by that.
+    let mut reader = Standing::stranger(alloc, READER, READER);
+    reader.source = asked.call == Call::Source;
+    let mut last = nothing(alloc);
+    for _ in 0..asked.turns {
+        let bytes = last.bytes;
+        last = answer(alloc, document, &case, &reader, asked.call)?;
+        last.bytes = bytes.saturating_add(last.text.len() as u64);
     }
     Ok(last)
 }
 
-fn in_turns(alloc: Global, document: &Document, turns: u32) -> Result<Excerpts, AllocError>
-    requires { first_bad_marking (located document.now) ≡ None }
-{
-    let case = open_case(alloc)?;
-    // Nothing holds of the reader, who is cleared for CLEAR by that.
-    let reader = Standing::stranger(alloc, 2, 2);
-    redact_again(alloc, document, &case, &reader, turns)
-}
-
-/// The excerpts of a document whose markings are accepted.
+/// The answer of a document whose markings are accepted.
 fn of_accepted(
     alloc: Global,
     document: &Document,
-    turns: u32,
-) -> Result<Option<Excerpts>, AllocError> {
+    array: &Path,
+    asked: Asked,
+) -> Result<Option<Answered>, AllocError> {
     match check(alloc, document) {
-        Ok(()) => Ok(Some(in_turns(alloc, document, turns)?)),
+        Ok(()) => Ok(Some(in_turns(alloc, document, array, asked)?)),
         Err(MarkingFault::BadMarking(_)) => Ok(None),
         Err(MarkingFault::NoMemory) => Err(AllocError),
     }
 }
 
-/// The excerpts of the last Incident of a report; `None` where the report isn't accepted.
-pub fn redacted(alloc: Global, body: &[u8], turns: u32) -> Result<Option<Excerpts>, AllocError> {
-    match document_of(alloc, body)? {
-        Some(document) => of_accepted(alloc, &document, turns),
-        None => Ok(None),
+/// The last Incident of the report; `None` where it isn't read.
+fn document_of(alloc: Global, report: &[u8]) -> Result<Option<Document>, AllocError> {
+    match Document::read(alloc, report) {
+        Ok(mut documents) => Ok(documents.pop()),
+        Err(ReadFault::NoMemory) => Err(AllocError),
+        Err(_) => Ok(None),
     }
+}
+
+/// The path of the pointer; `None` where it is none.
+fn array_of(alloc: Global, pointer: &[u8]) -> Result<Option<Path>, AllocError> {
+    match Path::parse(alloc, std::str::from_utf8(pointer).unwrap_or("?")) {
+        Ok(path) => Ok(Some(path)),
+        Err(PathFault::BadPath) => Ok(None),
+        Err(PathFault::NoMemory) => Err(AllocError),
+    }
+}
+
+fn of_parts(
+    alloc: Global,
+    report: &[u8],
+    pointer: &[u8],
+    asked: Asked,
+) -> Result<Option<Answered>, AllocError> {
+    match (document_of(alloc, report)?, array_of(alloc, pointer)?) {
+        (Some(document), Some(array)) => of_accepted(alloc, &document, &array, asked),
+        _ => Ok(None),
+    }
+}
+
+/// The answer after so many turns; `None` where the report isn't accepted, or the second line is no pointer.
+pub fn answer_in_turns(
+    alloc: Global,
+    input: &[u8],
+    asked: Asked,
+) -> Result<Option<Answered>, AllocError> {
+    if asked.call == Call::Text {
+        return of_parts(alloc, input, b"", asked);
+    }
+    let mut lines = input.split(|byte| *byte == b'\n');
+    let report = lines.next().unwrap_or(b"");
+    let pointer = lines.next().unwrap_or(b"");
+    of_parts(alloc, report, pointer, asked)
 }

@@ -29,6 +29,12 @@ fn place_among(before: &[Entry<'_>], parent: &Path, name: &Text) -> usize {
         .count()
 }
 
+/// The path of an element of the array at the path.
+pub fn element(alloc: Global, path: &Path, place: usize) -> Result<Path, AllocError> {
+    let place = format!(in alloc; "{place}")?;
+    path.member(alloc, place.as_str())
+}
+
 /// A line behind these.
 fn entry_of<'a>(
     alloc: Global,
@@ -38,7 +44,7 @@ fn entry_of<'a>(
     let parent = parent_of(alloc, before, line.depth)?;
     let named = parent.member(alloc, line.name.as_str())?;
     let path = if line.in_array {
-        named.index(alloc, place_among(before, &parent, &line.name))?
+        element(alloc, &named, place_among(before, &parent, &line.name))?
     } else {
         named
     };

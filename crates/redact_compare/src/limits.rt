@@ -6,6 +6,7 @@ ghost use Rattle.iodef_tree.specs.Paths.{located};
 ghost use Rattle.marking.specs.Marks.{first_bad_marking};
 
 use crate::compared::{document_of, same_line};
+use crate::entry::element;
 use iodef_tree::{Document, LINE_LIMIT, Line, Path};
 use marking::check;
 use policy::{Case, Gate, Gates, Grantee, Permission, Permissions, Rule, Standing};
@@ -43,13 +44,14 @@ fn report_text(alloc: Global) -> Result<String, AllocError> {
 
 /// The Incident's path.
 fn incident(alloc: Global) -> Result<Path, AllocError> {
-    Path::root(alloc).member(alloc, "Incident")?.index(alloc, 0)
+    Path::root(alloc)
+        .member(alloc, "Incident")?
+        .member(alloc, "0")
 }
 
 fn event(alloc: Global, place: usize) -> Result<Path, AllocError> {
-    incident(alloc)?
-        .member(alloc, "EventData")?
-        .index(alloc, place)
+    let events = incident(alloc)?.member(alloc, "EventData")?;
+    element(alloc, &events, place)
 }
 
 /// 16 gates for the source alone at events 48 to 63, and one at the root for everybody.

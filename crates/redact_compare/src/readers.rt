@@ -1,6 +1,7 @@
 //! Generated gates, permissions and readers.
 
 use crate::dice::Dice;
+use crate::entry::element;
 use iodef_tree::{Path, Text};
 use marking::Handling;
 use policy::{Case, Gate, Gates, Grantee, Numbers, Permission, Permissions, Standing};
@@ -23,7 +24,7 @@ fn any_path(alloc: Global, dice: &mut Dice, classes: &[Path]) -> Result<Path, Al
     let path = class.clone()?;
     match dice.roll(8) {
         0 => Ok(above(path)),
-        1 => above(path).index(alloc, dice.place(3)),
+        1 => element(alloc, &above(path), dice.place(3)),
         2 => path.member(alloc, "note"),
         3 if dice.once_in(3) => path.member(alloc, "nothing"),
         _ => Ok(path),

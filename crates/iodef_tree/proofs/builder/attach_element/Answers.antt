@@ -1,9 +1,9 @@
 use Rattle.std.proofs.Common.{◌≡◌, List, [], ◌∷◌, ◌++◌, true, sym, ◌∙◌, ap, subst, arith}
 use Rattle.std.proofs.lemmas.Slice.Eq.{bytes_eq-Decides}
-use Rattle.iodef_tree.specs.Text.{Bytes}
+use Rattle.json_pointer.specs.Text.{Bytes}
 use Rattle.iodef_tree.specs.View.{body}
 use Rattle.iodef_tree.specs.Built.{IsGrown, Grows}
-use Rattle.iodef_tree.specs.declared.text.Text.{Text}
+use Rattle.json_pointer.specs.declared.text.Text.{Text}
 use Rattle.iodef_tree.specs.declared.object.Member.{Member}
 use Rattle.iodef_tree.specs.declared.object.Member.TheVariants.{Many}
 use Rattle.iodef_tree.proofs.Growing.{grows-element, first-behind_one, first-behind_many}

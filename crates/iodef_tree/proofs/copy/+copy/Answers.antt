@@ -3,7 +3,7 @@ use Rattle.std.proofs.Common.{arith, ◌≡◌, ◌&&◌, List, [], ◌∷◌, m
 use Rattle.std.specs.List.{list_all}
 use Rattle.iodef_tree.specs.Filled.{is_member_filled}
 use Rattle.iodef_tree.specs.declared.object.Member.{Member}
-use Rattle.iodef_tree.specs.declared.text.Text.{Text as Bytes}
+use Rattle.json_pointer.specs.declared.text.Text.{Text as Bytes}
 use Rattle.iodef_tree.proofs.Filled.{asked, filled-made, filled-members}
 use Rattle.iodef_tree.proofs.copy.+copy.Goals as goal
 

@@ -1,5 +1,5 @@
 use Rattle.std.proofs.Common.{◌≡◌, [], ◌∷◌, ◌++◌, ◌∙◌, ap, sym, string_bytes, ℕ, false, List, refl, ap₂, append_assoc, ◌==◌}
-use Rattle.iodef_tree.specs.Text.{Bytes}
+use Rattle.json_pointer.specs.Text.{Bytes}
 use Rattle.std.proofs.lemmas.Bool.{or_parts, eqb-false, ltb-false}
 use Rattle.std.specs.List.{list_any}
 use Rattle.json.specs.Print.{escape, quoted}

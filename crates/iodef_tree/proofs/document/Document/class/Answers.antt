@@ -2,7 +2,7 @@ use Rattle.std.proofs.Common.{◌≡◌, Bor, Option, Some, None, option_map, []
 use Rattle.iodef_tree.specs.Lookup.{object_at}
 use Rattle.iodef_tree.specs.Paths.{located}
 use Rattle.iodef_tree.specs.Sound.{IsSound}
-use Rattle.iodef_tree.specs.Text.{Tokens}
+use Rattle.json_pointer.specs.Text.{Tokens}
 use Rattle.iodef_tree.specs.Tree.{Forest, lines}
 use Rattle.iodef_tree.specs.View.{forest}
 use Rattle.iodef_tree.specs.Walk.{IsBlock}

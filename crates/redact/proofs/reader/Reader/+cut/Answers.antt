@@ -4,7 +4,7 @@ use Rattle.std.proofs.lemmas.Bool.{eqb-false}
 use Rattle.std.proofs.lemmas.Grind.{common_steps}
 use Rattle.std.proofs.lemmas.Result.{IfOk-weaker}
 use Rattle.std.specs.List.{AllByRecursion, cons_option, list_any}
-use Rattle.iodef_tree.specs.declared.text.Text.{Text}
+use Rattle.iodef_tree.specs.declared.Text.{Text}
 use Rattle.iodef_tree.specs.declared.object.Member.{Member}
 use Rattle.iodef_tree.specs.declared.object.Item.{Item}
 use Rattle.iodef_tree.specs.declared.object.Object.{Object, the_lemmas}

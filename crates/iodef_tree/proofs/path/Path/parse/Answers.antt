@@ -1,9 +1,0 @@
-use Rattle.std.proofs.Common.{◌==◌, List, ℕ, length, ap}
-use Rattle.std.specs.Char.{encode_utf8}
-use Rattle.iodef_tree.proofs.Unescaping.{pointer_tokens-none}
-use Rattle.iodef_tree.proofs.path.Path.parse.Goals as goal
-
-pub returns-in_default-clause-bad : goal.returns-in_default-clause-bad
-unfolding encode_utf8
-returns-in_default-clause-bad c =
-    λ same. pointer_tokens-none c.args.text.now (λ e. let is_empty = ap (λ (t : List ℕ). length t == 0) e in cc) c.in_default.ensures.cases

@@ -1,8 +1,0 @@
-use Rattle.std.proofs.Common.{◌≡◌, string_bytes}
-use Rattle.std.specs.Str.Iter.{chars_rest}
-use Rattle.iodef_tree.specs.Pointer.{unescaped, unescaped_from}
-use Rattle.iodef_tree.proofs.Unescaping.{made_then}
-use Rattle.iodef_tree.proofs.pointer.read_token.Given as goal
-
-abbrev pub invariant-loop-c : goal.invariant-loop-c
-invariant-loop-c l = made_then (string_bytes l.token) (unescaped_from l.behind_tilde (chars_rest l.c-iterator)) ≡ unescaped l.written

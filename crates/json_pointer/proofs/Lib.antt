@@ -1,0 +1,6 @@
+pub mod Characters
+pub mod Pointers
+pub mod Unescaping
+pub mod Inverse
+pub mod Prefixes
+mod Steps

@@ -1,0 +1,9 @@
+-- A path that another one starts with.
+use Rattle.std.proofs.Common.{◌≡◌, [], ◌∷◌, ◌&&◌, refl, ap, bytes_eq}
+use Rattle.std.specs.List.{starts_with}
+use Rattle.json_pointer.specs.Text.{Tokens, is_prefix}
+
+pub starts_with-is_prefix : (p q : Tokens) → starts_with bytes_eq p q ≡ is_prefix q p
+starts_with-is_prefix p [] = refl
+starts_with-is_prefix [] (x ∷ q) = refl
+starts_with-is_prefix (y ∷ p) (x ∷ q) = ap (λ b. bytes_eq x y && b) (starts_with-is_prefix p q)

@@ -1,0 +1,15 @@
+use Rattle.std.proofs.Common.{◌≡◌, [], ◌∷◌, ◌++◌, sym, ◌∙◌, ap, append_assoc, string_bytes}
+use Rattle.json_pointer.specs.Text.{Bytes}
+use Rattle.json_pointer.proofs.Pointers.{escaped-same}
+use Rattle.json_pointer.proofs.pointer.push_token.Goals as goal
+
+pub returns : goal.returns
+unfolding lib.Utf8.encode
+returns c =
+    let old = string_bytes c.args.pointer.now in
+    let token = c.args.token.now in
+    let opened : string_bytes c.push.new.self ≡ old ++ 47 ∷ [] = c.in_ok-push.ensures.bytes in
+    c.in_ok-push_str.ensures.bytes
+    ∙ ap (λ (b : Bytes). b ++ token) opened
+    ∙ append_assoc old (47 ∷ []) token
+    ∙ ap (λ (b : Bytes). old ++ 47 ∷ b) (sym (escaped-same token (sym c.is_written_otherwise.ensures ∙ c.if-is_written_otherwise.false)))

@@ -1,0 +1,74 @@
+-- JSON pointers (RFC 6901).
+use Rattle.std.specs.Prelude.{◌≡◌, ℕ, List, [], ◌∷◌, ◌==◌, ◌||◌, Bool, true, false, if◌then◌else◌, Option, Some, None, option_map, codes}
+use Rattle.std.specs.List.{flat_map, slice_split}
+use Rattle.std.specs.Str.{byte}
+use Rattle.json_pointer.specs.Text.{Bytes, Tokens}
+use Rattle.json_pointer.specs.declared.pointer.PathFault.{PathFault}
+use Rattle.json_pointer.specs.declared.pointer.PathFault.TheVariants.{BadPath, NoMemory}
+
+-- `~` is written `~0`, and `/` is written `~1` (section 3)
+abbrev pub escaped_byte : ℕ → Bytes
+escaped_byte c = if c == byte "~" then codes "~0" else (if c == byte "/" then codes "~1" else c ∷ [])
+
+-- the byte is one of the two that are written otherwise
+abbrev pub is_escaped_byte : ℕ → Bool
+is_escaped_byte c = (c == byte "~") || (c == byte "/")
+
+abbrev pub escaped : Bytes → Bytes
+escaped token = flat_map escaped_byte token
+
+-- a slash before each token (section 3)
+abbrev pub pointer_text : Tokens → Bytes
+pointer_text p = flat_map (λ token. byte "/" ∷ escaped token) p
+
+-- the byte that a `~` and this one stand for: `~0` is `~` and `~1` is `/` (section 4)
+abbrev pub escaped_by : ℕ → Option ℕ
+escaped_by c = if c == byte "0" then Some (byte "~") else (if c == byte "1" then Some (byte "/") else None)
+
+-- one more in front, where it and the others are there
+abbrev pub with_first : {A : Type 0} → Option A → Option (List A) → Option (List A)
+with_first None others = None
+with_first (Some x) others = option_map (λ xs. x ∷ xs) others
+
+-- What is left to read of a token, behind a `~` (true) or not: no other `~` may stand (sections 3 and 4).
+abbrev pub unescaped_from : Bool → Bytes → Option Bytes
+unescaped_from false [] = Some []
+unescaped_from false (c ∷ cs) =
+    if c == byte "~" then unescaped_from true cs else with_first (Some c) (unescaped_from false cs)
+unescaped_from true [] = None
+unescaped_from true (c ∷ cs) = with_first (escaped_by c) (unescaped_from false cs)
+
+-- the token that these bytes of a pointer stand for
+abbrev pub unescaped : Bytes → Option Bytes
+unescaped written = unescaped_from false written
+
+-- the tokens that these stand for, each
+abbrev pub each_unescaped : List Bytes → Option Tokens
+each_unescaped [] = Some []
+each_unescaped (w ∷ ws) = with_first (unescaped w) (each_unescaped ws)
+
+abbrev pub is_slash : ℕ → Bool
+is_slash b = b == byte "/"
+
+-- the tokens between the slashes
+abbrev pub slash_separated : Bytes → Option Tokens
+slash_separated written = each_unescaped (slice_split is_slash written)
+
+-- the path that a text is the pointer of: nothing, or a slash before each token (section 3)
+abbrev pub pointer_tokens : Bytes → Option Tokens
+pointer_tokens [] = Some []
+pointer_tokens (c ∷ cs) = if is_slash c then slash_separated cs else None
+
+abbrev pub fault_name : PathFault → Bytes
+fault_name BadPath = codes "BadPath"
+fault_name NoMemory = codes "NoMemory"
+
+-- ---- laws
+
+-- the pointer of a path is read as that path
+abbrev pub PointerIsRead : Type 0
+PointerIsRead = (p : Tokens) → pointer_tokens (pointer_text p) ≡ Some p
+
+-- the path that is read from a text has it as its pointer
+abbrev pub ReadIsPrinted : Type 0
+ReadIsPrinted = (text : Bytes) (p : Tokens) → pointer_tokens text ≡ Some p → pointer_text p ≡ text

@@ -1,0 +1,14 @@
+//! Printing and reading of pointers undo each other. Each law is the contract of a function that does nothing.
+#![tactic(auto, using(crate::proofs::Steps::laws))]
+
+ghost use Rattle.json_pointer.specs.Pointer.{PointerIsRead, ReadIsPrinted};
+
+/// The pointer of a path is read as that path.
+pub fn pointer_is_read()
+    ensures { PointerIsRead }
+{}
+
+/// A text that is read as a path is the path's pointer.
+pub fn read_is_printed()
+    ensures { ReadIsPrinted }
+{}

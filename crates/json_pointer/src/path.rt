@@ -1,0 +1,131 @@
+//! The paths of classes.
+
+ghost use Rattle.std.specs.Prelude.{◌≡◌, ◌++◌, ◌∷◌, [], IfOk, string_bytes};
+ghost use Rattle.json_pointer.specs.Pointer.{pointer_text, pointer_tokens};
+ghost use Rattle.json_pointer.specs.Text.{is_prefix};
+
+use crate::pointer::{PathFault, push_token, read_tokens};
+use crate::text::Text;
+use std::alloc::{AllocError, Global};
+use std::marker::Model;
+
+/// The path of a class by its reference tokens (RFC 6901 section 3), the root's being empty. An array place is its
+/// decimal digits. Contracts see the list of the tokens.
+#[derive(Debug, Drop)]
+pub struct Path {
+    tokens: Vec<Text>,
+}
+
+impl Model for Path {
+    ghost use Rattle.std.specs.Prelude.{ℕ, List};
+
+    ghost Value = { List (List ℕ) };
+
+    ghost view = { λ p. p.tokens.items };
+}
+
+impl Path {
+    /// The root's path.
+    pub fn root(alloc: Global) -> Path
+        ensures { result ≡ [] }
+    {
+        Path {
+            tokens: Vec::new(alloc),
+        }
+    }
+
+    /// The path of these tokens; takes no memory.
+    pub fn new(tokens: Vec<Text>) -> Path
+        ensures { result ≡ tokens.items }
+    {
+        Path { tokens }
+    }
+
+    pub fn tokens(&self) -> &[Text]
+        ensures { result.now ≡ self.now }
+    {
+        &self.tokens
+    }
+
+    /// Returns the tokens back; takes no memory.
+    pub fn into_tokens(self) -> Vec<Text>
+        ensures { result.items ≡ self }
+    {
+        self.tokens
+    }
+
+    /// The JSON pointer (RFC 6901 section 3).
+    pub fn print(&self, alloc: Global) -> Result<String, AllocError>
+        ensures { IfOk result (λ s. string_bytes s ≡ pointer_text self.now) }
+    {
+        let mut pointer = String::new(alloc);
+        for token in &self.tokens {
+            push_token(&mut pointer, token.as_str())?;
+        }
+        Ok(pointer)
+    }
+
+    /// The path that a text is the JSON pointer of (RFC 6901 section 3): the text is empty, or has a slash before each token.
+    /// BadPath where it is neither, or where a `~` stands that neither `0` nor `1` follows.
+    pub fn parse(alloc: Global, text: &str) -> Result<Path, PathFault>
+        ensures path { IfOk result (λ p. pointer_tokens text.now ≡ Some p) }
+        ensures bad { result ≡ Err PathFault.BadPath → pointer_tokens text.now ≡ None }
+    {
+        if text.is_empty() {
+            return Ok(Path::root(alloc));
+        }
+        let Some(written) = text.strip_prefix('/') else {
+            return Err(PathFault::BadPath);
+        };
+        Ok(Path::new(read_tokens(alloc, written)?))
+    }
+
+    /// Whether this is the path of the other one's class, or of a class above it; takes no memory.
+    #[tactic(auto, using(crate::proofs::Steps::is_prefix_of_steps))]
+    pub fn is_prefix_of(&self, other: &Path) -> bool
+        ensures { result ≡ is_prefix self.now other.now }
+    {
+        other.tokens.starts_with(&self.tokens)
+    }
+
+    /// The path of the member of this name, or of the array element at the place of these digits.
+    pub fn member(&self, alloc: Global, name: &str) -> Result<Path, AllocError>
+        ensures { IfOk result (λ p. p ≡ self.now ++ name.now ∷ []) }
+    {
+        let mut path = self.clone()?;
+        path.tokens.push(Text::new(String::from_str(alloc, name)?))?;
+        Ok(path)
+    }
+}
+
+impl Clone for Path {
+    ghost is_clone = { λ path copy. copy ≡ path };
+
+    fn clone(&self) -> Result<Path, AllocError> {
+        let mut tokens = Vec::with_capacity(*self.tokens.allocator(), self.tokens.len())?;
+        for token in &self.tokens {
+            tokens.push(token.clone()?)?;
+        }
+        Ok(Path { tokens })
+    }
+}
+
+impl PartialEq for Path {
+    ghost use Rattle.std.specs.Cmp.{partial_equiv_from_equiv};
+    ghost use Rattle.std.proofs.lemmas.Cmp.{lists_equiv, nat_list_eq_equiv};
+    ghost use Rattle.json_pointer.specs.Text.{same_path};
+
+    ghost eq = { same_path };
+
+    ghost laws = { partial_equiv_from_equiv (lists_equiv nat_list_eq_equiv) };
+
+    fn eq(&self, other: &Path) -> bool {
+        self.tokens == other.tokens
+    }
+}
+
+impl Eq for Path {
+    ghost use Rattle.std.proofs.lemmas.Cmp.{lists_equiv, nat_list_eq_equiv};
+
+    ghost laws = { lists_equiv nat_list_eq_equiv };
+}
