@@ -27,8 +27,8 @@ ghost use Rattle.marking.specs.Marks.{first_bad_marking};
 
 use crate::alone::answer_alone;
 use crate::labels::{marked, sited};
-use crate::questions::{Question, question_of};
-use crate::served::answer_to;
+use crate::line::Line;
+use crate::served::{answer_to, asker_of};
 use crate::unfit::{Unfit, said};
 use iodef_tree::{Document, Path};
 use marking::{MarkingFault, check};
@@ -53,27 +53,13 @@ impl Table {
     }
 
     pub fn answer(&mut self, alloc: Global, line: &str) -> Result<String, Unfit> {
-        let words: Vec<&str> = line.split('|').collect(alloc)?;
-        match words.as_slice() {
-            ["report", body] => self.read(alloc, body),
-            words => self.asked(alloc, words),
-        }
-    }
-
-    /// The answer of a line that reads no report.
-    fn asked(&self, alloc: Global, words: &[&str]) -> Result<String, Unfit> {
-        match question_of(words) {
-            Some(question) => self.answer_to(alloc, &question),
-            None => self.answer_of(alloc, words),
-        }
-    }
-
-    /// The answer of a line that asks of labels in the report, or of no report.
-    fn answer_of(&self, alloc: Global, words: &[&str]) -> Result<String, Unfit> {
-        match words {
-            ["marks"] => self.marks(alloc),
-            ["site", pointer] => self.site(alloc, pointer),
-            words => answer_alone(alloc, words),
+        let line = Line::of(line)?;
+        match line.kind {
+            "report" => self.read(alloc, line.first),
+            "marks" => self.marks(alloc),
+            "site" => self.site(alloc, line.first),
+            "decide" | "excerpt" | "listed" | "find" => self.answer_to(alloc, &line),
+            _ => answer_alone(alloc, &line),
         }
     }
 
@@ -108,10 +94,11 @@ impl Table {
         sited(alloc, &report.document, &path)
     }
 
-    fn answer_to(&self, alloc: Global, question: &Question<'_>) -> Result<String, Unfit> {
+    /// The answer of a line that asks something for a reader.
+    fn answer_to(&self, alloc: Global, line: &Line<'_>) -> Result<String, Unfit> {
         let report = self.report.as_ref().ok_or(Unfit::NoCase)?;
-        let asker = question.asker(alloc)?;
-        answer_to(alloc, &report.document, &asker, question.asked)
+        let asker = asker_of(alloc, line)?;
+        answer_to(alloc, &report.document, &asker, line)
     }
 }
 

@@ -5,7 +5,7 @@
 mod alone;
 mod cases;
 mod labels;
-mod questions;
+mod line;
 mod served;
 mod unfit;
 mod verdicts;

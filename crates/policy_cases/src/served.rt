@@ -4,13 +4,29 @@ ghost use Rattle.std.specs.Prelude.{◌≡◌, None};
 ghost use Rattle.iodef_tree.specs.Paths.{located};
 ghost use Rattle.marking.specs.Marks.{first_bad_marking};
 
-use crate::questions::{Asked, Asker};
+use crate::line::Line;
 use crate::unfit::{Unfit, said};
 use crate::verdicts::verdicts;
+use crate::words::{case_of, standing_of};
 use iodef_tree::{Document, Path};
-use policy::Rule;
+use policy::{Case, Rule, Standing};
 use redact::{Excerpt, excerpt, finds, is_listed};
 use std::alloc::{AllocError, Global};
+
+/// Who asks of a report, and by what it is judged.
+#[derive(Drop)]
+pub struct Asker {
+    pub standing: Standing,
+    pub case: Case,
+}
+
+/// For whom the line asks.
+pub fn asker_of(alloc: Global, line: &Line<'_>) -> Result<Asker, Unfit> {
+    Ok(Asker {
+        standing: standing_of(alloc, line.first)?,
+        case: case_of(alloc, line.second, line.third.unwrap_or(""))?,
+    })
+}
 
 fn push_pair(told: &mut String, alloc: Global, place: &Path, rule: Rule) -> Result<(), AllocError> {
     let pointer = place.print(alloc)?;
@@ -61,18 +77,19 @@ fn found(
     }
 }
 
+/// The answer to what a line asks of a report.
 pub fn answer_to(
     alloc: Global,
     document: &Document,
     asker: &Asker,
-    asked: Asked<'_>,
+    line: &Line<'_>,
 ) -> Result<String, Unfit>
     requires { first_bad_marking (located document.now) ≡ None }
 {
-    match asked {
-        Asked::Verdicts(pointers) => verdicts(alloc, document, asker, pointers),
-        Asked::Excerpt => served(alloc, document, asker),
-        Asked::Listed => listed(alloc, document, asker),
-        Asked::Find(needle, class) => found(alloc, document, asker, needle, class),
+    match line.kind {
+        "decide" => verdicts(alloc, document, asker, line.fourth),
+        "excerpt" => served(alloc, document, asker),
+        "listed" => listed(alloc, document, asker),
+        _ => found(alloc, document, asker, line.fourth, line.fifth),
     }
 }

@@ -4,7 +4,7 @@ ghost use Rattle.std.specs.Prelude.{◌≡◌, None};
 ghost use Rattle.iodef_tree.specs.Paths.{located};
 ghost use Rattle.marking.specs.Marks.{first_bad_marking};
 
-use crate::questions::Asker;
+use crate::served::Asker;
 use crate::unfit::Unfit;
 use iodef_tree::{Document, Path};
 use policy::{

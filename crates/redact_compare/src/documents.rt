@@ -1,6 +1,7 @@
 //! Generated reports, as JSON texts.
 
 use crate::dice::Dice;
+use crate::writing::Writing;
 use std::alloc::{AllocError, Global};
 
 /// A text of this many bytes takes no further classes but such without members.
@@ -83,31 +84,22 @@ fn class_name(dice: &mut Dice) -> &'static str {
 }
 
 /// A member behind those of an object or an array that is open.
-fn push_member(text: &mut String, name: &str, value: &str) -> Result<(), AllocError> {
-    if !text.as_str().ends_with('{') {
-        text.push(',')?;
-    }
-    text.push('"')?;
-    text.push_str(name)?;
-    text.push_str("\":")?;
-    text.push_str(value)
+fn push_member(text: &mut Writing, name: &str, value: &str) {
+    let comma = text.comma();
+    text.put_all(&[comma, "\"", name, "\":", value]);
 }
 
-fn push_marking(text: &mut String, written: &str) -> Result<(), AllocError> {
-    if written.is_empty() {
-        return Ok(());
+fn push_marking(text: &mut Writing, written: &str) {
+    if !written.is_empty() {
+        let comma = text.comma();
+        text.put_all(&[comma, written]);
     }
-    if !text.as_str().ends_with('{') {
-        text.push(',')?;
-    }
-    text.push_str(written)
 }
 
-fn push_plain(text: &mut String, dice: &mut Dice) -> Result<(), AllocError> {
+fn push_plain(text: &mut Writing, dice: &mut Dice) {
     for _ in 0..dice.roll(4) {
-        push_member(text, plain_name(dice), plain_value(dice))?;
+        push_member(text, plain_name(dice), plain_value(dice));
     }
-    Ok(())
 }
 
 /// One of these texts of classes, where there is room for it, or a class without members.
@@ -118,30 +110,31 @@ fn any_class<'a>(dice: &mut Dice, classes: &'a [String], used: usize) -> &'a str
     }
 }
 
-/// An array of classes, with other values among them.
+/// An array of classes, with other values among them, behind a text of so many bytes.
 fn array_text(
     alloc: Global,
     dice: &mut Dice,
     classes: &[String],
     used: usize,
 ) -> Result<String, AllocError> {
-    let mut text = String::from_str(alloc, "[")?;
+    let mut text = Writing::new(alloc);
+    text.put("[");
     for _ in 0..dice.roll(4) {
         if dice.once_in(5) {
-            text.push_str("\"an element\",")?;
+            text.put("\"an element\",");
         } else {
-            text.push_str(any_class(dice, classes, used.saturating_add(text.len())))?;
-            text.push(',')?;
+            let class = any_class(dice, classes, used.saturating_add(text.len()));
+            text.put_all(&[class, ","]);
         }
     }
-    text.push_str(any_class(dice, classes, used.saturating_add(text.len())))?;
-    text.push(']')?;
-    Ok(text)
+    let last = any_class(dice, classes, used.saturating_add(text.len()));
+    text.put_all(&[last, "]"]);
+    text.done()
 }
 
 /// Members that are classes or arrays of them.
 fn push_classes(
-    text: &mut String,
+    text: &mut Writing,
     alloc: Global,
     dice: &mut Dice,
     classes: &[String],
@@ -150,10 +143,10 @@ fn push_classes(
         let name = class_name(dice);
         if dice.once_in(3) {
             let class = any_class(dice, classes, text.len());
-            push_member(text, name, class)?;
+            push_member(text, name, class);
         } else {
             let array = array_text(alloc, dice, classes, text.len())?;
-            push_member(text, name, array.as_str())?;
+            push_member(text, name, array.as_str());
         }
     }
     Ok(())
@@ -161,12 +154,13 @@ fn push_classes(
 
 /// A class over these.
 fn class_text(alloc: Global, dice: &mut Dice, classes: &[String]) -> Result<String, AllocError> {
-    let mut text = String::from_str(alloc, "{")?;
-    push_marking(&mut text, marking(dice))?;
-    push_plain(&mut text, dice)?;
+    let mut text = Writing::new(alloc);
+    text.put("{");
+    push_marking(&mut text, marking(dice));
+    push_plain(&mut text, dice);
     push_classes(&mut text, alloc, dice, classes)?;
-    text.push('}')?;
-    Ok(text)
+    text.put("}");
+    text.done()
 }
 
 /// Three classes, each over some of the level below.
@@ -180,14 +174,14 @@ fn level(alloc: Global, dice: &mut Dice, classes: &[String]) -> Result<Vec<Strin
 
 /// A class, some with a label, over this one alone in an array.
 fn link_text(alloc: Global, dice: &mut Dice, inner: &str) -> Result<String, AllocError> {
-    let mut text = String::from_str(alloc, "{")?;
+    let mut text = Writing::new(alloc);
+    text.put("{");
     if dice.once_in(4) {
-        push_marking(&mut text, marking(dice))?;
+        push_marking(&mut text, marking(dice));
     }
-    push_member(&mut text, class_name(dice), "[")?;
-    text.push_str(inner)?;
-    text.push_str("]}")?;
-    Ok(text)
+    push_member(&mut text, class_name(dice), "[");
+    text.put_all(&[inner, "]}"]);
+    text.done()
 }
 
 /// A class at the end of a chain of such classes in one another.
@@ -225,15 +219,15 @@ fn any_classes(alloc: Global, dice: &mut Dice) -> Result<Vec<String>, AllocError
 
 /// What stands in front of the Incident.
 fn push_front(
-    text: &mut String,
+    text: &mut Writing,
     alloc: Global,
     dice: &mut Dice,
     classes: &[String],
 ) -> Result<(), AllocError> {
-    text.push_str("{\"version\":\"2.0\"")?;
-    push_plain(text, dice)?;
+    text.put("{\"version\":\"2.0\"");
+    push_plain(text, dice);
     if dice.once_in(4) {
-        push_member(text, "restriction", "\"public\"")?;
+        push_member(text, "restriction", "\"public\"");
     }
     if dice.once_in(3) {
         push_classes(text, alloc, dice, classes)?;
@@ -242,43 +236,24 @@ fn push_front(
 }
 
 fn incident_text(alloc: Global, dice: &mut Dice, classes: &[String]) -> Result<String, AllocError> {
-    let mut text = String::from_str(alloc, "{\"GenerationTime\":\"g\",\"purpose\":\"reporting\"")?;
-    push_member(&mut text, "IncidentID", any_class(dice, classes, 0))?;
-    push_contacts(&mut text, alloc, dice, classes)?;
-    push_marking(&mut text, marking(dice))?;
-    push_plain(&mut text, dice)?;
-    push_classes(&mut text, alloc, dice, classes)?;
-    text.push('}')?;
-    Ok(text)
-}
-
-fn push_contacts(
-    text: &mut String,
-    alloc: Global,
-    dice: &mut Dice,
-    classes: &[String],
-) -> Result<(), AllocError> {
+    let mut text = Writing::new(alloc);
+    text.put("{\"GenerationTime\":\"g\",\"purpose\":\"reporting\"");
+    push_member(&mut text, "IncidentID", any_class(dice, classes, 0));
     let contacts = array_text(alloc, dice, classes, 0)?;
-    push_member(text, "Contact", contacts.as_str())
-}
-
-fn push_incident(
-    text: &mut String,
-    alloc: Global,
-    dice: &mut Dice,
-    classes: &[String],
-) -> Result<(), AllocError> {
-    let incident = incident_text(alloc, dice, classes)?;
-    text.push_str(",\"Incident\":[")?;
-    text.push_str(incident.as_str())?;
-    text.push_str("]}")
+    push_member(&mut text, "Contact", contacts.as_str());
+    push_marking(&mut text, marking(dice));
+    push_plain(&mut text, dice);
+    push_classes(&mut text, alloc, dice, classes)?;
+    text.put("}");
+    text.done()
 }
 
 /// A report with one Incident.
 pub fn report_text(alloc: Global, dice: &mut Dice) -> Result<String, AllocError> {
     let classes = any_classes(alloc, dice)?;
-    let mut text = String::new(alloc);
+    let mut text = Writing::new(alloc);
     push_front(&mut text, alloc, dice, &classes)?;
-    push_incident(&mut text, alloc, dice, &classes)?;
-    Ok(text)
+    let incident = incident_text(alloc, dice, &classes)?;
+    text.put_all(&[",\"Incident\":[", incident.as_str(), "]}"]);
+    text.done()
 }

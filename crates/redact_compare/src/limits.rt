@@ -7,6 +7,7 @@ ghost use Rattle.marking.specs.Marks.{first_bad_marking};
 
 use crate::compared::{document_of, same_line};
 use crate::entry::element;
+use crate::writing::Writing;
 use iodef_tree::{Document, LINE_LIMIT, Line, Path};
 use marking::check;
 use policy::{Case, Gate, Gates, Grantee, Permission, Permissions, Rule, Standing};
@@ -24,22 +25,16 @@ const ORG: u32 = 4;
 
 /// 2 lines of the root, 5 plain ones of the Incident, 33 of the chain and 4,056 of the events: 4,096.
 fn report_text(alloc: Global) -> Result<String, AllocError> {
-    let mut text = String::from_str(alloc, "{\"version\":\"2.0\",\"Incident\":[{")?;
-    text.push_str("\"Contact\":[],\"GenerationTime\":\"g\",\"IncidentID\":\"1\",")?;
-    text.push_str("\"note\":\"n\",\"purpose\":\"reporting\",\"EventData\":[")?;
-    for _ in 1..EVENTS {
-        text.push_str("{\"note\":\"x\",\"restriction\":\"red\"},")?;
-    }
-    text.push_str("{\"note\":\"x\",\"restriction\":\"red\"}],")?;
-    for _ in 0..CHAIN {
-        text.push_str("\"Chain\":{")?;
-    }
-    text.push_str("\"note\":\"deep\",\"restriction\":\"public\"")?;
-    for _ in 1..CHAIN {
-        text.push('}')?;
-    }
-    text.push_str(",\"restriction\":\"red\"}}]}")?;
-    Ok(text)
+    let mut text = Writing::new(alloc);
+    text.put("{\"version\":\"2.0\",\"Incident\":[{\"Contact\":[],\"GenerationTime\":\"g\",");
+    text.put("\"IncidentID\":\"1\",\"note\":\"n\",\"purpose\":\"reporting\",\"EventData\":[");
+    text.put_often(EVENTS - 1, "{\"note\":\"x\",\"restriction\":\"red\"},");
+    text.put("{\"note\":\"x\",\"restriction\":\"red\"}],");
+    text.put_often(CHAIN, "\"Chain\":{");
+    text.put("\"note\":\"deep\",\"restriction\":\"public\"");
+    text.put_often(CHAIN - 1, "}");
+    text.put(",\"restriction\":\"red\"}}]}");
+    text.done()
 }
 
 /// The Incident's path.

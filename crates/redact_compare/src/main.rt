@@ -15,6 +15,7 @@ mod shown;
 mod stations;
 mod tally;
 mod world;
+mod writing;
 
 use compared::agrees_at;
 use limits::holds_at_limits;

@@ -1,0 +1,61 @@
+//! The words of a line.
+
+use crate::unfit::Unfit;
+
+/// What a line asks, and the words behind it; those that aren't there are empty.
+#[derive(Clone, Copy)]
+pub struct Line<'a> {
+    pub kind: &'a str,
+    pub first: &'a str,
+    pub second: &'a str,
+    /// Of a label its extended text, if there is one.
+    pub third: Option<&'a str>,
+    pub fourth: &'a str,
+    /// Of a search the name of the class, if it is in one.
+    pub fifth: Option<&'a str>,
+}
+
+/// How many words may stand behind the kind, at least and at most; none of another kind.
+fn words_of(kind: &str) -> Option<(usize, usize)> {
+    match kind {
+        "marks" => Some((0, 0)),
+        "report" | "site" | "clearance" | "numbers" => Some((1, 1)),
+        "order" | "incident" | "gate" | "grantee" | "lists" => Some((2, 2)),
+        "label" => Some((2, 3)),
+        "excerpt" | "listed" => Some((3, 3)),
+        "decide" => Some((4, 4)),
+        "find" => Some((4, 5)),
+        _ => None,
+    }
+}
+
+/// Whether the line is of a known kind, with as many words as its kind wants.
+fn is_whole(kind: &str, words: usize) -> bool {
+    match words_of(kind) {
+        Some((least, most)) => least <= words && words <= most,
+        None => false,
+    }
+}
+
+fn parts<'a>(line: &'a str) -> Line<'a> {
+    let mut words = line.split('|');
+    Line {
+        kind: words.next().unwrap_or(""),
+        first: words.next().unwrap_or(""),
+        second: words.next().unwrap_or(""),
+        third: words.next(),
+        fourth: words.next().unwrap_or(""),
+        fifth: words.next(),
+    }
+}
+
+impl<'a> Line<'a> {
+    pub fn of(line: &'a str) -> Result<Line<'a>, Unfit> {
+        let parts = parts(line);
+        if is_whole(parts.kind, line.split('|').count().saturating_sub(1)) {
+            Ok(parts)
+        } else {
+            Err(Unfit::NoCase)
+        }
+    }
+}

@@ -1,0 +1,58 @@
+//! Texts that are written piece by piece.
+
+use std::alloc::{AllocError, Global};
+
+/// A text that is written piece by piece. Where a piece found no memory, that is told once, at the end.
+#[derive(Drop)]
+pub struct Writing {
+    text: String,
+    is_whole: bool,
+}
+
+impl Writing {
+    pub fn new(alloc: Global) -> Writing {
+        Writing {
+            text: String::new(alloc),
+            is_whole: true,
+        }
+    }
+
+    pub fn put(&mut self, piece: &str) {
+        if self.text.push_str(piece).is_err() {
+            self.is_whole = false;
+        }
+    }
+
+    /// Pieces one after the other.
+    pub fn put_all(&mut self, pieces: &[&str]) {
+        for piece in pieces {
+            self.put(piece);
+        }
+    }
+
+    /// A piece so many times.
+    pub fn put_often(&mut self, count: u32, piece: &str) {
+        for _ in 0..count {
+            self.put(piece);
+        }
+    }
+
+    /// A comma, unless an object was just opened.
+    pub fn comma(&self) -> &'static str {
+        if self.text.as_str().ends_with('{') {
+            ""
+        } else {
+            ","
+        }
+    }
+
+    pub fn len(&self) -> usize {
+        self.text.len()
+    }
+
+    /// The text, if no memory was wanting.
+    pub fn done(self) -> Result<String, AllocError> {
+        let Writing { text, is_whole } = self;
+        if is_whole { Ok(text) } else { Err(AllocError) }
+    }
+}
