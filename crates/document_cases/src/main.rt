@@ -9,8 +9,8 @@
 //!   them. `texts` makes each document again from its outline, and its text must be the same.
 //! - `at ["POINTER",BODY]`: the names of the members of the class there, or `none`.
 //! - `outline LINES`: whether they are one; `made LINES`: the text of the document with these lines; `id LINES`: its IncidentID.
-//! - `pointer "TEXT"`: the tokens of the path, which must print as the text; `print [TOKEN,..]`: the pointer, a number being a
-//!   place in an array; `prefix ["TEXT","TEXT"]`: whether the first path is a prefix of the second.
+//! - `pointer "TEXT"`: the tokens of the path, which must print as the text; `print ["TOKEN",..]`: the pointer
+//!   of these; `prefix ["TEXT","TEXT"]`: whether the first path is a prefix of the second.
 #![tactic(auto)]
 
 mod bodies;

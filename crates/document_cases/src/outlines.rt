@@ -13,20 +13,31 @@ fn quoted(alloc: Global, text: &str) -> Result<String, AllocError> {
     value.to_string(alloc)
 }
 
+/// What stands behind the kind: a text as JSON, anything else as it is.
+fn told(alloc: Global, line: &Line) -> Result<String, AllocError> {
+    let text = line.text.as_str();
+    match line.kind {
+        Kind::Text => quoted(alloc, text),
+        Kind::Class | Kind::Value => String::from_str(alloc, text),
+    }
+}
+
+fn kind_in_front(kind: Kind) -> &'static str {
+    match kind {
+        Kind::Class => "class",
+        Kind::Text => "text ",
+        Kind::Value => "value ",
+    }
+}
+
 /// The line as DEPTH NAME KIND TEXT.
 pub fn written(alloc: Global, line: &Line) -> Result<String, AllocError> {
     let depth = line.depth;
     let name = line.name.as_str();
     let element = if line.in_array { "[]" } else { "" };
-    let text = line.text.as_str();
-    match line.kind {
-        Kind::Class => format!(in alloc; "{depth} {name}{element} class"),
-        Kind::Value => format!(in alloc; "{depth} {name}{element} value {text}"),
-        Kind::Text => {
-            let quoted = quoted(alloc, text)?;
-            format!(in alloc; "{depth} {name}{element} text {quoted}")
-        }
-    }
+    let kind = kind_in_front(line.kind);
+    let told = told(alloc, line)?;
+    format!(in alloc; "{depth} {name}{element} {kind}{told}")
 }
 
 fn kind_of(word: &str) -> Kind {

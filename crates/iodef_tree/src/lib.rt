@@ -7,10 +7,10 @@
 //!
 //! - `read`: from bytes to documents, or to the first `fault`; `unfit_values`: the values that no document can hold;
 //!   `convert`: the others, moved into a tree; `line_limit`: how many lines that tree has;
-//! - `object`: [`Object`], the tree, with `text`, the bytes of its names and texts; `copy`: the same tree once more;
+//! - `object`: [`Object`], the tree; `copy`: the same tree once more;
 //! - `document`: [`Document`], a sound tree with the calls that the crates above make; they see its `line`s;
 //! - `outline`, `classes`: walks down the tree, to its lines and to the paths of its classes;
-//! - `path`, `pointer`: [`Path`], and JSON pointers (RFC 6901); `lookup`: the class at a path;
+//! - `lookup`: the class at a path; [`Path`], with its JSON pointers, and [`Text`] come from the crate below and are passed on;
 //! - `shape`: [`Shape`], whether lines that come one at a time are an outline; `value_text`: the texts that stand for a
 //!   value; `builder`: [`Builder`], the document of such lines;
 //! - `value`, `writer`: back to JSON, as a value and as a text, in which `string` quotes;

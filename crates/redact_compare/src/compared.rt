@@ -42,7 +42,7 @@ const SEARCHES: &[Sought<'static>] = &[
     },
 ];
 
-pub fn same_line(one: &Line, other: &Line) -> bool {
+fn same_line(one: &Line, other: &Line) -> bool {
     one.depth == other.depth
         && one.name == other.name
         && one.in_array == other.in_array
@@ -58,10 +58,14 @@ fn same_lines(one: &[Line], other: &[Line]) -> bool {
             .all(|(line, second)| same_line(line, second))
 }
 
+fn is_told(alloc: Global, place: &Path, rule: Rule, pair: &Told) -> Result<bool, AllocError> {
+    let printed = place.print(alloc)?;
+    Ok(printed.as_str() == pair.place.as_str() && rule.name() == pair.rule)
+}
+
 fn same_withheld(alloc: Global, pairs: &[(Path, Rule)], told: &[Told]) -> Result<bool, AllocError> {
     for ((place, rule), pair) in pairs.iter().zip(told.iter()) {
-        let printed = place.print(alloc)?;
-        if printed.as_str() != pair.place.as_str() || rule.name() != pair.rule {
+        if !is_told(alloc, place, *rule, pair)? {
             return Ok(false);
         }
     }
@@ -256,7 +260,7 @@ fn agrees_in(
 }
 
 /// Whether both agree on a document for a reader.
-pub fn agrees(
+fn agrees(
     alloc: Global,
     tally: &mut Tally,
     document: &Document,
@@ -282,6 +286,20 @@ fn case_over(alloc: Global, dice: &mut Dice, document: &Document) -> Result<Case
     any_case(alloc, dice, &classes)
 }
 
+/// Whether both agree on the document in this case, for any reader.
+fn agrees_in_case(
+    alloc: Global,
+    tally: &mut Tally,
+    dice: &mut Dice,
+    document: &Document,
+    case: &Case,
+) -> Result<bool, AllocError>
+    requires { first_bad_marking (entries_of document.now) ≡ None }
+{
+    let standing = any_standing(alloc, dice)?;
+    agrees(alloc, tally, document, case, &standing)
+}
+
 /// Whether both agree on the document, for any case and reader.
 fn agrees_for_any(
     alloc: Global,
@@ -292,17 +310,19 @@ fn agrees_for_any(
     requires { first_bad_marking (entries_of document.now) ≡ None }
 {
     let case = case_over(alloc, dice, document)?;
-    let standing = any_standing(alloc, dice)?;
-    agrees(alloc, tally, document, &case, &standing)
+    agrees_in_case(alloc, tally, dice, document, &case)
 }
 
-/// Whether both agree on the document. One that isn't accepted agrees on nothing.
+/// Whether both agree on the document. None, and one that isn't accepted, agrees on nothing.
 fn agrees_on(
     alloc: Global,
     tally: &mut Tally,
     dice: &mut Dice,
-    document: &Document,
+    document: &Option<Document>,
 ) -> Result<bool, AllocError> {
+    let Some(document) = document else {
+        return Ok(false);
+    };
     match check(alloc, document) {
         Ok(()) => agrees_for_any(alloc, tally, dice, document),
         Err(_) => Ok(false),
@@ -310,16 +330,19 @@ fn agrees_on(
 }
 
 /// The document of a report, if it is read.
-pub fn document_of(alloc: Global, text: &str) -> Option<Document> {
+fn document_of(alloc: Global, text: &str) -> Option<Document> {
     Document::read(alloc, text.as_bytes()).ok()?.pop()
 }
 
-/// Whether both agree on the case of this seed. A report that isn't read agrees on nothing.
+/// The document of any report, if it is read.
+fn any_document(alloc: Global, dice: &mut Dice) -> Result<Option<Document>, AllocError> {
+    let text = report_text(alloc, dice)?;
+    Ok(document_of(alloc, text.as_str()))
+}
+
+/// Whether both agree on the case of this seed.
 pub fn agrees_at(alloc: Global, tally: &mut Tally, seed: u64) -> Result<bool, AllocError> {
     let mut dice = Dice::new(seed);
-    let text = report_text(alloc, &mut dice)?;
-    match document_of(alloc, text.as_str()) {
-        Some(document) => agrees_on(alloc, tally, &mut dice, &document),
-        None => Ok(false),
-    }
+    let document = any_document(alloc, &mut dice)?;
+    agrees_on(alloc, tally, &mut dice, &document)
 }

@@ -184,13 +184,12 @@ fn link_text(alloc: Global, dice: &mut Dice, inner: &str) -> Result<String, Allo
     text.done()
 }
 
-/// A class at the end of a chain of such classes in one another.
-fn chain_text(alloc: Global, dice: &mut Dice, last: &str) -> Result<String, AllocError> {
-    let mut text = String::from_str(alloc, last)?;
+/// Puts a class at the end of a chain of such classes in one another.
+fn put_into_links(alloc: Global, dice: &mut Dice, class: &mut String) -> Result<(), AllocError> {
     for _ in 0..dice.roll(12) {
-        text = link_text(alloc, dice, text.as_str())?;
+        *class = link_text(alloc, dice, class.as_str())?;
     }
-    Ok(text)
+    Ok(())
 }
 
 /// Puts the first of the classes at the end of a chain, once in three times.
@@ -199,10 +198,20 @@ fn put_into_chain(
     dice: &mut Dice,
     classes: &mut Vec<String>,
 ) -> Result<(), AllocError> {
-    if let Some(first) = classes.first_mut() {
-        if dice.once_in(3) {
-            *first = chain_text(alloc, dice, first.as_str())?;
-        }
+    match classes.first_mut() {
+        Some(first) if dice.once_in(3) => put_into_links(alloc, dice, first),
+        _ => Ok(()),
+    }
+}
+
+/// Makes these classes anew, some levels higher.
+fn put_into_levels(
+    alloc: Global,
+    dice: &mut Dice,
+    classes: &mut Vec<String>,
+) -> Result<(), AllocError> {
+    for _ in 0..dice.roll(4) {
+        *classes = level(alloc, dice, classes)?;
     }
     Ok(())
 }
@@ -210,9 +219,7 @@ fn put_into_chain(
 /// The classes that a report is made of.
 fn any_classes(alloc: Global, dice: &mut Dice) -> Result<Vec<String>, AllocError> {
     let mut classes = Vec::new(alloc);
-    for _ in 0..dice.roll(4) {
-        classes = level(alloc, dice, &classes)?;
-    }
+    put_into_levels(alloc, dice, &mut classes)?;
     put_into_chain(alloc, dice, &mut classes)?;
     Ok(classes)
 }

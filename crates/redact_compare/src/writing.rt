@@ -30,13 +30,6 @@ impl Writing {
         }
     }
 
-    /// A piece so many times.
-    pub fn put_often(&mut self, count: u32, piece: &str) {
-        for _ in 0..count {
-            self.put(piece);
-        }
-    }
-
     /// A comma, unless an object was just opened.
     pub fn comma(&self) -> &'static str {
         if self.text.as_str().ends_with('{') {
