@@ -1,14 +1,13 @@
 #!/usr/bin/env python3
 """What one call costs on reports that keep every limit and are made to cost: instructions by callgrind, and peak memory.
 
-    python3 bench/dear.py crates/redact_bench/out/redact_bench [ROW ..]
+    python3 bench/dear.py crates/redact_bench/out/redact_bench ['gated finds' ..]
 
 The reports have 27 classes in one another, each in an array and under a long name, and many classes below the last. With
-`--print ROW` it prints what the program gets on standard input.
+`--print ROW` it prints what the program gets on standard input. It wants valgrind and GNU time.
 """
 
 import argparse
-import os
 import re
 import subprocess
 import sys
@@ -59,26 +58,26 @@ def instructions(program, row, turns):
 
 def peak(program, row):
     """What one call prints, and the most memory that the program had, in megabytes."""
-    with tempfile.TemporaryFile() as given:
-        given.write(report(ROWS[row][0]))
-        given.seek(0)
-        started = subprocess.Popen([program, *words(row, 1)], stdin=given, stdout=subprocess.PIPE)
-        said = started.stdout.read().decode().strip()
-        _, status, usage = os.wait4(started.pid, 0)
-    if status:
-        sys.exit(f"{row}: status {status}")
-    return said, usage.ru_maxrss / 1024
+    command = ["/usr/bin/time", "-f", "%M", program, *words(row, 1)]
+    run = subprocess.run(command, input=report(ROWS[row][0]), capture_output=True)
+    if run.returncode:
+        sys.exit(f"{row}: status {run.returncode}")
+    return run.stdout.decode().strip(), int(run.stderr.split()[-1]) / 1024
 
 
 def main():
-    asked = argparse.ArgumentParser(description=__doc__, formatter_class=argparse.RawDescriptionHelpFormatter)
-    asked.add_argument("program", nargs="?")
-    asked.add_argument("rows", nargs="*", metavar="ROW")
-    asked.add_argument("--print", metavar="ROW", choices=ROWS)
-    asked = asked.parse_args()
+    parser = argparse.ArgumentParser(description=__doc__, formatter_class=argparse.RawDescriptionHelpFormatter)
+    parser.add_argument("program", nargs="?")
+    parser.add_argument("rows", nargs="*", metavar="ROW")
+    parser.add_argument("--print", metavar="ROW", choices=ROWS)
+    asked = parser.parse_args()
     if asked.print:
         sys.stdout.buffer.write(report(ROWS[asked.print][0]))
         return
+    if not asked.program:
+        parser.error("which program?")
+    if unknown := [it for it in asked.rows if it not in ROWS]:
+        parser.error(f"no row {', '.join(unknown)}; the rows are {', '.join(ROWS)}")
     for row in asked.rows or ROWS:
         said, memory = peak(asked.program, row)
         once = instructions(asked.program, row, 2) - instructions(asked.program, row, 1)

@@ -30,7 +30,9 @@ fn name(alloc: Global, text: &str) -> Result<&'static str, AllocError> {
         Some(name) => {
             let copy = name.clone()?;
             let is_same = name == copy;
-            Ok(as_told(is_same && name.as_str() == text, copy.into_string(), text))
+            let is_kept = name.as_str() == text;
+            let given_back = copy.into_string();
+            Ok(as_told(is_same && is_kept && given_back.as_str() == text))
         }
         None => Ok("refused"),
     }
@@ -41,25 +43,23 @@ fn releasability(alloc: Global, text: &str) -> Result<&'static str, AllocError> 
         Some(found) => {
             let copy = found.clone()?;
             let is_same = found == copy;
-            Ok(as_told(is_same && found.as_str() == text, copy.into_string(), text))
+            let is_kept = found.as_str() == text;
+            let given_back = copy.into_string();
+            Ok(as_told(is_same && is_kept && given_back.as_str() == text))
         }
         None => Ok("refused"),
     }
 }
 
-/// Whether the text is kept in the copy that was given back, too.
-fn as_told(is_kept: bool, copy: String, text: &str) -> &'static str {
-    if is_kept && copy.as_str() == text {
-        "kept"
-    } else {
-        "changed"
-    }
+fn as_told(is_kept: bool) -> &'static str {
+    if is_kept { "kept" } else { "changed" }
 }
 
-/// Whether the text is its own copy, and keeps what it was made of.
+/// Whether the text is its own copy, and both keep what it was made of.
 fn keeps(text: &Text, copy: Text, made_of: &str) -> bool {
     let is_same = *text == copy;
-    is_same && text.as_str() == made_of && as_told(true, copy.into_string(), made_of) == "kept"
+    let given_back = copy.into_string();
+    is_same && text.as_str() == made_of && given_back.as_str() == made_of
 }
 
 /// Whether two texts are the same, and the first its own copy.

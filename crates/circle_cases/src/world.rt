@@ -9,23 +9,31 @@ use circle::releasability::Releasability;
 use circle_rows::DirectoryRows;
 use std::alloc::{AllocError, Global};
 
-/// The organisations, not in their order.
+// The rows stand out of their order on purpose, as the directory sorts them in.
+
+/// Number and name.
 const ORGS: &[(u32, &str)] = &[(3, "Mem"), (1, "Hub"), (5, "Cli"), (2, "Src"), (4, "Far")];
 
+/// Number and name.
 const COMMUNITIES: &[(u32, &str)] = &[(2, "south"), (3, "east"), (1, "north")];
 
+/// Number, organisation and role.
 const PERSONS: &[(u32, u32, Role)] = &[
     (2, 2, Role::Coordinator),
     (3, 3, Role::Reader),
     (1, 1, Role::Administrator),
 ];
 
+/// Organisation and client.
 const CLIENTS: &[(u32, u32)] = &[(3, 5), (4, 5), (2, 5), (2, 4)];
 
+/// Community and organisation.
 const MEMBERSHIPS: &[(u32, u32)] = &[(2, 4), (1, 3), (3, 5), (1, 2)];
 
+/// The lower community and the higher one.
 const CONNECTIONS: &[(u32, u32)] = &[(2, 3), (1, 2), (1, 3)];
 
+/// Group, organisation, and whether it may extend the group.
 const GROUP_MEMBERS: &[(u32, u32, bool)] = &[
     (2, 4, false),
     (1, 3, false),
@@ -34,6 +42,7 @@ const GROUP_MEMBERS: &[(u32, u32, bool)] = &[
     (1, 4, true),
 ];
 
+/// Source, organisation and handling.
 const ARRANGEMENTS: &[(u32, u32, Handling)] = &[
     (3, 2, Handling::Red),
     (2, 3, Handling::Green),

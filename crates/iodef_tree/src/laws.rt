@@ -1,4 +1,5 @@
-//! What holds of every sound tree, and so of every document, as the definitions of later crates stand on it. Each law is the contract of a function that does nothing.
+//! What holds of every sound tree, and so of every document, as the definitions of later crates stand on it. Each law is
+//! the contract of a function that does nothing.
 #![tactic(auto, using(crate::proofs::Proven::laws))]
 
 ghost use Rattle.std.specs.Prelude.{◌≡◌};

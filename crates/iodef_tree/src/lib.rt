@@ -10,11 +10,13 @@
 //! - `object`: [`Object`], the tree; `copy`: the same tree once more;
 //! - `document`: [`Document`], a sound tree with the calls that the crates above make; they see its `line`s;
 //! - `outline`, `classes`: walks down the tree, to its lines and to the paths of its classes;
-//! - `lookup`: the class at a path; [`Path`], with its JSON pointers, and [`Text`] come from the crate below and are passed on;
+//! - `lookup`: the class at a path;
 //! - `shape`: [`Shape`], whether lines that come one at a time are an outline; `value_text`: the texts that stand for a
 //!   value; `builder`: [`Builder`], the document of such lines;
 //! - `value`, `writer`: back to JSON, as a value and as a text, in which `string` quotes;
-//! - [`laws`]: what holds of every document and path, and [`examples`], the lines of three small bodies.
+//! - [`laws`]: what holds of every document, and [`examples`], the lines of three small bodies.
+//!
+//! [`Path`], [`PathFault`], [`Text`] and [`push_token`] come from `json_pointer` and are passed on.
 #![tactic(auto)]
 
 mod builder;

@@ -1,4 +1,4 @@
-//! The paths of classes.
+//! Paths.
 
 ghost use Rattle.std.specs.Prelude.{◌≡◌, ◌++◌, ◌∷◌, [], IfOk, string_bytes};
 ghost use Rattle.json_pointer.specs.Pointer.{pointer_text, pointer_tokens};
@@ -9,8 +9,8 @@ use crate::text::Text;
 use std::alloc::{AllocError, Global};
 use std::marker::Model;
 
-/// The path of a class by its reference tokens (RFC 6901 section 3), the root's being empty. An array place is its
-/// decimal digits. Contracts see the list of the tokens.
+/// A path by its reference tokens (RFC 6901 section 3); the root's is empty. An array place is its decimal digits.
+/// Contracts see the list of the tokens.
 #[derive(Debug, Drop)]
 pub struct Path {
     tokens: Vec<Text>,
@@ -80,7 +80,7 @@ impl Path {
         Ok(Path::new(read_tokens(alloc, written)?))
     }
 
-    /// Whether this is the path of the other one's class, or of a class above it; takes no memory.
+    /// Whether the other path begins with the tokens of this one; takes no memory.
     #[tactic(auto, using(crate::proofs::Steps::is_prefix_of_steps))]
     pub fn is_prefix_of(&self, other: &Path) -> bool
         ensures { result ≡ is_prefix self.now other.now }

@@ -1,6 +1,6 @@
 //! JSON pointers as texts (RFC 6901).
 
-ghost use Rattle.std.specs.Prelude.{◌≡◌, ◌++◌, ◌∷◌, map, string_bytes, OnOk, IfOk, encode_utf8};
+ghost use Rattle.std.specs.Prelude.{◌≡◌, ◌++◌, ◌∷◌, string_bytes, OnOk, IfOk, encode_utf8};
 ghost use Rattle.std.specs.List.{list_any};
 ghost use Rattle.std.specs.Str.{byte};
 ghost use Rattle.json_pointer.specs.Pointer.{is_escaped_byte, escaped, escaped_by, unescaped, slash_separated, fault_name};

@@ -58,7 +58,8 @@ fn answer_of_reader(alloc: Global, line: &Line<'_>) -> Result<String, Unfit> {
     match line.kind {
         "clearance" => cleared(alloc, &standing),
         "gate" => gate(alloc, &standing, line.second),
-        _ => grantee(alloc, &standing, line.second),
+        "grantee" => grantee(alloc, &standing, line.second),
+        _ => Err(Unfit::NoCase),
     }
 }
 

@@ -8,7 +8,7 @@ pub struct Line<'a> {
     pub kind: &'a str,
     pub first: &'a str,
     pub second: &'a str,
-    /// Of a label its extended text, if there is one.
+    /// Of a label its extended text, if there is one; of what is asked of a report the permissions.
     pub third: Option<&'a str>,
     pub fourth: &'a str,
     /// Of a search the name of the class, if it is in one.

@@ -1,10 +1,11 @@
 //! `redact_bench TURNS`: redacts the report on standard input so many times, for a reader who is cleared for CLEAR alone
 //! under a gate that lets everybody pass. Prints the last excerpt and, on a second line, how many bytes all of them have
 //! together. `redact_bench TURNS CALL GATES PERMISSIONS`: asks the report on the first line `excerpt` or `finds` so many
-//! times for that reader, or `source`, an excerpt for a reader of the source. The second line is the pointer of an array:
-//! its first elements have so many gates for the source alone, and those behind them so many permissions for the reader.
-//! Prints how many classes are visible and how many pairs withheld, or whether something is found. A report that isn't
-//! accepted has status 1, and other words status 2.
+//! times for that reader, with no gate at the root, or `source`, an excerpt for a reader of the source. The second line is
+//! the pointer of an array: its first elements have so many gates for the source alone, and those behind them so many
+//! permissions for the reader. Prints how many classes are visible and how many pairs withheld; of a search `1 0` or `0 0`,
+//! whether something is found. A report that isn't accepted, or a second line that is no pointer, has status 1, and other
+//! words have status 2.
 #![tactic(auto)]
 
 mod asked;

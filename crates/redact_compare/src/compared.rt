@@ -313,7 +313,7 @@ fn agrees_for_any(
     agrees_in_case(alloc, tally, dice, document, &case)
 }
 
-/// Whether both agree on the document. None, and one that isn't accepted, agrees on nothing.
+/// Whether both agree on the document. A report that isn't read, or isn't accepted, agrees on nothing.
 fn agrees_on(
     alloc: Global,
     tally: &mut Tally,

@@ -184,8 +184,8 @@ fn link_text(alloc: Global, dice: &mut Dice, inner: &str) -> Result<String, Allo
     text.done()
 }
 
-/// Puts a class at the end of a chain of such classes in one another.
-fn put_into_links(alloc: Global, dice: &mut Dice, class: &mut String) -> Result<(), AllocError> {
+/// Puts a class at the end of a chain of classes in one another.
+fn lengthen(alloc: Global, dice: &mut Dice, class: &mut String) -> Result<(), AllocError> {
     for _ in 0..dice.roll(12) {
         *class = link_text(alloc, dice, class.as_str())?;
     }
@@ -199,7 +199,7 @@ fn put_into_chain(
     classes: &mut Vec<String>,
 ) -> Result<(), AllocError> {
     match classes.first_mut() {
-        Some(first) if dice.once_in(3) => put_into_links(alloc, dice, first),
+        Some(first) if dice.once_in(3) => lengthen(alloc, dice, first),
         _ => Ok(()),
     }
 }
