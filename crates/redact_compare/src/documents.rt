@@ -86,13 +86,18 @@ fn class_name(dice: &mut Dice) -> &'static str {
 /// A member behind those of an object or an array that is open.
 fn push_member(text: &mut Writing, name: &str, value: &str) {
     let comma = text.comma();
-    text.put_all(&[comma, "\"", name, "\":", value]);
+    text.put(comma);
+    text.put("\"");
+    text.put(name);
+    text.put("\":");
+    text.put(value);
 }
 
 fn push_marking(text: &mut Writing, written: &str) {
     if !written.is_empty() {
         let comma = text.comma();
-        text.put_all(&[comma, written]);
+        text.put(comma);
+        text.put(written);
     }
 }
 
@@ -124,11 +129,13 @@ fn array_text(
             text.put("\"an element\",");
         } else {
             let class = any_class(dice, classes, used.saturating_add(text.len()));
-            text.put_all(&[class, ","]);
+            text.put(class);
+            text.put(",");
         }
     }
     let last = any_class(dice, classes, used.saturating_add(text.len()));
-    text.put_all(&[last, "]"]);
+    text.put(last);
+    text.put("]");
     text.done()
 }
 
@@ -180,7 +187,8 @@ fn link_text(alloc: Global, dice: &mut Dice, inner: &str) -> Result<String, Allo
         push_marking(&mut text, marking(dice));
     }
     push_member(&mut text, class_name(dice), "[");
-    text.put_all(&[inner, "]}"]);
+    text.put(inner);
+    text.put("]}");
     text.done()
 }
 
@@ -261,6 +269,8 @@ pub fn report_text(alloc: Global, dice: &mut Dice) -> Result<String, AllocError>
     let mut text = Writing::new(alloc);
     push_front(&mut text, alloc, dice, &classes)?;
     let incident = incident_text(alloc, dice, &classes)?;
-    text.put_all(&[",\"Incident\":[", incident.as_str(), "]}"]);
+    text.put(",\"Incident\":[");
+    text.put(incident.as_str());
+    text.put("]}");
     text.done()
 }

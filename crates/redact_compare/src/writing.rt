@@ -23,13 +23,6 @@ impl Writing {
         }
     }
 
-    /// Pieces one after the other.
-    pub fn put_all(&mut self, pieces: &[&str]) {
-        for piece in pieces {
-            self.put(piece);
-        }
-    }
-
     /// A comma, unless an object was just opened.
     pub fn comma(&self) -> &'static str {
         if self.text.as_str().ends_with('{') {
