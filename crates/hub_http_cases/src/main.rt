@@ -1,34 +1,72 @@
 //! Answers the cases on standard input, one a line, and prints each answer. A line that begins with `#` is printed as it is.
+//! In what is printed `\r` and `\n` stand for CR and LF; so they do in the bytes of a request, where `\x41` is any byte
+//! (`\x5c` the backslash) and `<3*a:b\r\n>` is three times what stands behind the star.
 //!
-//! A case is the bytes of a request, where `\r`, `\n` and `\x41` stand for a byte each (`\x5c` for the backslash) and `<3*a:b\r\n>`
-//! for three times what stands behind the star. The answer is the key and what is asked, or the first fault of the bytes.
+//! What is asked: `asked|BYTES`, answered by the key and what is asked with it, or by the first fault of the bytes.
+//!
+//! What is replied: `reply|REPLY`, answered by the bytes of the reply, and `body|REPLY`, by the body alone. REPLY is one of
+//!
+//! - `done`; `numbers|1,2`; `revision|2`; `trace|TEXT`; `caller|NUMBER|ORG|NAME|ROLE|nominated`, the last empty where it isn't
+//! - `incidents|NUMBER REVISION SOURCE,..` and `groups|NUMBER:OWNER:NAME:RELEASABILITY:FLAGS,..` with the flags `active` and `extend`
+//! - `view|NUMBER|REVISION|SOURCE|READER|PERMITTED|DOCUMENT`: what a reader is served of a document under a gate that everybody
+//!   passes. READER are words, `source`, `community`, `nominated` and `client`; a permission for the reader stands at PERMITTED,
+//!   unless that is empty.
+//! - `refused|CODE|DETAIL`
+//!
+//! and `fault|NAME` is answered by the bytes of that fault.
+//!
+//! Whole connections over memory: `WAY|BYTES`, answered by the outcome and what was written. The hub keeps what it is told from
+//! line to line; it begins with organisation 1 and its administrator, person 1, whose key is `abc`. WAY is one of
+//!
+//! - `whole`: the reader gives all bytes at once;
+//! - `bytes`: it gives them one by one, and the count of reads is told;
+//! - `prefixes`: each proper prefix, and how many of them ended as cut off with nothing written;
+//! - `reads`: one by one, and the k-th read fails, for each k up to the last read that a request takes; told is how many ended so with
+//!   nothing written;
+//! - `writes`: the writer takes 16 bytes at a time, and its k-th write fails, for each k up to the last write that the reply takes;
+//!   told is how many ended so.
 #![tactic(auto)]
 
-mod escapes;
-mod told;
+mod asked;
+mod bytes;
+mod commands;
+mod replies;
+mod serving;
+mod streams;
+mod views;
+mod world;
+mod written;
 
-use hub_http::request_of;
+use hub::Hub;
+use hub_core::ListShelf;
 use std::alloc::{AllocError, Global};
 use std::io;
 use std::io::Read;
 
-fn answer(alloc: Global, line: &str) -> Result<String, AllocError> {
-    let bytes = escapes::bytes_of(alloc, line)?;
-    match request_of(alloc, &bytes) {
-        Ok((key, request)) => told::asked(alloc, &key, &request),
-        Err(fault) => format!(in alloc; "{fault:?}"),
+fn answer(alloc: Global, hub: &mut Hub<ListShelf>, line: &str) -> Result<String, AllocError> {
+    let (kind, rest) = line.split_once('|').unwrap_or((line, ""));
+    match kind {
+        "asked" => asked::answer(alloc, rest),
+        "reply" => written::reply(alloc, rest),
+        "body" => written::body(alloc, rest),
+        "fault" => written::fault(alloc, rest),
+        way => serving::answer(alloc, hub, way, rest),
     }
 }
 
 fn main(rt: HostRuntime) -> io::Result<()> {
     let alloc = rt.alloc();
-    let mut cases = String::new(alloc);
-    rt.reader().read_to_string(&mut cases)?;
-    for line in cases.lines() {
+    let mut table = String::new(alloc);
+    rt.reader().read_to_string(&mut table)?;
+    let Some(shelf) = world::first_shelf(alloc)? else {
+        return Ok(());
+    };
+    let mut hub = Hub::new(shelf);
+    for line in table.lines() {
         if line.starts_with('#') {
             println!(rt; "{line}")?;
         } else {
-            let answer = answer(alloc, line)?;
+            let answer = answer(alloc, &mut hub, line)?;
             println!(rt; "{answer}")?;
         }
     }

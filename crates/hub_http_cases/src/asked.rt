@@ -1,7 +1,10 @@
-//! What is asked, in words.
+//! What is asked by the bytes of a request, in words.
 
+use crate::bytes::bytes_of;
+use crate::commands::command;
 use hub::Key;
 use hub_core::{Bytes, Request, Target, WantedGates};
+use hub_http::request_of;
 use policy::Grantee;
 use std::alloc::{AllocError, Global};
 
@@ -170,7 +173,7 @@ fn widening(alloc: Global, request: &Request) -> Result<Option<String>, AllocErr
             let (kind, number) = grantee(*from);
             format!(in alloc; "Withdraw {incident} {path:?} {kind} {number}")?
         }
-        Request::Circle(command) => format!(in alloc; "{command:?}")?,
+        Request::Circle(wanted) => command(alloc, wanted)?,
         _ => return Ok(None),
     };
     Ok(Some(told))
@@ -190,11 +193,20 @@ fn request(alloc: Global, request: &Request) -> Result<String, AllocError> {
 }
 
 /// The key's digest, or `absent`, and the request.
-pub fn asked(alloc: Global, key: &Key, wanted: &Request) -> Result<String, AllocError> {
+fn asked(alloc: Global, key: &Key, wanted: &Request) -> Result<String, AllocError> {
     let key = match key {
         Key::Absent => String::from_str(alloc, "absent")?,
         Key::Digest(bytes) => hex::encode(alloc, bytes.as_slice())?,
     };
     let told = request(alloc, wanted)?;
     format!(in alloc; "{key} {told}")
+}
+
+/// The answer to the bytes of a request.
+pub fn answer(alloc: Global, line: &str) -> Result<String, AllocError> {
+    let bytes = bytes_of(alloc, line)?;
+    match request_of(alloc, &bytes) {
+        Ok((key, request)) => asked(alloc, &key, &request),
+        Err(fault) => format!(in alloc; "{fault:?}"),
+    }
 }

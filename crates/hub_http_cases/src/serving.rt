@@ -1,7 +1,8 @@
-//! Serves the request of a line in the way that it names.
+//! Serves a request over memory, in the way that the line names.
 
-use crate::lines::{bytes_of, shown};
+use crate::bytes::bytes_of;
 use crate::streams::{Drip, Narrow};
+use crate::written::shown_bytes;
 use hub::Hub;
 use hub_core::ListShelf;
 use hub_http::{ServeFault, Served, serve_one};
@@ -27,7 +28,7 @@ fn told(
     out: &[u8],
 ) -> Result<String, AllocError> {
     let outcome = outcome(served);
-    let written = shown(alloc, out)?;
+    let written = shown_bytes(alloc, out)?;
     format!(in alloc; "{outcome} {written}")
 }
 
@@ -111,19 +112,20 @@ fn failing_writes(
     String::from_str(alloc, "every write failed")
 }
 
-/// The answer to a line.
-pub fn answer(alloc: Global, hub: &mut Hub<ListShelf>, line: &str) -> Result<String, AllocError> {
-    let Some((way, request)) = line.split_once('|') else {
-        return String::from_str(alloc, "no request");
-    };
-    let text = bytes_of(alloc, request)?;
-    let bytes = text.as_bytes();
+/// The answer to the bytes of a request that are served in this way.
+pub fn answer(
+    alloc: Global,
+    hub: &mut Hub<ListShelf>,
+    way: &str,
+    request: &str,
+) -> Result<String, AllocError> {
+    let bytes = bytes_of(alloc, request)?;
     match way {
-        "whole" => whole(alloc, hub, bytes),
-        "bytes" => by_bytes(alloc, hub, bytes),
-        "prefixes" => prefixes(alloc, hub, bytes),
-        "reads" => failing_reads(alloc, hub, bytes),
-        "writes" => failing_writes(alloc, hub, bytes),
+        "whole" => whole(alloc, hub, &bytes),
+        "bytes" => by_bytes(alloc, hub, &bytes),
+        "prefixes" => prefixes(alloc, hub, &bytes),
+        "reads" => failing_reads(alloc, hub, &bytes),
+        "writes" => failing_writes(alloc, hub, &bytes),
         _ => String::from_str(alloc, "no such way"),
     }
 }

@@ -1,4 +1,4 @@
-//! The answer to a line of the table.
+//! The bytes that are written for a reply or a fault.
 
 use crate::replies::reply_of;
 use hub_http::{WireFault, body_text, fault_bytes, reply_bytes};
@@ -17,7 +17,8 @@ fn shown(alloc: Global, text: &str) -> Result<String, AllocError> {
     Ok(all)
 }
 
-fn shown_bytes(alloc: Global, bytes: &[u8]) -> Result<String, AllocError> {
+/// Bytes as they are printed.
+pub fn shown_bytes(alloc: Global, bytes: &[u8]) -> Result<String, AllocError> {
     match std::str::from_utf8(bytes) {
         Ok(text) => shown(alloc, text),
         Err(_) => String::from_str(alloc, "no text"),
@@ -39,25 +40,26 @@ fn fault_named(name: &str) -> Option<WireFault> {
     }
 }
 
-fn fault_answer(alloc: Global, name: &str) -> Result<String, AllocError> {
+/// The answer to the name of a fault.
+pub fn fault(alloc: Global, name: &str) -> Result<String, AllocError> {
     match fault_named(name) {
         Some(fault) => shown_bytes(alloc, &fault_bytes(alloc, fault)?),
         None => String::from_str(alloc, "no such fault"),
     }
 }
 
-/// The answer to a line.
-pub fn answer(alloc: Global, line: &str) -> Result<String, AllocError> {
-    if let Some(name) = line.strip_prefix("fault|") {
-        return fault_answer(alloc, name);
-    }
-    let (alone, case) = match line.strip_prefix("body ") {
-        Some(case) => (true, case),
-        None => (false, line),
-    };
-    match reply_of(alloc, case)? {
-        None => String::from_str(alloc, "no reply"),
-        Some(reply) if alone => body_text(alloc, &reply),
+/// The answer to a reply: its bytes.
+pub fn reply(alloc: Global, line: &str) -> Result<String, AllocError> {
+    match reply_of(alloc, line)? {
         Some(reply) => shown_bytes(alloc, &reply_bytes(alloc, &reply)?),
+        None => String::from_str(alloc, "no reply"),
+    }
+}
+
+/// The answer to a reply: its body alone.
+pub fn body(alloc: Global, line: &str) -> Result<String, AllocError> {
+    match reply_of(alloc, line)? {
+        Some(reply) => body_text(alloc, &reply),
+        None => String::from_str(alloc, "no reply"),
     }
 }
