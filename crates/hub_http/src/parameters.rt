@@ -1,6 +1,6 @@
 //! Parameters of a request: names and values, and how many there are of each name.
 ghost use Rattle.std.specs.Prelude.{◌≡◌, ◌++◌, ◌<◌, ℕ, List, length, Ok, codes, option_copied};
-ghost use Rattle.hub_http.specs.Outcome.{Gives, GivesAs};
+ghost use Rattle.hub_http.specs.Outcome.{Yields, YieldsAs};
 ghost use Rattle.hub_http.specs.Spelling.{gates};
 ghost use Rattle.hub_http.specs.Parameters as spec;
 ghost use Rattle.hub_http.specs.Texts.{texts};
@@ -32,7 +32,7 @@ impl<'a> Model for Parameters<'a> {
 
 /// The parameters that a form spells.
 pub(crate) fn read_parameters(alloc: Global, form: &[u8]) -> Result<Parameters<'_>, RequestFault>
-    ensures { GivesAs (λ p. p) result (Ok (spec.pairs_of form.now)) }
+    ensures { YieldsAs (λ p. p) result (Ok (spec.pairs_of form.now)) }
 {
     let mut pairs = Vec::new(alloc);
     for pair in form_urlencoded::parse(alloc, form) {
@@ -56,7 +56,7 @@ impl<'a> Parameters<'a> {
     /// The one value under a name, if there is any.
     #[tactic(auto, unfolding(crate::specs::Parameters::optional))]
     pub(crate) fn optional(&self, name: &str) -> Result<Option<&str>, RequestFault>
-        ensures { GivesAs option_copied result (spec.optional name.now self.now) }
+        ensures { YieldsAs option_copied result (spec.optional name.now self.now) }
     {
         let mut found: Option<&str> = None;
         for pair in &self.pairs {
@@ -73,7 +73,7 @@ impl<'a> Parameters<'a> {
     /// The one value under a name.
     #[tactic(auto, unfolding(crate::specs::Parameters::needed, crate::specs::Parameters::optional))]
     pub(crate) fn needed(&self, name: &str) -> Result<&str, RequestFault>
-        ensures { GivesAs (λ v. v.now) result (spec.needed name.now self.now) }
+        ensures { YieldsAs (λ v. v.now) result (spec.needed name.now self.now) }
     {
         match self.optional(name)? {
             Some(value) => Ok(value),
@@ -83,7 +83,7 @@ impl<'a> Parameters<'a> {
 
     /// The one value under a name, kept.
     pub(crate) fn needed_text(&self, alloc: Global, name: &str) -> Result<Text, RequestFault>
-        ensures { Gives result (spec.needed name.now self.now) }
+        ensures { Yields result (spec.needed name.now self.now) }
     {
         let value = self.needed(name)?;
         text_of(alloc, value)
@@ -95,7 +95,7 @@ impl<'a> Parameters<'a> {
         alloc: Global,
         name: &str,
     ) -> Result<Option<Text>, RequestFault>
-        ensures { Gives result (spec.optional name.now self.now) }
+        ensures { Yields result (spec.optional name.now self.now) }
     {
         match self.optional(name)? {
             Some(text) => Ok(Some(text_of(alloc, text)?)),
@@ -106,7 +106,7 @@ impl<'a> Parameters<'a> {
     /// The one number under a name.
     #[tactic(auto, unfolding(crate::specs::Parameters::needed_number))]
     pub(crate) fn needed_number(&self, name: &str) -> Result<u32, RequestFault>
-        ensures { Gives result (spec.needed_number name.now self.now) }
+        ensures { Yields result (spec.needed_number name.now self.now) }
     {
         read_number(self.needed(name)?)
     }
@@ -114,7 +114,7 @@ impl<'a> Parameters<'a> {
     /// The number under a name, or 0.
     #[tactic(auto, unfolding(crate::specs::Parameters::number_or_zero))]
     pub(crate) fn number_or_zero(&self, name: &str) -> Result<u32, RequestFault>
-        ensures { Gives result (spec.number_or_zero name.now self.now) }
+        ensures { Yields result (spec.number_or_zero name.now self.now) }
     {
         match self.optional(name)? {
             Some(text) => read_number(text),
@@ -125,7 +125,7 @@ impl<'a> Parameters<'a> {
     /// The one number under a name, if there is any.
     #[tactic(auto, unfolding(crate::specs::Parameters::optional_number))]
     pub(crate) fn optional_number(&self, name: &str) -> Result<Option<u32>, RequestFault>
-        ensures { Gives result (spec.optional_number name.now self.now) }
+        ensures { Yields result (spec.optional_number name.now self.now) }
     {
         match self.optional(name)? {
             Some(text) => Ok(Some(read_number(text)?)),
@@ -135,7 +135,7 @@ impl<'a> Parameters<'a> {
 
     /// A fault where there is a name beside these.
     pub(crate) fn only(&self, names: &[&str]) -> Result<(), RequestFault>
-        ensures { Gives result (spec.only (texts names.now) self.now) }
+        ensures { Yields result (spec.only (texts names.now) self.now) }
     {
         for pair in &self.pairs {
             if !is_one_of(names, pair.0.as_str()) {
@@ -148,7 +148,7 @@ impl<'a> Parameters<'a> {
     /// The one number under a name, with no parameter beside it.
     #[tactic(auto, unfolding(crate::specs::Parameters::number_alone))]
     pub(crate) fn number_alone(&self, name: &str) -> Result<u32, RequestFault>
-        ensures { Gives result (spec.number_alone name.now self.now) }
+        ensures { Yields result (spec.number_alone name.now self.now) }
     {
         self.only(&[name])?;
         self.needed_number(name)
@@ -156,7 +156,7 @@ impl<'a> Parameters<'a> {
 
     /// The values under a name, in order.
     fn all(&self, alloc: Global, name: &str) -> Result<Vec<&str>, RequestFault>
-        ensures { GivesAs (λ v. texts v.items) result (Ok (spec.values name.now self.now)) }
+        ensures { YieldsAs (λ v. texts v.items) result (Ok (spec.values name.now self.now)) }
     {
         let mut found: Vec<&str> = Vec::new(alloc);
         for pair in &self.pairs {
@@ -169,7 +169,7 @@ impl<'a> Parameters<'a> {
 
     /// The gates under `gate`, in order.
     pub(crate) fn gates(&self, alloc: Global) -> Result<WantedGates, RequestFault>
-        ensures { Gives result (gates (spec.values (codes "gate") self.now)) }
+        ensures { Yields result (gates (spec.values (codes "gate") self.now)) }
     {
         let found = self.all(alloc, "gate")?;
         read_gates(alloc, &found)
@@ -178,7 +178,7 @@ impl<'a> Parameters<'a> {
     /// To whom a permission is given, under `person`, `org`, `community` or `group`.
     #[tactic(auto, unfolding(crate::specs::Parameters::grantee_in))]
     pub(crate) fn grantee(&self) -> Result<Grantee, RequestFault>
-        ensures { Gives result (spec.grantee_in self.now) }
+        ensures { Yields result (spec.grantee_in self.now) }
     {
         let person = self.optional_number("person")?;
         let org = self.optional_number("org")?;
@@ -190,7 +190,7 @@ impl<'a> Parameters<'a> {
     /// Who is addressed, under `person` or `org`, with no parameter beside it.
     #[tactic(auto, unfolding(crate::specs::Parameters::target_alone))]
     pub(crate) fn target_alone(&self) -> Result<Target, RequestFault>
-        ensures { Gives result (spec.target_alone self.now) }
+        ensures { Yields result (spec.target_alone self.now) }
     {
         self.only(&["person", "org"])?;
         let person = self.optional_number("person")?;
@@ -207,7 +207,7 @@ fn sole_grantee(
     community: Option<u32>,
     group: Option<u32>,
 ) -> Result<Grantee, RequestFault>
-    ensures { Gives result (spec.one_grantee person org community group) }
+    ensures { Yields result (spec.one_grantee person org community group) }
 {
     match (person, org, community, group) {
         (Some(n), None, None, None) => Ok(Grantee::Person(n)),
@@ -221,7 +221,7 @@ fn sole_grantee(
 /// Exactly one of the two.
 #[tactic(auto, unfolding(crate::specs::Parameters::one_target))]
 fn sole_target(person: Option<u32>, org: Option<u32>) -> Result<Target, RequestFault>
-    ensures { Gives result (spec.one_target person org) }
+    ensures { Yields result (spec.one_target person org) }
 {
     match (person, org) {
         (Some(n), None) => Ok(Target::Person(n)),

@@ -1,6 +1,6 @@
 //! The request of a route, from its parameters and its body.
 ghost use Rattle.std.specs.Prelude.{◌≡◌, ℕ, List, [], option_copied, unwrap_or, codes};
-ghost use Rattle.hub_http.specs.Outcome.{Gives, GivesAs};
+ghost use Rattle.hub_http.specs.Outcome.{Yields, YieldsAs};
 ghost use Rattle.hub_http.specs.Requests as spec;
 
 use crate::parameters::{Parameters, read_parameters};
@@ -47,7 +47,7 @@ fn form_at<'a>(
     query: Option<&'a str>,
     body: &'a [u8],
 ) -> Result<&'a [u8], RequestFault>
-    ensures { GivesAs (λ f. f.now) result (spec.form_at place (option_copied query.entry) body.now) }
+    ensures { YieldsAs (λ f. f.now) result (spec.form_at place (option_copied query.entry) body.now) }
 {
     match place {
         Place::Query => {
@@ -68,7 +68,7 @@ fn form_at<'a>(
 /// The number after which a page begins, with no parameter beside it.
 #[tactic(auto, unfolding(crate::specs::Requests::after_alone))]
 fn read_after(pairs: &Parameters<'_>) -> Result<u32, RequestFault>
-    ensures { Gives result (spec.after_alone pairs.now) }
+    ensures { Yields result (spec.after_alone pairs.now) }
 {
     pairs.only(&["after"])?;
     pairs.number_or_zero("after")
@@ -76,7 +76,7 @@ fn read_after(pairs: &Parameters<'_>) -> Result<u32, RequestFault>
 
 #[tactic(auto, unfolding(crate::specs::Requests::search_in))]
 fn read_search(alloc: Global, pairs: &Parameters<'_>) -> Result<Request, RequestFault>
-    ensures { Gives result (spec.search_in pairs.now) }
+    ensures { Yields result (spec.search_in pairs.now) }
 {
     pairs.only(&["needle", "class", "after"])?;
     let needle = pairs.needed_text(alloc, "needle")?;
@@ -91,7 +91,7 @@ fn read_search(alloc: Global, pairs: &Parameters<'_>) -> Result<Request, Request
 
 #[tactic(auto, unfolding(crate::specs::Requests::explain_in))]
 fn read_explain(alloc: Global, pairs: &Parameters<'_>) -> Result<Request, RequestFault>
-    ensures { Gives result (spec.explain_in pairs.now) }
+    ensures { Yields result (spec.explain_in pairs.now) }
 {
     pairs.only(&["person", "incident", "path"])?;
     let person = pairs.needed_number("person")?;
@@ -106,7 +106,7 @@ fn read_explain(alloc: Global, pairs: &Parameters<'_>) -> Result<Request, Reques
 
 #[tactic(auto, unfolding(crate::specs::Requests::post_in))]
 fn read_post(alloc: Global, pairs: &Parameters<'_>, body: &[u8]) -> Result<Request, RequestFault>
-    ensures { Gives result (spec.post_in pairs.now body.now) }
+    ensures { Yields result (spec.post_in pairs.now body.now) }
 {
     pairs.only(&["level", "group", "gate"])?;
     let level = pairs.needed_number("level")?;
@@ -128,7 +128,7 @@ fn read_replace(
     pairs: &Parameters<'_>,
     body: &[u8],
 ) -> Result<Request, RequestFault>
-    ensures { Gives result (spec.replace_in incident pairs.now body.now) }
+    ensures { Yields result (spec.replace_in incident pairs.now body.now) }
 {
     pairs.only(&["revision", "level", "group", "gate"])?;
     let revision = pairs.needed_number("revision")?;
@@ -152,7 +152,7 @@ fn read_redistribute(
     incident: u32,
     pairs: &Parameters<'_>,
 ) -> Result<Request, RequestFault>
-    ensures { Gives result (spec.redistribute_in incident pairs.now) }
+    ensures { Yields result (spec.redistribute_in incident pairs.now) }
 {
     pairs.only(&["revision", "path", "level", "group"])?;
     let revision = pairs.needed_number("revision")?;
@@ -170,7 +170,7 @@ fn read_redistribute(
 
 #[tactic(auto, unfolding(crate::specs::Requests::grant_in))]
 fn read_grant(alloc: Global, incident: u32, pairs: &Parameters<'_>) -> Result<Request, RequestFault>
-    ensures { Gives result (spec.grant_in incident pairs.now) }
+    ensures { Yields result (spec.grant_in incident pairs.now) }
 {
     pairs.only(&["revision", "path", "person", "org", "community", "group"])?;
     let revision = pairs.needed_number("revision")?;
@@ -190,7 +190,7 @@ fn read_withdraw(
     incident: u32,
     pairs: &Parameters<'_>,
 ) -> Result<Request, RequestFault>
-    ensures { Gives result (spec.withdraw_in incident pairs.now) }
+    ensures { Yields result (spec.withdraw_in incident pairs.now) }
 {
     pairs.only(&["path", "person", "org", "community", "group"])?;
     let path = pairs.needed_text(alloc, "path")?;
@@ -210,7 +210,7 @@ fn read_incident_request(
     incident: u32,
     pairs: &Parameters<'_>,
 ) -> Result<Request, RequestFault>
-    ensures { Gives result (spec.incident_request change incident pairs.now) }
+    ensures { Yields result (spec.incident_request change incident pairs.now) }
 {
     match change {
         IncidentChange::Redistribute => read_redistribute(alloc, incident, pairs),
@@ -229,7 +229,7 @@ fn read_incident_request(
 
 #[tactic(auto, unfolding(crate::specs::Requests::person_in))]
 fn read_person(alloc: Global, pairs: &Parameters<'_>) -> Result<CircleCommand, RequestFault>
-    ensures { Gives result (spec.person_in pairs.now) }
+    ensures { Yields result (spec.person_in pairs.now) }
 {
     pairs.only(&["org", "name", "role", "key"])?;
     let org = pairs.needed_number("org")?;
@@ -246,7 +246,7 @@ fn read_person(alloc: Global, pairs: &Parameters<'_>) -> Result<CircleCommand, R
 
 #[tactic(auto, unfolding(crate::specs::Requests::group_in))]
 fn read_group(alloc: Global, pairs: &Parameters<'_>) -> Result<CircleCommand, RequestFault>
-    ensures { Gives result (spec.group_in pairs.now) }
+    ensures { Yields result (spec.group_in pairs.now) }
 {
     pairs.only(&["name", "releasability"])?;
     let name = pairs.needed_text(alloc, "name")?;
@@ -259,7 +259,7 @@ fn read_group(alloc: Global, pairs: &Parameters<'_>) -> Result<CircleCommand, Re
 
 #[tactic(auto, unfolding(crate::specs::Requests::arrangement_in))]
 fn read_arrangement(pairs: &Parameters<'_>) -> Result<CircleCommand, RequestFault>
-    ensures { Gives result (spec.arrangement_in pairs.now) }
+    ensures { Yields result (spec.arrangement_in pairs.now) }
 {
     pairs.only(&["org", "handling"])?;
     let org = pairs.needed_number("org")?;
@@ -270,7 +270,7 @@ fn read_arrangement(pairs: &Parameters<'_>) -> Result<CircleCommand, RequestFaul
 /// A name, with no parameter beside it.
 #[tactic(auto, unfolding(crate::specs::Requests::name_alone))]
 fn read_name(alloc: Global, pairs: &Parameters<'_>) -> Result<Text, RequestFault>
-    ensures { Gives result (spec.name_alone pairs.now) }
+    ensures { Yields result (spec.name_alone pairs.now) }
 {
     pairs.only(&["name"])?;
     pairs.needed_text(alloc, "name")
@@ -283,7 +283,7 @@ fn read_circle_command(
     change: CircleChange,
     pairs: &Parameters<'_>,
 ) -> Result<CircleCommand, RequestFault>
-    ensures { Gives result (spec.circle_command change pairs.now) }
+    ensures { Yields result (spec.circle_command change pairs.now) }
 {
     match change {
         CircleChange::AddOrg => {
@@ -306,7 +306,7 @@ fn read_circle_command(
 
 #[tactic(auto, unfolding(crate::specs::Requests::member_in))]
 fn read_member(group: u32, pairs: &Parameters<'_>) -> Result<CircleCommand, RequestFault>
-    ensures { Gives result (spec.member_in group pairs.now) }
+    ensures { Yields result (spec.member_in group pairs.now) }
 {
     pairs.only(&["org", "extend"])?;
     let org = pairs.needed_number("org")?;
@@ -316,7 +316,7 @@ fn read_member(group: u32, pairs: &Parameters<'_>) -> Result<CircleCommand, Requ
 
 #[tactic(auto, unfolding(crate::specs::Requests::active_in))]
 fn read_active(group: u32, pairs: &Parameters<'_>) -> Result<CircleCommand, RequestFault>
-    ensures { Gives result (spec.active_in group pairs.now) }
+    ensures { Yields result (spec.active_in group pairs.now) }
 {
     pairs.only(&["active"])?;
     let active = read_flag(pairs.needed("active")?)?;
@@ -328,7 +328,7 @@ fn without_parameter(
     pairs: &Parameters<'_>,
     command: CircleCommand,
 ) -> Result<CircleCommand, RequestFault>
-    ensures { Gives result (spec.nothing_beside pairs.now command) }
+    ensures { Yields result (spec.nothing_beside pairs.now command) }
 {
     pairs.only(&[])?;
     Ok(command)
@@ -341,7 +341,7 @@ fn read_part_command(
     number: u32,
     pairs: &Parameters<'_>,
 ) -> Result<CircleCommand, RequestFault>
-    ensures { Gives result (spec.part_command change number pairs.now) }
+    ensures { Yields result (spec.part_command change number pairs.now) }
 {
     match change {
         PartChange::AddClient => {
@@ -394,7 +394,7 @@ fn read_request_in(
     pairs: &Parameters<'_>,
     body: &[u8],
 ) -> Result<Request, RequestFault>
-    ensures { Gives result (spec.request_in route pairs.now body.now) }
+    ensures { Yields result (spec.request_in route pairs.now body.now) }
 {
     match route {
         Route::WhoAmI => {
@@ -439,7 +439,7 @@ pub(crate) fn read_request(
     target: &str,
     body: &[u8],
 ) -> Result<Request, RequestFault>
-    ensures { Gives result (spec.request_by method.now target.now body.now) }
+    ensures { Yields result (spec.request_by method.now target.now body.now) }
 {
     let (path, query) = target_parts(target);
     let route = read_route(alloc, method, path)?;

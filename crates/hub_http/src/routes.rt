@@ -3,7 +3,7 @@ ghost use Rattle.std.specs.Prelude.{◌≡◌, ℕ, List, [], map, fold, Ok, IfO
 ghost use Rattle.std.specs.List.{before_first, after_first};
 ghost use Rattle.matchit.specs.Route.{parse_route};
 ghost use Rattle.matchit.specs.declared.error.InsertError.TheVariants.{OutOfMemory};
-ghost use Rattle.hub_http.specs.Outcome.{Gives, GivesAs};
+ghost use Rattle.hub_http.specs.Outcome.{Yields, YieldsAs};
 ghost use Rattle.hub_http.specs.Texts.{entry_view};
 ghost use Rattle.hub_http.specs.Routes as spec;
 
@@ -200,7 +200,7 @@ fn router(alloc: Global) -> Result<Router<Resource>, InsertError>
 
 /// What a path names.
 fn read_resource(alloc: Global, path: &str) -> Result<Option<Resource>, RequestFault>
-    ensures { Gives result (Ok (spec.resource_at path.now)) }
+    ensures { Yields result (Ok (spec.resource_at path.now)) }
 {
     let Ok(router) = router(alloc) else {
         return Err(RequestFault::NoMemory);
@@ -256,7 +256,7 @@ fn part_of(path: &str) -> &str
 /// The number in a path, from 1.
 #[tactic(auto, unfolding(crate::specs::Routes::number_in))]
 fn read_path_number(path: &str) -> Result<u32, RequestFault>
-    ensures { Gives result (spec.number_in path.now) }
+    ensures { Yields result (spec.number_in path.now) }
 {
     match read_number(part_of(path)) {
         Ok(n) if n != 0 => Ok(n),
@@ -267,7 +267,7 @@ fn read_path_number(path: &str) -> Result<u32, RequestFault>
 
 #[tactic(auto, unfolding(crate::specs::Routes::read_at))]
 fn read_at(resource: Resource, path: &str) -> Result<Route, RequestFault>
-    ensures { Gives result (spec.read_at resource path.now) }
+    ensures { Yields result (spec.read_at resource path.now) }
 {
     match resource {
         Resource::Me => Ok(Route::WhoAmI),
@@ -285,7 +285,7 @@ fn read_at(resource: Resource, path: &str) -> Result<Route, RequestFault>
 
 #[tactic(auto, unfolding(crate::specs::Routes::post_at))]
 fn post_at(resource: Resource, path: &str) -> Result<Route, RequestFault>
-    ensures { Gives result (spec.post_at resource path.now) }
+    ensures { Yields result (spec.post_at resource path.now) }
 {
     match resource {
         Resource::Incidents => Ok(Route::Post),
@@ -298,7 +298,7 @@ fn post_at(resource: Resource, path: &str) -> Result<Route, RequestFault>
 
 #[tactic(auto, unfolding(crate::specs::Routes::put_at))]
 fn put_at(resource: Resource, path: &str) -> Result<Route, RequestFault>
-    ensures { Gives result (spec.put_at resource path.now) }
+    ensures { Yields result (spec.put_at resource path.now) }
 {
     match resource {
         Resource::Incident => Ok(Route::Replace(read_path_number(path)?)),
@@ -308,7 +308,7 @@ fn put_at(resource: Resource, path: &str) -> Result<Route, RequestFault>
 
 #[tactic(auto, unfolding(crate::specs::Routes::route_at))]
 fn route_at(verb: Verb, resource: Option<Resource>, path: &str) -> Result<Route, RequestFault>
-    ensures { Gives result (spec.route_at verb resource path.now) }
+    ensures { Yields result (spec.route_at verb resource path.now) }
 {
     let Some(resource) = resource else {
         return Err(RequestFault::NoRoute);
@@ -323,7 +323,7 @@ fn route_at(verb: Verb, resource: Option<Resource>, path: &str) -> Result<Route,
 
 /// The route of a method at a path.
 pub(crate) fn read_route(alloc: Global, method: &str, path: &str) -> Result<Route, RequestFault>
-    ensures { Gives result (spec.route_at (spec.verb_of method.now) (spec.resource_at path.now) path.now) }
+    ensures { Yields result (spec.route_at (spec.verb_of method.now) (spec.resource_at path.now) path.now) }
 {
     let resource = read_resource(alloc, path)?;
     route_at(read_verb(method), resource, path)

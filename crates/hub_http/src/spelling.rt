@@ -2,7 +2,7 @@
 ghost use Rattle.std.specs.Prelude.{◌≡◌, ℕ, List, Ok, length, codes};
 ghost use Rattle.std.specs.List.{list_all};
 ghost use Rattle.std.specs.Char.{is_ascii_digit};
-ghost use Rattle.hub_http.specs.Outcome.{Gives, GivesAs};
+ghost use Rattle.hub_http.specs.Outcome.{Yields, YieldsAs};
 ghost use Rattle.hub_http.specs.Spelling as spec;
 ghost use Rattle.hub_http.specs.Texts.{texts};
 
@@ -34,7 +34,7 @@ fn is_plain_digits(text: &[u8]) -> bool
 /// A number below 2^32 in decimal digits, without a leading zero.
 #[tactic(auto, unfolding(crate::specs::Spelling::number))]
 pub(crate) fn read_number(text: &str) -> Result<u32, RequestFault>
-    ensures { Gives result (spec.number text.now) }
+    ensures { Yields result (spec.number text.now) }
 {
     if !is_plain_digits(text.as_bytes()) {
         return Err(RequestFault::BadBody);
@@ -47,7 +47,7 @@ pub(crate) fn read_number(text: &str) -> Result<u32, RequestFault>
 
 #[tactic(auto, unfolding(crate::specs::Spelling::flag))]
 pub(crate) fn read_flag(text: &str) -> Result<bool, RequestFault>
-    ensures { Gives result (spec.flag text.now) }
+    ensures { Yields result (spec.flag text.now) }
 {
     if text == "0" {
         Ok(false)
@@ -60,7 +60,7 @@ pub(crate) fn read_flag(text: &str) -> Result<bool, RequestFault>
 
 #[tactic(auto, unfolding(crate::specs::Spelling::role_named))]
 pub(crate) fn read_role(text: &str) -> Result<Role, RequestFault>
-    ensures { Gives result (spec.role_named text.now) }
+    ensures { Yields result (spec.role_named text.now) }
 {
     if text == "administrator" {
         Ok(Role::Administrator)
@@ -77,7 +77,7 @@ pub(crate) fn read_role(text: &str) -> Result<Role, RequestFault>
 
 #[tactic(auto, unfolding(crate::specs::Spelling::handling_named))]
 pub(crate) fn read_handling(text: &str) -> Result<Handling, RequestFault>
-    ensures { Gives result (spec.handling_named text.now) }
+    ensures { Yields result (spec.handling_named text.now) }
 {
     if text == "CLEAR" {
         Ok(Handling::Clear)
@@ -97,7 +97,7 @@ pub(crate) fn read_handling(text: &str) -> Result<Handling, RequestFault>
 /// The bytes of a digest in 64 hexadecimal digits.
 #[tactic(auto, unfolding(crate::specs::Spelling::digest))]
 pub(crate) fn read_digest(text: &str) -> Result<[u8; 32], RequestFault>
-    ensures { Gives result (spec.digest text.now) }
+    ensures { Yields result (spec.digest text.now) }
 {
     let mut bytes = [0; 32];
     match hex::decode_to_slice(text, &mut bytes) {
@@ -109,7 +109,7 @@ pub(crate) fn read_digest(text: &str) -> Result<[u8; 32], RequestFault>
 /// What stands before and behind the first colon.
 #[tactic(auto, unfolding(crate::specs::Spelling::parts))]
 fn parts_of(text: &str) -> Result<(&str, &str), RequestFault>
-    ensures { GivesAs (λ p. (p.0.now, p.1.now)) result (spec.parts text.now) }
+    ensures { YieldsAs (λ p. (p.0.now, p.1.now)) result (spec.parts text.now) }
 {
     match text.split_once(':') {
         Some(found) => Ok(found),
@@ -118,7 +118,7 @@ fn parts_of(text: &str) -> Result<(&str, &str), RequestFault>
 }
 
 pub(crate) fn text_of(alloc: Global, text: &str) -> Result<Text, RequestFault>
-    ensures { Gives result (Ok text.now) }
+    ensures { Yields result (Ok text.now) }
 {
     Ok(Text::of(alloc, text)?)
 }
@@ -126,7 +126,7 @@ pub(crate) fn text_of(alloc: Global, text: &str) -> Result<Text, RequestFault>
 /// A gate, from `LEVEL:GROUP:POINTER`.
 #[tactic(auto, unfolding(crate::specs::Spelling::gate))]
 fn read_gate(alloc: Global, text: &str) -> Result<WantedGate, RequestFault>
-    ensures { Gives result (spec.gate text.now) }
+    ensures { Yields result (spec.gate text.now) }
 {
     let (level, rest) = parts_of(text)?;
     let level = read_number(level)?;
@@ -139,7 +139,7 @@ fn read_gate(alloc: Global, text: &str) -> Result<WantedGate, RequestFault>
 
 /// The gates that these texts spell.
 pub(crate) fn read_gates(alloc: Global, found: &[&str]) -> Result<WantedGates, RequestFault>
-    ensures { Gives result (spec.gates (texts found.now)) }
+    ensures { Yields result (spec.gates (texts found.now)) }
 {
     let mut gates = Vec::new(alloc);
     for text in found {

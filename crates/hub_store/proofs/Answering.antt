@@ -13,7 +13,7 @@ use Rattle.hub_core.specs.State as core
 use Rattle.hub_core.specs.Sound.{IsSound}
 use Rattle.hub_store.specs.Tables.{hub_schema}
 use Rattle.hub_store.specs.Means.{Holds}
-use Rattle.hub_store.specs.Queries.{HasShown, IsReadInside, Answers}
+use Rattle.hub_store.specs.Queries.{HasShown, IsReadInside, IsReadOutside}
 use Rattle.hub_store.proofs.Forms.{program}
 use Rattle.hub_store.proofs.Outcomes.{unchanged_keeps}
 use Rattle.hub_store.proofs.Asking.{asked_same, asked_rows}
@@ -37,7 +37,7 @@ if_up (Ok x) Up P up f = f up
 if_up (Err e) Up P up f = tt
 
 pub rolled : {S : Type 0} (g : store.Ghosts S) (old mid end : Held S) {T : Type 0} (Right : core.State → T → Type 0) (result : Result T Error) → IsReadInside (state g (record old { in_transaction = true })) (state g mid) Right result
-    → (HasCleanDisk (state g end) → IsRolledBack (state g mid) (state g end)) → Survives (state g mid) (state g end) (λ _. ⊥) → Answers (state g old) (state g end) Right result
+    → (HasCleanDisk (state g end) → IsRolledBack (state g mid) (state g end)) → Survives (state g mid) (state g end) (λ _. ⊥) → IsReadOutside (state g old) (state g end) Right result
 rolled g old mid end Right result read back survives = record {
   survives = survives_begin g old (state g end) _ (survives_on (state g (record old { in_transaction = true })) (state g mid) (state g end) read.survives survives);
   kept = λ clean knows.

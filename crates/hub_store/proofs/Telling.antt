@@ -8,7 +8,7 @@ use Rattle.sqlite.specs.State.{State, HasCleanDisk, Survives}
 use Rattle.hub_core.specs.State as core
 use Rattle.hub_core.specs.Shelves.{HasCause, IsRead}
 use Rattle.hub_core.specs.declared.shelf.ShelfFault.{ShelfFault}
-use Rattle.hub_store.specs.Queries.{Answers}
+use Rattle.hub_store.specs.Queries.{IsReadOutside}
 use Rattle.hub_store.specs.Content.{Has, MayLeave}
 use Rattle.hub_store.proofs.Runs.{knows, kept_has}
 
@@ -21,7 +21,7 @@ leaves_no_more old new s survives clean may = elim (survives.crash clean may.2 m
 
 -- a read of the connection is a read of the shelf
 pub read_keeps : {D S : Type 0} (g : store.Ghosts S) (conn : D → Held S) (failures : D → ℕ) (old new : D) {T : Type 0} (Right : core.State → T → Type 0) (outcome : Result T Error) (result : Result T ShelfFault)
-    → Answers (state g (conn old)) (state g (conn new)) Right outcome → HasCause (failures old) (failures new) result
+    → IsReadOutside (state g (conn old)) (state g (conn new)) Right outcome → HasCause (failures old) (failures new) result
     → IsRead (λ d s. Has (state g (conn d)) s) (λ d. doubt (state g (conn d)).is_clean) failures (λ d s. MayLeave (state g (conn d)) s) old new result
 read_keeps g conn failures old new Right outcome result answers cause = record {
   cause = cause;
@@ -32,7 +32,7 @@ read_keeps g conn failures old new Right outcome result answers cause = record {
 
 -- what was found is right, where it is told
 pub read_value : {S : Type 0} (g : store.Ghosts S) (old new : Held S) {T : Type 0} (Right : core.State → T → Type 0) (outcome : Result T Error) (result : Result T ShelfFault)
-    → Answers (state g old) (state g new) Right outcome → IfOk result (λ x. outcome ≡ Ok x) → HasCleanDisk (state g new) → (s : core.State) → Has (state g old) s → IfOk result (Right s)
+    → IsReadOutside (state g old) (state g new) Right outcome → IfOk result (λ x. outcome ≡ Ok x) → HasCleanDisk (state g new) → (s : core.State) → Has (state g old) s → IfOk result (Right s)
 read_value g old new Right outcome (Ok x) answers told clean s has = subst (λ r. IfOk r (Right s)) told (answers.right clean s has)
 read_value g old new Right outcome (Err fault) answers told clean s has = tt
 

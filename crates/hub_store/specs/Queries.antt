@@ -25,7 +25,7 @@ pub record IsReadInside {T : Type 0} (old new : State) (Right : core.State → T
   pub right : HasCleanDisk new → (s : core.State) → Holds old.now s → IsSound s → IfOk result (Right s)
 
 -- A read of the connection: the last commit stands, nothing is committed, and the answer is right of the state that it is.
-pub record Answers {T : Type 0} (old new : State) (Right : core.State → T → Type 0) (result : Result T Error) : Type 0 where
+pub record IsReadOutside {T : Type 0} (old new : State) (Right : core.State → T → Type 0) (result : Result T Error) : Type 0 where
   pub survives : Survives old new (λ _. ⊥)
   pub kept : HasCleanDisk new → Knows old → KeepsCommitted old new
   pub right : HasCleanDisk new → (s : core.State) → Has old s → IfOk result (Right s)

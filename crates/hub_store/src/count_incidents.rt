@@ -2,7 +2,7 @@
 
 ghost use Rattle.std.specs.Prelude.{◌≡◌, false, length};
 ghost use Rattle.sqlite.specs.Held.{state};
-ghost use Rattle.hub_store.specs.Queries.{IsReadInside, Answers};
+ghost use Rattle.hub_store.specs.Queries.{IsReadInside, IsReadOutside};
 
 use crate::counts::number_in;
 use crate::query::ask;
@@ -25,7 +25,7 @@ pub(crate) fn read_incident_count<S: Alter>(tx: &mut Transaction<'_, S>) -> Resu
 pub(crate) fn incident_count<S: Alter>(conn: &mut Connection<S>) -> Result<u32, Error>
     requires { conn.old.in_transaction ≡ false }
     ensures idle { conn.new.in_transaction ≡ false }
-    ensures answers { Answers (state S.Store conn.old) (state S.Store conn.new) (λ s found. found ≡ length s.incidents) result }
+    ensures answers { IsReadOutside (state S.Store conn.old) (state S.Store conn.new) (λ s found. found ≡ length s.incidents) result }
 {
     let mut tx = conn.transaction();
     let found = read_incident_count(&mut tx);

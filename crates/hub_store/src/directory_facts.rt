@@ -4,7 +4,7 @@ ghost use Rattle.std.specs.Prelude.{◌≡◌, ◌&&◌, false};
 ghost use Rattle.sqlite.specs.Held.{state};
 ghost use Rattle.circle.specs.Directory.{has_org, has_community, has_group_member};
 ghost use Rattle.circle.specs.Facts.{exists_in, may_extend_in, owns_in, target_owns_in, is_own_person, stands_in, count_in, facts_of};
-ghost use Rattle.hub_store.specs.Queries.{IsReadInside, Answers};
+ghost use Rattle.hub_store.specs.Queries.{IsReadInside, IsReadOutside};
 ghost use Rattle.hub_store.specs.Looks.{IsLook};
 
 use crate::counts::{count_communities, count_groups, count_orgs, count_persons};
@@ -272,7 +272,7 @@ pub(crate) fn find_circle_facts<S: Alter>(
 ) -> Result<CircleFacts, Error>
     requires { conn.old.in_transaction ≡ false }
     ensures idle { conn.new.in_transaction ≡ false }
-    ensures answers { Answers (state S.Store conn.old) (state S.Store conn.new) (λ s facts. facts ≡ facts_of s.directory actor.now command.now) result }
+    ensures answers { IsReadOutside (state S.Store conn.old) (state S.Store conn.new) (λ s facts. facts ≡ facts_of s.directory actor.now command.now) result }
 {
     let mut tx = conn.transaction();
     let found = read_facts(&mut tx, alloc, actor, command);

@@ -3,7 +3,7 @@
 ghost use Rattle.std.specs.Prelude.{◌≡◌, false};
 ghost use Rattle.sqlite.specs.Held.{state};
 ghost use Rattle.circle.specs.Reads.{arranged as arranged_with, served_by as organisations_served_by};
-ghost use Rattle.hub_store.specs.Queries.{IsReadInside, Answers};
+ghost use Rattle.hub_store.specs.Queries.{IsReadInside, IsReadOutside};
 
 use crate::ask_pairs::ask_between;
 use crate::from_row::first;
@@ -46,7 +46,7 @@ pub(crate) fn arranged<S: Alter>(
 ) -> Result<Option<Handling>, Error>
     requires { conn.old.in_transaction ≡ false }
     ensures idle { conn.new.in_transaction ≡ false }
-    ensures answers { Answers (state S.Store conn.old) (state S.Store conn.new) (λ s found. found ≡ arranged_with source org s.directory) result }
+    ensures answers { IsReadOutside (state S.Store conn.old) (state S.Store conn.new) (λ s found. found ≡ arranged_with source org s.directory) result }
 {
     let mut tx = conn.transaction();
     let found = read_arranged(&mut tx, alloc, source, org);
@@ -62,7 +62,7 @@ pub(crate) fn served_by<S: Alter>(
 ) -> Result<Vec<u32>, Error>
     requires { conn.old.in_transaction ≡ false }
     ensures idle { conn.new.in_transaction ≡ false }
-    ensures answers { Answers (state S.Store conn.old) (state S.Store conn.new) (λ s found. found.items ≡ organisations_served_by client s.directory) result }
+    ensures answers { IsReadOutside (state S.Store conn.old) (state S.Store conn.new) (λ s found. found.items ≡ organisations_served_by client s.directory) result }
 {
     let mut tx = conn.transaction();
     let found = read_served_by(&mut tx, alloc, client);

@@ -3,7 +3,7 @@
 ghost use Rattle.std.specs.Prelude.{◌≡◌, ◌==◌, false, map, filter};
 ghost use Rattle.sqlite.specs.Held.{state};
 ghost use Rattle.hub_core.specs.Reads.{case_gate, case_permission, case_of};
-ghost use Rattle.hub_store.specs.Queries.{IsReadInside, Answers};
+ghost use Rattle.hub_store.specs.Queries.{IsReadInside, IsReadOutside};
 ghost use Rattle.hub_store.specs.Shown.{IsCase};
 
 use crate::find_known::read_known;
@@ -90,7 +90,7 @@ pub(crate) fn find_case<S: Alter>(
 ) -> Result<Option<Case>, Error>
     requires { conn.old.in_transaction ≡ false }
     ensures idle { conn.new.in_transaction ≡ false }
-    ensures answers { Answers (state S.Store conn.old) (state S.Store conn.new) (λ s found. found ≡ case_of incident s) result }
+    ensures answers { IsReadOutside (state S.Store conn.old) (state S.Store conn.new) (λ s found. found ≡ case_of incident s) result }
 {
     let mut tx = conn.transaction();
     let found = read_case(&mut tx, alloc, incident);

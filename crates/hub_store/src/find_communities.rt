@@ -4,7 +4,7 @@ ghost use Rattle.std.specs.Prelude.{◌≡◌, false};
 ghost use Rattle.std.specs.List.{list_any};
 ghost use Rattle.sqlite.specs.Held.{state};
 ghost use Rattle.circle.specs.Reads.{communities_of as communities_joined, share_community as are_in_one_community, are_connected as are_in_connected};
-ghost use Rattle.hub_store.specs.Queries.{IsReadInside, Answers};
+ghost use Rattle.hub_store.specs.Queries.{IsReadInside, IsReadOutside};
 ghost use Rattle.hub_store.specs.ShownPairs.{AreRising, is_one_of, linked_with};
 
 use crate::common_numbers::have_common;
@@ -83,7 +83,7 @@ pub(crate) fn communities_of<S: Alter>(
 ) -> Result<Vec<u32>, Error>
     requires { conn.old.in_transaction ≡ false }
     ensures idle { conn.new.in_transaction ≡ false }
-    ensures answers { Answers (state S.Store conn.old) (state S.Store conn.new) (λ s found. found.items ≡ communities_joined org s.directory) result }
+    ensures answers { IsReadOutside (state S.Store conn.old) (state S.Store conn.new) (λ s found. found.items ≡ communities_joined org s.directory) result }
 {
     let mut tx = conn.transaction();
     let found = read_communities(&mut tx, alloc, org);
@@ -100,7 +100,7 @@ pub(crate) fn share_community<S: Alter>(
 ) -> Result<bool, Error>
     requires { conn.old.in_transaction ≡ false }
     ensures idle { conn.new.in_transaction ≡ false }
-    ensures answers { Answers (state S.Store conn.old) (state S.Store conn.new) (λ s found. found ≡ are_in_one_community org other s.directory) result }
+    ensures answers { IsReadOutside (state S.Store conn.old) (state S.Store conn.new) (λ s found. found ≡ are_in_one_community org other s.directory) result }
 {
     let mut tx = conn.transaction();
     let found = read_share(&mut tx, alloc, org, other);
@@ -117,7 +117,7 @@ pub(crate) fn are_connected<S: Alter>(
 ) -> Result<bool, Error>
     requires { conn.old.in_transaction ≡ false }
     ensures idle { conn.new.in_transaction ≡ false }
-    ensures answers { Answers (state S.Store conn.old) (state S.Store conn.new) (λ s found. found ≡ are_in_connected org other s.directory) result }
+    ensures answers { IsReadOutside (state S.Store conn.old) (state S.Store conn.new) (λ s found. found ≡ are_in_connected org other s.directory) result }
 {
     let mut tx = conn.transaction();
     let found = read_connected(&mut tx, alloc, org, other);

@@ -3,7 +3,7 @@
 ghost use Rattle.std.specs.Prelude.{◌≡◌, false};
 ghost use Rattle.sqlite.specs.Held.{state};
 ghost use Rattle.hub_core.specs.Reads.{document_of};
-ghost use Rattle.hub_store.specs.Queries.{IsReadInside, Answers};
+ghost use Rattle.hub_store.specs.Queries.{IsReadInside, IsReadOutside};
 
 use crate::from_row::first;
 use crate::query::ask;
@@ -35,7 +35,7 @@ pub(crate) fn find_document<S: Alter>(
 ) -> Result<Option<Document>, Error>
     requires { conn.old.in_transaction ≡ false }
     ensures idle { conn.new.in_transaction ≡ false }
-    ensures answers { Answers (state S.Store conn.old) (state S.Store conn.new) (λ s found. found ≡ document_of incident s) result }
+    ensures answers { IsReadOutside (state S.Store conn.old) (state S.Store conn.new) (λ s found. found ≡ document_of incident s) result }
 {
     let mut tx = conn.transaction();
     let found = read_document(&mut tx, alloc, incident);

@@ -6,7 +6,7 @@ ghost use Rattle.sqlite.specs.Held.{state};
 ghost use Rattle.circle.specs.Directory.{has_group_member as is_group_member};
 ghost use Rattle.circle.specs.Reads.{group_of, memberships_in_groups, groups_joined as groups_joined_by, active_groups_joined as active_groups_joined_by};
 ghost use Rattle.hub_core.specs.Reads.{groups_of};
-ghost use Rattle.hub_store.specs.Queries.{IsReadInside, Answers};
+ghost use Rattle.hub_store.specs.Queries.{IsReadInside, IsReadOutside};
 ghost use Rattle.hub_store.specs.ShownPairs.{joined_of, joined_group as joined_with, groups_in};
 
 use crate::ask_pairs::ask_to;
@@ -146,7 +146,7 @@ pub(crate) fn has_group_member<S: Alter>(
 ) -> Result<bool, Error>
     requires { conn.old.in_transaction ≡ false }
     ensures idle { conn.new.in_transaction ≡ false }
-    ensures answers { Answers (state S.Store conn.old) (state S.Store conn.new) (λ s found. found ≡ is_group_member group org s.directory) result }
+    ensures answers { IsReadOutside (state S.Store conn.old) (state S.Store conn.new) (λ s found. found ≡ is_group_member group org s.directory) result }
 {
     let mut tx = conn.transaction();
     let found = read_has_group_member(&mut tx, group, org);
@@ -162,7 +162,7 @@ pub(crate) fn groups_joined<S: Alter>(
 ) -> Result<GroupsJoined, Error>
     requires { conn.old.in_transaction ≡ false }
     ensures idle { conn.new.in_transaction ≡ false }
-    ensures answers { Answers (state S.Store conn.old) (state S.Store conn.new) (λ s found. found ≡ record { all = groups_joined_by org s.directory; active = active_groups_joined_by org s.directory }) result }
+    ensures answers { IsReadOutside (state S.Store conn.old) (state S.Store conn.new) (λ s found. found ≡ record { all = groups_joined_by org s.directory; active = active_groups_joined_by org s.directory }) result }
 {
     let mut tx = conn.transaction();
     let found = read_groups_joined(&mut tx, alloc, org);
@@ -178,7 +178,7 @@ pub(crate) fn find_groups<S: Alter>(
 ) -> Result<Vec<JoinedGroup>, Error>
     requires { conn.old.in_transaction ≡ false }
     ensures idle { conn.new.in_transaction ≡ false }
-    ensures answers { Answers (state S.Store conn.old) (state S.Store conn.new) (λ s found. found.items ≡ groups_of person.now s) result }
+    ensures answers { IsReadOutside (state S.Store conn.old) (state S.Store conn.new) (λ s found. found.items ≡ groups_of person.now s) result }
 {
     let mut tx = conn.transaction();
     let found = read_groups(&mut tx, alloc, person.org);

@@ -4,7 +4,7 @@ ghost use Rattle.std.specs.Prelude.{◌≡◌, false, option_map};
 ghost use Rattle.sqlite.specs.Held.{state};
 ghost use Rattle.hub_core.specs.Facts.{known};
 ghost use Rattle.hub_core.specs.State.{incident_of};
-ghost use Rattle.hub_store.specs.Queries.{IsReadInside, Answers};
+ghost use Rattle.hub_store.specs.Queries.{IsReadInside, IsReadOutside};
 
 use crate::from_row::first;
 use crate::query::ask;
@@ -37,7 +37,7 @@ pub(crate) fn find_known<S: Alter>(
 ) -> Result<Option<Known>, Error>
     requires { conn.old.in_transaction ≡ false }
     ensures idle { conn.new.in_transaction ≡ false }
-    ensures answers { Answers (state S.Store conn.old) (state S.Store conn.new) (λ s found. found ≡ option_map known (incident_of incident s)) result }
+    ensures answers { IsReadOutside (state S.Store conn.old) (state S.Store conn.new) (λ s found. found ≡ option_map known (incident_of incident s)) result }
 {
     let mut tx = conn.transaction();
     let found = read_known(&mut tx, alloc, incident);

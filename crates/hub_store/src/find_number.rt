@@ -3,7 +3,7 @@
 ghost use Rattle.std.specs.Prelude.{◌≡◌, false, option_map};
 ghost use Rattle.sqlite.specs.Held.{state};
 ghost use Rattle.hub_core.specs.State.{incident_named, incident_number};
-ghost use Rattle.hub_store.specs.Queries.{IsReadInside, Answers};
+ghost use Rattle.hub_store.specs.Queries.{IsReadInside, IsReadOutside};
 
 use crate::from_row::first;
 use crate::query::ask;
@@ -38,7 +38,7 @@ pub(crate) fn number_of<S: Alter>(
 ) -> Result<Option<u32>, Error>
     requires { conn.old.in_transaction ≡ false }
     ensures idle { conn.new.in_transaction ≡ false }
-    ensures answers { Answers (state S.Store conn.old) (state S.Store conn.new) (λ s found. found ≡ option_map incident_number (incident_named source ident.now s)) result }
+    ensures answers { IsReadOutside (state S.Store conn.old) (state S.Store conn.new) (λ s found. found ≡ option_map incident_number (incident_named source ident.now s)) result }
 {
     let mut tx = conn.transaction();
     let found = read_number_of(&mut tx, alloc, source, ident);

@@ -4,7 +4,7 @@ ghost use Rattle.std.specs.Prelude.{◌≡◌, false};
 ghost use Rattle.sqlite.specs.Held.{state};
 ghost use Rattle.circle.specs.Directory.{has_org as is_org, has_person as is_person, has_community as is_community};
 ghost use Rattle.circle.specs.Reads.{person_of as person_numbered};
-ghost use Rattle.hub_store.specs.Queries.{IsReadInside, Answers};
+ghost use Rattle.hub_store.specs.Queries.{IsReadInside, IsReadOutside};
 
 use crate::any_row::is_any;
 use crate::from_row::first;
@@ -75,7 +75,7 @@ pub(crate) fn read_has_person<S: Alter>(
 pub(crate) fn has_org<S: Alter>(conn: &mut Connection<S>, number: u32) -> Result<bool, Error>
     requires { conn.old.in_transaction ≡ false }
     ensures idle { conn.new.in_transaction ≡ false }
-    ensures answers { Answers (state S.Store conn.old) (state S.Store conn.new) (λ s found. found ≡ is_org number s.directory) result }
+    ensures answers { IsReadOutside (state S.Store conn.old) (state S.Store conn.new) (λ s found. found ≡ is_org number s.directory) result }
 {
     let mut tx = conn.transaction();
     let found = read_has_org(&mut tx, number);
@@ -87,7 +87,7 @@ pub(crate) fn has_org<S: Alter>(conn: &mut Connection<S>, number: u32) -> Result
 pub(crate) fn has_community<S: Alter>(conn: &mut Connection<S>, number: u32) -> Result<bool, Error>
     requires { conn.old.in_transaction ≡ false }
     ensures idle { conn.new.in_transaction ≡ false }
-    ensures answers { Answers (state S.Store conn.old) (state S.Store conn.new) (λ s found. found ≡ is_community number s.directory) result }
+    ensures answers { IsReadOutside (state S.Store conn.old) (state S.Store conn.new) (λ s found. found ≡ is_community number s.directory) result }
 {
     let mut tx = conn.transaction();
     let found = read_has_community(&mut tx, number);
@@ -103,7 +103,7 @@ pub(crate) fn person_of<S: Alter>(
 ) -> Result<Option<Person>, Error>
     requires { conn.old.in_transaction ≡ false }
     ensures idle { conn.new.in_transaction ≡ false }
-    ensures answers { Answers (state S.Store conn.old) (state S.Store conn.new) (λ s found. found ≡ person_numbered number s.directory) result }
+    ensures answers { IsReadOutside (state S.Store conn.old) (state S.Store conn.new) (λ s found. found ≡ person_numbered number s.directory) result }
 {
     let mut tx = conn.transaction();
     let found = read_person_of(&mut tx, alloc, number);
@@ -119,7 +119,7 @@ pub(crate) fn has_person<S: Alter>(
 ) -> Result<bool, Error>
     requires { conn.old.in_transaction ≡ false }
     ensures idle { conn.new.in_transaction ≡ false }
-    ensures answers { Answers (state S.Store conn.old) (state S.Store conn.new) (λ s found. found ≡ is_person number s.directory) result }
+    ensures answers { IsReadOutside (state S.Store conn.old) (state S.Store conn.new) (λ s found. found ≡ is_person number s.directory) result }
 {
     let mut tx = conn.transaction();
     let found = read_has_person(&mut tx, alloc, number);

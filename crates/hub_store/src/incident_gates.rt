@@ -7,7 +7,7 @@ ghost use Rattle.iodef_tree.specs.Text.{is_root, same_path};
 ghost use Rattle.hub_core.specs.Edits.{edited};
 ghost use Rattle.hub_core.specs.State.{same_group, has_gate as is_gate, class_gates as class_gates_in};
 ghost use Rattle.hub_core.specs.declared.edit.Edit.TheVariants as edit;
-ghost use Rattle.hub_store.specs.Queries.{IsReadInside, Answers};
+ghost use Rattle.hub_store.specs.Queries.{IsReadInside, IsReadOutside};
 
 use crate::find_case::read_gates;
 use hub_core::{are_same_groups, capped};
@@ -126,7 +126,7 @@ pub(crate) fn has_gate<S: Alter>(
 ) -> Result<bool, Error>
     requires { conn.old.in_transaction ≡ false }
     ensures idle { conn.new.in_transaction ≡ false }
-    ensures answers { Answers (state S.Store conn.old) (state S.Store conn.new) (λ s found. found ≡ is_gate incident path.now level group s) result }
+    ensures answers { IsReadOutside (state S.Store conn.old) (state S.Store conn.new) (λ s found. found ≡ is_gate incident path.now level group s) result }
 {
     let mut tx = conn.transaction();
     let found = read_has_gate(&mut tx, alloc, incident, path, level, group);
@@ -142,7 +142,7 @@ pub(crate) fn class_gates<S: Alter>(
 ) -> Result<u32, Error>
     requires { conn.old.in_transaction ≡ false }
     ensures idle { conn.new.in_transaction ≡ false }
-    ensures answers { Answers (state S.Store conn.old) (state S.Store conn.new) (λ s found. found ≡ class_gates_in incident s.gates) result }
+    ensures answers { IsReadOutside (state S.Store conn.old) (state S.Store conn.new) (λ s found. found ≡ class_gates_in incident s.gates) result }
 {
     let mut tx = conn.transaction();
     let found = read_class_gates(&mut tx, alloc, incident);
@@ -159,7 +159,7 @@ pub(crate) fn class_gates_with<S: Alter>(
 ) -> Result<u32, Error>
     requires { conn.old.in_transaction ≡ false }
     ensures idle { conn.new.in_transaction ≡ false }
-    ensures answers { Answers (state S.Store conn.old) (state S.Store conn.new) (λ s found. (level : ℕ) → (group : Option ℕ) → found ≡ class_gates_in incident (edited (edit.PutGate (record { incident = incident; path = path.now; level = level; group = group })) (edited (edit.TakeGate incident path.now) s)).gates) result }
+    ensures answers { IsReadOutside (state S.Store conn.old) (state S.Store conn.new) (λ s found. (level : ℕ) → (group : Option ℕ) → found ≡ class_gates_in incident (edited (edit.PutGate (record { incident = incident; path = path.now; level = level; group = group })) (edited (edit.TakeGate incident path.now) s)).gates) result }
 {
     let mut tx = conn.transaction();
     let found = read_class_gates_with(&mut tx, alloc, incident, path);

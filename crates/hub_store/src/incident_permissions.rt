@@ -7,7 +7,7 @@ ghost use Rattle.iodef_tree.specs.Text.{same_path};
 ghost use Rattle.hub_core.specs.Edits.{edited};
 ghost use Rattle.hub_core.specs.State.{same_grantee, has_permission as is_permission, permissions_of};
 ghost use Rattle.hub_core.specs.declared.edit.Edit.TheVariants as edit;
-ghost use Rattle.hub_store.specs.Queries.{IsReadInside, Answers};
+ghost use Rattle.hub_store.specs.Queries.{IsReadInside, IsReadOutside};
 
 use crate::find_case::read_permissions;
 use hub_core::{capped, is_same_grantee};
@@ -92,7 +92,7 @@ pub(crate) fn has_permission<S: Alter>(
 ) -> Result<bool, Error>
     requires { conn.old.in_transaction ≡ false }
     ensures idle { conn.new.in_transaction ≡ false }
-    ensures answers { Answers (state S.Store conn.old) (state S.Store conn.new) (λ s found. found ≡ is_permission incident path.now grantee s) result }
+    ensures answers { IsReadOutside (state S.Store conn.old) (state S.Store conn.new) (λ s found. found ≡ is_permission incident path.now grantee s) result }
 {
     let mut tx = conn.transaction();
     let found = read_has_permission(&mut tx, alloc, incident, path, grantee);
@@ -108,7 +108,7 @@ pub(crate) fn permission_count<S: Alter>(
 ) -> Result<u32, Error>
     requires { conn.old.in_transaction ≡ false }
     ensures idle { conn.new.in_transaction ≡ false }
-    ensures answers { Answers (state S.Store conn.old) (state S.Store conn.new) (λ s found. found ≡ permissions_of incident s.permissions) result }
+    ensures answers { IsReadOutside (state S.Store conn.old) (state S.Store conn.new) (λ s found. found ≡ permissions_of incident s.permissions) result }
 {
     let mut tx = conn.transaction();
     let found = read_permission_count(&mut tx, alloc, incident);
@@ -126,7 +126,7 @@ pub(crate) fn permissions_without<S: Alter>(
 ) -> Result<u32, Error>
     requires { conn.old.in_transaction ≡ false }
     ensures idle { conn.new.in_transaction ≡ false }
-    ensures answers { Answers (state S.Store conn.old) (state S.Store conn.new) (λ s found. found ≡ permissions_of incident (edited (edit.TakePermission incident path.now grantee) s).permissions) result }
+    ensures answers { IsReadOutside (state S.Store conn.old) (state S.Store conn.new) (λ s found. found ≡ permissions_of incident (edited (edit.TakePermission incident path.now grantee) s).permissions) result }
 {
     let mut tx = conn.transaction();
     let found = read_permissions_without(&mut tx, alloc, incident, path, grantee);

@@ -5,7 +5,7 @@ ghost use Rattle.sqlite.specs.Held.{state};
 ghost use Rattle.hub_core.specs.Edits.{edited};
 ghost use Rattle.hub_core.specs.State.{target_key, same_target, has_recipient as is_recipient, recipients_of};
 ghost use Rattle.hub_core.specs.declared.edit.Edit.TheVariants as edit;
-ghost use Rattle.hub_store.specs.Queries.{IsReadInside, Answers};
+ghost use Rattle.hub_store.specs.Queries.{IsReadInside, IsReadOutside};
 ghost use Rattle.hub_store.specs.Shown.{IsShownBy};
 ghost use Rattle.hub_store.specs.TargetsShown.{target_shown, targets_of};
 
@@ -113,7 +113,7 @@ pub(crate) fn has_recipient<S: Alter>(
 ) -> Result<bool, Error>
     requires { conn.old.in_transaction ≡ false }
     ensures idle { conn.new.in_transaction ≡ false }
-    ensures answers { Answers (state S.Store conn.old) (state S.Store conn.new) (λ s found. found ≡ is_recipient incident target s) result }
+    ensures answers { IsReadOutside (state S.Store conn.old) (state S.Store conn.new) (λ s found. found ≡ is_recipient incident target s) result }
 {
     let mut tx = conn.transaction();
     let found = read_has_recipient(&mut tx, incident, target);
@@ -129,7 +129,7 @@ pub(crate) fn recipient_count<S: Alter>(
 ) -> Result<u32, Error>
     requires { conn.old.in_transaction ≡ false }
     ensures idle { conn.new.in_transaction ≡ false }
-    ensures answers { Answers (state S.Store conn.old) (state S.Store conn.new) (λ s found. found ≡ recipients_of incident s.recipients) result }
+    ensures answers { IsReadOutside (state S.Store conn.old) (state S.Store conn.new) (λ s found. found ≡ recipients_of incident s.recipients) result }
 {
     let mut tx = conn.transaction();
     let found = read_recipient_count(&mut tx, alloc, incident);
@@ -146,7 +146,7 @@ pub(crate) fn recipients_without<S: Alter>(
 ) -> Result<u32, Error>
     requires { conn.old.in_transaction ≡ false }
     ensures idle { conn.new.in_transaction ≡ false }
-    ensures answers { Answers (state S.Store conn.old) (state S.Store conn.new) (λ s found. found ≡ recipients_of incident (edited (edit.TakeRecipient (record { incident = incident; target = target })) s).recipients) result }
+    ensures answers { IsReadOutside (state S.Store conn.old) (state S.Store conn.new) (λ s found. found ≡ recipients_of incident (edited (edit.TakeRecipient (record { incident = incident; target = target })) s).recipients) result }
 {
     let mut tx = conn.transaction();
     let found = read_recipients_without(&mut tx, alloc, incident, target);
