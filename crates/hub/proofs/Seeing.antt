@@ -24,7 +24,7 @@ use Rattle.hub_core.specs.declared.reply.Entry.{Entry}
 use Rattle.hub_core.specs.declared.reply.View.{View}
 use Rattle.hub_core.proofs.Keeping.{found_each}
 use Rattle.hub.specs.Explaining.{content_in}
-use Rattle.hub.specs.Told.{standing_at, in_order, is_shown, view_of}
+use Rattle.hub.specs.Told.{standing_at, in_order, is_served, view_of}
 use Rattle.hub.specs.Viewing.{first_being, seen_in, view_made}
 use Rattle.hub.specs.declared.asking.Content.{Content}
 use Rattle.hub.proofs.InOrder.{listed_in_order}
@@ -129,7 +129,7 @@ module _ (s : State) (now : ℤ) (p : Person) where
       let here : c ≡ content_in s i = cc in
       let none : visible_count i.document (case_for s i) (standing_at s now p i) ≡ 0 =
       ap (λ (x : Standing). visible_count i.document (case_for s i) x) (sym same) ∙ ap (λ (x : Content). visible_count x.document x.case st) (sym here) ∙ gives in
-      sym (cond-false (is_shown s now p i) (Some (view_of s now p i)) None (uncounted_none (is_seen_class i.document (case_for s i) (standing_at s now p i)) (located i.document) none))
+      sym (cond-false (is_served s now p i) (Some (view_of s now p i)) None (uncounted_none (is_seen_class i.document (case_for s i) (standing_at s now p i)) (located i.document) none))
 
   pub is_seen : (o : Option Incident) (st : Standing) (c : Content) (e : Entry) (x : Excerpt) → Some st ≡ option_map (λ (i : Incident). standing_at s now p i) o → Some c ≡ option_map (content_in s) o →
       Some e ≡ option_map entry_of o → Gives c.document c.case st (Some x) → Some (view_made e x) ≡ seen_in s now p o
@@ -146,4 +146,4 @@ module _ (s : State) (now : ℤ) (p : Person) where
       let parts = listed_in_order (withheld_of D C S) x.withheld.items G.withheld in
       ap (λ (y : Entry). Some (view_made y x)) entry
       ∙ ap Some (made (entry_of i) x.classes (visible_count D C S) x.document (kept_outline D C S) x.withheld.items (in_order (withheld_of D C S)) G.classes G.outline parts)
-      ∙ sym (cond-true (is_shown s now p i) (Some (view_of s now p i)) None (counted_any (is_seen_class D C S) (located D) some))
+      ∙ sym (cond-true (is_served s now p i) (Some (view_of s now p i)) None (counted_any (is_seen_class D C S) (located D) some))

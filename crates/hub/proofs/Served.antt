@@ -30,7 +30,7 @@ use Rattle.hub_core.specs.declared.shelf.ShelfFault.{ShelfFault}
 use Rattle.hub_core.specs.declared.shelf.ShelfFault.TheVariants.{NoMemory, Failed}
 use Rattle.hub_core.proofs.Keeping.{found_each}
 use Rattle.hub.specs.Faults.{code_told}
-use Rattle.hub.specs.Told.{is_shown, view_of}
+use Rattle.hub.specs.Told.{is_served, view_of}
 use Rattle.hub.specs.Replies.{if_active, caller_of, viewed, circle_reply, refused_or, answer_to, reply_by, reply_of}
 use Rattle.hub.specs.Machine.{IsGivenUp}
 use Rattle.hub_core.specs.Shelves.{IsKept}
@@ -93,7 +93,7 @@ reads_leave s p (ask.Withdraw n path grantee) h = absurd (true≢false (sym h))
 
 view_unmade : (s : State) (now : ℤ) (p : Person) (o : Option Incident) → is_made (viewed s now p o) ≡ false
 view_unmade s now p None = refl
-view_unmade s now p (Some i) = by_case (is_shown s now p i)
+view_unmade s now p (Some i) = by_case (is_served s now p i)
   where
     by_case : (b : Bool) → is_made (cond b (View (view_of s now p i)) (Refused (bare N1))) ≡ false
     by_case true = refl
@@ -242,7 +242,7 @@ memory_tells h = let same : F2 ≡ F1 = apart F2 h in cc
 
 view_tells : (s : State) (now : ℤ) (p : Person) (o : Option Incident) → viewed s now p o ≡ Refused (bare F1) → ⊥
 view_tells s now p None h = unseen_tells h
-view_tells s now p (Some i) h = by_case (is_shown s now p i) h
+view_tells s now p (Some i) h = by_case (is_served s now p i) h
   where
     by_case : (b : Bool) → cond b (View (view_of s now p i)) (Refused (bare N1)) ≡ Refused (bare F1) → ⊥
     by_case true k = cc

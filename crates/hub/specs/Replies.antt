@@ -21,7 +21,7 @@ use Rattle.hub_core.specs.declared.reply.Reply.{Reply}
 use Rattle.hub_core.specs.declared.reply.Reply.TheVariants.{Done, Numbers, Revision, View, Incidents, Groups, Caller, Trace, Refused}
 use Rattle.hub_core.specs.declared.request.Request.{Request}
 use Rattle.hub_core.specs.declared.request.Request.TheVariants as ask
-use Rattle.hub.specs.Told.{is_shown, is_found, is_addressed, view_of, trace_of}
+use Rattle.hub.specs.Told.{is_served, is_found, is_addressed, view_of, trace_of}
 use Rattle.hub.specs.declared.key.Key.{Key}
 use Rattle.hub.specs.declared.key.Key.TheVariants.{Absent, Digest}
 
@@ -64,7 +64,7 @@ nothing_for_you = Refused (bare N1)
 -- an incident of which nothing is visible is answered as one that is missing
 abbrev pub viewed : State → ℤ → Person → Option Incident → Reply
 viewed s now p None = nothing_for_you
-viewed s now p (Some i) = if is_shown s now p i then View (view_of s now p i) else nothing_for_you
+viewed s now p (Some i) = if is_served s now p i then View (view_of s now p i) else nothing_for_you
 
 -- ---- replies
 
@@ -80,9 +80,9 @@ answer_to s now p (ask.Grant n revision path grantee) = Done
 answer_to s now p (ask.Withdraw n path grantee) = Done
 answer_to s now p (ask.View n) = viewed s now p (incident_of n s)
 answer_to s now p (ask.Explain person n path) = Trace (trace_of s now (person_of person s.directory) (incident_of n s) (pointer_tokens path))
-answer_to s now p (ask.List after) = Incidents (page_of (is_shown s now p) after s)
+answer_to s now p (ask.List after) = Incidents (page_of (is_served s now p) after s)
 answer_to s now p (ask.Search needle class after) = Incidents (page_of (λ (i : Incident). is_found s now p i needle class) after s)
-answer_to s now p (ask.Addressed after) = Incidents (page_of (λ (i : Incident). is_addressed s now p i && is_shown s now p i) after s)
+answer_to s now p (ask.Addressed after) = Incidents (page_of (λ (i : Incident). is_addressed s now p i && is_served s now p i) after s)
 answer_to s now p ask.MyGroups = Groups (groups_of p s)
 answer_to s now p ask.WhoAmI = Caller p
 

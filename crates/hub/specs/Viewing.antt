@@ -6,12 +6,12 @@ use Rattle.hub_core.specs.State.{State}
 use Rattle.hub_core.specs.declared.state.Incident.{Incident}
 use Rattle.hub_core.specs.declared.reply.Entry.{Entry}
 use Rattle.hub_core.specs.declared.reply.View.{View}
-use Rattle.hub.specs.Told.{is_shown, view_of}
+use Rattle.hub.specs.Told.{is_served, view_of}
 
 -- what a person may see of an incident; none where that is nothing
 abbrev pub seen_in : State → ℤ → Person → Option Incident → Option View
 seen_in s now p None = None
-seen_in s now p (Some i) = if is_shown s now p i then Some (view_of s now p i) else None
+seen_in s now p (Some i) = if is_served s now p i then Some (view_of s now p i) else None
 
 -- the first entry, if it has this number
 abbrev pub first_being : ℕ → List Entry → Option Entry

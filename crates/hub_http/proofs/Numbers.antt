@@ -8,7 +8,7 @@ use Rattle.std.proofs.lemmas.Bool.Decides.{nat_tests}
 use Rattle.std.proofs.lemmas.Int.Digits.{digits_value_more}
 use Rattle.std.proofs.lemmas.Str.Parse.{digit_at, IsNumeralModel, numerals_by_value, parse_digits}
 use Rattle.std.proofs.lemmas.Grind.{common_steps}
-use Rattle.hub_http.specs.Spelling.{is_plain, number}
+use Rattle.hub_http.specs.Spelling.{is_numeral, number}
 use borrow.Author.Tests.{ltb-true}
 use Rattle.hub_http.specs.declared.request_fault.RequestFault.{RequestFault}
 use Rattle.hub_http.specs.declared.request_fault.RequestFault.TheVariants.{BadBody}
@@ -16,25 +16,25 @@ use Rattle.hub_http.specs.declared.request_fault.RequestFault.TheVariants.{BadBo
 own : IsNumeralModel (λ ds. list_all is_ascii_digit ds ≡ true) (digits_value 10)
 own = numerals_by_value _ (search rules)
 
-plain_digits : (text : List ℕ) → is_plain text ≡ true → list_all is_ascii_digit text ≡ true
-plain_digits text plain = grind (arith, common_steps)
+numeral_digits : (text : List ℕ) → is_numeral text ≡ true → list_all is_ascii_digit text ≡ true
+numeral_digits text plain = grind (arith, common_steps)
 
-plain_length : (text : List ℕ) → is_plain text ≡ true → 0 < length text
-plain_length text plain = grind (arith, common_steps)
+numeral_length : (text : List ℕ) → is_numeral text ≡ true → 0 < length text
+numeral_length text plain = grind (arith, common_steps)
 
 -- what parse gives where the digits are plain
-pub plain_parses : {E : Type 0} (text : List ℕ) (r : Result ℕ E) → is_plain text ≡ true → ParsesUnsigned 32 10 text r
+pub numeral_parses : {E : Type 0} (text : List ℕ) (r : Result ℕ E) → is_numeral text ≡ true → ParsesUnsigned 32 10 text r
     → OkIff r ((0 < length text) × (digits_value 10 text < 2 ^ 32)) (digits_value 10 text)
-plain_parses text r plain h =
-    parse_digits own 32 text r h (plain_digits text plain)
+numeral_parses text r plain h =
+    parse_digits own 32 text r h (numeral_digits text plain)
 
-pub too_large : {E : Type 0} (text : List ℕ) (e : E) → is_plain text ≡ true → ParsesUnsigned 32 10 text (Err e)
+pub too_large : {E : Type 0} (text : List ℕ) (e : E) → is_numeral text ≡ true → ParsesUnsigned 32 10 text (Err e)
     → number text ≡ Err BadBody
 unfolding number
 too_large text e plain h =
-    let no = plain_parses text (Err e) plain h in
-    elim (nat_lt (digits_value 10 text) (2 ^ 32)) as (λ b. b ≡ nat_lt (digits_value 10 text) (2 ^ 32) → ◌≡◌ {A = Result ℕ RequestFault} (if is_plain text && b then Ok (digits_value 10 text) else Err BadBody) (Err BadBody)) [
-      | true ↦ λ e. absurd (no (plain_length text plain, ltb-true _ _ (sym e)))
+    let no = numeral_parses text (Err e) plain h in
+    elim (nat_lt (digits_value 10 text) (2 ^ 32)) as (λ b. b ≡ nat_lt (digits_value 10 text) (2 ^ 32) → ◌≡◌ {A = Result ℕ RequestFault} (if is_numeral text && b then Ok (digits_value 10 text) else Err BadBody) (Err BadBody)) [
+      | true ↦ λ e. absurd (no (numeral_length text plain, ltb-true _ _ (sym e)))
       | false ↦ λ e. rw plain refl
     ] refl
 

@@ -14,15 +14,15 @@ use Rattle.hub_http.specs.declared.request_fault.RequestFault.TheVariants.{BadBo
 use Rattle.hub_http.specs.Outcome.{Read, ◌>>=◌}
 
 -- decimal digits, the first of several no zero
-abbrev pub is_plain : List ℕ → Bool
-is_plain text =
+abbrev pub is_numeral : List ℕ → Bool
+is_numeral text =
     nat_lt 0 (length text) && list_all is_ascii_digit text
     && (if slice_index text 0 == 48 then length text == 1 else true)
 
--- the number below 2^32 that plain digits write
+-- the number below 2^32 that a numeral writes
 unfoldable pub number : List ℕ → Read ℕ
 number text =
-    if is_plain text && nat_lt (digits_value 10 text) (2 ^ 32) then Ok (digits_value 10 text) else Err BadBody
+    if is_numeral text && nat_lt (digits_value 10 text) (2 ^ 32) then Ok (digits_value 10 text) else Err BadBody
 
 -- 0 or 1
 unfoldable pub flag : List ℕ → Read Bool

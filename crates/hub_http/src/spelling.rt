@@ -19,8 +19,8 @@ pub(crate) fn has_digits_alone(text: &[u8]) -> bool
 }
 
 /// Whether a text has decimal digits alone, the first of several no zero.
-fn is_plain_digits(text: &[u8]) -> bool
-    ensures { result ≡ spec.is_plain text.now }
+fn is_numeral(text: &[u8]) -> bool
+    ensures { result ≡ spec.is_numeral text.now }
 {
     if text.is_empty() || !has_digits_alone(text) {
         return false;
@@ -36,7 +36,7 @@ fn is_plain_digits(text: &[u8]) -> bool
 pub(crate) fn read_number(text: &str) -> Result<u32, RequestFault>
     ensures { Yields result (spec.number text.now) }
 {
-    if !is_plain_digits(text.as_bytes()) {
+    if !is_numeral(text.as_bytes()) {
         return Err(RequestFault::BadBody);
     }
     match text.parse::<u32>() {
