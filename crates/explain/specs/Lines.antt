@@ -14,7 +14,7 @@ use Rattle.policy.specs.declared.verdict.Verdict.{Verdict}
 use Rattle.policy.specs.declared.verdict.Verdict.TheVariants.{Shown, Hidden}
 use Rattle.explain.specs.Explanation.{Explanation}
 use Rattle.explain.specs.Listing.{entry_of, in_order, kind_name, number_of}
-use Rattle.explain.specs.declared.listing.Entry.{Entry}
+use Rattle.explain.specs.declared.listing.PrintedPermission.{PrintedPermission}
 
 abbrev pub space : Bytes
 space = codes " "
@@ -59,7 +59,7 @@ site_line p label h = codes "site " ++ path_text p ++ space ++ quoted label ++ s
 abbrev pub clearance_line : Handling × Rule → Bytes
 clearance_line x = codes "clearance " ++ handling_name x.0 ++ space ++ name_of x.1 ++ newline
 
-abbrev pub permission_line : Entry → Bytes
+abbrev pub permission_line : PrintedPermission → Bytes
 permission_line e =
     codes "permission " ++ quoted e.pointer ++ space ++ kind_name e.grantee ++ space ++ decimal (number_of e.grantee) ++ newline
 

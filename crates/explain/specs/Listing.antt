@@ -8,10 +8,10 @@ use Rattle.iodef_tree.specs.Pointer.{pointer_text}
 use Rattle.policy.specs.declared.permission.Grantee.{Grantee}
 use Rattle.policy.specs.declared.permission.Grantee.TheVariants.{Person, Org, Community, Group}
 use Rattle.policy.specs.declared.permission.Permission.{Permission}
-use Rattle.explain.specs.declared.listing.Entry.{Entry}
+use Rattle.explain.specs.declared.listing.PrintedPermission.{PrintedPermission}
 
 -- a permission, with its path as it is printed
-abbrev pub entry_of : Permission → Entry
+abbrev pub entry_of : Permission → PrintedPermission
 entry_of x = record { pointer = pointer_text x.path; grantee = x.grantee }
 
 -- the kinds of grantee: persons, organisations, communities, groups
@@ -34,22 +34,22 @@ number_of (Community n) = n
 number_of (Group n) = n
 
 -- by the bytes of the printed path, then by kind, then by number
-abbrev pub entry_cmp : Entry → Entry → Ordering
+abbrev pub entry_cmp : PrintedPermission → PrintedPermission → Ordering
 entry_cmp = then_cmp (on (λ e. e.pointer) (slice_cmp nat_cmp)) (then_cmp (on (λ e. kind_place e.grantee) nat_cmp) (on (λ e. number_of e.grantee) nat_cmp))
 
-abbrev pub comes_before : Entry → Entry → Bool
+abbrev pub comes_before : PrintedPermission → PrintedPermission → Bool
 comes_before e f = is_lt (entry_cmp e f)
 
 -- e among these: before the first that comes after it
-abbrev pub put : Entry → List Entry → List Entry
+abbrev pub put : PrintedPermission → List PrintedPermission → List PrintedPermission
 put e [] = e ∷ []
 put e (f ∷ fs) = if comes_before e f then e ∷ f ∷ fs else f ∷ put e fs
 
 -- one after the other put among these
-abbrev pub put_all : List Entry → List Entry → List Entry
+abbrev pub put_all : List PrintedPermission → List PrintedPermission → List PrintedPermission
 put_all fs [] = fs
 put_all fs (e ∷ es) = put_all (put e fs) es
 
 -- in this order; those of which none comes before the other stay in theirs
-abbrev pub in_order : List Entry → List Entry
+abbrev pub in_order : List PrintedPermission → List PrintedPermission
 in_order es = put_all [] es

@@ -7,7 +7,7 @@ ghost use Rattle.explain.specs.Explanation.{explanation};
 ghost use Rattle.explain.specs.Listing.{number_of as number_in, kind_name as kind_of};
 ghost use Rattle.explain.specs.Lines.{space, newline, path_text, result_text, side_text, rule_in, verdict_line, path_line, gate_line, site_line, clearance_line, permission_line, permission_lines, trace_text};
 
-use crate::listing::{Entry, in_order, kind_name, number_of};
+use crate::listing::{PrintedPermission, in_order, kind_name, number_of};
 use crate::trace::Trace;
 use iodef_tree::{Path, push_quoted};
 use marking::Handling;
@@ -185,7 +185,7 @@ fn push_entry(
     alloc: Global,
     out: &mut String,
     before: &str,
-    entry: &Entry,
+    entry: &PrintedPermission,
 ) -> Result<(), AllocError>
     ensures { OnOk result (string_bytes out.new ≡ string_bytes out.old ++ (before.now ++ in_quotes entry.now.pointer ++ space ++ kind_of entry.now.grantee ++ space ++ decimal (number_in entry.now.grantee) ++ newline)) }
 {
@@ -193,13 +193,21 @@ fn push_entry(
     push_grantee(out, entry.grantee)
 }
 
-fn push_permission(alloc: Global, out: &mut String, entry: &Entry) -> Result<(), AllocError>
+fn push_permission(
+    alloc: Global,
+    out: &mut String,
+    entry: &PrintedPermission,
+) -> Result<(), AllocError>
     ensures { OnOk result (string_bytes out.new ≡ string_bytes out.old ++ permission_line entry.now) }
 {
     push_entry(alloc, out, "permission ", entry)
 }
 
-fn push_entries(alloc: Global, out: &mut String, entries: &[Entry]) -> Result<(), AllocError>
+fn push_entries(
+    alloc: Global,
+    out: &mut String,
+    entries: &[PrintedPermission],
+) -> Result<(), AllocError>
     ensures { OnOk result (string_bytes out.new ≡ string_bytes out.old ++ flat_map permission_line entries.now) }
 {
     for entry in entries {

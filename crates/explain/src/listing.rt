@@ -10,7 +10,7 @@ use std::alloc::{AllocError, Global};
 
 /// A permission as a line tells it.
 #[derive(Drop)]
-pub(crate) struct Entry {
+pub(crate) struct PrintedPermission {
     pub(crate) pointer: Text,
     pub(crate) grantee: Grantee,
 }
@@ -50,7 +50,7 @@ pub(crate) fn number_of(grantee: Grantee) -> u32
     }
 }
 
-fn comes_before(entry: &Entry, other: &Entry) -> bool
+fn comes_before(entry: &PrintedPermission, other: &PrintedPermission) -> bool
     ensures { result ≡ is_before entry.now other.now }
 {
     let kinds = kind_place(entry.grantee).cmp(&kind_place(other.grantee));
@@ -64,7 +64,7 @@ fn comes_before(entry: &Entry, other: &Entry) -> bool
 }
 
 /// Where the entry goes: before the first that comes after it.
-fn place_for(entries: &[Entry], entry: &Entry) -> usize
+fn place_for(entries: &[PrintedPermission], entry: &PrintedPermission) -> usize
     ensures within { result ≤ length entries.now }
     ensures is { insert entries.now result entry.now ≡ put_in entry.now entries.now }
 {
@@ -76,7 +76,7 @@ fn place_for(entries: &[Entry], entry: &Entry) -> usize
     entries.len()
 }
 
-fn put(entries: &mut Vec<Entry>, entry: Entry) -> Result<(), AllocError>
+fn put(entries: &mut Vec<PrintedPermission>, entry: PrintedPermission) -> Result<(), AllocError>
     ensures { OnOk result (entries.new.items ≡ put_in entry entries.old.items) }
 {
     let place = place_for(entries.as_slice(), &entry);
@@ -84,16 +84,19 @@ fn put(entries: &mut Vec<Entry>, entry: Entry) -> Result<(), AllocError>
     Ok(())
 }
 
-fn entry_of(alloc: Global, permission: &Permission) -> Result<Entry, AllocError>
+fn entry_of(alloc: Global, permission: &Permission) -> Result<PrintedPermission, AllocError>
     ensures { IfOk result (λ e. e ≡ entry_for permission.now) }
 {
     let pointer = Text::new(permission.path.print(alloc)?);
     let grantee = permission.grantee;
-    Ok(Entry { pointer, grantee })
+    Ok(PrintedPermission { pointer, grantee })
 }
 
 /// The permissions by the bytes of the printed path, then by kind and number; those alike in their order.
-pub(crate) fn in_order(alloc: Global, permissions: &[Permission]) -> Result<Vec<Entry>, AllocError>
+pub(crate) fn in_order(
+    alloc: Global,
+    permissions: &[Permission],
+) -> Result<Vec<PrintedPermission>, AllocError>
     ensures { IfOk result (λ v. v.items ≡ in_this_order (map entry_for permissions.now)) }
 {
     let mut entries = Vec::new(alloc);
