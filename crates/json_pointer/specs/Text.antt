@@ -1,5 +1,5 @@
 -- Texts and paths: their equality and their order.
-use Rattle.std.specs.Prelude.{ℕ, List, [], ◌∷◌, map, Bool, true, false, ◌&&◌}
+use Rattle.std.specs.Prelude.{◌≡◌, ℕ, List, [], ◌∷◌, ◌++◌, map, Bool, true, false, ◌&&◌}
 use Rattle.std.specs.Ordering.{nat_cmp, is_lt}
 use Rattle.std.specs.Cmp.Lexicographic.{slice_cmp}
 use Rattle.std.specs.Str.{bytes_eq}
@@ -36,6 +36,10 @@ is_under [] [] = false
 is_under [] (y ∷ p) = true
 is_under (x ∷ q) [] = false
 is_under (x ∷ q) (y ∷ p) = bytes_eq x y && is_under q p
+
+-- a text is another, and maybe more behind it
+abbrev pub BeginsWith : Bytes → Bytes → Type 0
+BeginsWith text front = (rest : Bytes) × (text ≡ front ++ rest)
 
 -- every prefix of a path, the shortest first
 abbrev pub prefixes : Tokens → List Tokens

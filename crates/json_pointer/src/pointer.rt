@@ -1,9 +1,10 @@
 //! JSON pointers as texts (RFC 6901).
 
-ghost use Rattle.std.specs.Prelude.{◌≡◌, ◌++◌, ◌∷◌, string_bytes, OnOk, IfOk, encode_utf8};
+ghost use Rattle.std.specs.Prelude.{◌≡◌, ◌++◌, ◌∷◌, string_bytes, is_ok, if◌then◌else◌, OnOk, OnErr, IfOk, encode_utf8};
 ghost use Rattle.std.specs.List.{list_any};
 ghost use Rattle.std.specs.Str.{byte};
 ghost use Rattle.json_pointer.specs.Pointer.{is_escaped_byte, escaped, escaped_by, unescaped, slash_separated, fault_name};
+ghost use Rattle.json_pointer.specs.Text.{BeginsWith};
 ghost use Rattle.json_pointer.specs.declared.pointer.PathFault.TheVariants.{NoMemory};
 
 use crate::text::Text;
@@ -49,10 +50,11 @@ impl<T: Drop> From<AllocFailed<T>> for PathFault {
 }
 
 /// Writes a reference token behind a pointer: a slash, and the token with `~` as `~0` and `/` as `~1` (RFC 6901
-/// section 3). Without memory the pointer may end in a part of it.
+/// section 3). Without memory a part of it may stand there.
 pub fn push_token(pointer: &mut String, token: &str) -> Result<(), AllocError>
-    ensures { OnOk result
+    ensures ok { OnOk result
         (string_bytes pointer.new ≡ string_bytes pointer.old ++ byte "/" ∷ escaped token.now) }
+    ensures err { OnErr result (BeginsWith (string_bytes pointer.new) (string_bytes pointer.old)) }
 {
     pointer.push('/')?;
     if is_written_otherwise(token) {
@@ -74,7 +76,8 @@ fn is_written_otherwise(token: &str) -> bool
 }
 
 fn push_escaped(pointer: &mut String, token: &str) -> Result<(), AllocError>
-    ensures { OnOk result (string_bytes pointer.new ≡ string_bytes pointer.old ++ escaped token.now) }
+    ensures ok { OnOk result (string_bytes pointer.new ≡ string_bytes pointer.old ++ escaped token.now) }
+    ensures err { OnErr result (BeginsWith (string_bytes pointer.new) (string_bytes pointer.old)) }
 {
     for c in token.chars() {
         push_escaped_char(pointer, c)?;
@@ -85,8 +88,8 @@ fn push_escaped(pointer: &mut String, token: &str) -> Result<(), AllocError>
 /// Writes a character of a token: `~` as `~0` and `/` as `~1` (RFC 6901 section 3).
 #[tactic(auto, using(crate::proofs::Steps::push_escaped_char_steps))]
 fn push_escaped_char(pointer: &mut String, c: char) -> Result<(), AllocError>
-    ensures { OnOk result
-        (string_bytes pointer.new ≡ string_bytes pointer.old ++ escaped (encode_utf8 c)) }
+    ensures { string_bytes pointer.new
+        ≡ (if is_ok result then string_bytes pointer.old ++ escaped (encode_utf8 c) else string_bytes pointer.old) }
 {
     match c {
         '~' => pointer.push_str("~0"),
