@@ -1,17 +1,19 @@
 //! A text as a JSON string.
 
-ghost use Rattle.std.specs.Prelude.{◌≡◌, ◌++◌, string_bytes, OnOk};
+ghost use Rattle.std.specs.Prelude.{◌≡◌, ◌++◌, string_bytes, OnOk, OnErr};
 ghost use Rattle.std.specs.List.{list_any};
 ghost use Rattle.json.specs.Print.{quoted};
+ghost use Rattle.json_pointer.specs.Text.{BeginsWith};
 ghost use Rattle.iodef_tree.specs.Written.{needs_escape};
 
 use serde_json::Value;
 use std::alloc::{AllocError, Global};
 
 /// Writes the text behind `out` as a JSON string: in quotes, and escaped as `serde_json` does (RFC 8259 section 7). Takes
-/// memory of its own only where something is escaped. Without memory `out` may end in a part of it.
+/// memory of its own only where something is escaped. Without memory a part of it may stand there.
 pub fn push_quoted(alloc: Global, out: &mut String, text: &str) -> Result<(), AllocError>
-    ensures { OnOk result (string_bytes out.new ≡ string_bytes out.old ++ quoted text.now) }
+    ensures ok { OnOk result (string_bytes out.new ≡ string_bytes out.old ++ quoted text.now) }
+    ensures err { OnErr result (BeginsWith (string_bytes out.new) (string_bytes out.old)) }
 {
     if is_escaped(text) {
         let quoted = Value::String(String::from_str(alloc, text)?).to_string(alloc)?;

@@ -26,9 +26,9 @@ quoted-behind out s h =
     ∙ append_assoc out (34 ∷ []) (s ++ 34 ∷ [])
     ∙ sym (ap (λ t. out ++ t) (quoted-plain s h))
 
-pub returns : goal.returns
+pub returns-clause-ok : goal.returns-clause-ok
 unfolding lib.Utf8.encode
-returns c =
+returns-clause-ok c =
     let s = c.args.text.now in
     let out = string_bytes c.args.out.now in
     let opened : string_bytes c.push.new.self ≡ out ++ 34 ∷ [] = c.in_ok-push.ensures.bytes in
