@@ -13,7 +13,7 @@ use serde_json::{Map, Value};
 use std::alloc::{AllocError, Global};
 
 /// What is looked for.
-#[derive(Clone, Copy, Debug, PartialEq, Eq)]
+#[derive(Clone, Copy)]
 pub(crate) enum Sought {
     NotWhole,
     NestedClass,
