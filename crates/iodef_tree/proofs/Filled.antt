@@ -10,7 +10,7 @@ use Rattle.iodef_tree.specs.declared.object.Object.{Object, roll-Object, the_lem
 use Rattle.iodef_tree.specs.declared.object.Member.{Member}
 use Rattle.iodef_tree.specs.declared.object.Member.TheVariants.{One, Many}
 use Rattle.iodef_tree.specs.declared.object.Item.{Item}
-use Rattle.iodef_tree.specs.declared.object.Item.TheVariants.{Class, Text}
+use Rattle.iodef_tree.specs.declared.object.Item.TheVariants.{Class, Text, Value}
 use Rattle.iodef_tree.specs.declared.object.Item.TheFolds.{fold_out-Member, map-Member}
 use Rattle.iodef_tree.specs.declared.object.Item.TheOpen.{Member-F}
 use Rattle.iodef_tree.specs.declared.object.Item.TheViews.{out-Member}
@@ -20,6 +20,9 @@ filled-Class o = search (rules, the_lemmas)
 
 pub filled-Text : (s : Bytes) → is_item_filled (Text s) ≡ true
 filled-Text s = search (rules, the_lemmas)
+
+pub filled-Value : (s : Bytes) → is_item_filled (Value s) ≡ true
+filled-Value s = search (rules, the_lemmas)
 
 pub filled-One : (i : Item) → is_member_filled (One i) ≡ is_item_filled i
 filled-One i = search (rules, the_lemmas)

@@ -34,6 +34,7 @@ pub use Rattle.json_pointer.proofs.Inverse
 pub mod Seeking
 pub mod Counts
 pub mod FromValues
+pub mod Converted
 pub mod AscendingNames
 pub mod Filled
 pub mod Fitness

@@ -16,6 +16,7 @@ pub mod Values
 pub mod Reading
 pub mod Filled
 pub mod FitValues
+pub mod Converted
 pub mod Laws
 pub mod Examples
 pub mod SoundParts

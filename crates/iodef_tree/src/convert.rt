@@ -1,17 +1,13 @@
 //! From what `serde_json` read to the tree, each text moved and not copied.
 
-ghost use Rattle.std.specs.Prelude.{◌≡◌, ◌≤◌, ◌++◌, ◌∷◌, [], IfOk, OnOk, Some, true, false, map, string_bytes};
-ghost use Rattle.std.specs.List.{AllByRecursion};
+ghost use Rattle.std.specs.Prelude.{◌≡◌, ◌≤◌, ◌++◌, ◌∷◌, [], IfOk, OnOk, Some, true, false, string_bytes};
 ghost use Rattle.serde_json.specs.View.{view, items_view, members_view};
 ghost use Rattle.serde_json.specs.Written.{compact_text, has_float, items_have_float, members_have_float};
 ghost use Rattle.serde_json.specs.Data.{array, depth as nesting};
 ghost use Rattle.serde_json.specs.Read.{max_depth, read as read_text};
-ghost use Rattle.iodef_tree.specs.Sound.{IsOrdered};
-ghost use Rattle.iodef_tree.specs.Texts.{HasTexts, may_be_value};
-ghost use Rattle.iodef_tree.specs.Filled.{IsFilled, IsMemberFilled, IsItemFilled};
-ghost use Rattle.iodef_tree.specs.FitValues.{IsBodyOrdered, AreBodiesOrdered, HasBodyTexts, HaveTexts, is_flat, is_element_flat, are_flat, are_members_flat};
-ghost use Rattle.iodef_tree.specs.Values.{forest_of_data, bodies_of_data, body_of_data, items_of_data};
-ghost use Rattle.iodef_tree.specs.View.{forest, bodies, body};
+ghost use Rattle.iodef_tree.specs.Texts.{may_be_value};
+ghost use Rattle.iodef_tree.specs.FitValues.{is_flat, is_element_flat, are_flat, are_members_flat};
+ghost use Rattle.iodef_tree.specs.Converted.{IsObjectOf, IsMemberOf, IsItemOf, AreItemsOf};
 
 use crate::object::{Item, Member, Object};
 use json_pointer::Text;
@@ -23,10 +19,7 @@ use std::alloc::{AllocError, Global};
 pub(crate) fn object_from(alloc: Global, members: Map<String, Value>) -> Result<Object, AllocError>
     requires whole { members_have_float (members_view members.entries) ≡ false }
     requires flat { are_members_flat (members_view members.entries) ≡ true }
-    ensures made { IfOk result (λ o. forest o ≡ forest_of_data (members_view members.entries)) }
-    ensures ordered { IfOk result (λ o. IsOrdered (forest o)) }
-    ensures texts { IfOk result (λ o. HasTexts (forest o)) }
-    ensures filled { IfOk result (λ o. IsFilled o) }
+    ensures { IfOk result (λ o. IsObjectOf (members_view members.entries) o) }
 {
     let mut made = Vec::with_capacity(alloc, members.len())?;
     for (name, value) in members {
@@ -39,10 +32,7 @@ pub(crate) fn object_from(alloc: Global, members: Map<String, Value>) -> Result<
 fn member_from(alloc: Global, value: Value) -> Result<Member, AllocError>
     requires whole { has_float (view value) ≡ false }
     requires flat { is_flat (view value) ≡ true }
-    ensures made { IfOk result (λ m. bodies m ≡ bodies_of_data (view value)) }
-    ensures ordered { IfOk result (λ m. AreBodiesOrdered (bodies m)) }
-    ensures texts { IfOk result (λ m. HaveTexts (bodies m)) }
-    ensures filled { IfOk result (λ m. IsMemberFilled m) }
+    ensures { IfOk result (λ m. IsMemberOf (view value) m) }
 {
     match value {
         Value::Array(items) => array_from(alloc, items),
@@ -56,10 +46,7 @@ fn member_from(alloc: Global, value: Value) -> Result<Member, AllocError>
 fn array_from(alloc: Global, items: Vec<Value>) -> Result<Member, AllocError>
     requires whole { items_have_float (items_view items.items) ≡ false }
     requires flat { are_flat (items_view items.items) ≡ true }
-    ensures made { IfOk result (λ m. bodies m ≡ bodies_of_data (array (items_view items.items))) }
-    ensures ordered { IfOk result (λ m. AreBodiesOrdered (bodies m)) }
-    ensures texts { IfOk result (λ m. HaveTexts (bodies m)) }
-    ensures filled { IfOk result (λ m. IsMemberFilled m) }
+    ensures { IfOk result (λ m. IsMemberOf (array (items_view items.items)) m) }
 {
     if items.as_slice().is_empty() {
         plain_member(alloc, Value::Array(items))
@@ -72,10 +59,7 @@ fn array_from(alloc: Global, items: Vec<Value>) -> Result<Member, AllocError>
 fn items_from(alloc: Global, items: Vec<Value>) -> Result<Vec<Item>, AllocError>
     requires whole { items_have_float (items_view items.items) ≡ false }
     requires flat { are_flat (items_view items.items) ≡ true }
-    ensures made { IfOk result (λ v. map body v.items ≡ items_of_data (items_view items.items)) }
-    ensures ordered { IfOk result (λ v. AllByRecursion IsBodyOrdered (map body v.items)) }
-    ensures texts { IfOk result (λ v. AllByRecursion (HasBodyTexts true) (map body v.items)) }
-    ensures filled { IfOk result (λ v. AllByRecursion IsItemFilled v.items) }
+    ensures { IfOk result (λ v. AreItemsOf (items_view items.items) v.items) }
 {
     let mut made = Vec::with_capacity(alloc, items.len())?;
     for item in items {
@@ -88,10 +72,7 @@ fn items_from(alloc: Global, items: Vec<Value>) -> Result<Vec<Item>, AllocError>
 fn item_from(alloc: Global, value: Value) -> Result<Item, AllocError>
     requires whole { has_float (view value) ≡ false }
     requires flat { is_element_flat (view value) ≡ true }
-    ensures made { IfOk result (λ i. body i ≡ body_of_data (view value)) }
-    ensures ordered { IfOk result (λ i. IsBodyOrdered (body i)) }
-    ensures texts { IfOk result (λ i. HasBodyTexts true (body i)) }
-    ensures filled { IfOk result (λ i. IsItemFilled i) }
+    ensures { IfOk result (λ i. IsItemOf (view value) i) }
 {
     match value {
         Value::Object(members) => Ok(Item::Class(object_from(alloc, members)?)),
@@ -104,10 +85,7 @@ fn item_from(alloc: Global, value: Value) -> Result<Item, AllocError>
 fn plain_member(alloc: Global, value: Value) -> Result<Member, AllocError>
     requires whole { has_float (view value) ≡ false }
     requires plain { may_be_value false (view value) ≡ true }
-    ensures made { IfOk result (λ m. bodies m ≡ bodies_of_data (view value)) }
-    ensures ordered { IfOk result (λ m. AreBodiesOrdered (bodies m)) }
-    ensures texts { IfOk result (λ m. HaveTexts (bodies m)) }
-    ensures filled { IfOk result (λ m. IsMemberFilled m) }
+    ensures { IfOk result (λ m. IsMemberOf (view value) m) }
 {
     Ok(Member::One(Item::Value(written(alloc, value)?)))
 }
@@ -116,10 +94,7 @@ fn plain_member(alloc: Global, value: Value) -> Result<Member, AllocError>
 fn plain_item(alloc: Global, value: Value) -> Result<Item, AllocError>
     requires whole { has_float (view value) ≡ false }
     requires plain { may_be_value true (view value) ≡ true }
-    ensures made { IfOk result (λ i. body i ≡ body_of_data (view value)) }
-    ensures ordered { IfOk result (λ i. IsBodyOrdered (body i)) }
-    ensures texts { IfOk result (λ i. HasBodyTexts true (body i)) }
-    ensures filled { IfOk result (λ i. IsItemFilled i) }
+    ensures { IfOk result (λ i. IsItemOf (view value) i) }
 {
     Ok(Item::Value(written(alloc, value)?))
 }

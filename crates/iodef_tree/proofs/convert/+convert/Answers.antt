@@ -1,37 +1,20 @@
 use Rattle.std.proofs.lemmas.Grind.{common_steps}
-use Rattle.std.proofs.Common.{map, sym, ◌∙◌, subst, arith}
-use Rattle.iodef_tree.specs.Texts.{HasTexts}
-use Rattle.iodef_tree.specs.View.{named}
-use Rattle.iodef_tree.proofs.Filled.{made-filled, many-filled}
-use Rattle.iodef_tree.proofs.FromValues.{all_given, members_done, many_done, some_given}
-use Rattle.iodef_tree.proofs.AscendingNames.{ascend_given, ordered_members}
-use Rattle.iodef_tree.proofs.ValueTexts.{texts-members}
-use Rattle.iodef_tree.proofs.Views.{bodies-Many, forest-made}
+use Rattle.std.proofs.Common.{◌≡◌, ◌==◌, length, false, arith}
+use Rattle.iodef_tree.proofs.Converted.{many_member, object_done}
 use Rattle.iodef_tree.proofs.convert.+convert.Goals as goal
 
-pub array_from-returns-in_ok-items_from-clause-made : goal.array_from-returns-in_ok-items_from-clause-made
-array_from-returns-in_ok-items_from-clause-made t c = grind (arith, bodies-Many, many_done)
+pub array_from-returns-in_ok-items_from : goal.array_from-returns-in_ok-items_from
+array_from-returns-in_ok-items_from t c =
+    let some : (length c.args.items.items == 0) ≡ false = grind arith in many_member c.in_ok-items_from.field-0 c.args.items.items some c.in_ok-items_from.ensures
 
-pub object_from-returns-clause-made : goal.object_from-returns-clause-made
-object_from-returns-clause-made t c = forest-made c.loop-name.made ∙ members_done (map named c.loop-name.made.items) c.args.members.entries c.loop-name.name-iterator c.in-None.ensures.steps.0 c.loop-name.invariant.made
-
-pub object_from-returns-clause-ordered : goal.object_from-returns-clause-ordered
-object_from-returns-clause-ordered t c = grind (arith, all_given, ascend_given, forest-made, ordered_members)
-
-pub object_from-returns-clause-texts : goal.object_from-returns-clause-texts
-object_from-returns-clause-texts t c = subst HasTexts (sym (forest-made c.loop-name.made)) (texts-members (map named c.loop-name.made.items) c.loop-name.invariant.texts)
-
-pub object_from-returns-clause-filled : goal.object_from-returns-clause-filled
-object_from-returns-clause-filled t c = made-filled c.loop-name.made c.loop-name.invariant.filled
-
-pub array_from-returns-in_ok-items_from-clause-filled : goal.array_from-returns-in_ok-items_from-clause-filled
-array_from-returns-in_ok-items_from-clause-filled t c = grind (arith, many-filled, some_given)
+pub object_from-returns : goal.object_from-returns
+object_from-returns t c = let i = c.loop-name.invariant in object_done c.loop-name.made c.args.members.entries c.loop-name.name-iterator c.in-None.ensures.steps.0 i.made c.len.ensures.ordered i.ordered i.texts i.filled
 
 pub items_from-loop-item-preserved : goal.items_from-loop-item-preserved
 items_from-loop-item-preserved t c = grind (arith, common_steps)
 
-pub items_from-returns-clause-made : goal.items_from-returns-clause-made
-items_from-returns-clause-made t c = grind (arith, common_steps)
+pub items_from-returns : goal.items_from-returns
+items_from-returns t c = grind (arith, common_steps)
 
 pub object_from-loop-name-preserved : goal.object_from-loop-name-preserved
 object_from-loop-name-preserved t c = grind (arith, common_steps)

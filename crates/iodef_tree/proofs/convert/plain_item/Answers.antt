@@ -1,17 +1,18 @@
 use Rattle.std.proofs.Common.{true, sym, ap, ◌∙◌, subst}
 use Rattle.serde_json.specs.View.{view}
-use Rattle.iodef_tree.specs.FitValues.{HasBodyTexts}
+use Rattle.iodef_tree.specs.FitValues.{IsBodyOrdered, HasBodyTexts}
 use Rattle.iodef_tree.specs.Tree.{says, value}
+use Rattle.iodef_tree.proofs.Filled.{filled-Value}
 use Rattle.iodef_tree.proofs.ValueTexts.{value-body, written-text}
 use Rattle.iodef_tree.proofs.Views.{body-Value}
 use Rattle.iodef_tree.proofs.convert.plain_item.Goals as goal
 
-pub returns-clause-made : goal.returns-clause-made
-returns-clause-made c =
+pub returns : goal.returns
+returns c =
     let made = c.in_ok-written.field-0 in
-    body-Value made ∙ ap (λ t. says (value t)) c.in_ok-written.ensures.text ∙ sym (value-body (view c.args.value) c.requires.plain)
-
-pub returns-clause-texts : goal.returns-clause-texts
-returns-clause-texts c =
-    let made = c.in_ok-written.field-0 in
-    subst (HasBodyTexts true) (sym (body-Value made)) (written-text true c.args.value made c.requires.plain c.in_ok-written.ensures.text c.in_ok-written.ensures.reads_back)
+    record {
+      made = body-Value made ∙ ap (λ t. says (value t)) c.in_ok-written.ensures.text ∙ sym (value-body (view c.args.value) c.requires.plain);
+      ordered = subst IsBodyOrdered (sym (body-Value made)) tt;
+      texts = subst (HasBodyTexts true) (sym (body-Value made)) (written-text true c.args.value made c.requires.plain c.in_ok-written.ensures.text c.in_ok-written.ensures.reads_back);
+      filled = filled-Value made;
+    }
