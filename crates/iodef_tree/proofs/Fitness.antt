@@ -9,6 +9,7 @@ use Rattle.json_pointer.specs.Text.{Bytes}
 use Rattle.iodef_tree.specs.Values.{Surrounded, Node, node, beneath, nodes, item_nodes, member_nodes, first_at, is_not_whole, is_nested_class, is_too_deep}
 use Rattle.iodef_tree.specs.Reading.{unless, ◌>>=◌, all_fit}
 use Rattle.iodef_tree.specs.declared.fault.ReadFault.{ReadFault}
+use Rattle.iodef_tree.specs.declared.fault.ReadFault.TheVariants.{NotWhole, NestedClass, TooDeep}
 use Rattle.iodef_tree.proofs.Seeking.{any_at-beneath}
 
 -- no value of the list is refused
@@ -64,14 +65,26 @@ bind-ok r f y h = grind arith
 pub none_if_ok : {A : Type 0} (f : A → ReadFault) (o : Option A) → unless f o ≡ Ok tt → o ≡ None
 none_if_ok f o e = grind arith
 
+not_first : (f : Surrounded → Bool) (n : Node) (ns : List Node) → first_at f (n ∷ ns) ≡ None → (f n.seen ≡ false) × (first_at f ns ≡ None)
+not_first f n ns e = grind arith
+
 -- nothing is refused where none of the three is found
 none-refused : (ns : List Node) → first_at is_not_whole ns ≡ None → first_at is_nested_class ns ≡ None → first_at is_too_deep ns ≡ None → AreClear ns
 none-refused [] a b c = refl
-none-refused (n ∷ ns) a b c = grind (arith, (none-refused ns))
+none-refused (n ∷ ns) a b c =
+    let whole = not_first is_not_whole n ns a in
+    let nested = not_first is_nested_class n ns b in
+    let shallow = not_first is_too_deep n ns c in
+    or_from (is_refused n.seen) (any_at is_refused ns)
+    (or_from (is_not_whole n.seen) _ whole.0 (or_from (is_nested_class n.seen) (is_too_deep n.seen) nested.0 shallow.0))
+    (none-refused ns whole.1 nested.1 shallow.1)
 
 pub plain_ok : (d : Data) → all_fit d ≡ Ok tt → IsPlain d
 unfolding all_fit
-plain_ok d e = grind (arith, none-refused)
+plain_ok d e =
+    let whole = bind-ok (unless NotWhole (first_at is_not_whole (nodes 0 0 d))) _ tt e in
+    let nested = bind-ok (unless NestedClass (first_at is_nested_class (nodes 0 0 d))) _ tt whole.2 in
+    none-refused (nodes 0 0 d) (none_if_ok NotWhole _ whole.1) (none_if_ok NestedClass _ nested.1) (none_if_ok (λ _. TooDeep) _ nested.2)
 
 -- where no value is refused, none of the three is found
 none_found : (f : Surrounded → Bool) → ((s : Surrounded) → IsAllowed s → f s ≡ false) → (ns : List Node) → AreClear ns → first_at f ns ≡ None
@@ -80,4 +93,8 @@ none_found f h (n ∷ ns) e = let parts = head n ns e in let here : f n.seen ≡
 
 pub plain_at_once : (d : Data) → IsPlain d → all_fit d ≡ Ok tt
 unfolding all_fit
-plain_at_once d h = grind (arith, none_found)
+plain_at_once d h = rw (
+  none_found is_not_whole (λ s a. a.whole) (nodes 0 0 d) h,
+  none_found is_nested_class (λ s a. a.nested) (nodes 0 0 d) h,
+  none_found is_too_deep (λ s a. a.shallow) (nodes 0 0 d) h,
+)
