@@ -30,3 +30,9 @@ write_items-loop-item-preserved t c = grind (arith, common_steps)
 
 pub write_member-returns : goal.write_member-returns
 write_member-returns t c = grind (arith, common_steps)
+
+pub write_items-returns : goal.write_items-returns
+write_items-returns t c = grind (arith, common_steps)
+
+pub write_object-returns : goal.write_object-returns
+write_object-returns t c = grind (arith, common_steps)
