@@ -6,7 +6,6 @@ use Rattle.std.specs.List.{flat_map}
 use Rattle.std.specs.Str.{bytes_eq}
 use Rattle.std.proofs.lemmas.Bool.{true≢false}
 use Rattle.std.proofs.lemmas.List.Concat.{flat_map-append}
-use Rattle.iodef_tree.specs.Filled.{has_some}
 use Rattle.iodef_tree.proofs.Filled.{has_elements}
 use Rattle.iodef_tree.specs.Text.{Bytes, Tokens}
 use Rattle.iodef_tree.specs.Tree.{Forest, end, Body, holds, says, Bodies, one, many, text, value, in_front, elements, member_front, steps}
@@ -42,11 +41,6 @@ held-here n name (one b) rest some h = plain_front n name b rest ∙ ap (λ t. c
 held-here n name (many []) rest some h = absurd (true≢false (sym some))
 held-here n name (many (b ∷ bs)) rest some h =
     element_front n name 0 b (elements n 1 bs rest) ∙ ap (λ t. cond t other (held_in name (elements n 1 bs rest))) h
-
--- an array that has elements is no text
-pub array-other : (bs : List Body) → has_some bs ≡ true → held_by_bodies (many bs) ≡ other
-array-other [] some = absurd (true≢false (sym some))
-array-other (b ∷ bs) some = refl
 
 -- ---- the first that breaks the marking rule
 

@@ -1,5 +1,5 @@
 -- What the members of one class spell, as its tree has them.
-use Rattle.std.specs.Prelude.{[], ◌∷◌, if◌then◌else◌, Bool, Option, codes}
+use Rattle.std.specs.Prelude.{if◌then◌else◌, Bool, Option, codes}
 use Rattle.std.specs.Str.{bytes_eq}
 use Rattle.iodef_tree.specs.Text.{Bytes}
 use Rattle.iodef_tree.specs.Tree.{Leaf, Forest, end, leaf, branch, holds, says, Bodies, one, many, text, value, leaf_line}
@@ -17,8 +17,7 @@ abbrev pub held_by_bodies : Bodies → Held
 held_by_bodies (one (holds kids)) = other
 held_by_bodies (one (says (text s))) = plain s
 held_by_bodies (one (says (value s))) = other
-held_by_bodies (many []) = absent
-held_by_bodies (many (b ∷ bs)) = other
+held_by_bodies (many bs) = other
 
 abbrev pub held_by_leaf : Leaf → Held
 held_by_leaf i = held_by_line (leaf_line 0 i)

@@ -1,7 +1,7 @@
 //! What the members of one class spell.
 
 ghost use Rattle.std.specs.Prelude.{◌≡◌, option_map};
-ghost use Rattle.iodef_tree.specs.Filled.{IsFilled, IsMemberFilled};
+ghost use Rattle.iodef_tree.specs.Filled.{IsFilled};
 ghost use Rattle.iodef_tree.specs.View.{forest, bodies};
 ghost use Rattle.marking.specs.Label.{marking_of};
 ghost use Rattle.marking.specs.Members.{held_of, held_by_bodies, held_in, spelled_in, is_rule_kept_in};
@@ -19,7 +19,6 @@ pub(crate) enum Found<'a> {
 }
 
 fn held_by(member: &Member) -> Found<'_>
-    requires { IsMemberFilled member.now }
     ensures { held_of result ≡ held_by_bodies (bodies member.now) }
 {
     match member {

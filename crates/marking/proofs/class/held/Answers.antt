@@ -19,7 +19,3 @@ loop-key-preserved c =
     let member = bodies c.loop-key-item.result.1 in
     let rest = members_forest (drop (c.loop-key.key-index + 1) c.deref-key-items.result.now) in
     grind (arith, common_steps, held-skip key c.args.name.now member rest)
-
-pub held_by-requires : goal.held_by-requires
-held_by-requires c =
-    member-at c.args.object.now c.deref-key-items.result.now c.loop-key.key-index c.loop-key-item.result c.requires c.deref-key-items.ensures.value c.loop-key-test.true c.loop-key-item.is
