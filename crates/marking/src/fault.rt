@@ -19,7 +19,7 @@ pub enum MarkingFault {
 }
 
 /// Why a path has no site.
-#[derive(Clone, Copy, Debug, PartialEq, Eq, Error)]
+#[derive(Clone, Copy, Debug, Error)]
 pub enum SiteFault {
     /// The path is neither a class's nor the root's.
     #[error("there is no class at the path")]

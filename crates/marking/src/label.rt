@@ -2,7 +2,7 @@
 use std::alloc::{AllocError, Global};
 
 /// How what is under a label is to be handled, the widest audience first.
-#[derive(Clone, Copy, Debug, PartialEq, Eq, PartialOrd, Ord)]
+#[derive(Clone, Copy, PartialEq, Eq, PartialOrd, Ord)]
 pub enum Handling {
     /// For everybody.
     Clear,
@@ -18,7 +18,7 @@ pub enum Handling {
 
 /// A label, as a class's `restriction` has it (RFC 7970 section 3.3.1); an extended one with the text of
 /// `ext-restriction` (section 5.1.1).
-#[derive(Clone, Copy, Debug, PartialEq, Eq)]
+#[derive(Clone, Copy)]
 pub enum Label<'a> {
     Public,
     White,
