@@ -19,7 +19,7 @@ use crate::verdict::Verdict;
 use marking::{Handling, Label};
 
 /// What holds at a path, as a pass down the document carries it.
-#[derive(Clone, Copy, Debug)]
+#[derive(Clone, Copy)]
 pub struct Carried<'a> {
     /// The rule of the first gate, from the root down, that refuses the reader.
     pub refusal: Option<Rule>,

@@ -8,7 +8,7 @@ use iodef_tree::Path;
 use std::marker::Model;
 
 /// To whom a permission is given, by number.
-#[derive(Clone, Copy, Debug, PartialEq, Eq)]
+#[derive(Clone, Copy, PartialEq, Eq)]
 pub enum Grantee {
     Person(u32),
     Org(u32),

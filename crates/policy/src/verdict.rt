@@ -2,7 +2,7 @@
 use crate::rule::Rule;
 
 /// Whether the reader sees a class, and the rule by which.
-#[derive(Clone, Copy, Debug, PartialEq, Eq)]
+#[derive(Clone, Copy)]
 pub enum Verdict {
     Shown(Rule),
     Hidden(Rule),
