@@ -1,15 +1,21 @@
 -- Gates and permissions of which something is left, one after another.
-use Rattle.std.proofs.Common.{◌≡◌, Bool, ◌&&◌, List, [], ◌∷◌, length, refl, sym, arith, ◌==◌}
-use Rattle.std.specs.Prelude.{filter}
+use Rattle.std.proofs.Common.{◌≡◌, Bool, false, ◌&&◌, List, [], ◌∷◌, map, cond, length, refl, sym, ◌∙◌, ap, arith, ◌==◌}
+use Rattle.std.specs.Prelude.{filter, Some, None}
 use Rattle.std.specs.List.{filter_map, list_any}
-use Rattle.std.proofs.lemmas.Bool.{eqb-true, false_from_ne_true}
+use Rattle.std.proofs.lemmas.Bool.{eqb-true, false_from_ne_true, false≢true, or_left}
+use Rattle.std.proofs.lemmas.Option.{none-some}
 use Rattle.iodef_tree.specs.Text.{Tokens, same_path}
+use Rattle.iodef_tree.proofs.Order.{same_path-refl}
+use Rattle.policy.specs.Ahead.{refused_with, granted_with}
 use Rattle.policy.specs.Gates.{passage_of}
 use Rattle.policy.specs.Permissions.{holds_for}
+use Rattle.policy.specs.Verdict.{first_of}
 use Rattle.policy.specs.declared.standing.Standing.{Standing}
 use Rattle.policy.specs.declared.gate.Gate.{Gate}
 use Rattle.policy.specs.declared.permission.Permission.{Permission}
 use Rattle.policy.specs.declared.rule.Rule.{Rule}
+use Rattle.policy.specs.declared.onward.Refusing.{Refusing}
+use Rattle.policy.specs.declared.onward.Granting.{Granting}
 
 -- the refusals at a path of some gates of a case
 abbrev pub refusals_among : Standing → List Gate → Tokens → List Rule
@@ -23,3 +29,20 @@ granted_among s xs z = list_any (λ x. holds_for s x && same_path x.path z) xs
 pub none-left : (r : Tokens) → same_path r [] ≡ (length r == 0)
 none-left [] = refl
 none-left (x ∷ r) = sym (false_from_ne_true (length (x ∷ r) == 0) (λ h. let e = eqb-true (length (x ∷ r)) 0 h in omega (arith, e)))
+
+-- a gate is met where what is left of its path leads
+met-there : (x : Refusing) (xs : List Refusing) → first_of (refused_with (x ∷ xs) x.rest.now) ≡ Some x.rule
+met-there x xs =
+    let rest = filter (λ (y : Refusing). same_path y.rest.now x.rest.now) xs in
+    ap (λ b. first_of (map (λ (y : Refusing). y.rule) (cond b (x ∷ rest) rest))) (same_path-refl x.rest.now)
+
+-- where no gate is met, none is left
+pub none-refuses : (xs : List Refusing) → ((z : Tokens) → first_of (refused_with xs z) ≡ None) → length xs ≡ 0
+none-refuses [] none = refl
+none-refuses (x ∷ xs) none = absurd (none-some x.rule (sym (none x.rest.now) ∙ met-there x xs))
+
+-- and where no permission is, none is
+pub none-grants : (xs : List Granting) → ((z : Tokens) → granted_with xs z ≡ false) → length xs ≡ 0
+none-grants [] none = refl
+none-grants (x ∷ xs) none =
+    absurd (false≢true (sym (none x.rest.now) ∙ or_left (same_path x.rest.now x.rest.now) (granted_with xs x.rest.now) (same_path-refl x.rest.now)))

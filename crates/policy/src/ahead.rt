@@ -1,6 +1,6 @@
 //! What of a case's gates and permissions a pass can still meet.
 
-ghost use Rattle.std.specs.Prelude.{◌≡◌, ◌++◌, ◌∷◌, [], IfOk, true, false};
+ghost use Rattle.std.specs.Prelude.{◌≡◌, ◌↔◌, ◌++◌, ◌∷◌, [], IfOk, true, false};
 ghost use Rattle.std.specs.Option.{option_map_or};
 ghost use Rattle.iodef_tree.specs.Text.{Tokens, same_path};
 ghost use Rattle.policy.specs.Verdict.{first_of, refusals_at};
@@ -62,7 +62,7 @@ impl<'a> Ahead<'a> {
 
     /// Whether nothing can be met any more, here or below.
     pub fn is_empty(&self) -> bool
-        ensures { result ≡ true → met_by self.now ≡ nothing_met }
+        ensures { (result ≡ true) ↔ (met_by self.now ≡ nothing_met) }
     {
         self.refusing.is_empty() && self.granting.is_empty()
     }

@@ -12,7 +12,7 @@ still-nothing c s p x e z = ap (λ (f : Tokens → Met). f (x ∷ z)) e ∙ ap (
 
 pub returns-then-is_empty : goal.returns-then-is_empty
 returns-then-is_empty c = λ k s p at.
-    c.none.ensures ∙ (λ i z. still-nothing k s p (token_of c.args.token) (sym (c.is_empty.ensures c.if-is_empty.true) ∙ at) z i)
+    c.none.ensures ∙ (λ i z. still-nothing k s p (token_of c.args.token) (sym (c.is_empty.ensures.0 c.if-is_empty.true) ∙ at) z i)
 
 pub returns-in_ok-below-in-Name : goal.returns-in_ok-below-in-Name
 returns-in_ok-below-in-Name c = λ k s p at.
