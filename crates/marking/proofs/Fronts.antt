@@ -57,19 +57,23 @@ pub bad-one : (n : Bytes) (o : Option ℕ) (b : Body) (rest : Forest) →
 bad-one n o (holds kids) rest = refl
 bad-one n o (says content) rest = refl
 
+-- what stands at one place, and then what is behind
+pub bad-front : (n : Bytes) (o : Option ℕ) (b : Body) (rest : Forest) → bad_below (in_front n o b rest) ≡ option_or (bad_below (in_front n o b end)) (bad_below rest)
+bad-front n o b rest =
+    let here = option_map (λ t. steps n o ++ t) (bad_in_body b) in
+    bad-one n o b rest ∙ ap (λ q. option_or q (bad_below rest)) (sym (or-none here) ∙ sym (bad-one n o b end))
+
 bad-elements : (n : Bytes) (k : ℕ) (bs : List Body) (rest : Forest) → bad_below (elements n k bs rest) ≡ option_or (bad_below (elements n k bs end)) (bad_below rest)
 bad-elements n k [] rest = refl
 bad-elements n k (b ∷ bs) rest =
-    let here = option_map (λ t. steps n (Some k) ++ t) (bad_in_body b) in
-    bad-one n (Some k) b (elements n (suc k) bs rest)
+    let here = bad_below (in_front n (Some k) b end) in
+    bad-front n (Some k) b (elements n (suc k) bs rest)
     ∙ ap (option_or here) (bad-elements n (suc k) bs rest)
     ∙ sym (or-assoc here (bad_below (elements n (suc k) bs end)) (bad_below rest))
-    ∙ ap (λ o. option_or o (bad_below rest)) (sym (bad-one n (Some k) b (elements n (suc k) bs end)))
+    ∙ ap (λ o. option_or o (bad_below rest)) (sym (bad-front n (Some k) b (elements n (suc k) bs end)))
 
 pub bad-member : (n : Bytes) (m : Bodies) (rest : Forest) → bad_below (member_front n m rest) ≡ option_or (bad_below (member_front n m end)) (bad_below rest)
-bad-member n (one b) rest =
-    let here = option_map (λ t. steps n None ++ t) (bad_in_body b) in
-    bad-one n None b rest ∙ ap (λ o. option_or o (bad_below rest)) (sym (or-none here) ∙ sym (bad-one n None b end))
+bad-member n (one b) rest = bad-front n None b rest
 bad-member n (many bs) rest = bad-elements n 0 bs rest
 
 pub bad-none : (n : Bytes) (m : Bodies) (rest : Forest) → None ≡ bad_below (member_front n m end) → bad_below (member_front n m rest) ≡ bad_below rest
@@ -106,6 +110,6 @@ pub written-member : (line : Marked → Bytes) (a : Marked) (n : Bytes) (m : Bod
 written-member line a n m rest =
     ap (flat_map line) (marked-member a n m rest) ∙ flat_map-append line (marked_below a (member_front n m end)) (marked_below a rest)
 
-pub ruleset bad_steps = (bad-one, bad-member)
+pub ruleset bad_steps = (bad-one, bad-front, bad-member)
 
 pub ruleset marked_steps = (marked-one, marked-member)

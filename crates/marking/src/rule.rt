@@ -1,8 +1,8 @@
 //! The marking rule over a whole document.
 
-ghost use Rattle.std.specs.Prelude.{◌≡◌, ◌∷◌, ◌++◌, Option, Some, None, option_map, IfOk, unwrap_or};
+ghost use Rattle.std.specs.Prelude.{◌≡◌, ◌++◌, option_map, IfOk, OnOk};
 ghost use Rattle.iodef_tree.specs.Filled.{IsFilled, IsMemberFilled, IsItemFilled};
-ghost use Rattle.iodef_tree.specs.Tree.{end, in_front, member_front};
+ghost use Rattle.iodef_tree.specs.Tree.{end, holds, in_front, member_front, steps};
 ghost use Rattle.iodef_tree.specs.View.{forest, bodies, body};
 ghost use Rattle.iodef_tree.specs.Paths.{located};
 ghost use Rattle.marking.specs.Marks.{first_bad_marking};
@@ -55,18 +55,10 @@ fn bad_in_member(
     ensures { IfOk result (λ o. option_map tokens_of o ≡ bad_below (member_front name.now (bodies member.now) end)) }
 {
     match member {
-        Member::One(item) => match bad_in_item(alloc, item)? {
-            None => Ok(None),
-            Some(mut trail) => {
-                trail.push(name.clone()?)?;
-                Ok(Some(trail))
-            }
-        },
+        Member::One(item) => bad_in_item(alloc, name, None, item),
         Member::Many(items) => {
             for (index, item) in items.iter().enumerate() {
-                if let Some(mut trail) = bad_in_item(alloc, item)? {
-                    trail.push(Text::new(format!(in alloc; "{index}")?))?;
-                    trail.push(name.clone()?)?;
+                if let Some(trail) = bad_in_item(alloc, name, Some(index), item)? {
                     return Ok(Some(trail));
                 }
             }
@@ -77,19 +69,54 @@ fn bad_in_member(
 
 #[cycle(check)]
 #[tactic(auto, using(crate::proofs::Fronts::bad_steps))]
-fn bad_in_item(alloc: Global, item: &Item) -> Result<Option<Vec<Text>>, AllocError>
+fn bad_in_item(
+    alloc: Global,
+    name: &Text,
+    index: Option<usize>,
+    item: &Item,
+) -> Result<Option<Vec<Text>>, AllocError>
     requires filled { IsItemFilled item.now }
-    ensures { IfOk result (λ o. option_map tokens_of o ≡ bad_in_body (body item.now)) }
+    ensures { IfOk result (λ o. option_map tokens_of o ≡ bad_below (in_front name.now index (body item.now) end)) }
 {
     match item {
-        Item::Class(object) => {
-            if is_well_marked(object) {
-                bad_below(alloc, object)
-            } else {
-                Ok(Some(Vec::new(alloc)))
+        Item::Class(object) => match bad_in_class(alloc, object)? {
+            None => Ok(None),
+            Some(mut trail) => {
+                push_steps(alloc, &mut trail, name, index)?;
+                Ok(Some(trail))
             }
-        }
+        },
         Item::Text(_) => Ok(None),
         Item::Value(_) => Ok(None),
     }
+}
+
+/// The same of the class itself and what is below it.
+#[cycle(check)]
+#[tactic(auto, using(crate::proofs::Fronts::bad_steps))]
+fn bad_in_class(alloc: Global, object: &Object) -> Result<Option<Vec<Text>>, AllocError>
+    requires filled { IsFilled object.now }
+    ensures { IfOk result (λ o. option_map tokens_of o ≡ bad_in_body (holds (forest object.now))) }
+{
+    if is_well_marked(object) {
+        bad_below(alloc, object)
+    } else {
+        Ok(Some(Vec::new(alloc)))
+    }
+}
+
+/// What leads to a class from the one above it, on the way back: in an array the place comes first.
+fn push_steps(
+    alloc: Global,
+    trail: &mut Vec<Text>,
+    name: &Text,
+    index: Option<usize>,
+) -> Result<(), AllocError>
+    ensures { OnOk result (tokens_of trail.new ≡ steps name.now index ++ tokens_of trail.old) }
+{
+    if let Some(index) = index {
+        trail.push(Text::new(format!(in alloc; "{index}")?))?;
+    }
+    trail.push(name.clone()?)?;
+    Ok(())
 }

@@ -1,13 +1,10 @@
 use Rattle.std.proofs.Common.{◌+◌, drop, arith, rules}
 use Rattle.std.proofs.lemmas.Grind.{common_steps}
-use Rattle.std.specs.Prelude.{None}
-use Rattle.iodef_tree.specs.Tree.{end}
-use Rattle.iodef_tree.specs.View.{body, bodies, members_forest}
-use Rattle.iodef_tree.proofs.Views.{bodies-One}
+use Rattle.iodef_tree.specs.View.{bodies, members_forest}
 use Rattle.iodef_tree.specs.declared.object.Object.{the_lemmas}
 use Rattle.iodef_tree.proofs.Filled.{member-at, element-at}
 use Rattle.marking.specs.Pass.{tokens_of}
-use Rattle.marking.proofs.Fronts.{bad-one, bad-none, bad-some}
+use Rattle.marking.proofs.Fronts.{bad-none, bad-some}
 use Rattle.marking.proofs.rule.+check.Goals as goal
 
 pub bad_below-returns-in-Some : goal.bad_below-returns-in-Some
@@ -33,17 +30,11 @@ bad_below-bad_in_member-requires t c = (
 pub bad_in_member-bad_in_item-requires-in-loop-index : goal.bad_in_member-bad_in_item-requires-in-loop-index
 bad_in_member-bad_in_item-requires-in-loop-index t c = (
   search (rules, the_lemmas),
-  element-at c.args.member.now c.in-Many.items c.deref-item-items.result.now c.loop-index.index-counter c.item-item.result c.requires.filled c.in-Many.is c.deref-item-items.ensures.value c.loop-index-test.true c.item-item.is,
+  element-at c.args.member.now c.in-Many.items c.deref-item-items.result.now c.loop-index.index c.item-item.result c.requires.filled c.in-Many.is c.deref-item-items.ensures.value c.loop-index-test.true c.item-item.is,
 )
-
-pub bad_in_member-returns-in_ok-push-in-Some : goal.bad_in_member-returns-in_ok-push-in-Some
-bad_in_member-returns-in_ok-push-in-Some t c = grind (arith, common_steps, bodies-One c.in-One.item, bad-one c.args.name.now None (body c.in-One.item) end)
 
 pub bad_below-returns : goal.bad_below-returns
 bad_below-returns t c = grind (arith, common_steps)
-
-pub bad_in_member-returns-in-Some-2 : goal.bad_in_member-returns-in-Some-2
-bad_in_member-returns-in-Some-2 t c = grind (arith, common_steps)
 
 pub bad_in_member-loop-index-preserved : goal.bad_in_member-loop-index-preserved
 bad_in_member-loop-index-preserved t c = grind (arith, common_steps)

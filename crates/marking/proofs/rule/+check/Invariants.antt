@@ -9,4 +9,4 @@ invariant-bad_below-loop-name l = bad_below (members_forest (drop l.name-index l
 
 abbrev pub invariant-bad_in_member-loop-index : goal.invariant-bad_in_member-loop-index
 invariant-bad_in_member-loop-index l =
-    bad_below (elements l.name l.index-counter (map body (drop l.index-counter l.item-items)) end) ≡ bad_below (member_front l.name (bodies l.member) end)
+    bad_below (elements l.name l.index (map body (drop l.index l.item-items)) end) ≡ bad_below (member_front l.name (bodies l.member) end)
