@@ -1,13 +1,15 @@
 -- Where an attribute goes among members, by its name.
-use Rattle.std.proofs.Common.{◌==◌, ne_eqb, ◌≡◌, if◌then◌else◌, ℕ, zero, suc, ◌<◌, ◌≤◌, true, false, List, [], ◌∷◌, ◌++◌, map, length, get_or, take, drop, refl, ◌∙◌, ap, arith, sym, Option, Some, None, true≢false}
+use Rattle.std.proofs.Common.{◌==◌, ne_eqb, ◌≡◌, if◌then◌else◌, ℕ, zero, suc, ◌<◌, ◌≤◌, true, false, List, [], ◌∷◌, ◌++◌, map, length, get_or, take, drop, refl, ◌∙◌, ap, arith, sym, Bool, Option, Some, None, option_map, is_some, IfSome, vec_len, eqb-true, subst, true≢false}
 use Rattle.std.specs.List.{AllByRecursion}
-use Rattle.iodef_tree.specs.Filled.{IsMemberFilled}
+use Rattle.iodef_tree.specs.Filled.{IsFilled, IsMemberFilled}
 use Rattle.iodef_tree.specs.Text.{Bytes, bytes_lt}
 use Rattle.iodef_tree.specs.Tree.{Leaf, Forest, leaf, Body, holds, says, Bodies, one, many, in_front, elements, member_front}
-use Rattle.iodef_tree.specs.View.{bodies, named, members_forest, forest_of_members}
+use Rattle.iodef_tree.specs.View.{forest, bodies, named, members_forest, forest_of_members}
 use Rattle.iodef_tree.specs.declared.object.Member.{Member}
+use Rattle.iodef_tree.specs.declared.object.Object.{Object}
 use Rattle.redact.specs.Judged.{put_leaf, attribute_leaf, is_end}
-use Rattle.iodef_tree.proofs.Filled.{has_elements, member-elements}
+use Rattle.iodef_tree.proofs.Filled.{has_elements, member-elements, members-filled}
+use Rattle.iodef_tree.proofs.Views.{forest-members}
 use Rattle.redact.specs.Filled.{saying}
 
 put-front : (x : Leaf) (n : Bytes) (p : Option ℕ) (b : Body) (rest : Forest) →
@@ -55,7 +57,7 @@ member-end n (many []) rest h = absurd (true≢false (sym h))
 member-end n (many (b ∷ bs)) rest h = front-end n (Some 0) b _
 
 -- members that have lines have an end only where there are none
-pub filled-end : (ms : List Pair) → AllByRecursion (λ m. IsMemberFilled m.1) ms → is_end (members_forest ms) ≡ (length ms == 0)
+filled-end : (ms : List Pair) → AllByRecursion (λ m. IsMemberFilled m.1) ms → is_end (members_forest ms) ≡ (length ms == 0)
 filled-end [] all = refl
 filled-end (m ∷ ms) all = member-end m.0 (bodies m.1) (members_forest ms) (member-elements m.1 all.0) ∙ sym (ne_eqb (length (m ∷ ms)) 0 (omega arith))
 
@@ -65,3 +67,25 @@ inserted-filled [] zero e all h = (h, tt)
 inserted-filled [] (suc i) e all h = (h, tt)
 inserted-filled (m ∷ ms) zero e all h = (h, all)
 inserted-filled (m ∷ ms) (suc i) e all h = (all.0, inserted-filled ms i e all.1 h)
+
+pub object-end : (o : Object) → IsFilled o → is_end (forest o) ≡ (vec_len o.members == 0)
+object-end o filled = ap is_end (forest-members o) ∙ filled-end o.members.items (members-filled o filled) ∙ ap (λ n. n == 0) (sym o.members.ok.0)
+
+pub object-empty : (o : Object) → IsFilled o → is_end (forest o) ≡ true → length o.members.items ≡ 0
+object-empty o filled e = sym o.members.ok.0 ∙ eqb-true (vec_len o.members) 0 (sym (object-end o filled) ∙ e)
+
+-- what is left of a class that isn't visible is none where nothing is left of its members
+pub hidden-left : (o : Object) (r : Option Object) (left : Forest) → forest o ≡ left → r ≡ (if is_end (forest o) then None else Some o) → option_map forest r ≡ (if is_end left then None else Some left)
+hidden-left o r left is made = ap (option_map forest) made ∙ by_end (is_end (forest o)) ∙ ap (λ f. if is_end f then None else Some f) is
+  where
+    by_end : (empty : Bool) → option_map forest (if empty then None else Some o) ≡ (if empty then None else Some (forest o))
+    by_end true = refl
+    by_end false = refl
+
+pub hidden-filled : (o : Object) (r : Option Object) (empty : Bool) → IsFilled o → r ≡ (if empty then None else Some o) → IfSome r (λ x. IsFilled x)
+hidden-filled o r true filled made = subst (λ x. IfSome x (λ y. IsFilled y)) (sym made) tt
+hidden-filled o r false filled made = subst (λ x. IfSome x (λ y. IsFilled y)) (sym made) filled
+
+pub hidden-none : (o : Object) (r : Option Object) (empty : Bool) → r ≡ (if empty then None else Some o) → r ≡ None → empty ≡ true
+hidden-none o r true made none = refl
+hidden-none o r false made none = absurd (true≢false (ap is_some (sym made ∙ none)))

@@ -1,14 +1,16 @@
 -- The steps of the pass, one behind another.
-use Rattle.std.proofs.Common.{◌≡◌, ℕ, suc, ◌+◌, Bool, false, ◌||◌, List, [], ◌∷◌, ◌++◌, refl, ◌∙◌, ap, map, length, append_assoc, append-nil, length-append, arith, if◌then◌else◌, Option, Some, None, is_some, option_map, IfSome}
+use Rattle.std.proofs.Common.{◌≡◌, ℕ, suc, ◌+◌, Bool, true, false, ◌||◌, List, [], ◌∷◌, ◌++◌, refl, ◌∙◌, ap, map, length, append_assoc, append-nil, length-append, arith, if◌then◌else◌, Option, Some, None, is_some, option_map, IfSome}
 use Rattle.std.specs.List.{AllByRecursion, cons_option, list_any}
 use Rattle.std.proofs.lemmas.List.Folds.{list_any-append}
 use Rattle.std.proofs.lemmas.List.{map-append}
 use Rattle.iodef_tree.specs.Text.{Tokens}
 use Rattle.iodef_tree.proofs.Siblings.{all-append}
 use Rattle.policy.specs.declared.rule.Rule.{Rule}
-use Rattle.redact.specs.Withheld.{Withheld, same_withheld, is_among, at_rule, at_place}
-use Rattle.redact.specs.Left.{tells, Goes}
+use Rattle.redact.specs.Withheld.{Withheld, same_withheld, is_among, with_rule, at_rule, at_place}
+use Rattle.redact.specs.Left.{tells, Goes, Leaves}
+use Rattle.redact.specs.Tokens.{path_of}
 use Rattle.redact.specs.declared.pass.State.{State}
+use Rattle.redact.proofs.Listing.{any-with}
 use Rattle.redact.proofs.Searching.{any_map}
 
 -- pairs are the same where each is among both or neither
@@ -35,6 +37,14 @@ framed W I A G T e h = grind arith
 dropped : (A G e : Bool) → (A || (G || e)) ≡ ((A || G) || (e || false))
 dropped A G e = grind arith
 
+-- a class of which nothing is left tells its rule at the place of its parent
+told-gone : (q : Tokens) (a d : State) (rule : Rule) → d.withheld.items ≡ a.withheld.items →
+    ((test : Rule → Bool) → list_any test d.gone.items ≡ (list_any test a.gone.items || test rule)) →
+    is_among (tells q d ++ []) ≡ is_among (tells q a ++ at_rule q rule ∷ [])
+told-gone q a d rule noted added = alike (tells q d ++ []) (tells q a ++ at_rule q rule ∷ []) (λ x.
+    simp (append-nil, list_any-append, noted, any_map, added)
+    (dropped (is_among a.withheld.items x) (list_any (λ l. same_withheld x (at_rule q l)) a.gone.items) (same_withheld x (at_rule q rule))))
+
 -- b is a as its members begin, with none of them gone; k is where they are done; d is a with what they told
 module _ (q r : Tokens) (a b k d : State) (T : List Withheld)
     (begins : b.withheld.items ≡ a.withheld.items) (bare : b.gone.items ≡ [])
@@ -46,7 +56,7 @@ module _ (q r : Tokens) (a b k d : State) (T : List Withheld)
       simp (append-nil, list_any-append, noted, kept) (grind (arith, told)))
 
   -- a frame, which tells its own rule too
-  pub told-frame : (rule : Rule) (gs : List Rule) → ((test : Rule → Bool) → list_any test gs ≡ (list_any test k.gone.items || test rule)) →
+  told-frame : (rule : Rule) (gs : List Rule) → ((test : Rule → Bool) → list_any test gs ≡ (list_any test k.gone.items || test rule)) →
       d.withheld.items ≡ k.withheld.items ++ at_place r gs → d.gone.items ≡ a.gone.items →
       is_among (tells q d ++ []) ≡ is_among (tells q a ++ at_rule r rule ∷ T)
   told-frame rule gs added noted kept = alike (tells q d ++ []) (tells q a ++ at_rule r rule ∷ T) (λ x.
@@ -54,13 +64,13 @@ module _ (q r : Tokens) (a b k d : State) (T : List Withheld)
       simp (append-nil, list_any-append, noted, kept, any_map, added) (framed (is_among k.withheld.items x) (list_any (λ l. same_withheld x (at_rule r l)) k.gone.items)
       (is_among a.withheld.items x) (list_any (λ l. same_withheld x (at_rule q l)) a.gone.items) (is_among T x) (same_withheld x (at_rule r rule)) told))
 
--- a class of which nothing is left tells its rule at the place of its parent
-pub told-gone : (q : Tokens) (a d : State) (rule : Rule) → d.withheld.items ≡ a.withheld.items →
-    ((test : Rule → Bool) → list_any test d.gone.items ≡ (list_any test a.gone.items || test rule)) →
-    is_among (tells q d ++ []) ≡ is_among (tells q a ++ at_rule q rule ∷ [])
-told-gone q a d rule noted added = alike (tells q d ++ []) (tells q a ++ at_rule q rule ∷ []) (λ x.
-    simp (append-nil, list_any-append, noted, any_map, added)
-    (dropped (is_among a.withheld.items x) (list_any (λ l. same_withheld x (at_rule q l)) a.gone.items) (same_withheld x (at_rule q rule))))
+  -- a class that isn't visible
+  pub told-hidden : (rule : Rule) (empty : Bool) → path_of k.place.items ≡ r → Leaves k d a.gone.items rule empty → (empty ≡ true → k.withheld.items ≡ a.withheld.items) →
+      is_among (tells q d ++ []) ≡ is_among (tells q a ++ (if empty then at_rule q rule ∷ [] else at_rule r rule ∷ T))
+  told-hidden rule true here leaves quiet = told-gone q a d rule (leaves.withheld ∙ quiet refl) (λ test. ap (list_any test) leaves.gone ∙ any-with test a.gone.items rule)
+  told-hidden rule false here leaves quiet =
+      told-frame rule (with_rule k.gone.items rule) (λ test. any-with test k.gone.items rule)
+      (leaves.withheld ∙ ap (λ p. k.withheld.items ++ at_place p (with_rule k.gone.items rule)) here) leaves.gone
 
 -- ---- a loop that pushes what is left, if something is
 

@@ -9,6 +9,7 @@ pub mod Fronts
 pub mod Going
 pub mod Entering
 pub mod Filling
+pub mod Alike
 pub mod Needles
 pub mod Searching
 pub mod Promised

@@ -1,9 +1,10 @@
 -- The order in which what is withheld is listed.
-use Rattle.std.proofs.Common.{inl, inr, ◌≡◌, Bool, List, [], ◌∷◌, true, ◌||◌, refl, arith, sym, ◌∙◌, ap, rules, if◌then◌else◌, codes, Some, Contains, bytes_eq, IsPermutation, IsSorted}
+use Rattle.std.proofs.Common.{inl, inr, ◌≡◌, Bool, List, [], ◌∷◌, ◌++◌, true, false, ◌||◌, refl, arith, sym, ◌∙◌, ap, rules, if◌then◌else◌, codes, Some, Contains, bytes_eq, IsPermutation, IsSorted}
 use Rattle.std.specs.List.{dedup, list_any}
 use Rattle.std.specs.Cmp.{IsTotalOrder, IsEquivalence}
 use Rattle.std.specs.Cmp.Rules.{comparing}
 use Rattle.std.proofs.lemmas.Bool.{and_parts, or_cases, false≢true}
+use Rattle.std.proofs.lemmas.List.Folds.{list_any-append}
 use Rattle.std.proofs.lemmas.Map.Views.{Contains-from_any, list_any-from_Contains}
 use Rattle.std.proofs.lemmas.List.Sorted.{Contains-permutation, IsPermutation-sym}
 use Rattle.std.proofs.lemmas.List.Kept.{Contains-dedup, Contains-from_dedup, IsStrictlySortedBy-dedup}
@@ -14,7 +15,7 @@ use Rattle.iodef_tree.proofs.Order.{bytes_eq-true}
 use Rattle.policy.specs.Rule.{name_of}
 use Rattle.policy.specs.declared.rule.Rule.{Rule}
 use Rattle.policy.specs.declared.rule.Rule.TheVariants.{Src, P, O, C, M, A, X, G0, G1, G2, G4, G4X, HGreen, HAmber, HStrict, HRed}
-use Rattle.redact.specs.Withheld.{Withheld, withheld_cmp, same_withheld, is_among, Lists}
+use Rattle.redact.specs.Withheld.{Withheld, withheld_cmp, same_withheld, is_among, has_rule, with_rule, Lists}
 use Rattle.redact.specs.Ties.{withheld-ties}
 
 pub withheld-equiv : IsEquivalence same_withheld
@@ -69,10 +70,18 @@ lists-same ps qs xs same l = record {
     over ps qs same x h = Contains-from_any withheld-same x qs (sym (same x) ∙ list_any-from_Contains withheld-equiv x ps h)
 
 -- a rule of a name that is among these is tested among them
-pub any-known : (test : Rule → Bool) (r : Rule) (rs : List Rule) → list_any (λ x. bytes_eq (name_of x) (name_of r)) rs ≡ true →
+any-known : (test : Rule → Bool) (r : Rule) (rs : List Rule) → has_rule rs r ≡ true →
     list_any test rs ≡ (list_any test rs || test r)
 any-known test r [] e = absurd (false≢true e)
 any-known test r (x ∷ rs) e = elim (or_cases (bytes_eq (name_of x) (name_of r)) _ e) [
   | inl is ↦ let same = ap test (named-same x r is) in grind (arith, same)
   | inr among ↦ let later = any-known test r rs among in grind (arith, later)
 ]
+
+-- and with one more, unless it is among them
+pub any-with : (test : Rule → Bool) (rs : List Rule) (r : Rule) → list_any test (with_rule rs r) ≡ (list_any test rs || test r)
+any-with test rs r = split (has_rule rs r) refl
+  where
+    split : (known : Bool) → has_rule rs r ≡ known → list_any test (if known then rs else rs ++ r ∷ []) ≡ (list_any test rs || test r)
+    split true e = any-known test r rs e
+    split false e = let parts = list_any-append test rs (r ∷ []) in grind (arith, parts)

@@ -1,5 +1,5 @@
 -- What the program's pass leaves, tells and counts of the members of one class.
-use Rattle.std.specs.Prelude.{◌≡◌, ℕ, suc, ◌+◌, ◌<◌, ◌^◌, true, false, List, [], ◌∷◌, ◌++◌, if◌then◌else◌, Option, Some, None, is_some, option_map, decimal}
+use Rattle.std.specs.Prelude.{◌≡◌, ℕ, suc, ◌+◌, ◌<◌, ◌^◌, Bool, true, false, List, [], ◌∷◌, ◌++◌, if◌then◌else◌, Option, Some, None, is_some, option_map, decimal}
 use Rattle.std.specs.List.{cons_option}
 use Rattle.iodef_tree.specs.Text.{Bytes, Tokens}
 use Rattle.iodef_tree.specs.Tree.{Forest, Body, holds, says, Bodies, one, many}
@@ -8,7 +8,7 @@ use Rattle.policy.specs.Inherited.{Inherited, enter_array, enter_class}
 use Rattle.policy.specs.declared.rule.Rule.{Rule}
 use Rattle.policy.specs.declared.standing.Standing.{Standing}
 use Rattle.policy.specs.declared.case.Case.{Case}
-use Rattle.redact.specs.Withheld.{Withheld, is_among, at_place}
+use Rattle.redact.specs.Withheld.{Withheld, is_among, at_place, with_rule}
 use Rattle.redact.specs.Judged.{Judgment, Judged, Home, root, inside, keeps_plain, is_end, with_label, cut, visible_classes, told}
 use Rattle.redact.specs.Tokens.{path_of}
 use Rattle.redact.specs.Pass.{judgment_by, pass}
@@ -118,4 +118,13 @@ pub record Tells (old new : State) (rules : List Rule) : Type 0 where
   pub path : new.path.items ≡ old.path.items
   pub place : new.place.items ≡ old.place.items
   pub gone : new.gone.items ≡ old.gone.items
+  pub classes : new.classes ≡ old.classes
+
+-- A class that isn't visible is left, inside one whose members had met these rules. Its rule is told at its place with those
+-- met in it, unless nothing of it is left: then its rule is one of those met around it.
+pub record Leaves (old new : State) (outside : List Rule) (rule : Rule) (empty : Bool) : Type 0 where
+  pub withheld : new.withheld.items ≡ (if empty then old.withheld.items else old.withheld.items ++ at_place (path_of old.place.items) (with_rule old.gone.items rule))
+  pub gone : new.gone.items ≡ (if empty then with_rule outside rule else outside)
+  pub path : new.path.items ≡ old.path.items
+  pub place : new.place.items ≡ old.place.items
   pub classes : new.classes ≡ old.classes

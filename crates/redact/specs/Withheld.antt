@@ -1,5 +1,5 @@
 -- What is withheld: at which place of the excerpt, and by which rule.
-use Rattle.std.specs.Prelude.{Bool, ◌&&◌, not, List, [], ◌∷◌, Option, Some, None, filter, map, if◌then◌else◌, Contains}
+use Rattle.std.specs.Prelude.{Bool, ◌&&◌, not, List, [], ◌∷◌, ◌++◌, Option, Some, None, filter, map, if◌then◌else◌, Contains}
 use Rattle.std.specs.List.{flat_map, list_any, zip}
 use Rattle.std.specs.List.Sorted.{IsStrictlySortedBy}
 use Rattle.std.specs.declared.cmp.Ordering.{Ordering}
@@ -64,6 +64,14 @@ same_withheld = eq_of_both (on (λ x. pointer_text x.0) bytes_eq) (on (λ x. nam
 -- a pair is among these
 abbrev pub is_among : List Withheld → Withheld → Bool
 is_among ps x = list_any (same_withheld x) ps
+
+-- a rule of this name is among these
+abbrev pub has_rule : List Rule → Rule → Bool
+has_rule rules rule = list_any (λ r. bytes_eq (name_of r) (name_of rule)) rules
+
+-- these rules, with one more unless it is among them
+abbrev pub with_rule : List Rule → Rule → List Rule
+with_rule rules rule = if has_rule rules rule then rules else rules ++ rule ∷ []
 
 -- each of these rules at one place
 abbrev pub at_rule : Tokens → Rule → Withheld

@@ -1,12 +1,10 @@
 //! What is withheld, as a pass notes it on its way.
 
-ghost use Rattle.std.specs.Prelude.{◌≡◌, ◌||◌, true, Bool, IfOk, OnOk, string_bytes};
-ghost use Rattle.std.specs.List.{list_any};
-ghost use Rattle.std.specs.Str.{bytes_eq};
-ghost use Rattle.policy.specs.Rule.{name_of};
+ghost use Rattle.std.specs.Prelude.{◌≡◌, IfOk, OnOk, string_bytes};
 ghost use Rattle.iodef_tree.specs.Pointer.{pointer_text};
-ghost use Rattle.policy.specs.declared.rule.Rule.{Rule as Named};
+ghost use Rattle.iodef_tree.specs.Text.{same_path};
 ghost use Rattle.redact.specs.Tokens.{path_of};
+ghost use Rattle.redact.specs.Withheld.{has_rule, with_rule};
 
 use crate::trail::{Token, are_same, path_at, print};
 use iodef_tree::Path;
@@ -52,9 +50,9 @@ impl<'a> Note<'a> {
         print(alloc, self.place.as_slice())
     }
 
-    /// Whether both are noted at one place, told by their tokens.
+    /// Whether both are noted at one place.
     pub fn is_beside(&self, other: &Note<'_>) -> bool
-        ensures { result ≡ true → self.now.0 ≡ other.now.0 }
+        ensures { result ≡ same_path self.now.0 other.now.0 }
     {
         are_same(self.place.as_slice(), other.place.as_slice())
     }
@@ -68,14 +66,14 @@ impl<'a> Note<'a> {
 }
 
 fn has(rules: &[Rule], rule: Rule) -> bool
-    ensures { result ≡ list_any (λ r. bytes_eq (name_of r) (name_of rule)) rules.now }
+    ensures { result ≡ has_rule rules.now rule }
 {
     rules.iter().any(|x| x.name() == rule.name())
 }
 
 /// Adds a rule to those of one place, unless it is among them.
 pub fn add(rules: &mut Vec<Rule>, rule: Rule) -> Result<(), AllocError>
-    ensures { OnOk result ((test : Named → Bool) → list_any test rules.new.items ≡ (list_any test rules.old.items || test rule)) }
+    ensures { OnOk result (rules.new.items ≡ with_rule rules.old.items rule) }
 {
     if !has(rules.as_slice(), rule) {
         rules.push(rule)?;

@@ -16,7 +16,7 @@ ghost use Rattle.std.specs.List.{AllByRecursion};
 ghost use Rattle.iodef_tree.specs.Filled.{IsFilled, IsMemberFilled, IsItemFilled};
 ghost use Rattle.redact.specs.Tokens.{token_of, path_of};
 ghost use Rattle.redact.specs.Withheld.{at_place};
-ghost use Rattle.redact.specs.Left.{home_of, class_left, class_told, class_count, left_at, told_at, count_at, left_items, told_items, count_items, left_member, told_member, count_member, Goes, Tells};
+ghost use Rattle.redact.specs.Left.{home_of, class_left, class_told, class_count, left_at, told_at, count_at, left_items, told_items, count_items, left_member, told_member, count_member, Goes, Tells, Leaves};
 
 use crate::attributes::labelled;
 use crate::note::{Note, add};
@@ -142,6 +142,29 @@ fn tell_and_leave(state: &mut State<'_>, outside: Vec<Rule>) -> Result<(), Alloc
 {
     let gone = replace(&mut state.gone, outside);
     tell(state, gone.as_slice())
+}
+
+/// Leaves a class that isn't visible and takes back the rules that the class around it had met. Where something of it is
+/// left, its rule is told at its place with those met in it; else its rule is one of those met in the class around it.
+fn leave_hidden(
+    state: &mut State<'_>,
+    outside: Vec<Rule>,
+    rule: Rule,
+    kept: Object,
+) -> Result<Option<Object>, AllocError>
+    requires { IsFilled kept }
+    ensures left { IfOk result (λ r. r ≡ (if is_end (forest kept) then None else Some kept)) }
+    ensures leaves { OnOk result (Leaves state.old state.new outside.items rule (is_end (forest kept))) }
+{
+    let mut gone = replace(&mut state.gone, outside);
+    if kept.members.is_empty() {
+        add(&mut state.gone, rule)?;
+        Ok(None)
+    } else {
+        add(&mut gone, rule)?;
+        tell(state, gone.as_slice())?;
+        Ok(Some(kept))
+    }
 }
 
 impl<'a> Reader<'a> {
@@ -421,14 +444,6 @@ impl<'a> Reader<'a> {
         let rule = self.hides(at);
         let outside = replace(&mut state.gone, Vec::new(state.alloc));
         let kept = self.cut(state, Home::Class(false), ahead, at, object)?;
-        let mut gone = replace(&mut state.gone, outside);
-        if kept.members.is_empty() {
-            add(&mut state.gone, rule)?;
-            Ok(None)
-        } else {
-            add(&mut gone, rule)?;
-            tell(state, gone.as_slice())?;
-            Ok(Some(kept))
-        }
+        leave_hidden(state, outside, rule, kept)
     }
 }

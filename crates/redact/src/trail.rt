@@ -1,7 +1,7 @@
 //! Where a pass is: the tokens of a path, without memory of their own.
 
-ghost use Rattle.std.specs.Prelude.{◌≡◌, ◌++◌, ◌∷◌, [], true, IfOk, OnOk, string_bytes};
-ghost use Rattle.std.specs.Str.{byte};
+ghost use Rattle.std.specs.Prelude.{◌≡◌, ◌++◌, ◌∷◌, [], IfOk, OnOk, string_bytes, decimal};
+ghost use Rattle.std.specs.Str.{byte, bytes_eq};
 ghost use Rattle.iodef_tree.specs.Pointer.{escaped, pointer_text};
 ghost use Rattle.iodef_tree.specs.Text.{same_path};
 ghost use Rattle.marking.specs.Marks.{incident_path};
@@ -65,9 +65,9 @@ fn leads_to_incident(first: &str, second: Token<'_>) -> bool
     }
 }
 
-/// Whether both are the same tokens, each of the same kind.
+/// Whether both are the same path.
 pub fn are_same(one: &[Token<'_>], other: &[Token<'_>]) -> bool
-    ensures { result ≡ true → path_of one.now ≡ path_of other.now }
+    ensures { result ≡ same_path (path_of one.now) (path_of other.now) }
 {
     match (one.split_first(), other.split_first()) {
         (None, None) => true,
@@ -78,14 +78,24 @@ pub fn are_same(one: &[Token<'_>], other: &[Token<'_>]) -> bool
     }
 }
 
+/// Whether both are written alike.
 fn is_same(one: Token<'_>, other: Token<'_>) -> bool
-    ensures { result ≡ true → token_of one.entry ≡ token_of other.entry }
+    ensures { result ≡ bytes_eq (token_of one.entry) (token_of other.entry) }
 {
     match (one, other) {
         (Token::Name(one), Token::Name(other)) => one == other,
         (Token::Index(one), Token::Index(other)) => one == other,
-        _ => false,
+        (Token::Name(name), Token::Index(place)) => is_place(name, place),
+        (Token::Index(place), Token::Name(name)) => is_place(name, place),
     }
+}
+
+/// Whether a name is the place in an array, as it is written.
+fn is_place(name: &str, place: usize) -> bool
+    ensures { result ≡ bytes_eq name.now (decimal place) }
+{
+    let mut digits = itoa::Buffer::new();
+    name == digits.format(place)
 }
 
 /// Writes the token behind a pointer.

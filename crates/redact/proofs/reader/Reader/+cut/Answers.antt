@@ -1,33 +1,31 @@
-use Rattle.std.proofs.Common.{vec_len, List, Bool, ◌||◌, ◌≡◌, ◌==◌, ℕ, suc, ◌+◌, [], ◌∷◌, ◌++◌, map, length, get_or, drop, take, refl, sym, ◌∙◌, ap, subst, arith, add-one, decimal, false, true, rules, if◌then◌else◌, Option, Some, None, option_map, is_some, append-nil, eqb-true}
+use Rattle.std.proofs.Common.{List, ◌≡◌, ℕ, suc, ◌+◌, [], ◌∷◌, ◌++◌, map, length, get_or, drop, take, refl, sym, ◌∙◌, ap, subst, arith, add-one, decimal, false, true, rules, if◌then◌else◌, Option, Some, None, option_map, is_some, append-nil, Result, Ok, Err, IfOk}
 use Rattle.std.proofs.lemmas.List.{drop_all, map-append, at_drop_more}
 use Rattle.std.proofs.lemmas.Bool.{eqb-false}
 use Rattle.std.proofs.lemmas.Grind.{common_steps}
 use Rattle.std.proofs.lemmas.Result.{IfOk-weaker}
-use Rattle.std.specs.List.{AllByRecursion, cons_option, list_any}
+use Rattle.std.specs.List.{AllByRecursion, cons_option}
 use Rattle.iodef_tree.specs.declared.Text.{Text}
 use Rattle.iodef_tree.specs.declared.object.Member.{Member}
 use Rattle.iodef_tree.specs.declared.object.Item.{Item}
-use Rattle.iodef_tree.specs.declared.object.Object.{Object, the_lemmas}
+use Rattle.iodef_tree.specs.declared.object.Object.{the_lemmas}
 use Rattle.iodef_tree.specs.Text.{Bytes}
-use Rattle.iodef_tree.specs.Tree.{Forest}
 use Rattle.iodef_tree.specs.View.{forest, body, bodies, named, forest_of_members}
-use Rattle.iodef_tree.specs.Filled.{has_some, IsFilled, IsItemFilled, IsMemberFilled}
-use Rattle.iodef_tree.proofs.Filled.{made-filled, many-filled, members-filled, member-at, elements-kept}
-use Rattle.iodef_tree.proofs.Views.{forest-members, forest-made}
+use Rattle.iodef_tree.specs.Filled.{has_some, IsItemFilled, IsMemberFilled}
+use Rattle.iodef_tree.proofs.Filled.{made-filled, many-filled, member-at, elements-kept}
+use Rattle.iodef_tree.proofs.Views.{forest-made}
 use Rattle.policy.specs.Ahead.{ahead_of}
 use Rattle.marking.specs.Label.{marking_of}
 use Rattle.policy.specs.Inherited.{carried, is_seen, hides}
-use Rattle.policy.specs.declared.rule.Rule.{Rule}
 use Rattle.redact.specs.Judged.{inside, is_end, cut, told}
 use Rattle.redact.specs.Pass.{pass}
 use Rattle.redact.specs.Tokens.{token_of, path_of}
-use Rattle.redact.specs.Left.{home_of, left_at, told_at, count_at, left_member, told_member, count_member, left_members, told_members, count_members, left_items, told_items, count_items, Goes}
+use Rattle.redact.specs.Left.{home_of, left_at, told_at, count_at, left_member, told_member, count_member, left_members, told_members, count_members, left_items, told_items, count_items, Goes, Leaves}
 use Rattle.redact.specs.declared.pass.State.{State}
 use Rattle.redact.specs.declared.trail.Token.{Token}
 use Rattle.redact.proofs.Fronts.{Outcome, of_object}
-use Rattle.redact.proofs.Filling.{filled-end}
+use Rattle.redact.proofs.Filling.{object-empty, hidden-left, hidden-filled, hidden-none}
 use Rattle.redact.proofs.Entering.{class-left, class-goes}
-use Rattle.redact.proofs.Going.{goes-step, told-seen, told-frame, told-gone, pushed, pushed-left, pushed-all, pushed-none, length-pushed}
+use Rattle.redact.proofs.Going.{goes-step, told-seen, told-hidden, pushed, pushed-left, pushed-all, pushed-none, length-pushed}
 use Rattle.redact.proofs.reader.Reader.+cut.Goals as goal
 use Rattle.redact.proofs.reader.Reader.+cut.Goals.{cut_items-in-Some+in_ok-push, cut_items-in_default, cut-in-Some+in_ok-push_member, cut-in_default}
 
@@ -95,32 +93,26 @@ cut_seen-returns-clause-goes t c = IfOk-weaker c.with_own_label.result _ _ (λ o
       classes = λ h. let more = c.saturating_add-state.ensures in let e = g.classes (omega (arith, more, h)) in omega (arith, more, e, told_all.classes, h);
     }) c.with_own_label.ensures.left
 
--- what is left of the members has an end only where there are none
-ended : (o : Object) (left : Forest) → IsFilled o → forest o ≡ left → is_end left ≡ (vec_len o.members == 0)
-ended o left filled is = ap is_end (sym is ∙ forest-members o) ∙ filled-end o.members.items (members-filled o filled) ∙ ap (λ n. n == 0) (sym o.members.ok.0)
+both : {X Y : Type 0} (r : Result X Y) (P Q : X → Type 0) → IfOk r P → IfOk r Q → IfOk r (λ x. P x × Q x)
+both (Ok x) P Q p q = (p, q)
+both (Err e) P Q p q = tt
 
-pub cut_hidden-returns-in_ok-add-clause-goes : goal.cut_hidden-returns-in_ok-add-clause-goes
-cut_hidden-returns-in_ok-add-clause-goes t c =
+pub cut_hidden-returns-clause-left : goal.cut_hidden-returns-clause-left
+cut_hidden-returns-clause-left t c = IfOk-weaker c.leave_hidden.result _ _ (λ r made. hidden-left c.in_ok-kept.kept r _ c.in_ok-kept.ensures.left made) c.leave_hidden.ensures.left
+
+pub cut_hidden-returns-clause-filled : goal.cut_hidden-returns-clause-filled
+cut_hidden-returns-clause-filled t c = IfOk-weaker c.leave_hidden.result _ _ (λ r made. hidden-filled c.in_ok-kept.kept r _ c.in_ok-kept.ensures.filled made) c.leave_hidden.ensures.left
+
+pub cut_hidden-returns-clause-quiet : goal.cut_hidden-returns-clause-quiet
+cut_hidden-returns-clause-quiet t c =
     let o = c.in_ok-kept.kept in
-    let st = c.args.state.now in
-    let d : State = record c.cut.new.state { gone = c.add.new.rules } in
-    let q = path_of (take c.args.base st.place.items) in
-    let J = pass c.args.self.now.case.now c.args.self.now.standing.now (carried (path_of st.path.items) c.args.at) (forest c.args.object.now) in
-    let rule = hides c.args.self.now.standing.now (carried (path_of st.path.items) c.args.at) in
-    let g = c.in_ok-kept.ensures.goes in
-    let empty : length o.members.items ≡ 0 = sym o.members.ok.0 ∙ eqb-true _ 0 (sym c.if-is_empty.ensures) in
-    let none : is_end (cut (inside false) 0 J) ≡ true = ended o _ c.in_ok-kept.ensures.filled c.in_ok-kept.ensures.left ∙ sym c.if-is_empty.ensures in
-    let added : (test : Rule → Bool) → list_any test d.gone.items ≡ (list_any test st.gone.items || test rule) = λ test.
-    cc (c.in_ok-add.ensures test, c.replace-gone.ensures.after, c.replace-outside.ensures.value, c.hides-rule.ensures) in
-    rw none (record { path = g.path; place = g.place; withheld = told-gone q st d rule (c.in_ok-kept.ensures.quiet empty) added; classes = g.classes })
-
-pub cut_hidden-returns-in_ok-tell-clause-left : goal.cut_hidden-returns-in_ok-tell-clause-left
-cut_hidden-returns-in_ok-tell-clause-left t c =
     let kept = c.in_ok-kept.ensures in
-    rw (ended c.in_ok-kept.kept _ kept.filled kept.left ∙ sym c.if-is_empty.ensures) (ap Some kept.left)
+    IfOk-weaker c.leave_hidden.result _ _ (λ r h none.
+    let empty = hidden-none o r _ h.0 none in
+    (rw empty at h.1.withheld) ∙ kept.quiet (object-empty o kept.filled empty)) (both c.leave_hidden.result _ _ c.leave_hidden.ensures.left c.leave_hidden.ensures.leaves)
 
-pub cut_hidden-returns-in_ok-tell-clause-goes : goal.cut_hidden-returns-in_ok-tell-clause-goes
-cut_hidden-returns-in_ok-tell-clause-goes t c =
+pub cut_hidden-returns-clause-goes : goal.cut_hidden-returns-clause-goes
+cut_hidden-returns-clause-goes t c = IfOk-weaker c.leave_hidden.result _ _ (λ o left.
     let st = c.args.state.now in
     let b : State = record st { gone = c.replace-outside.new.dest } in
     let k = c.cut.new.state in
@@ -129,17 +121,16 @@ cut_hidden-returns-in_ok-tell-clause-goes t c =
     let q = path_of (take c.args.base st.place.items) in
     let rule = hides c.args.self.now.standing.now (carried (path_of st.path.items) c.args.at) in
     let kept = c.in_ok-kept.ensures in
-    let told_all = c.in_ok-tell.ensures in
-    let gs = c.add-else-is_empty.new.rules.items in
-    let added : (test : Rule → Bool) → list_any test gs ≡ (list_any test k.gone.items || test rule) = λ test.
-    cc (c.in_ok-add-2.ensures test, c.replace-gone.ensures.value, c.hides-rule.ensures) in
-    rw (ended c.in_ok-kept.kept _ kept.filled kept.left ∙ sym c.if-is_empty.ensures) (record {
-      path = told_all.path ∙ kept.goes.path;
-      place = told_all.place ∙ kept.goes.place;
-      withheld = told-frame q r st b k c.tell.new.state (told (inside false) r 0 J) refl (ap (λ v. v.items) c.replace-outside.ensures.after ∙ c.new.ensures.items) kept.goes.withheld rule gs added
-          (cc (told_all.withheld, kept.goes.place, c.as_slice.ensures.value)) (cc (told_all.gone, c.replace-gone.ensures.after, c.replace-outside.ensures.value));
-      classes = λ h. let e = kept.goes.classes h in omega (arith, e, told_all.classes);
-    })
+    let d = c.leave_hidden.new.state in
+    let leaves : Leaves k d st.gone.items rule (is_end (cut (inside false) 0 J)) = rw (kept.left, c.replace-outside.ensures.value, c.hides-rule.ensures) at left in
+    record {
+      path = leaves.path ∙ kept.goes.path;
+      place = leaves.place ∙ kept.goes.place;
+      withheld = told-hidden q r st b k d (told (inside false) r 0 J) refl (ap (λ v. v.items) c.replace-outside.ensures.after ∙ c.new.ensures.items) kept.goes.withheld
+          rule (is_end (cut (inside false) 0 J)) (ap path_of kept.goes.place) leaves
+          (λ empty. kept.quiet (object-empty c.in_ok-kept.kept kept.filled (ap is_end kept.left ∙ empty)));
+      classes = λ h. let e = kept.goes.classes h in omega (arith, e, leaves.classes);
+    }) c.leave_hidden.ensures.leaves
 
 pub cut_class-returns-in_ok-kept-clause-goes : goal.cut_class-returns-in_ok-kept-clause-goes
 cut_class-returns-in_ok-kept-clause-goes t c =

@@ -1,0 +1,10 @@
+-- Places in an array that are written alike.
+use Rattle.std.proofs.Common.{◌≡◌, ◌==◌, ℕ, ◌<◌, ◌^◌, decimal, ap, bytes_eq}
+use Rattle.std.proofs.lemmas.Bool.Decides.{Decides-eqb, Decides-like, same_from_decides}
+use Rattle.std.proofs.lemmas.Fmt.{decimal_injective}
+use Rattle.std.proofs.lemmas.Slice.Eq.{bytes_eq-Decides}
+
+pub places-alike : (j k : ℕ) → j < 2 ^ 64 → k < 2 ^ 64 → (j == k) ≡ bytes_eq (decimal j) (decimal k)
+places-alike j k small less =
+    same_from_decides (j == k) (bytes_eq (decimal j) (decimal k)) (Decides-eqb j k)
+    (Decides-like (bytes_eq (decimal j) (decimal k)) (decimal_injective j k small less) (ap decimal) (bytes_eq-Decides (decimal j) (decimal k)))
