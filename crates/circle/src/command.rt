@@ -7,7 +7,7 @@ use crate::text::Text;
 use std::alloc::AllocError;
 
 /// What an administrator (as far as `Unlink`) or a coordinator asks to change.
-#[derive(Debug, Drop)]
+#[derive(Drop)]
 pub enum CircleCommand {
     AddOrg {
         name: Text,
@@ -82,7 +82,7 @@ pub enum CircleCommand {
 
 /// What the directory says of a command; a fact that the command doesn't ask for is `true` for `exists`,
 /// `false` or 0.
-#[derive(Clone, Copy, Debug, PartialEq, Eq)]
+#[derive(Clone, Copy, PartialEq, Eq)]
 pub struct CircleFacts {
     /// All that the command names is there, and its group has the actor's organisation as a member.
     pub exists: bool,

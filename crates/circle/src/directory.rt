@@ -3,6 +3,7 @@ ghost use Rattle.std.specs.Prelude.{◌≡◌, min, max};
 
 use crate::name::Name;
 use crate::releasability::Releasability;
+use std::alloc::AllocError;
 
 /// What a person may do: an administrator keeps the directory, a coordinator its organisation's groups,
 /// arrangements and nominations, a poster posts incidents as a coordinator does, and everybody reads.
@@ -32,7 +33,7 @@ pub struct Org {
 }
 
 /// A person of an organisation.
-#[derive(Clone, Debug, PartialEq, Eq, Drop)]
+#[derive(Debug, PartialEq, Eq, Drop)]
 pub struct Person {
     pub number: u32,
     pub org: u32,
@@ -80,7 +81,7 @@ pub struct Connection {
 }
 
 /// A sharing group (the MISP book, distribution level 4); its owner has no other of this name.
-#[derive(Clone, Debug, PartialEq, Eq, Drop)]
+#[derive(Debug, PartialEq, Eq, Drop)]
 pub struct Group {
     pub number: u32,
     pub owner: u32,
@@ -114,5 +115,36 @@ impl Connection {
             low: one.min(other),
             high: one.max(other),
         }
+    }
+}
+
+// Derived, these copies would have an exit for want of memory at each field; only the texts take any.
+
+impl Clone for Person {
+    ghost is_clone = { λ person copy. copy ≡ person };
+
+    fn clone(&self) -> Result<Person, AllocError> {
+        Ok(Person {
+            number: self.number,
+            org: self.org,
+            name: self.name.clone()?,
+            role: self.role,
+            active: self.active,
+            nominated: self.nominated,
+        })
+    }
+}
+
+impl Clone for Group {
+    ghost is_clone = { λ group copy. copy ≡ group };
+
+    fn clone(&self) -> Result<Group, AllocError> {
+        Ok(Group {
+            number: self.number,
+            owner: self.owner,
+            name: self.name.clone()?,
+            releasability: self.releasability.clone()?,
+            active: self.active,
+        })
     }
 }

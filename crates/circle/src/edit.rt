@@ -18,7 +18,7 @@ use crate::text::Text;
 use std::alloc::{AllocError, Global};
 
 /// Why there is no edit: the first bad field, or want of memory.
-#[derive(Clone, Copy, Debug)]
+#[derive(Clone, Copy)]
 pub enum Unfit {
     BadField(&'static str),
     NoMemory,

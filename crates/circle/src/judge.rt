@@ -1,5 +1,5 @@
 //! Why a command is refused, or what it changes: by the facts alone.
-ghost use Rattle.std.specs.Prelude.{◌≡◌, ◌+◌, List, ℕ, None, IfOk, IfErr, OnOk, option_map};
+ghost use Rattle.std.specs.Prelude.{◌≡◌, ◌+◌, None, IfOk, IfErr, OnOk, option_map};
 ghost use Rattle.circle.specs.Outcomes.{RefusedAs, bare};
 ghost use Rattle.circle.specs.Directory.{Directory};
 ghost use Rattle.circle.specs.Facts.{facts_of};

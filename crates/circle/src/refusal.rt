@@ -1,5 +1,5 @@
 //! The codes of refusals, for the whole product, and a refusal with its detail.
-ghost use Rattle.std.specs.Prelude.{◌≡◌, ◌⊎◌, []};
+ghost use Rattle.std.specs.Prelude.{◌≡◌, ◌⊎◌};
 ghost use Rattle.circle.specs.Codes.{name_of, reason_of, status_of};
 ghost use Rattle.circle.specs.Outcomes.{no_memory, bare};
 
@@ -102,7 +102,7 @@ impl Code {
 }
 
 /// A refusal: its code, and what it tells beside it, which is empty for most codes.
-#[derive(Clone, Debug, PartialEq, Eq, Drop, Error)]
+#[derive(Debug, Drop, Error)]
 #[error("{reason}", reason = .code.reason())]
 pub struct Refusal {
     pub code: Code,
