@@ -1,5 +1,5 @@
 //! What a directory in memory finds out about a command.
-ghost use Rattle.std.specs.Prelude.{◌≡◌, ◌≤◌};
+ghost use Rattle.std.specs.Prelude.{◌≡◌, ◌≤◌, min};
 ghost use Rattle.circle.specs.Facts.{exists_in, may_extend_in, owns_in, target_owns_in, is_own_person, stands_in, count_in, facts_of};
 ghost use Rattle.circle.specs.Sound.{IsSound};
 
@@ -8,9 +8,10 @@ use circle::command::{CircleCommand, CircleFacts};
 use circle::directory::Person;
 
 impl DirectoryRows {
-    /// The facts of the actor's command, where the directory is sound.
+    /// The facts of the actor's command. The count goes as far as a u32 counts, which is further than a sound directory does.
     pub fn facts(&self, actor: &Person, command: &CircleCommand) -> CircleFacts
-        ensures { IsSound self.now → result ≡ facts_of self.now actor.now command.now }
+        ensures told { result ≡ record (facts_of self.now actor.now command.now) { count = min (count_in self.now command.now) 4294967295 } }
+        ensures exact { IsSound self.now → result ≡ facts_of self.now actor.now command.now }
     {
         CircleFacts {
             exists: self.knows(actor, command),
@@ -127,7 +128,8 @@ impl DirectoryRows {
     }
 
     fn count(&self, command: &CircleCommand) -> u32
-        ensures { IsSound self.now → result ≡ count_in self.now command.now }
+        ensures told { result ≡ min (count_in self.now command.now) 4294967295 }
+        ensures exact { IsSound self.now → result ≡ count_in self.now command.now }
     {
         match command {
             CircleCommand::AddOrg { .. } => as_count(self.sets.orgs.len()),
@@ -140,7 +142,12 @@ impl DirectoryRows {
 }
 
 fn as_count(rows: usize) -> u32
-    ensures { rows ≤ 10000 → result ≡ rows }
+    ensures told { result ≡ min rows 4294967295 }
+    ensures exact { rows ≤ 4294967295 → result ≡ rows }
 {
-    if rows <= 10_000 { rows as u32 } else { 10_000 }
+    if rows <= u32::MAX as usize {
+        rows as u32
+    } else {
+        u32::MAX
+    }
 }
