@@ -1,9 +1,9 @@
 -- Each command's grounds stand in the order of the codes.
 use Rattle.std.proofs.Common.{refl}
 use Rattle.circle.specs.declared.command.CircleCommand.TheVariants.{AddOrg, AddPerson, SuspendPerson, AddClient, RemoveClient, AddCommunity, Join, Leave, Link, Unlink, NewGroup, GroupAdd, GroupRemove, GroupActive, Arrange, CancelArrange, Nominate, Unnominate}
-use Rattle.circle.specs.Order.{IsInOrder}
+use Rattle.circle.specs.Order.{GroundsAscend}
 
-pub in_order : IsInOrder
+pub in_order : GroundsAscend
 in_order d a (AddOrg name) = refl
 in_order d a (AddPerson org name role key) = refl
 in_order d a (SuspendPerson person) = refl

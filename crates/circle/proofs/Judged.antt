@@ -11,7 +11,7 @@ use Rattle.circle.specs.declared.refusal.Code.TheVariants.{B1}
 use Rattle.circle.specs.declared.refusal.Refusal.{Refusal}
 use Rattle.circle.specs.Directory.{Directory, org_number, account_number, community_number, group_number}
 use Rattle.circle.specs.Facts.{facts_of, count_in}
-use Rattle.circle.specs.Refusals.{Ground, first_of, refusal_of}
+use Rattle.circle.specs.Refusals.{Ground, first_answer, refusal_of}
 use Rattle.circle.specs.Judgement.{refusal_by, objection_of, lacks_right, is_strange, is_removal, limit_of, with_field, field_if}
 use Rattle.circle.specs.Aftermath.{greatest, next_in, edit_of, edited, changed, state_after, unless_refused}
 use Rattle.circle.specs.Sound.{IsSound, IsNumbered, CountsFrom, Each}
@@ -76,9 +76,9 @@ none_said true r rest h = cc
 none_said false r rest h = (refl, h)
 
 -- what nothing refuses, nothing refuses by any of a list of grounds
-pub passed : (gs : List Ground) → first_of gs ≡ None → Each (λ (g : Ground). g.holds ≡ false) gs
+pub passed : (gs : List Ground) → first_answer gs ≡ None → Each (λ (g : Ground). g.holds ≡ false) gs
 passed [] h = tt
-passed (g ∷ gs) h = let said = none_said g.holds g.answer (first_of gs) h in (said.0, passed gs said.1)
+passed (g ∷ gs) h = let said = none_said g.holds g.answer (first_answer gs) h in (said.0, passed gs said.1)
 
 below_limit : (c : CircleCommand) (n : ℕ) → nat_le (limit_of c) n ≡ false → n < 10000
 below_limit (AddPerson org name role key) n h = grind (arith, nat_tests)

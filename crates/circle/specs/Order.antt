@@ -10,5 +10,5 @@ abbrev pub in_order_from : ℕ → List Ground → Bool
 in_order_from n [] = true
 in_order_from n (g ∷ gs) = nat_le n (turn g.answer.code) && in_order_from (turn g.answer.code) gs
 
-abbrev pub IsInOrder : Type 0
-IsInOrder = (d : Directory) (actor : Person) (command : CircleCommand) → IsTrue (in_order_from 0 (grounds d actor command))
+abbrev pub GroundsAscend : Type 0
+GroundsAscend = (d : Directory) (actor : Person) (command : CircleCommand) → IsTrue (in_order_from 0 (grounds d actor command))

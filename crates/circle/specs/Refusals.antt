@@ -18,9 +18,9 @@ pub record Ground : Type 0 where
   pub answer : Refusal
 
 -- the answer of the first ground that holds
-abbrev pub first_of : List Ground → Option Refusal
-first_of [] = None
-first_of (g ∷ gs) = if g.holds then Some g.answer else first_of gs
+abbrev pub first_answer : List Ground → Option Refusal
+first_answer [] = None
+first_answer (g ∷ gs) = if g.holds then Some g.answer else first_answer gs
 
 abbrev pub refuse : Code → Bool → Ground
 refuse code holds = record { holds = holds; answer = bare code }
@@ -104,4 +104,4 @@ grounds d a (Unnominate person) =
     unless_coordinator a ∷ unknown_unless (has_person person d) ∷ stranger_unless (has_person_of person a.org d) ∷ not_so_unless (has_nominated person d) ∷ []
 
 abbrev pub refusal_of : Directory → Person → CircleCommand → Option Refusal
-refusal_of d actor command = first_of (grounds d actor command)
+refusal_of d actor command = first_answer (grounds d actor command)

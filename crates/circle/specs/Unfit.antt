@@ -4,6 +4,6 @@ use Rattle.circle.specs.declared.edit.Unfit.{Unfit}
 use Rattle.circle.specs.declared.edit.Unfit.TheVariants.{BadField, NoMemory}
 
 -- it tells the first bad field, or speaks of memory
-abbrev pub Explains : Option (List ℕ) → Unfit → Type 0
-Explains due (BadField field) = due ≡ Some field.now
-Explains due NoMemory = Unit {0}
+abbrev pub TellsUnfit : Option (List ℕ) → Unfit → Type 0
+TellsUnfit due (BadField field) = due ≡ Some field.now
+TellsUnfit due NoMemory = Unit {0}

@@ -5,7 +5,7 @@ ghost use Rattle.circle.specs.declared.command.RowEdit.TheVariants.{PutOrg, PutA
 ghost use Rattle.circle.specs.Texts.{is_name, is_releasability};
 ghost use Rattle.circle.specs.Aftermath.{edit_of, rows_of};
 ghost use Rattle.circle.specs.Judgement.{bad_field, field_if};
-ghost use Rattle.circle.specs.Unfit.{Explains};
+ghost use Rattle.circle.specs.Unfit.{TellsUnfit};
 
 use crate::command::{CircleCommand, Edit, RowEdit};
 use crate::directory::{
@@ -29,7 +29,7 @@ impl CircleCommand {
     pub(crate) fn edit(&self, alloc: Global, actor: &Person, number: u32) -> Result<Edit, Unfit>
         ensures good { OnOk result (bad_field self.now actor.now ≡ None) }
         ensures value { IfOk result (λ edit. edit ≡ edit_of number actor.now self.now) }
-        ensures bad { IfErr result (Explains (bad_field self.now actor.now)) }
+        ensures bad { IfErr result (TellsUnfit (bad_field self.now actor.now)) }
     {
         match *self {
             CircleCommand::AddOrg { ref name } => new_org(alloc, number, name),
@@ -115,7 +115,7 @@ fn row(edit: RowEdit) -> Result<Edit, Unfit>
 fn unless_same(one: u32, other: u32, field: &'static str, edit: RowEdit) -> Result<Edit, Unfit>
     ensures good { OnOk result (field_if (one == other) field.now None ≡ None) }
     ensures value { IfOk result (λ made. made ≡ Row edit) }
-    ensures bad { IfErr result (Explains (field_if (one == other) field.now None)) }
+    ensures bad { IfErr result (TellsUnfit (field_if (one == other) field.now None)) }
 {
     if one == other {
         Err(Unfit::BadField(field))
@@ -127,7 +127,7 @@ fn unless_same(one: u32, other: u32, field: &'static str, edit: RowEdit) -> Resu
 fn fit_name(alloc: Global, text: &Text) -> Result<Name, Unfit>
     ensures good { OnOk result (is_name text.now ≡ true) }
     ensures value { IfOk result (λ name. name ≡ text.now) }
-    ensures bad { IfErr result (Explains (field_if (not (is_name text.now)) (codes "name") None)) }
+    ensures bad { IfErr result (TellsUnfit (field_if (not (is_name text.now)) (codes "name") None)) }
 {
     match Name::of(alloc, text.as_str()) {
         Ok(Some(name)) => Ok(name),
@@ -139,7 +139,7 @@ fn fit_name(alloc: Global, text: &Text) -> Result<Name, Unfit>
 fn fit_releasability(alloc: Global, text: &Text) -> Result<Releasability, Unfit>
     ensures good { OnOk result (is_releasability text.now ≡ true) }
     ensures value { IfOk result (λ found. found ≡ text.now) }
-    ensures bad { IfErr result (Explains (field_if (not (is_releasability text.now)) (codes "releasability") None)) }
+    ensures bad { IfErr result (TellsUnfit (field_if (not (is_releasability text.now)) (codes "releasability") None)) }
 {
     match Releasability::of(alloc, text.as_str()) {
         Ok(Some(releasability)) => Ok(releasability),
@@ -151,7 +151,7 @@ fn fit_releasability(alloc: Global, text: &Text) -> Result<Releasability, Unfit>
 fn new_org(alloc: Global, number: u32, name: &Text) -> Result<Edit, Unfit>
     ensures good { OnOk result (field_if (not (is_name name.now)) (codes "name") None ≡ None) }
     ensures value { IfOk result (λ edit. edit ≡ Row (PutOrg (record { number = number; name = name.now }))) }
-    ensures bad { IfErr result (Explains (field_if (not (is_name name.now)) (codes "name") None)) }
+    ensures bad { IfErr result (TellsUnfit (field_if (not (is_name name.now)) (codes "name") None)) }
 {
     let name = fit_name(alloc, name)?;
     Ok(Edit::Row(RowEdit::PutOrg(Org { number, name })))
@@ -167,7 +167,7 @@ fn new_account(
 ) -> Result<Edit, Unfit>
     ensures good { OnOk result (field_if (not (is_name name.now)) (codes "name") None ≡ None) }
     ensures value { IfOk result (λ edit. edit ≡ Row (PutAccount (record { person = record { number = number; org = org; name = name.now; role = role; active = true; nominated = false }; key = key }))) }
-    ensures bad { IfErr result (Explains (field_if (not (is_name name.now)) (codes "name") None)) }
+    ensures bad { IfErr result (TellsUnfit (field_if (not (is_name name.now)) (codes "name") None)) }
 {
     let name = fit_name(alloc, name)?;
     let person = Person {
@@ -184,7 +184,7 @@ fn new_account(
 fn new_community(alloc: Global, number: u32, name: &Text) -> Result<Edit, Unfit>
     ensures good { OnOk result (field_if (not (is_name name.now)) (codes "name") None ≡ None) }
     ensures value { IfOk result (λ edit. edit ≡ Row (PutCommunity (record { number = number; name = name.now }))) }
-    ensures bad { IfErr result (Explains (field_if (not (is_name name.now)) (codes "name") None)) }
+    ensures bad { IfErr result (TellsUnfit (field_if (not (is_name name.now)) (codes "name") None)) }
 {
     let name = fit_name(alloc, name)?;
     Ok(Edit::Row(RowEdit::PutCommunity(Community { number, name })))
@@ -199,7 +199,7 @@ fn new_group(
 ) -> Result<Edit, Unfit>
     ensures good { OnOk result (field_if (not (is_name name.now)) (codes "name") (field_if (not (is_releasability releasability.now)) (codes "releasability") None) ≡ None) }
     ensures value { IfOk result (λ edit. edit ≡ Found (record { number = number; owner = owner; name = name.now; releasability = releasability.now; active = true })) }
-    ensures bad { IfErr result (Explains (field_if (not (is_name name.now)) (codes "name") (field_if (not (is_releasability releasability.now)) (codes "releasability") None))) }
+    ensures bad { IfErr result (TellsUnfit (field_if (not (is_name name.now)) (codes "name") (field_if (not (is_releasability releasability.now)) (codes "releasability") None))) }
 {
     let name = fit_name(alloc, name)?;
     let releasability = fit_releasability(alloc, releasability)?;

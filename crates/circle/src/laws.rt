@@ -1,6 +1,6 @@
 //! Laws of the definitions, each the contract of a function that does nothing.
 ghost use Rattle.circle.specs.Laws.{EditsAreRows, EmptyIsSound, NothingVanishes, OrganisationsKeepApart, OwnersStay, RefusalsLeaveAll, StaysSound, SuspendedStays};
-ghost use Rattle.circle.specs.Order.{IsInOrder};
+ghost use Rattle.circle.specs.Order.{GroundsAscend};
 
 /// What a person of a sound directory changes leaves it sound.
 pub fn stays_sound()
@@ -19,7 +19,7 @@ pub fn empty_is_sound()
 
 /// The grounds of each command stand in the order of the codes.
 pub fn grounds_in_order()
-    ensures { IsInOrder }
+    ensures { GroundsAscend }
 {}
 
 /// A refused command leaves every row.

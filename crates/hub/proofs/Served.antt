@@ -7,7 +7,7 @@ use Rattle.std.proofs.lemmas.Bool.{true≢false}
 use Rattle.circle.specs.Outcomes.{bare}
 use Rattle.circle.specs.Directory.{account_number}
 use Rattle.circle.specs.Refusals as circle
-use Rattle.circle.specs.Refusals.{Ground, first_of}
+use Rattle.circle.specs.Refusals.{Ground, first_answer}
 use Rattle.circle.specs.Sound.{IsOrg}
 use Rattle.circle.specs.declared.directory.Account.{Account}
 use Rattle.circle.specs.declared.directory.Person.{Person}
@@ -182,11 +182,11 @@ is_failure _ = false
 abbrev tells_none : List Ground → Bool
 tells_none gs = list_all (λ (g : Ground). not (is_failure g.answer.code)) gs
 
-first_tells : (gs : List Ground) → tells_none gs ≡ true → first_of gs ≡ Some (bare F1) → ⊥
+first_tells : (gs : List Ground) → tells_none gs ≡ true → first_answer gs ≡ Some (bare F1) → ⊥
 first_tells [] h is = cc
 first_tells (g ∷ gs) h is = by_case g.holds (not (is_failure g.answer.code)) refl h is (first_tells gs)
   where
-    by_case : (b t : Bool) → not (is_failure g.answer.code) ≡ t → (t && tells_none gs) ≡ true → cond b (Some g.answer) (first_of gs) ≡ Some (bare F1) → (tells_none gs ≡ true → first_of gs ≡ Some (bare F1) → ⊥) → ⊥
+    by_case : (b t : Bool) → not (is_failure g.answer.code) ≡ t → (t && tells_none gs) ≡ true → cond b (Some g.answer) (first_answer gs) ≡ Some (bare F1) → (tells_none gs ≡ true → first_answer gs ≡ Some (bare F1) → ⊥) → ⊥
     by_case b false t k is later = absurd (true≢false (sym k))
     by_case true true t k is later = let same : g.answer ≡ bare F1 = cc in absurd (true≢false (sym t ∙ ap (λ (r : Refusal). not (is_failure r.code)) same))
     by_case false true t k is later = later k is

@@ -1,6 +1,6 @@
 -- Grounds that are asked one list after another.
 use Rattle.std.proofs.Common.{◌≡◌, List, [], ◌∷◌, ◌++◌, Bool, true, false, if◌then◌else◌, Option, Some, None, Result, Ok, Err, refl, ◌∙◌}
-use Rattle.circle.specs.Refusals.{Ground, first_of}
+use Rattle.circle.specs.Refusals.{Ground, first_answer}
 use Rattle.circle.specs.declared.refusal.Refusal.{Refusal}
 use Rattle.hub_core.specs.Asked.{Asks}
 use Rattle.hub_core.specs.declared.judging.stop.Stop.{Stop}
@@ -11,15 +11,15 @@ past true why one both rest on h = cc
 past false why one both rest on h = on h
 
 -- where none of the first holds, the others decide
-first_on : (gs hs : List Ground) → first_of gs ≡ None → first_of (gs ++ hs) ≡ first_of hs
+first_on : (gs hs : List Ground) → first_answer gs ≡ None → first_answer (gs ++ hs) ≡ first_answer hs
 first_on [] hs none = refl
-first_on (g ∷ gs) hs none = past g.holds g.answer (first_of gs) (first_of (gs ++ hs)) (first_of hs) (first_on gs hs) none
+first_on (g ∷ gs) hs none = past g.holds g.answer (first_answer gs) (first_answer (gs ++ hs)) (first_answer hs) (first_on gs hs) none
 
-later : {X : Type 0} (gs hs : List Ground) (r : Result X Stop) → first_of gs ≡ None → Asks hs r → Asks (gs ++ hs) r
+later : {X : Type 0} (gs hs : List Ground) (r : Result X Stop) → first_answer gs ≡ None → Asks hs r → Asks (gs ++ hs) r
 later gs hs (Ok x) none h = first_on gs hs none ∙ h
 later gs hs (Err (Refused why)) none h = first_on gs hs none ∙ h
 later gs hs (Err NoMemory) none h = tt
 
 -- where none of three lists holds, the fourth decides
-pub fourth : {X : Type 0} (ps qs gs hs : List Ground) (r : Result X Stop) → first_of ps ≡ None → first_of qs ≡ None → first_of gs ≡ None → Asks hs r → Asks (ps ++ (qs ++ (gs ++ hs))) r
+pub fourth : {X : Type 0} (ps qs gs hs : List Ground) (r : Result X Stop) → first_answer ps ≡ None → first_answer qs ≡ None → first_answer gs ≡ None → Asks hs r → Asks (ps ++ (qs ++ (gs ++ hs))) r
 fourth ps qs gs hs r p q g h = later ps (qs ++ (gs ++ hs)) r p (later qs (gs ++ hs) r q (later gs hs r g h))

@@ -2,7 +2,7 @@
 use Rattle.std.proofs.Common.{◌≡◌, List, None, Result, Ok, Err, IfOk, sym, ap, ◌∙◌, subst}
 use Rattle.std.specs.Prelude.{IfErr, OnOk}
 use Rattle.circle.specs.Outcomes.{RefusedAs}
-use Rattle.circle.specs.Refusals.{Ground, first_of}
+use Rattle.circle.specs.Refusals.{Ground, first_answer}
 use Rattle.circle.specs.declared.directory.Person.{Person}
 use Rattle.circle.specs.declared.refusal.Refusal.{Refusal}
 use Rattle.hub_core.specs.State.{State}
@@ -21,18 +21,18 @@ use Rattle.hub_core.proofs.Agrees.{agrees, makes}
 -- the request, under the name of its kind; the facts are those of the state, and its refusal by facts is that of its grounds
 pub record IsAsked (s : State) (a : Person) (r named : Request) (f : Facts) : Type 0 where
   pub name : r ≡ named
-  pub plain : refusal_by f a named ≡ first_of (grounds_by f a named)
+  pub plain : refusal_by f a named ≡ first_answer (grounds_by f a named)
   pub facts : f ≡ facts_of s a r
 
-due : (s : State) (a : Person) (r named : Request) (f : Facts) → IsAsked s a r named f → first_of (grounds_by f a named) ≡ refusal_of s a r
+due : (s : State) (a : Person) (r named : Request) (f : Facts) → IsAsked s a r named f → first_answer (grounds_by f a named) ≡ refusal_of s a r
 due s a r named f h = sym h.plain ∙ ap (refusal_by f a) (sym h.name) ∙ ap (λ (g : Facts). refusal_by g a r) h.facts ∙ agrees s a r
 
 pub refused_in : {X : Type 0} (s : State) (a : Person) (r named : Request) (f : Facts) (judged : Result X Stop) (answer : Result X Refusal) → IsAsked s a r named f →
-    Asks (grounds_by f a named) judged → ((grounds : List Ground) → Asks grounds judged → IfErr answer (RefusedAs (first_of grounds))) →
+    Asks (grounds_by f a named) judged → ((grounds : List Ground) → Asks grounds judged → IfErr answer (RefusedAs (first_answer grounds))) →
     IfErr answer (RefusedAs (refusal_of s a r))
 refused_in s a r named f judged answer h asked tells = subst (λ o. IfErr answer (RefusedAs o)) (due s a r named f h) (tells (grounds_by f a named) asked)
 
-none_of : {X : Type 0} (grounds : List Ground) (judged : Result X Stop) (x : X) → Asks grounds judged → judged ≡ Ok x → first_of grounds ≡ None
+none_of : {X : Type 0} (grounds : List Ground) (judged : Result X Stop) (x : X) → Asks grounds judged → judged ≡ Ok x → first_answer grounds ≡ None
 none_of grounds judged x asked same = subst (λ j. Asks grounds j) same asked
 
 pub allowed_in : {X : Type 0} (s : State) (a : Person) (r named : Request) (f : Facts) (judged : Result X Stop) (answer : Result X Refusal) → IsAsked s a r named f →

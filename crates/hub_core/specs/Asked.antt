@@ -1,7 +1,7 @@
 -- What a step of the judge answers for the grounds that it asks.
 use Rattle.std.specs.Prelude.{◌≡◌, ℕ, ◌+◌, true, ◌||◌, ◌&&◌, List, [], ◌∷◌, map, length, Option, Some, None, option_map, Result, Ok, Err, codes, decimal}
 use Rattle.iodef_tree.specs.Text.{Bytes}
-use Rattle.circle.specs.Refusals.{Ground, first_of, bad, unknown_unless, not_so_unless}
+use Rattle.circle.specs.Refusals.{Ground, first_answer, bad, unknown_unless, not_so_unless}
 use Rattle.circle.specs.declared.refusal.Code.TheVariants.{B1, S1, S3}
 use Rattle.circle.specs.declared.directory.Person.{Person}
 use Rattle.hub_core.specs.Documents.{Lines, fault_in, documents_in, ident_of, bad_marking}
@@ -14,8 +14,8 @@ use Rattle.hub_core.specs.declared.judging.stop.Stop.TheVariants.{Refused, NoMem
 
 -- none of them holds, or the refusal is the answer of the first that does
 abbrev pub Asks : {X : Type 0} → List Ground → Result X Stop → Type 0
-Asks grounds (Ok x) = first_of grounds ≡ None
-Asks grounds (Err (Refused why)) = first_of grounds ≡ Some why
+Asks grounds (Ok x) = first_answer grounds ≡ None
+Asks grounds (Err (Refused why)) = first_answer grounds ≡ Some why
 Asks grounds (Err NoMemory) = Unit {0}
 
 -- ---- parts of the grounds of requests with a document: of the arguments, and of what there is

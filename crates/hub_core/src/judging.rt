@@ -1,7 +1,7 @@
 //! Why a request is refused, or what it changes: by the facts alone.
 ghost use Rattle.std.specs.Prelude.{◌≡◌, ◌<◌, List, IfErr, IfOk, None, OnOk};
 ghost use Rattle.circle.specs.Outcomes.{RefusedAs};
-ghost use Rattle.circle.specs.Refusals.{Ground, first_of};
+ghost use Rattle.circle.specs.Refusals.{Ground, first_answer};
 ghost use Rattle.hub_core.specs.State.{State};
 ghost use Rattle.hub_core.specs.Edits.{after as after_edits};
 ghost use Rattle.hub_core.specs.Sound.{IsSound};
@@ -128,7 +128,7 @@ pub fn judge(
 
 /// Want of memory as a refusal.
 fn answer(alloc: Global, judged: Result<Vec<Edit>, Stop>) -> Result<Vec<Edit>, Refusal>
-    ensures refused { (grounds : List Ground) → Asks grounds judged → IfErr result (RefusedAs (first_of grounds)) }
+    ensures refused { (grounds : List Ground) → Asks grounds judged → IfErr result (RefusedAs (first_answer grounds)) }
     ensures edits { IfOk result (λ edits. judged ≡ Ok edits) }
 {
     match judged {

@@ -66,7 +66,3 @@ has_class es p = list_any (λ e. is_class e && same_path e.path p) es
 -- all lines below a path
 abbrev pub below : Tokens → List LocatedLine → List LocatedLine
 below p es = filter (λ e. is_under p e.path) es
-
--- the lines directly in the class at a path, or in the root
-abbrev pub members_at : Tokens → List LocatedLine → List LocatedLine
-members_at p es = filter (λ e. same_path e.parent p) es

@@ -15,12 +15,12 @@ use Rattle.marking.specs.declared.pass.Mark.{Mark}
 -- What a class holds under a name: nothing, a text, or something else. An array is something else, also one of a single text.
 pub data Held : Type 0 where
   absent : Held
-  plain : Bytes → Held
+  one_text : Bytes → Held
   other : Held
 
 abbrev pub held_by_kind : Kind → Bytes → Held
 held_by_kind kind.Class text = other
-held_by_kind kind.Text text = plain text
+held_by_kind kind.Text text = one_text text
 held_by_kind kind.Value text = other
 
 abbrev pub held_by_line : Line → Held
@@ -41,17 +41,17 @@ ext_restriction_at es p = held_at es p (codes "ext-restriction")
 
 -- the label that what is held as `restriction` and as `ext-restriction` spells, both being texts where they are there
 abbrev pub spelled_by : Held → Held → Option Marking
-spelled_by (plain restriction) absent = spelled restriction None
-spelled_by (plain restriction) (plain ext) = spelled restriction (Some ext)
-spelled_by (plain restriction) other = None
+spelled_by (one_text restriction) absent = spelled restriction None
+spelled_by (one_text restriction) (one_text ext) = spelled restriction (Some ext)
+spelled_by (one_text restriction) other = None
 spelled_by absent ext = None
 spelled_by other ext = None
 
 abbrev pub are_absent : Held → Held → Bool
 are_absent absent absent = true
-are_absent absent (plain ext) = false
+are_absent absent (one_text ext) = false
 are_absent absent other = false
-are_absent (plain restriction) ext = false
+are_absent (one_text restriction) ext = false
 are_absent other ext = false
 
 -- the marking rule: neither is there, or the two spell a label

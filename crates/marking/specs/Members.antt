@@ -4,18 +4,18 @@ use Rattle.std.specs.Str.{bytes_eq}
 use Rattle.iodef_tree.specs.Text.{Bytes}
 use Rattle.iodef_tree.specs.Tree.{Leaf, Forest, end, leaf, branch, holds, says, Bodies, one, many, text, value, leaf_line}
 use Rattle.marking.specs.Label.{Marking}
-use Rattle.marking.specs.Marks.{Held, absent, plain, other, held_by_line, spelled_by, is_rule_kept}
+use Rattle.marking.specs.Marks.{Held, absent, one_text, other, held_by_line, spelled_by, is_rule_kept}
 use Rattle.marking.specs.declared.class.Found.{Found}
 use Rattle.marking.specs.declared.class.Found.TheVariants as found
 
 abbrev pub held_of : Found → Held
 held_of found.Absent = absent
-held_of (found.Text s) = plain s.now
+held_of (found.Text s) = one_text s.now
 held_of found.Other = other
 
 abbrev pub held_by_bodies : Bodies → Held
 held_by_bodies (one (holds kids)) = other
-held_by_bodies (one (says (text s))) = plain s
+held_by_bodies (one (says (text s))) = one_text s
 held_by_bodies (one (says (value s))) = other
 held_by_bodies (many bs) = other
 

@@ -6,8 +6,8 @@ ghost use Rattle.iodef_tree.specs.Text.{Tokens, same_path};
 ghost use Rattle.policy.specs.Verdict.{first_of, refusals_at};
 ghost use Rattle.policy.specs.Inherited.{is_granted};
 ghost use Rattle.policy.specs.Ahead.{ahead_of, met_by, nothing_met, refused_with, granted_with};
-ghost use Rattle.policy.specs.declared.standing.Standing.{Standing as Reader};
-ghost use Rattle.policy.specs.declared.case.Case.{Case as Judged};
+ghost use Rattle.policy.specs.declared.standing.Standing.{Standing as TheStanding};
+ghost use Rattle.policy.specs.declared.case.Case.{Case as TheCase};
 
 use crate::case::Case;
 use crate::gate::passes;
@@ -53,7 +53,7 @@ impl<'a> Ahead<'a> {
 
     /// One token further down. Takes no memory where nothing is left.
     pub fn below(&self, alloc: Global, token: &str) -> Result<Ahead<'a>, AllocError>
-        ensures { IfOk result (λ a. (c : Judged) (s : Reader) (p : Tokens) → met_by self.now ≡ ahead_of c s p → met_by a ≡ ahead_of c s (p ++ token.now ∷ [])) }
+        ensures { IfOk result (λ a. (c : TheCase) (s : TheStanding) (p : Tokens) → met_by self.now ≡ ahead_of c s p → met_by a ≡ ahead_of c s (p ++ token.now ∷ [])) }
     {
         let refusing = refusing_below(alloc, self.refusing.as_slice(), token)?;
         let granting = granting_below(alloc, self.granting.as_slice(), token)?;

@@ -8,8 +8,8 @@ ghost use Rattle.iodef_tree.specs.declared.line.Line.{Line};
 ghost use Rattle.marking.specs.Marks.{incident_path};
 ghost use Rattle.policy.specs.Ahead.{ahead_of, met_by};
 ghost use Rattle.policy.specs.Descent.{Reaches};
-ghost use Rattle.policy.specs.declared.standing.Standing.{Standing as Reader};
-ghost use Rattle.policy.specs.declared.case.Case.{Case as Judged};
+ghost use Rattle.policy.specs.declared.standing.Standing.{Standing as TheStanding};
+ghost use Rattle.policy.specs.declared.case.Case.{Case as TheCase};
 
 use crate::ahead::Ahead;
 use crate::inherited::Carried;
@@ -47,7 +47,7 @@ pub struct Descent<'a> {
 impl<'a> Descent<'a> {
     /// At the root.
     pub fn at_root(document: &'a Document, ahead: &Ahead<'_>) -> Descent<'a>
-        ensures { (c : Judged) (s : Reader) → met_by ahead.now ≡ ahead_of c s [] → Reaches (located document.now) c s [] result }
+        ensures { (c : TheCase) (s : TheStanding) → met_by ahead.now ≡ ahead_of c s [] → Reaches (located document.now) c s [] result }
     {
         Descent {
             class: document.root(),
@@ -60,7 +60,7 @@ impl<'a> Descent<'a> {
     pub fn below(self, ahead: &Ahead<'_>, here: &[Text]) -> Descent<'a>
         requires depth { self.depth < length here.now }
         requires filled { IsFilled self.class.now }
-        ensures { (ls : List Line) (c : Judged) (s : Reader) (p : Tokens) (x : Bytes) → here.now ≡ p ++ x ∷ [] → met_by ahead.now ≡ ahead_of c s here.now →
+        ensures { (ls : List Line) (c : TheCase) (s : TheStanding) (p : Tokens) (x : Bytes) → here.now ≡ p ++ x ∷ [] → met_by ahead.now ≡ ahead_of c s here.now →
             Reaches (located ls) c s p self.entry → Reaches (located ls) c s here.now result }
     {
         match self.class.class(&here[self.depth..]) {

@@ -58,8 +58,7 @@ impl Gates {
 
 /// Whether the reader passes the gate, else the rule that refuses. Levels 3 and 5 let everybody pass. Level 4 asks
 /// membership first and then whether the group is active; without a group it is refused as one of whose group the reader's
-/// organisation is no member. A level above 5 counts as 0. Takes no
-/// memory.
+/// organisation is no member. A level above 5 counts as 0. Takes no memory.
 pub fn passes(standing: &Standing, gate: &Gate) -> Result<(), Rule>
     ensures { result_err result ≡ passage_of standing.now gate.now }
 {

@@ -7,8 +7,8 @@ ghost use Rattle.marking.specs.Label.{marking_of};
 ghost use Rattle.policy.specs.Ahead.{ahead_of, met_by};
 ghost use Rattle.policy.specs.Verdict.{handling_for, is_cleared_for, showing_rule, hidden_by as hides_by};
 ghost use Rattle.policy.specs.Inherited.{carried, at_root as at_the_root, array_step, class_step, label_step, is_seen as is_seen_by, hides as hides_at, verdict_by};
-ghost use Rattle.policy.specs.declared.standing.Standing.{Standing as Reader};
-ghost use Rattle.policy.specs.declared.case.Case.{Case as Judged};
+ghost use Rattle.policy.specs.declared.standing.Standing.{Standing as TheStanding};
+ghost use Rattle.policy.specs.declared.case.Case.{Case as TheCase};
 
 use crate::ahead::Ahead;
 use crate::cleared::clearance;
@@ -32,7 +32,7 @@ pub struct Carried<'a> {
 impl<'a> Carried<'a> {
     /// At the root, where this lies ahead. Takes no memory, as the other calls here.
     pub fn at_root(ahead: &Ahead<'_>) -> Carried<'a>
-        ensures { (c : Judged) (s : Reader) → met_by ahead.now ≡ ahead_of c s [] → carried [] result ≡ at_the_root c s }
+        ensures { (c : TheCase) (s : TheStanding) → met_by ahead.now ≡ ahead_of c s [] → carried [] result ≡ at_the_root c s }
     {
         Carried {
             refusal: ahead.refusal(),
@@ -43,7 +43,7 @@ impl<'a> Carried<'a> {
 
     /// In an array, one token further down, where this lies ahead: no label holds at its own path.
     pub fn in_array(self, ahead: &Ahead<'_>) -> Carried<'a>
-        ensures { (c : Judged) (s : Reader) (p : Tokens) → met_by ahead.now ≡ ahead_of c s p →
+        ensures { (c : TheCase) (s : TheStanding) (p : Tokens) → met_by ahead.now ≡ ahead_of c s p →
             carried p result ≡ array_step c s (carried p self.entry) p }
     {
         Carried {
@@ -60,7 +60,7 @@ impl<'a> Carried<'a> {
         spot: &S,
         written: Option<Label<'a>>,
     ) -> Carried<'a>
-        ensures { (c : Judged) (s : Reader) → met_by ahead.now ≡ ahead_of c s (S.tokens spot.now) →
+        ensures { (c : TheCase) (s : TheStanding) → met_by ahead.now ≡ ahead_of c s (S.tokens spot.now) →
             carried (S.tokens spot.now) result ≡ class_step c s (carried (S.tokens spot.now) self.entry) (S.tokens spot.now) (option_map marking_of written.entry) }
     {
         Carried {

@@ -10,8 +10,8 @@
 //!   `numbers`: the lists of numbers in a standing;
 //! - `cleared`: [`clearance`]; `gate`: [`passes`]; `permission`: [`includes`]; `rule`: the names of the rules;
 //! - `covering`: [`covers`], whether one permission covers one class;
-//! - `deciding`: [`decide`], the [`Verdict`] of one class, by a walk from the root (`descent`); `fault`: why there is
-//!   none;
+//! - `deciding`: [`decide`], the [`Verdict`] of one class (`verdict`), by a walk from the root (`descent`); `fault`: why
+//!   there is none;
 //! - for passes over a whole document: `inherited`, [`Carried`], what is handed down; `ahead`, [`Ahead`], the gates and
 //!   permissions that can still be met (`onward`); `spot`, where a pass is;
 //! - [`laws`]: what the policy promises of every document, case and reader.

@@ -6,7 +6,7 @@ pub mod Pass
 pub mod Here
 pub mod Tokens
 pub mod Left
-pub mod Filled
+pub mod Saying
 pub mod Excerpts
 pub mod Search
 pub mod Ties

@@ -75,12 +75,6 @@ holds_needle es needle p = list_any (λ e. same_path e.parent p && is_hit needle
 -- ---- all that is told
 
 module _ (ls : List Line) (c : Case) (s : Standing) where
-  abbrev pub entries : List LocatedLine
-  entries = located ls
-
-  abbrev pub verdicts : Verdicts
-  verdicts = verdicts_of (located ls) c s
-
   abbrev pub is_seen_class : LocatedLine → Bool
   is_seen_class e = is_class e && is_visible (located ls) c s e.path
 

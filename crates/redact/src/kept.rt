@@ -1,3 +1,5 @@
+//! What is served of a document: the excerpt.
+
 use iodef_tree::{Document, Path};
 use policy::Rule;
 

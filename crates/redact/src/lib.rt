@@ -1,4 +1,15 @@
-//! What a reader may see of a document.
+//! What a reader is served of a document, and a search in what it may see.
+//!
+//! To read first, in `specs/`: `Told`, all that a reader is told; `Kept`, the outline of an excerpt; `Withheld`, what is
+//! told of the rest; `Excerpts`, what [`excerpt`] answers.
+//!
+//! The rooms, in the way of a document:
+//!
+//! - `given`: [`excerpt`]; `kept`: [`Excerpt`];
+//! - `pass`: the one pass down, for a `reader`, by its `trail`; `attributes`: a label put in;
+//! - `note`: what is withheld, as it is noted; `listed`: the same in order;
+//! - `search`: [`finds`] and [`is_listed`];
+//! - [`laws`]: what excerpts and searches promise.
 #![tactic(auto)]
 
 mod attributes;

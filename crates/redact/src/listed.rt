@@ -14,12 +14,12 @@ use std::marker::Model;
 
 /// A note, with its place as it is printed. Contracts see the note.
 #[derive(Drop)]
-pub struct Entry<'a> {
+pub struct PrintedNote<'a> {
     printed: String,
     note: Note<'a>,
 }
 
-impl<'a> Model for Entry<'a> {
+impl<'a> Model for PrintedNote<'a> {
     ghost use Rattle.std.specs.Prelude.{◌≡◌, string_bytes};
     ghost use Rattle.iodef_tree.specs.Pointer.{pointer_text};
     ghost use Rattle.redact.specs.Withheld.{Withheld};
@@ -31,25 +31,25 @@ impl<'a> Model for Entry<'a> {
     ghost invariant = { λ e. string_bytes e.printed ≡ pointer_text e.note.0 };
 }
 
-impl<'a> Entry<'a> {
+impl<'a> PrintedNote<'a> {
     ghost use Rattle.std.specs.Prelude.{◌≡◌, IfOk};
 
-    fn new(alloc: Global, note: Note<'a>) -> Result<Entry<'a>, AllocError>
+    fn new(alloc: Global, note: Note<'a>) -> Result<PrintedNote<'a>, AllocError>
         ensures { IfOk result (λ e. e ≡ note.entry) }
     {
         let printed = note.printed(alloc)?;
-        Ok(Entry { printed, note })
+        Ok(PrintedNote { printed, note })
     }
 
     /// The next note, behind this one. What is noted at one place is printed once.
-    fn next(&self, alloc: Global, note: Note<'a>) -> Result<Entry<'a>, AllocError>
+    fn next(&self, alloc: Global, note: Note<'a>) -> Result<PrintedNote<'a>, AllocError>
         ensures { IfOk result (λ e. e ≡ note.entry) }
     {
         if note.is_beside(&self.note) {
             let printed = self.printed.clone()?;
-            Ok(Entry { printed, note })
+            Ok(PrintedNote { printed, note })
         } else {
-            Entry::new(alloc, note)
+            PrintedNote::new(alloc, note)
         }
     }
 
@@ -60,7 +60,7 @@ impl<'a> Entry<'a> {
     }
 }
 
-impl<'a> PartialEq for Entry<'a> {
+impl<'a> PartialEq for PrintedNote<'a> {
     ghost use Rattle.std.specs.Cmp.{partial_equiv_from_equiv};
     ghost use Rattle.redact.specs.Withheld.{same_withheld};
 
@@ -68,16 +68,16 @@ impl<'a> PartialEq for Entry<'a> {
 
     ghost laws = { partial_equiv_from_equiv (Prim.search (comparing, rules)) };
 
-    fn eq(&self, other: &Entry<'a>) -> bool {
+    fn eq(&self, other: &PrintedNote<'a>) -> bool {
         self.printed == other.printed && self.note.rule().name() == other.note.rule().name()
     }
 }
 
-impl<'a> Eq for Entry<'a> {
+impl<'a> Eq for PrintedNote<'a> {
     ghost laws = { Prim.search (comparing, rules) };
 }
 
-impl<'a> Ord for Entry<'a> {
+impl<'a> Ord for PrintedNote<'a> {
     ghost use Rattle.redact.specs.Withheld.{withheld_cmp};
     ghost use Rattle.redact.specs.Ties.{withheld-ties};
 
@@ -89,7 +89,7 @@ impl<'a> Ord for Entry<'a> {
 
     ghost matches_eq = { withheld-ties };
 
-    fn cmp(&self, other: &Entry<'a>) -> Ordering {
+    fn cmp(&self, other: &PrintedNote<'a>) -> Ordering {
         self.printed
             .as_str()
             .cmp(other.printed.as_str())
@@ -97,7 +97,7 @@ impl<'a> Ord for Entry<'a> {
     }
 }
 
-impl<'a> PartialOrd for Entry<'a> {
+impl<'a> PartialOrd for PrintedNote<'a> {
     ghost use Rattle.std.specs.Cmp.{partial_order_from_own_ties};
     ghost use Rattle.std.specs.Ordering.{as_partial_cmp};
     ghost use Rattle.redact.specs.Withheld.{withheld_cmp};
@@ -107,26 +107,26 @@ impl<'a> PartialOrd for Entry<'a> {
 
     ghost laws = { partial_order_from_own_ties (Prim.search (comparing, rules)) withheld-ties };
 
-    fn partial_cmp(&self, other: &Entry<'a>) -> Option<Ordering> {
+    fn partial_cmp(&self, other: &PrintedNote<'a>) -> Option<Ordering> {
         Some(self.cmp(other))
     }
 }
 
-fn entries_of<'a>(alloc: Global, notes: Vec<Note<'a>>) -> Result<Vec<Entry<'a>>, AllocError>
+fn entries_of<'a>(alloc: Global, notes: Vec<Note<'a>>) -> Result<Vec<PrintedNote<'a>>, AllocError>
     ensures { IfOk result (λ v. v.items ≡ notes.entry.items) }
 {
-    let mut entries: Vec<Entry<'a>> = Vec::with_capacity(alloc, notes.len())?;
+    let mut entries: Vec<PrintedNote<'a>> = Vec::with_capacity(alloc, notes.len())?;
     for note in notes {
         let entry = match entries.last() {
             Some(last) => last.next(alloc, note)?,
-            None => Entry::new(alloc, note)?,
+            None => PrintedNote::new(alloc, note)?,
         };
         entries.push(entry)?;
     }
     Ok(entries)
 }
 
-fn pairs_of(alloc: Global, entries: Vec<Entry<'_>>) -> Result<Vec<(Path, Rule)>, AllocError>
+fn pairs_of(alloc: Global, entries: Vec<PrintedNote<'_>>) -> Result<Vec<(Path, Rule)>, AllocError>
     ensures { IfOk result (λ v. v.items ≡ entries.entry.items) }
 {
     let mut pairs = Vec::new(alloc);

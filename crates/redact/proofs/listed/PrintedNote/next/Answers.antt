@@ -1,7 +1,7 @@
 use Rattle.std.proofs.Common.{sym, ◌∙◌, ap, rules}
 use Rattle.iodef_tree.specs.Pointer.{pointer_text}
 use Rattle.iodef_tree.proofs.Order.{same_path-true}
-use Rattle.redact.proofs.listed.Entry.next.Goals as goal
+use Rattle.redact.proofs.listed.PrintedNote.next.Goals as goal
 
 pub invariant_of-result : goal.invariant_of-result
 invariant_of-result c =
