@@ -1,21 +1,24 @@
 -- The laws of excerpts and searches.
-use Rattle.std.proofs.Common.{◌≡◌, ◌==◌, ℕ, suc, Bool, true, false, not, ◌&&◌, List, [], ◌∷◌, map, cond, if◌then◌else◌, refl, sym, ◌∙◌, ap, arith, Option, filter, count_by, inl, inr, subst, Some, Contains, flat_map}
-use Rattle.std.specs.List.{list_any}
-use Rattle.std.proofs.lemmas.Bool.{cond_both}
-use Rattle.iodef_tree.specs.Text.{Bytes, Tokens}
-use Rattle.iodef_tree.specs.Paths.{LocatedLine, is_class, is_class_kind, located}
+use Rattle.std.proofs.Common.{◌≡◌, ◌==◌, ℕ, suc, Bool, true, false, not, ◌&&◌, ◌||◌, List, [], ◌∷◌, length, map, cond, if◌then◌else◌, refl, sym, ◌∙◌, ap, arith, Option, filter, count_by, inl, inr, subst, Some, None, is_some, Contains, IsSomeAnd, flat_map}
+use Rattle.std.specs.List.{list_any, zip}
+use Rattle.std.proofs.lemmas.Bool.{cond_both, false≢true}
+use Rattle.std.proofs.lemmas.List.{length-map}
+use Rattle.std.proofs.lemmas.List.Folds.{list_any_at}
+use Rattle.iodef_tree.specs.Text.{Bytes, Tokens, same_path, is_root}
+use Rattle.iodef_tree.specs.Paths.{LocatedLine, is_class, is_class_kind, placed, located_after, located, class_paths, classes_of}
+use Rattle.iodef_tree.proofs.Order.{same_path-refl}
 use Rattle.iodef_tree.specs.declared.line.Line.{Line}
 use Rattle.policy.specs.declared.standing.Standing.{Standing}
 use Rattle.policy.specs.declared.case.Case.{Case}
 use Rattle.redact.proofs.Counts.{count_by-cons}
 use Rattle.redact.specs.Kept.{Attribute, Verdicts, comes_after, put, put_all, attribute_line, attribute_lines, is_kept, says_label, added, labelled, kept, is_frame}
-use Rattle.redact.specs.Told.{is_seen_class, is_named, holds_needle, visible_count, is_listed, finds, verdicts_of}
+use Rattle.redact.specs.Told.{is_seen_class, is_named, holds_needle, visible_count, is_listed, finds, verdicts_of, excerpt_place, withheld_of}
 use Rattle.std.proofs.lemmas.List.Concat.{flat_map-cons}
 use Rattle.std.proofs.lemmas.List.Elements.{Contains-append_left, Contains-append_right, Contains-append_cases, Contains-push_cases}
 use Rattle.policy.specs.declared.rule.Rule.{Rule}
 use Rattle.policy.specs.declared.verdict.Verdict.TheVariants.{Shown, Hidden}
 use Rattle.policy.specs.Verdict.{is_visible}
-use Rattle.redact.specs.Withheld.{withheld_at, class_places, place_by}
+use Rattle.redact.specs.Withheld.{withheld_at, beside, class_places, place_by}
 use Rattle.redact.specs.Laws.{is_shown, VerdictIsServed}
 
 -- ---- listed, served, found
@@ -64,6 +67,67 @@ module _ (v : Verdicts) where
 pub classes-stay : (v : Verdicts) (es : List LocatedLine) → class_lines (kept v es) ≡ map (λ e. e.line) (filter is_class (filter (is_kept v) es))
 classes-stay v es = labelled-classes v (filter (is_kept v) es)
 
+-- ---- each kept class has its place
+
+lines-beside : {X Y : Type 0} (b : Bool) (x : X) (y : Y) (xs : List X) (ys : List Y) → length xs ≡ length ys → length (if b then x ∷ xs else xs) ≡ length (if b then y ∷ ys else ys)
+lines-beside true x y xs ys e = ap suc e
+lines-beside false x y xs ys e = e
+
+count-located : (before : List LocatedLine) (ls : List Line) → length (filter is_class (located_after before ls)) ≡ length (class_lines ls)
+count-located before [] = refl
+count-located before (l ∷ ls) = let e = placed before l in lines-beside (is_class_kind l.kind) e l _ _ (count-located (e ∷ before) ls)
+
+-- what stands beside a path that is among as many
+beside-some : (ps qs : List Tokens) (p : Tokens) → length ps ≡ length qs → list_any (λ q. same_path q p) ps ≡ true → is_some (beside (zip ps qs) p) ≡ true
+beside-some [] qs p e h = absurd (false≢true h)
+beside-some (x ∷ ps) [] p e h = absurd (omega (arith, e))
+beside-some (x ∷ ps) (y ∷ qs) p e h = split (same_path x p) (beside-some ps qs p (omega (arith, e))) h
+  where
+    split : (b : Bool) → (list_any (λ q. same_path q p) ps ≡ true → is_some (beside (zip ps qs) p) ≡ true) → (b || list_any (λ q. same_path q p) ps) ≡ true →
+        is_some (if b then Some y else beside (zip ps qs) p) ≡ true
+    split true later h = refl
+    split false later h = later h
+
+module _ (v : Verdicts) (p : Tokens) where
+  abbrev is_at : Tokens → Bool
+  is_at q = same_path q p
+
+  abbrev is_kept_at : LocatedLine → Bool
+  is_kept_at e = is_kept v e && (is_class e && is_at e.path)
+
+  kept-among : (es : List LocatedLine) → list_any is_kept_at es ≡ true → list_any is_at (class_paths (filter (is_kept v) es)) ≡ true
+  kept-among [] h = absurd (false≢true h)
+  kept-among (e ∷ es) h = by_kept (is_kept v e) (kept-among es) h
+    where
+      by_class : (class : Bool) → (list_any is_kept_at es ≡ true → list_any is_at (class_paths (filter (is_kept v) es)) ≡ true) → ((class && is_at e.path) || list_any is_kept_at es) ≡ true →
+          list_any is_at (map (λ (x : LocatedLine). x.path) (if class then e ∷ filter is_class (filter (is_kept v) es) else filter is_class (filter (is_kept v) es))) ≡ true
+      by_class true later h = grind (arith, later, h)
+      by_class false later h = later h
+
+      by_kept : (kept : Bool) → (list_any is_kept_at es ≡ true → list_any is_at (class_paths (filter (is_kept v) es)) ≡ true) →
+          ((kept && (is_class e && is_at e.path)) || list_any is_kept_at es) ≡ true → list_any is_at (class_paths (if kept then e ∷ filter (is_kept v) es else filter (is_kept v) es)) ≡ true
+      by_kept true later h = by_class (is_class e) later h
+      by_kept false later h = later h
+
+place-some : (root : Bool) (ps : List (Tokens × Tokens)) (p : Tokens) → is_some (beside ps p) ≡ true → is_some (if root then Some [] else beside ps p) ≡ true
+place-some true ps p h = refl
+place-some false ps p h = h
+
+kept-placed : (v : Verdicts) (es : List LocatedLine) (e : LocatedLine) → Contains es e → is_class e ≡ true → is_kept v e ≡ true → is_some (place_by (class_places v es) e.path) ≡ true
+kept-placed v es e here class keeps =
+    let F : List LocatedLine = filter is_class (filter (is_kept v) es) in
+    let L : List LocatedLine = filter is_class (located (kept v es)) in
+    let size : length (class_paths (filter (is_kept v) es)) ≡ length (classes_of (kept v es)) =
+    length-map F (λ (x : LocatedLine). x.path)
+    ∙ sym (length-map F (λ (x : LocatedLine). x.line))
+    ∙ ap length (sym (classes-stay v es))
+    ∙ sym (count-located [] (kept v es))
+    ∙ sym (length-map L (λ (x : LocatedLine). x.path)) in
+    let own : is_kept_at v e.path e ≡ true = rw (keeps, class, same_path-refl e.path) refl in
+    let found : list_any (is_kept_at v e.path) es ≡ true = list_any_at (is_kept_at v e.path) es here.0 e here.1 (ap (is_kept_at v e.path) here.2 ∙ own) in
+    place-some (is_root e.path) (class_places v es) e.path
+    (beside-some (class_paths (filter (is_kept v) es)) (classes_of (kept v es)) e.path size (kept-among v e.path es found))
+
 -- ---- a verdict tells what is served
 
 by_sight : (b : Bool) (x y : Rule) → is_shown (cond b (Shown x) (Hidden y)) ≡ b
@@ -87,12 +151,23 @@ among f (z ∷ zs) x y in_xs in_fx = rw (flat_map-cons f z zs) (elim (Contains-a
 told_frame : (v : Verdicts) (place : Tokens → Option Tokens) (e : LocatedLine) (q : Tokens) → is_class e ≡ true → is_frame v e.path ≡ true → place e.path ≡ Some q → Contains (withheld_at v place e) (q, v.rule e.path)
 told_frame v place e q class frame there = rw (class, frame, there) (0, omega arith, refl)
 
+kept_by : (class visible frame plain : Bool) → class ≡ true → frame ≡ true → (if class then visible || frame else plain) ≡ true
+kept_by class visible frame plain h k = grind arith
+
 pub verdicts-served : (ls : List Line) (c : Case) (s : Standing) (e : LocatedLine) → Contains (located ls) e → is_class e ≡ true → VerdictIsServed ls c s e
 verdicts-served ls c s e here class =
     let v = verdicts_of (located ls) c s in
-    let place = place_by (class_places v (located ls)) in
     record {
       shown = by_sight (is_visible (located ls) c s e.path) _ _;
       hidden = λ r is. by_rule (is_visible (located ls) c s e.path) _ _ r is;
-      frame = λ q frame there. among (withheld_at v place) (located ls) e _ here (told_frame v place e q class frame there);
+      frame = λ frame. told (excerpt_place ls c s e.path) refl frame
+          (kept-placed v (located ls) e here class (kept_by (is_class e) (v.visible e.path) (is_frame v e.path) _ class frame));
     }
+  where
+    told : (o : Option Tokens) → excerpt_place ls c s e.path ≡ o → is_frame (verdicts_of (located ls) c s) e.path ≡ true → is_some o ≡ true →
+        IsSomeAnd o (λ q. Contains (withheld_of ls c s) (q, (verdicts_of (located ls) c s).rule e.path))
+    told None is frame some = absurd (false≢true some)
+    told (Some q) is frame some =
+        let v = verdicts_of (located ls) c s in
+        let place = place_by (class_places v (located ls)) in
+        among (withheld_at v place) (located ls) e _ here (told_frame v place e q class frame is)

@@ -1,6 +1,6 @@
 -- What excerpts and searches promise, whatever the document, the case and the reader are.
-use Rattle.std.specs.Prelude.{◌≡◌, ◌==◌, Bool, true, false, not, List, map, filter, Option, Some, Contains}
-use Rattle.iodef_tree.specs.Text.{Bytes, Tokens}
+use Rattle.std.specs.Prelude.{◌≡◌, ◌==◌, Bool, true, false, not, List, map, filter, Option, Contains, IsSomeAnd}
+use Rattle.iodef_tree.specs.Text.{Bytes}
 use Rattle.iodef_tree.specs.Paths.{LocatedLine, is_class, is_class_kind, located}
 use Rattle.iodef_tree.specs.declared.line.Line.{Line}
 use Rattle.policy.specs.declared.standing.Standing.{Standing}
@@ -32,13 +32,12 @@ is_shown (Shown r) = true
 is_shown (Hidden r) = false
 
 -- A verdict tells what is served. It is Shown exactly where the class is visible; where it is Hidden, by the rule that hides
--- the class; and the rule that hides a frame is told at the frame's place in the excerpt.
+-- the class; and a frame has a place in the excerpt, at which the rule that hides it is told.
 pub record VerdictIsServed (ls : List Line) (c : Case) (s : Standing) (e : LocatedLine) : Type 0 where
   pub shown : is_shown (verdict_of (located ls) c s e.path) ≡ is_visible (located ls) c s e.path
   pub hidden : (r : Rule) → verdict_of (located ls) c s e.path ≡ Hidden r → r ≡ (verdicts_of (located ls) c s).rule e.path
-  pub frame : (q : Tokens) → is_frame (verdicts_of (located ls) c s) e.path ≡ true →
-      excerpt_place ls c s e.path ≡ Some q →
-      Contains (withheld_of ls c s) (q, (verdicts_of (located ls) c s).rule e.path)
+  pub frame : is_frame (verdicts_of (located ls) c s) e.path ≡ true →
+      IsSomeAnd (excerpt_place ls c s e.path) (λ q. Contains (withheld_of ls c s) (q, (verdicts_of (located ls) c s).rule e.path))
 
 abbrev pub VerdictsAreServed : Type 0
 VerdictsAreServed = (ls : List Line) (c : Case) (s : Standing) (e : LocatedLine) → Contains (located ls) e → is_class e ≡ true → VerdictIsServed ls c s e
