@@ -11,7 +11,7 @@ use Rattle.iodef_tree.specs.Laws.{AreApart, HasApart}
 use Rattle.iodef_tree.proofs.Order.{bytes_eq-refl, bytes_eq-true, is_false}
 use Rattle.iodef_tree.proofs.Siblings.{siblings-map}
 use Rattle.marking.specs.Label.{Marking, restriction_of, public, spelled}
-use Rattle.marking.specs.Marks.{Held, absent, other, held_by_kind, spelled_by, is_rule_kept, plain, held_by_line}
+use Rattle.marking.specs.Marks.{Held, absent, other, held_by_kind, spelled_by, is_rule_kept, one_text, held_by_line}
 use Rattle.marking.specs.Members.{held_in, is_rule_kept_in, held_by_leaf, spelled_in}
 use Rattle.marking.specs.Pass.{bad_below}
 use Rattle.marking.proofs.Written.{AreUnderParents, written-block}
@@ -90,11 +90,11 @@ swap a b x y z h = grind arith
 
 -- an attribute that is put in is held under its name
 held-put : (name : Bytes) (a : Attribute) (f : Forest) → (bytes_eq a.0 name ≡ true → Lacks name f) →
-    held_in name (put_leaf (attribute_leaf a) f) ≡ (if bytes_eq a.0 name then plain a.1 else held_in name f)
-held-put name a = put-keeps (λ f g. (bytes_eq a.0 name ≡ true → Lacks name f) → held_in name g ≡ (if bytes_eq a.0 name then plain a.1 else held_in name f)) (attribute_leaf a)
+    held_in name (put_leaf (attribute_leaf a) f) ≡ (if bytes_eq a.0 name then one_text a.1 else held_in name f)
+held-put name a = put-keeps (λ f g. (bytes_eq a.0 name ≡ true → Lacks name f) → held_in name g ≡ (if bytes_eq a.0 name then one_text a.1 else held_in name f)) (attribute_leaf a)
     (λ f lacks. refl)
-    (λ i f g h lacks. ap (λ x. if bytes_eq i.name name then held_by_leaf i else x) (h (λ e. (lacks e).1)) ∙ swap (bytes_eq i.name name) (bytes_eq a.0 name) (plain a.1) (held_by_leaf i) (held_in name f) (λ e. (lacks e).0))
-    (λ n place kids f g h lacks. ap (λ x. if bytes_eq n name then other else x) (h (λ e. (lacks e).1)) ∙ swap (bytes_eq n name) (bytes_eq a.0 name) (plain a.1) other (held_in name f) (λ e. (lacks e).0))
+    (λ i f g h lacks. ap (λ x. if bytes_eq i.name name then held_by_leaf i else x) (h (λ e. (lacks e).1)) ∙ swap (bytes_eq i.name name) (bytes_eq a.0 name) (one_text a.1) (held_by_leaf i) (held_in name f) (λ e. (lacks e).0))
+    (λ n place kids f g h lacks. ap (λ x. if bytes_eq n name then other else x) (h (λ e. (lacks e).1)) ∙ swap (bytes_eq n name) (bytes_eq a.0 name) (one_text a.1) other (held_in name f) (λ e. (lacks e).0))
 
 spelled-attributes : (restriction : Bytes) (ext : Option Bytes) (f : Forest) → Lacks (codes "restriction") f → Lacks (codes "ext-restriction") f →
     spelled_in (put_attributes (attributes_by restriction ext) f) ≡ spelled restriction ext
@@ -116,7 +116,7 @@ spelled-again _ = refl
 
 abbrev is_other : Held → Bool
 is_other absent = false
-is_other (plain t) = false
+is_other (one_text t) = false
 is_other other = true
 
 -- where the marking rule is kept, what is held under the two names is a text or nothing
