@@ -7,6 +7,7 @@ use Rattle.std.specs.Cmp.{IsTotalOrder}
 use Rattle.std.specs.Ordering.{ordering_reverse, is_eq}
 use Rattle.std.specs.declared.cmp.Ordering.{Ordering}
 use Rattle.std.specs.declared.cmp.Ordering.TheVariants.{Less, Equal, Greater}
+use Rattle.redact.specs.Alike.{HasSame}
 use Rattle.redact.specs.Ties.{withheld-ties}
 use Rattle.redact.specs.Withheld.{Withheld, withheld_cmp, Lists}
 use Rattle.redact.proofs.Listing.{withheld-total, withheld-same}
@@ -137,3 +138,16 @@ listed_in_order pairs listed h =
     same_sorted withheld_cmp withheld-total listed (in_order pairs) h.ascending (in_order_sorted pairs)
     (λ z k. ordered_to pairs z (in_contained pairs z (h.sound z (contains_in listed z k))))
     (λ z k. in_contained listed z (h.complete z (contains_in pairs z (ordered_from pairs z k))))
+
+-- the same pairs are in one order
+pub same_in_order : (xs ys : List Withheld) → HasSame xs ys → in_order xs ≡ in_order ys
+same_in_order xs ys h = same_sorted withheld_cmp withheld-total (in_order xs) (in_order ys) (in_order_sorted xs) (in_order_sorted ys)
+    (λ z k. ordered_to ys z (in_contained ys z (h.first z (contains_in xs z (ordered_from xs z k)))))
+    (λ z k. ordered_to xs z (in_contained xs z (h.second z (contains_in ys z (ordered_from ys z k)))))
+
+-- lists that are one in order have the same pairs
+pub from_in_order : (xs ys : List Withheld) → in_order xs ≡ in_order ys → HasSame xs ys
+from_in_order xs ys h = record {
+  first = λ z k. contains_in ys z (ordered_from ys z (subst (λ zs. In zs z) h (ordered_to xs z (in_contained xs z k))));
+  second = λ z k. contains_in xs z (ordered_from xs z (subst (λ zs. In zs z) (sym h) (ordered_to ys z (in_contained ys z k))));
+}

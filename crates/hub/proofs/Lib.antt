@@ -8,3 +8,9 @@ pub mod Explained
 pub mod Changing
 pub mod Served
 pub mod Runs
+pub mod ToldSame
+pub mod OtherUnseen
+pub mod OtherDocument
+pub mod OtherLines
+pub mod OtherRows
+pub mod AnsweredAlike

@@ -8,3 +8,4 @@ pub mod Viewing
 pub mod Explaining
 pub mod Serving
 pub mod Laws
+pub mod Alike

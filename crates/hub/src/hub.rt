@@ -1,14 +1,18 @@
 //! The hub over a shelf: one request, and a list of them.
-ghost use Rattle.std.specs.Prelude.{◌≡◌, ◌⊎◌, ◌≤◌, ℕ, IsTrue, IfOk, OnErr};
+ghost use Rattle.std.specs.Prelude.{◌≡◌, ◌⊎◌, ◌≤◌, ℕ, true, IsTrue, IfOk, OnErr};
 ghost use Rattle.std.specs.List.{Contains};
 ghost use Rattle.circle.specs.Outcomes.{bare};
+ghost use Rattle.circle.specs.declared.directory.Account.{Account};
 ghost use Rattle.circle.specs.declared.refusal.Code.TheVariants.{F1};
 ghost use Rattle.hub_core.specs.State.{State};
 ghost use Rattle.hub_core.specs.Sound.{IsSound};
 ghost use Rattle.hub_core.specs.declared.reply.Reply.TheVariants.{Refused};
 ghost use Rattle.hub_core.specs.Shelves.{HasFailed};
-ghost use Rattle.hub.specs.Machine.{IsRun, IsStep, state_left};
+ghost use Rattle.hub.specs.Alike.{IsAlike, is_told};
+ghost use Rattle.hub.specs.Machine.{IsGivenUp, IsRun, IsStep, state_left};
+ghost use Rattle.hub.specs.Replies.{reply_of};
 ghost use Rattle.hub.specs.Serving.{is_made};
+ghost use Rattle.hub.specs.declared.key.Key.TheVariants.{Digest};
 
 use crate::fault::given_up;
 use crate::key::Key;
@@ -49,8 +53,11 @@ impl<Sh: Shelf> Hub<Sh> {
     /// The reply is made before anything is changed, so `F2` means that nothing changed; so does `F1`, which is answered
     /// only where the shelf failed. A change that is answered as made stays made if everything stops now; else a stop
     /// leaves what it could have left before, or what the request leaves.
+    ///
+    /// In every world that is alike for who asks, the same reply is due: it tells nothing of what differs there.
     pub fn answer(&mut self, alloc: Global, now: i64, key: &Key, request: &Request) -> Reply
         ensures step { Sh.doubts self.new ≡ 0 → (s : State) → Sh.has self.old s → IsSound s → (left : State) × IsStep s (now, key.now, request.now) result left × Sh.has self.new left }
+        ensures alike { Sh.doubts self.new ≡ 0 → (s t : State) (a : Account) → Sh.has self.old s → IsAlike now a s t → key.now ≡ Digest a.key → is_told request.now ≡ true → (result ≡ reply_of t now key.now request.now) ⊎ IsGivenUp result }
         ensures cause { Sh.doubts self.new ≡ 0 → (s : State) → Sh.has self.old s → IsSound s → result ≡ Refused (bare F1) → HasFailed (Sh.failed self.old) (Sh.failed self.new) }
         ensures durable { Sh.doubts self.new ≡ 0 → (s : State) → Sh.has self.old s → IsSound s → IsTrue (is_made result) → (left : State) → Sh.may_leave self.new left → left ≡ state_left s key.now request.now }
         ensures crash { Sh.doubts self.new ≡ 0 → (s : State) → Sh.has self.old s → IsSound s → (left : State) → Sh.may_leave self.new left → Sh.may_leave self.old left ⊎ (left ≡ state_left s key.now request.now) }

@@ -7,3 +7,4 @@ pub mod NoFloats
 pub mod Readings
 pub mod AnswersStand
 pub mod Replied
+pub mod WrittenAlike

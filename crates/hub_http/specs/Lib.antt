@@ -11,3 +11,4 @@ pub mod Laws
 pub mod Bodies
 pub mod Replies
 pub mod Serving
+pub mod Alike

@@ -11,10 +11,12 @@
 //! - `routes`: which route a method and a path have; `requests`: the request of a route, from its `parameters`, whose
 //!   texts `spelling` reads; `request_fault`: what may be wrong with these;
 //! - `bodies`: the body of a reply as a JSON value; `reply`: [`reply_bytes`], [`body_text`] and [`fault_bytes`];
+//! - `both`: [`told_by_both`], one request asked of two hubs;
 //! - [`laws`]: bytes ask one thing or have one fault, whatever follows them.
 #![tactic(auto)]
 
 mod bodies;
+mod both;
 mod fields;
 pub mod laws;
 mod parameters;
@@ -27,6 +29,7 @@ mod spelling;
 mod wire;
 mod wire_fault;
 
+pub use both::told_by_both;
 pub use reply::{body_text, fault_bytes, reply_bytes};
 pub use serve::{ServeFault, Served, serve_one};
 pub use wire::request_of;

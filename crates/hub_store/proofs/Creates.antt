@@ -18,12 +18,12 @@ use Rattle.hub_store.specs.Makes.{HasEmpty}
 use Rattle.hub_store.proofs.Statements.{same_ok, went}
 
 -- a table is there besides, with no row
-record Made (schema : Schema) (table : Table) (old new : Database) : Type 0 where
+pub record Made (schema : Schema) (table : Table) (old new : Database) : Type 0 where
   pub schema_is : new.schema ≡ created schema table
   pub empty : new.trees (next_tree schema) ≡ []
   pub others : KeepsRows schema.tables old.trees new.trees
 
-made_by : (old new : State) (sql : List ℕ) (schema : Schema) (table : Table) → old.now.schema ≡ schema → command_of (understood schema sql) ≡ CreateTable → statement_of sql (understood schema sql) ≡ sql
+pub made_by : (old new : State) (sql : List ℕ) (schema : Schema) (table : Table) → old.now.schema ≡ schema → command_of (understood schema sql) ≡ CreateTable → statement_of sql (understood schema sql) ≡ sql
     → table_defined_by sql ≡ Ok table → IsPlain (understood schema sql) → lacks_sequence (created schema table) ≡ false → (count : ℕ) → Executes sql [] old new (Ok count) → Made schema table old.now new.now
 made_by old new sql schema table has is text defined plain unsequenced count h =
     let w = subst (λ t. Writes old new None CreateTable t [] count) text (runs_as sql [] old new schema has CreateTable is plain count h) in

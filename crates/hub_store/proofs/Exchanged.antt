@@ -12,13 +12,13 @@ use Rattle.sqlite_trees.proofs.TreeLemmas.{IsShaped-put_row, IsShaped-filter}
 use Rattle.sqlite_trees.proofs.ListLemmas.{map-map, IsPermutation-filter}
 use Rattle.sqlite_sql.specs.Term.{Term, col}
 use Rattle.sqlite_sql.specs.Query.{IsAnswer}
+use Rattle.sqlite_schema.specs.declared.schema.Schema.{Schema}
 use Rattle.sqlite_schema.specs.declared.schema.Table.{Table}
 use Rattle.sqlite_schema.specs.declared.schema.Keys.TheVariants.{Enforced}
 use Rattle.sqlite_rules.specs.declared.error.Rowids.TheVariants.{Given}
 use Rattle.sqlite_rules.specs.Calls.{ids_of}
 use Rattle.sqlite_rules.specs.Cast.{cast_row}
 use Rattle.sqlite_rules.specs.Edit.{numbered, without_all, Applies, put_all, are_fresh, have_rowids}
-use Rattle.hub_store.specs.Tables.{hub_schema}
 use Rattle.hub_store.specs.Holdings.{IsHeld, by_number}
 use Rattle.hub_store.proofs.Forms.{one_table}
 use Rattle.hub_store.proofs.Lists.{came_in}
@@ -49,12 +49,12 @@ numbered_given rows [] = refl
 numbered_given rows (x ∷ xs) = ap (λ l. x ∷ l) (numbered_given (put_row x rows) xs)
 
 -- the rows that the query found are exchanged for what it shows of them
-pub exchanges : {X : Type 0} (row : X → Row) (k : X → Bool) (f : X → X) (xs : List X) (db next : Trees) (table : Table) (terms project : List Term) (params : Row) (rows : List Row) →
+pub exchanges : {X : Type 0} {schema : Schema} (row : X → Row) (k : X → Bool) (f : X → X) (xs : List X) (db next : Trees) (table : Table) (terms project : List Term) (params : Row) (rows : List Row) →
     IsAnswer (one_table table.tree terms (col 1 0 ∷ project)) db params rows →
-    Applies hub_schema Enforced db (record { table = table; gone = ids_of rows; news = numbered Given (without_all (db table.tree) (ids_of rows)) (map (λ s. cast_row table (drop 1 s)) rows) }) next →
+    Applies schema Enforced db (record { table = table; gone = ids_of rows; news = numbered Given (without_all (db table.tree) (ids_of rows)) (map (λ s. cast_row table (drop 1 s)) rows) }) next →
     ((x : X) → keeps terms params (row x) ≡ k x) → ((x : X) → cast_row table (shows project params (row x)) ≡ row (f x)) →
     IsHeld db (by_number table.tree row xs) → IsHeld next (by_number table.tree row (map (λ x. if k x then f x else x) xs))
-exchanges {X} row k f xs db next table terms project params rows answer a same made held =
+exchanges {X} {schema} row k f xs db next table terms project params rows answer a same made held =
     let keep = keeps terms params in
     let cast_up : Row → Row = λ s. cast_row table (drop 1 s) in
     let all : IsPermutation (map row xs) (db table.tree) = subst (IsPermutation _) (map-id (db table.tree)) held.same in

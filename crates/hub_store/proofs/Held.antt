@@ -11,6 +11,7 @@ use Rattle.sqlite_trees.specs.Tree.{Trees}
 use Rattle.sqlite_trees.specs.View.{IsShaped}
 use Rattle.sqlite_trees.proofs.TreeLemmas.{IsShaped-put_row, IsShaped-filter}
 use Rattle.sqlite_trees.proofs.ListLemmas.{map-map, filter-map, filter_same, IsPermutation-filter}
+use Rattle.sqlite_schema.specs.declared.schema.Schema.{Schema}
 use Rattle.sqlite_schema.specs.declared.schema.Table.{Table}
 use Rattle.sqlite_schema.specs.declared.schema.Keys.TheVariants.{Enforced}
 use Rattle.sqlite_sql.specs.Term.{Term, col}
@@ -80,7 +81,7 @@ one_changes db next edit a at before after it new is now others held change = su
 pub permuted : (db : Trees) (tree : ℕ) (seen : Row → Row) (all more : List Row) → IsPermutation all more → IsHeld db (record { tree = tree; seen = seen; rows = all }) → IsHeld db (record { tree = tree; seen = seen; rows = more })
 permuted db tree seen all more same held = record { shaped = held.shaped; same = IsPermutation-trans _ _ _ (IsPermutation-sym _ _ same) held.same }
 
-pub comes_in : (db next : Trees) (table : Table) (seen : Row → Row) (all : List Row) (new : Row) → Applies hub_schema Enforced db (record { table = table; gone = []; news = new ∷ [] }) next →
+pub comes_in : {schema : Schema} (db next : Trees) (table : Table) (seen : Row → Row) (all : List Row) (new : Row) → Applies schema Enforced db (record { table = table; gone = []; news = new ∷ [] }) next →
     IsHeld db (record { tree = table.tree; seen = seen; rows = all }) → IsHeld next (record { tree = table.tree; seen = seen; rows = seen new ∷ all })
 comes_in db next table seen all new a held =
     let fresh : is_taken (db table.tree) new ≡ false = not-true _ (and_parts _ _ a.fresh).0 in
@@ -97,8 +98,8 @@ gone_by db tree terms more params rows shaped a =
     let ids : IsPermutation (map id_of (filter (keeps terms params) (db tree))) (ids_of rows) = subst (λ l. IsPermutation l (ids_of rows)) (map-map id_of (shows (col 1 0 ∷ more) params) _) (IsPermutation-map id_of _ _ found) in
     went_out (keeps terms params) (db tree) (ids_of rows) shaped ids
 
-pub goes_out : (db next : Trees) (table : Table) (seen : Row → Row) (all : List Row) (terms : List Term) (params : Row) (rows : List Row) (p : Row → Bool) → IsAnswer (one_table table.tree terms (col 1 0 ∷ [])) db params rows →
-    Applies hub_schema Enforced db (record { table = table; gone = ids_of rows; news = [] }) next → ((r : Row) → keeps terms params r ≡ p (seen r)) →
+pub goes_out : {schema : Schema} (db next : Trees) (table : Table) (seen : Row → Row) (all : List Row) (terms : List Term) (params : Row) (rows : List Row) (p : Row → Bool) → IsAnswer (one_table table.tree terms (col 1 0 ∷ [])) db params rows →
+    Applies schema Enforced db (record { table = table; gone = ids_of rows; news = [] }) next → ((r : Row) → keeps terms params r ≡ p (seen r)) →
     IsHeld db (record { tree = table.tree; seen = seen; rows = all }) → IsHeld next (record { tree = table.tree; seen = seen; rows = filter (λ r. not (p r)) all })
 goes_out db next table seen all terms params rows p answer a same held =
     let left : next table.tree ≡ filter (λ r. not (p (seen r))) (db table.tree) =

@@ -42,3 +42,6 @@ pub mod DirectorySets
 pub mod GroupSets
 pub mod Halving
 pub mod Stepping
+pub mod Drops
+pub mod Parts
+pub mod PartRows

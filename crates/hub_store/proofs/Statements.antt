@@ -88,7 +88,7 @@ went (inl stopped) = absurd (let e = stopped.2 in cc)
 went (inr on) = on
 
 -- which of the two, where the test is false
-other_one : (b : Bool) (A B : Type 0) → b ≡ false → MatchBool b A B → B
+pub other_one : (b : Bool) (A B : Type 0) → b ≡ false → MatchBool b A B → B
 other_one b A B e h = subst (λ b. MatchBool b A B) e h
 
 stays_off : (b c : Bool) → b ≡ false → cond b c false ≡ false

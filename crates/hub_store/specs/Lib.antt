@@ -1,3 +1,4 @@
+pub mod Shapes
 pub mod Tables
 pub mod Values
 pub mod Holdings
@@ -8,6 +9,8 @@ pub mod ShownPairs
 pub mod Fit
 pub mod Partly
 pub mod Means
+pub mod Parts
+pub mod Layout
 pub mod Content
 pub mod Keeps
 pub mod Queries

@@ -24,6 +24,7 @@ pub mod Distinct
 pub mod Nearest
 pub mod Normal
 pub mod ReadBack
+pub mod ReadSound
 pub mod OneToOne
 pub mod ByPath
 pub mod Onward

@@ -12,7 +12,7 @@ use Rattle.serde_json.specs.View.{items_of as listed}
 use Rattle.serde_json.specs.Written.{has_float, items_have_float, members_have_float, compact_text}
 use Rattle.serde_json.proofs.Nesting.{depth-read}
 use Rattle.serde_json.proofs.Views.{get_member-put}
-use Rattle.iodef_tree.specs.FitValues.{IsBodyOrdered, AreBodiesOrdered, AreFit}
+use Rattle.iodef_tree.specs.FitValues.{IsBodyOrdered, AreBodiesOrdered, IsFit, AreFit}
 use Rattle.iodef_tree.specs.Json.{data_of}
 use Rattle.iodef_tree.specs.Reading.{◌>>=◌, or_fault, unless, parsed, all_objects, are_incidents, if_incidents, incidents_of, lacking, all_complete, all_fit, incident_at, with_incident, document_of, if_short, documents, reading}
 use Rattle.iodef_tree.specs.Sound.{IsOrdered}
@@ -41,11 +41,11 @@ use Rattle.iodef_tree.proofs.Passed.{short-ok, Passed, passed}
 filled-data : (b : Body) (bs : List Body) → has_elements (one_or_many b bs) ≡ true
 filled-data b bs = grind arith
 
-abbrev as_list : json.Members → List (Bytes × Bodies)
+abbrev pub as_list : json.Members → List (Bytes × Bodies)
 as_list json.no_members = []
 as_list (json.member n d ms) = (n, bodies_of_data d) ∷ as_list ms
 
-as-list : (ms : json.Members) → forest_of_members (as_list ms) ≡ forest_of_data ms
+pub as-list : (ms : json.Members) → forest_of_members (as_list ms) ≡ forest_of_data ms
 as-list json.no_members = refl
 as-list (json.member n d ms) = ap (member_front n (bodies_of_data d)) (as-list ms)
 
@@ -94,7 +94,7 @@ up json.no_members h = tt
 up (json.member n d ms) h = (above n ms h.0, up ms h.1)
 
 mutual
-  body-order : (d : Data) → IsNormal d → IsBodyOrdered (body_of_data d)
+  pub body-order : (d : Data) → IsNormal d → IsBodyOrdered (body_of_data d)
   body-order (json.object ms) n = subst IsOrdered (as-list ms) (ordered_members (as_list ms) None tt (up ms n.0) (members-order ms n.1))
   body-order _ n = tt
 
@@ -162,21 +162,21 @@ pub record IsRoot (root : json.Members) : Type 0 where
 -- the Incident has all that it must, and these are the lines of its document
 pub record HasLines (root : json.Members) (x : Data) (d : List Line) : Type 0 where
   pub good : IsGood 125 1 1 x
-  pub whole : members_have_float (with_incident x root) ≡ false
+  pub fit : IsFit root x
   pub object : is_some (as_object x) ≡ true
   pub complete : lacking x ≡ None
   pub short : if_short (lines 1 (document_of x root)) ≡ Ok d
 
 module _ (root : json.Members) (x : Data) (d : List Line) (r : IsRoot root) (h : HasLines root x d) where
-  normal-one : IsNormal (json.object (with_incident x root))
+  pub normal-one : IsNormal (json.object (with_incident x root))
   normal-one = put-normal (codes "Incident") (json.array (json.item x json.no_items)) root r.normal (h.good.normal, tt)
 
-  low-one : members_depth (with_incident x root) ≤ 126
+  pub low-one : members_depth (with_incident x root) ≤ 126
   low-one = let deep = h.good.low in put-each _ _ (depths 126) (codes "Incident") (json.array (json.item x json.no_items)) root (omega (arith, deep)) r.low
 
   -- the lines mean the root with this Incident alone
   pub means : data_of d ≡ with_incident x root
-  means = ap data_of (sym (short-ok (lines 1 (document_of x root)) d h.short)) ∙ data-back (with_incident x root) normal-one h.whole (let low = low-one in omega (arith, low))
+  means = ap data_of (sym (short-ok (lines 1 (document_of x root)) d h.short)) ∙ data-back (with_incident x root) normal-one h.fit.whole (let low = low-one in omega (arith, low))
 
   reads-back : ReadsBack d
   reads-back =
@@ -194,7 +194,7 @@ module _ (root : json.Members) (x : Data) (d : List Line) (r : IsRoot root) (h :
       subst (λ ns. is_utf8 (compact_text (json.object ns)) ≡ true → reading (compact_text (json.object ns)) ≡ Ok (d ∷ [])) (sym means) (λ utf8.
       let text = compact_text (json.object ms) in
       read-steps text ms only (d ∷ [])
-      (ap (or_fault NotJson) (cond-true (is_utf8 text) (read text) None utf8 ∙ read-compact (json.object ms) normal-one h.whole (omega (arith, low))))
+      (ap (or_fault NotJson) (cond-true (is_utf8 text) (read text) None utf8 ∙ read-compact (json.object ms) normal-one h.fit.whole (omega (arith, low))))
       at all fine gives)
 
 -- ---- each of them
@@ -209,7 +209,7 @@ each Q root shown (json.item x ds) k docs g fit objects complete given =
     let lacks = bind-ok (unless (Missing (incident_at k)) (lacking x)) (λ _. all_complete (suc k) ds) tt complete in
     let objs = and_parts (is_some (as_object x)) (all_objects ds) objects in
     subst (AllByRecursion Q) whole (
-      shown x here.0 (record { good = g.0; whole = fit.0.whole; object = objs.0; complete = none_if_ok (Missing (incident_at k)) (lacking x) lacks.1; short = here.1 }),
+      shown x here.0 (record { good = g.0; fit = fit.0; object = objs.0; complete = none_if_ok (Missing (incident_at k)) (lacking x) lacks.1; short = here.1 }),
       each Q root shown ds (suc k) more.0 g.1 fit.1 objs.1 lacks.2 more.1,
     )
 

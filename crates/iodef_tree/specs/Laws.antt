@@ -77,3 +77,11 @@ abbrev pub TextsReadBack : Type 0
 TextsReadBack =
     (bytes : Bytes) (ds : List (List Line)) → reading bytes ≡ Ok ds →
     AllByRecursion (λ d. is_utf8 (compact_text (object (data_of d))) ≡ true → reading (compact_text (object (data_of d))) ≡ Ok (d ∷ [])) ds
+
+-- the lines of a sound tree
+abbrev pub IsDocument : List Line → Type 0
+IsDocument ls = (f : Forest) × IsSound f × (ls ≡ lines 1 f)
+
+-- the lines of each document of a body that is read are those of a sound tree
+abbrev pub ReadingsAreDocuments : Type 0
+ReadingsAreDocuments = (bytes : Bytes) (ds : List (List Line)) → reading bytes ≡ Ok ds → AllByRecursion IsDocument ds

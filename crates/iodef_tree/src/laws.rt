@@ -14,6 +14,7 @@ ghost use Rattle.iodef_tree.specs.Laws.{
   LinesAreAnOutline,
   ParentsAreNearestClasses,
   TextsReadBack,
+  ReadingsAreDocuments,
 };
 
 /// The lines of an outline, each with its path and its parent's path as the flat list gives them, are those that a walk
@@ -60,6 +61,11 @@ pub fn lines_are_an_outline()
 /// The text of each document of a body that is read is read as that one document.
 pub fn texts_read_back()
     ensures { TextsReadBack }
+{}
+
+/// The lines of each document of a body that is read are those of a sound tree.
+pub fn readings_are_documents()
+    ensures { ReadingsAreDocuments }
 {}
 
 /// The limits of what is read: 32 classes one below the other, 4,096 lines of a document, 16 Incidents of a body.

@@ -16,3 +16,9 @@ pub mod Promised
 pub mod Fates
 pub mod Spelling
 pub mod Survival
+pub mod SameLines
+pub mod AgreedVerdicts
+pub mod DecidedAlike
+pub mod LabelsStay
+pub mod ToldAlike
+pub mod Taking

@@ -11,3 +11,5 @@ pub mod Excerpts
 pub mod Search
 pub mod Ties
 pub mod Laws
+pub mod Alike
+pub mod Fed

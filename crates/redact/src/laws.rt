@@ -1,6 +1,7 @@
 //! What excerpts and searches promise whatever the document, the case and the reader are. Each law is the contract of a
 //! function that does nothing.
 
+ghost use Rattle.redact.specs.Alike.{AlikeIsToldAlike};
 ghost use Rattle.redact.specs.Laws.{ListedIsServed, FoundIsListed, KeptClassesStay, VerdictsAreServed};
 
 /// An incident is listed exactly where an excerpt of it is served.
@@ -22,4 +23,9 @@ pub fn kept_classes_stay()
 /// which is told at its place in the excerpt where the class is a frame.
 pub fn verdicts_are_served()
     ensures { VerdictsAreServed }
+{}
+
+/// Of two reports that are alike for a reader, who is told nothing of what differs in them, the reader is told alike.
+pub fn alike_is_told_alike()
+    ensures { AlikeIsToldAlike }
 {}

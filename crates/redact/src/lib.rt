@@ -9,20 +9,24 @@
 //! - `pass`: the one pass down, for a `reader`, by its `trail`; `attributes`: a label put in;
 //! - `note`: what is withheld, as it is noted; `listed`: the same in order;
 //! - `search`: [`finds`] and [`is_listed`];
+//! - `intake`: lines that come one at a time; `rows`: [`RowPass`], an excerpt by them;
 //! - [`laws`]: what excerpts and searches promise.
 #![tactic(auto)]
 
 mod attributes;
 mod given;
+mod intake;
 mod kept;
 pub mod laws;
 mod listed;
 mod note;
 mod pass;
 mod reader;
+mod rows;
 mod search;
 mod trail;
 
 pub use given::excerpt;
 pub use kept::Excerpt;
+pub use rows::{RowPass, excerpt_if_marked};
 pub use search::{finds, is_listed};

@@ -4,6 +4,7 @@ use Rattle.std.proofs.lemmas.Int.{to_z-of_z}
 use Rattle.hub.specs.Replies.{reply_of}
 use Rattle.hub_core.specs.Shelves.{HasFailed}
 use Rattle.hub.specs.Machine.{state_left}
+use Rattle.hub.proofs.AnsweredAlike.{answered-alike}
 use Rattle.hub.proofs.Served.{due_tells, given_up, failure_told}
 use Rattle.hub.proofs.hub.Hub.answer.Goals as goal
 use Rattle.hub.proofs.hub.Hub.answer.Goals.{in-Ok, in-Err}
@@ -20,6 +21,20 @@ returns-clause-step g c = λ clean s has sound.
       | in-Err w ↦
           let served = w.in-Err.ensures.step clean s here sound in
           (s, inr (given_up w.in-Err.fault c.match-answered.result (w.result-is ∙ w.given_up.ensures), refl), served.settled)
+    ]
+
+pub returns-clause-alike : goal.returns-clause-alike
+returns-clause-alike g c = λ clean s t a has alike known told.
+    let P : g.row.Sh.Denot → Type 0 = λ shelf. g.Sh.Shelf.has shelf s in
+    let moment = ap (λ (x : ℤ). reply_of s x c.args.key.now c.args.request.now) (to_z-of_z w64 c.args.now c.ranges.now) in
+    let here : g.Sh.Shelf.has c.self.inside.shelf s = subst P (sym c.self.view_is) has in
+    let same = ap (λ k. reply_of s c.args.now k c.args.request.now) known ∙ answered-alike c.args.now a s t c.args.request.now alike told ∙ sym (ap (λ k. reply_of t c.args.now k c.args.request.now) known) in
+    elim c.match-answered.branch [
+      | in-Ok w ↦
+          let served = w.in-Ok.ensures.step clean s here alike.sound in
+          inl (w.result-is ∙ served.settled.0 ∙ moment ∙ same)
+      | in-Err w ↦
+          inr (given_up w.in-Err.fault c.match-answered.result (w.result-is ∙ w.given_up.ensures))
     ]
 
 pub returns-clause-cause : goal.returns-clause-cause

@@ -1,0 +1,242 @@
+-- Other permissions, recipients, persons, arrangements and memberships, none of which concern a person.
+use Rattle.std.proofs.Common.{◌≡◌, ◌⊎◌, ℕ, suc, Bool, true, false, List, [], ◌∷◌, refl, sym, ◌∙◌, ap, subst, ◌&&◌, ◌||◌, ◌==◌, if◌then◌else◌, inl, inr, arith}
+use Rattle.std.specs.Prelude.{ℤ, Option, Some, filter, find, map, Contains, option_map}
+use Rattle.std.specs.List.{AllByRecursion, list_any, filter_map}
+use Rattle.std.proofs.lemmas.Bool.{eqb-true, eq-eqb, false≢true, true≢false, and_parts, and_right, or_parts}
+use Rattle.marking.specs.declared.label.Handling.{Handling}
+use Rattle.policy.specs.declared.standing.Standing.{Standing}
+use Rattle.policy.specs.declared.permission.Grantee.{Grantee}
+use Rattle.policy.specs.declared.permission.Grantee.TheVariants as grantee
+use Rattle.policy.specs.Permissions.{includes, holds_for}
+use Rattle.redact.specs.Told.{is_listed, finds, visible_count, kept_outline, withheld_of}
+use Rattle.circle.specs.Directory.{has_group_being}
+use Rattle.circle.specs.Reads.{group_of, communities_of, memberships_in_groups, share_community, are_connected}
+use Rattle.circle.specs.declared.directory.Person.{Person}
+use Rattle.circle.specs.declared.directory.Account.{Account}
+use Rattle.circle.specs.declared.directory.Client.{Client}
+use Rattle.circle.specs.declared.directory.Arrangement.{Arrangement}
+use Rattle.circle.specs.declared.directory.GroupMember.{GroupMember}
+use Rattle.hub_core.specs.Handlings.{handling_in}
+use Rattle.hub_core.specs.State.{State, incident_of, incident_number, is_recipient_being, same_target}
+use Rattle.hub_core.specs.Reads.{joined, standing_for, case_for, case_permission}
+use Rattle.hub_core.specs.Sound.{IsSound}
+use Rattle.hub_core.specs.declared.request.Target.{Target}
+use Rattle.hub_core.specs.declared.request.Target.TheVariants as target
+use Rattle.hub_core.specs.declared.state.Incident.{Incident}
+use Rattle.hub_core.specs.declared.state.Recipient.{Recipient}
+use Rattle.hub_core.specs.declared.state.Permission.{Permission}
+use Rattle.hub.specs.Told.{standing_at, is_served, is_found, is_addressed, in_order}
+use Rattle.redact.specs.Alike.{IsToldAlike}
+use Rattle.redact.proofs.ToldAlike.{alike-told}
+use Rattle.hub.specs.Alike.{report_of, is_own, includes_person, is_org_or_person, staying_permissions, staying_recipients, staying_accounts, staying_arrangements, staying_members, HasOtherRows}
+use Rattle.hub_core.proofs.Keeping.{find_left}
+use Rattle.hub.proofs.Numbered.{all_found}
+use Rattle.hub.proofs.InOrder.{same_in_order}
+use Rattle.hub.proofs.ToldSame.{TellsSame}
+use Rattle.hub.proofs.OtherUnseen.{known, filter-both, filter-within, any-kept, any-each, In, in_at}
+use Rattle.hub.proofs.OtherDocument.{standing_at-any, ToldOf, page-same, view-same, view_as}
+use Rattle.hub.proofs.OtherLines.{marked-document, filter-map, filter-each}
+
+contains_in : {X : Type 0} (xs : List X) (x : X) → In xs x → Contains xs x
+contains_in [] x h = absurd h
+contains_in (y ∷ ys) x (inl h) = (0, omega arith, h)
+contains_in (y ∷ ys) x (inr h) = let r = contains_in ys x h in (suc r.0, omega (arith, r.1), r.2)
+
+in-filter : {X : Type 0} (f : X → Bool) (xs : List X) (x : X) → f x ≡ true → In xs x → In (filter f xs) x
+in-filter f [] x k h = absurd h
+in-filter f (y ∷ ys) x k (inl h) = subst (λ b. In (if b then y ∷ filter f ys else filter f ys) x) (sym (ap f h ∙ k)) (inl h)
+in-filter f (y ∷ ys) x k (inr h) = by_test (f y) (in-filter f ys x k h)
+  where
+    by_test : (b : Bool) → In (filter f ys) x → In (if b then y ∷ filter f ys else filter f ys) x
+    by_test true r = inr r
+    by_test false r = r
+
+filter-in : {X : Type 0} (f : X → Bool) (xs : List X) (x : X) → In (filter f xs) x → In xs x
+filter-in f [] x h = h
+filter-in f (y ∷ ys) x h = by_test (f y) h (filter-in f ys x)
+  where
+    by_test : (b : Bool) → In (if b then y ∷ filter f ys else filter f ys) x → (In (filter f ys) x → In ys x) → (y ≡ x) ⊎ In ys x
+    by_test true (inl e) ih = inl e
+    by_test true (inr r) ih = inr (ih r)
+    by_test false r ih = inr (ih r)
+
+map-same : {X : Type 0} (xs : List X) → xs ≡ map (λ x. x) xs
+map-same [] = refl
+map-same (x ∷ xs) = ap (λ ys. x ∷ ys) (map-same xs)
+
+or-false : (b c : Bool) → (b || c) ≡ false → b ≡ false
+or-false b c h = (or_parts b c h).0
+
+group_in : GroupMember → ℕ
+group_in m = m.group
+
+module _ (now : ℤ) (a : Account) (s : State) (accounts : List Account) (arrangements : List Arrangement) (members : List GroupMember) (recipients : List Recipient) (permissions : List Permission) where
+  abbrev p : Person
+  p = a.person
+
+  abbrev w : State
+  w = record s { directory = record s.directory { accounts = accounts; arrangements = arrangements; group_members = members }; recipients = recipients; permissions = permissions }
+
+  module _ (same_permissions : staying_permissions now a s ≡ staying_permissions now a w) (same_recipients : staying_recipients now a s ≡ staying_recipients now a w)
+      (same_accounts : staying_accounts now a s.directory ≡ staying_accounts now a w.directory) (same_arrangements : staying_arrangements now a s.directory ≡ staying_arrangements now a w.directory)
+      (same_members : staying_members now a s.directory ≡ staying_members now a w.directory) where
+    -- ---- a standing, by what may differ
+    abbrev made : Incident → Bool → Bool → Bool → Option Handling → List GroupMember → Standing
+    made i person org client arrangement ms = record {
+      source = p.org == i.source;
+      person = person;
+      nominated = p.nominated;
+      addressed = org;
+      client = client;
+      community = share_community p.org i.source s.directory;
+      connected = are_connected p.org i.source s.directory;
+      arrangement = arrangement;
+      who = p.number;
+      org = p.org;
+      groups = map (λ (m : GroupMember). m.group) ms;
+      active_groups = filter (λ n. has_group_being n true s.directory) (map (λ (m : GroupMember). m.group) ms);
+      communities = communities_of p.org s.directory;
+    }
+
+    abbrev has_in : List Recipient → Incident → Target → Bool
+    has_in rs i x = list_any (is_recipient_being i.number x) rs
+
+    abbrev client_in : List Recipient → Incident → Client → Bool
+    client_in rs i c = c.client == p.org && (c.org == i.source || has_in rs i (target.Org c.org))
+
+    abbrev arranged_in : List Arrangement → Incident → Option Handling
+    arranged_in xs i = option_map handling_in (option_map (λ (x : Arrangement). x.handling) (find (λ (x : Arrangement). x.source == i.source && x.org == p.org) xs))
+
+    -- a recipient that is the person or an organisation stays
+    kept-recipient : (i : Incident) (x : Target) → is_org_or_person now a x ≡ true → has_in s.recipients i x ≡ has_in recipients i x
+    kept-recipient i x k =
+        any-kept (is_recipient_being i.number x) (λ (r : Recipient). is_org_or_person now a r.target || is_own now a s r.incident) s.recipients gone
+        ∙ ap (list_any (is_recipient_being i.number x)) same_recipients
+        ∙ sym (any-kept (is_recipient_being i.number x) (λ (r : Recipient). is_org_or_person now a r.target || is_own now a s r.incident) recipients gone)
+      where
+        differ : (y x : Target) → is_org_or_person now a x ≡ true → is_org_or_person now a y ≡ false → same_target y x ≡ false
+        differ (target.Person m) (target.Person n) k g = unequal (m == n) refl
+          where
+            unequal : (b : Bool) → (m == n) ≡ b → ((0 == 0) && b) ≡ false
+            unequal true e = absurd (false≢true (sym g ∙ ap (λ q. q == a.person.number) (eqb-true m n e) ∙ k))
+            unequal false e = refl
+        differ (target.Person m) (target.Org n) k g = refl
+        differ (target.Org m) x k g = absurd (true≢false g)
+
+        gone : (r : Recipient) → (is_org_or_person now a r.target || is_own now a s r.incident) ≡ false → is_recipient_being i.number x r ≡ false
+        gone r g = and_right (r.incident == i.number) (same_target r.target x) (differ r.target x k (or-false (is_org_or_person now a r.target) _ g))
+
+    standing-same : (i : Incident) → standing_for s p i ≡ standing_for w p i
+    standing-same i =
+        let ms = memberships_in_groups p.org s.directory in
+        let person = has_in recipients i (target.Person p.number) in
+        let org = has_in recipients i (target.Org p.org) in
+        let client = list_any (client_in recipients i) s.directory.clients in
+        let arrangement = arranged_in arrangements i in
+        ap (λ b. made i b (has_in s.recipients i (target.Org p.org)) (list_any (client_in s.recipients i) s.directory.clients) (arranged_in s.directory.arrangements i) ms) (kept-recipient i (target.Person p.number) (eq-eqb p.number p.number refl))
+        ∙ ap (λ b. made i person b (list_any (client_in s.recipients i) s.directory.clients) (arranged_in s.directory.arrangements i) ms) (kept-recipient i (target.Org p.org) refl)
+        ∙ ap (λ b. made i person org b (arranged_in s.directory.arrangements i) ms) (any-each (client_in s.recipients i) (client_in recipients i) s.directory.clients
+        (λ c. ap (λ b. c.client == p.org && (c.org == i.source || b)) (kept-recipient i (target.Org c.org) refl)))
+        ∙ ap (λ o. made i person org client (option_map handling_in (option_map (λ (x : Arrangement). x.handling) o)) ms)
+        (sym (find_left (λ (x : Arrangement). x.source == i.source && x.org == p.org) (λ (x : Arrangement). x.org == p.org) s.directory.arrangements (λ x k. (and_parts (x.source == i.source) (x.org == p.org) k).1))
+        ∙ ap (find (λ (x : Arrangement). x.source == i.source && x.org == p.org)) same_arrangements
+        ∙ find_left (λ (x : Arrangement). x.source == i.source && x.org == p.org) (λ (x : Arrangement). x.org == p.org) arrangements (λ x k. (and_parts (x.source == i.source) (x.org == p.org) k).1))
+        ∙ ap (made i person org client arrangement) same_members
+
+    -- ---- permissions
+
+    includes-stands : (i : Incident) (g : Grantee) → includes (standing_for s p i) g ≡ includes_person now a s.directory g
+    includes-stands i (grantee.Person n) = refl
+    includes-stands i (grantee.Org n) = refl
+    includes-stands i (grantee.Community n) = refl
+    includes-stands i (grantee.Group n) = refl
+
+    includes-both : (g : Grantee) → includes_person now a s.directory g ≡ includes_person now a w.directory g
+    includes-both g = sym (includes-stands blank g) ∙ ap (λ st. includes st g) (standing-same blank) ∙ stands g
+      where
+        blank : Incident
+        blank = record { number = 0; source = 0; ident = []; revision = 0; document = [] }
+
+        stands : (g : Grantee) → includes (standing_for w p blank) g ≡ includes_person now a w.directory g
+        stands (grantee.Person n) = refl
+        stands (grantee.Org n) = refl
+        stands (grantee.Community n) = refl
+        stands (grantee.Group n) = refl
+
+    abbrev keeps : Permission → Bool
+    keeps x = includes_person now a s.directory x.grantee || is_own now a s x.incident
+
+    kept-permissions : (i : Incident) → filter (holds_for (standing_at s now p i)) (case_for s i).permissions ≡ filter (holds_for (standing_at s now p i)) (case_for w i).permissions
+    kept-permissions i = one s.permissions ∙ ap (λ xs. map case_permission (filter both xs)) same ∙ sym (one permissions)
+      where
+        abbrev-of : Permission → Bool
+        abbrev-of x = x.incident == i.number
+
+        both : Permission → Bool
+        both x = x.incident == i.number && holds_for (standing_at s now p i) (case_permission x)
+
+        holds-is : (x : Permission) → holds_for (standing_at s now p i) (case_permission x) ≡ includes_person now a s.directory x.grantee
+        holds-is x = ap (λ st. includes st x.grantee) (standing_at-any s now p i) ∙ includes-stands i x.grantee
+
+        no : (x : Permission) → keeps x ≡ false → (x.incident == i.number && holds_for (standing_at s now p i) (case_permission x)) ≡ false
+        no x g = and_right (x.incident == i.number) _ (holds-is x ∙ or-false (includes_person now a s.directory x.grantee) _ g)
+
+        same : filter keeps s.permissions ≡ filter keeps permissions
+        same = same_permissions ∙ sym (filter-each keeps (λ (x : Permission). includes_person now a w.directory x.grantee || is_own now a s x.incident) permissions (λ x. ap (λ b. b || is_own now a s x.incident) (includes-both x.grantee)))
+
+        one : (xs : List Permission) → filter (holds_for (standing_at s now p i)) (map case_permission (filter (λ (x : Permission). x.incident == i.number) xs))
+            ≡ map case_permission (filter (λ (x : Permission). x.incident == i.number && holds_for (standing_at s now p i) (case_permission x)) (filter keeps xs))
+        one xs = filter-map (holds_for (standing_at s now p i)) case_permission (filter (λ (x : Permission). x.incident == i.number) xs)
+            ∙ ap (map case_permission) (filter-both (λ (x : Permission). holds_for (standing_at s now p i) (case_permission x)) (λ (x : Permission). x.incident == i.number) xs
+            ∙ filter-within (λ (x : Permission). x.incident == i.number && holds_for (standing_at s now p i) (case_permission x)) keeps xs no)
+
+    told-of : IsSound s → (i : Incident) → incident_of i.number s ≡ Some i → ToldOf now p s w i i
+    told-of ss i at =
+        let st = standing_at s now p i in
+        let there : standing_at w now p i ≡ st = standing_at-any w now p i ∙ sym (standing-same i) ∙ sym (standing_at-any s now p i) in
+        let doc = marked-document s i ss at in
+        let h : IsToldAlike st (report_of s i i.document) (report_of w i i.document) =
+        alike-told st (report_of s i i.document) (report_of w i i.document) doc doc (inr (inr (record { lines = refl; source = refl; gates = refl; permissions = kept-permissions i }))) in
+        let c = case_for w i in
+        record {
+          number = refl;
+          entry = refl;
+          served = h.listed ∙ sym (ap (is_listed i.document c) there);
+          found = λ needle class. h.found needle class ∙ sym (ap (λ x. finds i.document c x needle class) there);
+          addressed = sym (ap (λ (x : Standing). x.person || x.addressed) there);
+          view = ap (λ (n : ℕ). view_as i n (kept_outline i.document (case_for s i) st) (in_order (withheld_of i.document (case_for s i) st))) h.count
+              ∙ ap (λ ls. view_as i (visible_count i.document c st) ls (in_order (withheld_of i.document (case_for s i) st))) h.outline
+              ∙ ap (view_as i (visible_count i.document c st) (kept_outline i.document c st)) (same_in_order _ _ h.withheld)
+              ∙ sym (ap (λ x. view_as i (visible_count i.document c x) (kept_outline i.document c x) (in_order (withheld_of i.document c x))) there);
+        }
+
+    pub rows-told : IsSound s → IsSound w → Contains s.directory.accounts a → TellsSame now a s w × Contains w.directory.accounts a
+    rows-told ss sw there =
+        let there' : Contains w.directory.accounts a = contains_in accounts a (filter-in (λ (b : Account). b.person.number == p.number) accounts a
+        (subst (λ bs. In bs a) same_accounts (in-filter (λ (b : Account). b.person.number == p.number) s.directory.accounts a (eq-eqb p.number p.number refl) (in_at s.directory.accounts there.0 a there.1 there.2)))) in
+        let all = each s.incidents (all_found incident_number 0 s.incidents ss.incidents.numbered.0) in
+        let same = map-same s.incidents in (
+          record {
+            first = known s a ss there;
+            second = known w a sw there';
+            groups = ap (filter_map (λ (m : GroupMember). option_map (joined m) (group_of m.group s.directory))) same_members;
+            view = view-same now p s w (λ x. x) same all;
+            listed = λ n. page-same now p s w (λ x. x) same all (is_served s now p) (is_served w now p) n (λ x h. h.served);
+            found = λ needle class n. page-same now p s w (λ x. x) same all (λ x. is_found s now p x needle class) (λ x. is_found w now p x needle class) n (λ x h. h.found needle class);
+            addressed = λ n. page-same now p s w (λ x. x) same all (λ x. is_addressed s now p x && is_served s now p x) (λ x. is_addressed w now p x && is_served w now p x) n
+                (λ x h. ap (λ b. b && is_served s now p x) h.addressed ∙ ap (λ b. is_addressed w now p x && b) h.served);
+          },
+          there',
+        )
+      where
+        each : (xs : List Incident) → AllByRecursion (λ (x : Incident). incident_of x.number s ≡ Some x) xs → AllByRecursion (λ x. ToldOf now p s w x x) xs
+        each [] f = tt
+        each (x ∷ xs) f = (told-of ss x f.0, each xs f.1)
+
+pub rows-step : (now : ℤ) (a : Account) (s t : State) → IsSound s → IsSound t → Contains s.directory.accounts a → HasOtherRows now a s t → TellsSame now a s t × Contains t.directory.accounts a
+rows-step now a s t ss st there h =
+    subst (λ x. TellsSame now a s x × Contains x.directory.accounts a) (sym h.after)
+    (rows-told now a s t.directory.accounts t.directory.arrangements t.directory.group_members t.recipients t.permissions
+    (h.permissions ∙ ap (staying_permissions now a) h.after) (h.recipients ∙ ap (staying_recipients now a) h.after)
+    (h.accounts ∙ refl) (h.arrangements ∙ refl) (h.group_members ∙ refl)
+    ss (subst IsSound h.after st) there)

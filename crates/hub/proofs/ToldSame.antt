@@ -1,0 +1,70 @@
+-- What a person is told of two worlds is the same, and so are the replies.
+use Rattle.std.proofs.Common.{◌≡◌, ℕ, Bool, true, false, List, [], ◌∷◌, refl, sym, ◌∙◌, ap, ◌&&◌, if◌then◌else◌}
+use Rattle.std.specs.Prelude.{ℤ, Option, Some, None, Contains}
+use Rattle.std.proofs.lemmas.Bool.{false≢true}
+use Rattle.circle.specs.declared.directory.Person.{Person}
+use Rattle.circle.specs.declared.directory.Account.{Account}
+use Rattle.hub_core.specs.State.{State, incident_of}
+use Rattle.hub_core.specs.Sound.{IsSound}
+use Rattle.hub_core.specs.Reads.{groups_of}
+use Rattle.hub_core.specs.Refusals.{refusal_of}
+use Rattle.hub_core.specs.declared.state.Incident.{Incident}
+use Rattle.hub_core.specs.declared.reply.Reply.TheVariants.{Incidents, Groups}
+use Rattle.iodef_tree.specs.Text.{Bytes}
+use Rattle.hub_core.specs.declared.request.Request.{Request}
+use Rattle.hub_core.specs.declared.request.Request.TheVariants as ask
+use Rattle.hub.specs.Told.{is_served, is_found, is_addressed}
+use Rattle.hub.specs.Replies.{caller_of, if_active, page_of, viewed, answer_to, refused_or, reply_by, reply_of}
+use Rattle.hub.specs.declared.key.Key.TheVariants.{Digest}
+use Rattle.hub.specs.Alike.{is_told, IsAlikeStep, IsChain}
+
+module _ (now : ℤ) (a : Account) where
+  abbrev p : Person
+  p = a.person
+
+  -- the person is known in both, its groups are the same, and so is what it is told of incidents
+  pub record TellsSame (s t : State) : Type 0 where
+    pub first : caller_of s (Digest a.key) ≡ if_active (Some p)
+    pub second : caller_of t (Digest a.key) ≡ if_active (Some p)
+    pub groups : groups_of p s ≡ groups_of p t
+    pub view : (n : ℕ) → viewed s now p (incident_of n s) ≡ viewed t now p (incident_of n t)
+    pub listed : (n : ℕ) → page_of (is_served s now p) n s ≡ page_of (is_served t now p) n t
+    pub found : (needle : Bytes) (class : Option Bytes) (n : ℕ) → page_of (λ (i : Incident). is_found s now p i needle class) n s ≡ page_of (λ (i : Incident). is_found t now p i needle class) n t
+    pub addressed : (n : ℕ) → page_of (λ (i : Incident). is_addressed s now p i && is_served s now p i) n s ≡ page_of (λ (i : Incident). is_addressed t now p i && is_served t now p i) n t
+
+  module _ (s t : State) (h : TellsSame s t) where
+    due-same : (r : Request) → is_told r ≡ true → refused_or (refusal_of s p r) (answer_to s now p r) ≡ refused_or (refusal_of t p r) (answer_to t now p r)
+    due-same (ask.View n) k = h.view n
+    due-same (ask.List n) k = ap Incidents (h.listed n)
+    due-same (ask.Search needle class n) k = ap (λ es. refused_or (refusal_of t p (ask.Search needle class n)) (Incidents es)) (h.found needle class n)
+    due-same (ask.Addressed n) k = ap Incidents (h.addressed n)
+    due-same ask.MyGroups k = ap Groups h.groups
+    due-same ask.WhoAmI k = refl
+    due-same (ask.Circle c) k = absurd (false≢true k)
+    due-same (ask.Post level group gates body) k = absurd (false≢true k)
+    due-same (ask.Replace n revision level group gates body) k = absurd (false≢true k)
+    due-same (ask.Redistribute n revision path level group) k = absurd (false≢true k)
+    due-same (ask.Address n target) k = absurd (false≢true k)
+    due-same (ask.Unaddress n target) k = absurd (false≢true k)
+    due-same (ask.Grant n revision path grantee) k = absurd (false≢true k)
+    due-same (ask.Withdraw n path grantee) k = absurd (false≢true k)
+    due-same (ask.Explain person n path) k = absurd (false≢true k)
+
+    pub reply-same : (r : Request) → is_told r ≡ true → reply_of s now (Digest a.key) r ≡ reply_of t now (Digest a.key) r
+    reply-same r k = ap (λ c. reply_by s now c r) h.first ∙ by_active p.active ∙ sym (ap (λ c. reply_by t now c r) h.second)
+      where
+        by_active : (b : Bool) → reply_by s now (if b then Some p else None) r ≡ reply_by t now (if b then Some p else None) r
+        by_active true = due-same r k
+        by_active false = refl
+
+  -- a step between sound states tells the same, and leaves the person there
+  abbrev pub StepsTellSame : Type 0
+  StepsTellSame = (s t : State) → IsSound s → IsSound t → Contains s.directory.accounts a → IsAlikeStep now a s t → TellsSame s t × Contains t.directory.accounts a
+
+  -- over a chain
+  pub chain-same : StepsTellSame → (r : Request) → is_told r ≡ true → (s : State) (between : List State) (t : State) →
+      IsSound s → Contains s.directory.accounts a → IsChain now a s between t → reply_of s now (Digest a.key) r ≡ reply_of t now (Digest a.key) r
+  chain-same step r k s [] t sound there c = ap (λ u. reply_of u now (Digest a.key) r) (sym c)
+  chain-same step r k s (u ∷ us) t sound there c =
+      let one = step s u sound c.1 there c.0 in
+      reply-same s u one.0 r k ∙ chain-same step r k u us t c.1 one.1 c.2

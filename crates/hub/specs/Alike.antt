@@ -1,0 +1,182 @@
+-- Worlds that are alike for a person: two states, joined by steps in each of which only that differs of which the person is
+-- told nothing.
+use Rattle.std.specs.Prelude.{◌≡◌, ◌⊎◌, ℕ, ℤ, Bool, true, false, not, ◌&&◌, ◌||◌, ◌==◌, List, [], ◌∷◌, map, filter, Some, Contains, if◌then◌else◌}
+use Rattle.std.specs.Option.{option_map_or}
+use Rattle.iodef_tree.specs.Text.{Tokens, is_root, is_prefix}
+use Rattle.iodef_tree.specs.Paths.{located, has_class}
+use Rattle.marking.specs.Marks.{written_label}
+use Rattle.policy.specs.Permissions.{includes}
+use Rattle.policy.specs.Standing.{stranger}
+use Rattle.policy.specs.declared.permission.Grantee.{Grantee}
+use Rattle.redact.specs.Alike.{Report, sees, is_plain_of, is_within, lines_but, is_hidden_from}
+use Rattle.circle.specs.Directory.{Directory}
+use Rattle.circle.specs.Reads.{groups_joined, active_groups_joined, communities_of}
+use Rattle.circle.specs.declared.directory.Account.{Account}
+use Rattle.circle.specs.declared.directory.Arrangement.{Arrangement}
+use Rattle.circle.specs.declared.directory.GroupMember.{GroupMember}
+use Rattle.hub_core.specs.Documents.{Lines, ident_of}
+use Rattle.hub_core.specs.State.{State, incident_of}
+use Rattle.hub_core.specs.Reads.{case_for}
+use Rattle.hub_core.specs.Sound.{IsSound}
+use Rattle.hub_core.specs.declared.request.Target.{Target}
+use Rattle.hub_core.specs.declared.request.Target.TheVariants as target
+use Rattle.hub_core.specs.declared.state.Incident.{Incident}
+use Rattle.hub_core.specs.declared.state.Gate.{Gate}
+use Rattle.hub_core.specs.declared.state.Recipient.{Recipient}
+use Rattle.hub_core.specs.declared.state.Permission.{Permission}
+use Rattle.hub_core.specs.declared.request.Request.{Request}
+use Rattle.hub_core.specs.declared.request.Request.TheVariants as ask
+use Rattle.hub.specs.Told.{standing_at, is_served, view_of}
+use Rattle.hub.specs.Replies.{reply_of}
+use Rattle.hub.specs.declared.key.Key.TheVariants.{Digest}
+
+-- ---- rows
+
+-- the incidents, with another document in the one of this number; the IncidentID beside it follows
+abbrev pub with_document : ℕ → Lines → List Incident → List Incident
+with_document n document incidents = map (λ (i : Incident). if i.number == n then record i { document = document; ident = ident_of document } else i) incidents
+
+-- the gates but those of an incident at the class at p and below it, and the permissions but those
+abbrev pub gates_but_at : ℕ → Tokens → List Gate → List Gate
+gates_but_at n p gates = filter (λ (g : Gate). not (g.incident == n && is_prefix p g.path)) gates
+
+abbrev pub permissions_but_at : ℕ → Tokens → List Permission → List Permission
+permissions_but_at n p permissions = filter (λ (x : Permission). not (x.incident == n && is_prefix p x.path)) permissions
+
+-- an incident as it is judged, perhaps with another document
+abbrev pub report_of : State → Incident → Lines → Report
+report_of s i document = record { lines = document; case = case_for s i }
+
+-- all rows stay but those of the incident of this number
+pub record HasOtherIncident (n : ℕ) (s t : State) : Type 0 where
+  pub directory : s.directory ≡ t.directory
+  pub incidents : filter (λ (i : Incident). not (i.number == n)) s.incidents ≡ filter (λ (i : Incident). not (i.number == n)) t.incidents
+  pub gates : filter (λ (g : Gate). not (g.incident == n)) s.gates ≡ filter (λ (g : Gate). not (g.incident == n)) t.gates
+  pub recipients : filter (λ (x : Recipient). not (x.incident == n)) s.recipients ≡ filter (λ (x : Recipient). not (x.incident == n)) t.recipients
+  pub permissions : filter (λ (x : Permission). not (x.incident == n)) s.permissions ≡ filter (λ (x : Permission). not (x.incident == n)) t.permissions
+
+-- ---- steps, for a person with its key, at a moment
+
+module _ (now : ℤ) (a : Account) where
+  -- the incident of this number is the person's organisation's own
+  abbrev pub is_own : State → ℕ → Bool
+  is_own s n = option_map_or (λ (i : Incident). i.source == a.person.org) (incident_of n s) false
+
+  -- the person is served something of the incident of this number
+  abbrev pub is_served_of : State → ℕ → Bool
+  is_served_of s n = option_map_or (is_served s now a.person) (incident_of n s) false
+
+  -- Other plain lines in a class that isn't visible. Its written label stays, and so do all other lines, the path of every
+  -- class and every other row.
+  pub record HasOtherPlainLines (s t : State) : Type 0 where
+    pub incident : Incident
+    pub path : Tokens
+    pub document : Lines
+    pub there : incident_of incident.number s ≡ Some incident
+    pub foreign : is_own s incident.number ≡ false
+    pub class : has_class (located incident.document) path ≡ true
+    pub unseen : sees (standing_at s now a.person incident) (report_of s incident incident.document) path ≡ false
+    pub label : written_label (located incident.document) path ≡ written_label (located document) path
+    pub others : lines_but (is_plain_of path) incident.document ≡ lines_but (is_plain_of path) document
+    pub after : t ≡ record s { incidents = with_document incident.number document s.incidents }
+
+  -- The lines of a wholly hidden class and of all below it are put in, taken out or exchanged, with the gates and the
+  -- permissions at these classes. The paths of all other classes stay, and what is withheld is the same on both sides.
+  pub record HasOtherHiddenClass (s t : State) : Type 0 where
+    pub incident : Incident
+    pub path : Tokens
+    pub document : Lines
+    pub there : incident_of incident.number s ≡ Some incident
+    pub foreign : is_own s incident.number ≡ false
+    pub below_root : is_root path ≡ false
+    pub first : is_hidden_from (standing_at s now a.person incident) path (report_of s incident incident.document) ≡ true
+    pub second : is_hidden_from (standing_at t now a.person incident) path (report_of t incident document) ≡ true
+    pub others : lines_but (is_within path) incident.document ≡ lines_but (is_within path) document
+    pub withheld : (view_of s now a.person incident).withheld ≡ (view_of t now a.person (record incident { document = document })).withheld
+    pub gates : gates_but_at incident.number path s.gates ≡ gates_but_at incident.number path t.gates
+    pub permissions : permissions_but_at incident.number path s.permissions ≡ permissions_but_at incident.number path t.permissions
+    pub after : t ≡ record s { incidents = with_document incident.number document s.incidents; gates = t.gates; permissions = t.permissions }
+
+  -- Anything in an incident of which the person sees nothing on either side; it may be missing on one.
+  pub record HasOtherUnseenIncident (s t : State) : Type 0 where
+    pub number : ℕ
+    pub first_foreign : is_own s number ≡ false
+    pub second_foreign : is_own t number ≡ false
+    pub first : is_served_of s number ≡ false
+    pub second : is_served_of t number ≡ false
+    pub others : HasOtherIncident number s t
+
+  -- the grantee includes the person
+  abbrev pub includes_person : Directory → Grantee → Bool
+  includes_person d g = includes (record (stranger a.person.number a.person.org) {
+    groups = groups_joined a.person.org d;
+    active_groups = active_groups_joined a.person.org d;
+    communities = communities_of a.person.org d;
+  }) g
+
+  -- the recipient is an organisation, or the person
+  abbrev pub is_org_or_person : Target → Bool
+  is_org_or_person (target.Person n) = n == a.person.number
+  is_org_or_person (target.Org n) = true
+
+  -- rows that stay when others are put in, taken out or exchanged
+  abbrev pub staying_permissions : State → List Permission
+  staying_permissions s = filter (λ (x : Permission). includes_person s.directory x.grantee || is_own s x.incident) s.permissions
+
+  abbrev pub staying_recipients : State → List Recipient
+  staying_recipients s = filter (λ (x : Recipient). is_org_or_person x.target || is_own s x.incident) s.recipients
+
+  abbrev pub staying_accounts : Directory → List Account
+  staying_accounts d = filter (λ (b : Account). b.person.number == a.person.number) d.accounts
+
+  abbrev pub staying_arrangements : Directory → List Arrangement
+  staying_arrangements d = filter (λ (x : Arrangement). x.org == a.person.org) d.arrangements
+
+  abbrev pub staying_members : Directory → List GroupMember
+  staying_members d = filter (λ (m : GroupMember). m.org == a.person.org) d.group_members
+
+  -- Put in, taken out or exchanged are permissions whose grantee doesn't include the person, recipients that are other
+  -- persons, other persons, arrangements with other organisations, and memberships of other organisations in groups.
+  pub record HasOtherRows (s t : State) : Type 0 where
+    pub permissions : staying_permissions s ≡ staying_permissions t
+    pub recipients : staying_recipients s ≡ staying_recipients t
+    pub accounts : staying_accounts s.directory ≡ staying_accounts t.directory
+    pub arrangements : staying_arrangements s.directory ≡ staying_arrangements t.directory
+    pub group_members : staying_members s.directory ≡ staying_members t.directory
+    pub after : t ≡ record s {
+      directory = record s.directory { accounts = t.directory.accounts; arrangements = t.directory.arrangements; group_members = t.directory.group_members };
+      recipients = t.recipients;
+      permissions = t.permissions;
+    }
+
+  abbrev pub IsAlikeStep : State → State → Type 0
+  IsAlikeStep s t = HasOtherPlainLines s t ⊎ (HasOtherHiddenClass s t ⊎ (HasOtherUnseenIncident s t ⊎ HasOtherRows s t))
+
+  -- each of these states is sound and a step from the one before it, and the last is t
+  abbrev pub IsChain : State → List State → State → Type 0
+  IsChain s [] t = t ≡ s
+  IsChain s (u ∷ us) t = IsAlikeStep s u × IsSound u × IsChain u us t
+
+  -- two sound states that a chain joins; the person is there
+  pub record IsAlike (s t : State) : Type 0 where
+    pub sound : IsSound s
+    pub there : Contains s.directory.accounts a
+    pub between : List State
+    pub chain : IsChain s between t
+
+-- ---- the law
+
+-- what tells a reader of incidents, of its groups and of itself
+abbrev pub is_told : Request → Bool
+is_told (ask.View n) = true
+is_told (ask.List after) = true
+is_told (ask.Search needle class after) = true
+is_told (ask.Addressed after) = true
+is_told ask.MyGroups = true
+is_told ask.WhoAmI = true
+is_told _ = false
+
+-- in two worlds that are alike for a person the same is due to it, at the same moment
+abbrev pub AlikeIsAnsweredAlike : Type 0
+AlikeIsAnsweredAlike = (now : ℤ) (a : Account) (s t : State) (request : Request) → IsAlike now a s t → is_told request ≡ true →
+    reply_of s now (Digest a.key) request ≡ reply_of t now (Digest a.key) request

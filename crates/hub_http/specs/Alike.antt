@@ -1,0 +1,25 @@
+-- What is written in worlds that are alike for a person.
+use Rattle.std.specs.Prelude.{◌≡◌, ◌⊎◌, ℕ, List}
+use Rattle.circle.specs.Outcomes.{bare}
+use Rattle.circle.specs.declared.refusal.Code.TheVariants.{F1, F2}
+use Rattle.hub_core.specs.State.{State}
+use Rattle.hub_core.specs.declared.reply.Reply.{Reply}
+use Rattle.hub_core.specs.declared.reply.Reply.TheVariants.{Refused}
+use Rattle.hub.specs.Machine.{Asked, IsStep}
+use Rattle.hub_http.specs.Replies.{reply_text}
+
+-- the bytes say that the request was given up, as the store failed or the memory didn't suffice
+abbrev pub IsGivenUpText : List ℕ → Type 0
+IsGivenUpText bytes = (bytes ≡ reply_text (Refused (bare F1))) ⊎ (bytes ≡ reply_text (Refused (bare F2)))
+
+-- the same bytes, or one of the two requests was given up
+abbrev pub IsWrittenAlike : List ℕ → List ℕ → Type 0
+IsWrittenAlike one other = (one ≡ other) ⊎ (IsGivenUpText one ⊎ IsGivenUpText other)
+
+-- the bytes tell the reply of one step from this state, and what it left is there
+pub record IsToldOf (there : State → Type 0) (s : State) (asked : Asked) (bytes : List ℕ) : Type 0 where
+  pub reply : Reply
+  pub left : State
+  pub step : IsStep s asked reply left
+  pub after : there left
+  pub told : bytes ≡ reply_text reply

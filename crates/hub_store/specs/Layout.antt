@@ -1,0 +1,38 @@
+-- Each version of the tables: which tables there are, by which trees, and what each holds of a state.
+use Rattle.std.specs.Prelude.{ℕ, pos, List, [], ◌∷◌, ◌++◌, drop, map}
+use Rattle.sqlite_value.specs.declared.value.Value.TheVariants.{Int}
+use Rattle.sqlite_value.specs.Order.{Row}
+use Rattle.sqlite_schema.specs.declared.schema.Table.{Table}
+use Rattle.hub_core.specs.State.{State}
+use Rattle.hub_store.specs.Shapes.{hub_table, org_table, person_table, community_table, grp_table, pair_table, gate_table, recipient_table, permission_table, incident_table}
+use Rattle.hub_store.specs.Pairs.{rows_of_pairs}
+use Rattle.hub_store.specs.Rows.{org_row, account_row, community_row, group_row, pair_sets, gate_row, recipient_row, permission_row, incident_row}
+use Rattle.hub_store.specs.Parts.{Part}
+
+-- the number of each element is its rowid
+abbrev pub by_number : {X : Type 0} → ℕ → Table → (X → Row) → List X → Part
+by_number tree table row xs = record { table = record table { tree = tree }; seen = λ r. r; rows = map row xs }
+
+-- the rowids say nothing
+abbrev pub without_rowids : ℕ → Table → List Row → Part
+without_rowids tree table rows = record { table = record table { tree = tree }; seen = drop 1; rows = rows }
+
+-- The trees between are those of the indexes. The first table holds the version.
+abbrev pub common : ℕ → State → List Part
+common version s =
+    without_rowids 0 hub_table ((Int (pos version) ∷ []) ∷ [])
+    ∷ by_number 1 org_table org_row s.directory.orgs
+    ∷ by_number 3 person_table account_row s.directory.accounts
+    ∷ by_number 5 community_table community_row s.directory.communities
+    ∷ by_number 7 grp_table group_row s.directory.groups
+    ∷ without_rowids 9 pair_table (rows_of_pairs (pair_sets s.directory))
+    ∷ without_rowids 12 gate_table (map gate_row s.gates)
+    ∷ without_rowids 14 recipient_table (map recipient_row s.recipients)
+    ∷ without_rowids 16 permission_table (map permission_row s.permissions)
+    ∷ []
+
+abbrev pub incident_part : State → Part
+incident_part s = by_number 18 incident_table incident_row s.incidents
+
+abbrev pub parts_1 : State → List Part
+parts_1 s = common 1 s ++ incident_part s ∷ []

@@ -1,0 +1,35 @@
+-- A list of tables with what each holds, as the one description of a version, and of a moment within a migration.
+use Rattle.std.specs.Prelude.{◌≡◌, ◌+◌, List, map, flat_map, []}
+use Rattle.std.specs.List.{AllByRecursion}
+use Rattle.sqlite_value.specs.Order.{Row}
+use Rattle.sqlite_schema.specs.declared.schema.Index.{Index}
+use Rattle.sqlite_schema.specs.declared.schema.Table.{Table}
+use Rattle.sqlite_schema.specs.declared.schema.Schema.{Schema}
+use Rattle.sqlite_catalog.specs.Change.{automatics}
+use Rattle.sqlite.specs.Effect.{Database}
+use Rattle.hub_store.specs.Holdings.{Holding, IsHeld}
+
+-- a table with its tree, how a row of it is seen, and the rows that are seen
+pub record Part : Type 0 where
+  pub table : Table
+  pub seen : Row → Row
+  pub rows : List Row
+
+abbrev pub held : Part → Holding
+held p = record { tree = p.table.tree; seen = p.seen; rows = p.rows }
+
+-- the trees of a table's indexes follow its own
+abbrev pub indexes_of : Table → List Index
+indexes_of table = automatics table 0 (table.tree + 1) table.uniques
+
+abbrev pub schema_of : List Part → Schema
+schema_of ps = record {
+  tables = map (λ (p : Part). p.table) ps;
+  indexes = flat_map (λ (p : Part). indexes_of p.table) ps;
+  views = [];
+}
+
+-- these are the tables, and each holds its rows
+pub record HoldsParts (ps : List Part) (db : Database) : Type 0 where
+  pub known : db.schema ≡ schema_of ps
+  pub means : AllByRecursion (IsHeld db.trees) (map held ps)

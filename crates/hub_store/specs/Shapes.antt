@@ -1,0 +1,116 @@
+-- Each table as its statement makes it, and the schema after each statement.
+use Rattle.std.specs.Prelude.{ℕ, Bool, true, false, List, [], ◌∷◌, Option, None, Some, map, codes}
+use Rattle.sqlite_value.specs.declared.keys.Collation.TheVariants.{Binary}
+use Rattle.sqlite_value.specs.Keys.{plain}
+use Rattle.sqlite_value.specs.declared.value.Value.TheVariants.{Null}
+use Rattle.sqlite_schema.specs.declared.schema.Column.{Column}
+use Rattle.sqlite_schema.specs.declared.schema.Table.{Table}
+use Rattle.sqlite_schema.specs.declared.schema.Schema.{Schema}
+use Rattle.sqlite_schema.specs.declared.schema.Kind.{Kind}
+use Rattle.sqlite_schema.specs.declared.schema.Kind.TheVariants.{Integer, Text, Blob}
+use Rattle.sqlite_catalog.specs.Change.{created}
+
+-- ---- columns of STRICT tables
+
+abbrev pub column_of : List ℕ → Kind → Bool → Column
+column_of name kind not_null = record { name = name; kind = kind; is_strict = true; not_null = not_null; default = Null; collation = Binary }
+
+abbrev pub integer : List ℕ → Column
+integer name = column_of name Integer true
+
+abbrev pub text : List ℕ → Column
+text name = column_of name Text true
+
+abbrev pub blob : List ℕ → Column
+blob name = column_of name Blob true
+
+-- NULL where there is none
+abbrev pub integer_or_null : List ℕ → Column
+integer_or_null name = column_of name Integer false
+
+-- ---- tables: those with a number have it as their rowid, the others have a hidden one
+
+abbrev pub table_of : List ℕ → List Column → Option ℕ → List ℕ → List (List ℕ) → Table
+table_of name columns key primary uniques = record {
+  name = name;
+  tree = 0;
+  columns = columns;
+  key = key;
+  primary = primary;
+  uniques = uniques;
+  orders = map (λ (unique : List ℕ). plain) uniques;
+  checks = [];
+  references = [];
+  computed = [];
+  stamps = record { places = []; terms = []; formats = [] };
+  is_counted = false;
+}
+
+-- the first column is the number
+abbrev pub numbered : List ℕ → List Column → List (List ℕ) → Table
+numbered name columns uniques = table_of name (integer_or_null (codes "number") ∷ columns) (Some 0) (0 ∷ []) uniques
+
+abbrev pub unnumbered : List ℕ → List Column → List (List ℕ) → Table
+unnumbered name columns uniques = table_of name columns None [] uniques
+
+abbrev pub hub_table : Table
+hub_table = unnumbered (codes "hub") (integer (codes "version") ∷ []) ([])
+
+abbrev pub org_table : Table
+org_table = numbered (codes "org") (text (codes "name") ∷ []) ((2 ∷ []) ∷ [])
+
+abbrev pub person_table : Table
+person_table = numbered (codes "person") (integer (codes "org") ∷ text (codes "name") ∷ integer (codes "role") ∷ blob (codes "key") ∷ integer (codes "active") ∷ integer (codes "nominated") ∷ []) ((5 ∷ []) ∷ [])
+
+abbrev pub community_table : Table
+community_table = numbered (codes "community") (text (codes "name") ∷ []) ((2 ∷ []) ∷ [])
+
+abbrev pub grp_table : Table
+grp_table = numbered (codes "grp") (integer (codes "owner") ∷ text (codes "name") ∷ text (codes "releasability") ∷ integer (codes "active") ∷ []) ((2 ∷ 3 ∷ []) ∷ [])
+
+abbrev pub pair_table : Table
+pair_table = unnumbered (codes "pair") (text (codes "kind") ∷ integer (codes "a") ∷ integer (codes "b") ∷ integer_or_null (codes "value") ∷ []) ((1 ∷ 2 ∷ 3 ∷ []) ∷ (1 ∷ 3 ∷ 2 ∷ []) ∷ [])
+
+abbrev pub gate_table : Table
+gate_table = unnumbered (codes "gate") (integer (codes "incident") ∷ text (codes "path") ∷ integer (codes "level") ∷ integer_or_null (codes "grp") ∷ []) ((1 ∷ 2 ∷ []) ∷ [])
+
+abbrev pub recipient_table : Table
+recipient_table = unnumbered (codes "recipient") (integer (codes "incident") ∷ integer (codes "kind") ∷ integer (codes "target") ∷ []) ((1 ∷ 2 ∷ 3 ∷ []) ∷ [])
+
+abbrev pub permission_table : Table
+permission_table = unnumbered (codes "permission") (integer (codes "incident") ∷ text (codes "path") ∷ integer (codes "kind") ∷ integer (codes "target") ∷ []) ((1 ∷ 2 ∷ 3 ∷ 4 ∷ []) ∷ [])
+
+abbrev pub incident_table : Table
+incident_table = numbered (codes "incident") (integer (codes "source") ∷ text (codes "ident") ∷ integer (codes "revision") ∷ text (codes "text") ∷ []) ((2 ∷ 3 ∷ []) ∷ [])
+
+-- ---- the schema after each statement
+
+abbrev pub no_schema : Schema
+no_schema = record { tables = []; indexes = []; views = [] }
+
+abbrev pub up_to_hub : Schema
+up_to_hub = created no_schema hub_table
+
+abbrev pub up_to_org : Schema
+up_to_org = created up_to_hub org_table
+
+abbrev pub up_to_person : Schema
+up_to_person = created up_to_org person_table
+
+abbrev pub up_to_community : Schema
+up_to_community = created up_to_person community_table
+
+abbrev pub up_to_grp : Schema
+up_to_grp = created up_to_community grp_table
+
+abbrev pub up_to_pair : Schema
+up_to_pair = created up_to_grp pair_table
+
+abbrev pub up_to_gate : Schema
+up_to_gate = created up_to_pair gate_table
+
+abbrev pub up_to_recipient : Schema
+up_to_recipient = created up_to_gate recipient_table
+
+abbrev pub up_to_permission : Schema
+up_to_permission = created up_to_recipient permission_table

@@ -1,0 +1,20 @@
+use Rattle.std.proofs.Common.{◌≡◌, None, sym, subst, IfSome}
+use Rattle.iodef_tree.specs.Paths.{located}
+use Rattle.marking.specs.Marks.{first_bad_marking}
+use Rattle.redact.specs.Excerpts.{Gives, LabelsSurvive}
+use Rattle.redact.specs.Fed.{Passed}
+use Rattle.redact.proofs.rows.RowPass.finish.Goals as goal
+
+pub returns-clause-told : goal.returns-clause-told
+returns-clause-told c =
+    let r = c.in_ok-excerpt_if_marked.field-0 in
+    subst (λ (p : Passed). p.fed.fault ≡ None → first_bad_marking (located p.fed.lines) ≡ None → Gives p.fed.lines p.case p.standing r) c.self.view_is (λ unfaulted marked.
+    let same = c.in_ok-document.ensures.ok unfaulted in
+    subst (λ ls. Gives ls c.self.inside.case c.self.inside.standing r) same (c.in_ok-excerpt_if_marked.ensures.told (subst (λ ls. first_bad_marking (located ls) ≡ None) (sym same) marked)))
+
+pub returns-clause-labels : goal.returns-clause-labels
+returns-clause-labels c =
+    let r = c.in_ok-excerpt_if_marked.field-0 in
+    subst (λ (p : Passed). p.fed.fault ≡ None → first_bad_marking (located p.fed.lines) ≡ None → IfSome r (λ e. LabelsSurvive p.fed.lines p.case p.standing e.document)) c.self.view_is (λ unfaulted marked.
+    let same = c.in_ok-document.ensures.ok unfaulted in
+    subst (λ ls. IfSome r (λ e. LabelsSurvive ls c.self.inside.case c.self.inside.standing e.document)) same (c.in_ok-excerpt_if_marked.ensures.labels (subst (λ ls. first_bad_marking (located ls) ≡ None) (sym same) marked)))

@@ -1,0 +1,116 @@
+-- Steps between two reports that a reader is told the same of, though they differ in what is withheld from the reader.
+use Rattle.std.specs.Prelude.{◌≡◌, Bool, true, false, ◌&&◌, not, List, map, filter, Option, None, Contains, if◌then◌else◌, ◌⊎◌}
+use Rattle.iodef_tree.specs.Text.{Bytes, Tokens, same_path, is_prefix, is_root}
+use Rattle.iodef_tree.specs.Paths.{LocatedLine, is_class, located, has_class}
+use Rattle.iodef_tree.specs.Laws.{IsDocument}
+use Rattle.iodef_tree.specs.declared.line.Line.{Line}
+use Rattle.marking.specs.Marks.{written_label, first_bad_marking}
+use Rattle.policy.specs.Permissions.{holds_for}
+use Rattle.policy.specs.Verdict.{is_visible}
+use Rattle.policy.specs.declared.standing.Standing.{Standing}
+use Rattle.policy.specs.declared.gate.Gate.{Gate}
+use Rattle.policy.specs.declared.permission.Permission.{Permission}
+use Rattle.policy.specs.declared.case.Case.{Case}
+use Rattle.redact.specs.Withheld.{Withheld}
+use Rattle.redact.specs.Told.{some_seen, kept_outline, withheld_of, visible_count, is_listed, finds}
+
+-- the lines of a document, and what is judged by beside them
+pub record Report : Type 0 where
+  pub lines : List Line
+  pub case : Case
+
+-- ---- lines by their classes
+
+-- the class that a line stands for, and of a plain line the class that it stands in
+abbrev pub class_path : LocatedLine → Tokens
+class_path e = if is_class e then e.path else e.parent
+
+-- A line under the path of its class. Which element of an array a plain line is doesn't tell, as it moves up where a class in
+-- front of it is taken out.
+abbrev pub by_class : LocatedLine → LocatedLine
+by_class e = record { parent = e.parent; path = class_path e; line = e.line }
+
+-- a plain line of the class at p
+abbrev pub is_plain_of : Tokens → LocatedLine → Bool
+is_plain_of p e = not (is_class e) && same_path e.parent p
+
+-- a line of the class at p or of a class below it
+abbrev pub is_within : Tokens → LocatedLine → Bool
+is_within p e = is_prefix p (class_path e)
+
+-- all lines but some, in their order, each under the path of its class
+abbrev pub lines_but : (LocatedLine → Bool) → List Line → List LocatedLine
+lines_but some ls = map by_class (filter (λ e. not (some e)) (located ls))
+
+-- the gates at other classes than that at p and those below it, and the permissions there
+abbrev pub gates_but : Tokens → List Gate → List Gate
+gates_but p gates = filter (λ g. not (is_prefix p g.path)) gates
+
+abbrev pub permissions_but : Tokens → List Permission → List Permission
+permissions_but p permissions = filter (λ x. not (is_prefix p x.path)) permissions
+
+-- ---- what is told
+
+-- the same pairs, however often and in whatever order
+pub record HasSame (xs ys : List Withheld) : Type 0 where
+  pub first : (x : Withheld) → Contains xs x → Contains ys x
+  pub second : (x : Withheld) → Contains ys x → Contains xs x
+
+module _ (s : Standing) where
+  abbrev pub sees : Report → Tokens → Bool
+  sees a p = is_visible (located a.lines) a.case s p
+
+  -- the reader is told the same of both: the excerpt's outline, what is withheld, how many classes are visible, whether the
+  -- report is listed, and what a search finds
+  pub record IsToldAlike (a b : Report) : Type 0 where
+    pub outline : kept_outline a.lines a.case s ≡ kept_outline b.lines b.case s
+    pub withheld : HasSame (withheld_of a.lines a.case s) (withheld_of b.lines b.case s)
+    pub count : visible_count a.lines a.case s ≡ visible_count b.lines b.case s
+    pub listed : is_listed a.lines a.case s ≡ is_listed b.lines b.case s
+    pub found : (needle : Bytes) (name : Option Bytes) → finds a.lines a.case s needle name ≡ finds b.lines b.case s needle name
+
+  -- ---- steps
+
+  -- Other plain lines in a class that isn't visible. Its written label stays, and so do all other lines, the path of every
+  -- class, the gates and the permissions.
+  pub record HasOtherPlainLines (p : Tokens) (a b : Report) : Type 0 where
+    pub class : has_class (located a.lines) p ≡ true
+    pub unseen : sees a p ≡ false
+    pub label : written_label (located a.lines) p ≡ written_label (located b.lines) p
+    pub others : lines_but (is_plain_of p) a.lines ≡ lines_but (is_plain_of p) b.lines
+    pub case : a.case ≡ b.case
+
+  -- no class at p or below it is visible: where there is a class at p, it is wholly hidden
+  abbrev pub is_hidden_from : Tokens → Report → Bool
+  is_hidden_from p a = not (some_seen (sees a) (filter (λ e. is_prefix p e.path) (located a.lines)))
+
+  -- The lines of a wholly hidden class and of all below it are put in, taken out or exchanged, with the gates and the
+  -- permissions there. The paths of all other classes stay, and what is withheld is the same.
+  pub record HasOtherHiddenClass (p : Tokens) (a b : Report) : Type 0 where
+    pub below_root : is_root p ≡ false
+    pub first : is_hidden_from p a ≡ true
+    pub second : is_hidden_from p b ≡ true
+    pub others : lines_but (is_within p) a.lines ≡ lines_but (is_within p) b.lines
+    pub source : a.case.source ≡ b.case.source
+    pub gates : gates_but p a.case.gates ≡ gates_but p b.case.gates
+    pub permissions : permissions_but p a.case.permissions ≡ permissions_but p b.case.permissions
+    pub withheld : HasSame (withheld_of a.lines a.case s) (withheld_of b.lines b.case s)
+
+  -- other permissions, whose grantees don't include the reader
+  pub record HasOtherPermissions (a b : Report) : Type 0 where
+    pub lines : a.lines ≡ b.lines
+    pub source : a.case.source ≡ b.case.source
+    pub gates : a.case.gates ≡ b.case.gates
+    pub permissions : filter (holds_for s) a.case.permissions ≡ filter (holds_for s) b.case.permissions
+
+  abbrev pub IsAlike : Report → Report → Type 0
+  IsAlike a b = ((p : Tokens) × HasOtherPlainLines p a b) ⊎ (((p : Tokens) × HasOtherHiddenClass p a b) ⊎ HasOtherPermissions a b)
+
+-- the lines are those of a document in which no marking is bad
+pub record IsMarked (ls : List Line) : Type 0 where
+  pub document : IsDocument ls
+  pub marked : first_bad_marking (located ls) ≡ None
+
+-- Of two reports that are alike for a reader the reader is told alike.
+abbrev pub AlikeIsToldAlike : Type 0
+AlikeIsToldAlike = (s : Standing) (a b : Report) → IsMarked a.lines → IsMarked b.lines → IsAlike s a b → IsToldAlike s a b
