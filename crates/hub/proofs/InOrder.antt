@@ -13,7 +13,7 @@ use Rattle.redact.specs.Withheld.{Withheld, withheld_cmp, Lists}
 use Rattle.redact.proofs.Listing.{withheld-total, withheld-same}
 use Rattle.hub.specs.Told.{noted_by, noted, in_order}
 
-abbrev In : {X : Type 0} → List X → X → Type 0
+abbrev pub In : {X : Type 0} → List X → X → Type 0
 In [] x = ⊥
 In (y ∷ ys) x = (y ≡ x) ⊎ In ys x
 
@@ -22,10 +22,10 @@ in_at [] k x low h = absurd (omega (arith, low))
 in_at (y ∷ ys) zero x low h = inl h
 in_at (y ∷ ys) (suc k) x low h = inr (in_at ys k x (omega (arith, low)) h)
 
-in_contained : {X : Type 0} (xs : List X) (x : X) → Contains xs x → In xs x
+pub in_contained : {X : Type 0} (xs : List X) (x : X) → Contains xs x → In xs x
 in_contained xs x h = in_at xs h.0 x h.1 h.2
 
-contains_in : {X : Type 0} (xs : List X) (x : X) → In xs x → Contains xs x
+pub contains_in : {X : Type 0} (xs : List X) (x : X) → In xs x → Contains xs x
 contains_in [] x h = absurd h
 contains_in (y ∷ ys) x (inl h) = (0, omega arith, h)
 contains_in (y ∷ ys) x (inr h) = let r = contains_in ys x h in (suc r.0, omega (arith, r.1), r.2)

@@ -19,10 +19,7 @@ use Rattle.hub.specs.Replies.{page_of, viewed, nothing_for_you}
 use Rattle.redact.specs.Alike.{IsToldAlike}
 use Rattle.hub.specs.Alike.{report_of}
 use Rattle.hub.proofs.InOrder.{same_in_order}
-
-pub standing_at-any : (s : State) (now : ℤ) (p : Person) (i : Incident) → standing_at s now p i ≡ standing_for s p i
-unfolding standing_at
-standing_at-any s now p i = refl
+use Rattle.hub.proofs.Standings.{standing_at-any}
 
 -- an incident with another document
 abbrev pub other_of : ℕ → Lines → Incident → Incident

@@ -2,6 +2,7 @@
 use Rattle.std.proofs.Common.{◌≡◌, ℕ, Bool, true, false, not, List, [], ◌∷◌, refl, sym, ◌∙◌, ap, subst, ◌&&◌, ◌||◌, ◌==◌, if◌then◌else◌, cond, inl, inr}
 use Rattle.std.specs.Prelude.{ℤ, Some, filter, find, map, Contains, option_map}
 use Rattle.std.specs.List.{AllByRecursion}
+use Rattle.std.proofs.lemmas.List.Elements.{filter_agree}
 use Rattle.std.proofs.lemmas.Bool.{eqb-true, true≢false, cond-true, cond-false}
 use Rattle.iodef_tree.specs.Text.{is_prefix}
 use Rattle.iodef_tree.specs.Laws.{IsDocument}
@@ -23,13 +24,15 @@ use Rattle.hub_core.specs.declared.state.Permission.{Permission}
 use Rattle.hub.specs.Told.{standing_at, is_served, is_found, is_addressed, in_order}
 use Rattle.redact.specs.Alike.{IsMarked, is_hidden_from}
 use Rattle.hub.specs.Alike.{with_document, report_of, HasOtherPlainLines, HasOtherHiddenClass}
+use Rattle.redact.proofs.Filtered.{filter-both, filter-within, filter-map}
 use Rattle.redact.proofs.ToldAlike.{alike-told}
 use Rattle.hub_core.proofs.Keeping.{not_both, turned, found_each}
 use Rattle.hub.proofs.Numbered.{all_found}
 use Rattle.hub.proofs.InOrder.{from_in_order}
+use Rattle.hub.proofs.Standings.{standing_at-any}
 use Rattle.hub.proofs.ToldSame.{TellsSame}
-use Rattle.hub.proofs.OtherUnseen.{known, filter-both, filter-within}
-use Rattle.hub.proofs.OtherDocument.{standing_at-any, other_of, redone, ToldOf, page-same, view-same, told-by}
+use Rattle.hub.proofs.OtherUnseen.{known}
+use Rattle.hub.proofs.OtherDocument.{other_of, redone, ToldOf, page-same, view-same, told-by}
 
 -- what is read is a document
 read-document : (doc : Lines) → IsAccepted doc → IsDocument doc
@@ -125,19 +128,6 @@ plain-step now a s t ss st there h = subst (λ w. TellsSame now a s w × Contain
 
 -- ---- another hidden class
 
-pub filter-map : {X Y : Type 0} (f : Y → Bool) (g : X → Y) (xs : List X) → filter f (map g xs) ≡ map g (filter (λ x. f (g x)) xs)
-filter-map f g [] = refl
-filter-map f g (x ∷ xs) = by_test (f (g x)) (filter-map f g xs)
-  where
-    by_test : (b : Bool) → filter f (map g xs) ≡ map g (filter (λ x. f (g x)) xs) →
-        (if b then g x ∷ filter f (map g xs) else filter f (map g xs)) ≡ map g (if b then x ∷ filter (λ x. f (g x)) xs else filter (λ x. f (g x)) xs)
-    by_test true ih = ap (λ ys. g x ∷ ys) ih
-    by_test false ih = ih
-
-pub filter-each : {X : Type 0} (f g : X → Bool) (xs : List X) → ((x : X) → f x ≡ g x) → filter f xs ≡ filter g xs
-filter-each f g [] h = refl
-filter-each f g (x ∷ xs) h = ap (λ b. if b then x ∷ filter f xs else filter f xs) (h x) ∙ ap (λ ys. if g x then x ∷ ys else ys) (filter-each f g xs h)
-
 -- those that are of the incident and not within, by which test comes first
 of_then : (of within : Bool) → (of && not within) ≡ (not (of && within) && of)
 of_then true true = refl
@@ -154,7 +144,7 @@ within-of : {X : Type 0} (of within : X → Bool) (xs ys : List X) → filter (�
 within-of {X} of within xs ys h = one xs ∙ ap (filter of) h ∙ sym (one ys)
   where
     one : (zs : List X) → filter (λ x. not (within x)) (filter of zs) ≡ filter of (filter (λ x. not (of x && within x)) zs)
-    one zs = filter-both (λ x. not (within x)) of zs ∙ filter-each (λ x. of x && not (within x)) (λ x. not (of x && within x) && of x) zs (λ x. of_then (of x) (within x))
+    one zs = filter-both (λ x. not (within x)) of zs ∙ filter_agree (λ x. of x && not (within x)) (λ x. not (of x && within x) && of x) (λ x. of_then (of x) (within x)) zs
         ∙ sym (filter-both of (λ x. not (of x && within x)) zs)
 
 of-others : {X : Type 0} (number : X → ℕ) (within : X → Bool) (n m : ℕ) (xs ys : List X) → (m == n) ≡ false → filter (λ x. not (number x == n && within x)) xs ≡ filter (λ x. not (number x == n && within x)) ys →

@@ -2,6 +2,8 @@
 use Rattle.std.proofs.Common.{◌≡◌, ◌⊎◌, ℕ, suc, Bool, true, false, List, [], ◌∷◌, refl, sym, ◌∙◌, ap, subst, ◌&&◌, ◌||◌, ◌==◌, if◌then◌else◌, inl, inr, arith}
 use Rattle.std.specs.Prelude.{ℤ, Option, Some, filter, find, map, Contains, option_map}
 use Rattle.std.specs.List.{AllByRecursion, list_any, filter_map}
+use Rattle.std.proofs.lemmas.List.{map-id}
+use Rattle.std.proofs.lemmas.List.Elements.{filter_agree}
 use Rattle.std.proofs.lemmas.Bool.{eqb-true, eq-eqb, false≢true, true≢false, and_parts, and_right, or_parts}
 use Rattle.marking.specs.declared.label.Handling.{Handling}
 use Rattle.policy.specs.declared.standing.Standing.{Standing}
@@ -27,20 +29,17 @@ use Rattle.hub_core.specs.declared.state.Recipient.{Recipient}
 use Rattle.hub_core.specs.declared.state.Permission.{Permission}
 use Rattle.hub.specs.Told.{standing_at, is_served, is_found, is_addressed, in_order}
 use Rattle.redact.specs.Alike.{IsToldAlike}
+use Rattle.redact.proofs.Filtered.{any-each, any-kept, filter-both, filter-within, filter-map}
 use Rattle.redact.proofs.ToldAlike.{alike-told}
 use Rattle.hub.specs.Alike.{report_of, is_own, includes_person, is_org_or_person, staying_permissions, staying_recipients, staying_accounts, staying_arrangements, staying_members, HasOtherRows}
 use Rattle.hub_core.proofs.Keeping.{find_left}
 use Rattle.hub.proofs.Numbered.{all_found}
-use Rattle.hub.proofs.InOrder.{same_in_order}
+use Rattle.hub.proofs.InOrder.{In, in_contained, contains_in, same_in_order}
+use Rattle.hub.proofs.Standings.{standing_at-any}
 use Rattle.hub.proofs.ToldSame.{TellsSame}
-use Rattle.hub.proofs.OtherUnseen.{known, filter-both, filter-within, any-kept, any-each, In, in_at}
-use Rattle.hub.proofs.OtherDocument.{standing_at-any, ToldOf, page-same, view-same, view_as}
-use Rattle.hub.proofs.OtherLines.{marked-document, filter-map, filter-each}
-
-contains_in : {X : Type 0} (xs : List X) (x : X) → In xs x → Contains xs x
-contains_in [] x h = absurd h
-contains_in (y ∷ ys) x (inl h) = (0, omega arith, h)
-contains_in (y ∷ ys) x (inr h) = let r = contains_in ys x h in (suc r.0, omega (arith, r.1), r.2)
+use Rattle.hub.proofs.OtherUnseen.{known}
+use Rattle.hub.proofs.OtherDocument.{ToldOf, page-same, view-same, view_as}
+use Rattle.hub.proofs.OtherLines.{marked-document}
 
 in-filter : {X : Type 0} (f : X → Bool) (xs : List X) (x : X) → f x ≡ true → In xs x → In (filter f xs) x
 in-filter f [] x k h = absurd h
@@ -59,10 +58,6 @@ filter-in f (y ∷ ys) x h = by_test (f y) h (filter-in f ys x)
     by_test true (inl e) ih = inl e
     by_test true (inr r) ih = inr (ih r)
     by_test false r ih = inr (ih r)
-
-map-same : {X : Type 0} (xs : List X) → xs ≡ map (λ x. x) xs
-map-same [] = refl
-map-same (x ∷ xs) = ap (λ ys. x ∷ ys) (map-same xs)
 
 or-false : (b c : Bool) → (b || c) ≡ false → b ≡ false
 or-false b c h = (or_parts b c h).0
@@ -182,7 +177,7 @@ module _ (now : ℤ) (a : Account) (s : State) (accounts : List Account) (arrang
         no x g = and_right (x.incident == i.number) _ (holds-is x ∙ or-false (includes_person now a s.directory x.grantee) _ g)
 
         same : filter keeps s.permissions ≡ filter keeps permissions
-        same = same_permissions ∙ sym (filter-each keeps (λ (x : Permission). includes_person now a w.directory x.grantee || is_own now a s x.incident) permissions (λ x. ap (λ b. b || is_own now a s x.incident) (includes-both x.grantee)))
+        same = same_permissions ∙ sym (filter_agree keeps (λ (x : Permission). includes_person now a w.directory x.grantee || is_own now a s x.incident) (λ x. ap (λ b. b || is_own now a s x.incident) (includes-both x.grantee)) permissions)
 
         one : (xs : List Permission) → filter (holds_for (standing_at s now p i)) (map case_permission (filter (λ (x : Permission). x.incident == i.number) xs))
             ≡ map case_permission (filter (λ (x : Permission). x.incident == i.number && holds_for (standing_at s now p i) (case_permission x)) (filter keeps xs))
@@ -213,9 +208,9 @@ module _ (now : ℤ) (a : Account) (s : State) (accounts : List Account) (arrang
     pub rows-told : IsSound s → IsSound w → Contains s.directory.accounts a → TellsSame now a s w × Contains w.directory.accounts a
     rows-told ss sw there =
         let there' : Contains w.directory.accounts a = contains_in accounts a (filter-in (λ (b : Account). b.person.number == p.number) accounts a
-        (subst (λ bs. In bs a) same_accounts (in-filter (λ (b : Account). b.person.number == p.number) s.directory.accounts a (eq-eqb p.number p.number refl) (in_at s.directory.accounts there.0 a there.1 there.2)))) in
+        (subst (λ bs. In bs a) same_accounts (in-filter (λ (b : Account). b.person.number == p.number) s.directory.accounts a (eq-eqb p.number p.number refl) (in_contained s.directory.accounts a there)))) in
         let all = each s.incidents (all_found incident_number 0 s.incidents ss.incidents.numbered.0) in
-        let same = map-same s.incidents in (
+        let same = sym (map-id s.incidents) in (
           record {
             first = known s a ss there;
             second = known w a sw there';

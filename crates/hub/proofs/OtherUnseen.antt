@@ -3,7 +3,7 @@ use Rattle.std.proofs.Common.{◌≡◌, ◌≢◌, ◌⊎◌, ◌<◌, inl, inr
 use Rattle.std.specs.Prelude.{ℤ, Option, Some, None, filter, find, map, take, nat_lt, Contains}
 use Rattle.std.specs.List.{AllByRecursion, list_any}
 use Rattle.std.specs.Option.{option_map_or}
-use Rattle.std.proofs.lemmas.Bool.{eqb-true, false≢true, true≢false, and_left, cond-false}
+use Rattle.std.proofs.lemmas.Bool.{not-false, not-true, eqb-true, false≢true, true≢false, and_left, cond-false}
 use Rattle.iodef_tree.specs.Text.{Bytes}
 use Rattle.policy.specs.declared.standing.Standing.{Standing}
 use Rattle.circle.specs.Directory.{Directory}
@@ -20,6 +20,7 @@ use Rattle.hub_core.specs.declared.state.Gate.{Gate}
 use Rattle.hub_core.specs.declared.state.Recipient.{Recipient}
 use Rattle.hub_core.specs.declared.state.Permission.{Permission}
 use Rattle.hub.specs.Told.{standing_at, is_served, is_found, is_addressed, view_of, in_order}
+use Rattle.redact.proofs.Filtered.{each-from, any-each, any-kept, filter-within, filter-passing, filter-both, filter-agree}
 use Rattle.redact.proofs.Promised.{found-listed}
 use Rattle.hub_core.specs.declared.reply.View.{View as ViewOf}
 use Rattle.hub_core.specs.declared.reply.Reply.TheVariants.{View}
@@ -32,63 +33,11 @@ use Rattle.iodef_tree.proofs.Order.{bytes_eq-true, bytes_eq-refl}
 use Rattle.std.specs.Prelude.{option_map}
 use Rattle.hub.specs.Alike.{HasOtherUnseenIncident}
 use Rattle.hub_core.proofs.Keeping.{not_both, turned, find_left, found_is}
+use Rattle.hub.proofs.InOrder.{In, in_contained}
 use Rattle.hub.proofs.Numbered.{all_found}
+use Rattle.hub.proofs.Standings.{standing_at-any}
 use Rattle.redact.specs.Told.{is_listed, finds, visible_count, kept_outline, withheld_of}
 use Rattle.policy.specs.declared.case.Case.{Case}
-
-standing_at-any : (s : State) (now : ℤ) (p : Person) (i : Incident) → standing_at s now p i ≡ standing_for s p i
-unfolding standing_at
-standing_at-any s now p i = refl
-
-not-false : (b : Bool) → not b ≡ false → b ≡ true
-not-false true h = refl
-not-false false h = absurd (true≢false h)
-
-pub any-kept : {X : Type 0} (f g : X → Bool) (xs : List X) → ((x : X) → g x ≡ false → f x ≡ false) → list_any f xs ≡ list_any f (filter g xs)
-any-kept f g [] h = refl
-any-kept f g (x ∷ xs) h = by_test (g x) refl (any-kept f g xs h)
-  where
-    by_test : (b : Bool) → g x ≡ b → list_any f xs ≡ list_any f (filter g xs) → (f x || list_any f xs) ≡ list_any f (if b then x ∷ filter g xs else filter g xs)
-    by_test true k ih = ap (λ b. f x || b) ih
-    by_test false k ih = ap (λ b. b || list_any f xs) (h x k) ∙ ih
-
-pub any-each : {X : Type 0} (f g : X → Bool) (xs : List X) → ((y : X) → f y ≡ g y) → list_any f xs ≡ list_any g xs
-any-each f g [] k = refl
-any-each f g (y ∷ ys) k = ap (λ b. b || list_any f ys) (k y) ∙ ap (λ b. g y || b) (any-each f g ys k)
-
-pub filter-within : {X : Type 0} (f g : X → Bool) (xs : List X) → ((x : X) → g x ≡ false → f x ≡ false) → filter f xs ≡ filter f (filter g xs)
-filter-within f g [] h = refl
-filter-within f g (x ∷ xs) h = by_test (g x) refl (filter-within f g xs h)
-  where
-    by_test : (b : Bool) → g x ≡ b → filter f xs ≡ filter f (filter g xs) → (if f x then x ∷ filter f xs else filter f xs) ≡ filter f (if b then x ∷ filter g xs else filter g xs)
-    by_test true k ih = ap (λ ys. if f x then x ∷ ys else ys) ih
-    by_test false k ih = cond-false (f x) _ _ (h x k) ∙ ih
-
--- what passes two tests, of lists that agree but where the first fails
-pub filter-both : {X : Type 0} (f g : X → Bool) (xs : List X) → filter f (filter g xs) ≡ filter (λ x. g x && f x) xs
-filter-both f g [] = refl
-filter-both f g (x ∷ xs) = by_test (g x) (filter-both f g xs)
-  where
-    by_test : (b : Bool) → filter f (filter g xs) ≡ filter (λ x. g x && f x) xs →
-        filter f (if b then x ∷ filter g xs else filter g xs) ≡ (if b && f x then x ∷ filter (λ x. g x && f x) xs else filter (λ x. g x && f x) xs)
-    by_test true ih = ap (λ ys. if f x then x ∷ ys else ys) ih
-    by_test false ih = ih
-
-filter-passing : {X : Type 0} (f g : X → Bool) (xs : List X) → AllByRecursion (λ x. g x ≡ false → f x ≡ false) xs → filter f xs ≡ filter f (filter g xs)
-filter-passing f g [] h = refl
-filter-passing f g (x ∷ xs) h = by_test (g x) refl (filter-passing f g xs h.1)
-  where
-    by_test : (b : Bool) → g x ≡ b → filter f xs ≡ filter f (filter g xs) → (if f x then x ∷ filter f xs else filter f xs) ≡ filter f (if b then x ∷ filter g xs else filter g xs)
-    by_test true k ih = ap (λ ys. if f x then x ∷ ys else ys) ih
-    by_test false k ih = cond-false (f x) _ _ (h.0 k) ∙ ih
-
-filter-agree : {X : Type 0} (f f' g : X → Bool) (xs : List X) → ((x : X) → g x ≡ true → f x ≡ f' x) → filter f (filter g xs) ≡ filter f' (filter g xs)
-filter-agree f f' g [] h = refl
-filter-agree f f' g (x ∷ xs) h = by_test (g x) refl (filter-agree f f' g xs h)
-  where
-    by_test : (b : Bool) → g x ≡ b → filter f (filter g xs) ≡ filter f' (filter g xs) → filter f (if b then x ∷ filter g xs else filter g xs) ≡ filter f' (if b then x ∷ filter g xs else filter g xs)
-    by_test true k ih = ap (λ ys. if f x then x ∷ ys else ys) ih ∙ ap (λ b. if b then x ∷ filter f' (filter g xs) else filter f' (filter g xs)) (h x k)
-    by_test false k ih = ih
 
 abbrev pub other : ℕ → Incident → Bool
 other n i = not (i.number == n)
@@ -111,8 +60,7 @@ page-but n after f g xs ys same agree none none' =
     late false b h = refl
 
     both : (test : Incident → Bool) (zs : List Incident) → AllByRecursion (λ i. other n i ≡ false → test i ≡ false) zs → AllByRecursion (λ i. other n i ≡ false → (nat_lt after i.number && test i) ≡ false) zs
-    both test [] h = tt
-    both test (z ∷ zs) h = (λ k. late (nat_lt after z.number) (test z) (h.0 k), both test zs h.1)
+    both test zs h = each-from (λ i. other n i ≡ false → test i ≡ false) (λ i. other n i ≡ false → (nat_lt after i.number && test i) ≡ false) (λ i e k. late (nat_lt after i.number) (test i) (e k)) zs h
 
 -- what is asked of the incident of a number is asked of each that has the number
 none-of : (s : State) (n : ℕ) (test : Incident → Bool) → IsSound s → option_map_or test (incident_of n s) false ≡ false → AllByRecursion (λ i. other n i ≡ false → test i ≡ false) s.incidents
@@ -170,10 +118,6 @@ module _ (now : ℤ) (a : Account) (s t : State) (ss : IsSound s) (st : IsSound 
         ∙ sym (any-kept (is_recipient_being i.number x) (λ (r : Recipient). not (r.incident == n)) t.recipients (apart x));
   }
     where
-      not-true : (b : Bool) → not b ≡ true → b ≡ false
-      not-true true h = absurd (false≢true h)
-      not-true false h = refl
-
       apart : (x : Target) (r : Recipient) → not (r.incident == n) ≡ false → is_recipient_being i.number x r ≡ false
       apart x r gone = and_left (r.incident == i.number) _ (not_both r.incident n i.number (turned i.number n (not-true (i.number == n) k)) (not-false (r.incident == n) gone))
 
@@ -193,10 +137,6 @@ module _ (now : ℤ) (a : Account) (s t : State) (ss : IsSound s) (st : IsSound 
       ap (λ gs. record { source = i.source; gates = map case_gate gs; permissions = map case_permission (filter (λ (x : Permission). x.incident == i.number) s.permissions) }) gates
       ∙ ap (λ xs. record { source = i.source; gates = map case_gate (filter (λ (g : Gate). g.incident == i.number) t.gates); permissions = map case_permission xs }) permissions
     where
-      not-true : (b : Bool) → not b ≡ true → b ≡ false
-      not-true true h = absurd (false≢true h)
-      not-true false h = refl
-
       apart : (m : ℕ) → not (m == n) ≡ false → (m == i.number) ≡ false
       apart m gone = not_both m n i.number (turned i.number n (not-true (i.number == n) k)) (not-false (m == n) gone)
 
@@ -209,15 +149,6 @@ module _ (now : ℤ) (a : Account) (s t : State) (ss : IsSound s) (st : IsSound 
       (none-of s n (is_served s now a.person) ss h.first) (none-of t n (is_served t now a.person) st h.second))
 
 -- ---- who asks
-
-abbrev pub In : {X : Type 0} → List X → X → Type 0
-In [] x = ⊥
-In (y ∷ ys) x = (y ≡ x) ⊎ In ys x
-
-pub in_at : {X : Type 0} (xs : List X) (k : ℕ) (x : X) → k < length xs → get_or xs k x ≡ x → In xs x
-in_at [] k x low h = absurd (omega (arith, low))
-in_at (y ∷ ys) zero x low h = inl h
-in_at (y ∷ ys) (suc k) x low h = inr (in_at ys k x (omega (arith, low)) h)
 
 apart-from : (b : Account) (bs : List Account) (a : Account) → AllByRecursion (λ (y : Account). b.key ≢ y.key) bs → In bs a → b.key ≢ a.key
 apart-from b [] a h k = absurd k
@@ -236,7 +167,7 @@ found-by-key (b ∷ bs) a h (inr k) = by_test (bytes_eq b.key a.key) refl (found
 
 -- a person that is there is known by its key
 pub known : (s : State) (a : Account) → IsSound s → Contains s.directory.accounts a → caller_of s (Digest a.key) ≡ if_active (Some a.person)
-known s a sound there = ap (λ o. if_active (option_map person_in o)) (found-by-key s.directory.accounts a sound.directory.accounts.keys (in_at s.directory.accounts there.0 a there.1 there.2))
+known s a sound there = ap (λ o. if_active (option_map person_in o)) (found-by-key s.directory.accounts a sound.directory.accounts.keys (in_contained s.directory.accounts a there))
 
 -- ---- the step
 
@@ -253,10 +184,6 @@ unfound s now p i needle class h = by_test (is_found s now p i needle class) ref
     by_test : (b : Bool) → is_found s now p i needle class ≡ b → is_found s now p i needle class ≡ false
     by_test true e = absurd (false≢true (sym h ∙ found-listed i.document (case_for s i) (standing_at s now p i) needle class e))
     by_test false e = e
-
-all-weaker : (P Q : Incident → Type 0) → ((i : Incident) → P i → Q i) → (is : List Incident) → AllByRecursion P is → AllByRecursion Q is
-all-weaker P Q f [] h = tt
-all-weaker P Q f (i ∷ is) h = (f i h.0, all-weaker P Q f is h.1)
 
 unseen-view : (s : State) (now : ℤ) (p : Person) (o : Option Incident) → option_map_or (is_served s now p) o false ≡ false → viewed s now p o ≡ nothing_for_you
 unseen-view s now p None h = refl
@@ -279,8 +206,8 @@ module _ (now : ℤ) (a : Account) (s t : State) (ss : IsSound s) (st : IsSound 
   found-page needle class after = ap (λ (is : List Incident). take 100 (map entry_of is))
       (page-but m after (λ i. is_found s now p i needle class) (λ i. is_found t now p i needle class) s.incidents t.incidents h.others.incidents
       (λ i k. ap (λ c. finds i.document c (standing_at s now p i) needle class) (case-same now a s t ss st h i k) ∙ ap (λ x. finds i.document (case_for t i) x needle class) (standing-same now a s t ss st h i k))
-      (all-weaker _ _ (λ i f k. unfound s now p i needle class (f k)) s.incidents none)
-      (all-weaker _ _ (λ i f k. unfound t now p i needle class (f k)) t.incidents none'))
+      (each-from _ _ (λ i f k. unfound s now p i needle class (f k)) s.incidents none)
+      (each-from _ _ (λ i f k. unfound t now p i needle class (f k)) t.incidents none'))
 
   late : (x y : Bool) → y ≡ false → (x && y) ≡ false
   late true y k = k
@@ -290,8 +217,8 @@ module _ (now : ℤ) (a : Account) (s t : State) (ss : IsSound s) (st : IsSound 
   addressed-page after = ap (λ (is : List Incident). take 100 (map entry_of is))
       (page-but m after (λ i. is_addressed s now p i && is_served s now p i) (λ i. is_addressed t now p i && is_served t now p i) s.incidents t.incidents h.others.incidents
       (λ i k. ap (λ x. (x.person || x.addressed) && is_served s now p i) (standing-same now a s t ss st h i k) ∙ ap (λ b. is_addressed t now p i && b) (served-same now a s t ss st h i k))
-      (all-weaker _ _ (λ i f k. late (is_addressed s now p i) (is_served s now p i) (f k)) s.incidents none)
-      (all-weaker _ _ (λ i f k. late (is_addressed t now p i) (is_served t now p i) (f k)) t.incidents none'))
+      (each-from _ _ (λ i f k. late (is_addressed s now p i) (is_served s now p i) (f k)) s.incidents none)
+      (each-from _ _ (λ i f k. late (is_addressed t now p i) (is_served t now p i) (f k)) t.incidents none'))
 
   viewed-other : (i : Incident) → other m i ≡ true → viewed s now p (Some i) ≡ viewed t now p (Some i)
   viewed-other i k =

@@ -2,6 +2,7 @@
 ghost use Rattle.std.specs.Prelude.{◌≡◌, IfOk, true};
 ghost use Rattle.circle.specs.declared.directory.Account.{Account};
 ghost use Rattle.hub_core.specs.State.{State};
+ghost use Rattle.hub_core.specs.Shelves.{HasFailed};
 ghost use Rattle.hub_core.specs.Sound.{IsSound};
 ghost use Rattle.hub.specs.Alike.{IsAlike, is_told};
 ghost use Rattle.hub.specs.declared.key.Key.TheVariants.{Digest};
@@ -12,8 +13,9 @@ use hub::{Hub, Key};
 use hub_core::{Request, Shelf};
 use std::alloc::{AllocError, Global};
 
-/// Asks two hubs the same, and gives the bytes of both replies. Where their worlds are alike for who asks, the bytes are the
-/// same, unless one of the requests was given up.
+/// Asks two hubs the same, and gives the bytes of both replies: each tells one step of its own hub. Where the two worlds are
+/// alike for who asks, and the request is one that tells of incidents, of groups or of the caller, the bytes are the same,
+/// unless one of the requests was given up.
 pub fn told_by_both<A: Shelf, B: Shelf>(
     alloc: Global,
     first: &mut Hub<A>,
@@ -26,9 +28,9 @@ pub fn told_by_both<A: Shelf, B: Shelf>(
         IsSound s → IsSound t → IsAlike now a s t → key.now ≡ Digest a.key → is_told request.now ≡ true →
         IfOk result (λ both. IsWrittenAlike both.0.items both.1.items) }
     ensures first { A.doubts first.new ≡ 0 → (s : State) → A.has first.old s → IsSound s →
-        IfOk result (λ both. IsToldOf (A.has first.new) s (now, key.now, request.now) both.0.items) }
+        IfOk result (λ both. IsToldOf (A.has first.new) (HasFailed (A.failed first.old) (A.failed first.new)) s (now, key.now, request.now) both.0.items) }
     ensures second { B.doubts second.new ≡ 0 → (t : State) → B.has second.old t → IsSound t →
-        IfOk result (λ both. IsToldOf (B.has second.new) t (now, key.now, request.now) both.1.items) }
+        IfOk result (λ both. IsToldOf (B.has second.new) (HasFailed (B.failed second.old) (B.failed second.new)) t (now, key.now, request.now) both.1.items) }
 {
     let one = first.answer(alloc, now, key, request);
     let other = second.answer(alloc, now, key, request);

@@ -11,7 +11,9 @@
 //!     gate|STANDING|LEVEL                   whether it passes the gate; LEVEL may have a group, as 4:7
 //!     grantee|STANDING|GRANTEE              whether the grantee includes it
 //!     decide|STANDING|GATES|PERMISSIONS|POINTERS      the verdict of each pointer
-//!     excerpt|STANDING|GATES|PERMISSIONS              what the reader is served of it
+//!     excerpt|STANDING|GATES|PERMISSIONS              what the reader is served of it, at once and line by line
+//!     kept|STANDING|GATES|PERMISSIONS|POINTER         the labels at a path of what the reader is served
+//!     feed|STANDING|GATES|PERMISSIONS|LINES           what a pass answers of these lines and at the end, of no report
 //!     listed|STANDING|GATES|PERMISSIONS               whether it is listed to the reader
 //!     find|STANDING|GATES|PERMISSIONS|NEEDLE          whether the reader finds the needle in it
 //!     find|STANDING|GATES|PERMISSIONS|NEEDLE|CLASS    the same, in classes of this name
@@ -28,6 +30,7 @@ ghost use Rattle.marking.specs.Marks.{first_bad_marking};
 use crate::alone::answer_alone;
 use crate::labels::{marked, sited};
 use crate::line::Line;
+use crate::rows::fed;
 use crate::served::{answer_to, asker_of};
 use crate::unfit::{Unfit, said};
 use iodef_tree::{Document, Path};
@@ -58,7 +61,8 @@ impl Table {
             "report" => self.read(alloc, line.first),
             "marks" => self.marks(alloc),
             "site" => self.site(alloc, line.first),
-            "decide" | "excerpt" | "listed" | "find" => self.answer_to(alloc, &line),
+            "decide" | "excerpt" | "kept" | "listed" | "find" => self.answer_to(alloc, &line),
+            "feed" => fed(alloc, asker_of(alloc, &line)?, line.fourth),
             _ => answer_alone(alloc, &line),
         }
     }

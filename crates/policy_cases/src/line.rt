@@ -23,7 +23,7 @@ fn words_of(kind: &str) -> Option<(usize, usize)> {
         "order" | "incident" | "gate" | "grantee" | "lists" => Some((2, 2)),
         "label" => Some((2, 3)),
         "excerpt" | "listed" => Some((3, 3)),
-        "decide" => Some((4, 4)),
+        "decide" | "kept" | "feed" => Some((4, 4)),
         "find" => Some((4, 5)),
         _ => None,
     }

@@ -4,7 +4,9 @@ ghost use Rattle.std.specs.Prelude.{◌≡◌, None};
 ghost use Rattle.iodef_tree.specs.Paths.{located};
 ghost use Rattle.marking.specs.Marks.{first_bad_marking};
 
+use crate::labels::sited;
 use crate::line::Line;
+use crate::rows::served_by_lines;
 use crate::unfit::{Unfit, said};
 use crate::verdicts::verdicts;
 use crate::words::{case_of, standing_of};
@@ -36,7 +38,7 @@ fn push_pair(told: &mut String, alloc: Global, place: &Path, rule: Rule) -> Resu
 }
 
 /// How many classes are visible, the document, and each withheld pair.
-fn shown(alloc: Global, excerpt: &Excerpt) -> Result<String, Unfit> {
+pub fn shown(alloc: Global, excerpt: &Excerpt) -> Result<String, Unfit> {
     let classes = excerpt.classes;
     let text = excerpt.document.text(alloc)?;
     let mut told = format!(in alloc; "{classes} {text}")?;
@@ -51,6 +53,34 @@ fn served(alloc: Global, document: &Document, asker: &Asker) -> Result<String, U
 {
     match excerpt(alloc, document, &asker.case, &asker.standing)? {
         Some(excerpt) => shown(alloc, &excerpt),
+        None => said(alloc, "none"),
+    }
+}
+
+/// What the reader is served, where it is the same line by line, else both.
+fn served_twice(
+    alloc: Global,
+    document: &Document,
+    asker: &Asker,
+    line: &Line<'_>,
+) -> Result<String, Unfit>
+    requires { first_bad_marking (located document.now) ≡ None }
+{
+    let served = served(alloc, document, asker)?;
+    let by_lines = served_by_lines(alloc, document, asker_of(alloc, line)?)?;
+    if served == by_lines {
+        return Ok(served);
+    }
+    Ok(format!(in alloc; "{served} and line by line {by_lines}")?)
+}
+
+/// The labels at a path of what the reader is served.
+fn kept(alloc: Global, document: &Document, asker: &Asker, pointer: &str) -> Result<String, Unfit>
+    requires { first_bad_marking (located document.now) ≡ None }
+{
+    let path = Path::parse(alloc, pointer)?;
+    match excerpt(alloc, document, &asker.case, &asker.standing)? {
+        Some(excerpt) => sited(alloc, &excerpt.document, &path),
         None => said(alloc, "none"),
     }
 }
@@ -88,7 +118,8 @@ pub fn answer_to(
 {
     match line.kind {
         "decide" => verdicts(alloc, document, asker, line.fourth),
-        "excerpt" => served(alloc, document, asker),
+        "excerpt" => served_twice(alloc, document, asker, line),
+        "kept" => kept(alloc, document, asker, line.fourth),
         "listed" => listed(alloc, document, asker),
         _ => found(alloc, document, asker, line.fourth, line.fifth),
     }

@@ -13,7 +13,8 @@ use Rattle.redact.specs.Kept.{Verdicts, is_frame, is_wholly_hidden, is_visible_c
 use Rattle.redact.specs.Withheld.{class_places, place_by, told_at_place, withheld_at, withheld_pairs}
 use Rattle.redact.specs.Told.{is_text_kind, has_needle, is_named, is_hit}
 use Rattle.redact.specs.Alike.{class_path, by_class}
-use Rattle.redact.proofs.SameLines.{each, each-from, same_flat, same_marks, same_any, marks, is_empty, any-marks, count-marks}
+use Rattle.redact.proofs.Filtered.{each, each-from}
+use Rattle.redact.proofs.SameLines.{same_flat, same_marks, same_any, marks, is_empty, any-marks, count-marks}
 
 pub record Agree (off : Tokens → Bool) (v v' : Verdicts) : Type 0 where
   pub visible : (p : Tokens) → off p ≡ true → v.visible p ≡ v'.visible p

@@ -4,7 +4,6 @@ use Rattle.std.specs.Prelude.{Some, None, filter, find, nat_lt, is_some, is_none
 use Rattle.std.specs.List.{AllByRecursion, flat_map, list_any, list_all}
 use Rattle.std.specs.Option.{option_or, option_map_or}
 use Rattle.std.specs.Str.{bytes_eq}
-use mathlib.Core.List.{reverse_aux}
 use Rattle.std.proofs.lemmas.Bool.{false≢true, and_left, and_parts, and_from, or_parts, cond-false}
 use Rattle.iodef_tree.specs.Text.{Bytes, Tokens, is_root, same_path, is_prefix, is_under, prefixes}
 use Rattle.iodef_tree.specs.Paths.{LocatedLine, is_class, has_class, below}
@@ -18,86 +17,9 @@ use Rattle.policy.specs.Permissions.{holds_for, is_unmarked_below, covers}
 use Rattle.policy.specs.Verdict.{first_of, refusals_at, refusal_at, handling_for, is_cleared_for, is_covered, is_visible, hidden_by, hiding_rule}
 use Rattle.redact.specs.Told.{attributes_of, some_seen, verdicts_of}
 use Rattle.redact.specs.Alike.{class_path, by_class}
-use Rattle.redact.proofs.SameLines.{each, each-from, same_flat, same_any}
+use Rattle.redact.proofs.Filtered.{each, each-from, all-map, all-back, found-has, find-each, all-each, flat-each, any-each, any-both}
+use Rattle.redact.proofs.SameLines.{same_flat, same_any}
 use Rattle.redact.proofs.AgreedVerdicts.{Agree}
-
--- ---- lists
-
-find-each : {X : Type 0} (f g : X → Bool) (xs : List X) → AllByRecursion (λ x. f x ≡ g x) xs → find f xs ≡ find g xs
-find-each f g [] h = refl
-find-each f g (x ∷ xs) h = ap (λ b. cond b (Some x) (find f xs)) h.0 ∙ ap (λ o. cond (g x) (Some x) o) (find-each f g xs h.1)
-
-all-each : {X : Type 0} (f g : X → Bool) (xs : List X) → AllByRecursion (λ x. f x ≡ g x) xs → list_all f xs ≡ list_all g xs
-all-each f g [] h = refl
-all-each f g (x ∷ xs) h = ap (λ b. b && list_all f xs) h.0 ∙ ap (λ b. g x && b) (all-each f g xs h.1)
-
-flat-each : {X Y : Type 0} (f g : X → List Y) (xs : List X) → AllByRecursion (λ x. f x ≡ g x) xs → flat_map f xs ≡ flat_map g xs
-flat-each f g [] h = refl
-flat-each f g (x ∷ xs) h = ap (λ ys. ys ++ flat_map f xs) h.0 ∙ ap (λ ys. g x ++ ys) (flat-each f g xs h.1)
-
-pub any-each : {X : Type 0} (f g : X → Bool) (xs : List X) → ((y : X) → f y ≡ g y) → list_any f xs ≡ list_any g xs
-any-each f g [] k = refl
-any-each f g (y ∷ ys) k = ap (λ b. b || list_any f ys) (k y) ∙ ap (λ b. g y || b) (any-each f g ys k)
-
-pub any-none : {X : Type 0} (f : X → Bool) (xs : List X) → AllByRecursion (λ x. f x ≡ false) xs → list_any f xs ≡ false
-any-none f [] h = refl
-any-none f (x ∷ xs) h = ap (λ b. b || list_any f xs) h.0 ∙ any-none f xs h.1
-
-pub none-any : {X : Type 0} (f : X → Bool) (xs : List X) → list_any f xs ≡ false → AllByRecursion (λ x. f x ≡ false) xs
-none-any f [] h = tt
-none-any f (x ∷ xs) h = let parts = or_parts (f x) (list_any f xs) h in (parts.0, none-any f xs parts.1)
-
-pub any-kept : {X : Type 0} (f g : X → Bool) (xs : List X) → ((x : X) → g x ≡ false → f x ≡ false) → list_any f xs ≡ list_any f (filter g xs)
-any-kept f g [] h = refl
-any-kept f g (x ∷ xs) h = by_test (g x) refl (any-kept f g xs h)
-  where
-    by_test : (b : Bool) → g x ≡ b → list_any f xs ≡ list_any f (filter g xs) → (f x || list_any f xs) ≡ list_any f (if b then x ∷ filter g xs else filter g xs)
-    by_test true k ih = ap (λ b. f x || b) ih
-    by_test false k ih = ap (λ b. b || list_any f xs) (h x k) ∙ ih
-
-pub filter-within : {X : Type 0} (f g : X → Bool) (xs : List X) → ((x : X) → g x ≡ false → f x ≡ false) → filter f xs ≡ filter f (filter g xs)
-filter-within f g [] h = refl
-filter-within f g (x ∷ xs) h = by_test (g x) refl (filter-within f g xs h)
-  where
-    by_test : (b : Bool) → g x ≡ b → filter f xs ≡ filter f (filter g xs) → (if f x then x ∷ filter f xs else filter f xs) ≡ filter f (if b then x ∷ filter g xs else filter g xs)
-    by_test true k ih = ap (λ ys. if f x then x ∷ ys else ys) ih
-    by_test false k ih = cond-false (f x) _ _ (h x k) ∙ ih
-
-pub any-both : {X : Type 0} (f g : X → Bool) (xs : List X) → list_any f (filter g xs) ≡ list_any (λ x. f x && g x) xs
-any-both f g [] = refl
-any-both f g (x ∷ xs) = by_test (g x) (any-both f g xs)
-  where
-    by_first : (a : Bool) → (a && false) ≡ false
-    by_first true = refl
-    by_first false = refl
-
-    by_same : (a : Bool) → (a && true) ≡ a
-    by_same true = refl
-    by_same false = refl
-
-    by_test : (b : Bool) → list_any f (filter g xs) ≡ list_any (λ x. f x && g x) xs →
-        list_any f (if b then x ∷ filter g xs else filter g xs) ≡ ((f x && b) || list_any (λ x. f x && g x) xs)
-    by_test true ih = ap (λ r. f x || r) ih ∙ sym (ap (λ a. a || list_any (λ x. f x && g x) xs) (by_same (f x)))
-    by_test false ih = ih ∙ sym (ap (λ a. a || list_any (λ x. f x && g x) xs) (by_first (f x)))
-
-all-map : {X Y : Type 0} (P : Y → Type 0) (f : X → Y) (xs : List X) → AllByRecursion (λ x. P (f x)) xs → AllByRecursion P (map f xs)
-all-map P f [] h = tt
-all-map P f (x ∷ xs) h = (h.0, all-map P f xs h.1)
-
-all-onto : {X : Type 0} (P : X → Type 0) (xs ys : List X) → AllByRecursion P xs → AllByRecursion P ys → AllByRecursion P (reverse_aux xs ys)
-all-onto P [] ys h k = k
-all-onto P (x ∷ xs) ys h k = all-onto P xs (x ∷ ys) h.1 (h.0, k)
-
-all-back : {X : Type 0} (P : X → Type 0) (xs : List X) → AllByRecursion P xs → AllByRecursion P (reverse xs)
-all-back P xs h = all-onto P xs [] h tt
-
-found-has : {X : Type 0} (P : X → Type 0) (test : X → Bool) (d : X) (xs : List X) → P d → AllByRecursion P xs → P (unwrap_or (find test xs) d)
-found-has P test d [] h k = h
-found-has P test d (x ∷ xs) h k = by_test (test x) (found-has P test d xs h k.1)
-  where
-    by_test : (b : Bool) → P (unwrap_or (find test xs) d) → P (unwrap_or (cond b (Some x) (find test xs)) d)
-    by_test true ih = k.0
-    by_test false ih = ih
 
 -- ---- prefixes
 
@@ -243,13 +165,13 @@ held-says (e ∷ es) p name = by_test (is_member p name e) (held-says es p name)
     by_test true ih = refl
     by_test false ih = ih
 
-held-same : (keep : LocatedLine → Bool) (es es' : List LocatedLine) (p : Tokens) (name : Bytes) → map by_class (filter keep es) ≡ map by_class (filter keep es') →
-    ((e : LocatedLine) → keep e ≡ false → is_member p name e ≡ false) → held_at es p name ≡ held_at es' p name
-held-same keep es es' p name lines none =
+pub held-same : (keep : LocatedLine → Bool) (es es' : List LocatedLine) (p : Tokens) (name : Bytes) → map by_class (filter keep es) ≡ map by_class (filter keep es') →
+    AllByRecursion (λ e. keep e ≡ false → is_member p name e ≡ false) es → AllByRecursion (λ e. keep e ≡ false → is_member p name e ≡ false) es' → held_at es p name ≡ held_at es' p name
+held-same keep es es' p name lines none none' =
     held-says es p name
     ∙ ap (λ hs. unwrap_or (first_of hs) absent) (same_flat (says p name) (says p name) keep es es' lines
-    (each (λ e. keep e ≡ false → says p name e ≡ []) (λ e k. cond-false (is_member p name e) _ _ (none e k)) es)
-    (each (λ e. keep e ≡ false → says p name e ≡ []) (λ e k. cond-false (is_member p name e) _ _ (none e k)) es')
+    (each-from (λ e. keep e ≡ false → is_member p name e ≡ false) (λ e. keep e ≡ false → says p name e ≡ []) (λ e h k. cond-false (is_member p name e) _ _ (h k)) es none)
+    (each-from (λ e. keep e ≡ false → is_member p name e ≡ false) (λ e. keep e ≡ false → says p name e ≡ []) (λ e h k. cond-false (is_member p name e) _ _ (h k)) es' none')
     (λ e. refl) (each (λ e. keep e ≡ true → says p name e ≡ says p name e) (λ e k. refl) es))
     ∙ sym (held-says es' p name)
 
@@ -272,5 +194,10 @@ pub written-same : (keep : LocatedLine → Bool) (es es' : List LocatedLine) (p 
     has_class es p ≡ has_class es' p → ((name : Bytes) (e : LocatedLine) → keep e ≡ false → is_member p name e ≡ false) → written_label es p ≡ written_label es' p
 written-same keep es es' p lines here none =
     ap (λ b. if b then spelled_by (restriction_at es p) (ext_restriction_at es p) else None) here
-    ∙ ap (λ t. if has_class es' p then spelled_by t (ext_restriction_at es p) else None) (held-same keep es es' p (codes "restriction") lines (none (codes "restriction")))
-    ∙ ap (λ t. if has_class es' p then spelled_by (restriction_at es' p) t else None) (held-same keep es es' p (codes "ext-restriction") lines (none (codes "ext-restriction")))
+    ∙ ap (λ t. if has_class es' p then spelled_by t (ext_restriction_at es p) else None) (held-each (codes "restriction"))
+    ∙ ap (λ t. if has_class es' p then spelled_by (restriction_at es' p) t else None) (held-each (codes "ext-restriction"))
+  where
+    held-each : (name : Bytes) → held_at es p name ≡ held_at es' p name
+    held-each name = held-same keep es es' p name lines
+        (each (λ e. keep e ≡ false → is_member p name e ≡ false) (none name) es)
+        (each (λ e. keep e ≡ false → is_member p name e ≡ false) (none name) es')

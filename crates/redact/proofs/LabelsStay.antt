@@ -5,7 +5,7 @@ use Rattle.std.specs.Prelude.{Option, Some, None, filter, codes, is_some, unwrap
 use Rattle.std.specs.List.{AllByRecursion}
 use Rattle.std.specs.Option.{option_or}
 use Rattle.std.specs.Str.{bytes_eq}
-use Rattle.std.proofs.lemmas.Bool.{false≢true, true≢false, and_left, and_parts, and_from, or_parts, cond-true, cond-false}
+use Rattle.std.proofs.lemmas.Bool.{false≢true, not-false, false_from_ne_true, and_left, and_parts, and_from, or_parts, cond-true, cond-false}
 use Rattle.iodef_tree.specs.Text.{Bytes, Tokens, is_root, same_path, is_prefix}
 use Rattle.iodef_tree.specs.Paths.{LocatedLine, is_class, located, has_class}
 use Rattle.iodef_tree.specs.Tree.{Forest, end, leaf, branch, steps, lines, kind_of, text_of}
@@ -24,8 +24,8 @@ use Rattle.marking.proofs.Bad.{no_class-kind, first_bad}
 use Rattle.policy.specs.Verdict.{first_of}
 use Rattle.redact.specs.Alike.{by_class, is_within, lines_but}
 use Rattle.iodef_tree.specs.Laws.{IsDocument}
-use Rattle.redact.proofs.SameLines.{each, each-from, same_flat}
-use Rattle.redact.proofs.DecidedAlike.{says, held-says, classes-same}
+use Rattle.redact.proofs.Filtered.{each-from}
+use Rattle.redact.proofs.DecidedAlike.{held-same, classes-same}
 
 abbrev is_label_name : Bytes → Bool
 is_label_name name = bytes_eq name (codes "restriction") || bytes_eq name (codes "ext-restriction")
@@ -140,24 +140,6 @@ labels-at-root ls d marked = subst (λ xs. AllByRecursion (IsAtRoot []) (located
     (subst (λ es. AllByRecursion (IsAtRoot []) es) (sym (located-lines d.0 d.1))
     (at-root d.0 1 [] (sound-apart d.0 d.1) (sym (first_bad d.0 d.1) ∙ ap (λ xs. first_bad_marking (located xs)) (sym d.2) ∙ marked)))
 
-not-false : (b : Bool) → not b ≡ false → b ≡ true
-not-false true h = refl
-not-false false h = absurd (true≢false h)
-
-fails : (b : Bool) → (b ≡ true → ⊥) → b ≡ false
-fails true h = absurd (h refl)
-fails false h = refl
-
-held-same : (keep : LocatedLine → Bool) (es es' : List LocatedLine) (p : Tokens) (name : Bytes) → map by_class (filter keep es) ≡ map by_class (filter keep es') →
-    AllByRecursion (λ e. keep e ≡ false → is_member p name e ≡ false) es → AllByRecursion (λ e. keep e ≡ false → is_member p name e ≡ false) es' → held_at es p name ≡ held_at es' p name
-held-same keep es es' p name lines none none' =
-    held-says es p name
-    ∙ ap (λ hs. unwrap_or (first_of hs) absent) (same_flat (says p name) (says p name) keep es es' lines
-    (each-from (λ e. keep e ≡ false → is_member p name e ≡ false) (λ e. keep e ≡ false → says p name e ≡ []) (λ e h k. cond-false (is_member p name e) _ _ (h k)) es none)
-    (each-from (λ e. keep e ≡ false → is_member p name e ≡ false) (λ e. keep e ≡ false → says p name e ≡ []) (λ e h k. cond-false (is_member p name e) _ _ (h k)) es' none')
-    (λ e. refl) (each (λ e. keep e ≡ true → says p name e ≡ says p name e) (λ e k. refl) es))
-    ∙ sym (held-says es' p name)
-
 -- the labels written outside stay
 pub labels-stay : (ls ls' : List Line) (p q : Tokens) → IsDocument ls → IsDocument ls' → first_bad_marking (located ls) ≡ None → first_bad_marking (located ls') ≡ None →
     lines_but (is_within p) ls ≡ lines_but (is_within p) ls' → is_prefix p q ≡ false → written_label (located ls) q ≡ written_label (located ls') q
@@ -177,12 +159,12 @@ labels-stay ls ls' p (x ∷ q') d d' m m' others k =
     (held-same keep es es' (x ∷ q') (codes "ext-restriction") others (none (codes "ext-restriction") es refl (labels-at-root ls d m)) (none (codes "ext-restriction") es' refl (labels-at-root ls' d' m')))
   where
     not-here : (e : LocatedLine) → is_within p e ≡ true → (is_class e && same_path e.path (x ∷ q')) ≡ false
-    not-here e w = fails (is_class e && same_path e.path (x ∷ q')) (λ t.
+    not-here e w = false_from_ne_true (is_class e && same_path e.path (x ∷ q')) (λ t.
         let parts = and_parts (is_class e) (same_path e.path (x ∷ q')) t in
         false≢true (sym k ∙ ap (is_prefix p) (sym (same_path-true e.path (x ∷ q') parts.1) ∙ sym (cond-true (is_class e) e.path e.parent parts.0)) ∙ w))
 
     not-member : (name : Bytes) (e : LocatedLine) → is_label_name name ≡ true → IsAtRoot [] e → is_within p e ≡ true → is_member (x ∷ q') name e ≡ false
-    not-member name e l h w = fails (is_member (x ∷ q') name e) (λ t.
+    not-member name e l h w = false_from_ne_true (is_member (x ∷ q') name e) (λ t.
         let parts = and_parts (same_path e.parent (x ∷ q')) (bytes_eq e.line.name name) t in
         by_kind (is_class e) refl (same_path-true e.parent (x ∷ q') parts.0) (bytes_eq-true e.line.name name parts.1))
       where

@@ -16,6 +16,7 @@ pub mod Promised
 pub mod Fates
 pub mod Spelling
 pub mod Survival
+pub mod Filtered
 pub mod SameLines
 pub mod AgreedVerdicts
 pub mod DecidedAlike

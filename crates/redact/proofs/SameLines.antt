@@ -5,14 +5,7 @@ use Rattle.std.specs.List.{AllByRecursion, flat_map, list_any}
 use Rattle.iodef_tree.specs.Paths.{LocatedLine}
 use Rattle.redact.specs.Alike.{by_class}
 use Rattle.redact.proofs.Counts.{count_by-cons}
-
-pub each : {X : Type 0} (P : X → Type 0) → ((x : X) → P x) → (xs : List X) → AllByRecursion P xs
-each P h [] = tt
-each P h (x ∷ xs) = (h x, each P h xs)
-
-pub each-from : {X : Type 0} (P Q : X → Type 0) → ((x : X) → P x → Q x) → (xs : List X) → AllByRecursion P xs → AllByRecursion Q xs
-each-from P Q h [] e = tt
-each-from P Q h (x ∷ xs) e = (h x e.0, each-from P Q h xs e.1)
+use Rattle.redact.proofs.Filtered.{each-from}
 
 -- ---- joined lists
 

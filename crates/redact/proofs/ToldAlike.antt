@@ -2,7 +2,7 @@
 use Rattle.std.proofs.Common.{◌≡◌, Bool, true, false, not, List, [], ◌∷◌, refl, sym, ◌∙◌, ap, subst, map, if◌then◌else◌, ◌&&◌, ◌||◌, inl, inr}
 use Rattle.std.specs.Prelude.{filter, Contains}
 use Rattle.std.specs.List.{AllByRecursion, list_any, filter_map}
-use Rattle.std.proofs.lemmas.Bool.{false≢true, true≢false, and_left, and_right, and_parts, and_from, or_from, cond-true, cond-false}
+use Rattle.std.proofs.lemmas.Bool.{false≢true, true≢false, not-false, not-true, false_from_ne_true, and_left, and_right, and_parts, and_from, or_from, cond-true, cond-false}
 use Rattle.iodef_tree.specs.Text.{Tokens, is_root, same_path, is_prefix, is_under, prefixes}
 use Rattle.iodef_tree.specs.Paths.{LocatedLine, is_class, located, has_class, below}
 use Rattle.iodef_tree.specs.Tree.{lines}
@@ -25,23 +25,10 @@ use Rattle.redact.specs.Withheld.{Withheld}
 use Rattle.redact.specs.Told.{some_seen, verdicts_of}
 use Rattle.redact.specs.Alike.{Report, class_path, by_class, HasSame, IsToldAlike, is_plain_of, is_within, is_hidden_from, HasOtherPermissions, HasOtherPlainLines, HasOtherHiddenClass, IsAlike, IsMarked}
 use Rattle.iodef_tree.specs.Laws.{IsDocument}
-use Rattle.redact.proofs.SameLines.{each, each-from}
+use Rattle.redact.proofs.Filtered.{each, each-from, any-kept, any-none, none-any, any-both, filter-within}
 use Rattle.redact.proofs.LabelsStay.{labels-stay}
 use Rattle.redact.proofs.AgreedVerdicts.{Agree, Worlds, outline-same, count-same, listed-same, found-same, pairs-same}
-use Rattle.redact.proofs.DecidedAlike.{Decides, verdicts-agree, written-same, classes-same, any-kept, any-none, none-any, any-both, filter-within, prefix-trans, under-prefix, prefixes-are}
-
-not-false : (b : Bool) → not b ≡ false → b ≡ true
-not-false true h = refl
-not-false false h = absurd (true≢false h)
-
-not-true : (b : Bool) → not b ≡ true → b ≡ false
-not-true true h = absurd (false≢true h)
-not-true false h = refl
-
--- a test that leads to a contradiction where it passes
-fails : (b : Bool) → (b ≡ true → ⊥) → b ≡ false
-fails true h = absurd (h refl)
-fails false h = refl
+use Rattle.redact.proofs.DecidedAlike.{Decides, verdicts-agree, written-same, classes-same, prefix-trans, under-prefix, prefixes-are}
 
 same_pairs : (xs ys : List Withheld) → xs ≡ ys → HasSame xs ys
 same_pairs xs ys h = record { first = λ x k. subst (λ zs. Contains zs x) h k; second = λ x k. subst (λ zs. Contains zs x) (sym h) k }
@@ -202,10 +189,10 @@ module _ (s : Standing) (a b : Report) (da : IsMarked a.lines) (db : IsMarked b.
         by_paths (x ∷ r) (y ∷ q) n k = refl
 
     off-up : (r x : Tokens) → off x ≡ true → is_prefix r x ≡ true → off r ≡ true
-    off-up r x k below = ap not (fails (is_prefix p r) (λ t. false≢true (sym (not-true (is_prefix p x) k) ∙ prefix-trans p r x t below)))
+    off-up r x k below = ap not (false_from_ne_true (is_prefix p r) (λ t. false≢true (sym (not-true (is_prefix p x) k) ∙ prefix-trans p r x t below)))
 
     off-classes : (q : Tokens) → off q ≡ true → has_class es q ≡ has_class es' q
-    off-classes q k = classes-same keep_apart es es' q h.others (λ e gone. fails (is_class e && same_path e.path q) (λ t.
+    off-classes q k = classes-same keep_apart es es' q h.others (λ e gone. false_from_ne_true (is_class e && same_path e.path q) (λ t.
         let parts = and_parts (is_class e) (same_path e.path q) t in
         let here : class_path e ≡ q = cond-true (is_class e) e.path e.parent parts.0 ∙ same_path-true e.path q parts.1 in
         false≢true (sym (not-true (is_prefix p q) k) ∙ ap (is_prefix p) (sym here) ∙ not-false (is_within p e) gone)))
@@ -216,7 +203,7 @@ module _ (s : Standing) (a b : Report) (da : IsMarked a.lines) (db : IsMarked b.
     off-refused : (q : Tokens) → off q ≡ true → refusals_at a.case s q ≡ refusals_at b.case s q
     off-refused q k =
         let no : (g : Gate) → not (is_prefix p g.path) ≡ false → same_path g.path q ≡ false = λ g gone.
-        fails (same_path g.path q) (λ t. false≢true (sym (not-true (is_prefix p q) k) ∙ ap (is_prefix p) (sym (same_path-true g.path q t)) ∙ not-false (is_prefix p g.path) gone)) in
+        false_from_ne_true (same_path g.path q) (λ t. false≢true (sym (not-true (is_prefix p q) k) ∙ ap (is_prefix p) (sym (same_path-true g.path q t)) ∙ not-false (is_prefix p g.path) gone)) in
         let f : Gate → Bool = λ g. same_path g.path q in
         let o : Gate → Bool = λ g. not (is_prefix p g.path) in
         ap (filter_map (passage_of s)) (filter-within f o a.case.gates no ∙ ap (filter f) h.gates ∙ sym (filter-within f o b.case.gates no))
@@ -224,7 +211,7 @@ module _ (s : Standing) (a b : Report) (da : IsMarked a.lines) (db : IsMarked b.
     off-granted : (xs : List LocatedLine) (x : Tokens) → off x ≡ true → is_covered xs a.case s x ≡ is_covered xs b.case s x
     off-granted xs x k =
         let no : (g : Permission) → not (is_prefix p g.path) ≡ false → covers xs s x g ≡ false = λ g gone.
-        fails (covers xs s x g) (λ t.
+        false_from_ne_true (covers xs s x g) (λ t.
         let one = and_parts (holds_for s g) _ t in
         let two = and_parts (is_prefix g.path x) _ one.1 in
         false≢true (sym (not-true (is_prefix p x) k) ∙ prefix-trans p g.path x (not-false (is_prefix p g.path) gone) two.0)) in
@@ -236,7 +223,7 @@ module _ (s : Standing) (a b : Report) (da : IsMarked a.lines) (db : IsMarked b.
     hidden_decides : Decides off s es es' a.case b.case
     hidden_decides = record {
       reads = record {
-        root = ap not (fails (is_prefix p []) (λ t. true≢false (prefix-deep [] t)));
+        root = ap not (false_from_ne_true (is_prefix p []) (λ t. true≢false (prefix-deep [] t)));
         up = λ x k. each-from (λ r. is_prefix r x ≡ true) (λ r. off r ≡ true) (λ r below. off-up r x k below) (prefixes x) (prefixes-are x);
         classes = off-classes;
         written = off-written;
@@ -260,10 +247,10 @@ module _ (s : Standing) (a b : Report) (da : IsMarked a.lines) (db : IsMarked b.
 
     -- a class at p or below it isn't visible
     unseen-class : (visible : Tokens → Bool) (xs : List LocatedLine) → AreHidden visible xs → (q : Tokens) → has_class xs q ≡ true → is_prefix p q ≡ true → visible q ≡ false
-    unseen-class visible xs hidden q here t = fails (visible q) (λ sees. false≢true (sym (none sees) ∙ here))
+    unseen-class visible xs hidden q here t = false_from_ne_true (visible q) (λ sees. false≢true (sym (none sees) ∙ here))
       where
         one : visible q ≡ true → (x : LocatedLine) → ((is_class x && visible x.path) && is_prefix p x.path) ≡ false → (is_class x && same_path x.path q) ≡ false
-        one sees x k = fails (is_class x && same_path x.path q) (λ u.
+        one sees x k = false_from_ne_true (is_class x && same_path x.path q) (λ u.
             let parts = and_parts (is_class x) (same_path x.path q) u in
             let at = same_path-true x.path q parts.1 in
             false≢true (sym k ∙ and_from (is_class x && visible x.path) (is_prefix p x.path)
@@ -278,10 +265,10 @@ module _ (s : Standing) (a b : Report) (da : IsMarked a.lines) (db : IsMarked b.
     unseen-line visible xs hidden e k up = by_kind (is_class e) k
       where
         by_kind : (t : Bool) → ((t && visible e.path) && is_prefix p e.path) ≡ false → (is_prefix p (if t then e.path else e.parent) && visible (if t then e.path else e.parent)) ≡ false
-        by_kind true k = fails (is_prefix p e.path && visible e.path) (λ u.
+        by_kind true k = false_from_ne_true (is_prefix p e.path && visible e.path) (λ u.
             let parts = and_parts (is_prefix p e.path) (visible e.path) u in
             false≢true (sym k ∙ and_from (visible e.path) (is_prefix p e.path) parts.1 parts.0))
-        by_kind false k = fails (is_prefix p e.parent && visible e.parent) (λ u.
+        by_kind false k = false_from_ne_true (is_prefix p e.parent && visible e.parent) (λ u.
             let parts = and_parts (is_prefix p e.parent) (visible e.parent) u in
             let here : has_class xs e.parent ≡ true = sym (ap (λ b. b || has_class xs e.parent) (prefix-deep e.parent parts.0)) ∙ up in
             false≢true (sym (unseen-class visible xs hidden e.parent here parts.0) ∙ parts.1))
@@ -297,7 +284,7 @@ module _ (s : Standing) (a b : Report) (da : IsMarked a.lines) (db : IsMarked b.
     unseen-second = let hidden = hidden-of b h.second in unseen-lines (is_visible es' b.case s) es' es' hidden hidden (parents-of b.lines db.document)
 
     unseen-at : (visible : Tokens → Bool) (e : LocatedLine) → (is_within p e && visible (class_path e)) ≡ false → is_prefix p (class_path e) ≡ true → visible (class_path e) ≡ false
-    unseen-at visible e k t = fails (visible (class_path e)) (λ sees. false≢true (sym k ∙ and_from (is_within p e) (visible (class_path e)) t sees))
+    unseen-at visible e k t = false_from_ne_true (visible (class_path e)) (λ sees. false≢true (sym k ∙ and_from (is_within p e) (visible (class_path e)) t sees))
 
     class-unseen : (visible : Tokens → Bool) (e : LocatedLine) → (is_within p e && visible (class_path e)) ≡ false → keep_apart e ≡ false → (is_class e && visible e.path) ≡ false
     class-unseen visible e k gone = by_kind (is_class e) (unseen-at visible e k (not-false (is_within p e) gone))
@@ -322,7 +309,7 @@ module _ (s : Standing) (a b : Report) (da : IsMarked a.lines) (db : IsMarked b.
         (each-from (λ e. (is_within p e && visible (class_path e)) ≡ false) (λ e. ((is_class e && visible e.path) && is_under q e.path) ≡ false) one xs unseen)
       where
         one : (e : LocatedLine) → (is_within p e && visible (class_path e)) ≡ false → ((is_class e && visible e.path) && is_under q e.path) ≡ false
-        one e k = fails ((is_class e && visible e.path) && is_under q e.path) (λ u.
+        one e k = false_from_ne_true ((is_class e && visible e.path) && is_under q e.path) (λ u.
             let first = and_parts (is_class e && visible e.path) (is_under q e.path) u in
             let second = and_parts (is_class e) (visible e.path) first.0 in
             let here : class_path e ≡ e.path = cond-true (is_class e) e.path e.parent second.0 in

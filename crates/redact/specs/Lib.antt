@@ -12,4 +12,4 @@ pub mod Search
 pub mod Ties
 pub mod Laws
 pub mod Alike
-pub mod Fed
+pub mod Feeding

@@ -1,11 +1,11 @@
-//! Lines that come one at a time, until a fault was answered.
+//! The lines of a document as they come one at a time, until a fault was answered.
 
 ghost use Rattle.std.specs.Prelude.{◌≡◌, ◌++◌, ◌∷◌, [], List, true, false, None, IfOk, IfErr, IfSome, OnOk, OnErr, Err};
 ghost use Rattle.iodef_tree.specs.Outline.{back, is_outline};
 ghost use Rattle.iodef_tree.specs.Shown.{Shows};
 ghost use Rattle.iodef_tree.specs.declared.line.Line.{Line as Row};
 ghost use Rattle.iodef_tree.specs.declared.fault.OutlineFault.TheVariants.{BadOutline};
-ghost use Rattle.redact.specs.Fed.{Takes};
+ghost use Rattle.redact.specs.Feeding.{TakesLine};
 
 use iodef_tree::{Builder, Document, Line, OutlineFault, Shape};
 use std::alloc::{AllocError, Global};
@@ -23,9 +23,9 @@ impl Model for Intake {
     ghost use Rattle.std.specs.Prelude.{◌≡◌, None, true};
     ghost use Rattle.iodef_tree.specs.Outline.{back, is_outline};
     ghost use Rattle.iodef_tree.specs.Shown.{Shows};
-    ghost use Rattle.redact.specs.Fed.{Fed};
+    ghost use Rattle.redact.specs.Feeding.{Progress};
 
-    ghost Value = { Fed };
+    ghost Value = { Progress };
 
     ghost view = { λ i. record { lines = i.lines.items; fault = i.fault } };
 
@@ -61,7 +61,7 @@ fn document_of(alloc: Global, lines: Vec<Line>) -> Result<Document, AllocError>
 }
 
 impl Intake {
-    ghost use Rattle.redact.specs.Fed.{Fed};
+    ghost use Rattle.redact.specs.Feeding.{Progress};
 
     /// With no line yet; takes no memory.
     pub(crate) fn new(alloc: Global) -> Intake
@@ -76,7 +76,7 @@ impl Intake {
 
     /// One more line.
     pub(crate) fn take(&mut self, line: Line) -> Result<(), OutlineFault>
-        ensures { Takes self.old line result self.new }
+        ensures { TakesLine self.old line result self.new }
     {
         if let Some(fault) = self.fault {
             return Err(fault);

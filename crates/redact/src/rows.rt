@@ -1,11 +1,11 @@
 //! What a reader is served of a document whose lines come one at a time.
 
-ghost use Rattle.std.specs.Prelude.{◌≡◌, None, Err, IfOk, IfErr, IfSome};
+ghost use Rattle.std.specs.Prelude.{◌≡◌, true, None, Err, is_some, IfOk, IfErr, IfSome};
 ghost use Rattle.iodef_tree.specs.Paths.{located};
 ghost use Rattle.iodef_tree.specs.declared.fault.OutlineFault.TheVariants.{NoMemory};
 ghost use Rattle.marking.specs.Marks.{first_bad_marking};
 ghost use Rattle.redact.specs.Excerpts.{Gives, LabelsSurvive};
-ghost use Rattle.redact.specs.Fed.{Passed, Feeds};
+ghost use Rattle.redact.specs.Feeding.{FeedsLine};
 
 use crate::given::excerpt;
 use crate::intake::Intake;
@@ -24,6 +24,7 @@ pub fn excerpt_if_marked(
     standing: &Standing,
 ) -> Result<Option<Excerpt>, AllocError>
     ensures told { first_bad_marking (located document.now) ≡ None → IfOk result (λ r. Gives document.now case.now standing.now r) }
+    ensures refused { is_some (first_bad_marking (located document.now)) ≡ true → IfOk result (λ r. r ≡ None) }
     ensures checked { IfOk result (λ r. IfSome r (λ e. first_bad_marking (located e.document) ≡ None)) }
     ensures labels { first_bad_marking (located document.now) ≡ None → IfOk result (λ r. IfSome r (λ e. LabelsSurvive document.now case.now standing.now e.document)) }
 {
@@ -45,9 +46,9 @@ pub struct RowPass {
 }
 
 impl Model for RowPass {
-    ghost use Rattle.redact.specs.Fed.{Passed};
+    ghost use Rattle.redact.specs.Feeding.{PassState};
 
-    ghost Value = { Passed };
+    ghost Value = { PassState };
 
     ghost view = { λ p. record { case = p.case; standing = p.standing; fed = p.intake } };
 }
@@ -69,7 +70,7 @@ impl RowPass {
 
     /// One more line. BadOutline exactly where the lines with it are no outline. After a fault each call answers that fault.
     pub fn feed(&mut self, line: Line) -> Result<(), OutlineFault>
-        ensures { Feeds self.old line result self.new }
+        ensures { FeedsLine self.old line result self.new }
     {
         self.intake.take(line)
     }
@@ -78,6 +79,7 @@ impl RowPass {
     pub fn finish(self) -> Result<Option<Excerpt>, OutlineFault>
         ensures ended { IfSome self.fed.fault (λ f. result ≡ Err f) }
         ensures told { self.fed.fault ≡ None → first_bad_marking (located self.fed.lines) ≡ None → IfOk result (λ r. Gives self.fed.lines self.case self.standing r) }
+        ensures refused { self.fed.fault ≡ None → is_some (first_bad_marking (located self.fed.lines)) ≡ true → IfOk result (λ r. r ≡ None) }
         ensures checked { IfOk result (λ r. IfSome r (λ e. first_bad_marking (located e.document) ≡ None)) }
         ensures labels { self.fed.fault ≡ None → first_bad_marking (located self.fed.lines) ≡ None → IfOk result (λ r. IfSome r (λ e. LabelsSurvive self.fed.lines self.case self.standing e.document)) }
         ensures memory { self.fed.fault ≡ None → IfErr result (λ f. f ≡ NoMemory) }

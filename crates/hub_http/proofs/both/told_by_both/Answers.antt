@@ -29,6 +29,7 @@ returns-clause-first g c = λ clean s has sound.
       left = h.0;
       step = subst (λ (x : ℤ). IsStep s (x, c.args.key.now, c.args.request.now) c.answer-one.result h.0) (to_z-of_z w64 c.args.now c.ranges.now) h.1;
       after = h.2;
+      cause = c.answer-one.ensures.cause clean s has sound;
       told = c.in_ok-told.ensures;
     }
 
@@ -40,5 +41,6 @@ returns-clause-second g c = λ clean t has sound.
       left = h.0;
       step = subst (λ (x : ℤ). IsStep t (x, c.args.key.now, c.args.request.now) c.answer-other.result h.0) (to_z-of_z w64 c.args.now c.ranges.now) h.1;
       after = h.2;
+      cause = c.answer-other.ensures.cause clean t has sound;
       told = c.in_ok-told_other.ensures;
     }

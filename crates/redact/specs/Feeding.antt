@@ -1,4 +1,4 @@
--- Lines that come one at a time, and what is answered of each.
+-- A pass that is fed the lines of a document one at a time, and what it answers of each.
 use Rattle.std.specs.Prelude.{◌≡◌, List, [], ◌∷◌, ◌++◌, true, false, Option, Some, None, Result, Err, OnOk, IfErr, IfSome}
 use Rattle.iodef_tree.specs.Outline.{is_outline}
 use Rattle.iodef_tree.specs.declared.line.Line.{Line}
@@ -7,25 +7,26 @@ use Rattle.iodef_tree.specs.declared.fault.OutlineFault.TheVariants.{BadOutline}
 use Rattle.policy.specs.declared.standing.Standing.{Standing}
 use Rattle.policy.specs.declared.case.Case.{Case}
 
--- the lines so far, and the fault that was answered, if any
-pub record Fed : Type 0 where
+-- the lines that came so far, and the fault that was answered, if any
+pub record Progress : Type 0 where
   pub lines : List Line
   pub fault : Option OutlineFault
 
 -- One more line is taken exactly where the lines with it are an outline, unless memory is wanting. After a fault nothing
 -- changes any more, and it is answered again.
-pub record Takes {T : Type 0} (old : Fed) (line : Line) (result : Result T OutlineFault) (new : Fed) : Type 0 where
+pub record TakesLine {T : Type 0} (old : Progress) (line : Line) (result : Result T OutlineFault) (new : Progress) : Type 0 where
   pub ended : IfSome old.fault (λ f. (result ≡ Err f) × (new ≡ old))
   pub taken : old.fault ≡ None → OnOk result ((is_outline (old.lines ++ line ∷ []) ≡ true) × (new ≡ record { lines = old.lines ++ line ∷ []; fault = None }))
   pub refused : old.fault ≡ None → IfErr result (λ f. (f ≡ BadOutline → is_outline (old.lines ++ line ∷ []) ≡ false) × (new ≡ record { lines = old.lines; fault = Some f }))
 
--- a pass or a probe, as its contract sees it: for whom, by what, and what came
-pub record Passed : Type 0 where
+-- a pass as its contracts see it: by what it judges, for whom, and what came so far
+pub record PassState : Type 0 where
   pub case : Case
   pub standing : Standing
-  pub fed : Fed
+  pub fed : Progress
 
-pub record Feeds {T : Type 0} (old : Passed) (line : Line) (result : Result T OutlineFault) (new : Passed) : Type 0 where
+-- a pass takes one more line
+pub record FeedsLine {T : Type 0} (old : PassState) (line : Line) (result : Result T OutlineFault) (new : PassState) : Type 0 where
   pub case : new.case ≡ old.case
   pub standing : new.standing ≡ old.standing
-  pub takes : Takes old.fed line result new.fed
+  pub takes : TakesLine old.fed line result new.fed

@@ -1,0 +1,160 @@
+//! Two worlds that are asked the same.
+
+use crate::asking::{Asked, asked_by};
+use crate::world::{MOMENT, World, in_lists, in_tables};
+use hub::Hub;
+use hub_core::Shelf;
+use hub_http::told_by_both;
+use std::alloc::{AllocError, Global};
+use std::str::from_utf8;
+
+/// The blocks that came so far: the circle, the world that others are compared with, and what is asked.
+#[derive(Drop)]
+pub struct Comparison {
+    alloc: Global,
+    circle: Option<String>,
+    first: Option<String>,
+    asked: Option<Vec<Asked>>,
+}
+
+/// Two worlds, and what is asked of both.
+#[derive(Clone, Copy)]
+struct Pair<'a> {
+    first: World<'a>,
+    other: World<'a>,
+    asked: &'a [Asked],
+}
+
+/// The bytes behind the head of a reply, as text.
+fn body_of(reply: &[u8]) -> &str {
+    let text = from_utf8(reply).unwrap_or("not UTF-8");
+    match text.split_once("\r\n\r\n") {
+        Some((_, body)) => body,
+        None => text,
+    }
+}
+
+/// The body of both replies where they are the same bytes, else that of each.
+fn told(alloc: Global, one: &[u8], other: &[u8]) -> Result<String, AllocError> {
+    let first = body_of(one);
+    let second = body_of(other);
+    if one == other {
+        String::from_str(alloc, first)
+    } else {
+        format!(in alloc; "{first} and {second}")
+    }
+}
+
+/// What both hubs tell for each request; none where one of them wasn't made.
+fn told_by_hubs<A: Shelf + Drop, B: Shelf + Drop>(
+    alloc: Global,
+    first: Option<Hub<A>>,
+    other: Option<Hub<B>>,
+    asked: &[Asked],
+) -> Result<Option<Vec<String>>, AllocError> {
+    let (Some(mut first), Some(mut other)) = (first, other) else {
+        return Ok(None);
+    };
+    let mut lines = Vec::new(alloc);
+    for Asked { key, request } in asked {
+        let (one, two) = told_by_both(alloc, &mut first, &mut other, MOMENT, key, request)?;
+        lines.push(told(alloc, &one, &two)?)?;
+    }
+    Ok(Some(lines))
+}
+
+impl<'a> Pair<'a> {
+    fn told_in_memory(&self, alloc: Global) -> Result<Option<Vec<String>>, AllocError> {
+        let first = in_lists(alloc, self.first)?;
+        told_by_hubs(alloc, first, in_lists(alloc, self.other)?, self.asked)
+    }
+
+    /// Whether the same is told where the first world stands in tables, the other, or both.
+    fn is_told_over_tables(&self, alloc: Global, told: &[String]) -> Result<bool, AllocError> {
+        let first = in_tables(alloc, self.first)?;
+        let mixed = told_by_hubs(alloc, first, in_lists(alloc, self.other)?, self.asked)?;
+        let first = in_lists(alloc, self.first)?;
+        let turned = told_by_hubs(alloc, first, in_tables(alloc, self.other)?, self.asked)?;
+        let first = in_tables(alloc, self.first)?;
+        let both = told_by_hubs(alloc, first, in_tables(alloc, self.other)?, self.asked)?;
+        Ok(is_told(&mixed, told) && is_told(&turned, told) && is_told(&both, told))
+    }
+
+    /// What is told for each request, and whether it is told over tables too.
+    fn lines(&self, alloc: Global) -> Result<Vec<String>, AllocError> {
+        let Some(mut lines) = self.told_in_memory(alloc)? else {
+            return one_line(alloc, "a world wasn't made");
+        };
+        let last = if self.is_told_over_tables(alloc, &lines)? {
+            "the same over tables"
+        } else {
+            "otherwise over tables"
+        };
+        lines.push(String::from_str(alloc, last)?)?;
+        Ok(lines)
+    }
+}
+
+fn is_told(lines: &Option<Vec<String>>, told: &[String]) -> bool {
+    match lines {
+        Some(lines) => lines.iter().eq(told.iter()),
+        None => false,
+    }
+}
+
+fn one_line(alloc: Global, line: &str) -> Result<Vec<String>, AllocError> {
+    let mut lines = Vec::new(alloc);
+    lines.push(String::from_str(alloc, line)?)?;
+    Ok(lines)
+}
+
+impl Comparison {
+    pub fn new(alloc: Global) -> Comparison {
+        Comparison {
+            alloc,
+            circle: None,
+            first: None,
+            asked: None,
+        }
+    }
+
+    /// What is printed for a block.
+    pub fn told_of(&mut self, block: &str) -> Result<Vec<String>, AllocError> {
+        let alloc = self.alloc;
+        if self.circle.is_none() {
+            self.circle = Some(String::from_str(alloc, block)?);
+            return Ok(Vec::new(alloc));
+        }
+        if self.first.is_none() {
+            self.first = Some(String::from_str(alloc, block)?);
+            return Ok(Vec::new(alloc));
+        }
+        if self.asked.is_none() {
+            self.asked = asked_by(alloc, block)?;
+            return self.lines_beside(self.first_block());
+        }
+        self.lines_beside(block)
+    }
+
+    fn first_block(&self) -> &str {
+        match &self.first {
+            Some(first) => first.as_str(),
+            None => "",
+        }
+    }
+
+    /// What is told in the first world, beside one that these requests make.
+    fn lines_beside(&self, own: &str) -> Result<Vec<String>, AllocError> {
+        let (Some(circle), Some(asked)) = (&self.circle, &self.asked) else {
+            return one_line(self.alloc, "nothing is asked");
+        };
+        let circle = circle.as_str();
+        let first = World {
+            circle,
+            own: self.first_block(),
+        };
+        let other = World { circle, own };
+        let asked = asked.as_slice();
+        Pair { first, other, asked }.lines(self.alloc)
+    }
+}

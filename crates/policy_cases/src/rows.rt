@@ -1,0 +1,63 @@
+//! A pass that is fed lines one at a time.
+
+use crate::served::{Asker, shown};
+use crate::unfit::{Unfit, said};
+use crate::words::number_of;
+use iodef_tree::{Document, Kind, Line, OutlineFault, Text};
+use redact::RowPass;
+use std::alloc::Global;
+
+/// What the pass answers of one more line.
+fn answer_of(pass: &mut RowPass, line: Line) -> Result<&'static str, Unfit> {
+    match pass.feed(line) {
+        Ok(()) => Ok("taken"),
+        Err(OutlineFault::BadOutline) => Ok("BadOutline"),
+        Err(OutlineFault::NoMemory) => Err(Unfit::NoMemory),
+    }
+}
+
+/// What the pass gives at the end.
+fn finish_of(alloc: Global, pass: RowPass) -> Result<String, Unfit> {
+    match pass.finish() {
+        Ok(Some(excerpt)) => shown(alloc, &excerpt),
+        Ok(None) => said(alloc, "none"),
+        Err(OutlineFault::BadOutline) => said(alloc, "BadOutline"),
+        Err(OutlineFault::NoMemory) => Err(Unfit::NoMemory),
+    }
+}
+
+/// What the reader is served of a document, by its lines one after another.
+pub fn served_by_lines(alloc: Global, document: &Document, asker: Asker) -> Result<String, Unfit> {
+    let Asker { standing, case } = asker;
+    let mut pass = RowPass::new(alloc, case, standing)?;
+    for line in document.outline(alloc)? {
+        answer_of(&mut pass, line)?;
+    }
+    finish_of(alloc, pass)
+}
+
+/// A line with an empty text, by its depth and its name: `1:version`.
+fn line_of(alloc: Global, word: &str) -> Result<Line, Unfit> {
+    let (depth, name) = word.split_once(':').ok_or(Unfit::NoCase)?;
+    Ok(Line {
+        depth: number_of(depth)?,
+        name: Text::new(String::from_str(alloc, name)?),
+        in_array: false,
+        kind: Kind::Text,
+        text: Text::new(String::new(alloc)),
+    })
+}
+
+/// What a pass answers of each of these lines, which spaces stand between, and at the end.
+pub fn fed(alloc: Global, asker: Asker, words: &str) -> Result<String, Unfit> {
+    let Asker { standing, case } = asker;
+    let mut pass = RowPass::new(alloc, case, standing)?;
+    let mut told = String::new(alloc);
+    for word in words.split_whitespace() {
+        let line = line_of(alloc, word)?;
+        told.push_str(answer_of(&mut pass, line)?)?;
+        told.push_str("; ")?;
+    }
+    let finish = finish_of(alloc, pass)?;
+    Ok(format!(in alloc; "{told}at the end {finish}")?)
+}
