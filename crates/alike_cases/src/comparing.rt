@@ -155,6 +155,11 @@ impl Comparison {
         };
         let other = World { circle, own };
         let asked = asked.as_slice();
-        Pair { first, other, asked }.lines(self.alloc)
+        Pair {
+            first,
+            other,
+            asked,
+        }
+        .lines(self.alloc)
     }
 }

@@ -13,9 +13,8 @@ ghost use Rattle.hub.specs.Asking.{IsThere};
 use crate::asking::{Asker, Content, content_of, standing};
 use crate::fault::ample;
 use hub_core::{Entry, Shelf, ShelfFault, View, Withheld};
-use marking::{MarkingFault, check};
 use policy::Standing;
-use redact::{Excerpt, excerpt};
+use redact::{Excerpt, excerpt_if_marked};
 use std::alloc::Global;
 
 /// What a reader may see of an incident; none where no class is visible. A document whose markings weren't accepted shows
@@ -28,11 +27,7 @@ fn excerpt_of(
     ensures told { first_bad_marking (located content.now.document) ≡ None → IfOk result (λ r. Gives content.now.document content.now.case standing.now r) }
     ensures fault { IfErr result (λ e. e ≡ ShelfFault.NoMemory) }
 {
-    match check(alloc, &content.document) {
-        Ok(()) => ample(excerpt(alloc, &content.document, &content.case, standing)),
-        Err(MarkingFault::BadMarking(_)) => Ok(None),
-        Err(MarkingFault::NoMemory) => Err(ShelfFault::NoMemory),
-    }
+    ample(excerpt_if_marked(alloc, &content.document, &content.case, standing))
 }
 
 /// The first of the entries, if it is that of this incident.

@@ -1,10 +1,10 @@
 -- When two documents and two cases decide alike of the classes at some paths.
 use Rattle.std.proofs.Common.{◌≡◌, Bool, true, false, not, List, [], ◌∷◌, ◌++◌, refl, sym, ◌∙◌, ap, subst, map, length, if◌then◌else◌, ◌&&◌, ◌||◌, reverse, cond}
 use Rattle.std.specs.Prelude.{Some, None, filter, find, nat_lt, is_some, is_none, codes, unwrap_or}
-use Rattle.std.specs.List.{AllByRecursion, flat_map, list_any, list_all}
+use Rattle.std.specs.List.{AllByRecursion, flat_map}
 use Rattle.std.specs.Option.{option_or, option_map_or}
 use Rattle.std.specs.Str.{bytes_eq}
-use Rattle.std.proofs.lemmas.Bool.{false≢true, and_left, and_parts, and_from, or_parts, cond-false}
+use Rattle.std.proofs.lemmas.Bool.{false≢true, and_left, and_parts, and_from, cond-false}
 use Rattle.iodef_tree.specs.Text.{Bytes, Tokens, is_root, same_path, is_prefix, is_under, prefixes}
 use Rattle.iodef_tree.specs.Paths.{LocatedLine, is_class, has_class, below}
 use Rattle.iodef_tree.proofs.Order.{bytes_eq-true, bytes_eq-refl}

@@ -1,14 +1,14 @@
 -- In a document whose markings were accepted no class below the root is named as a label's attribute. So the labels written outside a
 -- class and what lies below it don't depend on that.
-use Rattle.std.proofs.Common.{◌≡◌, ℕ, suc, Bool, true, false, not, List, [], ◌∷◌, ◌++◌, refl, sym, ◌∙◌, ap, subst, map, if◌then◌else◌, ◌&&◌, ◌||◌}
-use Rattle.std.specs.Prelude.{Option, Some, None, filter, codes, is_some, unwrap_or, option_map}
+use Rattle.std.proofs.Common.{◌≡◌, ℕ, suc, Bool, true, false, not, List, [], ◌∷◌, ◌++◌, refl, sym, ◌∙◌, ap, subst, if◌then◌else◌, ◌&&◌, ◌||◌}
+use Rattle.std.specs.Prelude.{Option, Some, None, codes, is_some, option_map}
 use Rattle.std.specs.List.{AllByRecursion}
 use Rattle.std.specs.Option.{option_or}
 use Rattle.std.specs.Str.{bytes_eq}
 use Rattle.std.proofs.lemmas.Bool.{false≢true, not-false, false_from_ne_true, and_left, and_parts, and_from, or_parts, cond-true, cond-false}
 use Rattle.iodef_tree.specs.Text.{Bytes, Tokens, is_root, same_path, is_prefix}
 use Rattle.iodef_tree.specs.Paths.{LocatedLine, is_class, located, has_class}
-use Rattle.iodef_tree.specs.Tree.{Forest, end, leaf, branch, steps, lines, kind_of, text_of}
+use Rattle.iodef_tree.specs.Tree.{Forest, end, leaf, branch, steps, kind_of, text_of}
 use Rattle.iodef_tree.specs.Walk.{walk, leaf_entry}
 use Rattle.iodef_tree.specs.Laws.{AllSiblings, AreApart, HasApart}
 use Rattle.iodef_tree.specs.declared.line.Line.{Line}
@@ -17,12 +17,11 @@ use Rattle.iodef_tree.proofs.Located.{located-lines}
 use Rattle.iodef_tree.proofs.Apart.{sound-apart}
 use Rattle.iodef_tree.proofs.Siblings.{all-append}
 use Rattle.iodef_tree.proofs.ByPath.{has_class-root}
-use Rattle.marking.specs.Marks.{Held, absent, one_text, other, held_by_line, is_member, held_at, restriction_at, ext_restriction_at, spelled_by, is_rule_kept, written_label, first_bad_marking}
+use Rattle.marking.specs.Marks.{Held, absent, one_text, other, held_by_line, is_member, restriction_at, ext_restriction_at, spelled_by, is_rule_kept, written_label, first_bad_marking}
 use Rattle.marking.specs.Members.{held_by_leaf, held_in, is_rule_kept_in}
 use Rattle.marking.specs.Pass.{bad_below}
 use Rattle.marking.proofs.Bad.{no_class-kind, first_bad}
-use Rattle.policy.specs.Verdict.{first_of}
-use Rattle.redact.specs.Alike.{by_class, is_within, lines_but}
+use Rattle.redact.specs.Alike.{is_within, lines_but}
 use Rattle.iodef_tree.specs.Laws.{IsDocument}
 use Rattle.redact.proofs.Filtered.{each-from}
 use Rattle.redact.proofs.DecidedAlike.{held-same, classes-same}
