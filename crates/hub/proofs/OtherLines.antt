@@ -107,23 +107,14 @@ module _ (now : ℤ) (a : Account) (s : State) (ss : IsSound s) (there : Contain
 pub plain-step : (now : ℤ) (a : Account) (s t : State) → IsSound s → IsSound t → Contains s.directory.accounts a → HasOtherPlainLines now a s t → TellsSame now a s t × Contains t.directory.accounts a
 plain-step now a s t ss st there h = subst (λ w. TellsSame now a s w × Contains w.directory.accounts a) (sym h.after) (told, there)
   where
-    i : Incident
-    i = h.incident
-
-    w : State
-    w = record s { incidents = with_document h.incident.number h.document s.incidents }
-
-    sw : IsSound w
-    sw = subst IsSound h.after st
-
     told : TellsSame now a s (record s { incidents = with_document h.incident.number h.document s.incidents })
     told = exchanged-told now a s ss there h.incident h.document h.there s.gates s.permissions (subst IsSound h.after st)
         (told-by now a.person s (record s { incidents = with_document h.incident.number h.document s.incidents }) h.incident h.document refl
-        (alike-told (standing_at s now a.person h.incident) (report_of s h.incident h.incident.document) (record { lines = h.document; case = case_for s h.incident })
+        (alike-told (standing_at s now a.person h.incident) (report_of s h.incident h.incident.document) (report_of s h.incident h.document)
         (marked-document s h.incident ss h.there)
         (marked-document (record s { incidents = with_document h.incident.number h.document s.incidents }) (redone h.document h.incident) (subst IsSound h.after st)
         (at-other now a s ss there h.incident h.document h.there s.gates s.permissions))
-        (inl (h.path, record { class = h.class; unseen = h.unseen; label = h.label; others = h.others; case = refl }))))
+        (inl (h.path, h.lines))))
         (λ x k. refl)
 
 -- ---- another hidden class

@@ -3,12 +3,11 @@
 use Rattle.std.specs.Prelude.{◌≡◌, ◌⊎◌, ℕ, ℤ, Bool, true, false, not, ◌&&◌, ◌||◌, ◌==◌, List, [], ◌∷◌, map, filter, Some, Contains, if◌then◌else◌}
 use Rattle.std.specs.Option.{option_map_or}
 use Rattle.iodef_tree.specs.Text.{Tokens, is_root, is_prefix}
-use Rattle.iodef_tree.specs.Paths.{located, has_class}
-use Rattle.marking.specs.Marks.{written_label}
 use Rattle.policy.specs.Permissions.{includes}
 use Rattle.policy.specs.Standing.{stranger}
 use Rattle.policy.specs.declared.permission.Grantee.{Grantee}
-use Rattle.redact.specs.Alike.{Report, sees, is_plain_of, is_within, lines_but, is_hidden_from}
+use Rattle.redact.specs.Alike as report
+use Rattle.redact.specs.Alike.{Report, is_within, lines_but, is_hidden_from}
 use Rattle.circle.specs.Directory.{Directory}
 use Rattle.circle.specs.Reads.{groups_joined, active_groups_joined, communities_of}
 use Rattle.circle.specs.declared.directory.Account.{Account}
@@ -66,18 +65,15 @@ module _ (now : ℤ) (a : Account) where
   abbrev pub is_served_of : State → ℕ → Bool
   is_served_of s n = option_map_or (is_served s now a.person) (incident_of n s) false
 
-  -- Other plain lines in a class that isn't visible. Its written label stays, and so do all other lines, the path of every
-  -- class and every other row.
+  -- In the document of one incident, other plain lines in a class that isn't visible. Its written label stays, and so do all
+  -- other lines, the path of every class and every other row.
   pub record HasOtherPlainLines (s t : State) : Type 0 where
     pub incident : Incident
     pub path : Tokens
     pub document : Lines
     pub there : incident_of incident.number s ≡ Some incident
     pub foreign : is_own s incident.number ≡ false
-    pub class : has_class (located incident.document) path ≡ true
-    pub unseen : sees (standing_at s now a.person incident) (report_of s incident incident.document) path ≡ false
-    pub label : written_label (located incident.document) path ≡ written_label (located document) path
-    pub others : lines_but (is_plain_of path) incident.document ≡ lines_but (is_plain_of path) document
+    pub lines : report.HasOtherPlainLines (standing_at s now a.person incident) path (report_of s incident incident.document) (report_of s incident document)
     pub after : t ≡ record s { incidents = with_document incident.number document s.incidents }
 
   -- The lines of a wholly hidden class and of all below it are put in, taken out or exchanged, with the gates and the

@@ -54,7 +54,8 @@ impl<Sh: Shelf> Hub<Sh> {
     /// only where the shelf failed. A change that is answered as made stays made if everything stops now; else a stop
     /// leaves what it could have left before, or what the request leaves.
     ///
-    /// In every world that is alike for who asks, the same reply is due: it tells nothing of what differs there.
+    /// To a request that tells of incidents, of groups or of the caller, the reply is the one that is due in every world alike
+    /// for who asks, unless the request is given up: it tells nothing of what differs there.
     pub fn answer(&mut self, alloc: Global, now: i64, key: &Key, request: &Request) -> Reply
         ensures step { Sh.doubts self.new ≡ 0 → (s : State) → Sh.has self.old s → IsSound s → (left : State) × IsStep s (now, key.now, request.now) result left × Sh.has self.new left }
         ensures alike { Sh.doubts self.new ≡ 0 → (s t : State) (a : Account) → Sh.has self.old s → IsAlike now a s t → key.now ≡ Digest a.key → is_told request.now ≡ true → (result ≡ reply_of t now key.now request.now) ⊎ IsGivenUp result }

@@ -16,12 +16,10 @@ IsGivenUpText bytes = (bytes ≡ reply_text (Refused (bare F1))) ⊎ (bytes ≡ 
 abbrev pub IsWrittenAlike : List ℕ → List ℕ → Type 0
 IsWrittenAlike one other = (one ≡ other) ⊎ (IsGivenUpText one ⊎ IsGivenUpText other)
 
--- The bytes tell the reply of one step from this state, and what it left is there. That the store failed is told only where
--- a failure was counted.
-pub record IsToldOf (there : State → Type 0) (fails : Type 0) (s : State) (asked : Asked) (bytes : List ℕ) : Type 0 where
-  pub reply : Reply
+-- A hub answered with this reply in one step from this state, and what the step left is there. That the store failed is
+-- answered only where a failure was counted.
+pub record HasStepped (there : State → Type 0) (fails : Type 0) (s : State) (asked : Asked) (reply : Reply) : Type 0 where
   pub left : State
   pub step : IsStep s asked reply left
   pub after : there left
   pub cause : reply ≡ Refused (bare F1) → fails
-  pub told : bytes ≡ reply_text reply

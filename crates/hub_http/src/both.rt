@@ -6,16 +6,30 @@ ghost use Rattle.hub_core.specs.Shelves.{HasFailed};
 ghost use Rattle.hub_core.specs.Sound.{IsSound};
 ghost use Rattle.hub.specs.Alike.{IsAlike, is_told};
 ghost use Rattle.hub.specs.declared.key.Key.TheVariants.{Digest};
-ghost use Rattle.hub_http.specs.Alike.{IsToldOf, IsWrittenAlike};
+ghost use Rattle.hub_core.specs.declared.reply.Reply.{Reply as Told};
+ghost use Rattle.hub_http.specs.Alike.{HasStepped, IsWrittenAlike};
+ghost use Rattle.hub_http.specs.Replies.{reply_text};
 
 use crate::reply::reply_bytes;
 use hub::{Hub, Key};
-use hub_core::{Request, Shelf};
+use hub_core::{Reply, Request, Shelf};
 use std::alloc::{AllocError, Global};
 
-/// Asks two hubs the same, and gives the bytes of both replies: each tells one step of its own hub. Where the two worlds are
-/// alike for who asks, and the request is one that tells of incidents, of groups or of the caller, the bytes are the same,
-/// unless one of the requests was given up.
+/// The bytes of two replies.
+fn bytes_of_both(
+    alloc: Global,
+    one: &Reply,
+    other: &Reply,
+) -> Result<(Vec<u8>, Vec<u8>), AllocError>
+    ensures { IfOk result (λ both. (both.0.items ≡ reply_text one.now) × (both.1.items ≡ reply_text other.now)) }
+{
+    Ok((reply_bytes(alloc, one)?, reply_bytes(alloc, other)?))
+}
+
+/// Asks two hubs the same, and gives the bytes of both replies. Each hub takes one step, also where the memory for the bytes
+/// doesn't suffice, and its bytes tell the reply of that step. Where the two worlds are alike for who asks, and the request
+/// is one that tells of incidents, of groups or of the caller, the bytes are the same, unless one of the requests was given
+/// up.
 pub fn told_by_both<A: Shelf, B: Shelf>(
     alloc: Global,
     first: &mut Hub<A>,
@@ -28,13 +42,13 @@ pub fn told_by_both<A: Shelf, B: Shelf>(
         IsSound s → IsSound t → IsAlike now a s t → key.now ≡ Digest a.key → is_told request.now ≡ true →
         IfOk result (λ both. IsWrittenAlike both.0.items both.1.items) }
     ensures first { A.doubts first.new ≡ 0 → (s : State) → A.has first.old s → IsSound s →
-        IfOk result (λ both. IsToldOf (A.has first.new) (HasFailed (A.failed first.old) (A.failed first.new)) s (now, key.now, request.now) both.0.items) }
+        (reply : Told) × HasStepped (A.has first.new) (HasFailed (A.failed first.old) (A.failed first.new)) s (now, key.now, request.now) reply
+        × IfOk result (λ both. both.0.items ≡ reply_text reply) }
     ensures second { B.doubts second.new ≡ 0 → (t : State) → B.has second.old t → IsSound t →
-        IfOk result (λ both. IsToldOf (B.has second.new) (HasFailed (B.failed second.old) (B.failed second.new)) t (now, key.now, request.now) both.1.items) }
+        (reply : Told) × HasStepped (B.has second.new) (HasFailed (B.failed second.old) (B.failed second.new)) t (now, key.now, request.now) reply
+        × IfOk result (λ both. both.1.items ≡ reply_text reply) }
 {
     let one = first.answer(alloc, now, key, request);
     let other = second.answer(alloc, now, key, request);
-    let told = reply_bytes(alloc, &one)?;
-    let told_other = reply_bytes(alloc, &other)?;
-    Ok((told, told_other))
+    bytes_of_both(alloc, &one, &other)
 }

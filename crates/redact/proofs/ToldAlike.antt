@@ -23,7 +23,7 @@ use Rattle.policy.specs.declared.case.Case.{Case}
 use Rattle.redact.specs.Kept.{Verdicts, is_frame, is_kept}
 use Rattle.redact.specs.Withheld.{Withheld}
 use Rattle.redact.specs.Told.{some_seen, verdicts_of}
-use Rattle.redact.specs.Alike.{Report, class_path, by_class, HasSame, IsToldAlike, is_plain_of, is_within, is_hidden_from, HasOtherPermissions, HasOtherPlainLines, HasOtherHiddenClass, IsAlike, IsMarked}
+use Rattle.redact.specs.Alike.{Report, class_path, by_class, HasSame, IsToldAlike, is_plain_of, is_within, is_hidden_from, HasOtherPermissions, HasOtherPlainLines, HasOtherHiddenClass, IsAlikeStep, IsMarked}
 use Rattle.iodef_tree.specs.Laws.{IsDocument}
 use Rattle.redact.proofs.Filtered.{each, each-from, any-kept, any-none, none-any, any-both, filter-within}
 use Rattle.redact.proofs.LabelsStay.{labels-stay}
@@ -358,7 +358,7 @@ module _ (s : Standing) (a b : Report) (da : IsMarked a.lines) (db : IsMarked b.
       found = found-same hidden_world;
     }
 
-pub alike-told : (s : Standing) (a b : Report) → IsMarked a.lines → IsMarked b.lines → IsAlike s a b → IsToldAlike s a b
+pub alike-told : (s : Standing) (a b : Report) → IsMarked a.lines → IsMarked b.lines → IsAlikeStep s a b → IsToldAlike s a b
 alike-told s a b da db (inl h) = plain-told s a b da db h.0 h.1
 alike-told s a b da db (inr (inl h)) = hidden-told s a b da db h.0 h.1
 alike-told s a b da db (inr (inr h)) = permissions-told s a b da db h

@@ -1,4 +1,4 @@
--- Steps between two reports that a reader is told the same of, though they differ in what is withheld from the reader.
+-- Steps from one report to another, which differs in what a reader may not see.
 use Rattle.std.specs.Prelude.{◌≡◌, Bool, true, false, ◌&&◌, not, List, map, filter, Option, None, Contains, if◌then◌else◌, ◌⊎◌}
 use Rattle.iodef_tree.specs.Text.{Bytes, Tokens, same_path, is_prefix, is_root}
 use Rattle.iodef_tree.specs.Paths.{LocatedLine, is_class, located, has_class}
@@ -103,14 +103,15 @@ module _ (s : Standing) where
     pub gates : a.case.gates ≡ b.case.gates
     pub permissions : filter (holds_for s) a.case.permissions ≡ filter (holds_for s) b.case.permissions
 
-  abbrev pub IsAlike : Report → Report → Type 0
-  IsAlike a b = ((p : Tokens) × HasOtherPlainLines p a b) ⊎ (((p : Tokens) × HasOtherHiddenClass p a b) ⊎ HasOtherPermissions a b)
+  -- one of these steps leads from one report to the other
+  abbrev pub IsAlikeStep : Report → Report → Type 0
+  IsAlikeStep a b = ((p : Tokens) × HasOtherPlainLines p a b) ⊎ (((p : Tokens) × HasOtherHiddenClass p a b) ⊎ HasOtherPermissions a b)
 
 -- the lines are those of a document in which no marking is bad
 pub record IsMarked (ls : List Line) : Type 0 where
   pub document : IsDocument ls
   pub marked : first_bad_marking (located ls) ≡ None
 
--- Of two reports that are alike for a reader the reader is told alike.
+-- Of two reports that such a step joins the reader is told alike.
 abbrev pub AlikeIsToldAlike : Type 0
-AlikeIsToldAlike = (s : Standing) (a b : Report) → IsMarked a.lines → IsMarked b.lines → IsAlike s a b → IsToldAlike s a b
+AlikeIsToldAlike = (s : Standing) (a b : Report) → IsMarked a.lines → IsMarked b.lines → IsAlikeStep s a b → IsToldAlike s a b

@@ -12,12 +12,16 @@ pub record Progress : Type 0 where
   pub lines : List Line
   pub fault : Option OutlineFault
 
+-- the lines that came, with one more behind them
+abbrev pub with_line : Progress → Line → List Line
+with_line p line = p.lines ++ line ∷ []
+
 -- One more line is taken exactly where the lines with it are an outline, unless memory is wanting. After a fault nothing
 -- changes any more, and it is answered again.
 pub record TakesLine {T : Type 0} (old : Progress) (line : Line) (result : Result T OutlineFault) (new : Progress) : Type 0 where
   pub ended : IfSome old.fault (λ f. (result ≡ Err f) × (new ≡ old))
-  pub taken : old.fault ≡ None → OnOk result ((is_outline (old.lines ++ line ∷ []) ≡ true) × (new ≡ record { lines = old.lines ++ line ∷ []; fault = None }))
-  pub refused : old.fault ≡ None → IfErr result (λ f. (f ≡ BadOutline → is_outline (old.lines ++ line ∷ []) ≡ false) × (new ≡ record { lines = old.lines; fault = Some f }))
+  pub taken : old.fault ≡ None → OnOk result ((is_outline (with_line old line) ≡ true) × (new ≡ record { lines = with_line old line; fault = None }))
+  pub refused : old.fault ≡ None → IfErr result (λ f. (f ≡ BadOutline → is_outline (with_line old line) ≡ false) × (new ≡ record { lines = old.lines; fault = Some f }))
 
 -- a pass as its contracts see it: by what it judges, for whom, and what came so far
 pub record PassState : Type 0 where

@@ -25,7 +25,7 @@ pub fn verdicts_are_served()
     ensures { VerdictsAreServed }
 {}
 
-/// Of two reports that are alike for a reader, who is told nothing of what differs in them, the reader is told alike.
+/// Of two reports that a step joins in which only that differs which the reader may not see, the reader is told alike.
 pub fn alike_is_told_alike()
     ensures { AlikeIsToldAlike }
 {}
