@@ -29,13 +29,21 @@ fn told(alloc: Global, fault: ReadFault) -> Result<String, AllocError> {
     }
 }
 
-pub fn read(alloc: Global, body: &str) -> Result<String, AllocError> {
-    match Document::read(alloc, body.as_bytes()) {
+pub fn read(alloc: Global, body: &[u8]) -> Result<String, AllocError> {
+    match Document::read(alloc, body) {
         Ok(documents) => {
             let count = documents.len();
             format!(in alloc; "{count}")
         }
         Err(fault) => told(alloc, fault),
+    }
+}
+
+/// The same of the bytes that pairs of hexadecimal digits stand for.
+pub fn read_digits(alloc: Global, digits: &str) -> Result<String, AllocError> {
+    match hex::decode(alloc, digits.as_bytes()) {
+        Ok(bytes) => read(alloc, bytes.as_slice()),
+        Err(_) => String::from_str(alloc, "no digits"),
     }
 }
 

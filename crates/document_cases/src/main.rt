@@ -5,6 +5,7 @@
 //! kind is `class`, `text` (in quotes, as JSON) or `value` (compact JSON).
 //!
 //! - `read BODY`: how many documents it gives, or the fault with its pointer and the member that is missing.
+//! - `bytes DIGITS`: the same of bytes, each written as two hexadecimal digits.
 //! - `outlines BODY`, `texts BODY`, `values BODY`, `ids BODY`, `classes BODY`: what each document of it is, with a bar between
 //!   them. `texts` makes each document again from its outline, and its text must be the same.
 //! - `at ["POINTER",BODY]`: the names of the members of the class there, or `none`.

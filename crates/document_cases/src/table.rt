@@ -42,7 +42,8 @@ pub fn parts(line: &str) -> (&str, &str) {
 fn answered(alloc: Global, line: &str) -> Result<String, AllocError> {
     let (verb, about) = parts(line);
     match verb {
-        "read" => bodies::read(alloc, about),
+        "read" => bodies::read(alloc, about.as_bytes()),
+        "bytes" => bodies::read_digits(alloc, about),
         "outlines" | "texts" | "values" | "ids" | "classes" => bodies::each(alloc, verb, about),
         "at" => bodies::at(alloc, about),
         "outline" | "made" | "id" => outlines::answer(alloc, verb, about),
