@@ -4,13 +4,19 @@
 #
 #     docs/examples/circle.sh [PORT]
 #
-# Wanted: curl and jq. The store is made in a folder of its own, which goes when the script ends.
-set -eu
+# Wanted: curl and jq. The store is made in a folder of its own, which goes when the script ends. PROGRAM is the program
+# that is run, and where it isn't given, what `./iodef-hub --look` runs: the proved one where it is built.
+set -euo pipefail
 top=$(cd "$(dirname "$0")/../.." && pwd)
 port=${1:-18080}
 folder=$(mktemp -d)
 hub=http://127.0.0.1:$port
-trap 'kill %1 2>/dev/null || true; rm -rf "$folder"' EXIT
+server=
+trap 'kill $server 2>/dev/null || true; rm -rf "$folder"' EXIT
+stop() { printf 'circle.sh: %s\n' "$*" >&2; exit 1; }
+for command in curl jq; do command -v $command >/dev/null || stop "the command $command is wanted"; done
+program=("$top/iodef-hub" --look)
+if [ -n "${PROGRAM-}" ]; then program=("$PROGRAM"); fi
 
 digest() { printf %s "$1" | sha256sum | cut -d' ' -f1; }
 
@@ -25,9 +31,13 @@ ask() {
 say() { printf '\n# %s\n' "$*"; }
 
 say "The store, with the hub's own organisation and its administrator"
-"$top/iodef-hub" init "$folder/hub.db" Hub "$(digest admin-key)"
-"$top/iodef-hub" serve "$folder/hub.db" "$port" 1000 >"$folder/listening" &
-while ! grep -q listening "$folder/listening"; do sleep 0.1; done
+"${program[@]}" init "$folder/hub.db" Hub "$(digest admin-key)"
+"${program[@]}" serve "$folder/hub.db" "$port" 1000 >"$folder/listening" &
+server=$!
+until [ -s "$folder/listening" ]; do
+    kill -0 $server 2>/dev/null || stop "the hub ended; if it said ListenFailed, give a free port: circle.sh PORT"
+    sleep 0.1
+done
 
 say "Three organisations: 2 posts, 3 is its partner, 4 is a stranger"
 for name in Bank Telco University; do ask admin-key POST /orgs -d "name=$name"; done
