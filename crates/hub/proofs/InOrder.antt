@@ -132,6 +132,10 @@ ordered_to [] z h = h
 ordered_to (x ∷ xs) z (inl h) = noted_to x z (in_order xs) (inl h)
 ordered_to (x ∷ xs) z (inr h) = noted_to x z (in_order xs) (inr (ordered_to xs z h))
 
+-- what is put in order is there
+pub in_order-keeps : (xs : List Withheld) (z : Withheld) → Contains xs z → Contains (in_order xs) z
+in_order-keeps xs z h = contains_in (in_order xs) z (ordered_to xs z (in_contained xs z h))
+
 -- the list of the pairs in order is that of the definition
 pub listed_in_order : (pairs listed : List Withheld) → Lists pairs listed → listed ≡ in_order pairs
 listed_in_order pairs listed h =

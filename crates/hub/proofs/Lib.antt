@@ -1,5 +1,6 @@
 pub mod Standings
 pub mod InOrder
+pub mod ShownServed
 pub mod Keeping
 pub mod Numbered
 pub mod Paging

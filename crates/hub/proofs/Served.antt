@@ -20,6 +20,7 @@ use Rattle.hub_core.specs.State.{State, incident_of}
 use Rattle.hub_core.specs.Sound.{IsSound}
 use Rattle.circle.specs.Reads.{person_in}
 use Rattle.hub_core.specs.Refusals.{grounds, refusal_of, state_after, unless_refused}
+use Rattle.hub_core.specs.Aftermath.{changed}
 use Rattle.hub_core.specs.Laws.{is_reading}
 use Rattle.hub_core.specs.declared.state.Incident.{Incident}
 use Rattle.hub_core.specs.declared.reply.Reply.{Reply}
@@ -32,7 +33,7 @@ use Rattle.hub_core.proofs.Keeping.{found_each}
 use Rattle.hub.specs.Faults.{code_told}
 use Rattle.hub.specs.Told.{is_served, view_of}
 use Rattle.hub.specs.Replies.{if_active, caller_of, viewed, circle_reply, refused_or, answer_to, reply_by, reply_of}
-use Rattle.hub.specs.Machine.{IsGivenUp}
+use Rattle.hub.specs.Machine.{Asked, IsGivenUp, IsStep, left_by}
 use Rattle.hub_core.specs.Shelves.{IsKept}
 use Rattle.hub.specs.Asking.{IsThere}
 use Rattle.hub.specs.Serving.{due_to, read_by, is_made, IsServed}
@@ -295,6 +296,57 @@ due_tells s now key r h = by_caller (caller_of s key) h
     by_caller : (o : Option Person) → reply_by s now o r ≡ Refused (bare F1) → ⊥
     by_caller None k = stranger_tells k
     by_caller (Some p) k = by_refusal p (refusal_of s p r) refl k
+
+-- ---- what leaves everything
+
+command_made : (s : State) (c : CircleCommand) → is_made (circle_reply s.directory c) ≡ true
+command_made s (AddOrg name) = refl
+command_made s (AddPerson org name role key) = refl
+command_made s (SuspendPerson person) = refl
+command_made s (AddClient org client) = refl
+command_made s (RemoveClient org client) = refl
+command_made s (AddCommunity name) = refl
+command_made s (Join community org) = refl
+command_made s (Leave community org) = refl
+command_made s (Link community other) = refl
+command_made s (Unlink community other) = refl
+command_made s (NewGroup name releasability) = refl
+command_made s (GroupAdd group org extend) = refl
+command_made s (GroupRemove group org) = refl
+command_made s (GroupActive group active) = refl
+command_made s (Arrange org handling) = refl
+command_made s (CancelArrange org) = refl
+command_made s (Nominate person) = refl
+command_made s (Unnominate person) = refl
+
+unmade_reads : (s : State) (now : ℤ) (p : Person) (r : Request) → is_made (answer_to s now p r) ≡ false → is_reading r ≡ true
+unmade_reads s now p (ask.Circle command) h = absurd (true≢false (sym (command_made s command) ∙ h))
+unmade_reads s now p (ask.Post level group gates body) h = absurd (true≢false h)
+unmade_reads s now p (ask.Replace n revision level group gates body) h = absurd (true≢false h)
+unmade_reads s now p (ask.Redistribute n revision path level group) h = absurd (true≢false h)
+unmade_reads s now p (ask.Address n target) h = absurd (true≢false h)
+unmade_reads s now p (ask.Unaddress n target) h = absurd (true≢false h)
+unmade_reads s now p (ask.Grant n revision path grantee) h = absurd (true≢false h)
+unmade_reads s now p (ask.Withdraw n path grantee) h = absurd (true≢false h)
+unmade_reads s now p (ask.View n) h = refl
+unmade_reads s now p (ask.Explain person n path) h = refl
+unmade_reads s now p (ask.List after) h = refl
+unmade_reads s now p (ask.Search needle class after) h = refl
+unmade_reads s now p (ask.Addressed after) h = refl
+unmade_reads s now p ask.MyGroups h = refl
+unmade_reads s now p ask.WhoAmI h = refl
+
+pub left_unmade : (s left : State) (asked : Asked) (reply : Reply) → IsStep s asked reply left → is_made reply ≡ false → left ≡ s
+left_unmade s left asked reply (inr up) h = up.1
+left_unmade s left asked reply (inl answered) h = answered.aftermath ∙ by_caller (caller_of s asked.1) (sym (ap is_made answered.due) ∙ h)
+  where
+    by_refusal : (p : Person) (o : Option Refusal) → refusal_of s p asked.2 ≡ o → is_made (refused_or o (answer_to s asked.0 p asked.2)) ≡ false → state_after s p asked.2 ≡ s
+    by_refusal p None is k = reads_leave s p asked.2 (unmade_reads s asked.0 p asked.2 k)
+    by_refusal p (Some refusal) is k = ap (λ o. unless_refused o s (changed s p asked.2)) is
+
+    by_caller : (o : Option Person) → is_made (reply_by s asked.0 o asked.2) ≡ false → left_by s o asked.2 ≡ s
+    by_caller None k = refl
+    by_caller (Some p) k = by_refusal p (refusal_of s p asked.2) refl k
 
 -- ---- steps
 

@@ -1,6 +1,6 @@
 //! Laws of the definitions, each the contract of a function that does nothing.
 ghost use Rattle.hub.specs.Alike.{AlikeIsAnsweredAlike};
-ghost use Rattle.hub.specs.Laws.{RunsStaySound};
+ghost use Rattle.hub.specs.Laws.{RunsStaySound, ShownIsServed, UnmadeLeavesAll};
 
 /// A run from a sound state ends in a sound state.
 pub fn runs_stay_sound()
@@ -10,4 +10,14 @@ pub fn runs_stay_sound()
 /// In two worlds that are alike for a person the same is due to it, at the same moment.
 pub fn alike_is_answered_alike()
     ensures { AlikeIsAnsweredAlike }
+{}
+
+/// A step that isn't told as a change that was made leaves the state: so does each refusal.
+pub fn unmade_leaves_all()
+    ensures { UnmadeLeavesAll }
+{}
+
+/// A class is told as Shown by Explain exactly where View serves it to that person, in one state and at one moment.
+pub fn shown_is_served()
+    ensures { ShownIsServed }
 {}
