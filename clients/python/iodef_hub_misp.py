@@ -1,0 +1,1213 @@
+#!/usr/bin/env python3
+"""MISP events to IODEF reports for iodef-hub, and back: the library and the command iodef-hub-misp. Python 3.11's standard library alone.
+
+    iodef-hub-misp to-iodef --map MAP.json EVENT.json | iodef-hub-ask post-all -
+    iodef-hub-ask --json show 1 | iodef-hub-misp to-misp --map MAP.json > event.json
+
+It talks to nobody. Where a choice is in doubt it takes the stricter one and says so on standard error; what doesn't fit is
+refused, with status 1. clients/README.md has the tables, and the form of the file that --map names.
+"""
+from __future__ import annotations
+
+import argparse
+import datetime
+import ipaddress
+import json
+import pathlib
+import re
+import sys
+import unicodedata
+import uuid
+from collections import Counter
+from collections.abc import Iterator, Sequence
+from dataclasses import dataclass, field, replace
+from typing import Any, Union
+
+MOST_BYTES, MOST_LINES, MOST_GATES = 262_144, 4_096, 16
+LAST_NUMBER = 2**32 - 1
+LONGEST_INPUT = 64 * 1024 * 1024
+LONGEST_VALUE = 65_535  # bytes of a value in MISP
+
+# From the widest audience to the narrowest, with what IODEF writes.
+LABELS: dict[str, dict[str, str]] = {
+    "clear": {"restriction": "public"},
+    "green": {"restriction": "partner"},
+    "amber": {"restriction": "ext-value", "ext-restriction": "TLP:AMBER"},
+    "amber+strict": {"restriction": "need-to-know"},
+    "red": {"restriction": "private"},
+}
+ORDER = list(LABELS)
+# What IODEF's labels are as TLP; `default` and any other text are red.
+TLP_OF = {
+    "public": "clear", "white": "clear", "partner": "green", "green": "green", "need-to-know": "amber+strict",
+    "amber": "amber+strict", "private": "red", "red": "red",
+}
+
+HASHES = {  # hexadecimal digits, and the name of the method
+    "md5": (32, "http://www.w3.org/2001/04/xmldsig-more#md5"),
+    "sha1": (40, "http://www.w3.org/2000/09/xmldsig#sha1"),
+    "sha224": (56, "http://www.w3.org/2001/04/xmldsig-more#sha224"),
+    "sha256": (64, "http://www.w3.org/2001/04/xmlenc#sha256"),
+    "sha384": (96, "http://www.w3.org/2001/04/xmldsig-more#sha384"),
+    "sha512": (128, "http://www.w3.org/2001/04/xmlenc#sha512"),
+}
+HASH_OF = {method: name for name, (_, method) in HASHES.items()}
+
+# What the value of a type is made of, joined by bars.
+PARTS: dict[str, tuple[str, ...]] = {
+    "ip-src": ("Address",), "ip-dst": ("Address",), "AS": ("Address",), "mac-address": ("Address",), "email": ("Address",),
+    "email-src": ("Address",), "email-dst": ("Address",), "url": ("Address",), "uri": ("Address",),
+    "domain": ("Name",), "hostname": ("Name",), "domain|ip": ("Name", "Address"), "hostname|port": ("Name", "Port"),
+    "ip-src|port": ("Address", "Port"), "ip-dst|port": ("Address", "Port"), "port": ("Port",),
+    "filename": ("FileName",), **{name: ("DigestValue",) for name in HASHES},
+    **{f"filename|{name}": ("FileName", "DigestValue") for name in HASHES},
+    "regkey": ("KeyName",), "regkey|value": ("KeyName", "Value"), "link": ("URL",), "vulnerability": ("Reference",),
+    "email-subject": ("EmailSubject",), "email-x-mailer": ("EmailX-Mailer",),
+}
+# The type of a bulk list; that of an address is told by its form.
+BULK = {
+    "ip-src": "", "ip-dst": "", "domain": "domain-name", "hostname": "domain-name", "url": "site-uri", "uri": "site-uri",
+    **{name: "file-hash" for name in HASHES}, "filename": "file-path", "email": "e-mail", "email-src": "e-mail", "email-dst": "e-mail",
+    "email-subject": "email-subject", "email-x-mailer": "email-x-mailer", "AS": "asn", "mac-address": "mac", "regkey": "windows-reg-key",
+    "user-agent": "http-user-agent", "mutex": "mutex",
+}
+# What a bulk list, an address of a category, is in MISP where no type is told.
+TYPE_OF = {
+    "ipv4-addr": "ip-dst", "ipv4-net": "ip-dst", "ipv6-addr": "ip-dst", "ipv6-net": "ip-dst", "domain-name": "domain", "site-uri": "url",
+    "file-path": "filename", "e-mail": "email", "email-subject": "email-subject", "email-x-mailer": "email-x-mailer", "asn": "AS",
+    "mac": "mac-address", "windows-reg-key": "regkey", "http-user-agent": "user-agent", "mutex": "mutex",
+}
+CATEGORIES = {
+    "Internal reference", "Targeting data", "Antivirus detection", "Payload delivery", "Artifacts dropped", "Payload installation",
+    "Persistence mechanism", "Network activity", "Payload type", "Attribution", "External analysis", "Financial fraud", "Support Tool",
+    "Social network", "Person", "Other",
+}
+NETWORK = {"ip-src", "ip-dst", "ip-src|port", "ip-dst|port", "domain", "domain|ip", "hostname", "hostname|port", "url", "uri", "user-agent", "AS",
+           "mac-address", "port"}
+DELIVERY = {"filename", "email-src", "email-dst", "email-subject", "email-x-mailer", *HASHES, *(f"filename|{name}" for name in HASHES)}
+DEFAULT_CATEGORY = {
+    **{each: "Network activity" for each in NETWORK}, **{each: "Payload delivery" for each in DELIVERY}, "regkey": "Persistence mechanism",
+    "regkey|value": "Persistence mechanism", "mutex": "Artifacts dropped", "link": "External analysis", "vulnerability": "External analysis",
+    "email": "Social network",
+}
+WITHOUT_DATA = {"malware-sample": "filename|md5", "attachment": "filename"}  # as no file is carried
+MARK = "\0gate"  # stands for a gate in a class until its place is known
+
+
+class Unfit(Exception):
+    """What can't be converted, and why."""
+
+
+class NoWhole:
+    """A number with a fraction or an exponent, which the hub refuses."""
+
+    def __init__(self, text: str) -> None:
+        self.text = text
+
+
+def say(text: str) -> None:
+    print("iodef-hub-misp: " + "".join(each if each.isprintable() else f"\\u{ord(each):04x}" for each in text), file=sys.stderr)
+
+
+# Reading JSON
+
+
+def _members(pairs: list[tuple[str, Any]]) -> dict[str, Any]:
+    members = dict(pairs)
+    if len(members) != len(pairs):
+        raise Unfit("a member's name stands twice in one object")
+    return members
+
+
+def _constant(text: str) -> Any:
+    raise Unfit(f"{text} is no JSON")
+
+
+def read_json(text: bytes) -> Any:
+    if len(text) > LONGEST_INPUT:
+        raise Unfit(f"more than {LONGEST_INPUT} bytes")
+    try:
+        return json.loads(text.decode(), object_pairs_hook=_members, parse_float=NoWhole, parse_constant=_constant)
+    except (ValueError, RecursionError) as fault:
+        raise Unfit(f"that is no JSON: {fault}") from None
+
+
+def text_of(value: dict[str, Any], name: str, where: str, default: str | None = None) -> str:
+    found = value.get(name)
+    if isinstance(found, bool) or not isinstance(found, (str, int)):
+        if found is None and default is not None:
+            return default
+        what = "missing" if found is None else f"a float, {found.text}; write it as a text" if isinstance(found, NoWhole) else "no text"
+        raise Unfit(f"{where}: {name} is {what}")
+    try:
+        text = str(found)
+        text.encode()
+    except ValueError:
+        raise Unfit(f"{where}: {name} is no text that can be written") from None
+    return text
+
+
+def flag_of(value: dict[str, Any], name: str, where: str) -> bool:
+    found = value.get(name)
+    if found in (None, False, 0, "0", ""):
+        return False
+    if found in (True, 1, "1"):
+        return True
+    raise Unfit(f"{where}: {name} is neither true nor false")
+
+
+def list_of(value: dict[str, Any], name: str, where: str) -> list[dict[str, Any]]:
+    found = value.get(name)
+    if found is None:
+        return []
+    if not isinstance(found, list) or not all(isinstance(each, dict) for each in found):
+        raise Unfit(f"{where}: {name} is no list of objects")
+    return found
+
+
+def uuid_of(value: dict[str, Any], name: str, where: str) -> str:
+    text = text_of(value, name, where).lower()
+    if not re.fullmatch(r"[0-9a-f]{8}(-[0-9a-f]{4}){3}-[0-9a-f]{12}", text):
+        raise Unfit(f"{where}: {name} is no UUID")
+    return text
+
+
+def moment_of(text: str, where: str) -> str:
+    """Seconds since 1970, as a date and time."""
+    if not re.fullmatch(r"[0-9]{1,10}", text):
+        raise Unfit(f"{where} is no number of seconds")
+    return datetime.datetime.fromtimestamp(int(text), datetime.timezone.utc).strftime("%Y-%m-%dT%H:%M:%SZ")
+
+
+# The mapping file
+
+
+@dataclass(frozen=True)
+class Org:
+    number: int
+    name: str
+    uuid: str
+
+
+@dataclass(frozen=True)
+class Mapping:
+    """What the operator knows of both sides: organisations and sharing groups by MISP's UUID and the hub's number."""
+
+    hub: str
+    orgs: tuple[Org, ...]
+    groups: dict[str, int]
+
+    @staticmethod
+    def read(text: bytes) -> Mapping:
+        value = read_json(text)
+        if not isinstance(value, dict) or set(value) - {"hub", "organisations", "groups"}:
+            raise Unfit('the mapping is {"hub": .., "organisations": [..], "groups": [..]}')
+        hub = text_of(value, "hub", "the mapping")
+        orgs, groups = [], {}
+        for each in list_of(value, "organisations", "the mapping"):
+            where = "an organisation of the mapping"
+            orgs.append(Org(_number(each, where, {"number", "uuid", "name"}), text_of(each, "name", where), uuid_of(each, "uuid", where)))
+        for each in list_of(value, "groups", "the mapping"):
+            where = "a group of the mapping"
+            number, name = _number(each, where, {"number", "uuid"}), uuid_of(each, "uuid", where)
+            if name in groups:
+                raise Unfit(f"{where}: {name} stands twice")
+            groups[name] = number
+        if not hub or len({each.uuid for each in orgs}) < len(orgs) or len({each.number for each in orgs}) < len(orgs):
+            raise Unfit("the mapping: hub is empty, or an organisation's number or uuid stands twice")
+        return Mapping(hub, tuple(orgs), groups)
+
+
+def _number(value: dict[str, Any], where: str, names: set[str]) -> int:
+    number = value.get("number")
+    if type(number) is not int or not 1 <= number <= LAST_NUMBER or set(value) != names:
+        raise Unfit(f"{where} has {', '.join(sorted(names))}, and a number is from 1 to {LAST_NUMBER}")
+    return number
+
+
+# MISP's events
+
+
+@dataclass(frozen=True)
+class Key:
+    """By what attributes are told apart: the gate (level and group) and the label that they have beside the event's."""
+
+    gate: tuple[int, int] | None
+    label: str | None
+
+
+FREE = Key(None, None)
+
+
+@dataclass(frozen=True)
+class Attribute:
+    type: str
+    value: str
+    category: str
+    to_ids: bool
+    comment: str = ""
+    tags: tuple[str, ...] = ()
+    first_seen: str = ""
+    last_seen: str = ""
+    relation: str = ""
+    key: Key = FREE
+
+
+@dataclass(frozen=True)
+class Thing:
+    """An object of MISP."""
+
+    name: str
+    meta_category: str
+    template: str
+    comment: str
+    key: Key
+    attributes: tuple[Attribute, ...]
+
+
+Item = Union[Attribute, Thing]
+
+
+@dataclass(frozen=True)
+class Choices:
+    """What the operator chose."""
+
+    untagged: str = "red"
+    own_tags: bool = False
+    stricter: bool = False
+    split: bool = False
+    unpublished: bool = False
+
+
+@dataclass
+class Event:
+    uuid: str
+    info: str
+    date: str
+    made: str
+    threat: str
+    analysis: str
+    level: int
+    group: int | None
+    label: str
+    tags: tuple[str, ...]
+    org: Org
+    org_name: str
+    items: list[Item]
+
+
+def strictest(labels: Sequence[str]) -> str:
+    return max(labels, key=ORDER.index)
+
+
+def tlp_of(tag: str) -> str | None:
+    """The label that a tag is, if it is one of TLP. What looks like one and isn't known is red."""
+    text = tag.strip().lower()
+    if not re.match(r"tlp\s*[^0-9a-z\s]|tlp\s", unicodedata.normalize("NFKC", text).strip().lower() + " "):
+        return None
+    name = text.removeprefix("tlp:")
+    return "clear" if name == "white" else name if name in LABELS else "red"
+
+
+@dataclass
+class Tags:
+    """The tags of an event or attribute: those of TLP, those that stay in the MISP where they stand, and others."""
+
+    shared: list[str] = field(default_factory=list)
+    local: list[str] = field(default_factory=list)
+    others: list[str] = field(default_factory=list)
+
+
+def tags_of(value: dict[str, Any], where: str) -> Tags:
+    tags = Tags()
+    nested = []
+    for name in ("EventTag", "AttributeTag"):
+        for each in list_of(value, name, where):
+            if not isinstance(each.get("Tag"), dict):
+                raise Unfit(f"{where}: {name} has no Tag")
+            nested.append({**each["Tag"], "local": each.get("local")})
+    for each in [*list_of(value, "Tag", where), *nested]:
+        name = text_of(each, "name", f"{where}: a tag")
+        is_local = flag_of(each, "local", f"{where}: a tag") or "exportable" in each and not flag_of(each, "exportable", f"{where}: a tag")
+        label = tlp_of(name)
+        if label is not None:
+            (tags.local if is_local else tags.shared).append(label)
+            if label == "red" and name.strip().lower() != "tlp:red":  # a stranger, or a look-alike
+                say(f"{where}: the tag {name} isn't known, so it is taken as tlp:red")
+        elif not is_local:
+            tags.others.append(name)
+    return tags
+
+
+class Reader:
+    """Reads one event."""
+
+    def __init__(self, mapping: Mapping, choices: Choices) -> None:
+        self.mapping, self.choices = mapping, choices
+        self.left_out: Counter[str] = Counter()
+        self.group_uuids: dict[str, str] = {}
+        self.label = "red"
+
+    def event(self, value: dict[str, Any]) -> Event:
+        where = "Event"
+        if not flag_of(value, "published", where) and not self.choices.unpublished:
+            raise Unfit("Event isn't published (--unpublished takes it)")
+        self._note_groups(value)
+        level, group = self._distribution(value, where, 4)
+        orgc = value.get("Orgc")
+        if not isinstance(orgc, dict):
+            raise Unfit("Event: Orgc is missing")
+        org = next((each for each in self.mapping.orgs if each.uuid == uuid_of(orgc, "uuid", "Orgc")), None)
+        if org is None:
+            raise Unfit(f"Orgc: the organisation {uuid_of(orgc, 'uuid', 'Orgc')} has no entry in the mapping")
+        tags = tags_of(value, where)
+        if not tags.shared:
+            say(f"Event has no TLP tag that is shared, so it is taken as tlp:{self.choices.untagged}")
+        elif len(set(tags.shared)) > 1:
+            say(f"Event has several TLP tags, so the strictest is taken, tlp:{strictest(tags.shared)}")
+        self.label = strictest([*(tags.shared or [self.choices.untagged]), *tags.local])
+        items: list[Item] = [each for each in (self._attribute(one, f"Attribute {place}") for place, one in enumerate(list_of(value, "Attribute", where))) if each]
+        items += [each for each in (self._thing(one, f"Object {place}") for place, one in enumerate(list_of(value, "Object", where))) if each]
+        for name, what in (("ShadowAttribute", "proposals"), ("EventReport", "event reports")):
+            self.left_out[what] += len(list_of(value, name, where))
+        if text_of(value, "extends_uuid", where, ""):
+            self.left_out["which event this one extends"] += 1
+        if any(self.left_out.values()):
+            say("left out: " + ", ".join(f"{count} {what}" for what, count in self.left_out.items() if count))
+        made = text_of(value, "publish_timestamp", where, "0")
+        made = made if made not in ("", "0") else text_of(value, "timestamp", where)
+        return Event(
+            uuid_of(value, "uuid", where), text_of(value, "info", where), _date(text_of(value, "date", where, "")), moment_of(made, "Event: publish_timestamp"),
+            _one_of(value, "threat_level_id", "1234", "4"), _one_of(value, "analysis", "012", "0"), level, group, self.label, tuple(tags.others), org,
+            text_of(orgc, "name", "Orgc", org.name), items,
+        )
+
+    def _note_groups(self, value: Any) -> None:
+        """The UUIDs of the sharing groups that the event has anywhere, by their number in that MISP."""
+        waiting = [value]
+        while waiting:
+            each = waiting.pop()
+            if isinstance(each, dict):
+                group = each.get("SharingGroup")
+                if isinstance(group, dict) and group:
+                    name = uuid_of(group, "uuid", "SharingGroup")
+                    for number in {text_of(group, "id", "SharingGroup", ""), text_of(each, "sharing_group_id", "SharingGroup", "")} - {"", "0"}:
+                        if self.group_uuids.setdefault(number, name) != name:
+                            raise Unfit(f"the sharing group {number} has two UUIDs")
+                waiting += [each[name] for name in ("Attribute", "Object") if name in each]
+            elif isinstance(each, list):
+                waiting += each
+
+    def _distribution(self, value: dict[str, Any], where: str, most: int) -> tuple[int, int | None]:
+        text = text_of(value, "distribution", where)
+        if text not in list("012345")[: most + 1]:
+            raise Unfit(f"{where}: the distribution {text} isn't known")
+        if text != "4":
+            return int(text), None
+        number = text_of(value, "sharing_group_id", where, "0")
+        own = value.get("SharingGroup")
+        if isinstance(own, dict) and text_of(own, "id", where, number) != number and number != "0":
+            raise Unfit(f"{where}: sharing_group_id and SharingGroup name two groups")
+        name = uuid_of(own, "uuid", f"{where}: SharingGroup") if isinstance(own, dict) and own else self.group_uuids.get(number)
+        if name is None:
+            raise Unfit(f"{where}: the UUID of the sharing group {number} isn't told")
+        if name not in self.mapping.groups:
+            raise Unfit(f"{where}: the sharing group {name} has no entry in the mapping")
+        return 4, self.mapping.groups[name]
+
+    def _gate(self, value: dict[str, Any], where: str) -> tuple[int, int] | None:
+        """The gate of a distribution below an event's: none where it inherits or lets everybody pass."""
+        level, group = self._distribution(value, where, 5)
+        return None if level in (3, 5) else (level, group or 0)
+
+    def _attribute(self, value: dict[str, Any], where: str) -> Attribute | None:
+        if flag_of(value, "deleted", where):
+            self.left_out["deleted attributes"] += 1
+            return None
+        tags = tags_of(value, where)
+        own = strictest([*tags.shared, *tags.local]) if tags.shared or tags.local else self.label
+        is_own = self.choices.own_tags and tags.shared
+        label = own if is_own else strictest([self.label, own])
+        if tags.shared and label != own:
+            self.left_out["TLP tags of attributes that are wider than the event's"] += 1
+        self.left_out["proposals"] += len(list_of(value, "ShadowAttribute", where))
+        kind = text_of(value, "type", where)
+        if not re.fullmatch(r"[A-Za-z0-9][A-Za-z0-9|_ -]{0,63}", kind):
+            raise Unfit(f"{where}: type is none of MISP's")
+        if kind in WITHOUT_DATA:
+            self.left_out[f"files of type {kind}, whose names and hashes are of type {WITHOUT_DATA[kind]}"] += 1
+        kind = WITHOUT_DATA.get(kind, kind)
+        return Attribute(
+            kind, text_of(value, "value", where), text_of(value, "category", where, DEFAULT_CATEGORY.get(kind, "Other")), flag_of(value, "to_ids", where),
+            text_of(value, "comment", where, ""), tuple(tags.others), text_of(value, "first_seen", where, ""), text_of(value, "last_seen", where, ""),
+            text_of(value, "object_relation", where, ""), Key(self._gate(value, where), label if label != self.label else None),
+        )
+
+    def _thing(self, value: dict[str, Any], where: str) -> Thing | None:
+        if flag_of(value, "deleted", where):
+            self.left_out["deleted objects"] += 1
+            return None
+        read = (self._attribute(one, f"{where}, Attribute {place}") for place, one in enumerate(list_of(value, "Attribute", where)))
+        attributes = tuple(each for each in read if each)
+        self.left_out["references between objects"] += len(list_of(value, "ObjectReference", where))
+        template = text_of(value, "template_uuid", where, "")
+        version = text_of(value, "template_version", where, "")
+        key = Key(self._gate(value, where), None)
+        made = Thing(text_of(value, "name", where), text_of(value, "meta-category", where, ""), f"{template} {version}" if template else "",
+                     text_of(value, "comment", where, ""), key, attributes)
+        return made if attributes else None
+
+
+def _date(text: str) -> str:
+    try:
+        return text and datetime.date.fromisoformat(text).isoformat()
+    except ValueError:
+        raise Unfit("Event: date is no day") from None
+
+
+def _one_of(value: dict[str, Any], name: str, known: str, default: str) -> str:
+    text = text_of(value, name, "Event", default)
+    if len(text) != 1 or text not in known:
+        raise Unfit(f"Event: {name} is none of {', '.join(known)}")
+    return text
+
+
+# IODEF's classes
+
+
+def address_of(kind: str, value: str) -> str | None:
+    """The category of an address of this type, None where the value is none."""
+    if kind.startswith("ip-"):
+        try:
+            ipaddress.ip_interface(value)
+        except ValueError:
+            return None
+        return ("ipv6" if ":" in value else "ipv4") + ("-net" if "/" in value else "-addr")
+    form, category = {
+        "AS": (r"(?i)(AS)?[0-9]{1,10}", "asn"), "mac-address": (r"(?i)[0-9a-f]{2}([:-][0-9a-f]{2}){5}", "mac"),
+        "url": (r"[^\s\x00-\x1f]+", "site-uri"), "uri": (r"[^\s\x00-\x1f]+", "site-uri"),
+    }.get(kind, (r"[^\s@]+@[^\s@]+", "e-mail"))
+    return category if re.fullmatch(form, value) else None
+
+
+def _domain(name: str) -> dict[str, Any] | None:
+    return {"system-status": "unknown", "domain-status": "unknown", "Name": name} if re.fullmatch(r"[^\s|/]{1,253}", name) else None
+
+
+def _port(text: str) -> list[dict[str, Any]] | None:
+    return [{"Port": int(text)}] if re.fullmatch(r"[1-9][0-9]{0,4}", text) and int(text) < 65536 else None
+
+
+def _file(name: str | None, kind: str, digest: str | None) -> dict[str, Any] | None:
+    file: dict[str, Any] = {} if name is None else {"FileName": name}
+    if digest is not None:
+        length, method = HASHES[kind]
+        if not re.fullmatch(rf"(?i)[0-9a-f]{{{length}}}", digest):
+            return None
+        file["HashData"] = {"scope": "file-contents", "Hash": [{"DigestMethod": method, "DigestValue": digest}]}
+    return {"File": [file]} if name != "" else None
+
+
+def class_of(kind: str, value: str) -> tuple[str, dict[str, Any]] | None:
+    """The class that a value of this type is, with its name; None where there is none or the value isn't of its form."""
+    made: dict[str, Any] | None = None
+    name = "System"
+    if kind in PARTS and PARTS[kind] == ("Address",):
+        name, category = "Address", address_of(kind, value)
+        made = {"category": category, "value": value} if category else None
+    elif kind in ("domain", "hostname"):
+        name, made = "DomainData", _domain(value)
+    elif kind == "port":
+        service = _port(value)
+        made = {"Service": service} if service else None
+    elif kind in ("ip-src|port", "ip-dst|port", "hostname|port") and value.count("|") == 1:
+        host, _, port = value.partition("|")
+        inner, service = class_of(kind.partition("|")[0], host), _port(port)
+        if inner and service:
+            made = {"Node": {inner[0]: [inner[1]]}, "Service": service}
+            if kind.startswith("ip-"):
+                made["category"] = "source" if kind == "ip-src|port" else "target"
+    elif kind == "domain|ip" and value.count("|") == 1:
+        host, _, address = value.partition("|")
+        domain, inner = _domain(host), class_of("ip-dst", address)
+        made = {"Node": {"DomainData": [domain], "Address": [inner[1]]}} if domain and inner else None
+    elif kind == "filename" or kind in HASHES:
+        name, made = "FileData", _file(value, "", None) if kind == "filename" else _file(None, kind, value)
+    elif kind.startswith("filename|") and kind[9:] in HASHES:
+        file, bar, digest = value.rpartition("|")
+        name, made = "FileData", _file(file, kind[9:], digest) if bar else None
+    elif kind == "regkey":
+        name, made = "WindowsRegistryKeysModified", {"Key": [{"KeyName": value}]}
+    elif kind == "regkey|value":
+        key, bar, data = value.partition("|")
+        name, made = "WindowsRegistryKeysModified", {"Key": [{"KeyName": key, "Value": data}]} if bar else None
+    elif kind == "link":
+        name, made = "Reference", {"URL": [value]} if re.fullmatch(r"[^\s\x00-\x1f]+", value) else None
+    elif kind == "vulnerability":
+        name, made = "Reference", {"Description": [value]}
+    elif kind == "email-subject":
+        name, made = "EmailData", {"EmailSubject": value}
+    elif kind == "email-x-mailer":
+        name, made = "EmailData", {"EmailX-Mailer": value}
+    return (name, made) if made else None
+
+
+def bulk_of(kind: str, value: str) -> str | None:
+    """The type of the bulk list in which a value of this type stands, None where it stands in none."""
+    if kind not in BULK or kind in PARTS and class_of(kind, value) is None:
+        return None
+    return BULK[kind] or address_of(kind, value)
+
+
+def extra(name: str, value: str) -> dict[str, Any]:
+    return {"dtype": "string", "name": name, "value": value}
+
+
+def extras_of(attribute: Attribute) -> list[dict[str, Any]]:
+    """What of an attribute has no class of its own."""
+    made = [extra("misp-type", attribute.type)]
+    if attribute.category != DEFAULT_CATEGORY.get(attribute.type):
+        made.append(extra("misp-category", attribute.category))
+    for name, value in (("misp-relation", attribute.relation), ("misp-first-seen", attribute.first_seen), ("misp-last-seen", attribute.last_seen)):
+        made += [extra(name, value)] if value else []
+    return made + [extra("misp-tag", each) for each in attribute.tags]
+
+
+def extras_of_thing(thing: Thing) -> list[dict[str, Any]]:
+    made = [extra("misp-object", thing.name)]
+    for name, value in (("misp-meta-category", thing.meta_category), ("misp-template", thing.template), ("misp-comment", thing.comment)):
+        made += [extra(name, value)] if value else []
+    return made
+
+
+def grouped(items: Sequence[Item]) -> list[tuple[Key, list[Item]]]:
+    """The items by their keys, those without gate and label first."""
+    groups: dict[Key, list[Item]] = {FREE: []}
+    for each in items:
+        groups.setdefault(each.key, []).append(each)
+    return [(key, group) for key, group in groups.items() if group]
+
+
+def marked(value: dict[str, Any], key: Key) -> dict[str, Any]:
+    made = {**value, **(LABELS[key.label] if key.label else {})}
+    return made if key.gate is None else {**made, MARK: key.gate}
+
+
+def observable_of(attribute: Attribute) -> dict[str, Any]:
+    bulk, made = bulk_of(attribute.type, attribute.value), class_of(attribute.type, attribute.value)
+    if bulk:
+        return {"BulkObservable": {"type": bulk, "BulkObservableList": [attribute.value]}}
+    return {made[0]: made[1]} if made else {"AdditionalData": [extra("misp-value", attribute.value)]}
+
+
+def expression_of(item: Item) -> dict[str, Any]:
+    """An attribute or an object in an Indicator."""
+    if isinstance(item, Attribute):
+        details = extras_of(item) + ([extra("misp-comment", item.comment)] if item.comment else []) + ([] if item.to_ids else [extra("misp-to-ids", "0")])
+        return {"operator": "and", "Observable": [observable_of(item)], "AdditionalData": details}
+    inner = []
+    for key, group in grouped(item.attributes):
+        made = [expression_of(each) for each in group]
+        inner += made if key == FREE else [marked({"operator": "and", "IndicatorExpression": made}, key)]
+    return {"operator": "and", "IndicatorExpression": inner, "AdditionalData": extras_of_thing(item)}
+
+
+def indicator_of(items: Sequence[Item]) -> dict[str, Any]:
+    """The content of an Indicator: a list for each type of what has no details of its own, an expression for each of the others."""
+    lists: dict[tuple[str, str, str], list[str]] = {}
+    others = []
+    for each in items:
+        bulk = bulk_of(each.type, each.value) if isinstance(each, Attribute) else None
+        if isinstance(each, Attribute) and bulk and not (each.comment or each.tags or each.first_seen or each.last_seen or each.relation):
+            lists.setdefault((each.type, each.category, bulk), []).append(each.value)
+        else:
+            others.append(expression_of(each))
+    observables = [
+        {"BulkObservable": {"type": bulk, "BulkObservableList": values, "AdditionalData": extras_of(Attribute(kind, "", category, True))}}
+        for (kind, category, bulk), values in lists.items()
+    ]
+    if len(observables) == 1 and not others:
+        return {"Observable": observables[0]}
+    inner: dict[str, Any] = {"operator": "or"}
+    inner |= {"Observable": observables} if observables else {}
+    return {"IndicatorExpression": inner | ({"IndicatorExpression": others} if others else {})}
+
+
+def event_data_of(item: Item) -> dict[str, Any]:
+    """An attribute or an object that is no indicator."""
+    if isinstance(item, Thing):
+        inner = []
+        for key, group in grouped(item.attributes):
+            made = [event_data_of(each) for each in group]
+            inner += made if key == FREE else [marked({"EventData": made}, key)]
+        return {"EventData": inner, "AdditionalData": extras_of_thing(item)}
+    details = extras_of(item)
+    data: dict[str, Any] = {"Description": [item.comment]} if item.comment else {}
+    found = class_of(item.type, item.value)
+    if found is None or found[0] == "EmailData":
+        details.append(extra("misp-value", item.value))
+    elif found[0] in ("Address", "DomainData"):
+        category = {"ip-src": {"category": "source"}, "ip-dst": {"category": "target"}}.get(item.type, {})
+        data["Flow"] = [{"System": [{**category, "Node": {found[0]: [found[1]]}}]}]
+    elif found[0] == "System":
+        data["Flow"] = [{"System": [found[1]]}]
+    elif found[0] == "Reference":
+        data["Method"] = [{"Reference": [found[1]]}]
+    else:
+        data["Record"] = {"RecordData": [{found[0]: [found[1]]}]}
+    return {**data, "AdditionalData": details}
+
+
+def is_indicator(item: Item) -> bool:
+    return item.to_ids if isinstance(item, Attribute) else any(each.to_ids for each in item.attributes)
+
+
+@dataclass(frozen=True)
+class Report:
+    """A document with its way of posting."""
+
+    document: dict[str, Any]
+    level: int
+    group: int | None
+    gates: tuple[str, ...]
+    source: int
+
+    def line(self) -> str:
+        return compact({"document": self.document, "gates": self.gates, "group": self.group, "level": self.level, "source": self.source})
+
+
+def compact(value: object) -> str:
+    return json.dumps(value, separators=(",", ":"), ensure_ascii=False)
+
+
+def settled(value: Any, path: str, gates: list[str]) -> Any:
+    """The value without its marks; each mark is a gate at its place."""
+    if isinstance(value, list):
+        return [settled(each, f"{path}/{place}", gates) for place, each in enumerate(value)]
+    if not isinstance(value, dict):
+        return value
+    if MARK in value:
+        gates.append(f"{value[MARK][0]}:{value[MARK][1]}:{path}")
+    return {name: settled(each, f"{path}/{name}", gates) for name, each in value.items() if name != MARK}
+
+
+def lines_of(value: dict[str, Any]) -> int:
+    """How many lines a document has as the hub counts them, without labels."""
+    count = 0
+    for name, each in value.items():
+        elements = each if isinstance(each, list) and each else [each]
+        is_label = name in ("restriction", "ext-restriction") and not isinstance(each, (list, dict))
+        count += 0 if is_label else len(elements)
+        count += sum(lines_of(one) for one in elements if isinstance(one, dict))
+    return count
+
+
+def built(event: Event, items: Sequence[Item], part: int) -> Report:
+    name = event.uuid if part == 1 else f"{event.uuid}-part-{part}"
+    incident: dict[str, Any] = {
+        "purpose": "reporting", **LABELS[event.label], "IncidentID": {"id": name, "name": event.org.name}, "GenerationTime": event.made,
+        "Description": [event.info], "Contact": [{"role": "creator", "type": "organization", "ContactName": [event.org_name]}],
+        "AdditionalData": [extra("misp-threat-level", event.threat), extra("misp-analysis", event.analysis), *(extra("misp-tag", each) for each in event.tags)],
+    }
+    if event.date:
+        incident["StartTime"] = f"{event.date}T00:00:00Z"
+    if part > 1:
+        incident["RelatedActivity"] = [{"IncidentID": [{"id": event.uuid, "name": event.org.name}]}]
+    found = grouped([each for each in items if is_indicator(each)])
+    if found:
+        incident["Indicator"] = [
+            marked({"IndicatorID": {"id": f"{name}-{place + 1}", "name": event.org.name, "version": "1"}, **indicator_of(group)}, key)
+            for place, (key, group) in enumerate(found)
+        ]
+    data = []
+    for key, group in grouped([each for each in items if not is_indicator(each)]):
+        made = [event_data_of(each) for each in group]
+        data += made if key == FREE else [marked({"EventData": made}, key)]
+    if data:
+        incident["EventData"] = data
+    gates: list[str] = []
+    document = settled({"version": "2.0", "lang": "en", "Incident": [incident]}, "", gates)
+    return Report(document, event.level, event.group, tuple(gates), event.org.number)
+
+
+def misfit_of(report: Report) -> str | None:
+    """Why the hub would refuse a report, if it would."""
+    size = len(compact(report.document).encode())
+    if size > MOST_BYTES:
+        return f"the report has {size} bytes, at most {MOST_BYTES} are taken (--split makes several reports)"
+    if (count := lines_of(report.document)) > MOST_LINES:
+        return f"the report has {count} lines, at most {MOST_LINES} are taken (--split makes several reports)"
+    if len(report.gates) > MOST_GATES:
+        return f"the report has {len(report.gates)} gates, at most {MOST_GATES} are taken (--stricter takes fewer and narrower ones, --split makes several reports)"
+    return None
+
+
+def met(one: tuple[int, int] | None, other: tuple[int, int] | None) -> tuple[int, int] | None:
+    """A gate that lets nobody pass whom one of both refuses."""
+    if one is None or other is None or one == other:
+        return one or other
+    return min(one, other) if one[0] < 4 and other[0] < 4 else (0, 0)
+
+
+def flat(item: Item, label: str) -> Item:
+    """An object without gates and labels inside it, as narrow as the narrowest of them."""
+    if isinstance(item, Attribute):
+        return item
+    gate = item.key.gate
+    for each in item.attributes:
+        gate = met(gate, each.key.gate)
+    labels = [each.key.label for each in item.attributes if each.key.label]
+    own = strictest([label, *labels]) if labels else None
+    return replace(item, key=Key(gate, None if own == label else own), attributes=tuple(replace(each, key=FREE) for each in item.attributes))
+
+
+def narrowed(event: Event, items: Sequence[Item]) -> list[Item]:
+    """The same items with no more gates than the hub takes, none of them wider."""
+    made = [flat(each, event.label) for each in items]
+    moved = 0
+    while len(built(event, made, 1).gates) > MOST_GATES:
+        groups = [(key, group) for key, group in grouped(made) if key.gate and key.gate != (0, 0)] or [
+            (key, group) for key, group in grouped(made) if key.gate and key.label
+        ]
+        smallest = min(groups, key=lambda each: len(each[1]))[0]
+        keys = {smallest, *(each.key for each in made if each.key.gate == (0, 0))}
+        label = strictest([event.label, *(each.label for each in keys if each.label)])
+        moved += sum(each.key == smallest for each in made)
+        made = [replace(each, key=Key((0, 0), None if label == event.label else label)) if each.key in keys else each for each in made]
+    say(f"made stricter: {moved} attributes and objects are for the source alone")
+    return made
+
+
+def reports_of(event: Event, choices: Choices) -> list[Report]:
+    items = list(event.items)
+    if choices.stricter and len(built(event, items, 1).gates) > MOST_GATES:
+        items = narrowed(event, items)
+    whole = built(event, items, 1)
+    misfit = misfit_of(whole)
+    if misfit is None:
+        return [whole]
+    if not choices.split:
+        raise Unfit(misfit)
+    # Those of one key stay together as far as they can.
+    parts = [[each for _, group in grouped(items) for each in group]]
+    place = 0
+    while place < len(parts):
+        misfit = misfit_of(built(event, parts[place], LAST_NUMBER))
+        if misfit is None:
+            place += 1
+        elif len(parts[place]) > 1:
+            half = len(parts[place]) // 2
+            parts[place : place + 1] = [parts[place][:half], parts[place][half:]]
+        else:
+            raise Unfit(f"one attribute or object alone is too much: {misfit}")
+    say(f"split into {len(parts)} reports")
+    return [built(event, part, number + 1) for number, part in enumerate(parts)]
+
+
+def events_of(value: Any) -> Iterator[dict[str, Any]]:
+    """The events of an answer or an export of MISP."""
+    found = value.get("response", value) if isinstance(value, dict) else value
+    for each in found if isinstance(found, list) else [found]:
+        event = each.get("Event") if isinstance(each, dict) else None
+        if not isinstance(event, dict):
+            raise Unfit('{"Event": {..}} is wanted, or a list of such')
+        yield event
+
+
+def to_iodef(text: bytes, mapping: Mapping, choices: Choices) -> list[Report]:
+    made: list[Report] = []
+    for value in events_of(read_json(text)):
+        made += reports_of(Reader(mapping, choices).event(value), choices)
+    return made
+
+
+# IODEF to MISP
+
+
+@dataclass
+class Parts:
+    """The first of each kind of value that stands in an attribute's classes."""
+
+    found: dict[str, str] = field(default_factory=dict)
+
+    def note(self, name: str, value: object) -> None:
+        if isinstance(value, int) and not isinstance(value, bool):
+            value = str(value)
+        if isinstance(value, str):
+            self.found.setdefault(name, value)
+
+
+def extras_in(value: dict[str, Any]) -> dict[str, list[str]]:
+    """What to-iodef writes into AdditionalData, by its name."""
+    found: dict[str, list[str]] = {}
+    for each in inner_of(value, "AdditionalData"):
+        name, text = each.get("name"), each.get("value")
+        if isinstance(name, str) and name.startswith("misp-") and isinstance(text, str):
+            found.setdefault(name, []).append(text)
+    return found
+
+
+def inner_of(value: dict[str, Any], name: str) -> list[dict[str, Any]]:
+    found = value.get(name)
+    return [each for each in (found if isinstance(found, list) else [found]) if isinstance(each, dict)]
+
+
+def texts_of(value: dict[str, Any], name: str) -> list[str]:
+    found = value.get(name)
+    return [each for each in (found if isinstance(found, list) else [found]) if isinstance(each, str)]
+
+
+def label_of(value: dict[str, Any]) -> str | None:
+    """The TLP label that a class is marked with, if it is."""
+    label = value.get("restriction")
+    if label is None:
+        return None
+    text = value.get("ext-restriction")
+    if label == "ext-value" and isinstance(text, str) and text.lower().startswith("tlp:"):
+        name = text.lower().removeprefix("tlp:")
+        return "clear" if name == "white" else name if name in LABELS else "red"
+    return TLP_OF.get(label, "red") if isinstance(label, str) else "red"
+
+
+def first(values: dict[str, list[str]], name: str, default: str = "") -> str:
+    return values[name][0] if name in values else default
+
+
+@dataclass
+class Found:
+    """An attribute of the event to be."""
+
+    type: str
+    value: str
+    to_ids: bool
+    label: str
+    category: str
+    comment: str = ""
+    tags: tuple[str, ...] = ()
+    first_seen: str = ""
+    last_seen: str = ""
+    relation: str = ""
+
+
+@dataclass
+class FoundThing:
+    name: str
+    meta_category: str
+    template: str
+    comment: str
+    attributes: list[Found]
+
+
+@dataclass
+class Context:
+    label: str
+    to_ids: bool
+    hold: list[Found]
+    category: str = ""  # of the nearest System
+
+
+class Writer:
+    """Reads what is served of one report, and makes an event of it."""
+
+    def __init__(self) -> None:
+        self.attributes: list[Found] = []
+        self.things: list[FoundThing] = []
+        self.labels: list[str] = []
+        self.left_out: Counter[str] = Counter()
+
+    def read(self, value: dict[str, Any], name: str, context: Context) -> None:
+        own = label_of(value)
+        if own:
+            context = replace(context, label=own)
+        extras = extras_in(value)
+        is_frame = name in ("IndicatorExpression", "EventData")
+        if is_frame and "misp-object" in extras:
+            thing = FoundThing(first(extras, "misp-object"), first(extras, "misp-meta-category"), first(extras, "misp-template"), first(extras, "misp-comment"), [])
+            self.things.append(thing)
+            self._below(value, replace(context, hold=thing.attributes))
+        elif is_frame and "misp-type" in extras and (made := self._told(value, extras, context)):
+            context.hold.append(made)
+        elif name == "BulkObservable":
+            self._bulk(value, extras, context)
+        else:
+            self._plain(value, name, context)
+            self._below(value, replace(context, category=str(value.get("category", ""))) if name == "System" else context)
+
+    def _below(self, value: dict[str, Any], context: Context) -> None:
+        for name in value:
+            if name != "AdditionalData":
+                for each in inner_of(value, name):
+                    self.read(each, name, context)
+
+    def _told(self, value: dict[str, Any], extras: dict[str, list[str]], context: Context) -> Found | None:
+        """The attribute of a class that tells its type, if what it holds is of that type."""
+        kind = first(extras, "misp-type")
+        parts = Parts()
+        labels = [context.label]
+        waiting: list[tuple[str, dict[str, Any]]] = [("", value)]
+        while waiting:
+            name, each = waiting.pop(0)
+            labels += [label for label in [label_of(each)] if label]
+            for held, members in {"Address": {"Address": "value"}, "DomainData": {"Name": "Name"}, "Service": {"Port": "Port"}, "File": {"FileName": "FileName"},
+                                  "Hash": {"DigestValue": "DigestValue"}, "Key": {"KeyName": "KeyName", "Value": "Value"}}.items():
+                for part, member in members.items() if name == held else ():
+                    parts.note(part, each.get(member))
+            if name == "Reference":
+                parts.note("URL", next(iter(texts_of(each, "URL")), None))
+                parts.note("Reference", next(iter(texts_of(each, "Description")), None))
+            if name == "BulkObservable":
+                parts.note("bulk", next(iter(texts_of(each, "BulkObservableList")), None))
+            if name == "AdditionalData" and each.get("name") == "misp-value":
+                parts.note("misp-value", each.get("value"))
+            waiting += [(inner, one) for inner in each for one in inner_of(each, inner) if inner not in ("EventData", "IndicatorExpression")]
+        told = parts.found
+        if kind in BULK and "bulk" in told:
+            text = told["bulk"]
+        elif kind in PARTS and all(part in told for part in PARTS[kind]):
+            text = "|".join(told[part] for part in PARTS[kind])
+        elif "misp-value" in told:
+            text = told["misp-value"]
+        else:
+            return None
+        if "misp-value" not in told and (class_of(kind, text) is None if kind in PARTS else kind not in BULK):
+            return None
+        comment = first(extras, "misp-comment") or next(iter(texts_of(value, "Description")), "")
+        return self._found(kind, text, extras, replace(context, label=strictest(labels)), comment)
+
+    def _found(self, kind: str, text: str, extras: dict[str, list[str]], context: Context, comment: str = "") -> Found:
+        category = first(extras, "misp-category", DEFAULT_CATEGORY.get(kind, "Other"))
+        tags = tuple(each for each in extras.get("misp-tag", []) if tlp_of(each) is None)
+        return Found(
+            kind, text, context.to_ids and first(extras, "misp-to-ids") != "0", context.label, category if category in CATEGORIES else "Other", comment, tags,
+            first(extras, "misp-first-seen"), first(extras, "misp-last-seen"), first(extras, "misp-relation"),
+        )
+
+    def _bulk(self, value: dict[str, Any], extras: dict[str, list[str]], context: Context) -> None:
+        form = value.get("type")
+        told = first(extras, "misp-type")
+        for text in [one for each in texts_of(value, "BulkObservableList") for one in (each.splitlines() if isinstance(value["BulkObservableList"], str) else [each])]:
+            if told in BULK and bulk_of(told, text) == form:
+                context.hold.append(self._found(told, text, extras, context))
+            elif form == "file-hash":
+                kind = next((name for name, (length, _) in HASHES.items() if len(text) == length and class_of(name, text)), None)
+                self._add(kind, text, context)
+            else:
+                self._add(TYPE_OF.get(form) if isinstance(form, str) else None, text, context)
+
+    def _add(self, kind: str | None, text: str, context: Context) -> None:
+        """A value whose type is told by its place alone; of another form it is a text."""
+        if kind in ("ip-dst", "ip-dst|port") and context.category == "source":
+            kind = kind.replace("dst", "src")
+        if kind is None or kind in PARTS and class_of(kind, text) is None:
+            kind = "text"
+        context.hold.append(self._found(kind, text, {}, context if kind != "text" else replace(context, to_ids=False)))
+
+    def _plain(self, value: dict[str, Any], name: str, context: Context) -> None:
+        """What a class of a report by any other hand says directly."""
+        if name == "Address" and isinstance(value.get("value"), str):
+            category = value.get("category")
+            self._add(TYPE_OF.get(category) if isinstance(category, str) else None, value["value"], context)
+        elif name == "DomainData" and isinstance(value.get("Name"), str):
+            self._add("domain", value["Name"], context)
+        elif name == "File":
+            names = texts_of(value, "FileName")
+            hashes = [(HASH_OF.get(method), digest) for data in inner_of(value, "HashData") for each in inner_of(data, "Hash")
+                      for method in texts_of(each, "DigestMethod") for digest in texts_of(each, "DigestValue")]
+            for kind, digest in hashes:
+                self._add(f"filename|{kind}" if kind and names else kind, f"{names[0]}|{digest}" if kind and names else digest, context)
+            if names and not hashes:
+                self._add("filename", names[0], context)
+        elif name == "Key" and isinstance(value.get("KeyName"), str):
+            data = value.get("Value")
+            self._add("regkey|value" if isinstance(data, str) else "regkey", value["KeyName"] + (f"|{data}" if isinstance(data, str) else ""), context)
+        elif name == "Reference":
+            for url in texts_of(value, "URL"):
+                self._add("link", url, replace(context, to_ids=False))
+        elif name == "RecordData":
+            for url in texts_of(value, "URL"):
+                self._add("url", url, context)
+        elif name == "EmailData":
+            for member, kind in (("EmailSubject", "email-subject"), ("EmailX-Mailer", "email-x-mailer"), ("EmailFrom", "email-src"), ("EmailTo", "email-dst")):
+                for text in texts_of(value, member):
+                    self._add(kind, text, context)
+        elif name in ("EventData", "Indicator"):
+            for text in texts_of(value, "Description"):
+                self._add(None, text, context)
+        elif name == "Service":
+            self.left_out["Service"] += 1
+
+
+def to_misp(text: bytes, mapping: Mapping, sharing_group: int | None = None) -> dict[str, Any]:
+    """The event of what `iodef-hub-ask --json show` tells."""
+    view = read_json(text)
+    if not isinstance(view, dict) or not isinstance(view.get("document"), dict) or type(view.get("source")) is not int or type(view.get("number")) is not int:
+        raise Unfit("the hub's answer for one incident is wanted: document, number, source")
+    incidents = inner_of(view["document"], "Incident")
+    if len(incidents) != 1:
+        raise Unfit("the document has one Incident")
+    incident = incidents[0]
+    org = next((each for each in mapping.orgs if each.number == view["source"]), None)
+    if org is None:
+        raise Unfit(f"the organisation {view['source']} has no entry in the mapping")
+    ident: dict[str, Any] = next(iter(inner_of(incident, "IncidentID")), {})
+    if isinstance(ident.get("id"), str) and isinstance(ident.get("name"), str):
+        name = json.dumps([ident["name"], ident["id"]], separators=(",", ":"), ensure_ascii=False)
+    else:
+        name = str(view["number"])
+        say("the IncidentID is withheld, so the event's UUID is made of the hub's number")
+    event_uuid = uuid.uuid5(uuid.NAMESPACE_URL, f"iodef-hub:{mapping.hub}#{view['source']}/{name}")
+    own = label_of(incident)
+    writer = Writer()
+    for member in incident:
+        for each in inner_of(incident, member):
+            if member in ("Indicator", "EventData", "Method"):
+                writer.read(each, member, Context(own or "red", member == "Indicator", writer.attributes))
+            elif member not in ("IncidentID", "AdditionalData") and any(not isinstance(one, (dict, list)) for one in each.values()):
+                writer.left_out[member] += 1
+    extras = extras_in(incident)
+    things = [each for each in writer.things if each.attributes]
+    shown = [each.label for each in [*writer.attributes, *(one for thing in things for one in thing.attributes)]]
+    label = own or strictest(shown or ["red"])
+    if own is None:
+        say(f"the Incident's own label is withheld, so the event is tagged as its strictest attribute, tlp:{label}")
+    texts = texts_of(incident, "Description")
+    event: dict[str, Any] = {
+        "uuid": str(event_uuid), "info": texts[0] if texts else f"Incident {view['number']} of {org.name}",
+        "threat_level_id": _known(first(extras, "misp-threat-level"), "1234", "4"), "analysis": _known(first(extras, "misp-analysis"), "012", "0"),
+        "distribution": "0" if sharing_group is None else "4", "published": False, "Orgc": {"uuid": org.uuid, "name": org.name},
+        "Tag": [{"name": f"tlp:{label}"}] + [{"name": each} for each in extras.get("misp-tag", []) if tlp_of(each) is None],
+        "Attribute": [_attribute(each, event_uuid, "", label) for each in once(writer.attributes, writer)], "Object": [],
+    }
+    if sharing_group is not None:
+        event["sharing_group_id"] = str(sharing_group)
+    made = incident.get("GenerationTime")
+    days = [each[:10] for each in (incident.get("StartTime"), made) if isinstance(each, str) and _is_day(each[:10])]
+    if days:
+        event["date"] = days[0]
+    if (stamp := _stamp(made)) is not None:
+        event["timestamp"] = stamp
+    seen: Counter[str] = Counter()
+    for thing in things:
+        attributes = once(thing.attributes, writer)
+        base = json.dumps([thing.name, sorted([each.relation, each.type, each.value] for each in attributes)])
+        seen[base] += 1
+        thing_uuid = uuid.uuid5(event_uuid, f"{base}#{seen[base]}")
+        value: dict[str, Any] = {"uuid": str(thing_uuid), "name": thing.name, "comment": thing.comment, "distribution": "5",
+                                 "Attribute": [_attribute(each, event_uuid, str(thing_uuid), label) for each in attributes]}
+        if thing.meta_category:
+            value["meta-category"] = thing.meta_category
+        template = re.fullmatch(r"([0-9a-f-]{36}) ([0-9]*)", thing.template)
+        if template:
+            value |= {"template_uuid": template[1], "template_version": template[2]}
+        event["Object"].append(value)
+    withheld = view.get("withheld")
+    if isinstance(withheld, list) and withheld:
+        say(f"in {len(withheld)} places something is withheld from you")
+    if writer.left_out:
+        say("left out: " + ", ".join(f"{count} {what}" for what, count in sorted(writer.left_out.items())))
+    return {"Event": event}
+
+
+def _is_day(text: str) -> bool:
+    try:
+        return datetime.date.fromisoformat(text).isoformat() == text
+    except ValueError:
+        return False
+
+
+def _known(text: str, known: str, default: str) -> str:
+    return text if len(text) == 1 and text in known else default
+
+
+def _stamp(text: object) -> str | None:
+    if not isinstance(text, str):
+        return None
+    try:
+        moment = datetime.datetime.fromisoformat(text)
+        return str(max(int(moment.timestamp()), 0)) if moment.tzinfo else None
+    except (ValueError, OverflowError):
+        return None
+
+
+def once(attributes: Sequence[Found], writer: Writer) -> list[Found]:
+    """Each type, value, category and relation once, as MISP wants it, with the strictest label of those alike."""
+    kept: dict[tuple[str, ...], Found] = {}
+    for each in attributes:
+        if len(each.value.encode(errors="replace")) > LONGEST_VALUE or not each.value:
+            writer.left_out["values that are empty or too long for MISP"] += 1
+            continue
+        key = (each.type, each.value, each.category, each.relation)
+        before = kept.get(key)
+        kept[key] = each if before is None else replace(before, to_ids=before.to_ids or each.to_ids, label=strictest([before.label, each.label]))
+    return list(kept.values())
+
+
+def _attribute(found: Found, event_uuid: uuid.UUID, thing: str, label: str) -> dict[str, Any]:
+    name = json.dumps([thing, found.type, found.value, found.category, found.relation])
+    tags = ([{"name": f"tlp:{found.label}"}] if found.label != label else []) + [{"name": each} for each in found.tags]
+    value: dict[str, Any] = {
+        "uuid": str(uuid.uuid5(event_uuid, name)), "type": found.type, "category": found.category, "value": found.value, "to_ids": found.to_ids,
+        "comment": found.comment, "distribution": "5", "Tag": tags,
+    }
+    for member, text in (("first_seen", found.first_seen), ("last_seen", found.last_seen), ("object_relation", found.relation)):
+        if text:
+            value[member] = text
+    return value
+
+
+# The command
+
+
+def read_file(name: str) -> bytes:
+    return sys.stdin.buffer.read(LONGEST_INPUT + 1) if name == "-" else pathlib.Path(name).read_bytes()
+
+
+def number(text: str) -> int:
+    if not re.fullmatch(r"[1-9][0-9]{0,9}", text):
+        raise argparse.ArgumentTypeError("a number from 1 on is wanted")
+    return int(text)
+
+
+def words() -> argparse.ArgumentParser:
+    parser = argparse.ArgumentParser(prog="iodef-hub-misp", description="MISP events to IODEF reports for iodef-hub, and back.")
+    ways = parser.add_subparsers(dest="way", required=True, metavar="to-iodef|to-misp")
+    there = ways.add_parser("to-iodef", help="lines for iodef-hub-ask post-all, one for each report")
+    there.add_argument("--untagged", choices=ORDER, default="red", help="what an event without a TLP tag is (%(default)s)")
+    there.add_argument("--own-tags", action="store_true", help="an attribute's own TLP tag holds where it is wider than the event's; else the stricter of both holds")
+    there.add_argument("--stricter", action="store_true", help="where more than 16 gates are wanted, some attributes are for the source alone")
+    there.add_argument("--split", action="store_true", help="what is too large for one report, or has too many gates, becomes several")
+    there.add_argument("--unpublished", action="store_true", help="takes an event that isn't published")
+    back = ways.add_parser("to-misp", help="the event of what iodef-hub-ask --json show tells")
+    back.add_argument("--sharing-group", type=number, metavar="ID", help="the number in your MISP of the sharing group that gets the event; else your organisation only")
+    for each, what in ((there, "EVENT"), (back, "ANSWER")):
+        each.add_argument("--map", required=True, metavar="FILE", help="organisations and sharing groups of MISP and of the hub")
+        each.add_argument("file", nargs="?", default="-", metavar=what)
+    return parser
+
+
+def main() -> int:
+    """0 done, 1 refused, 2 usage or a file that can't be read."""
+    given = words().parse_args()
+    try:
+        mapping, text = Mapping.read(read_file(given.map)), read_file(given.file)
+        if given.way == "to-iodef":
+            choices = Choices(given.untagged, given.own_tags, given.stricter, given.split, given.unpublished)
+            lines = [each.line() for each in to_iodef(text, mapping, choices)]
+        else:
+            lines = [json.dumps(to_misp(text, mapping, given.sharing_group), indent=1, ensure_ascii=False)]
+        sys.stdout.buffer.write("".join(each + "\n" for each in lines).encode())
+        sys.stdout.buffer.flush()
+    except Unfit as fault:
+        say(f"refused: {fault}")
+        return 1
+    except (RecursionError, UnicodeError):
+        say("refused: too deep, or a text that can't be written")
+        return 1
+    except OSError as fault:
+        say(str(fault))
+        return 2
+    return 0
+
+
+if __name__ == "__main__":
+    sys.exit(main())
