@@ -91,6 +91,7 @@ DEFAULT_CATEGORY = {
     "email": "Social network",
 }
 WITHOUT_DATA = {"malware-sample": "filename|md5", "attachment": "filename"}  # as no file is carried
+KIND = r"[A-Za-z0-9][A-Za-z0-9|_ -]{0,63}"  # what a type of MISP looks like
 MARK = "\0gate"  # stands for a gate in a class until its place is known
 
 
@@ -103,6 +104,10 @@ class NoWhole:
 
     def __init__(self, text: str) -> None:
         self.text = text
+
+
+def counted(what: Counter[str]) -> str:
+    return ", ".join(f"{count} {each}" for each, count in sorted(what.items()) if count)
 
 
 def say(text: str) -> None:
@@ -345,6 +350,7 @@ class Reader:
     def __init__(self, mapping: Mapping, choices: Choices) -> None:
         self.mapping, self.choices = mapping, choices
         self.left_out: Counter[str] = Counter()
+        self.noted: Counter[str] = Counter()
         self.group_uuids: dict[str, str] = {}
         self.label = "red"
 
@@ -372,8 +378,10 @@ class Reader:
             self.left_out[what] += len(list_of(value, name, where))
         if text_of(value, "extends_uuid", where, ""):
             self.left_out["which event this one extends"] += 1
+        if any(self.noted.values()):
+            say("noted: " + counted(self.noted))
         if any(self.left_out.values()):
-            say("left out: " + ", ".join(f"{count} {what}" for what, count in self.left_out.items() if count))
+            say("left out: " + counted(self.left_out))
         made = text_of(value, "publish_timestamp", where, "0")
         made = made if made not in ("", "0") else text_of(value, "timestamp", where)
         return Event(
@@ -429,16 +437,19 @@ class Reader:
         is_own = self.choices.own_tags and tags.shared
         label = own if is_own else strictest([self.label, own])
         if tags.shared and label != own:
-            self.left_out["TLP tags of attributes that are wider than the event's"] += 1
+            self.noted["TLP tags of attributes that are wider than the event's, so the event's holds"] += 1
         self.left_out["proposals"] += len(list_of(value, "ShadowAttribute", where))
         kind = text_of(value, "type", where)
-        if not re.fullmatch(r"[A-Za-z0-9][A-Za-z0-9|_ -]{0,63}", kind):
+        if not re.fullmatch(KIND, kind):
             raise Unfit(f"{where}: type is none of MISP's")
         if kind in WITHOUT_DATA:
             self.left_out[f"files of type {kind}, whose names and hashes are of type {WITHOUT_DATA[kind]}"] += 1
         kind = WITHOUT_DATA.get(kind, kind)
+        text = text_of(value, "value", where)
+        if kind in PARTS and class_of(kind, text) is None:
+            self.noted["values that aren't of their type's form"] += 1
         return Attribute(
-            kind, text_of(value, "value", where), text_of(value, "category", where, DEFAULT_CATEGORY.get(kind, "Other")), flag_of(value, "to_ids", where),
+            kind, text, text_of(value, "category", where, DEFAULT_CATEGORY.get(kind, "Other")), flag_of(value, "to_ids", where),
             text_of(value, "comment", where, ""), tuple(tags.others), text_of(value, "first_seen", where, ""), text_of(value, "last_seen", where, ""),
             text_of(value, "object_relation", where, ""), Key(self._gate(value, where), label if label != self.label else None),
         )
@@ -692,13 +703,11 @@ def settled(value: Any, path: str, gates: list[str]) -> Any:
 
 
 def lines_of(value: dict[str, Any]) -> int:
-    """How many lines a document has as the hub counts them, without labels."""
+    """How many lines a document has as the hub counts them: one for each member, and for each element of an array."""
     count = 0
-    for name, each in value.items():
+    for each in value.values():
         elements = each if isinstance(each, list) and each else [each]
-        is_label = name in ("restriction", "ext-restriction") and not isinstance(each, (list, dict))
-        count += 0 if is_label else len(elements)
-        count += sum(lines_of(one) for one in elements if isinstance(one, dict))
+        count += len(elements) + sum(lines_of(one) for one in elements if isinstance(one, dict))
     return count
 
 
@@ -914,6 +923,7 @@ class Writer:
         self.things: list[FoundThing] = []
         self.labels: list[str] = []
         self.left_out: Counter[str] = Counter()
+        self.noted: Counter[str] = Counter()
 
     def read(self, value: dict[str, Any], name: str, context: Context) -> None:
         own = label_of(value)
@@ -971,6 +981,9 @@ class Writer:
             return None
         if "misp-value" not in told and (class_of(kind, text) is None if kind in PARTS else kind not in BULK):
             return None
+        if kind in PARTS and class_of(kind, text) is None or not re.fullmatch(KIND, kind):
+            self.noted["values that aren't of their type's form, so they are texts"] += 1
+            kind, context = "text", replace(context, to_ids=False)
         comment = first(extras, "misp-comment") or next(iter(texts_of(value, "Description")), "")
         return self._found(kind, text, extras, replace(context, label=strictest(labels)), comment)
 
@@ -1030,10 +1043,10 @@ class Writer:
             for member, kind in (("EmailSubject", "email-subject"), ("EmailX-Mailer", "email-x-mailer"), ("EmailFrom", "email-src"), ("EmailTo", "email-dst")):
                 for text in texts_of(value, member):
                     self._add(kind, text, context)
-        elif name in ("EventData", "Indicator"):
+        if name in ("EventData", "Indicator", "RecordData"):
             for text in texts_of(value, "Description"):
                 self._add(None, text, context)
-        elif name == "Service":
+        if name == "Service":
             self.left_out["Service"] += 1
 
 
@@ -1056,13 +1069,13 @@ def to_misp(text: bytes, mapping: Mapping, sharing_group: int | None = None) -> 
         name = str(view["number"])
         say("the IncidentID is withheld, so the event's UUID is made of the hub's number")
     event_uuid = uuid.uuid5(uuid.NAMESPACE_URL, f"iodef-hub:{mapping.hub}#{view['source']}/{name}")
-    own = label_of(incident)
+    own = label_of(incident) or ("red" if any(_is_plain(each) for each in incident.values()) else None)
     writer = Writer()
     for member in incident:
         for each in inner_of(incident, member):
             if member in ("Indicator", "EventData", "Method"):
                 writer.read(each, member, Context(own or "red", member == "Indicator", writer.attributes))
-            elif member not in ("IncidentID", "AdditionalData") and any(not isinstance(one, (dict, list)) for one in each.values()):
+            elif member != "IncidentID" and not (member == "AdditionalData" and str(each.get("name")).startswith("misp-")):
                 writer.left_out[member] += 1
     extras = extras_in(incident)
     things = [each for each in writer.things if each.attributes]
@@ -1103,9 +1116,16 @@ def to_misp(text: bytes, mapping: Mapping, sharing_group: int | None = None) -> 
     withheld = view.get("withheld")
     if isinstance(withheld, list) and withheld:
         say(f"in {len(withheld)} places something is withheld from you")
+    if writer.noted:
+        say("noted: " + counted(writer.noted))
     if writer.left_out:
-        say("left out: " + ", ".join(f"{count} {what}" for what, count in sorted(writer.left_out.items())))
+        say("left out: " + counted(writer.left_out))
     return {"Event": event}
+
+
+def _is_plain(value: object) -> bool:
+    """A member that a frame doesn't have."""
+    return not isinstance(value, dict) and not (isinstance(value, list) and all(isinstance(each, dict) for each in value))
 
 
 def _is_day(text: str) -> bool:
