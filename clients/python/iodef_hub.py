@@ -255,6 +255,8 @@ class Hub:
         try:
             try:
                 connection.connect()
+            except ssl.SSLCertVerificationError as fault:
+                return Unreachable("Certificate", "the hub's certificate isn't trusted", fault.verify_message)
             except OSError as fault:
                 return Unreachable("Unreachable", "the hub wasn't reached", str(fault))
             unsent: OSError | None = None
@@ -288,12 +290,14 @@ class Hub:
             heard = self._once(method, target, body)
             if isinstance(heard, HubError):
                 is_safe = not again or isinstance(heard, Unreachable)
-                if left and is_safe and not isinstance(heard, NotHub):
+                if left and is_safe and heard.code != "Certificate" and not isinstance(heard, NotHub):
                     time.sleep(min(pause, 30))
                     continue
                 if is_safe and isinstance(heard, MayBeTaken):
                     raise Unreachable("Unreachable", "the read wasn't answered", heard.detail)
-                raise MayBeTaken("MayBeTaken", "the change was sent and its answer is lost", f"ask again: {again}") if not is_safe else heard
+                if not is_safe:
+                    raise MayBeTaken("MayBeTaken", "the change was sent and its answer is lost", f"ask again: {again}")
+                raise heard
             status, wait, self.heard = heard
             try:
                 value = json.loads(self.heard)
