@@ -284,7 +284,8 @@ class Hub:
         self, method: str, path: str, query: Sequence[tuple[str, object]] = (), body: bytes | None = None, again: str = ""
     ) -> Any:
         """The value that is answered. `again` is what a second answer means of a change; a read has none."""
-        target = self._path + path + ("?" + urllib.parse.urlencode(query) if query else "")
+        # Slashes and colons as they are: 16 gates are to fit a head.
+        target = self._path + path + ("?" + urllib.parse.urlencode(query, safe="/:") if query else "")
         for left in range(self._tries - 1, -1, -1):
             pause = self._pause * 2 ** (self._tries - 1 - left)
             heard = self._once(method, target, body)
@@ -518,16 +519,16 @@ def classes(document: Mapping[str, Any]) -> Iterator[tuple[str, str, dict[str, A
 # Class name, the member that holds the value, and the kind where the class doesn't tell it.
 HOLDERS = {
     "Address": ("value", "address"), "DomainData": ("Name", "domain-name"), "Hash": ("DigestValue", "file-hash"),
-    "File": ("FileName", "file-name"), "Key": ("KeyName", "windows-reg-key"), "Email": ("EmailTo", "contact"),
+    "File": ("FileName", "file-name"), "Key": ("KeyName", "windows-reg-key"),
 }
 
 
 def indicators(document: Mapping[str, Any]) -> Iterator[tuple[str, str, str]]:
     """What one blocks or looks for, as kind, value and pointer: addresses, domain names, hashes, files, registry keys, bulk
-    lists and URLs. The Email of a Contact is none."""
+    lists and URLs. A Reference is none. Whether a value is an indicator or the address of a victim is told by its place."""
     for path, name, each in classes(document):
         holder = HOLDERS.get(name)
-        if holder and name != "Email" and isinstance(value := each.get(holder[0]), str):
+        if holder and isinstance(value := each.get(holder[0]), str):
             kind = each.get("category", holder[1])
             yield kind if name == "Address" and isinstance(kind, str) else holder[1], value, path
         if name == "BulkObservable":
@@ -536,7 +537,7 @@ def indicators(document: Mapping[str, Any]) -> Iterator[tuple[str, str, str]]:
             for value in values.split() if isinstance(values, str) else values if isinstance(values, list) else []:
                 if isinstance(value, str):
                     yield kind if isinstance(kind, str) else "bulk", value, path
-        urls = each.get("URL")
+        urls = each.get("URL") if name != "Reference" else None
         for url in urls if isinstance(urls, list) else [urls]:
             if isinstance(url, str):
                 yield "url", url, path
