@@ -1,0 +1,111 @@
+"""One origin on loopback, as a proxy makes it: the page below /ui/ under its policy, and the hub at all other paths."""
+
+import base64
+import hashlib
+import http.client
+import http.server
+import pathlib
+import re
+import threading
+import urllib.parse
+
+Answer = tuple[int, str, bytes]
+
+
+def digest_in_page(page: str, name: str) -> str:
+    """The page's one element of this name, as a policy names it by its hash."""
+    (found,) = re.findall(rf"<{name}>(.*?)</{name}>", page, re.S)
+    return "'sha256-" + base64.b64encode(hashlib.sha256(found.encode()).digest()).decode() + "'"
+
+
+def policy_of(page: str) -> str:
+    return "; ".join(
+        (
+            "default-src 'none'",
+            f"script-src {digest_in_page(page, 'script')}",
+            f"style-src {digest_in_page(page, 'style')}",
+            "connect-src 'self'",
+            "img-src data:",
+            "base-uri 'none'",
+            "form-action 'none'",
+            "frame-ancestors 'none'",
+            "require-trusted-types-for 'script'",
+            "trusted-types 'none'",
+        )
+    )
+
+
+class Origin:
+    """The server, what it was asked, and answers that it gives in the hub's place, each once."""
+
+    def __init__(self, page: pathlib.Path, hub_port: int) -> None:
+        self.page = page
+        self.hub_port = hub_port
+        self.names: bytes | None = None
+        self.instead: dict[str, Answer] = {}
+        self.asked: list[tuple[str, str]] = []
+        self.one_at_a_time = threading.Lock()
+        origin = self
+
+        class Handler(http.server.BaseHTTPRequestHandler):
+            def log_message(self, format: str, *words: object) -> None:
+                pass
+
+            def do_GET(self) -> None:
+                self.answer()
+
+            def do_POST(self) -> None:
+                self.answer()
+
+            def do_PUT(self) -> None:
+                self.answer()
+
+            def answer(self) -> None:
+                body = self.rfile.read(int(self.headers.get("Content-Length", "0")))
+                status, kind, content = origin.answer_to(self.command, self.path, self.headers.get("Authorization"), body)
+                self.send_response(status)
+                self.send_header("Content-Type", kind)
+                self.send_header("Content-Length", str(len(content)))
+                if self.path.startswith("/ui/"):
+                    self.send_header("Content-Security-Policy", policy_of(origin.page.read_text()))
+                    self.send_header("X-Content-Type-Options", "nosniff")
+                self.end_headers()
+                self.wfile.write(content)
+
+        self.server = http.server.ThreadingHTTPServer(("127.0.0.1", 0), Handler)
+        self.port = self.server.server_address[1]
+        threading.Thread(target=self.server.serve_forever, daemon=True).start()
+
+    @property
+    def address(self) -> str:
+        return f"http://127.0.0.1:{self.port}/ui/"
+
+    def answer_to(self, method: str, target: str, key: str | None, body: bytes) -> Answer:
+        path = urllib.parse.urlsplit(target).path
+        self.asked.append((method, target))
+        if path == "/ui/":
+            return 200, "text/html; charset=utf-8", self.page.read_bytes()
+        if path == "/ui/names.json":
+            return (404, "text/plain", b"") if self.names is None else (200, "application/json", self.names)
+        if path.startswith("/ui/"):
+            return 404, "text/plain", b""
+        if path in self.instead:
+            return self.instead.pop(path)
+        return self.answer_of_hub(method, target, key, body)
+
+    def answer_of_hub(self, method: str, target: str, key: str | None, body: bytes) -> Answer:
+        with self.one_at_a_time:
+            connection = http.client.HTTPConnection("127.0.0.1", self.hub_port, timeout=60)
+            try:
+                headers = {} if key is None else {"Authorization": key}
+                connection.request(method, target, body if method != "GET" else None, headers)
+                answer = connection.getresponse()
+                return answer.status, answer.getheader("Content-Type") or "", answer.read()
+            except OSError:
+                return 503, "application/json", b'{"code":"Away","detail":"","reason":"hub restarts or is busy"}'
+            finally:
+                connection.close()
+
+    def close(self) -> None:
+        self.server.shutdown()
+        self.server.server_close()
