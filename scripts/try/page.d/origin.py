@@ -63,6 +63,12 @@ class Origin:
             def answer(self) -> None:
                 body = self.rfile.read(int(self.headers.get("Content-Length", "0")))
                 status, kind, content = origin.answer_to(self.command, self.path, self.headers.get("Authorization"), body)
+                try:
+                    self.send(status, kind, content)
+                except OSError:  # the browser ended the request
+                    pass
+
+            def send(self, status: int, kind: str, content: bytes) -> None:
                 self.send_response(status)
                 self.send_header("Content-Type", kind)
                 self.send_header("Content-Length", str(len(content)))
