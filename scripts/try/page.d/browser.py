@@ -23,16 +23,21 @@ Date.now = () => now() + window.setForward;
 
 class Browser:
     def __init__(self, folder: pathlib.Path) -> None:
-        self.driver = subprocess.Popen(
-            ["chromedriver", "--port=0"], stdout=subprocess.PIPE, stderr=subprocess.DEVNULL, text=True
-        )
+        self.driver = subprocess.Popen(["chromedriver", "--port=0"], stdout=subprocess.PIPE, stderr=subprocess.DEVNULL, text=True)
         self.port = self.port_of_driver()
         self.session = ""
         wanted = {
             "browserName": "chrome",
             "goog:loggingPrefs": {"browser": "ALL"},
             "goog:chromeOptions": {
-                "args": ["--headless=new", "--no-sandbox", "--disable-gpu", "--hide-scrollbars", f"--user-data-dir={folder}", "--window-size=1280,900"]
+                "args": [
+                    "--headless=new",
+                    "--no-sandbox",
+                    "--disable-gpu",
+                    "--hide-scrollbars",
+                    f"--user-data-dir={folder}",
+                    "--window-size=1280,900",
+                ]
             },
         }
         self.session = str(self.call("POST", "/session", {"capabilities": {"alwaysMatch": wanted}})["sessionId"])
@@ -48,7 +53,9 @@ class Browser:
     def call(self, method: str, path: str, body: dict[str, object] | None = None) -> typing.Any:
         connection = http.client.HTTPConnection("127.0.0.1", self.port, timeout=120)
         prefix = f"/session/{self.session}" if self.session else ""
-        connection.request(method, prefix + path, None if body is None else json.dumps(body), {"Content-Type": "application/json"})
+        connection.request(
+            method, prefix + path, None if body is None else json.dumps(body), {"Content-Type": "application/json"}
+        )
         value = json.loads(connection.getresponse().read())["value"]
         connection.close()
         if isinstance(value, dict) and "error" in value:
@@ -66,7 +73,10 @@ class Browser:
 
     def texts(self, selector: str) -> list[str]:
         """What a reader sees of each such element."""
-        found = self.run("return [...document.querySelectorAll(arguments[0])].filter(n => n.checkVisibility()).map(n => n.innerText.trim())", selector)
+        found = self.run(
+            "return [...document.querySelectorAll(arguments[0])].filter(n => n.checkVisibility()).map(n => n.innerText.trim())",
+            selector,
+        )
         return [str(text) for text in found]
 
     def text(self, selector: str) -> str:
@@ -100,7 +110,12 @@ class Browser:
         self.call("POST", "/actions", {"actions": [{"type": "key", "id": "keys", "actions": acts}]})
 
     def chord(self, held: str, sign: str) -> None:
-        acts = [{"type": "keyDown", "value": held}, {"type": "keyDown", "value": sign}, {"type": "keyUp", "value": sign}, {"type": "keyUp", "value": held}]
+        acts = [
+            {"type": "keyDown", "value": held},
+            {"type": "keyDown", "value": sign},
+            {"type": "keyUp", "value": sign},
+            {"type": "keyUp", "value": held},
+        ]
         self.call("POST", "/actions", {"actions": [{"type": "key", "id": "keys", "actions": acts}]})
 
     def wait(self, script: str, *words: object, seconds: float = 20.0) -> bool:
@@ -125,7 +140,9 @@ class Browser:
         self.cdp("Emulation.setEmulatedMedia", features=[{"name": "prefers-color-scheme", "value": name}])
 
     def picture(self, path: pathlib.Path, is_whole: bool = True) -> None:
-        path.write_bytes(base64.b64decode(self.cdp("Page.captureScreenshot", format="png", captureBeyondViewport=is_whole)["data"]))
+        path.write_bytes(
+            base64.b64decode(self.cdp("Page.captureScreenshot", format="png", captureBeyondViewport=is_whole)["data"])
+        )
 
     def console(self) -> list[str]:
         """What the console got since it was last read: severity and text."""

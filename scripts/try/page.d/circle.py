@@ -30,7 +30,10 @@ class Circle:
         """The hub on a port that is free; the same as before where it was served already."""
         for port in [self.port] if self.port else range(28080, 28180):
             process = subprocess.Popen(
-                [self.program, "serve", self.store, str(port), "1000000"], stdout=subprocess.PIPE, stderr=subprocess.DEVNULL, text=True
+                [self.program, "serve", self.store, str(port), "1000000"],
+                stdout=subprocess.PIPE,
+                stderr=subprocess.DEVNULL,
+                text=True,
             )
             assert process.stdout is not None
             if process.stdout.readline().startswith("listening"):
@@ -39,7 +42,9 @@ class Circle:
             process.wait(10)
         raise RuntimeError("no port is free")
 
-    def ask(self, who: str, method: str, path: str, form: Pairs = (), query: Pairs = (), report: bytes | None = None) -> typing.Any:
+    def ask(
+        self, who: str, method: str, path: str, form: Pairs = (), query: Pairs = (), report: bytes | None = None
+    ) -> typing.Any:
         body: bytes | None = urllib.parse.urlencode(form).encode() if report is None else report
         if method == "GET":
             body = None
