@@ -1,9 +1,9 @@
 -- An incident of which a person sees nothing may be anything.
-use Rattle.std.proofs.Common.{◌≡◌, ◌≢◌, ◌⊎◌, ◌<◌, inl, inr, arith, get_or, length, bytes_eq, ℕ, zero, suc, Bool, true, false, not, List, [], ◌∷◌, refl, sym, ◌∙◌, ap, subst, ◌&&◌, ◌||◌, ◌==◌, if◌then◌else◌, cond}
+use Rattle.std.proofs.Common.{◌≡◌, ◌≢◌, inl, inr, bytes_eq, ℕ, Bool, true, false, not, List, [], ◌∷◌, refl, sym, ◌∙◌, ap, subst, ◌&&◌, ◌||◌, ◌==◌, if◌then◌else◌, cond}
 use Rattle.std.specs.Prelude.{ℤ, Option, Some, None, filter, find, map, take, nat_lt, Contains}
 use Rattle.std.specs.List.{AllByRecursion, list_any}
 use Rattle.std.specs.Option.{option_map_or}
-use Rattle.std.proofs.lemmas.Bool.{not-false, not-true, eqb-true, false≢true, true≢false, and_left, cond-false}
+use Rattle.std.proofs.lemmas.Bool.{not-false, not-true, eqb-true, false≢true, and_left, cond-false}
 use Rattle.iodef_tree.specs.Text.{Bytes}
 use Rattle.policy.specs.declared.standing.Standing.{Standing}
 use Rattle.circle.specs.Directory.{Directory}
