@@ -74,7 +74,7 @@ class Load:
                 self.ask(source, "GET", "/me")
             else:
                 self.post(source)
-            time.sleep(0.12)
+            time.sleep(0.12 if self.kind == "read" else 0.4)
 
     def hold(self, place: int) -> None:
         raw = socket.create_connection((self.name, 443), source_address=(f"127.0.2.{place + 1}", 0))
