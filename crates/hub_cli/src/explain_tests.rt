@@ -296,7 +296,7 @@ fn faults_of_explain_in_order(rt: HostRuntime) -> io::Result<()> {
             "Failed\n",
             Status::Failed,
         ),
-        tells(asked, line, "NotOurs\n", Status::Failed),
+        tells(asked, line, "Failed\n", Status::Failed),
         made(),
         tells(asked, line, "ReadFailed\n", Status::Failed),
     ];

@@ -3,9 +3,10 @@
 use crate::cases::{Case, STORE, first_wrong, prints, refused, tells};
 use crate::input::INPUT_LIMIT;
 use crate::status::Status;
-use crate::store::connect;
+use crate::store::connect_or_make;
 use std::io::ErrorKind;
 use std::net::{Ipv4Addr, TcpListener};
+use std::os::unix::fs::PermissionsExt;
 use std::{env, fs, io, process};
 
 /// The SHA-256 of `abc`.
@@ -73,9 +74,63 @@ fn taken_port(rt: &HostRuntime) -> io::Result<(TcpListener, String)> {
     Ok((listener, port))
 }
 
+/// Where no file is, only `init` makes one: all else fails before the port and the input, and leaves none, nor a log.
+#[test]
+fn a_file_that_is_missing(rt: HostRuntime) -> io::Result<()> {
+    let path = new_path(&rt, "missing")?;
+    let log = format!(in rt.alloc(); "{path}-wal")?;
+    let (_listener, port) = taken_port(&rt)?;
+    let serve = ["serve", STORE, port.as_str(), "0"];
+    let line = line_of(&rt, INPUT_LIMIT + 1)?;
+    let line = line.as_str();
+    let told = "Failed\n";
+    let cases = [
+        tells(&serve, "", told, Status::Failed),
+        tells(&["migrate", STORE], "", told, Status::Failed),
+        tells(&["view", STORE, "1"], line, told, Status::Failed),
+        tells(
+            &["explain", STORE, "1", "1", "a"],
+            line,
+            told,
+            Status::Failed,
+        ),
+    ];
+    assert_eq!(rt; first_wrong(&rt, path.as_str(), &cases)?, None);
+    assert!(rt; !fs::exists(&rt, path.as_str())? && !fs::exists(&rt, log.as_str())?);
+    Ok(())
+}
+
+/// Who may read and write the file, by its mode.
+fn mode_of(rt: &HostRuntime, path: &str) -> io::Result<u32> {
+    Ok(fs::metadata(rt, path)?.permissions().mode() & 0o777)
+}
+
+/// A store and its log are their owner's alone.
+#[test]
+fn a_store_is_its_owners(rt: HostRuntime) -> io::Result<()> {
+    let path = new_path(&rt, "mode")?;
+    let path = path.as_str();
+    let log = format!(in rt.alloc(); "{path}-wal")?;
+    assert_eq!(rt; first_wrong(&rt, path, &[made()])?, None);
+    assert!(rt; mode_of(&rt, path)? == 0o600 && mode_of(&rt, log.as_str())? == 0o600);
+    remove(&rt, path)
+}
+
+/// Names that stand for no file.
+#[test]
+fn no_file_of_such_a_name(rt: HostRuntime) -> io::Result<()> {
+    for name in [":memory:", "file:hub.db"] {
+        let case = tells(&["init", STORE, "Hub", ABC], "", "Failed\n", Status::Failed);
+        assert_eq!(rt; first_wrong(&rt, name, &[case])?, None);
+        assert!(rt; !fs::exists(&rt, name)?);
+    }
+    Ok(())
+}
+
 #[test]
 fn a_file_without_a_store(rt: HostRuntime) -> io::Result<()> {
     let path = new_path(&rt, "empty")?;
+    change(&rt, path.as_str(), "CREATE TABLE other (number INTEGER)")?;
     let (_listener, port) = taken_port(&rt)?;
     let serve = ["serve", STORE, port.as_str(), "0"];
     let cases = [
@@ -87,9 +142,9 @@ fn a_file_without_a_store(rt: HostRuntime) -> io::Result<()> {
     remove(&rt, path.as_str())
 }
 
-/// Runs these statements over the file.
+/// Runs these statements over the file, which is made where it isn't there.
 pub fn change(rt: &HostRuntime, path: &str, statements: &str) -> io::Result<()> {
-    if let Ok(mut conn) = connect(rt, path) {
+    if let Ok(mut conn) = connect_or_make(rt, path) {
         if conn.execute_batch(statements).is_ok() && conn.close().is_ok() {
             return Ok(());
         }

@@ -6,7 +6,7 @@ use crate::first_rows::put_first_rows;
 use crate::keys::digest_of;
 use crate::output::print;
 use crate::status::Status;
-use crate::store::{close, connect, shelf_fault};
+use crate::store::{close, connect_or_make, shelf_fault};
 use circle::name::Name;
 use hub_core::ShelfFault;
 use hub_store::SqlShelf;
@@ -46,7 +46,7 @@ pub fn run<W: Write>(
     let Some(key) = digest_of(digest) else {
         return Err(Fault::BadArgument);
     };
-    match make_over(rt.alloc(), connect(rt, store)?, name, key) {
+    match make_over(rt.alloc(), connect_or_make(rt, store)?, name, key) {
         Ok(shelf) => close(shelf),
         Err(fault) => return Err(shelf_fault(fault)),
     }
