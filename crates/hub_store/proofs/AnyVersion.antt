@@ -1,6 +1,5 @@
 -- The query for the version, whatever the schema is.
-use Rattle.std.proofs.Common.{◌≡◌, ◌⊎◌, inl, inr, ℕ, List, [], map, append-nil, Bool, true, false, cond, IsTrue, is_some, Option, Some, None, Ok, Err, Result, IfOk, refl, sym, ap, subst, ◌∙◌}
-use Rattle.std.proofs.lemmas.Bool.{both_ways}
+use Rattle.std.proofs.Common.{◌≡◌, ◌≢◌, ◌≤◌, ◌⊎◌, inl, inr, ℕ, List, [], length, map, append-nil, Bool, true, false, cond, IsTrue, IsSome, is_some, Option, Some, None, Ok, Err, Result, IfOk, IfErr, refl, sym, ap, subst, ◌∙◌, arith}
 use Rattle.std.proofs.lemmas.Result.{IfOk-weaker}
 use Rattle.sqlite_value.specs.Order.{Row, column}
 use Rattle.sqlite_schema.specs.declared.command.Command.{Command}
@@ -15,21 +14,26 @@ use Rattle.sqlite_tied.specs.Compute.{everything}
 use Rattle.sqlite_trees.specs.declared.error.StoreError.{StoreError}
 use Rattle.sqlite_trees.specs.declared.error.StoreError.TheVariants.{OutOfMemory, Io, Corrupt, Full, Broken, Unstorable}
 use Rattle.sqlite.specs.declared.error.Error.{Error}
-use Rattle.sqlite.specs.declared.error.Error.TheVariants.{SqlInputError}
-use Rattle.sqlite.specs.Effect.{Reads}
+use Rattle.sqlite.specs.declared.error.Error.TheVariants.{SqliteFailure}
+use Rattle.sqlite.specs.declared.error.ErrorCode.TheVariants as code
+use Rattle.sqlite.specs.Clock.{timed}
+use Rattle.sqlite.specs.Effect.{Database, Reads, RefusesToRead}
 use Rattle.sqlite.specs.Listing.{understood, reads_listing, listing_schema, if_select, IsSourceOf}
-use Rattle.sqlite.specs.State.{State, Shown, IsNotRun, Fails, FailsToQuery, FailsToShow, RunsCommand, IsTooLate, IsUnchanged, store_error}
+use Rattle.sqlite.specs.State.{State, Shown, IsStatement, IsNoStatement, IsNotRun, Fails, HasCause, FailsToQuery, FailsToShow, IsTooLate, IsUnchanged, store_error}
 use Rattle.hub_store.specs.Versions.{version_column, version_text, only_u32, IsVersion}
-use Rattle.hub_store.proofs.Outcomes.{plain_shown, shown_up}
+use Rattle.hub_store.specs.Failing.{HasReason, IsUnreadable}
+use Rattle.hub_store.proofs.Outcomes.{plain_shown}
 use Rattle.hub_store.proofs.Statements.{same_ok}
 
 -- a SELECT has no RETURNING, and reads no clock where it names none
 bare_one : (names formats : List (List ℕ)) (start end tail : ℕ) (x : Result Command CompileError) (c : Compiled)
-    → and_then (and_then (and_then x (λ k. Ok (k, None))) (λ found. Ok (formats, found))) (λ (plan : List (List ℕ) × (Command × Option Returning)). Ok (record { command = plan.1.0; returning = plan.1.1; names = names; formats = plan.0; start = start; end = end; tail = tail })) ≡ Ok c → (c.returning ≡ None) × (c.formats ≡ formats)
-bare_one names formats start end tail (Ok k) c e = (ap (λ (c : Compiled). c.returning) (sym (same_ok e)), ap (λ (c : Compiled). c.formats) (sym (same_ok e)))
+    → and_then (and_then (and_then x (λ k. Ok (k, None))) (λ found. Ok (formats, found))) (λ (plan : List (List ℕ) × (Command × Option Returning)). Ok (record { command = plan.1.0; returning = plan.1.1; names = names; formats = plan.0; start = start; end = end; tail = tail })) ≡ Ok c
+    → (c.returning ≡ None) × (c.formats ≡ formats) × (c.names ≡ names) × (c.tail ≡ tail)
+bare_one names formats start end tail (Ok k) c e =
+    (ap (λ (c : Compiled). c.returning) (sym (same_ok e)), ap (λ (c : Compiled). c.formats) (sym (same_ok e)), ap (λ (c : Compiled). c.names) (sym (same_ok e)), ap (λ (c : Compiled). c.tail) (sym (same_ok e)))
 bare_one names formats start end tail (Err s) c e = absurd cc
 
-bare_anywhere : (schema : Schema) (c : Compiled) → compiled schema version_text ≡ Ok c → (c.returning ≡ None) × (c.formats ≡ [])
+bare_anywhere : (schema : Schema) (c : Compiled) → compiled schema version_text ≡ Ok c → (c.returning ≡ None) × (c.formats ≡ []) × (c.names ≡ []) × (c.tail ≡ length version_text)
 unfolding compiled everything
 bare_anywhere schema c e = bare_one _ _ _ _ _ _ c e
 
@@ -64,46 +68,67 @@ versions_same old new rows h =
 
 -- the rows of a query tell the version, where there is the column
 pub told_by_rows : (old new : State) (has : Bool) (rows : List Row) (r : Result (Option ℕ) Error) → has ≡ true → has ≡ is_some (version_column old.now.schema) → Shown version_text [] old new rows → IfOk r (λ found. found ≡ only_u32 (map (λ (r : Row). column r 0) rows))
-    → IfOk r (λ found. IsTrue old.is_open × IsVersion old.now found)
+    → IfOk r (λ found. IsVersion old.now found)
 told_by_rows old new has rows r up is shown found =
     let there : is_some (version_column old.now.schema) ≡ true = sym is ∙ up in
-    IfOk-weaker r _ _ (λ n same. (
-      shown_up old new version_text [] rows shown,
-      record { missing = λ none. absurd (let e = sym there ∙ none in cc); there = λ _. (rows, answer_of [] old new rows shown, same) },
-    )) found
+    IfOk-weaker r _ _ (λ n same. record { missing = λ none. absurd (let e = sym there ∙ none in cc); there = λ _. (rows, answer_of [] old new rows shown, same) }) found
 
--- without the column there is none
-pub told_by_schema : (old : State) (has : Bool) → has ≡ false → has ≡ is_some (version_column old.now.schema) → IsVersion old.now None
-told_by_schema old has down is = record { missing = λ _. refl; there = λ up. absurd (both_ways _ (sym is ∙ down) up) }
+-- ---- why the query fails
 
-not_stored : (kind : StoreError) (f : CompileError) → SqlInputError f ≡ store_error kind → ⊥
-not_stored OutOfMemory f e = cc
-not_stored Io f e = cc
-not_stored Corrupt f e = cc
-not_stored Full f e = cc
-not_stored Broken f e = cc
-not_stored Unstorable f e = cc
+module _ (old new : State) (e : Error) (other : e ≢ SqliteFailure code.OutOfMemory) where
+  failed_reason : Fails old new ⊥ e → HasReason old new
+  failed_reason h = go h.0 h.1 h.2
+    where
+      go : (cause : StoreError) → e ≡ store_error cause → HasCause old new ⊥ cause → HasReason old new
+      go OutOfMemory is h = absurd (other is)
+      go Io is h = inl h
+      go Corrupt is h = inl h
+      go Full is h = inl h
+      go Broken is h = inr (inl h)
+      go Unstorable is h = absurd h
 
-module _ (old new : State) (f : CompileError) where
-  not_failed : (Big : Type 0) → Fails old new Big (SqlInputError f) → IsTrue old.is_open
-  not_failed Big h = absurd (not_stored h.0 f h.1)
+  not_read_reason : IsNoStatement old version_text [] e → (fault : CompileError) × (understood old.now.schema version_text ≡ Err fault)
+  not_read_reason (inl h) = (h.0, h.1)
+  not_read_reason (inr h) =
+      let bare = bare_anywhere old.now.schema h.0 (from_tables old.now.schema h.0 h.1).1 in
+      elim h.2 [
+        | inl cut ↦ absurd (cut.0 (omega (arith, bare.3)))
+        | inr (inl given) ↦ absurd (given.0 (sym (ap length bare.2)))
+        | inr (inr timed) ↦ absurd (timed.0 bare.1)
+      ]
 
-  refused_run : (sql : List ℕ) (params : Row) → IsNotRun old new sql params (SqlInputError f) → IsTrue old.is_open
-  unfolding IsNotRun
-  refused_run sql params (inl h) = h.1.0.was_open
-  refused_run sql params (inr h) = not_failed _ h
+-- what SQL refuses
+refusal_of : (params : Row) (old new : State) (e : Error) → (c : Compiled) × (it : IsStatement old version_text params c) × FailsToShow old new version_text c (timed params c.formats it.now) e c.returning
+    → (c : Compiled) × (understood old.now.schema version_text ≡ Ok c) × RefusesToRead old.step_limit c.command old.now params e
+refusal_of params old new e h =
+    let tables = from_tables old.now.schema h.0 h.1.is in
+    let bare = bare_anywhere old.now.schema h.0 tables.1 in
+    let it = rw (bare.0, bare.1, append-nil params) at h.2 in
+    let db : it.0 ≡ old.now = subst (λ b. IsSourceOf b old.now it.0) tables.0 it.1 in
+    (h.0, h.1.is, subst (λ d. RefusesToRead old.step_limit h.0.command d params e) db it.2)
 
-  refused_command : (sql : List ℕ) (c : Compiled) (params : Row) → RunsCommand old new sql c params (Err (SqlInputError f)) → IsTrue old.is_open
-  refused_command sql c params (inl h) = h.1.0.was_open
-  refused_command sql c params (inr h) = not_failed _ h
+-- with no limit on steps, or with one
+by_limit : (limit : Option ℕ) (command : Command) (db : Database) (e : Error) → RefusesToRead limit command db [] e → IsSome limit ⊎ RefusesToRead None command db [] e
+by_limit (Some n) command db e h = inl refl
+by_limit None command db e h = inr h
 
-  refused_show : (sql : List ℕ) (c : Compiled) (params : Row) (r : Option Returning) → FailsToShow old new sql c params (SqlInputError f) r → IsTrue old.is_open
-  refused_show sql c params None h = h.3.0.was_open
-  refused_show sql c params (Some what) h = refused_command sql c params h
+pub unread_reason : (old new : State) (has : Bool) (e : Error) → has ≡ true → has ≡ is_some (version_column old.now.schema) → e ≢ SqliteFailure code.OutOfMemory
+    → FailsToQuery version_text [] old new e ⊎ IsTooLate version_text [] old new e → HasReason old new ⊎ IsUnreadable old.now
+unfolding FailsToQuery IsNotRun
+unread_reason old new has e up is other (inl (inl (inl h))) = inr (sym is ∙ up, inl (not_read_reason old new e other h.0))
+unread_reason old new has e up is other (inl (inl (inr h))) = inl (failed_reason old new e other h)
+unread_reason old new has e up is other (inl (inr h)) =
+    let r = refusal_of [] old new e h in
+    elim (by_limit old.step_limit r.0.command old.now e r.2) [ inl some ↦ inl (inr (inr some)) | inr refuses ↦ inr (sym is ∙ up, inr (r.0, e, r.1, refuses)) ]
+unread_reason old new has e up is other (inr h) =
+    absurd (let none = (bare_anywhere old.now.schema h.0 (from_tables old.now.schema h.0 h.1.is).1).0 in let some = h.2 in cc)
 
-  -- a store that refuses a text is open
-  pub refused_up : (sql : List ℕ) (params : Row) → FailsToQuery sql params old new (SqlInputError f) ⊎ IsTooLate sql params old new (SqlInputError f) → IsTrue old.is_open
-  unfolding FailsToQuery
-  refused_up sql params (inl (inl h)) = refused_run sql params h
-  refused_up sql params (inl (inr h)) = refused_show sql h.0 _ h.0.returning h.2
-  refused_up sql params (inr h) = h.5.0.was_open
+-- more may fail later
+reason_later : (old new : State) (faults : ℕ) → new.faults ≤ faults → HasReason old new → HasReason old (record new { faults = faults })
+reason_later old new faults more (inl h) = inl (omega (arith, more, h))
+reason_later old new faults more (inr h) = inr h
+
+pub later_reason : (old new : State) (faults : ℕ) (r : Result (Option ℕ) Error) → new.faults ≤ faults → IfErr r (λ e. e ≢ SqliteFailure code.OutOfMemory → HasReason old new ⊎ IsUnreadable old.now)
+    → IfErr r (λ e. e ≢ SqliteFailure code.OutOfMemory → HasReason old (record new { faults = faults }) ⊎ IsUnreadable old.now)
+later_reason old new faults (Ok x) more h = tt
+later_reason old new faults (Err e) more h = λ other. elim (h other) [ inl reason ↦ inl (reason_later old new faults more reason) | inr unread ↦ inr unread ]

@@ -19,5 +19,6 @@ pub mod FirstShown
 pub mod Looks
 pub mod Makes
 pub mod Versions
+pub mod Failing
 pub mod Opening
 pub mod TargetsShown

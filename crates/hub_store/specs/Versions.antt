@@ -14,8 +14,9 @@ use Rattle.sqlite.specs.Listing.{understood}
 abbrev pub version_column : Schema → Option ℕ
 version_column schema = option_and_then (λ (t : Table). column_named t (codes "version")) (option_and_then (slice_get schema.tables) (table_named schema (codes "hub")))
 
+-- two rows tell that there are several
 abbrev pub version_text : List ℕ
-version_text = codes "SELECT version FROM hub"
+version_text = codes "SELECT version FROM hub LIMIT 2"
 
 -- these rows are an answer to the text
 abbrev pub AreVersions : Database → List Row → Type 0

@@ -7,7 +7,7 @@
 //! 1. `Tables` and `Versions`: the schema of version 1, and the version that a store tells.
 //! 2. `Rows`, `Values`, `Pairs` and `PairKinds`: each element of a set as a row; `Fit`: the limits that every row keeps.
 //! 3. `Means`: which state the tables stand for, set by set; `Content`: what a connection has, and what an open after a
-//!    crash may find; `Opening`: why a store isn't opened.
+//!    crash may find; `Opening` and `Failing`: why a store isn't opened.
 //!
 //! The rooms, in the way of the data:
 //!

@@ -16,7 +16,7 @@ pub(crate) fn probe<S: Alter>(tx: &mut Transaction<'_, S>) -> Result<(), Error>
     ensures kept { HasCleanDisk (state S.Store tx.new.conn.now) → KeepsCommit (state S.Store tx.old.conn.now) (state S.Store tx.new.conn.now) }
     ensures survives { Survives (state S.Store tx.old.conn.now) (state S.Store tx.new.conn.now) (λ _. ⊥) }
 {
-    tx.query_all("SELECT version FROM hub", &[])?;
+    tx.query_all("SELECT version FROM hub LIMIT 2", &[])?;
     Ok(())
 }
 

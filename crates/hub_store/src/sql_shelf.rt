@@ -1,6 +1,6 @@
 //! The shelf over a connection.
 
-ghost use Rattle.std.specs.Prelude.{◌≡◌, ◌≢◌, ◌<◌, ◌↔◌, false, IfOk, IfErr, IsTrue, OnOk};
+ghost use Rattle.std.specs.Prelude.{◌≡◌, ◌≢◌, ◌⊎◌, ◌<◌, ◌↔◌, false, IfOk, IfErr, IsTrue, OnOk};
 ghost use Rattle.hub_core.specs.Shelves.{last_count};
 ghost use Rattle.hub_store.specs.Tables.{no_schema};
 
@@ -11,7 +11,7 @@ use crate::create::make_store;
 use crate::told::fault_of;
 use crate::version::version;
 use hub_core::ShelfFault;
-use sqlite::{Alter, Connection, Error, ErrorCode};
+use sqlite::{Alter, Connection};
 use sqlite_schema::schema::Schema;
 use std::alloc::Global;
 
@@ -53,6 +53,7 @@ impl<S: Alter> SqlShelf<S> {
     ghost use Rattle.hub_store.specs.Means.{Means};
     ghost use Rattle.hub_store.specs.Keeps.{KeepsCommitted};
     ghost use Rattle.hub_store.specs.Versions.{IsVersion};
+    ghost use Rattle.hub_store.specs.Failing.{HasReason, IsUnreadable};
     ghost use Rattle.hub_store.specs.Opening.{newest, IsOpenFault};
 
     fn over(alloc: Global, conn: Connection<S>) -> SqlShelf<S>
@@ -116,6 +117,7 @@ impl<S: Alter> SqlShelf<S> {
         ensures begun { IfOk result (λ shelf. shelf.failures ≡ 0) }
         ensures newest { IfOk result (λ shelf. HasCleanDisk (state S.Store shelf.conn) → IsVersion (state S.Store conn).now (Some newest)) }
         ensures refused { IfErr result (λ e. HasCleanDisk (state S.Store e.1) → IsOpenFault (state S.Store conn).now e.0) }
+        ensures cause { IfErr result (λ e. HasCleanDisk (state S.Store e.1) → e.0 ≡ OpenFault.Failed → HasReason (state S.Store conn) (state S.Store e.1) ⊎ IsUnreadable (state S.Store conn).now) }
         ensures kept { IfErr result (λ e. HasCleanDisk (state S.Store e.1) → KeepsCommitted (state S.Store conn) (state S.Store e.1)) }
         ensures back { IfErr result (λ e. HasCleanDisk (state S.Store e.1) → (s : State) → Has (state S.Store conn) s → Has (state S.Store e.1) s) }
         ensures idle { IfErr result (λ e. e.1.in_transaction ≡ false) }
@@ -126,8 +128,8 @@ impl<S: Alter> SqlShelf<S> {
             Ok(Some(NEWEST)) => Ok(SqlShelf::over(alloc, conn)),
             Ok(Some(other)) => Err((OpenFault::WrongVersion(other), conn)),
             Ok(None) => Err((OpenFault::NotOurs, conn)),
-            Err(Error::SqliteFailure(ErrorCode::OutOfMemory)) => Err((OpenFault::NoMemory, conn)),
-            Err(_) => Err((OpenFault::Failed, conn)),
+            Err(ShelfFault::NoMemory) => Err((OpenFault::NoMemory, conn)),
+            Err(ShelfFault::Failed) => Err((OpenFault::Failed, conn)),
         }
     }
 
@@ -143,6 +145,7 @@ impl<S: Alter> SqlShelf<S> {
         ensures begun { IfOk result (λ shelf. shelf.failures ≡ 0) }
         ensures newest { IfOk result (λ shelf. HasCleanDisk (state S.Store shelf.conn) → IsVersion (state S.Store conn).now (Some newest)) }
         ensures refused { IfErr result (λ e. HasCleanDisk (state S.Store e.1) → IsOpenFault (state S.Store conn).now e.0) }
+        ensures cause { IfErr result (λ e. HasCleanDisk (state S.Store e.1) → e.0 ≡ OpenFault.Failed → HasReason (state S.Store conn) (state S.Store e.1) ⊎ IsUnreadable (state S.Store conn).now) }
         ensures kept { IfErr result (λ e. HasCleanDisk (state S.Store e.1) → KeepsCommitted (state S.Store conn) (state S.Store e.1)) }
         ensures back { IfErr result (λ e. HasCleanDisk (state S.Store e.1) → (s : State) → Has (state S.Store conn) s → Has (state S.Store e.1) s) }
         ensures idle { IfErr result (λ e. e.1.in_transaction ≡ false) }

@@ -1,12 +1,15 @@
 //! The version of the tables.
 
-ghost use Rattle.std.specs.Prelude.{◌≡◌, false, map, is_some, IfOk, IfErr, IsTrue};
+ghost use Rattle.std.specs.Prelude.{◌≡◌, ◌≢◌, ◌⊎◌, false, map, is_some, IfOk, IfErr};
 ghost use Rattle.sqlite_value.specs.Order.{column};
 ghost use Rattle.sqlite.specs.State.{HasCleanDisk, KeepsCommit, Survives};
 ghost use Rattle.sqlite.specs.Held.{state};
 ghost use Rattle.hub_store.specs.Keeps.{KeepsCommitted};
 ghost use Rattle.hub_store.specs.Versions.{version_column, only_u32, IsVersion};
+ghost use Rattle.hub_store.specs.Failing.{HasReason, IsUnreadable};
 
+use crate::told::fault_of;
+use hub_core::ShelfFault;
 use sqlite::{Alter, Connection, Error, ErrorCode, Row, Transaction};
 use sqlite_schema::schema::Schema;
 
@@ -40,7 +43,7 @@ fn only_number(rows: &[Row]) -> Result<Option<u32>, Error>
     }
 }
 
-/// A query of a view `hub` tells nothing of a table.
+/// A view `hub` is no table, so it isn't asked.
 fn read_version<S: Alter>(
     tx: &mut Transaction<'_, S>,
     has_column: bool,
@@ -48,27 +51,46 @@ fn read_version<S: Alter>(
     ensures same_reference { tx.new.conn.ghost_name ≡ tx.old.conn.ghost_name }
     ensures kept { HasCleanDisk (state S.Store tx.new.conn.now) → KeepsCommit (state S.Store tx.old.conn.now) (state S.Store tx.new.conn.now) }
     ensures survives { Survives (state S.Store tx.old.conn.now) (state S.Store tx.new.conn.now) (λ _. ⊥) }
-    ensures exact { HasCleanDisk (state S.Store tx.new.conn.now) → has_column ≡ is_some (version_column (state S.Store tx.old.conn.now).now.schema) → IfOk result (λ found. IsTrue (state S.Store tx.old.conn.now).is_open × IsVersion (state S.Store tx.old.conn.now).now found) }
+    ensures exact { HasCleanDisk (state S.Store tx.new.conn.now) → has_column ≡ is_some (version_column (state S.Store tx.old.conn.now).now.schema) → IfOk result (λ found. IsVersion (state S.Store tx.old.conn.now).now found) }
+    ensures cause { HasCleanDisk (state S.Store tx.new.conn.now) → has_column ≡ is_some (version_column (state S.Store tx.old.conn.now).now.schema) → IfErr result (λ e. e ≢ Error.SqliteFailure ErrorCode.OutOfMemory → HasReason (state S.Store tx.old.conn.now) (state S.Store tx.new.conn.now) ⊎ IsUnreadable (state S.Store tx.old.conn.now).now) }
 {
-    match tx.query_all("SELECT version FROM hub", &[]) {
-        Ok(rows) if has_column => only_number(&rows),
-        Ok(_) => Ok(None),
-        Err(Error::SqlInputError(_)) if !has_column => Ok(None),
+    if !has_column {
+        return Ok(None);
+    }
+    // Two rows tell that there are several.
+    match tx.query_all("SELECT version FROM hub LIMIT 2", &[]) {
+        Ok(rows) => only_number(&rows),
         Err(error) => Err(error),
     }
 }
 
-/// The version that the one row of the table `hub` holds; none where there is no such table, row or number.
-pub(crate) fn version<S: Alter>(conn: &mut Connection<S>) -> Result<Option<u32>, Error>
+/// Asks for the version in a transaction that is rolled back.
+fn ask_version<S: Alter>(conn: &mut Connection<S>) -> Result<Option<u32>, Error>
     requires { conn.old.in_transaction ≡ false }
     ensures idle { conn.new.in_transaction ≡ false }
     ensures kept { HasCleanDisk (state S.Store conn.new) → KeepsCommitted (state S.Store conn.old) (state S.Store conn.new) }
     ensures survives { Survives (state S.Store conn.old) (state S.Store conn.new) (λ _. ⊥) }
-    ensures exact { HasCleanDisk (state S.Store conn.new) → IfOk result (λ found. IsTrue (state S.Store conn.old).is_open × IsVersion (state S.Store conn.old).now found) }
+    ensures exact { HasCleanDisk (state S.Store conn.new) → IfOk result (λ found. IsVersion (state S.Store conn.old).now found) }
+    ensures cause { HasCleanDisk (state S.Store conn.new) → IfErr result (λ e. e ≢ Error.SqliteFailure ErrorCode.OutOfMemory → HasReason (state S.Store conn.old) (state S.Store conn.new) ⊎ IsUnreadable (state S.Store conn.old).now) }
 {
     let has_column = has_version_column(conn.schema());
     let mut tx = conn.transaction();
     let found = read_version(&mut tx, has_column);
     tx.rollback();
     found
+}
+
+/// The version that the one row of the table `hub` holds; none where there is no such table, row or number.
+pub(crate) fn version<S: Alter>(conn: &mut Connection<S>) -> Result<Option<u32>, ShelfFault>
+    requires { conn.old.in_transaction ≡ false }
+    ensures idle { conn.new.in_transaction ≡ false }
+    ensures kept { HasCleanDisk (state S.Store conn.new) → KeepsCommitted (state S.Store conn.old) (state S.Store conn.new) }
+    ensures survives { Survives (state S.Store conn.old) (state S.Store conn.new) (λ _. ⊥) }
+    ensures exact { HasCleanDisk (state S.Store conn.new) → IfOk result (λ found. IsVersion (state S.Store conn.old).now found) }
+    ensures cause { HasCleanDisk (state S.Store conn.new) → IfErr result (λ fault. fault ≡ ShelfFault.Failed → HasReason (state S.Store conn.old) (state S.Store conn.new) ⊎ IsUnreadable (state S.Store conn.old).now) }
+{
+    match ask_version(conn) {
+        Ok(found) => Ok(found),
+        Err(error) => Err(fault_of(error)),
+    }
 }

@@ -14,11 +14,11 @@ returns-in-Ok-Some-eq1-clause-content g c =
 pub returns-in-Ok-Some-clause-back : goal.returns-in-Ok-Some-clause-back
 returns-in-Ok-Some-clause-back g c clean s has = kept_has (state g.S.Store c.args.conn) _ s (c.version.ensures.kept clean) has
 
-pub returns-in-Err-SqliteFailure-OutOfMemory-clause-back : goal.returns-in-Err-SqliteFailure-OutOfMemory-clause-back
-returns-in-Err-SqliteFailure-OutOfMemory-clause-back g c clean s has = kept_has (state g.S.Store c.args.conn) _ s (c.version.ensures.kept clean) has
+pub returns-in-Err-NoMemory-clause-back : goal.returns-in-Err-NoMemory-clause-back
+returns-in-Err-NoMemory-clause-back g c clean s has = kept_has (state g.S.Store c.args.conn) _ s (c.version.ensures.kept clean) has
 
-pub returns-in-Err-clause-back : goal.returns-in-Err-clause-back
-returns-in-Err-clause-back g c clean s has = kept_has (state g.S.Store c.args.conn) _ s (c.version.ensures.kept clean) has
+pub returns-in-Err-Failed-clause-back : goal.returns-in-Err-Failed-clause-back
+returns-in-Err-Failed-clause-back g c clean s has = kept_has (state g.S.Store c.args.conn) _ s (c.version.ensures.kept clean) has
 
 pub returns-in-Ok-None-clause-back : goal.returns-in-Ok-None-clause-back
 returns-in-Ok-None-clause-back g c clean s has = kept_has (state g.S.Store c.args.conn) _ s (c.version.ensures.kept clean) has
