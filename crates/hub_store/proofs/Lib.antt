@@ -31,6 +31,7 @@ pub mod Highest
 pub mod Left
 pub mod Telling
 pub mod AnyVersion
+pub mod Opened
 pub mod ByNumber
 pub mod AskedPairs
 pub mod PairRows

@@ -1,5 +1,5 @@
 -- Why a store fails to tell its version.
-use Rattle.std.specs.Prelude.{◌≡◌, ◌⊎◌, ℕ, [], false, Option, None, Ok, Err, IsTrue, IsSome, is_some}
+use Rattle.std.specs.Prelude.{◌≡◌, ◌⊎◌, [], false, None, Ok, Err, IsTrue, IsSome, is_some}
 use Rattle.sqlite_disk.specs.Disk.{MoreFaults}
 use Rattle.sqlite_resolve.specs.declared.compiled.Compiled.{Compiled}
 use Rattle.sqlite_resolve.specs.declared.error.CompileError.{CompileError}

@@ -1,6 +1,6 @@
 //! The shelf over a connection.
 
-ghost use Rattle.std.specs.Prelude.{◌≡◌, ◌≢◌, ◌⊎◌, ◌<◌, ◌↔◌, false, IfOk, IfErr, IsTrue, OnOk};
+ghost use Rattle.std.specs.Prelude.{◌≡◌, ◌≢◌, ◌<◌, ◌↔◌, false, IfOk, IfErr, IsTrue, OnOk};
 ghost use Rattle.hub_core.specs.Shelves.{last_count};
 ghost use Rattle.hub_store.specs.Tables.{no_schema};
 
@@ -52,9 +52,7 @@ impl<S: Alter> SqlShelf<S> {
     ghost use Rattle.hub_store.specs.Content.{Has, MayLeave};
     ghost use Rattle.hub_store.specs.Means.{Means};
     ghost use Rattle.hub_store.specs.Keeps.{KeepsCommitted};
-    ghost use Rattle.hub_store.specs.Versions.{IsVersion};
-    ghost use Rattle.hub_store.specs.Failing.{HasReason, IsUnreadable};
-    ghost use Rattle.hub_store.specs.Opening.{newest, IsOpenFault};
+    ghost use Rattle.hub_store.specs.Opening.{IsOpened, IsRefused};
 
     fn over(alloc: Global, conn: Connection<S>) -> SqlShelf<S>
         requires { conn.in_transaction ≡ false }
@@ -113,16 +111,9 @@ impl<S: Alter> SqlShelf<S> {
         mut conn: Connection<S>,
     ) -> Result<SqlShelf<S>, (OpenFault, Connection<S>)>
         requires { conn.in_transaction ≡ false }
-        ensures content { IfOk result (λ shelf. HasCleanDisk (state S.Store shelf.conn) → (s : State) → Has (state S.Store conn) s → Has (state S.Store shelf.conn) s) }
-        ensures begun { IfOk result (λ shelf. shelf.failures ≡ 0) }
-        ensures newest { IfOk result (λ shelf. HasCleanDisk (state S.Store shelf.conn) → IsVersion (state S.Store conn).now (Some newest)) }
-        ensures refused { IfErr result (λ e. HasCleanDisk (state S.Store e.1) → IsOpenFault (state S.Store conn).now e.0) }
-        ensures cause { IfErr result (λ e. HasCleanDisk (state S.Store e.1) → e.0 ≡ OpenFault.Failed → HasReason (state S.Store conn) (state S.Store e.1) ⊎ IsUnreadable (state S.Store conn).now) }
-        ensures kept { IfErr result (λ e. HasCleanDisk (state S.Store e.1) → KeepsCommitted (state S.Store conn) (state S.Store e.1)) }
-        ensures back { IfErr result (λ e. HasCleanDisk (state S.Store e.1) → (s : State) → Has (state S.Store conn) s → Has (state S.Store e.1) s) }
+        ensures opened { IfOk result (λ shelf. IsOpened (state S.Store conn) (state S.Store shelf.conn) shelf.failures) }
+        ensures refused { IfErr result (λ e. IsRefused (state S.Store conn) (state S.Store e.1) e.0) }
         ensures idle { IfErr result (λ e. e.1.in_transaction ≡ false) }
-        ensures survives { IfOk result (λ shelf. Survives (state S.Store conn) (state S.Store shelf.conn) (λ _. ⊥)) }
-        ensures crash { IfErr result (λ e. Survives (state S.Store conn) (state S.Store e.1) (λ _. ⊥)) }
     {
         match version(&mut conn) {
             Ok(Some(NEWEST)) => Ok(SqlShelf::over(alloc, conn)),
@@ -141,16 +132,9 @@ impl<S: Alter> SqlShelf<S> {
         conn: Connection<S>,
     ) -> Result<SqlShelf<S>, (OpenFault, Connection<S>)>
         requires { conn.in_transaction ≡ false }
-        ensures content { IfOk result (λ shelf. HasCleanDisk (state S.Store shelf.conn) → (s : State) → Has (state S.Store conn) s → Has (state S.Store shelf.conn) s) }
-        ensures begun { IfOk result (λ shelf. shelf.failures ≡ 0) }
-        ensures newest { IfOk result (λ shelf. HasCleanDisk (state S.Store shelf.conn) → IsVersion (state S.Store conn).now (Some newest)) }
-        ensures refused { IfErr result (λ e. HasCleanDisk (state S.Store e.1) → IsOpenFault (state S.Store conn).now e.0) }
-        ensures cause { IfErr result (λ e. HasCleanDisk (state S.Store e.1) → e.0 ≡ OpenFault.Failed → HasReason (state S.Store conn) (state S.Store e.1) ⊎ IsUnreadable (state S.Store conn).now) }
-        ensures kept { IfErr result (λ e. HasCleanDisk (state S.Store e.1) → KeepsCommitted (state S.Store conn) (state S.Store e.1)) }
-        ensures back { IfErr result (λ e. HasCleanDisk (state S.Store e.1) → (s : State) → Has (state S.Store conn) s → Has (state S.Store e.1) s) }
+        ensures opened { IfOk result (λ shelf. IsOpened (state S.Store conn) (state S.Store shelf.conn) shelf.failures) }
+        ensures refused { IfErr result (λ e. IsRefused (state S.Store conn) (state S.Store e.1) e.0) }
         ensures idle { IfErr result (λ e. e.1.in_transaction ≡ false) }
-        ensures survives { IfOk result (λ shelf. Survives (state S.Store conn) (state S.Store shelf.conn) (λ _. ⊥)) }
-        ensures crash { IfErr result (λ e. Survives (state S.Store conn) (state S.Store e.1) (λ _. ⊥)) }
     {
         SqlShelf::open(alloc, conn)
     }
