@@ -1,23 +1,23 @@
 -- Reading goes on: what several calls leave.
 use Rattle.std.proofs.Common.{◌≡◌, ◌≤◌, inl, inr, ℕ, arith}
-use Rattle.std.specs.Prelude.{Result}
+use Rattle.std.specs.Prelude.{Option, Result}
 use Rattle.std.proofs.lemmas.Bool.Decides.{leb_tells}
 use Rattle.hub_core.specs.State.{State}
 use Rattle.hub_core.specs.Shelves.{IsRead, last_count}
 use Rattle.hub_core.specs.declared.shelf.ShelfFault.{ShelfFault}
 use Rattle.hub_core.specs.Shelves.{HasFailed, IsKept}
 
-pub kept_on : {D : Type 0} {has : D → State → Type 0} {doubts failed : D → ℕ} {may_leave : D → State → Type 0} {old mid new : D} →
+pub kept_on : {D : Type 0} {has : D → State → Type 0} {doubts failed : D → ℕ} {may_leave : D → Option State → Type 0} {old mid new : D} →
     IsKept has doubts failed may_leave old mid → IsKept has doubts failed may_leave mid new → IsKept has doubts failed may_leave old new
 kept_on {doubts = doubts} {old = old} {mid = mid} {new = new} first then = record {
   later = omega (arith, first.later, then.later);
   doubt = omega (arith, first.doubt, then.doubt);
   content = λ clean s has. let before : doubts mid ≡ 0 = omega (arith, then.doubt) in then.content clean s (first.content before s has);
-  crash = λ clean s leaves. let before : doubts mid ≡ 0 = omega (arith, then.doubt) in first.crash before s (then.crash clean s leaves);
+  crash = λ clean left leaves. let before : doubts mid ≡ 0 = omega (arith, then.doubt) in first.crash before left (then.crash clean left leaves);
 }
 
 -- one call
-pub kept_read : {D T : Type 0} {has : D → State → Type 0} {doubts failed : D → ℕ} {may_leave : D → State → Type 0} {old new : D} {result : Result T ShelfFault} →
+pub kept_read : {D T : Type 0} {has : D → State → Type 0} {doubts failed : D → ℕ} {may_leave : D → Option State → Type 0} {old new : D} {result : Result T ShelfFault} →
     IsRead has doubts failed may_leave old new result → IsKept has doubts failed may_leave old new
 kept_read read = record { later = read.cause.later; doubt = read.doubt; content = read.content; crash = read.crash }
 

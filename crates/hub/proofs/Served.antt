@@ -137,7 +137,7 @@ not_read s now p r h = by_case (is_reading r) h
 
 -- ---- what is served
 
-module _ {D : Type 0} {has : D → State → Type 0} {doubts failed : D → ℕ} {may_leave : D → State → Type 0} {old new : D} where
+module _ {D : Type 0} {has : D → State → Type 0} {doubts failed : D → ℕ} {may_leave : D → Option State → Type 0} {old new : D} where
   pub served_reading : IsKept has doubts failed may_leave old new → doubts new ≡ 0 → (s : State) (now : ℤ) (p : Person) (r : Request) (reply : Reply) → has old s → Some reply ≡ read_by s now p r →
       IsServed has may_leave old new s (due_to s now p r) (state_after s p r) (Ok reply)
   served_reading kept clean s now p r reply here is =
@@ -165,7 +165,7 @@ module _ {D : Type 0} {has : D → State → Type 0} {doubts failed : D → ℕ}
   }
 
 -- behind what was read before
-pub served_on : {D : Type 0} {has : D → State → Type 0} {doubts failed : D → ℕ} {may_leave : D → State → Type 0} {old mid new : D} → IsKept has doubts failed may_leave old mid → doubts mid ≡ 0 →
+pub served_on : {D : Type 0} {has : D → State → Type 0} {doubts failed : D → ℕ} {may_leave : D → Option State → Type 0} {old mid new : D} → IsKept has doubts failed may_leave old mid → doubts mid ≡ 0 →
     (s : State) (due : Reply) (after : State) (result : Result Reply ShelfFault) →
     IsServed has may_leave mid new s due after result → IsServed has may_leave old new s due after result
 served_on kept clean s due after result served = record {

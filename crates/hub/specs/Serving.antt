@@ -1,5 +1,5 @@
 -- How a person is served, in parts.
-use Rattle.std.specs.Prelude.{◌≡◌, ◌⊎◌, ◌≤◌, ℕ, ℤ, Bool, true, false, List, Option, Some, None, Result, Ok, Err, IsTrue, IfOk, IsErrOf, if◌then◌else◌}
+use Rattle.std.specs.Prelude.{◌≡◌, ◌⊎◌, ◌≤◌, ◌↔◌, ℕ, ℤ, Bool, true, false, List, Option, Some, None, Result, Ok, Err, IsTrue, IfOk, IsErrOf, if◌then◌else◌}
 use Rattle.std.specs.List.{filter_map}
 use Rattle.circle.specs.declared.directory.Person.{Person}
 use Rattle.circle.specs.declared.command.CircleCommand.TheVariants.{AddOrg, AddPerson, AddCommunity, NewGroup}
@@ -75,12 +75,12 @@ Settles has s due after (Ok reply) = (reply ≡ due) × has after
 Settles has s due after (Err fault) = has s
 
 -- an answer, what it leaves, and what a crash at that moment may leave
-pub record IsServed {D : Type 0} (has may_leave : D → State → Type 0) (old new : D) (s : State) (due : Reply) (after : State) (result : Result Reply ShelfFault) : Type 0 where
+pub record IsServed {D : Type 0} (has : D → State → Type 0) (may_leave : D → Option State → Type 0) (old new : D) (s : State) (due : Reply) (after : State) (result : Result Reply ShelfFault) : Type 0 where
   pub settled : Settles (has new) s due after result
-  -- a change that is answered as made stays made
-  pub durable : IfOk result (λ reply. IsTrue (is_made reply) → (left : State) → may_leave new left → left ≡ after)
+  -- after a change that is answered as made a crash may leave what the request leaves, and nothing else
+  pub durable : IfOk result (λ reply. IsTrue (is_made reply) → (left : Option State) → may_leave new left ↔ (left ≡ Some after))
   -- a crash leaves what it could have left before, or what the request leaves
-  pub crash : (left : State) → may_leave new left → may_leave old left ⊎ (left ≡ after)
+  pub crash : (left : Option State) → may_leave new left → may_leave old left ⊎ (left ≡ Some after)
 
 -- failures and doubts grow, and Failed has its cause
 pub record IsCounted {D T : Type 0} (doubts failed : D → ℕ) (old new : D) (result : Result T ShelfFault) : Type 0 where

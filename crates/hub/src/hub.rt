@@ -1,5 +1,5 @@
 //! The hub over a shelf: one request, and a list of them.
-ghost use Rattle.std.specs.Prelude.{◌≡◌, ◌⊎◌, ◌≤◌, ℕ, true, IsTrue, IfOk, OnErr};
+ghost use Rattle.std.specs.Prelude.{◌≡◌, ◌⊎◌, ◌≤◌, ◌↔◌, ℕ, Option, Some, true, IsTrue, IfOk, OnErr};
 ghost use Rattle.std.specs.List.{Contains};
 ghost use Rattle.circle.specs.Outcomes.{bare};
 ghost use Rattle.circle.specs.declared.directory.Account.{Account};
@@ -51,8 +51,9 @@ impl<Sh: Shelf> Hub<Sh> {
     /// Answers one request at a moment, in seconds since 1970: one step, from whatever sound state the shelf has.
     ///
     /// The reply is made before anything is changed, so `F2` means that nothing changed; so does `F1`, which is answered
-    /// only where the shelf failed. A change that is answered as made stays made if everything stops now; else a stop
-    /// leaves what it could have left before, or what the request leaves.
+    /// only where the shelf failed. If everything stops behind a change that is answered as made, what the request leaves
+    /// may be left, and nothing else, also nothing that stands for no sound state; otherwise what could have been left
+    /// before, or what the request leaves.
     ///
     /// To a request that tells of incidents, of groups or of the caller, the reply is the one that is due in every world alike
     /// for who asks, unless the request is given up: it tells nothing of what differs there.
@@ -60,8 +61,8 @@ impl<Sh: Shelf> Hub<Sh> {
         ensures step { Sh.doubts self.new ≡ 0 → (s : State) → Sh.has self.old s → IsSound s → (left : State) × IsStep s (now, key.now, request.now) result left × Sh.has self.new left }
         ensures alike { Sh.doubts self.new ≡ 0 → (s t : State) (a : Account) → Sh.has self.old s → IsAlike now a s t → key.now ≡ Digest a.key → is_told request.now ≡ true → (result ≡ reply_of t now key.now request.now) ⊎ IsGivenUp result }
         ensures cause { Sh.doubts self.new ≡ 0 → (s : State) → Sh.has self.old s → IsSound s → result ≡ Refused (bare F1) → HasFailed (Sh.failed self.old) (Sh.failed self.new) }
-        ensures durable { Sh.doubts self.new ≡ 0 → (s : State) → Sh.has self.old s → IsSound s → IsTrue (is_made result) → (left : State) → Sh.may_leave self.new left → left ≡ state_left s key.now request.now }
-        ensures crash { Sh.doubts self.new ≡ 0 → (s : State) → Sh.has self.old s → IsSound s → (left : State) → Sh.may_leave self.new left → Sh.may_leave self.old left ⊎ (left ≡ state_left s key.now request.now) }
+        ensures durable { Sh.doubts self.new ≡ 0 → (s : State) → Sh.has self.old s → IsSound s → IsTrue (is_made result) → (left : Option State) → Sh.may_leave self.new left ↔ (left ≡ Some (state_left s key.now request.now)) }
+        ensures crash { Sh.doubts self.new ≡ 0 → (s : State) → Sh.has self.old s → IsSound s → (left : Option State) → Sh.may_leave self.new left → Sh.may_leave self.old left ⊎ (left ≡ Some (state_left s key.now request.now)) }
         ensures later { Sh.failed self.old ≤ Sh.failed self.new }
         ensures doubt { Sh.doubts self.old ≤ Sh.doubts self.new }
     {

@@ -61,7 +61,7 @@ impl<Sh: Shelf> Shelf for Failing<Sh> {
 
     ghost failed = { λ f. f.failures };
 
-    ghost may_leave = { λ f s. Sh.may_leave f.shelf s };
+    ghost may_leave = { λ f left. Sh.may_leave f.shelf left };
 
     fn failures(&self) -> u64 {
         self.failures

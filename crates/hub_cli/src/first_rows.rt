@@ -1,5 +1,5 @@
 //! The rows of a new store.
-ghost use Rattle.std.specs.Prelude.{◌≡◌, ◌⊎◌, IfOk, OnOk, OnErr};
+ghost use Rattle.std.specs.Prelude.{◌≡◌, ◌⊎◌, ◌↔◌, Option, Some, IfOk, OnOk, OnErr};
 ghost use Rattle.hub_core.specs.Shelves.{KeepsContent};
 ghost use Rattle.hub_core.specs.State.{State, empty};
 ghost use Rattle.hub_cli.specs.FirstRows as spec;
@@ -52,8 +52,8 @@ pub fn put_first_rows<Sh: Shelf>(
 ) -> Result<(), ShelfFault>
     ensures made { Sh.doubts shelf.new ≡ 0 → Sh.has shelf.old empty → OnOk result (Sh.has shelf.new (spec.first_state name key)) }
     ensures none { OnErr result (KeepsContent Sh.has Sh.doubts Sh.failed Sh.may_leave shelf.old shelf.new) }
-    ensures durable { Sh.doubts shelf.new ≡ 0 → Sh.has shelf.old empty → OnOk result ((left : State) → Sh.may_leave shelf.new left → left ≡ spec.first_state name key) }
-    ensures crash { Sh.doubts shelf.new ≡ 0 → Sh.has shelf.old empty → (left : State) → Sh.may_leave shelf.new left → Sh.may_leave shelf.old left ⊎ (left ≡ spec.first_state name key) }
+    ensures durable { Sh.doubts shelf.new ≡ 0 → Sh.has shelf.old empty → OnOk result ((left : Option State) → Sh.may_leave shelf.new left ↔ (left ≡ Some (spec.first_state name key))) }
+    ensures crash { Sh.doubts shelf.new ≡ 0 → Sh.has shelf.old empty → (left : Option State) → Sh.may_leave shelf.new left → Sh.may_leave shelf.old left ⊎ (left ≡ Some (spec.first_state name key)) }
 {
     match first_edits(alloc, name, key) {
         Ok(edits) => shelf.apply(edits.as_slice()),

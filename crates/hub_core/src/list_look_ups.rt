@@ -13,7 +13,7 @@ use iodef_tree::{Document, Path};
 use policy::{Grantee, Numbers};
 
 impl LookUps for ListShelf {
-    ghost use Rattle.std.specs.Prelude.{◌≡◌};
+    ghost use Rattle.std.specs.Prelude.{◌≡◌, Some};
     ghost use Rattle.hub_core.specs.Sound.{IsSound};
 
     ghost has = { λ shelf s. (shelf ≡ s) × IsSound s };
@@ -22,7 +22,7 @@ impl LookUps for ListShelf {
 
     ghost failed = { λ _. 0 };
 
-    ghost may_leave = { λ shelf left. left ≡ shelf };
+    ghost may_leave = { λ shelf left. left ≡ Some shelf };
 
     ghost sound = { λ shelf s has. has.1 };
 

@@ -196,7 +196,7 @@ impl From<AllocError> for ShelfFault {
 }
 
 impl Shelf for ListShelf {
-    ghost use Rattle.std.specs.Prelude.{◌≡◌};
+    ghost use Rattle.std.specs.Prelude.{◌≡◌, Some};
     ghost use Rattle.hub_core.specs.Sound.{IsSound};
 
     ghost has = { λ shelf s. (shelf ≡ s) × IsSound s };
@@ -205,7 +205,7 @@ impl Shelf for ListShelf {
 
     ghost failed = { λ _. 0 };
 
-    ghost may_leave = { λ shelf left. left ≡ shelf };
+    ghost may_leave = { λ shelf left. left ≡ Some shelf };
 
     fn failures(&self) -> u64 {
         0

@@ -37,7 +37,7 @@ pub trait LookUps {
 
     ghost failed: { Self → ℕ };
 
-    ghost may_leave: { Self → State → Type 0 };
+    ghost may_leave: { Self → Option State → Type 0 };
 
     /// Whether the count of failures has come to its last value. Each look-up fails from then on.
     fn has_ended(&self) -> bool

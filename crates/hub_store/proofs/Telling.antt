@@ -1,5 +1,5 @@
 -- What the shelf says of what the connection did.
-use Rattle.std.proofs.Common.{◌≡◌, ℕ, inl, inr, Result, Ok, Err, IfOk, OnOk, OnErr, sym, subst}
+use Rattle.std.proofs.Common.{◌≡◌, ℕ, inl, inr, Option, Result, Ok, Err, IfOk, OnOk, OnErr, sym, subst}
 use Rattle.sqlite_trees.specs.declared.store.Store as store
 use Rattle.sqlite_trees.specs.View.{doubt}
 use Rattle.sqlite.specs.declared.error.Error.{Error}
@@ -13,21 +13,21 @@ use Rattle.hub_store.specs.Content.{Has, MayLeave}
 use Rattle.hub_store.proofs.Runs.{knows, kept_has}
 
 -- what commits nothing leaves a crash what it left before
-leaves_no_more : (old new : State) (s : core.State) → Survives old new (λ _. ⊥) → HasCleanDisk new → MayLeave new s → MayLeave old s
-leaves_no_more old new s survives clean may = elim (survives.crash clean may.2 may.3) [
-  | inl before ↦ (may.0, may.1, may.2, before, may.4)
+leaves_no_more : (old new : State) (left : Option core.State) → Survives old new (λ _. ⊥) → HasCleanDisk new → MayLeave new left → MayLeave old left
+leaves_no_more old new left survives clean may = elim (survives.crash clean may.0 may.1) [
+  | inl before ↦ (may.0, before, may.2)
   | inr none ↦ absurd none
 ]
 
 -- a read of the connection is a read of the shelf
 pub read_keeps : {D S : Type 0} (g : store.Ghosts S) (conn : D → Held S) (failures : D → ℕ) (old new : D) {T : Type 0} (Right : core.State → T → Type 0) (outcome : Result T Error) (result : Result T ShelfFault)
     → IsReadOutside (state g (conn old)) (state g (conn new)) Right outcome → HasCause (failures old) (failures new) result
-    → IsRead (λ d s. Has (state g (conn d)) s) (λ d. doubt (state g (conn d)).is_clean) failures (λ d s. MayLeave (state g (conn d)) s) old new result
+    → IsRead (λ d s. Has (state g (conn d)) s) (λ d. doubt (state g (conn d)).is_clean) failures (λ d left. MayLeave (state g (conn d)) left) old new result
 read_keeps g conn failures old new Right outcome result answers cause = record {
   cause = cause;
   doubt = answers.survives.clean;
   content = λ clean s has. kept_has (state g (conn old)) (state g (conn new)) s (answers.kept clean (knows (state g (conn old)) s has)) has;
-  crash = λ clean s may. leaves_no_more (state g (conn old)) (state g (conn new)) s answers.survives clean may;
+  crash = λ clean left may. leaves_no_more (state g (conn old)) (state g (conn new)) left answers.survives clean may;
 }
 
 -- what was found is right, where it is told

@@ -1,5 +1,5 @@
 -- What a connection has of a state of the hub.
-use Rattle.std.specs.Prelude.{◌≡◌, IsTrue}
+use Rattle.std.specs.Prelude.{◌≡◌, Option, Some, None, IsTrue}
 use Rattle.sqlite_trees.specs.Tree.{Trees}
 use Rattle.sqlite.specs.State.{State}
 use Rattle.hub_core.specs.State as core
@@ -19,6 +19,17 @@ pub record CommitsState (c : State) (s : core.State) : Type 0 where
   pub holds : Holds c.committed s
   pub settled : c.now ≡ c.committed
 
--- an open after a crash at this moment may find this state
-abbrev pub MayLeave : State → core.State → Type 0
-MayLeave c s = IsSound s × IsFit s × (db : Trees) × c.may_leave db × Means db s
+-- the trees stand for this state, which is sound and keeps the limits of rows
+pub record StandFor (db : Trees) (s : core.State) : Type 0 where
+  pub sound : IsSound s
+  pub fit : IsFit s
+  pub means : Means db s
+
+-- which state the trees stand for; None where they stand for none
+abbrev pub IsMeaning : Trees → Option core.State → Type 0
+IsMeaning db (Some s) = StandFor db s
+IsMeaning db None = (s : core.State) → ¬ StandFor db s
+
+-- an open after a crash at this moment may find trees that stand for this state, or for none
+abbrev pub MayLeave : State → Option core.State → Type 0
+MayLeave c left = (db : Trees) × c.may_leave db × IsMeaning db left

@@ -1,6 +1,6 @@
 //! The shelf over a connection.
 
-ghost use Rattle.std.specs.Prelude.{◌≡◌, ◌≢◌, ◌<◌, ◌↔◌, false, IfOk, IfErr, IsTrue, OnOk};
+ghost use Rattle.std.specs.Prelude.{◌≡◌, ◌≢◌, ◌<◌, ◌↔◌, Option, Some, false, IfOk, IfErr, IsTrue, OnOk};
 ghost use Rattle.hub_core.specs.Shelves.{last_count};
 ghost use Rattle.hub_store.specs.Tables.{no_schema};
 
@@ -90,8 +90,9 @@ impl<S: Alter> SqlShelf<S> {
         ensures kept { IfErr result (λ e. HasCleanDisk (state S.Store e.1) → KeepsCommitted (state S.Store conn) (state S.Store e.1)) }
         ensures back { IfErr result (λ e. HasCleanDisk (state S.Store e.1) → (s : State) → Has (state S.Store conn) s → Has (state S.Store e.1) s) }
         ensures idle { IfErr result (λ e. e.1.in_transaction ≡ false) }
-        // After Ok a crash leaves the empty state, else what it could have left before or that state.
-        ensures durable { IfOk result (λ shelf. HasCleanDisk (state S.Store shelf.conn) → (left : State) → MayLeave (state S.Store shelf.conn) left → left ≡ empty) }
+        // After Ok a crash may leave the empty state, and nothing else; otherwise what it could have left before, or that state.
+        ensures durable { IfOk result (λ shelf. HasCleanDisk (state S.Store shelf.conn) → (left : Option State) → MayLeave (state S.Store shelf.conn) left ↔ (left ≡ Some empty)) }
+        ensures survives { IfOk result (λ shelf. Survives (state S.Store conn) (state S.Store shelf.conn) (λ left. Means left empty)) }
         ensures crash { IfErr result (λ e. Survives (state S.Store conn) (state S.Store e.1) (λ left. Means left empty)) }
     {
         prove!(conn.is_autocommit());

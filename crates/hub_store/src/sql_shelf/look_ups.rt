@@ -35,7 +35,7 @@ impl<S: Alter> LookUps for SqlShelf<S> {
 
     ghost failed = { λ shelf. shelf.failures };
 
-    ghost may_leave = { λ shelf s. MayLeave (state S.Store shelf.conn) s };
+    ghost may_leave = { λ shelf left. MayLeave (state S.Store shelf.conn) left };
 
     ghost sound = { λ shelf s has. has.sound };
 

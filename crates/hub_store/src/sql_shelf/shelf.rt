@@ -29,7 +29,7 @@ impl<S: Alter> Shelf for SqlShelf<S> {
 
     ghost failed = { λ shelf. shelf.failures };
 
-    ghost may_leave = { λ shelf s. MayLeave (state S.Store shelf.conn) s };
+    ghost may_leave = { λ shelf left. MayLeave (state S.Store shelf.conn) left };
 
     fn failures(&self) -> u64 {
         self.failures

@@ -1,4 +1,4 @@
-use Rattle.std.proofs.Common.{◌≡◌, inl, inr, sym, ap, subst, ◌∙◌, arith}
+use Rattle.std.proofs.Common.{◌≡◌, Some, inl, inr, sym, ap, subst, ◌∙◌, arith}
 use Rattle.hub_core.specs.Edits.{after}
 use Rattle.hub_core.specs.Sound.{IsSound}
 use Rattle.hub_core.specs.Refusals.{state_after}
@@ -29,8 +29,10 @@ returns-in-Ok-apply-clause-step g c = λ clean s has sound org changes.
         changed_reply s now p r f es c.in_ok-reply.reply sound changes told judged.edits (judged.allowed s told) (λ fits. c.in_ok-reply.ensures.reply fits ∙ ap (made_reply f r) c.as_slice.ensures.value),
         subst (g.Sh.Shelf.has c.apply.new.self) done (made.made clean s here whole),
       );
-      durable = λ is left leaves. made.durable clean s here whole left leaves ∙ done;
-      crash = λ left leaves. elim (made.crash clean s here whole left leaves) [ inl before ↦ inl (read.kept.crash mid left before) | inr is ↦ inr (is ∙ done) ];
+      durable = λ is left.
+          let both = made.durable clean s here whole left in
+          (λ leaves. both.0 leaves ∙ ap Some done, λ same. both.1 (same ∙ sym (ap Some done)));
+      crash = λ left leaves. elim (made.crash clean s here whole left leaves) [ inl before ↦ inl (read.kept.crash mid left before) | inr is ↦ inr (is ∙ ap Some done) ];
     }
 
 pub returns-clause-step : goal.returns-clause-step
@@ -50,5 +52,5 @@ returns-clause-step g c = λ clean s has sound org changes.
     record {
       settled = made.none clean s here;
       durable = tt;
-      crash = λ left leaves. elim (made.crash clean s here whole left leaves) [ inl before ↦ inl (read.kept.crash mid left before) | inr is ↦ inr (is ∙ done) ];
+      crash = λ left leaves. elim (made.crash clean s here whole left leaves) [ inl before ↦ inl (read.kept.crash mid left before) | inr is ↦ inr (is ∙ ap Some done) ];
     }

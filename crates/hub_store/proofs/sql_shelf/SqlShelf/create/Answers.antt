@@ -1,8 +1,10 @@
-use Rattle.std.proofs.Common.{◌≡◌, rules, sym, subst, ◌∙◌}
-use Rattle.sqlite.specs.State.{HasCleanDisk}
+use Rattle.std.proofs.Common.{◌≡◌, Option, Some, rules, sym, subst, ◌∙◌}
+use Rattle.std.specs.Prelude.{◌↔◌}
+use Rattle.sqlite.specs.State.{HasCleanDisk, Survives}
 use Rattle.sqlite.specs.Held.{state}
 use Rattle.hub_core.specs.State.{State, empty}
 use Rattle.hub_store.specs.Content.{Has, MayLeave}
+use Rattle.hub_store.specs.Means.{Means}
 use Rattle.hub_store.specs.Tables.{no_schema}
 use Rattle.hub_store.proofs.Empty.{has_empty, sound_empty}
 use Rattle.hub_store.proofs.Left.{left_by_commit}
@@ -18,8 +20,14 @@ returns-in-Ok-clause-made g c =
 pub returns-in-Ok-clause-durable : goal.returns-in-Ok-clause-durable
 returns-in-Ok-clause-durable g c =
     let blank : (state g.S.Store c.args.conn).now.schema ≡ no_schema = sym c.schema.ensures.value ∙ c.is_blank.ensures.0 (search rules) in
-    subst (λ h. HasCleanDisk (state g.S.Store h) → (left : State) → MayLeave (state g.S.Store h) left → left ≡ empty) (sym c.over.ensures.same)
-    (λ clean left may. left_by_commit (state g.S.Store c.make_store.new.conn) empty left (c.in-Ok.ensures.made clean blank) sound_empty (λ db up may. g.met.S.Store.settled c.make_store.new.conn.store db up may) may)
+    subst (λ h. HasCleanDisk (state g.S.Store h) → (left : Option State) → MayLeave (state g.S.Store h) left ↔ (left ≡ Some empty)) (sym c.over.ensures.same)
+    (λ clean left. left_by_commit (state g.S.Store c.make_store.new.conn) empty left (c.in-Ok.ensures.made clean blank) sound_empty
+    (λ db up may. g.met.S.Store.settled c.make_store.new.conn.store db up may) (λ up. g.met.S.Store.stays c.make_store.new.conn.store up))
+
+pub returns-in-Ok-clause-survives : goal.returns-in-Ok-clause-survives
+returns-in-Ok-clause-survives g c =
+    let blank : (state g.S.Store c.args.conn).now.schema ≡ no_schema = sym c.schema.ensures.value ∙ c.is_blank.ensures.0 (search rules) in
+    subst (λ h. Survives (state g.S.Store c.args.conn) (state g.S.Store h) (λ left. Means left empty)) (sym c.over.ensures.same) (c.make_store.ensures.survives blank)
 
 pub returns-in-Err-clause-back : goal.returns-in-Err-clause-back
 returns-in-Err-clause-back g c clean s has = kept_has (state g.S.Store c.args.conn) (state g.S.Store c.make_store.new.conn) s (c.in-Err.ensures.none clean) has

@@ -12,7 +12,8 @@ returns-clause-none g c =
 pub returns-clause-durable : goal.returns-clause-durable
 returns-clause-durable g c clean s has sound =
     ok_only c.apply-made.result c.told.result _ _ c.told.ensures.value (c.apply-made.ensures.made clean s has)
-    (λ is left may. left_by_commit (state g.S.Store c.apply-made.new.conn) _ left is sound (λ db up may. g.met.S.Store.settled c.apply-made.new.conn.store db up may) may)
+    (λ is left. left_by_commit (state g.S.Store c.apply-made.new.conn) _ left is sound
+    (λ db up may. g.met.S.Store.settled c.apply-made.new.conn.store db up may) (λ up. g.met.S.Store.stays c.apply-made.new.conn.store up))
 
 pub returns-clause-crash : goal.returns-clause-crash
 returns-clause-crash g c clean s has sound left may = left_by_apply (state g.S.Store c.args.self.now.conn) (state g.S.Store c.apply-made.new.conn) (after c.args.edits.now) s left clean has sound c.apply-made.ensures.survives may
