@@ -81,6 +81,7 @@ puts_org old new org count h fit s held =
     let put = puts.puts_org old new org.number org.name held.known count h in
     record {
       known = put.0;
+      whole = put.2;
       means = held_put orgs old new 1 (holdings s) (holdings (edited (Directory (PutOrg org)) s)) (λ r. r) (map org_row s.directory.orgs) refl refl held.means (org_row org) (org_row org) (map org_row (put_by (by_number org_number) org s.directory.orgs)) refl (λ rows. refl)
           (IsPermutation-map org_row (org ∷ s.directory.orgs) _ (put_by-same (by_number org_number) org s.directory.orgs)) put;
       fit = record { orgs = each_put FitOrg (by_number org_number) org s.directory.orgs fit held.fit.orgs; accounts = held.fit.accounts; communities = held.fit.communities; groups = held.fit.groups; gates = held.fit.gates; incidents = held.fit.incidents };
@@ -91,6 +92,7 @@ puts_person old new account count h fit s held =
     let put = puts.puts_person old new account.person.number account.person.org account.person.name (role_number account.person.role) account.key account.person.active account.person.nominated held.known count h in
     record {
       known = put.0;
+      whole = put.2;
       means = held_put persons old new 2 (holdings s) (holdings (edited (Directory (PutAccount account)) s)) (λ r. r) (map account_row s.directory.accounts) refl refl held.means (account_row account) (account_row account) (map account_row (put_by (by_number account_number) account s.directory.accounts)) refl (λ rows. refl)
           (IsPermutation-map account_row (account ∷ s.directory.accounts) _ (put_by-same (by_number account_number) account s.directory.accounts)) put;
       fit = record { orgs = held.fit.orgs; accounts = each_put FitAccount (by_number account_number) account s.directory.accounts fit held.fit.accounts; communities = held.fit.communities; groups = held.fit.groups; gates = held.fit.gates; incidents = held.fit.incidents };
@@ -101,6 +103,7 @@ puts_community old new community count h fit s held =
     let put = puts.puts_community old new community.number community.name held.known count h in
     record {
       known = put.0;
+      whole = put.2;
       means = held_put communities old new 3 (holdings s) (holdings (edited (Directory (PutCommunity community)) s)) (λ r. r) (map community_row s.directory.communities) refl refl held.means (community_row community) (community_row community) (map community_row (put_by (by_number community_number) community s.directory.communities)) refl (λ rows. refl)
           (IsPermutation-map community_row (community ∷ s.directory.communities) _ (put_by-same (by_number community_number) community s.directory.communities)) put;
       fit = record { orgs = held.fit.orgs; accounts = held.fit.accounts; communities = each_put FitCommunity (by_number community_number) community s.directory.communities fit held.fit.communities; groups = held.fit.groups; gates = held.fit.gates; incidents = held.fit.incidents };
@@ -111,6 +114,7 @@ puts_group old new group count h fit s held =
     let put = puts.puts_group old new group.number group.owner group.name group.releasability group.active held.known count h in
     record {
       known = put.0;
+      whole = put.2;
       means = held_put groups old new 4 (holdings s) (holdings (edited (Directory (PutGroup group)) s)) (λ r. r) (map group_row s.directory.groups) refl refl held.means (group_row group) (group_row group) (map group_row (put_by (by_number group_number) group s.directory.groups)) refl (λ rows. refl)
           (IsPermutation-map group_row (group ∷ s.directory.groups) _ (put_by-same (by_number group_number) group s.directory.groups)) put;
       fit = record { orgs = held.fit.orgs; accounts = held.fit.accounts; communities = held.fit.communities; groups = each_put FitGroup (by_number group_number) group s.directory.groups fit held.fit.groups; gates = held.fit.gates; incidents = held.fit.incidents };
@@ -121,6 +125,7 @@ puts_incident old new incident count h fit s held =
     let put = puts.puts_incident old new incident.number incident.source incident.ident incident.revision (document_text incident.document) held.known count h in
     record {
       known = put.0;
+      whole = put.2;
       means = held_put incidents old new 9 (holdings s) (holdings (edited (PutIncident incident) s)) (λ r. r) (map incident_row s.incidents) refl refl held.means (incident_row incident) (incident_row incident) (map incident_row (put_by (by_number incident_number) incident s.incidents)) refl (λ rows. refl)
           (IsPermutation-map incident_row (incident ∷ s.incidents) _ (put_by-same (by_number incident_number) incident s.incidents)) put;
       fit = record { orgs = held.fit.orgs; accounts = held.fit.accounts; communities = held.fit.communities; groups = held.fit.groups; gates = held.fit.gates; incidents = each_put FitIncident (by_number incident_number) incident s.incidents fit held.fit.incidents };
@@ -131,6 +136,7 @@ puts_gate old new gate count h fit s held =
     let put = puts.puts_gate old new gate.incident (pointer_text gate.path) gate.level gate.group held.known count h in
     record {
       known = put.0;
+      whole = put.2;
       means = held_put gates old new 6 (holdings s) (holdings (edited (PutGate gate) s)) (drop 1) (map gate_row s.gates) refl refl held.means (Null ∷ gate_row gate) (gate_row gate) (map gate_row (put_by gate_cmp gate s.gates)) refl (λ rows. refl)
           (IsPermutation-map gate_row (gate ∷ s.gates) _ (put_by-same gate_cmp gate s.gates)) put;
       fit = record { orgs = held.fit.orgs; accounts = held.fit.accounts; communities = held.fit.communities; groups = held.fit.groups; gates = each_put FitGate gate_cmp gate s.gates fit held.fit.gates; incidents = held.fit.incidents };
@@ -141,6 +147,7 @@ puts_recipient old new recipient count h s held =
     let put = puts.puts_recipient old new recipient.incident (target_key recipient.target).0 (target_key recipient.target).1 held.known count h in
     record {
       known = put.0;
+      whole = put.2;
       means = held_put recipients old new 7 (holdings s) (holdings (edited (PutRecipient recipient) s)) (drop 1) (map recipient_row s.recipients) refl refl held.means (Null ∷ recipient_row recipient) (recipient_row recipient) (map recipient_row (put_by recipient_cmp recipient s.recipients)) refl (λ rows. refl)
           (IsPermutation-map recipient_row (recipient ∷ s.recipients) _ (put_by-same recipient_cmp recipient s.recipients)) put;
       fit = record { orgs = held.fit.orgs; accounts = held.fit.accounts; communities = held.fit.communities; groups = held.fit.groups; gates = held.fit.gates; incidents = held.fit.incidents };
@@ -151,6 +158,7 @@ puts_permission old new permission count h s held =
     let put = puts.puts_permission old new permission.incident (pointer_text permission.path) (grantee_key permission.grantee).0 (grantee_key permission.grantee).1 held.known count h in
     record {
       known = put.0;
+      whole = put.2;
       means = held_put permissions old new 8 (holdings s) (holdings (edited (PutPermission permission) s)) (drop 1) (map permission_row s.permissions) refl refl held.means (Null ∷ permission_row permission) (permission_row permission) (map permission_row (put_by permission_cmp permission s.permissions)) refl (λ rows. refl)
           (IsPermutation-map permission_row (permission ∷ s.permissions) _ (put_by-same permission_cmp permission s.permissions)) put;
       fit = record { orgs = held.fit.orgs; accounts = held.fit.accounts; communities = held.fit.communities; groups = held.fit.groups; gates = held.fit.gates; incidents = held.fit.incidents };
@@ -161,6 +169,7 @@ puts_client old new x count h s held =
     let put = puts.puts_pair old new (codes "client") (client_pair x).0.0 (client_pair x).0.1 (client_pair x).1 held.known count h in
     record {
       known = put.0;
+      whole = put.2;
       means = held_put pairs old new 5 (holdings s) (holdings (edited (Directory (PutClient x)) s)) (drop 1) (rows_of_pairs (pair_sets s.directory)) refl refl held.means (Null ∷ pair_row (codes "client") (client_pair x)) (pair_row (codes "client") (client_pair x)) (rows_of_pairs (pair_sets (edited (Directory (PutClient x)) s).directory)) refl (λ rows. refl)
           (pair_in 0 (pair_sets s.directory) (pair_sets (edited (Directory (PutClient x)) s).directory) (codes "client") (client_pair x) (map client_pair s.directory.clients) (map client_pair (put_by (by_pair client_key) x s.directory.clients)) refl refl
           (IsPermutation-map client_pair (x ∷ s.directory.clients) _ (put_by-same (by_pair client_key) x s.directory.clients))) put;
@@ -172,6 +181,7 @@ puts_membership old new x count h s held =
     let put = puts.puts_pair old new (codes "member") (membership_pair x).0.0 (membership_pair x).0.1 (membership_pair x).1 held.known count h in
     record {
       known = put.0;
+      whole = put.2;
       means = held_put pairs old new 5 (holdings s) (holdings (edited (Directory (PutMembership x)) s)) (drop 1) (rows_of_pairs (pair_sets s.directory)) refl refl held.means (Null ∷ pair_row (codes "member") (membership_pair x)) (pair_row (codes "member") (membership_pair x)) (rows_of_pairs (pair_sets (edited (Directory (PutMembership x)) s).directory)) refl (λ rows. refl)
           (pair_in 1 (pair_sets s.directory) (pair_sets (edited (Directory (PutMembership x)) s).directory) (codes "member") (membership_pair x) (map membership_pair s.directory.memberships) (map membership_pair (put_by (by_pair membership_key) x s.directory.memberships)) refl refl
           (IsPermutation-map membership_pair (x ∷ s.directory.memberships) _ (put_by-same (by_pair membership_key) x s.directory.memberships))) put;
@@ -183,6 +193,7 @@ puts_connection old new x count h s held =
     let put = puts.puts_pair old new (codes "link") (connection_pair x).0.0 (connection_pair x).0.1 (connection_pair x).1 held.known count h in
     record {
       known = put.0;
+      whole = put.2;
       means = held_put pairs old new 5 (holdings s) (holdings (edited (Directory (PutConnection x)) s)) (drop 1) (rows_of_pairs (pair_sets s.directory)) refl refl held.means (Null ∷ pair_row (codes "link") (connection_pair x)) (pair_row (codes "link") (connection_pair x)) (rows_of_pairs (pair_sets (edited (Directory (PutConnection x)) s).directory)) refl (λ rows. refl)
           (pair_in 2 (pair_sets s.directory) (pair_sets (edited (Directory (PutConnection x)) s).directory) (codes "link") (connection_pair x) (map connection_pair s.directory.connections) (map connection_pair (put_by (by_pair connection_key) x s.directory.connections)) refl refl
           (IsPermutation-map connection_pair (x ∷ s.directory.connections) _ (put_by-same (by_pair connection_key) x s.directory.connections))) put;
@@ -194,6 +205,7 @@ puts_group_member old new x count h s held =
     let put = puts.puts_pair old new (codes "grp_member") (group_member_pair x).0.0 (group_member_pair x).0.1 (group_member_pair x).1 held.known count h in
     record {
       known = put.0;
+      whole = put.2;
       means = held_put pairs old new 5 (holdings s) (holdings (edited (Directory (PutGroupMember x)) s)) (drop 1) (rows_of_pairs (pair_sets s.directory)) refl refl held.means (Null ∷ pair_row (codes "grp_member") (group_member_pair x)) (pair_row (codes "grp_member") (group_member_pair x)) (rows_of_pairs (pair_sets (edited (Directory (PutGroupMember x)) s).directory)) refl (λ rows. refl)
           (pair_in 3 (pair_sets s.directory) (pair_sets (edited (Directory (PutGroupMember x)) s).directory) (codes "grp_member") (group_member_pair x) (map group_member_pair s.directory.group_members) (map group_member_pair (put_by (by_pair group_member_key) x s.directory.group_members)) refl refl
           (IsPermutation-map group_member_pair (x ∷ s.directory.group_members) _ (put_by-same (by_pair group_member_key) x s.directory.group_members))) put;
@@ -205,6 +217,7 @@ puts_arrangement old new x count h s held =
     let put = puts.puts_pair old new (codes "arrangement") (arrangement_pair x).0.0 (arrangement_pair x).0.1 (arrangement_pair x).1 held.known count h in
     record {
       known = put.0;
+      whole = put.2;
       means = held_put pairs old new 5 (holdings s) (holdings (edited (Directory (PutArrangement x)) s)) (drop 1) (rows_of_pairs (pair_sets s.directory)) refl refl held.means (Null ∷ pair_row (codes "arrangement") (arrangement_pair x)) (pair_row (codes "arrangement") (arrangement_pair x)) (rows_of_pairs (pair_sets (edited (Directory (PutArrangement x)) s).directory)) refl (λ rows. refl)
           (pair_in 4 (pair_sets s.directory) (pair_sets (edited (Directory (PutArrangement x)) s).directory) (codes "arrangement") (arrangement_pair x) (map arrangement_pair s.directory.arrangements) (map arrangement_pair (put_by (by_pair arrangement_key) x s.directory.arrangements)) refl refl
           (IsPermutation-map arrangement_pair (x ∷ s.directory.arrangements) _ (put_by-same (by_pair arrangement_key) x s.directory.arrangements))) put;
@@ -217,6 +230,7 @@ takes_client old new x count h s held =
     let taken = puts.takes_pair old new params held.known count h in
     record {
       known = taken.2.schema_is;
+      whole = taken.2.whole;
       means = held_taken pairs old new 5 (holdings s) (holdings (edited (Directory (TakeClient x)) s)) (drop 1) (rows_of_pairs (pair_sets s.directory)) refl refl held.means (is_param 1 0 ∷ is_param 2 1 ∷ is_param 3 2 ∷ []) params (begins 0 params) (rows_of_pairs (pair_sets (edited (Directory (TakeClient x)) s).directory)) refl
           (past_three (Text (codes "client")) (Int (pos x.org)) (Int (pos x.client)))
           (pair_out 0 (pair_sets s.directory) (pair_sets (edited (Directory (TakeClient x)) s).directory) (codes "client") x.org x.client (map client_pair s.directory.clients) refl refl
@@ -230,6 +244,7 @@ takes_membership old new x count h s held =
     let taken = puts.takes_pair old new params held.known count h in
     record {
       known = taken.2.schema_is;
+      whole = taken.2.whole;
       means = held_taken pairs old new 5 (holdings s) (holdings (edited (Directory (TakeMembership x)) s)) (drop 1) (rows_of_pairs (pair_sets s.directory)) refl refl held.means (is_param 1 0 ∷ is_param 2 1 ∷ is_param 3 2 ∷ []) params (begins 0 params) (rows_of_pairs (pair_sets (edited (Directory (TakeMembership x)) s).directory)) refl
           (past_three (Text (codes "member")) (Int (pos x.community)) (Int (pos x.org)))
           (pair_out 1 (pair_sets s.directory) (pair_sets (edited (Directory (TakeMembership x)) s).directory) (codes "member") x.community x.org (map membership_pair s.directory.memberships) refl refl
@@ -243,6 +258,7 @@ takes_connection old new x count h s held =
     let taken = puts.takes_pair old new params held.known count h in
     record {
       known = taken.2.schema_is;
+      whole = taken.2.whole;
       means = held_taken pairs old new 5 (holdings s) (holdings (edited (Directory (TakeConnection x)) s)) (drop 1) (rows_of_pairs (pair_sets s.directory)) refl refl held.means (is_param 1 0 ∷ is_param 2 1 ∷ is_param 3 2 ∷ []) params (begins 0 params) (rows_of_pairs (pair_sets (edited (Directory (TakeConnection x)) s).directory)) refl
           (past_three (Text (codes "link")) (Int (pos x.low)) (Int (pos x.high)))
           (pair_out 2 (pair_sets s.directory) (pair_sets (edited (Directory (TakeConnection x)) s).directory) (codes "link") x.low x.high (map connection_pair s.directory.connections) refl refl
@@ -256,6 +272,7 @@ takes_group_member old new group org count h s held =
     let taken = puts.takes_pair old new params held.known count h in
     record {
       known = taken.2.schema_is;
+      whole = taken.2.whole;
       means = held_taken pairs old new 5 (holdings s) (holdings (edited (Directory (TakeGroupMember group org)) s)) (drop 1) (rows_of_pairs (pair_sets s.directory)) refl refl held.means (is_param 1 0 ∷ is_param 2 1 ∷ is_param 3 2 ∷ []) params (begins 0 params) (rows_of_pairs (pair_sets (edited (Directory (TakeGroupMember group org)) s).directory)) refl
           (past_three (Text (codes "grp_member")) (Int (pos group)) (Int (pos org)))
           (pair_out 3 (pair_sets s.directory) (pair_sets (edited (Directory (TakeGroupMember group org)) s).directory) (codes "grp_member") group org (map group_member_pair s.directory.group_members) refl refl
@@ -269,6 +286,7 @@ takes_arrangement old new source org count h s held =
     let taken = puts.takes_pair old new params held.known count h in
     record {
       known = taken.2.schema_is;
+      whole = taken.2.whole;
       means = held_taken pairs old new 5 (holdings s) (holdings (edited (Directory (TakeArrangement source org)) s)) (drop 1) (rows_of_pairs (pair_sets s.directory)) refl refl held.means (is_param 1 0 ∷ is_param 2 1 ∷ is_param 3 2 ∷ []) params (begins 0 params) (rows_of_pairs (pair_sets (edited (Directory (TakeArrangement source org)) s).directory)) refl
           (past_three (Text (codes "arrangement")) (Int (pos source)) (Int (pos org)))
           (pair_out 4 (pair_sets s.directory) (pair_sets (edited (Directory (TakeArrangement source org)) s).directory) (codes "arrangement") source org (map arrangement_pair s.directory.arrangements) refl refl
@@ -282,6 +300,7 @@ takes_gate old new n p count h s held =
     let taken = puts.takes_gate old new params held.known count h in
     record {
       known = taken.2.schema_is;
+      whole = taken.2.whole;
       means = held_taken gates old new 6 (holdings s) (holdings (edited (TakeGate n p) s)) (drop 1) (map gate_row s.gates) refl refl held.means (is_param 1 0 ∷ is_param 2 1 ∷ []) params (begins 0 params) (map gate_row (filter (λ x. not (is_gate_at n p x)) s.gates)) refl
           (past_two (Int (pos n)) (Text (pointer_text p)))
           (filter_rows gate_row (λ r. not (begins 0 params r)) (λ x. not (is_gate_at n p x)) (λ x. ap not (gate_test n p x)) s.gates) taken;
@@ -294,6 +313,7 @@ takes_recipient old new recipient count h s held =
     let taken = puts.takes_recipient old new params held.known count h in
     record {
       known = taken.2.schema_is;
+      whole = taken.2.whole;
       means = held_taken recipients old new 7 (holdings s) (holdings (edited (TakeRecipient recipient) s)) (drop 1) (map recipient_row s.recipients) refl refl held.means (is_param 1 0 ∷ is_param 2 1 ∷ is_param 3 2 ∷ []) params (begins 0 params) (map recipient_row (filter (λ x. not (is_recipient_being recipient.incident recipient.target x)) s.recipients)) refl
           (past_three (Int (pos recipient.incident)) (Int (pos (target_key recipient.target).0)) (Int (pos (target_key recipient.target).1)))
           (filter_rows recipient_row (λ r. not (begins 0 params r)) (λ x. not (is_recipient_being recipient.incident recipient.target x)) (λ x. ap not (recipient_test recipient.incident recipient.target x)) s.recipients) taken;
@@ -306,6 +326,7 @@ takes_permission old new n p grantee count h s held =
     let taken = puts.takes_permission old new params held.known count h in
     record {
       known = taken.2.schema_is;
+      whole = taken.2.whole;
       means = held_taken permissions old new 8 (holdings s) (holdings (edited (TakePermission n p grantee) s)) (drop 1) (map permission_row s.permissions) refl refl held.means (is_param 1 0 ∷ is_param 2 1 ∷ is_param 3 2 ∷ is_param 4 3 ∷ []) params (begins 0 params) (map permission_row (filter (λ x. not (is_permission_being n p grantee x)) s.permissions)) refl
           (past_four (Int (pos n)) (Text (pointer_text p)) (Int (pos (grantee_key grantee).0)) (Int (pos (grantee_key grantee).1)))
           (filter_rows permission_row (λ r. not (begins 0 params r)) (λ x. not (is_permission_being n p grantee x)) (λ x. ap not (permission_test n p grantee x)) s.permissions) taken;
@@ -318,6 +339,7 @@ takes_incident old new n count h s held =
     let taken = puts.takes_incident old new params held.known count h in
     record {
       known = taken.2.schema_is;
+      whole = taken.2.whole;
       means = held_taken incidents old new 9 (holdings s) (holdings (edited (TakeIncident n) s)) (λ r. r) (map incident_row s.incidents) refl refl held.means (is_param 0 0 ∷ []) params (begins 0 params) (map incident_row (filter (λ (i : Incident). not (i.number == n)) s.incidents)) refl
           (λ r. refl)
           (filter_rows incident_row (λ r. not (begins 0 params r)) (λ (i : Incident). not (i.number == n)) (λ i. ap not (and_true _ ∙ equal_numbers i.number n)) s.incidents) taken;
@@ -332,6 +354,7 @@ takes_gates old new n count h s held =
     let taken = puts.takes_gates old new params held.known count h in
     record {
       known = taken.2.schema_is;
+      whole = taken.2.whole;
       means = held_taken gates old new 6 (holdings s) (holdings (without_gates n s)) (drop 1) (map gate_row s.gates) refl refl held.means (is_param 1 0 ∷ []) params (begins 0 params) (map gate_row (filter (λ (g : Gate). not (g.incident == n)) s.gates)) refl
           (past_one (Int (pos n)))
           (filter_rows gate_row (λ r. not (begins 0 params r)) (λ (g : Gate). not (g.incident == n)) (λ g. ap not (and_true _ ∙ equal_numbers g.incident n)) s.gates) taken;
@@ -344,6 +367,7 @@ takes_permissions old new n count h s held =
     let taken = puts.takes_permissions old new params held.known count h in
     record {
       known = taken.2.schema_is;
+      whole = taken.2.whole;
       means = held_taken permissions old new 8 (holdings (without_gates n s)) (holdings (edited (TakePolicy n) s)) (drop 1) (map permission_row s.permissions) refl refl held.means (is_param 1 0 ∷ []) params (begins 0 params) (map permission_row (filter (λ (x : Permission). not (x.incident == n)) s.permissions)) refl
           (past_one (Int (pos n)))
           (filter_rows permission_row (λ r. not (begins 0 params r)) (λ (x : Permission). not (x.incident == n)) (λ x. ap not (and_true _ ∙ equal_numbers x.incident n)) s.permissions) taken;
@@ -358,6 +382,7 @@ suspends old new person count h s held =
     let f : Account → Account = λ x. record x { person = record x.person { active = false } } in
     record {
       known = exchanged.2.schema_is;
+      whole = exchanged.2.whole;
       means = held_exchanged account_row k f s.directory.accounts persons old new 2 (holdings s) (holdings (edited (Directory (Suspend person)) s)) refl refl held.means (is_param 0 0 ∷ []) (col 1 0 ∷ lit Null ∷ col 1 2 ∷ col 1 3 ∷ col 1 4 ∷ col 1 5 ∷ col 0 1 ∷ col 1 7 ∷ []) params refl
           (λ x. and_true _ ∙ equal_numbers (x.person.number) person) (λ x. rw (cast_int x.person.number, cast_null, cast_int x.person.org, cast_int (role_number x.person.role), cast_flag false, cast_flag x.person.nominated) refl) exchanged;
       fit = record { orgs = held.fit.orgs; accounts = each_exchanged FitAccount k f (λ x h. h) s.directory.accounts held.fit.accounts; communities = held.fit.communities; groups = held.fit.groups; gates = held.fit.gates; incidents = held.fit.incidents };
@@ -371,6 +396,7 @@ nominates old new person nominated count h s held =
     let f : Account → Account = λ x. record x { person = record x.person { nominated = nominated } } in
     record {
       known = exchanged.2.schema_is;
+      whole = exchanged.2.whole;
       means = held_exchanged account_row k f s.directory.accounts persons old new 2 (holdings s) (holdings (edited (Directory (SetNominated person nominated)) s)) refl refl held.means (is_param 0 0 ∷ []) (col 1 0 ∷ lit Null ∷ col 1 2 ∷ col 1 3 ∷ col 1 4 ∷ col 1 5 ∷ col 1 6 ∷ col 0 1 ∷ []) params refl
           (λ x. and_true _ ∙ equal_numbers (x.person.number) person) (λ x. rw (cast_int x.person.number, cast_null, cast_int x.person.org, cast_int (role_number x.person.role), cast_flag x.person.active, cast_flag nominated) refl) exchanged;
       fit = record { orgs = held.fit.orgs; accounts = each_exchanged FitAccount k f (λ x h. h) s.directory.accounts held.fit.accounts; communities = held.fit.communities; groups = held.fit.groups; gates = held.fit.gates; incidents = held.fit.incidents };
@@ -384,6 +410,7 @@ switches old new group active count h s held =
     let f : Group → Group = λ x. record x { active = active } in
     record {
       known = exchanged.2.schema_is;
+      whole = exchanged.2.whole;
       means = held_exchanged group_row k f s.directory.groups groups old new 4 (holdings s) (holdings (edited (Directory (SetGroupActive group active)) s)) refl refl held.means (is_param 0 0 ∷ []) (col 1 0 ∷ lit Null ∷ col 1 2 ∷ col 1 3 ∷ col 1 4 ∷ col 0 1 ∷ []) params refl
           (λ x. and_true _ ∙ equal_numbers (x.number) group) (λ x. rw (cast_int x.number, cast_null, cast_int x.owner, cast_flag active) refl) exchanged;
       fit = record { orgs = held.fit.orgs; accounts = held.fit.accounts; communities = held.fit.communities; groups = each_exchanged FitGroup k f (λ x h. h) s.directory.groups held.fit.groups; gates = held.fit.gates; incidents = held.fit.incidents };

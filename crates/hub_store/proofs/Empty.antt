@@ -59,6 +59,7 @@ begins_empty old new count h has =
     let put = puts_version old new 1 has.known count h in
     record {
       known = put.0;
+      whole = put.2;
       means = held_put hubs old new 0 unversioned (holdings empty) (drop 1) [] refl refl (all_bare old.now.trees (record { known = refl; empty = has.empty })) (Null ∷ Int (pos 1) ∷ []) (Int (pos 1) ∷ []) ((Int (pos 1) ∷ []) ∷ []) refl (λ rows. refl) (IsPermutation-refl _) put;
       fit = record { orgs = tt; accounts = tt; communities = tt; groups = tt; gates = tt; incidents = tt };
     }

@@ -16,7 +16,7 @@ use Rattle.sqlite_rules.specs.Action.{works}
 use Rattle.sqlite_rules.specs.Calls.{ids_of}
 use Rattle.sqlite_rules.specs.Cast.{cast_row}
 use Rattle.sqlite_rules.specs.Edit.{with_rowid, without_all, Applies, numbered}
-use Rattle.sqlite.specs.Effect.{value_rows}
+use Rattle.sqlite.specs.Effect.{IsDatabase, value_rows}
 use Rattle.sqlite.specs.Rows.{stamped}
 use Rattle.sqlite.specs.Listing.{understood}
 use Rattle.sqlite.specs.State.{State, Executes}
@@ -36,7 +36,7 @@ use Rattle.hub_store.proofs.Texts.{put_version, put_version_is, put_version_plai
 
 -- a row was put, which the columns take as it is
 abbrev pub Put : Table → Row → State → State → Type 0
-Put table row old new = (new.now.schema ≡ hub_schema) × Applies hub_schema Enforced old.now.trees (record { table = table; gone = []; news = with_rowid Chosen (old.now.trees table.tree) row ∷ [] }) new.now.trees
+Put table row old new = (new.now.schema ≡ hub_schema) × Applies hub_schema Enforced old.now.trees (record { table = table; gone = []; news = with_rowid Chosen (old.now.trees table.tree) row ∷ [] }) new.now.trees × IsDatabase new.now
 
 -- the rows that pass the tests were taken out
 abbrev pub Taken : Table → List Term → Row → State → State → Type 0
@@ -55,7 +55,7 @@ put_one : (table : Table) (at : ℕ) → slice_get hub_schema.tables at ≡ Some
 put_one table at listed uncounted timeless alone sql params old new has plain count h terms width is row rows cast =
     let c = inserted hub_schema table at listed uncounted timeless alone sql params old new has plain count h terms width is in
     let news = ap (λ all. numbered Chosen (old.now.trees table.tree) (map (cast_row table) all)) rows ∙ ap (λ r. with_rowid Chosen (old.now.trees table.tree) r ∷ []) cast in
-    (c.schema_is, subst (λ n. Applies hub_schema Enforced old.now.trees (record { table = table; gone = []; news = n }) new.now.trees) news c.applies)
+    (c.schema_is, subst (λ n. Applies hub_schema Enforced old.now.trees (record { table = table; gone = []; news = n }) new.now.trees) news c.applies, c.whole)
 
 -- ---- what the tables hold afterwards, where the changed one stands at a place among them
 

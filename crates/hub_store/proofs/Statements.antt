@@ -24,7 +24,7 @@ use Rattle.sqlite_rules.specs.Action
 use Rattle.sqlite_rules.specs.Action.{works}
 use Rattle.sqlite_rules.specs.Calls.{ids_of}
 use Rattle.sqlite_rules.specs.Cast.{cast_row}
-use Rattle.sqlite.specs.Effect.{Database, value_rows}
+use Rattle.sqlite.specs.Effect.{Database, IsDatabase, value_rows}
 use Rattle.sqlite.specs.Rows.{Written, stamped, Task, rowids_for, count_of}
 use Rattle.sqlite.specs.Does.{Tally, Does, AtPlace, OnRows, WritesRows}
 use Rattle.sqlite.specs.Listing.{understood}
@@ -71,6 +71,7 @@ ordered_rows db tree terms project order limit params rows a =
 pub record Changed (schema : Schema) (table : Table) (gone : List ℤ) (news : List Row) (old new : Database) : Type 0 where
   pub schema_is : new.schema ≡ schema
   pub applies : Applies schema Enforced old.trees (record { table = table; gone = gone; news = news }) new.trees
+  pub whole : IsDatabase new
 
 pub overlaid : (db : Trees) → overlay db [] ≡ db
 overlaid db = fun_ext (λ t. ap (λ (o : Option (List Row)). unwrap_or o (db t)) (none (nat_le (2 ^ 31) t)))
@@ -102,7 +103,7 @@ module _ (schema : Schema) (table : Table) (at : ℕ) (listed : slice_get schema
 
     on_rows : (command : Command) → command_of (understood schema sql) ≡ command
         → (Runs old new None command (statement_of sql (understood schema sql)) params count → Writes old new None command (statement_of sql (understood schema sql)) params count) → ((tally : Tally) (db : Database) → Does old.step_limit (mode_of old) params (record old.now { schema = schema }) (statement_of sql (understood schema sql)) None command (Ok (tally, db)) → AtPlace (λ t. OnRows (record { limit = old.step_limit; keys = Enforced; schema = schema; table = t; params = params }) (mode_of old) None command old.now.trees) (slice_get schema.tables at) (Ok (tally, db)))
-        → (w : Written) × WritesRows task old.now.trees command (Ok w) × (new.now ≡ record { schema = schema; trees = w.trees })
+        → (w : Written) × WritesRows task old.now.trees command (Ok w) × (new.now ≡ record { schema = schema; trees = w.trees }) × IsDatabase new.now
     unfolding task
     on_rows command is writes opens =
         let w = writes (runs_as sql params old new schema has command is plain count h) in
@@ -110,7 +111,7 @@ module _ (schema : Schema) (table : Table) (at : ℕ) (listed : slice_get schema
         let placed = opens w.tally new.now does in
         let done = went (rw listed at placed) in
         let ends = went (went done.2).2 in
-        (done.0, done.1, ap (λ (p : Tally × Database). p.1) (same_ok ends.2))
+        (done.0, done.1, ap (λ (p : Tally × Database). p.1) (same_ok ends.2), w.sound)
 
     applied : (edit : Edit) (next : Trees) → Action.Writes schema Enforced old.now.trees edit (Ok next) → Applies schema Enforced old.now.trees edit next
     applied edit next = one_step schema Enforced old.now.trees next edit (alone edit.table.tree (taken_by old.now.trees edit) edit.news)
@@ -125,7 +126,7 @@ module _ (schema : Schema) (table : Table) (at : ℕ) (listed : slice_get schema
         let step = applied (edit_of old.now.trees table (ids_of asked.0) Given 0 []) written.0 written.1 in
         let trees : did.0.trees ≡ written.0 = ap (λ (it : Written). it.trees) (same_ok written.2) in
         let now : new.now ≡ record { schema = schema; trees = written.0 } = did.2 ∙ ap (λ t. record { schema = schema; trees = t }) trees in
-        (asked.0, subst (λ t. IsAnswer q t params asked.0) (overlaid old.now.trees) (asked.1.answer Null), record { schema_is = ap (λ (d : Database). d.schema) now; applies = subst (Applies schema Enforced old.now.trees _) (sym (ap (λ (d : Database). d.trees) now)) step })
+        (asked.0, subst (λ t. IsAnswer q t params asked.0) (overlaid old.now.trees) (asked.1.answer Null), record { schema_is = ap (λ (d : Database). d.schema) now; applies = subst (Applies schema Enforced old.now.trees _) (sym (ap (λ (d : Database). d.trees) now)) step; whole = did.3 })
 
     pub inserted : (terms : List Term) (width : ℕ) → command_of (understood schema sql) ≡ Insert at (Values terms width)
         → Changed schema table [] (numbered Chosen (old.now.trees table.tree) (map (λ s. cast_row table (drop 0 s)) (value_rows (stamped table params) width (length terms / width) terms))) old.now new.now
@@ -144,7 +145,7 @@ module _ (schema : Schema) (table : Table) (at : ℕ) (listed : slice_get schema
         let trees : did.0.trees ≡ written.0 = ap (λ (it : Written). it.trees) (same_ok counted.2) ∙ mid in
         let now : new.now ≡ record { schema = schema; trees = written.0 } = did.2 ∙ ap (λ t. record { schema = schema; trees = t }) trees in
         let news = λ (all : List Row). numbered Chosen (old.now.trees table.tree) (map (λ s. cast_row table (drop 0 s)) all) in
-        record { schema_is = ap (λ (d : Database). d.schema) now; applies = subst₂ (λ all t. Applies schema Enforced old.now.trees (record { table = table; gone = []; news = news all }) t) rows (sym (ap (λ (d : Database). d.trees) now)) step }
+        record { schema_is = ap (λ (d : Database). d.schema) now; applies = subst₂ (λ all t. Applies schema Enforced old.now.trees (record { table = table; gone = []; news = news all }) t) rows (sym (ap (λ (d : Database). d.trees) now)) step; whole = did.3 }
 
     pub updated : (q : Query) → command_of (understood schema sql) ≡ Update at (program q)
         → (rows : List Row) × IsAnswer q old.now.trees params rows
@@ -157,4 +158,4 @@ module _ (schema : Schema) (table : Table) (at : ℕ) (listed : slice_get schema
         let step = applied (edit_of old.now.trees table (ids_of asked.0) Given 1 asked.0) written.0 written.1 in
         let trees : did.0.trees ≡ written.0 = ap (λ (it : Written). it.trees) (same_ok written.2) in
         let now : new.now ≡ record { schema = schema; trees = written.0 } = did.2 ∙ ap (λ t. record { schema = schema; trees = t }) trees in
-        (asked.0, subst (λ t. IsAnswer q t params asked.0) (overlaid old.now.trees) (asked.1.answer Null), record { schema_is = ap (λ (d : Database). d.schema) now; applies = subst (Applies schema Enforced old.now.trees _) (sym (ap (λ (d : Database). d.trees) now)) step })
+        (asked.0, subst (λ t. IsAnswer q t params asked.0) (overlaid old.now.trees) (asked.1.answer Null), record { schema_is = ap (λ (d : Database). d.schema) now; applies = subst (Applies schema Enforced old.now.trees _) (sym (ap (λ (d : Database). d.trees) now)) step; whole = did.3 })

@@ -4,8 +4,7 @@ use Rattle.sqlite_trees.specs.Tree.{Trees}
 use Rattle.sqlite.specs.State.{State}
 use Rattle.hub_core.specs.State as core
 use Rattle.hub_core.specs.Sound.{IsSound}
-use Rattle.hub_store.specs.Fit.{IsFit}
-use Rattle.hub_store.specs.Means.{Means, Holds}
+use Rattle.hub_store.specs.Means.{TreesHold, Holds}
 
 -- the last commit is this state. A store that is shut is not held to any.
 pub record Has (c : State) (s : core.State) : Type 0 where
@@ -19,11 +18,10 @@ pub record CommitsState (c : State) (s : core.State) : Type 0 where
   pub holds : Holds c.committed s
   pub settled : c.now ≡ c.committed
 
--- the trees stand for this state, which is sound and keeps the limits of rows
+-- the trees stand for this state, which is sound
 pub record StandFor (db : Trees) (s : core.State) : Type 0 where
   pub sound : IsSound s
-  pub fit : IsFit s
-  pub means : Means db s
+  pub holds : TreesHold db s
 
 -- which state the trees stand for; None where they stand for none
 abbrev pub IsMeaning : Trees → Option core.State → Type 0

@@ -8,8 +8,7 @@ ghost use Rattle.hub_core.specs.Edits.{after};
 ghost use Rattle.hub_store.specs.Content.{Has, CommitsState};
 ghost use Rattle.hub_store.specs.Keeps.{Goes, KeepsCommitted};
 ghost use Rattle.hub_store.specs.Makes.{Makes};
-ghost use Rattle.hub_store.specs.Means.{Means, Holds};
-ghost use Rattle.hub_store.specs.Fit.{IsFit};
+ghost use Rattle.hub_store.specs.Means.{Holds, TreesHold};
 
 use crate::incident_edits::make_edit;
 use crate::query::probe;
@@ -42,7 +41,7 @@ pub(crate) fn apply<S: Alter>(
     ensures idle { conn.new.in_transaction ≡ false }
     ensures made { HasCleanDisk (state S.Store conn.new) → (s : State) → Has (state S.Store conn.old) s → OnOk result (CommitsState (state S.Store conn.new) (after edits.now s)) }
     ensures none { HasCleanDisk (state S.Store conn.new) → OnErr result (KeepsCommitted (state S.Store conn.old) (state S.Store conn.new)) }
-    ensures survives { Survives (state S.Store conn.old) (state S.Store conn.new) (λ left. (s : State) → Has (state S.Store conn.old) s → Means left (after edits.now s) × IsFit (after edits.now s)) }
+    ensures survives { Survives (state S.Store conn.old) (state S.Store conn.new) (λ left. (s : State) → Has (state S.Store conn.old) s → TreesHold left (after edits.now s)) }
 {
     let mut tx = conn.transaction();
     // a store that is shut is not asked to commit

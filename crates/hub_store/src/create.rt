@@ -6,7 +6,7 @@ ghost use Rattle.sqlite.specs.Held.{state};
 ghost use Rattle.hub_core.specs.State.{empty};
 ghost use Rattle.hub_store.specs.Tables.{no_schema, hub_schema};
 ghost use Rattle.hub_store.specs.Makes.{Makes, HasEmpty};
-ghost use Rattle.hub_store.specs.Means.{Means, Holds};
+ghost use Rattle.hub_store.specs.Means.{Holds, TreesHold};
 ghost use Rattle.hub_store.specs.Content.{CommitsState};
 ghost use Rattle.hub_store.specs.Keeps.{KeepsCommitted};
 
@@ -35,7 +35,7 @@ pub(crate) fn make_store<S: Alter>(conn: &mut Connection<S>) -> Result<(), Error
     ensures idle { conn.new.in_transaction ≡ false }
     ensures made { HasCleanDisk (state S.Store conn.new) → (state S.Store conn.old).now.schema ≡ no_schema → OnOk result (CommitsState (state S.Store conn.new) empty) }
     ensures none { HasCleanDisk (state S.Store conn.new) → OnErr result (KeepsCommitted (state S.Store conn.old) (state S.Store conn.new)) }
-    ensures survives { (state S.Store conn.old).now.schema ≡ no_schema → Survives (state S.Store conn.old) (state S.Store conn.new) (λ left. Means left empty) }
+    ensures survives { (state S.Store conn.old).now.schema ≡ no_schema → Survives (state S.Store conn.old) (state S.Store conn.new) (λ left. TreesHold left empty) }
 {
     let mut tx = conn.transaction();
     make_in(&mut tx)?;

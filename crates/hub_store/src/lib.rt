@@ -7,7 +7,7 @@
 //! 1. `Tables` and `Versions`: the schema of version 1, and the version that a store tells.
 //! 2. `Rows`, `Values`, `Pairs` and `PairKinds`: each element of a set as a row; `Fit`: the limits that every row keeps.
 //! 3. `Means`: which state the tables stand for, set by set; `Content`: what a connection has, and what an open after a
-//!    crash may find; `Opening` and `Failing`: why a store isn't opened.
+//!    crash may find; `Opening` and `Failing`: why a store isn't opened; `Laws`: what is found of what a crash left.
 //!
 //! The rooms, in the way of the data:
 //!
@@ -21,7 +21,7 @@
 //!   the facts of a request want;
 //! - `directory_edits`, `incident_edits` and `apply`: the edits, each by its statements, in one transaction;
 //! - `sql_shelf`: [`SqlShelf`], made, opened, brought up to date and released, its look-ups and its reads; `told`: how a
-//!   failure of the store is told.
+//!   failure of the store is told; `laws`: the law of what a crash leaves.
 #![tactic(auto)]
 
 mod any_row;
@@ -51,6 +51,7 @@ mod incident_permissions;
 mod incident_recipients;
 mod incident_rows;
 mod joined_rows;
+pub mod laws;
 mod list_entries;
 mod numbers;
 mod pair_kind;

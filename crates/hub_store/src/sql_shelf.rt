@@ -50,7 +50,7 @@ impl<S: Alter> SqlShelf<S> {
     ghost use Rattle.sqlite.specs.Held.{state};
     ghost use Rattle.hub_core.specs.State.{State, empty};
     ghost use Rattle.hub_store.specs.Content.{Has, MayLeave};
-    ghost use Rattle.hub_store.specs.Means.{Means};
+    ghost use Rattle.hub_store.specs.Means.{TreesHold};
     ghost use Rattle.hub_store.specs.Keeps.{KeepsCommitted};
     ghost use Rattle.hub_store.specs.Opening.{IsOpened, IsRefused};
 
@@ -92,8 +92,8 @@ impl<S: Alter> SqlShelf<S> {
         ensures idle { IfErr result (λ e. e.1.in_transaction ≡ false) }
         // After Ok a crash may leave the empty state, and nothing else; otherwise what it could have left before, or that state.
         ensures durable { IfOk result (λ shelf. HasCleanDisk (state S.Store shelf.conn) → (left : Option State) → MayLeave (state S.Store shelf.conn) left ↔ (left ≡ Some empty)) }
-        ensures survives { IfOk result (λ shelf. Survives (state S.Store conn) (state S.Store shelf.conn) (λ left. Means left empty)) }
-        ensures crash { IfErr result (λ e. Survives (state S.Store conn) (state S.Store e.1) (λ left. Means left empty)) }
+        ensures survives { IfOk result (λ shelf. Survives (state S.Store conn) (state S.Store shelf.conn) (λ left. TreesHold left empty)) }
+        ensures crash { IfErr result (λ e. Survives (state S.Store conn) (state S.Store e.1) (λ left. TreesHold left empty)) }
     {
         prove!(conn.is_autocommit());
         if !is_blank(conn.schema()) {

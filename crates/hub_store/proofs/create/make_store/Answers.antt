@@ -6,7 +6,8 @@ use Rattle.sqlite.proofs.StateLemmas.{survives_then}
 use Rattle.sqlite.proofs.Callers.{survives_begin}
 use Rattle.hub_core.specs.State.{empty}
 use Rattle.hub_store.specs.Content.{CommitsState}
-use Rattle.hub_store.specs.Means.{Means, Holds}
+use Rattle.hub_store.specs.Means.{TreesHold, Holds}
+use Rattle.hub_store.proofs.Left.{trees_hold}
 use Rattle.hub_store.proofs.Runs.{committed_made}
 use Rattle.hub_store.proofs.Steps.{on_ok}
 use Rattle.hub_store.proofs.create.make_store.Goals as goal
@@ -30,12 +31,12 @@ returns-clause-survives g c blank =
     let mid = c.make_in.new.tx.conn.now in
     let end = c.commit.new.self.0 in
     let same : end ≡ c.conn-2-1.given.0 = search rules in
-    let P = λ (left : Trees). Means left empty in
+    let P = λ (left : Trees). TreesHold left empty in
     let inside = (rw begun at c.in_ok-make_in.ensures.made) in
     let whole = survives_then (state g.S.Store old) (state g.S.Store mid) (state g.S.Store end) (λ _. ⊥) (λ db. db ≡ (state g.S.Store mid).now.trees) P (λ _ db none. absurd none)
     (λ clean db is.
     let before : HasCleanDisk (state g.S.Store mid) = omega (arith, c.commit.ensures.survives.clean) in
     let made : Holds (state g.S.Store mid).now empty = inside.made before refl (record { known = blank; empty = tt }) in
-    subst P (sym is) made.means)
+    subst P (sym is) (trees_hold (state g.S.Store mid).now empty made))
     (survives_begin g.S.Store old (state g.S.Store mid) _ inside.goes.survives) c.commit.ensures.survives in
     subst (λ h. Survives (state g.S.Store old) (state g.S.Store h) P) same whole

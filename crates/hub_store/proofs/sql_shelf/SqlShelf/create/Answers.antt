@@ -4,7 +4,7 @@ use Rattle.sqlite.specs.State.{HasCleanDisk, Survives}
 use Rattle.sqlite.specs.Held.{state}
 use Rattle.hub_core.specs.State.{State, empty}
 use Rattle.hub_store.specs.Content.{Has, MayLeave}
-use Rattle.hub_store.specs.Means.{Means}
+use Rattle.hub_store.specs.Means.{TreesHold}
 use Rattle.hub_store.specs.Tables.{no_schema}
 use Rattle.hub_store.proofs.Empty.{has_empty, sound_empty}
 use Rattle.hub_store.proofs.Left.{left_by_commit}
@@ -27,7 +27,7 @@ returns-in-Ok-clause-durable g c =
 pub returns-in-Ok-clause-survives : goal.returns-in-Ok-clause-survives
 returns-in-Ok-clause-survives g c =
     let blank : (state g.S.Store c.args.conn).now.schema ≡ no_schema = sym c.schema.ensures.value ∙ c.is_blank.ensures.0 (search rules) in
-    subst (λ h. Survives (state g.S.Store c.args.conn) (state g.S.Store h) (λ left. Means left empty)) (sym c.over.ensures.same) (c.make_store.ensures.survives blank)
+    subst (λ h. Survives (state g.S.Store c.args.conn) (state g.S.Store h) (λ left. TreesHold left empty)) (sym c.over.ensures.same) (c.make_store.ensures.survives blank)
 
 pub returns-in-Err-clause-back : goal.returns-in-Err-clause-back
 returns-in-Err-clause-back g c clean s has = kept_has (state g.S.Store c.args.conn) (state g.S.Store c.make_store.new.conn) s (c.in-Err.ensures.none clean) has

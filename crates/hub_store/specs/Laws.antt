@@ -1,0 +1,21 @@
+-- What is found by opening what a stop left.
+use Rattle.std.specs.Prelude.{◌≡◌, Option, IfSome}
+use Rattle.sqlite_trees.specs.Tree.{Trees}
+use Rattle.sqlite_trees.specs.declared.store.Store as store
+use Rattle.sqlite.specs.Held.{Held, state}
+use Rattle.sqlite.specs.State.{State, IsLive, Opens}
+use Rattle.hub_core.specs.State as core
+use Rattle.hub_store.specs.Content.{Has, IsMeaning, MayLeave}
+
+-- a connection that was just opened finds these trees
+pub record Finds (c : State) (db : Trees) : Type 0 where
+  pub opens : Opens c
+  pub live : IsLive c
+  pub trees : c.committed.trees ≡ db
+
+-- One connection finds what a stop of another one left, whether that stands for a state or for none: it is among what could be
+-- left there, and where it is a state, the one that finds it has it.
+abbrev pub WhatIsLeftIsFound : {S T : Type 0} → store.Ghosts S → store.Ghosts T → Type 0
+WhatIsLeftIsFound {S} {T} g h =
+    (old : Held S) (new : Held T) (db : Trees) (left : Option core.State) → (state g old).may_leave db → Finds (state h new) db → IsMeaning db left
+    → MayLeave (state g old) left × IfSome left (Has (state h new))
