@@ -8,6 +8,7 @@ pub mod Seeing
 pub mod Explained
 pub mod Changing
 pub mod Served
+pub mod Failures
 pub mod Runs
 pub mod ToldSame
 pub mod OtherUnseen

@@ -30,7 +30,7 @@ use Rattle.hub_core.specs.declared.request.Request.TheVariants as ask
 use Rattle.hub_core.specs.declared.shelf.ShelfFault.{ShelfFault}
 use Rattle.hub_core.specs.declared.shelf.ShelfFault.TheVariants.{NoMemory, Failed}
 use Rattle.hub_core.proofs.Keeping.{found_each}
-use Rattle.hub.specs.Faults.{code_told}
+use Rattle.hub.specs.Faults.{code_told, is_failure, tells_failure}
 use Rattle.hub.specs.Told.{is_served, view_of}
 use Rattle.hub.specs.Replies.{if_active, caller_of, viewed, circle_reply, refused_or, answer_to, reply_by, reply_of}
 use Rattle.hub.specs.Machine.{Asked, IsGivenUp, IsStep, left_by}
@@ -176,21 +176,18 @@ served_on kept clean s due after result served = record {
 
 -- ---- no reply that is due tells of a failure
 
-abbrev is_failure : Code → Bool
-is_failure F1 = true
-is_failure _ = false
-
 abbrev tells_none : List Ground → Bool
 tells_none gs = list_all (λ (g : Ground). not (is_failure g.answer.code)) gs
 
-first_tells : (gs : List Ground) → tells_none gs ≡ true → first_answer gs ≡ Some (bare F1) → ⊥
-first_tells [] h is = cc
-first_tells (g ∷ gs) h is = by_case g.holds (not (is_failure g.answer.code)) refl h is (first_tells gs)
+first_untold : (gs : List Ground) (reply : Reply) → tells_none gs ≡ true → tells_failure reply ≡ false → tells_failure (refused_or (first_answer gs) reply) ≡ false
+first_untold [] reply h k = k
+first_untold (g ∷ gs) reply h k = by_case g.holds (is_failure g.answer.code) refl h (first_untold gs reply)
   where
-    by_case : (b t : Bool) → not (is_failure g.answer.code) ≡ t → (t && tells_none gs) ≡ true → cond b (Some g.answer) (first_answer gs) ≡ Some (bare F1) → (tells_none gs ≡ true → first_answer gs ≡ Some (bare F1) → ⊥) → ⊥
-    by_case b false t k is later = absurd (true≢false (sym k))
-    by_case true true t k is later = let same : g.answer ≡ bare F1 = cc in absurd (true≢false (sym t ∙ ap (λ (r : Refusal). not (is_failure r.code)) same))
-    by_case false true t k is later = later k is
+    by_case : (b t : Bool) → is_failure g.answer.code ≡ t → (not t && tells_none gs) ≡ true → (tells_none gs ≡ true → tells_failure reply ≡ false → tells_failure (refused_or (first_answer gs) reply) ≡ false) →
+        tells_failure (refused_or (cond b (Some g.answer) (first_answer gs)) reply) ≡ false
+    by_case b true is all later = absurd (true≢false (sym all))
+    by_case true false is all later = is
+    by_case false false is all later = later all k
 
 circle_tells : (s : State) (a : Person) (c : CircleCommand) → tells_none (circle.grounds s.directory a c) ≡ true
 circle_tells s a (AddOrg name) = refl
@@ -229,73 +226,63 @@ grounds_tell s a (ask.Addressed after) = refl
 grounds_tell s a ask.MyGroups = refl
 grounds_tell s a ask.WhoAmI = refl
 
-apart : (a : Code) → Refused (bare a) ≡ Refused (bare F1) → a ≡ F1
-apart a h = let same : bare a ≡ bare F1 = cc in ap (λ (r : Refusal). r.code) same
-
-unseen_tells : Refused (bare N1) ≡ Refused (bare F1) → ⊥
-unseen_tells h = let same : N1 ≡ F1 = apart N1 h in cc
-
-stranger_tells : Refused (bare K1) ≡ Refused (bare F1) → ⊥
-stranger_tells h = let same : K1 ≡ F1 = apart K1 h in cc
-
-pub memory_tells : Refused (bare F2) ≡ Refused (bare F1) → ⊥
-memory_tells h = let same : F2 ≡ F1 = apart F2 h in cc
-
-view_tells : (s : State) (now : ℤ) (p : Person) (o : Option Incident) → viewed s now p o ≡ Refused (bare F1) → ⊥
-view_tells s now p None h = unseen_tells h
-view_tells s now p (Some i) h = by_case (is_served s now p i) h
+view_untold : (s : State) (now : ℤ) (p : Person) (o : Option Incident) → tells_failure (viewed s now p o) ≡ false
+view_untold s now p None = refl
+view_untold s now p (Some i) = by_case (is_served s now p i)
   where
-    by_case : (b : Bool) → cond b (View (view_of s now p i)) (Refused (bare N1)) ≡ Refused (bare F1) → ⊥
-    by_case true k = cc
-    by_case false k = unseen_tells k
+    by_case : (b : Bool) → tells_failure (cond b (View (view_of s now p i)) (Refused (bare N1))) ≡ false
+    by_case true = refl
+    by_case false = refl
 
-command_tells : (s : State) (c : CircleCommand) → circle_reply s.directory c ≡ Refused (bare F1) → ⊥
-command_tells s (AddOrg name) h = cc
-command_tells s (AddPerson org name role key) h = cc
-command_tells s (SuspendPerson person) h = cc
-command_tells s (AddClient org client) h = cc
-command_tells s (RemoveClient org client) h = cc
-command_tells s (AddCommunity name) h = cc
-command_tells s (Join community org) h = cc
-command_tells s (Leave community org) h = cc
-command_tells s (Link community other) h = cc
-command_tells s (Unlink community other) h = cc
-command_tells s (NewGroup name releasability) h = cc
-command_tells s (GroupAdd group org extend) h = cc
-command_tells s (GroupRemove group org) h = cc
-command_tells s (GroupActive group active) h = cc
-command_tells s (Arrange org handling) h = cc
-command_tells s (CancelArrange org) h = cc
-command_tells s (Nominate person) h = cc
-command_tells s (Unnominate person) h = cc
+command_untold : (s : State) (c : CircleCommand) → tells_failure (circle_reply s.directory c) ≡ false
+command_untold s (AddOrg name) = refl
+command_untold s (AddPerson org name role key) = refl
+command_untold s (SuspendPerson person) = refl
+command_untold s (AddClient org client) = refl
+command_untold s (RemoveClient org client) = refl
+command_untold s (AddCommunity name) = refl
+command_untold s (Join community org) = refl
+command_untold s (Leave community org) = refl
+command_untold s (Link community other) = refl
+command_untold s (Unlink community other) = refl
+command_untold s (NewGroup name releasability) = refl
+command_untold s (GroupAdd group org extend) = refl
+command_untold s (GroupRemove group org) = refl
+command_untold s (GroupActive group active) = refl
+command_untold s (Arrange org handling) = refl
+command_untold s (CancelArrange org) = refl
+command_untold s (Nominate person) = refl
+command_untold s (Unnominate person) = refl
 
-answer_tells : (s : State) (now : ℤ) (p : Person) (r : Request) → answer_to s now p r ≡ Refused (bare F1) → ⊥
-answer_tells s now p (ask.Circle command) h = command_tells s command h
-answer_tells s now p (ask.Post level group gates body) h = cc
-answer_tells s now p (ask.Replace n revision level group gates body) h = cc
-answer_tells s now p (ask.Redistribute n revision path level group) h = cc
-answer_tells s now p (ask.Address n target) h = cc
-answer_tells s now p (ask.Unaddress n target) h = cc
-answer_tells s now p (ask.Grant n revision path grantee) h = cc
-answer_tells s now p (ask.Withdraw n path grantee) h = cc
-answer_tells s now p (ask.View n) h = view_tells s now p (incident_of n s) h
-answer_tells s now p (ask.Explain person n path) h = cc
-answer_tells s now p (ask.List after) h = cc
-answer_tells s now p (ask.Search needle class after) h = cc
-answer_tells s now p (ask.Addressed after) h = cc
-answer_tells s now p ask.MyGroups h = cc
-answer_tells s now p ask.WhoAmI h = cc
+answer_untold : (s : State) (now : ℤ) (p : Person) (r : Request) → tells_failure (answer_to s now p r) ≡ false
+answer_untold s now p (ask.Circle command) = command_untold s command
+answer_untold s now p (ask.Post level group gates body) = refl
+answer_untold s now p (ask.Replace n revision level group gates body) = refl
+answer_untold s now p (ask.Redistribute n revision path level group) = refl
+answer_untold s now p (ask.Address n target) = refl
+answer_untold s now p (ask.Unaddress n target) = refl
+answer_untold s now p (ask.Grant n revision path grantee) = refl
+answer_untold s now p (ask.Withdraw n path grantee) = refl
+answer_untold s now p (ask.View n) = view_untold s now p (incident_of n s)
+answer_untold s now p (ask.Explain person n path) = refl
+answer_untold s now p (ask.List after) = refl
+answer_untold s now p (ask.Search needle class after) = refl
+answer_untold s now p (ask.Addressed after) = refl
+answer_untold s now p ask.MyGroups = refl
+answer_untold s now p ask.WhoAmI = refl
+
+pub due_untold : (s : State) (now : ℤ) (key : Key) (r : Request) → tells_failure (reply_of s now key r) ≡ false
+due_untold s now key r = by_caller (caller_of s key)
+  where
+    by_caller : (o : Option Person) → tells_failure (reply_by s now o r) ≡ false
+    by_caller None = refl
+    by_caller (Some p) = first_untold (grounds s p r) (answer_to s now p r) (grounds_tell s p r) (answer_untold s now p r)
 
 pub due_tells : (s : State) (now : ℤ) (key : Key) (r : Request) → reply_of s now key r ≡ Refused (bare F1) → ⊥
-due_tells s now key r h = by_caller (caller_of s key) h
-  where
-    by_refusal : (p : Person) (o : Option Refusal) → refusal_of s p r ≡ o → refused_or o (answer_to s now p r) ≡ Refused (bare F1) → ⊥
-    by_refusal p None is k = answer_tells s now p r k
-    by_refusal p (Some refusal) is k = let same : refusal ≡ bare F1 = cc in first_tells (grounds s p r) (grounds_tell s p r) (is ∙ ap Some same)
+due_tells s now key r h = true≢false (sym (ap tells_failure h) ∙ due_untold s now key r)
 
-    by_caller : (o : Option Person) → reply_by s now o r ≡ Refused (bare F1) → ⊥
-    by_caller None k = stranger_tells k
-    by_caller (Some p) k = by_refusal p (refusal_of s p r) refl k
+memory_tells : Refused (bare F2) ≡ Refused (bare F1) → ⊥
+memory_tells h = true≢false (sym (ap tells_failure h))
 
 -- ---- what leaves everything
 

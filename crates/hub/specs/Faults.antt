@@ -1,6 +1,10 @@
--- The codes of what a shelf may answer in place of a value.
+-- The codes of what a shelf may answer in place of a value, and how often a failure is told.
+use Rattle.std.specs.Prelude.{◌⊎◌, ◌≤◌, ℕ, ◌+◌, Bool, true, false, List, count_by}
 use Rattle.circle.specs.declared.refusal.Code.{Code}
 use Rattle.circle.specs.declared.refusal.Code.TheVariants.{F1, F2}
+use Rattle.hub_core.specs.Shelves.{last_count}
+use Rattle.hub_core.specs.declared.reply.Reply.{Reply}
+use Rattle.hub_core.specs.declared.reply.Reply.TheVariants.{Refused}
 use Rattle.hub_core.specs.declared.shelf.ShelfFault.{ShelfFault}
 use Rattle.hub_core.specs.declared.shelf.ShelfFault.TheVariants.{NoMemory, Failed}
 
@@ -8,3 +12,20 @@ use Rattle.hub_core.specs.declared.shelf.ShelfFault.TheVariants.{NoMemory, Faile
 abbrev pub code_told : ShelfFault → Code
 code_told NoMemory = F2
 code_told Failed = F1
+
+abbrev pub is_failure : Code → Bool
+is_failure F1 = true
+is_failure code = false
+
+-- the reply tells that the store failed
+abbrev pub tells_failure : Reply → Bool
+tells_failure (Refused refusal) = is_failure refusal.code
+tells_failure reply = false
+
+-- how many of the replies tell it
+abbrev pub failures_told : List Reply → ℕ
+failures_told replies = count_by tells_failure replies
+
+-- what is told was counted each time, as far as the count goes
+abbrev pub AreCounted : ℕ → ℕ → ℕ → Type 0
+AreCounted told before now = (before + told ≤ now) ⊎ (last_count ≤ now)

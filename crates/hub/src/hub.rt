@@ -1,6 +1,5 @@
 //! The hub over a shelf: one request, and a list of them.
 ghost use Rattle.std.specs.Prelude.{◌≡◌, ◌⊎◌, ◌≤◌, ◌↔◌, ℕ, Option, Some, true, IsTrue, IfOk, OnErr};
-ghost use Rattle.std.specs.List.{Contains};
 ghost use Rattle.circle.specs.Outcomes.{bare};
 ghost use Rattle.circle.specs.declared.directory.Account.{Account};
 ghost use Rattle.circle.specs.declared.refusal.Code.TheVariants.{F1};
@@ -9,6 +8,7 @@ ghost use Rattle.hub_core.specs.Sound.{IsSound};
 ghost use Rattle.hub_core.specs.declared.reply.Reply.TheVariants.{Refused};
 ghost use Rattle.hub_core.specs.Shelves.{HasFailed};
 ghost use Rattle.hub.specs.Alike.{IsAlike, is_told};
+ghost use Rattle.hub.specs.Faults.{AreCounted, failures_told};
 ghost use Rattle.hub.specs.Machine.{IsGivenUp, IsRun, IsStep, state_left};
 ghost use Rattle.hub.specs.Replies.{reply_of};
 ghost use Rattle.hub.specs.Serving.{is_made};
@@ -82,15 +82,15 @@ impl<Sh: Shelf> Hub<Sh> {
     }
 
     /// Answers a list of requests, one after another: a run, from whatever sound state the shelf has. `F1` is among the
-    /// replies only where the shelf failed. The memory for the list of replies is taken first, so want of memory is told
-    /// before the first request or never.
+    /// replies at most as often as the shelf counted a failure meanwhile, unless that count stands at its last value. The
+    /// memory for the list of replies is taken first, so want of memory is told before the first request or never.
     pub fn run(
         &mut self,
         alloc: Global,
         asked: &[(i64, Key, Request)],
     ) -> Result<Vec<Reply>, AllocError>
         ensures run { Sh.doubts self.new ≡ 0 → (s : State) → Sh.has self.old s → IsSound s → IfOk result (λ replies. (end : State) × IsRun s asked.now replies.items end × Sh.has self.new end) }
-        ensures cause { Sh.doubts self.new ≡ 0 → (s : State) → Sh.has self.old s → IsSound s → IfOk result (λ replies. Contains replies.items (Refused (bare F1)) → HasFailed (Sh.failed self.old) (Sh.failed self.new)) }
+        ensures cause { Sh.doubts self.new ≡ 0 → (s : State) → Sh.has self.old s → IsSound s → IfOk result (λ replies. AreCounted (failures_told replies.items) (Sh.failed self.old) (Sh.failed self.new)) }
         ensures none { OnErr result (self.new ≡ self.old) }
         ensures later { Sh.failed self.old ≤ Sh.failed self.new }
         ensures doubt { Sh.doubts self.old ≤ Sh.doubts self.new }

@@ -1,33 +1,30 @@
-use Rattle.std.proofs.Common.{◌≡◌, inl, inr, ◌++◌, [], ◌∷◌, subst, arith, rules}
-use Rattle.std.specs.List.{Contains}
-use Rattle.std.proofs.lemmas.List.Elements.{Contains-push_cases}
-use Rattle.circle.specs.Outcomes.{bare}
-use Rattle.circle.specs.declared.refusal.Code.TheVariants.{F1}
-use Rattle.hub_core.specs.declared.reply.Reply.{Reply}
-use Rattle.hub_core.specs.declared.reply.Reply.TheVariants.{Refused}
-use Rattle.hub.proofs.Keeping.{failed_before, failed_later}
+use Rattle.std.proofs.Common.{◌≡◌, ◌++◌, [], ◌∷◌, arith, rules}
+use Rattle.hub.specs.Faults.{AreCounted, failures_told}
+use Rattle.hub.proofs.Failures.{counted_on, failure_alone}
 use Rattle.hub.proofs.Runs.{goes_on, runs_sound}
 use Rattle.hub.proofs.hub.Hub.run.Goals as goal
 
 pub loop-one-preserved : goal.loop-one-preserved
 loop-one-preserved g c =
-    let failure : Reply = Refused (bare F1) in
-    let items : c.push.new.self.items ≡ c.loop-one.replies.items ++ c.step-reply.result ∷ [] = search rules in
+    let shelf = g.Sh.Shelf in
+    let earlier = c.loop-one.replies.items in
+    let reply = c.step-reply.result in
+    let items : c.push.new.self.items ≡ earlier ++ reply ∷ [] = search rules in
     record {
       room = search rules;
       count = search rules;
       later = omega (arith, c.step-reply.ensures.later);
       doubt = omega (arith, c.step-reply.ensures.doubt);
       told = λ clean s has sound.
-          let before : g.Sh.Shelf.doubts c.loop-one.self ≡ 0 = omega (arith, c.step-reply.ensures.doubt) in
-          let on = goes_on g.Sh.Shelf.has c.loop-one.self c.step-reply.new.self s c.args.asked.now c.loop-one.one-index c.one-item.result c.loop-one.replies.items c.step-reply.result c.one-item.is c.loop-one-test.true sound
+          let before : shelf.doubts c.loop-one.self ≡ 0 = omega (arith, c.step-reply.ensures.doubt) in
+          let on = goes_on shelf.has c.loop-one.self c.step-reply.new.self s c.args.asked.now c.loop-one.one-index c.one-item.result earlier reply c.one-item.is c.loop-one-test.true sound
           (c.loop-one.invariant.told before s has sound) (c.step-reply.ensures.step clean) in
           (on.0, rw items on.1, on.2);
-      cause = λ clean s has sound failed.
-          let before : g.Sh.Shelf.doubts c.loop-one.self ≡ 0 = omega (arith, c.step-reply.ensures.doubt) in
+      cause = λ clean s has sound.
+          let before : shelf.doubts c.loop-one.self ≡ 0 = omega (arith, c.step-reply.ensures.doubt) in
           let mid = c.loop-one.invariant.told before s has sound in
-          elim (Contains-push_cases c.loop-one.replies.items c.step-reply.result failure (subst (λ replies. Contains replies failure) items failed)) [
-            | inl earlier ↦ failed_later _ _ _ c.loop-one.invariant.later (c.loop-one.invariant.cause before s has sound earlier) c.step-reply.ensures.later
-            | inr now ↦ failed_before _ _ _ c.loop-one.invariant.later (c.step-reply.ensures.cause clean mid.0 mid.2 (runs_sound s mid.0 _ _ sound mid.1) now)
-          ];
+          let whole = runs_sound s mid.0 _ _ sound mid.1 in
+          let step = c.step-reply.ensures.step clean mid.0 mid.2 whole in
+          rw items (counted_on (shelf.failed c.args.self.now) (shelf.failed c.loop-one.self) (shelf.failed c.step-reply.new.self) earlier reply (c.loop-one.invariant.cause before s has sound) c.step-reply.ensures.later
+          (λ tells. c.step-reply.ensures.cause clean mid.0 mid.2 whole (failure_alone mid.0 step.0 c.one-item.result reply step.1 tells)));
     }

@@ -1,12 +1,8 @@
 use Rattle.std.proofs.Common.{◌≡◌, ◌≤◌, take, length, vec_len}
 use Rattle.std.specs.Vec.{vec_capacity}
-use Rattle.std.specs.List.{Contains}
-use Rattle.circle.specs.Outcomes.{bare}
-use Rattle.circle.specs.declared.refusal.Code.TheVariants.{F1}
 use Rattle.hub_core.specs.State.{State}
 use Rattle.hub_core.specs.Sound.{IsSound}
-use Rattle.hub_core.specs.declared.reply.Reply.TheVariants.{Refused}
-use Rattle.hub_core.specs.Shelves.{HasFailed}
+use Rattle.hub.specs.Faults.{AreCounted, failures_told}
 use Rattle.hub.specs.Machine.{IsRun}
 use Rattle.hub.proofs.hub.Hub.run.Given as goal
 
@@ -20,6 +16,5 @@ invariant-loop-one g l =
       doubt : shelf.doubts l.fn.self ≤ shelf.doubts l.self;
       told : shelf.doubts l.self ≡ 0 → (s : State) → shelf.has l.fn.self s → IsSound s
           → (mid : State) × IsRun s (take l.one-index l.asked) l.replies.items mid × shelf.has l.self mid;
-      cause : shelf.doubts l.self ≡ 0 → (s : State) → shelf.has l.fn.self s → IsSound s → Contains l.replies.items (Refused (bare F1))
-          → HasFailed (shelf.failed l.fn.self) (shelf.failed l.self);
+      cause : shelf.doubts l.self ≡ 0 → (s : State) → shelf.has l.fn.self s → IsSound s → AreCounted (failures_told l.replies.items) (shelf.failed l.fn.self) (shelf.failed l.self);
     }
