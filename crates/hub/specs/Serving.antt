@@ -69,6 +69,11 @@ is_made (Numbers numbers) = true
 is_made (Revision revision) = true
 is_made _ = false
 
+-- the same of an answer, if there is one
+abbrev pub is_made_by : Result Reply ShelfFault → Bool
+is_made_by (Ok reply) = is_made reply
+is_made_by (Err fault) = false
+
 -- what is answered and what is left, where a reply and a content are due: these, or no answer and the content that there was
 abbrev pub Settles : (State → Type 0) → State → Reply → State → Result Reply ShelfFault → Type 0
 Settles has s due after (Ok reply) = (reply ≡ due) × has after

@@ -1,12 +1,13 @@
 //! Requests that change something.
-ghost use Rattle.std.specs.Prelude.{◌≡◌, ◌<◌, ◌^◌, false, IfOk, IfErr};
+ghost use Rattle.std.specs.Prelude.{◌≡◌, ◌<◌, ◌^◌, true, false, IfOk, IfErr};
 ghost use Rattle.circle.specs.Sound.{IsOrg};
 ghost use Rattle.hub_core.specs.State.{State};
 ghost use Rattle.hub_core.specs.Sound.{IsSound};
 ghost use Rattle.hub_core.specs.Refusals.{state_after};
 ghost use Rattle.hub_core.specs.Judgement.{next_known};
 ghost use Rattle.hub_core.specs.Laws.{is_reading};
-ghost use Rattle.hub.specs.Serving.{IsCounted, IsServed, due_to, gives_numbers, made_reply, number_put, numbers_put};
+ghost use Rattle.hub_core.specs.Shelves.{KeepsContent};
+ghost use Rattle.hub.specs.Serving.{IsCounted, IsServed, due_to, gives_numbers, is_made, is_made_by, made_reply, number_put, numbers_put};
 
 use crate::asking::Asker;
 use crate::fault::{ample, told};
@@ -74,6 +75,7 @@ fn reply_to(
     edits: &[Edit],
 ) -> Result<Reply, ShelfFault>
     ensures reply { next_known facts.now < 2 ^ 32 → IfOk result (λ reply. reply ≡ made_reply facts.now request.now edits.now) }
+    ensures made { IfOk result (λ reply. is_made reply ≡ true) }
     ensures fault { IfErr result (λ e. e ≡ ShelfFault.NoMemory) }
 {
     if let Request::Replace { .. } = request {
@@ -98,6 +100,7 @@ pub fn change<Sh: Shelf>(
     ensures step { Sh.doubts shelf.new ≡ 0 → (s : State) → Sh.has shelf.old s → IsSound s → IsOrg s.directory.orgs asker.entry.person.now.org → is_reading request.now ≡ false →
         IsServed Sh.has Sh.may_leave shelf.old shelf.new s (due_to s asker.entry.now asker.entry.person.now request.now) (state_after s asker.entry.person.now request.now) result }
     ensures counted { IsCounted Sh.doubts Sh.failed shelf.old shelf.new result }
+    ensures kept { is_made_by result ≡ false → KeepsContent Sh.has Sh.doubts Sh.failed Sh.may_leave shelf.old shelf.new }
 {
     let facts = shelf.facts(asker.person, request)?;
     let edits = match judge(alloc, asker.person, &facts, request) {

@@ -1,12 +1,12 @@
 //! The hub over a shelf: one request, and a list of them.
-ghost use Rattle.std.specs.Prelude.{◌≡◌, ◌⊎◌, ◌≤◌, ◌↔◌, ℕ, Option, Some, true, IsTrue, IfOk, OnErr};
+ghost use Rattle.std.specs.Prelude.{◌≡◌, ◌⊎◌, ◌≤◌, ◌↔◌, ℕ, Option, Some, true, false, IsTrue, IfOk, OnErr};
 ghost use Rattle.circle.specs.Outcomes.{bare};
 ghost use Rattle.circle.specs.declared.directory.Account.{Account};
 ghost use Rattle.circle.specs.declared.refusal.Code.TheVariants.{F1};
 ghost use Rattle.hub_core.specs.State.{State};
 ghost use Rattle.hub_core.specs.Sound.{IsSound};
 ghost use Rattle.hub_core.specs.declared.reply.Reply.TheVariants.{Refused};
-ghost use Rattle.hub_core.specs.Shelves.{HasFailed};
+ghost use Rattle.hub_core.specs.Shelves.{HasFailed, KeepsContent};
 ghost use Rattle.hub.specs.Alike.{IsAlike, is_told};
 ghost use Rattle.hub.specs.Faults.{AreCounted, failures_told};
 ghost use Rattle.hub.specs.Machine.{IsGivenUp, IsRun, IsStep, state_left};
@@ -55,9 +55,12 @@ impl<Sh: Shelf> Hub<Sh> {
     /// may be left, and nothing else, also nothing that stands for no sound state; otherwise what could have been left
     /// before, or what the request leaves.
     ///
+    /// What isn't answered as a change that was made, as each refusal, leaves whatever content the shelf has.
+    ///
     /// To a request that tells of incidents, of groups or of the caller, the reply is the one that is due in every world alike
     /// for who asks, unless the request is given up: it tells nothing of what differs there.
     pub fn answer(&mut self, alloc: Global, now: i64, key: &Key, request: &Request) -> Reply
+        ensures kept { is_made result ≡ false → KeepsContent Sh.has Sh.doubts Sh.failed Sh.may_leave self.old self.new }
         ensures step { Sh.doubts self.new ≡ 0 → (s : State) → Sh.has self.old s → IsSound s → (left : State) × IsStep s (now, key.now, request.now) result left × Sh.has self.new left }
         ensures alike { Sh.doubts self.new ≡ 0 → (s t : State) (a : Account) → Sh.has self.old s → IsAlike now a s t → key.now ≡ Digest a.key → is_told request.now ≡ true → (result ≡ reply_of t now key.now request.now) ⊎ IsGivenUp result }
         ensures cause { Sh.doubts self.new ≡ 0 → (s : State) → Sh.has self.old s → IsSound s → result ≡ Refused (bare F1) → HasFailed (Sh.failed self.old) (Sh.failed self.new) }

@@ -1,13 +1,14 @@
 //! Who asks, and what is answered.
-ghost use Rattle.std.specs.Prelude.{◌≡◌};
+ghost use Rattle.std.specs.Prelude.{◌≡◌, false};
 ghost use Rattle.circle.specs.Sound.{IsOrg};
 ghost use Rattle.hub_core.specs.State.{State};
 ghost use Rattle.hub_core.specs.Sound.{IsSound};
 ghost use Rattle.hub_core.specs.Refusals.{state_after};
+ghost use Rattle.hub_core.specs.Shelves.{KeepsContent};
 ghost use Rattle.hub.specs.Asking.{IsThere};
 ghost use Rattle.hub.specs.Replies.{reply_of};
 ghost use Rattle.hub.specs.Machine.{state_left};
-ghost use Rattle.hub.specs.Serving.{IsCounted, IsServed, due_to};
+ghost use Rattle.hub.specs.Serving.{IsCounted, IsServed, due_to, is_made_by};
 
 use crate::asking::{Asker, caller_by};
 use crate::change::change;
@@ -26,6 +27,7 @@ fn served<Sh: Shelf>(
     ensures step { Sh.doubts shelf.new ≡ 0 → (s : State) → Sh.has shelf.old s → IsSound s → IsThere s asker.entry.person.now → IsOrg s.directory.orgs asker.entry.person.now.org →
         IsServed Sh.has Sh.may_leave shelf.old shelf.new s (due_to s asker.entry.now asker.entry.person.now request.now) (state_after s asker.entry.person.now request.now) result }
     ensures counted { IsCounted Sh.doubts Sh.failed shelf.old shelf.new result }
+    ensures kept { is_made_by result ≡ false → KeepsContent Sh.has Sh.doubts Sh.failed Sh.may_leave shelf.old shelf.new }
 {
     match read(shelf, alloc, asker, request)? {
         Some(reply) => Ok(reply),
@@ -44,6 +46,7 @@ pub fn answered<Sh: Shelf>(
     ensures step { Sh.doubts shelf.new ≡ 0 → (s : State) → Sh.has shelf.old s → IsSound s →
         IsServed Sh.has Sh.may_leave shelf.old shelf.new s (reply_of s now key.now request.now) (state_left s key.now request.now) result }
     ensures counted { IsCounted Sh.doubts Sh.failed shelf.old shelf.new result }
+    ensures kept { is_made_by result ≡ false → KeepsContent Sh.has Sh.doubts Sh.failed Sh.may_leave shelf.old shelf.new }
 {
     match caller_by(shelf, key)? {
         None => Ok(Reply::Refused(Refusal::bare(alloc, Code::K1))),

@@ -1,10 +1,12 @@
 use Rattle.std.proofs.Common.{◌≡◌, Some, inl, inr, sym, ap, subst, ◌∙◌, arith}
+use Rattle.std.proofs.lemmas.Bool.{true≢false}
 use Rattle.hub_core.specs.Edits.{after}
 use Rattle.hub_core.specs.Sound.{IsSound}
 use Rattle.hub_core.specs.Refusals.{state_after}
 use Rattle.hub_core.proofs.Kept.{stays_sound}
 use Rattle.hub.specs.Serving.{made_reply}
 use Rattle.hub.proofs.Changing.{changed_reply}
+use Rattle.hub.proofs.Keeping.{content_on}
 use Rattle.hub.proofs.change.change.Goals as goal
 
 pub returns-in-Ok-apply-clause-step : goal.returns-in-Ok-apply-clause-step
@@ -54,3 +56,9 @@ returns-clause-step g c = λ clean s has sound org changes.
       durable = tt;
       crash = λ left leaves. elim (made.crash clean s here whole left leaves) [ inl before ↦ inl (read.kept.crash mid left before) | inr is ↦ inr (is ∙ ap Some done) ];
     }
+
+pub returns-in-Ok-apply-clause-kept : goal.returns-in-Ok-apply-clause-kept
+returns-in-Ok-apply-clause-kept g c = λ unmade. absurd (true≢false (sym c.in_ok-reply.ensures.made ∙ unmade))
+
+pub returns-clause-kept : goal.returns-clause-kept
+returns-clause-kept g c = λ unmade. content_on c.in_ok-facts.ensures.kept.content c.in-Err-apply.ensures.doubt c.in-Err-apply.ensures.none

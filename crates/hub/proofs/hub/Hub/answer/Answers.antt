@@ -1,9 +1,10 @@
-use Rattle.std.proofs.Common.{inl, inr, Err, w64, sym, ap, subst, refl, ◌∙◌}
+use Rattle.std.proofs.Common.{◌≡◌, false, inl, inr, Err, w64, sym, ap, subst, refl, ◌∙◌}
 use Rattle.std.specs.Prelude.{ℤ}
 use Rattle.std.proofs.lemmas.Int.{to_z-of_z}
 use Rattle.hub.specs.Replies.{reply_of}
-use Rattle.hub_core.specs.Shelves.{HasFailed}
+use Rattle.hub_core.specs.Shelves.{HasFailed, KeepsContent}
 use Rattle.hub.specs.Machine.{state_left}
+use Rattle.hub.specs.Serving.{is_made}
 use Rattle.hub.proofs.AnsweredAlike.{answered-alike}
 use Rattle.hub.proofs.Served.{due_tells, given_up, failure_told}
 use Rattle.hub.proofs.hub.Hub.answer.Goals as goal
@@ -51,4 +52,14 @@ returns-clause-cause g c = λ clean s has sound failed.
           failure_told (HasFailed (g.Sh.Shelf.failed c.args.self.now) (g.Sh.Shelf.failed c.answered.new.shelf)) w.in-Err.fault
           (λ is. subst R c.self.view_is (w.in-Err.ensures.counted.cause (ap Err (sym is))))
           (sym (w.result-is ∙ w.given_up.ensures) ∙ failed)
+    ]
+
+pub returns-clause-kept : goal.returns-clause-kept
+returns-clause-kept g c = λ unmade.
+    let P : g.row.Sh.Denot → Type 0 = λ shelf. KeepsContent g.Sh.Shelf.has g.Sh.Shelf.doubts g.Sh.Shelf.failed g.Sh.Shelf.may_leave shelf c.answered.new.shelf in
+    elim c.match-answered.branch [
+      | in-Ok w ↦
+          subst P c.self.view_is (w.in-Ok.ensures.kept (sym (ap is_made w.result-is) ∙ unmade))
+      | in-Err w ↦
+          subst P c.self.view_is (w.in-Err.ensures.kept refl)
     ]
