@@ -2,11 +2,10 @@
 use Rattle.std.specs.Prelude.{◌⊎◌, ℕ, List, [], ◌∷◌, ◌++◌, ◌==◌, length, ◌&&◌, nat_le, not, if◌then◌else◌, Bool, Option, Some, None, Result, Ok, Err, IsTrue}
 use Rattle.std.specs.List.{list_all}
 use Rattle.std.specs.Io.KnownBytes.{Consumes, IsAtEnd}
-use Rattle.sha2.specs.Sha256.{sha256}
 use Rattle.hex.specs.Hex.{decode_sized}
 use Rattle.hub.specs.declared.key.Key.{Key}
-use Rattle.hub.specs.declared.key.Key.TheVariants.{Absent, Digest}
-use Rattle.hub_http.specs.Fields.{is_visible}
+use Rattle.hub.specs.declared.key.Key.TheVariants.{Absent}
+use Rattle.hub_http.specs.Fields.{is_visible, key_shown}
 
 abbrev pub is_no_newline : ℕ → Bool
 is_no_newline b = not (b == 10)
@@ -20,9 +19,9 @@ IsFirstLine before after line =
 abbrev pub is_key : List ℕ → Bool
 is_key line = nat_le 1 (length line) && nat_le (length line) 128 && list_all is_visible line
 
--- who asks: the SHA-256 of the key
+-- who asks: by the key
 abbrev pub line_key : List ℕ → Key
-line_key line = if is_key line then Digest (sha256 line) else Absent
+line_key line = if is_key line then key_shown line else Absent
 
 -- the 32 bytes that 64 hexadecimal digits spell
 abbrev pub if_decoded : {E : Type 0} → Result (List ℕ) E → Option (List ℕ)

@@ -9,6 +9,14 @@ use std::io::{ErrorKind, Read};
 /// How many bytes of input are read.
 pub const INPUT_LIMIT: usize = 1_048_576;
 
+/// Why the input isn't read; want of memory is told apart.
+fn read_fault(kind: ErrorKind) -> Fault {
+    match kind {
+        ErrorKind::OutOfMemory => Fault::NoMemory,
+        _ => Fault::ReadFailed,
+    }
+}
+
 /// All bytes of the input, where they are within the limit.
 pub fn read_input<R: Read>(alloc: Global, reader: &mut R) -> Result<Vec<u8>, Fault> {
     let mut bytes = Vec::new(alloc);
@@ -18,12 +26,7 @@ pub fn read_input<R: Read>(alloc: Global, reader: &mut R) -> Result<Vec<u8>, Fau
         .read_to_end(&mut bytes)
     {
         Ok(_) => {}
-        Err(error) => {
-            return Err(match error.kind() {
-                ErrorKind::OutOfMemory => Fault::NoMemory,
-                _ => Fault::ReadFailed,
-            });
-        }
+        Err(error) => return Err(read_fault(error.kind())),
     }
     if bytes.len() > INPUT_LIMIT {
         return Err(Fault::ReadFailed);
@@ -43,7 +46,7 @@ pub fn read_line<R: Read>(alloc: Global, reader: &mut R) -> Result<Vec<u8>, Faul
             Ok(_) if line.len() == INPUT_LIMIT => return Err(Fault::ReadFailed),
             Ok(_) if byte[0] == b'\n' => return Ok(line),
             Ok(_) => line.push(byte[0])?,
-            Err(_) => return Err(Fault::ReadFailed),
+            Err(error) => return Err(read_fault(error.kind())),
         }
     }
     Err(Fault::ReadFailed)

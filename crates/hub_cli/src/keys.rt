@@ -5,7 +5,7 @@ ghost use Rattle.hub_http.specs.Fields.{is_visible};
 ghost use Rattle.hub_cli.specs.Keys as spec;
 
 use hub::Key;
-use sha2::{Digest, Sha256};
+use hub_http::key_of_text;
 
 fn has_visible_alone(line: &[u8]) -> bool
     ensures { result ≡ list_all is_visible line.now }
@@ -27,7 +27,7 @@ pub fn line_key(line: &[u8]) -> Key
     ensures { result ≡ spec.line_key line.now }
 {
     if is_key(line) {
-        Key::Digest(Sha256::digest(line))
+        key_of_text(line)
     } else {
         Key::Absent
     }

@@ -8,3 +8,4 @@ pub mod Readings
 pub mod AnswersStand
 pub mod Replied
 pub mod WrittenAlike
+pub mod Statuses

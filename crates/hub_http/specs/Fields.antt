@@ -62,10 +62,14 @@ is_bearer value =
     nat_le 8 (length value) && nat_le (length value) 135
     && same_name (take 7 value) (codes "Bearer ") && list_all is_visible (drop 7 value)
 
--- who asks: the digest of the key in the one Authorization field
+-- who shows a key: its SHA-256
+abbrev pub key_shown : List ℕ → Key
+key_shown text = Digest (sha256 text)
+
+-- who asks: by the key in the one Authorization field
 unfoldable pub key_in : List (List ℕ) → Key
 key_in [] = Absent
-key_in (value ∷ []) = if is_bearer value then Digest (sha256 (drop 7 value)) else Absent
+key_in (value ∷ []) = if is_bearer value then key_shown (drop 7 value) else Absent
 key_in (value ∷ other ∷ rest) = Absent
 
 abbrev pub key_of : List Pair → Key

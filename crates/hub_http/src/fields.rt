@@ -6,7 +6,7 @@ ghost use Rattle.std.specs.Char.{is_ascii_digit, to_ascii_lowercase};
 ghost use Rattle.std.specs.Str.Parse.{digits_value};
 ghost use Rattle.httparse.specs.Borrowed.{header_parts};
 ghost use Rattle.hub_http.specs.Texts.{IsText};
-ghost use Rattle.hub_http.specs.Fields.{same_name, field_values, is_digits, length_text, wanted_length, body_length, is_visible, is_bearer, key_in, key_of, lacks};
+ghost use Rattle.hub_http.specs.Fields.{same_name, field_values, is_digits, length_text, wanted_length, body_length, is_visible, is_bearer, key_in, key_of, key_shown, lacks};
 ghost use Rattle.hub_http.specs.Texts.{IsSole};
 
 use crate::spelling::has_digits_alone;
@@ -142,6 +142,13 @@ fn has_visible_alone(text: &[u8]) -> bool
     text.iter().all(|b| 33 <= *b && *b <= 126)
 }
 
+/// Who shows a key: its SHA-256.
+pub fn key_of_text(text: &[u8]) -> Key
+    ensures { result ≡ key_shown text.now }
+{
+    Key::Digest(Sha256::digest(text))
+}
+
 /// Who asks.
 #[tactic(auto, unfolding(crate::specs::Fields::key_in))]
 pub(crate) fn read_key(fields: &[Header<'_>]) -> Key
@@ -150,7 +157,7 @@ pub(crate) fn read_key(fields: &[Header<'_>]) -> Key
     match field_of(fields, "authorization") {
         Sole::One(value) => {
             if is_bearer_value(value) {
-                Key::Digest(Sha256::digest(&value[7..]))
+                key_of_text(&value[7..])
             } else {
                 Key::Absent
             }

@@ -7,7 +7,7 @@
 //!
 //! - `serve`: [`serve_one`], one connection: a request is read, answered, and the reply written;
 //! - `wire`: [`request_of`], from the bytes to the key and the request; `wire_fault`: what may be wrong with them;
-//! - `fields`: what the fields of a head say, how long the body is and who asks;
+//! - `fields`: what the fields of a head say, how long the body is and who asks ([`key_of_text`]);
 //! - `routes`: which route a method and a path have; `requests`: the request of a route, from its `parameters`, whose
 //!   texts `spelling` reads; `request_fault`: what may be wrong with these;
 //! - `bodies`: the body of a reply as a JSON value; `reply`: [`reply_bytes`], [`body_text`] and [`fault_bytes`];
@@ -30,6 +30,7 @@ mod wire;
 mod wire_fault;
 
 pub use both::told_by_both;
+pub use fields::key_of_text;
 pub use reply::{body_text, fault_bytes, reply_bytes};
 pub use serve::{ServeFault, Served, serve_one};
 pub use wire::request_of;

@@ -42,16 +42,13 @@ fn fault_status(fault: WireFault) -> Option<StatusCode>
     }
 }
 
+#[tactic(auto, using(crate::proofs::Statuses::status_known))]
 fn code_status(code: Code) -> StatusCode
     ensures { result ≡ status_of_code code }
 {
-    match code {
-        Code::K1 => StatusCode::UNAUTHORIZED,
-        Code::W1 | Code::W2 | Code::W3 => StatusCode::FORBIDDEN,
-        Code::B1 => StatusCode::UNPROCESSABLE_ENTITY,
-        Code::N1 | Code::N2 | Code::N3 => StatusCode::NOT_FOUND,
-        Code::S1 | Code::S2 | Code::S3 | Code::L1 => StatusCode::CONFLICT,
-        Code::F1 | Code::F2 => StatusCode::SERVICE_UNAVAILABLE,
+    match StatusCode::from_u16(code.status()) {
+        Ok(status) => status,
+        Err(_) => unreachable!(),
     }
 }
 
