@@ -146,14 +146,16 @@ impl Rows {
         }
     }
 
-    /// How many recipients would stand; one is counted again that is addressed again.
+    /// How many recipients would stand; one that is addressed again is there once.
     fn recipients_then(&self, request: &Request) -> usize {
         let Some(incident) = incident_of(request) else {
             return 0;
         };
         let count = self.recipients_of(incident);
         match request {
-            Request::Address { .. } => count.saturating_add(1),
+            Request::Address { incident, target } => {
+                count.saturating_add(usize::from(!self.has_recipient(*incident, *target)))
+            }
             Request::Unaddress { incident, target } if self.has_recipient(*incident, *target) => {
                 count.saturating_sub(1)
             }
@@ -161,7 +163,7 @@ impl Rows {
         }
     }
 
-    /// How many permissions would stand; one is counted again that is given again.
+    /// How many permissions would stand; one that is given again is there once.
     fn permissions_then(&self, request: &Request) -> usize {
         let Some(incident) = incident_of(request) else {
             return 0;
@@ -169,7 +171,15 @@ impl Rows {
         let count = self.permissions_of(incident);
         match request {
             Request::Replace { .. } => 0,
-            Request::Grant { path, .. } if is_pointer(path.as_str()) => count.saturating_add(1),
+            Request::Grant {
+                incident,
+                path,
+                grantee,
+                ..
+            } if is_pointer(path.as_str()) => {
+                let is_new = !self.has_permission(*incident, path.as_str(), *grantee);
+                count.saturating_add(usize::from(is_new))
+            }
             Request::Withdraw {
                 incident,
                 path,

@@ -1,5 +1,5 @@
 -- A recipient more or less leaves a sound state.
-use Rattle.std.proofs.Common.{◌≡◌, ℕ, ◌≤◌, ◌==◌, not, List, None, subst}
+use Rattle.std.proofs.Common.{◌≡◌, ℕ, ◌≤◌, ◌==◌, not, List, None, filter, subst}
 use Rattle.std.proofs.lemmas.Bool.{ltb-false, not-false}
 use Rattle.circle.specs.Ordered.{put_by}
 use Rattle.circle.specs.declared.directory.Person.{Person}
@@ -16,7 +16,7 @@ use Rattle.hub_core.specs.Orders.{recipient_total}
 use Rattle.hub_core.proofs.Keys.{apart_recipient}
 use Rattle.hub_core.proofs.Named.{own, is_incident, counted_is, target_is}
 use Rattle.hub_core.proofs.Limits.{limit_put}
-use Rattle.hub_core.proofs.Keeping.{count_left, at_most}
+use Rattle.hub_core.proofs.Keeping.{count_left, at_most, none_taken}
 
 with_recipients : (s : State) (rows : List Recipient) → IsSound s → SoundRecipients s.directory s.incidents rows → IsSound (record s { recipients = rows })
 with_recipients s rows h new = record { directory = h.directory; incidents = h.incidents; gates = h.gates; recipients = new; permissions = h.permissions }
@@ -27,7 +27,10 @@ address_kept s a n target h fine =
     let row : Recipient = record { incident = n; target = target } in
     let it = own s a n p.1.0 in
     let few : recipients_then s a (ask.Address n target) ≤ 64 = ltb-false 64 _ p.1.1.1.1.0 in
-    let here : recipients_of n (put_by recipient_cmp row s.recipients) ≤ 64 = subst (λ m. m ≤ 64) (counted_is s n it.incident (λ m. recipients_of m (changed s a (ask.Address n target)).recipients) it.found) few in
+    let rest = filter (λ (r : Recipient). not (is_recipient_being n target r)) s.recipients in
+    let whole : rest ≡ s.recipients = none_taken (is_recipient_being n target) s.recipients p.1.1.1.0 in
+    let here : recipients_of n (put_by recipient_cmp row s.recipients) ≤ 64 =
+    subst (λ rows. recipients_of n (put_by recipient_cmp row rows) ≤ 64) whole (subst (λ m. m ≤ 64) (counted_is s n it.incident (λ m. recipients_of m (put_by recipient_cmp row rest)) it.found) few) in
     with_recipients s _ h (record {
       rising = order_put recipient_cmp row s.recipients recipient_total (each_weaker _ _ s.recipients (λ r e. apart_recipient row r e) (none_of (is_recipient_being n target) s.recipients p.1.1.1.0)) h.recipients.rising;
       ends = each_put _ recipient_cmp row s.recipients (is_incident s n it.incident it.found) h.recipients.ends;

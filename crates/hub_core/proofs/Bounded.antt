@@ -82,11 +82,11 @@ recipients_told_left s n target m sound is =
     let few = at_most _ _ 64 (count_left (λ (r : Recipient). r.incident == n) (λ (r : Recipient). not (is_recipient_being n target r)) s.recipients) (few_recipients s n sound) in
     omega arith
 
-pub recipients_told_with : (s : State) (n : ℕ) (target : Target) (m k : ℕ) → IsSound s → m ≡ recipients_of n s.recipients → k ≡ min (m + 1) (2 ^ 32 - 1) →
-    k ≡ recipients_of n (edited (edit.PutRecipient (record { incident = n; target = target })) s).recipients
+pub recipients_told_with : (s : State) (n : ℕ) (target : Target) (m k : ℕ) → IsSound s → m ≡ recipients_of n (edited (edit.TakeRecipient (record { incident = n; target = target })) s).recipients → k ≡ min (m + 1) (2 ^ 32 - 1) →
+    k ≡ recipients_of n (edited (edit.PutRecipient (record { incident = n; target = target })) (edited (edit.TakeRecipient (record { incident = n; target = target })) s)).recipients
 recipients_told_with s n target m k sound is more =
-    let few = few_recipients s n sound in
-    let next = count_more (λ (r : Recipient). r.incident == n) recipient_cmp (record { incident = n; target = target }) s.recipients (eq-eqb n n refl) in
+    let few = at_most _ _ 64 (count_left (λ (r : Recipient). r.incident == n) (λ (r : Recipient). not (is_recipient_being n target r)) s.recipients) (few_recipients s n sound) in
+    let next = count_more (λ (r : Recipient). r.incident == n) recipient_cmp (record { incident = n; target = target }) (filter (λ (r : Recipient). not (is_recipient_being n target r)) s.recipients) (eq-eqb n n refl) in
     omega arith
 
 pub permissions_told_left : (s : State) (n : ℕ) (p : Tokens) (grantee : Grantee) (m : ℕ) → IsSound s → m ≡ permissions_of n (edited (edit.TakePermission n p grantee) s).permissions →
@@ -95,9 +95,9 @@ permissions_told_left s n p grantee m sound is =
     let few = at_most _ _ 64 (count_left (λ (x : Permission). x.incident == n) (λ (x : Permission). not (is_permission_being n p grantee x)) s.permissions) (few_permissions s n sound) in
     omega arith
 
-pub permissions_told_with : (s : State) (n : ℕ) (p : Tokens) (grantee : Grantee) (m k : ℕ) → IsSound s → m ≡ permissions_of n s.permissions → k ≡ min (m + 1) (2 ^ 32 - 1) →
-    k ≡ permissions_of n (edited (edit.PutPermission (record { incident = n; path = p; grantee = grantee })) s).permissions
+pub permissions_told_with : (s : State) (n : ℕ) (p : Tokens) (grantee : Grantee) (m k : ℕ) → IsSound s → m ≡ permissions_of n (edited (edit.TakePermission n p grantee) s).permissions → k ≡ min (m + 1) (2 ^ 32 - 1) →
+    k ≡ permissions_of n (edited (edit.PutPermission (record { incident = n; path = p; grantee = grantee })) (edited (edit.TakePermission n p grantee) s)).permissions
 permissions_told_with s n p grantee m k sound is more =
-    let few = few_permissions s n sound in
-    let next = count_more (λ (x : Permission). x.incident == n) permission_cmp (record { incident = n; path = p; grantee = grantee }) s.permissions (eq-eqb n n refl) in
+    let few = at_most _ _ 64 (count_left (λ (x : Permission). x.incident == n) (λ (x : Permission). not (is_permission_being n p grantee x)) s.permissions) (few_permissions s n sound) in
+    let next = count_more (λ (x : Permission). x.incident == n) permission_cmp (record { incident = n; path = p; grantee = grantee }) (filter (λ (x : Permission). not (is_permission_being n p grantee x)) s.permissions) (eq-eqb n n refl) in
     omega arith

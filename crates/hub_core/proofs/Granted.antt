@@ -5,11 +5,12 @@ use Rattle.std.specs.Option.{option_map_or}
 use Rattle.iodef_tree.specs.Text.{Bytes, Tokens}
 use Rattle.iodef_tree.specs.Pointer.{pointer_tokens}
 use Rattle.policy.specs.declared.permission.Grantee.{Grantee}
+use Rattle.circle.specs.Ordered.{put_by}
 use Rattle.circle.specs.declared.directory.Person.{Person}
 use Rattle.circle.proofs.Judged.{passed}
 use Rattle.circle.proofs.Keeping.{each_put, each_left, each_weaker, pairs_left, order_put, none_of}
 use Rattle.hub_core.specs.Aftermath.{changed}
-use Rattle.hub_core.specs.Documents.{at_pointer}
+use Rattle.hub_core.specs.Documents.{at_pointer, made_at}
 use Rattle.hub_core.specs.Edits.{after}
 use Rattle.hub_core.specs.Refusals.{grounds, refusal_of, is_grantee, permissions_then}
 use Rattle.hub_core.specs.Sound.{IsSound, SoundPermissions, IsGrantee}
@@ -21,7 +22,7 @@ use Rattle.hub_core.specs.Orders.{permission_total}
 use Rattle.hub_core.proofs.Keys.{apart_permission}
 use Rattle.hub_core.proofs.Named.{own, counted_is, grantee_is}
 use Rattle.hub_core.proofs.Limits.{limit_put}
-use Rattle.hub_core.proofs.Keeping.{count_left, at_most}
+use Rattle.hub_core.proofs.Keeping.{count_left, at_most, none_taken}
 
 with_permissions : (s : State) (rows : List Permission) → IsSound s → SoundPermissions s.directory s.incidents rows → IsSound (record s { permissions = rows })
 with_permissions s rows h new = record { directory = h.directory; incidents = h.incidents; gates = h.gates; recipients = h.recipients; permissions = new }
@@ -29,7 +30,7 @@ with_permissions s rows h new = record { directory = h.directory; incidents = h.
 -- at the path that the pointer names
 granted_at : (s : State) (n : ℕ) (o : Option Tokens) (grantee : Grantee) → IsSound s →
     option_map_or (is_class_of s.incidents n) o false ≡ true → option_map_or (λ p. has_permission n p grantee s) o false ≡ false → IsGrantee s.directory grantee →
-    permissions_of n (after (option_map_or (λ p. PutPermission (record { incident = n; path = p; grantee = grantee }) ∷ []) o []) s).permissions ≤ 64 →
+    permissions_of n (after (option_map_or (λ p. TakePermission n p grantee ∷ PutPermission (record { incident = n; path = p; grantee = grantee }) ∷ []) o []) s).permissions ≤ 64 →
     IsSound (after (option_map_or (λ p. PutPermission (record { incident = n; path = p; grantee = grantee }) ∷ []) o []) s)
 granted_at s n None grantee h class new known few = h
 granted_at s n (Some p) grantee h class new known few =
@@ -38,7 +39,7 @@ granted_at s n (Some p) grantee h class new known few =
       rising = order_put permission_cmp row s.permissions permission_total (each_weaker _ _ s.permissions (λ x e. apart_permission row x e) (none_of (is_permission_being n p grantee) s.permissions new)) h.permissions.rising;
       places = each_put _ permission_cmp row s.permissions class h.permissions.places;
       grantees = each_put _ permission_cmp row s.permissions known h.permissions.grantees;
-      limit = limit_put (λ (x : Permission). x.incident) permission_cmp 64 row s.permissions s.incidents few h.permissions.limit;
+      limit = limit_put (λ (x : Permission). x.incident) permission_cmp 64 row s.permissions s.incidents (subst (λ rows. permissions_of n (put_by permission_cmp row rows) ≤ 64) (none_taken (is_permission_being n p grantee) s.permissions new) few) h.permissions.limit;
     })
 
 pub grant_kept : (s : State) (a : Person) (n revision : ℕ) (path : Bytes) (grantee : Grantee) → IsSound s → refusal_of s a (ask.Grant n revision path grantee) ≡ None → IsSound (changed s a (ask.Grant n revision path grantee))
@@ -47,7 +48,7 @@ grant_kept s a n revision path grantee h fine =
     let it = own s a n p.1.1.0 in
     let few : permissions_then s a (ask.Grant n revision path grantee) ≤ 64 = ltb-false 64 _ p.1.1.1.1.1.1.1.0 in
     granted_at s n (pointer_tokens path) grantee h (not-false (at_pointer (is_class_of s.incidents n) path) p.1.1.1.1.0) p.1.1.1.1.1.0 (grantee_is s.directory a.org grantee h.directory (not-false (is_grantee s.directory a.org grantee) p.1.1.1.0))
-    (subst (λ m. m ≤ 64) (counted_is s n it.incident (λ m. permissions_of m (changed s a (ask.Grant n revision path grantee)).permissions) it.found) few)
+    (subst (λ m. m ≤ 64) (counted_is s n it.incident (λ m. permissions_of m (after (made_at (λ p. TakePermission n p grantee ∷ PutPermission (record { incident = n; path = p; grantee = grantee }) ∷ []) path) s).permissions) it.found) few)
 
 withdrawn_at : (s : State) (n : ℕ) (o : Option Tokens) (grantee : Grantee) → IsSound s → IsSound (after (option_map_or (λ p. TakePermission n p grantee ∷ []) o []) s)
 withdrawn_at s n None grantee h = h

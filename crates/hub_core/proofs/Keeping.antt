@@ -1,5 +1,5 @@
 -- Rows put in and taken out: what is found, filtered and counted then.
-use Rattle.std.proofs.Common.{◌≡◌, ℕ, ◌+◌, ◌≤◌, ◌<◌, ◌==◌, ◌||◌, Bool, true, false, if◌then◌else◌, List, [], ◌∷◌, filter, Option, Some, None, refl, sym, ap, ◌∙◌, subst, arith}
+use Rattle.std.proofs.Common.{◌≡◌, ℕ, ◌+◌, ◌≤◌, ◌<◌, ◌==◌, ◌||◌, not, Bool, true, false, if◌then◌else◌, List, [], ◌∷◌, filter, Option, Some, None, refl, sym, ap, ◌∙◌, subst, arith}
 use Rattle.std.proofs.lemmas.Bool.{both_ways, false_from_ne_true}
 use Rattle.std.specs.Prelude.{count_by, find, is_some}
 use Rattle.std.specs.List.{list_any, list_all}
@@ -30,6 +30,15 @@ numbers_above number n [] h = tt
 numbers_above number n (x ∷ xs) h =
     let first : number x ≡ n + 1 = h.0 in
     (omega arith, each_weaker (λ y. n + 1 < number y) (λ y. n < number y) xs (λ y e. omega arith) (numbers_above number (n + 1) xs h.1))
+
+-- where nothing passes, taking out what passes leaves all
+pub none_taken : {X : Type 0} (p : X → Bool) (xs : List X) → list_any p xs ≡ false → filter (λ x. not (p x)) xs ≡ xs
+none_taken p [] h = refl
+none_taken p (x ∷ xs) h = split (p x) h (none_taken p xs)
+  where
+    split : (b : Bool) → (b || list_any p xs) ≡ false → (list_any p xs ≡ false → filter (λ y. not (p y)) xs ≡ xs) → (if not b then x ∷ filter (λ y. not (p y)) xs else filter (λ y. not (p y)) xs) ≡ x ∷ xs
+    split true k rest = cc
+    split false k rest = ap (λ ys. x ∷ ys) (rest k)
 
 -- ---- what is found
 

@@ -9,9 +9,6 @@ ghost use Rattle.hub_core.specs.Refusals.{incident_asked, gates_then, recipients
 ghost use Rattle.hub_core.specs.Shelves.{HasFailed, IsKept};
 ghost use Rattle.hub_core.specs.State.{State, class_gates, recipients_of, permissions_of};
 ghost use Rattle.hub_core.specs.declared.edit.Edit.TheVariants as edit;
-ghost use Rattle.hub_core.specs.declared.request.Target.{Target as Addressed};
-ghost use Rattle.iodef_tree.specs.Text.{Tokens};
-ghost use Rattle.policy.specs.declared.permission.Grantee.{Grantee as Granted};
 
 use crate::look_ups::LookUps;
 use crate::named_there::path_of;
@@ -19,6 +16,7 @@ use crate::request::{Request, Target};
 use crate::shelf::ShelfFault;
 use crate::small_counts::capped;
 use circle::text::Text;
+use iodef_tree::Path;
 use policy::Grantee;
 use std::alloc::Global;
 
@@ -30,20 +28,37 @@ pub(crate) struct Counts {
     pub(crate) permissions: u32,
 }
 
-fn recipients_with<L: LookUps>(shelf: &mut L, incident: u32) -> Result<u32, ShelfFault>
-    ensures value { L.doubts shelf.new ≡ 0 → (s : State) → L.has shelf.old s → IfOk result (λ n. (target : Addressed) → n ≡ recipients_of incident (after (edit.PutRecipient (record { incident = incident; target = target }) ∷ []) s).recipients) }
+fn recipients_with<L: LookUps>(
+    shelf: &mut L,
+    incident: u32,
+    target: Target,
+) -> Result<u32, ShelfFault>
+    ensures value { L.doubts shelf.new ≡ 0 → (s : State) → L.has shelf.old s → IfOk result (λ n. n ≡ recipients_of incident (after (edit.TakeRecipient (record { incident = incident; target = target }) ∷ edit.PutRecipient (record { incident = incident; target = target }) ∷ []) s).recipients) }
     ensures kept { IsKept L.has L.doubts L.failed L.may_leave shelf.old shelf.new }
     ensures cause { IsErrOf result ShelfFault.Failed → HasFailed (L.failed shelf.old) (L.failed shelf.new) }
 {
-    Ok(shelf.recipient_count(incident)?.saturating_add(1))
+    Ok(
+        shelf
+            .recipients_without(incident, target)?
+            .saturating_add(1),
+    )
 }
 
-fn permissions_with<L: LookUps>(shelf: &mut L, incident: u32) -> Result<u32, ShelfFault>
-    ensures value { L.doubts shelf.new ≡ 0 → (s : State) → L.has shelf.old s → IfOk result (λ n. (path : Tokens) → (grantee : Granted) → n ≡ permissions_of incident (after (edit.PutPermission (record { incident = incident; path = path; grantee = grantee }) ∷ []) s).permissions) }
+fn permissions_with<L: LookUps>(
+    shelf: &mut L,
+    incident: u32,
+    path: &Path,
+    grantee: Grantee,
+) -> Result<u32, ShelfFault>
+    ensures value { L.doubts shelf.new ≡ 0 → (s : State) → L.has shelf.old s → IfOk result (λ n. n ≡ permissions_of incident (after (edit.TakePermission incident path.now grantee ∷ edit.PutPermission (record { incident = incident; path = path.now; grantee = grantee }) ∷ []) s).permissions) }
     ensures kept { IsKept L.has L.doubts L.failed L.may_leave shelf.old shelf.new }
     ensures cause { IsErrOf result ShelfFault.Failed → HasFailed (L.failed shelf.old) (L.failed shelf.new) }
 {
-    Ok(shelf.permission_count(incident)?.saturating_add(1))
+    Ok(
+        shelf
+            .permissions_without(incident, path, grantee)?
+            .saturating_add(1),
+    )
 }
 
 fn gates_redistributed<L: LookUps>(
@@ -67,14 +82,15 @@ fn permissions_granted<L: LookUps>(
     alloc: Global,
     incident: u32,
     path: &Text,
+    grantee: Grantee,
 ) -> Result<u32, ShelfFault>
-    ensures value { L.doubts shelf.new ≡ 0 → (s : State) → L.has shelf.old s → IfOk result (λ k. (grantee : Granted) → k ≡ permissions_of incident (after (made_at (λ p. edit.PutPermission (record { incident = incident; path = p; grantee = grantee }) ∷ []) path.now) s).permissions) }
+    ensures value { L.doubts shelf.new ≡ 0 → (s : State) → L.has shelf.old s → IfOk result (λ k. k ≡ permissions_of incident (after (made_at (λ p. edit.TakePermission incident p grantee ∷ edit.PutPermission (record { incident = incident; path = p; grantee = grantee }) ∷ []) path.now) s).permissions) }
     ensures kept { IsKept L.has L.doubts L.failed L.may_leave shelf.old shelf.new }
     ensures cause { IsErrOf result ShelfFault.Failed → HasFailed (L.failed shelf.old) (L.failed shelf.new) }
 {
     match path_of(alloc, path)? {
         None => shelf.permission_count(incident),
-        Some(_) => permissions_with(shelf, incident),
+        Some(path) => permissions_with(shelf, incident, &path, grantee),
     }
 }
 
@@ -128,7 +144,7 @@ fn find_recipients<L: LookUps>(shelf: &mut L, request: &Request) -> Result<u32, 
     ensures cause { IsErrOf result ShelfFault.Failed → HasFailed (L.failed shelf.old) (L.failed shelf.new) }
 {
     let count = match request {
-        Request::Address { incident, .. } => recipients_with(shelf, *incident)?,
+        Request::Address { incident, target } => recipients_with(shelf, *incident, *target)?,
         Request::Unaddress { incident, target } => shelf.recipients_without(*incident, *target)?,
         Request::Replace { incident, .. } => shelf.recipient_count(*incident)?,
         Request::Redistribute { incident, .. }
@@ -152,9 +168,12 @@ fn find_permissions<L: LookUps>(
     ensures cause { IsErrOf result ShelfFault.Failed → HasFailed (L.failed shelf.old) (L.failed shelf.new) }
 {
     let count = match request {
-        Request::Grant { incident, path, .. } => permissions_granted(
-            shelf, alloc, *incident, path,
-        )?,
+        Request::Grant {
+            incident,
+            path,
+            grantee,
+            ..
+        } => permissions_granted(shelf, alloc, *incident, path, *grantee)?,
         Request::Withdraw {
             incident,
             path,

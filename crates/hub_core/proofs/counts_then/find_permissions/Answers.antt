@@ -12,7 +12,7 @@ pub returns-in_ok-count-in-Grant-clause-value : goal.returns-in_ok-count-in-Gran
 returns-in_ok-count-in-Grant-clause-value g c = λ clean s has there actor.
     let found = c.in_ok-count-in-Grant in
     let P : Request → Type 0 = λ r. is_some (looked_up s (incident_asked r)) ≡ true → found.count ≡ permissions_then s actor r in
-    subst P (sym c.in-Grant.is) (λ known. where_there _ _ _ known (found.ensures.value clean s has c.in-Grant.grantee)) there
+    subst P (sym c.in-Grant.is) (λ known. where_there _ _ _ known (found.ensures.value clean s has)) there
 
 pub returns-in-Replace-clause-value : goal.returns-in-Replace-clause-value
 returns-in-Replace-clause-value g c = λ clean s has there actor.
