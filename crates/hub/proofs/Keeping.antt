@@ -22,7 +22,7 @@ pub kept_read : {D T : Type 0} {has : D → State → Type 0} {doubts failed : D
 kept_read read = record { later = read.cause.later; doubt = read.doubt; content = read.content; crash = read.crash }
 
 -- the content alone
-pub content_on : {D : Type 0} {has : D → State → Type 0} {doubts failed : D → ℕ} {may_leave : D → State → Type 0} {old mid new : D} →
+pub content_on : {D : Type 0} {has : D → State → Type 0} {doubts failed : D → ℕ} {may_leave : D → Option State → Type 0} {old mid new : D} →
     KeepsContent has doubts failed may_leave old mid → doubts mid ≤ doubts new → KeepsContent has doubts failed may_leave mid new → KeepsContent has doubts failed may_leave old new
 content_on {doubts = doubts} {mid = mid} first doubt then = λ clean s has. let before : doubts mid ≡ 0 = omega (arith, doubt, clean) in then clean s (first before s has)
 

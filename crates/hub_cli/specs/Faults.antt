@@ -1,4 +1,4 @@
--- Why a command over a store isn't done: the name that is told, and how the program ends.
+-- Why a command over a store isn't done: the name that is told, with the reason where there is one, and how the program ends.
 use Rattle.std.specs.Prelude.{codes}
 use Rattle.iodef_tree.specs.Text.{Bytes}
 use Rattle.hub_core.specs.declared.shelf.ShelfFault.{ShelfFault}
@@ -6,7 +6,8 @@ use Rattle.hub_core.specs.declared.shelf.ShelfFault.TheVariants as shelf
 use Rattle.hub_store.specs.declared.sql_shelf.OpenFault.{OpenFault}
 use Rattle.hub_store.specs.declared.sql_shelf.OpenFault.TheVariants as opening
 use Rattle.hub_cli.specs.declared.fault.Fault.{Fault}
-use Rattle.hub_cli.specs.declared.fault.Fault.TheVariants.{BadArgument, NotOurs, WrongVersion, Failed, ListenFailed, ReadFailed, WriteFailed, NoMemory}
+use Rattle.hub_cli.specs.declared.fault.Fault.TheVariants.{BadArgument, NotOurs, WrongVersion, Failed, NotOpened, ListenFailed, ReadFailed, WriteFailed, NoMemory}
+use Rattle.hub_cli.specs.declared.fault.Reason.TheVariants.{NoSuchFile, NoPermission, Locked, DiskFull}
 use Rattle.hub_cli.specs.declared.status.Status.{Status}
 use Rattle.hub_cli.specs.declared.status.Status.TheVariants as status
 
@@ -15,6 +16,10 @@ fault_name BadArgument = codes "B1"
 fault_name NotOurs = codes "NotOurs"
 fault_name WrongVersion = codes "WrongVersion"
 fault_name Failed = codes "Failed"
+fault_name (NotOpened NoSuchFile) = codes "Failed: no such file"
+fault_name (NotOpened NoPermission) = codes "Failed: no permission"
+fault_name (NotOpened Locked) = codes "Failed: locked by another program"
+fault_name (NotOpened DiskFull) = codes "Failed: disk full"
 fault_name ListenFailed = codes "ListenFailed"
 fault_name ReadFailed = codes "ReadFailed"
 fault_name WriteFailed = codes "WriteFailed"

@@ -34,7 +34,7 @@ fn reply_to<Sh: Shelf>(
 
 /// The reply to who has the first line of the input as key, at the present moment. It knows no more of the shelf than any
 /// shelf promises, which is all that its proof has to carry from call to call.
-fn reply_to_input<Sh: Shelf, R: Read, C: Clock>(
+pub fn reply_to_input<Sh: Shelf, R: Read, C: Clock>(
     alloc: Global,
     hub: &mut Hub<Sh>,
     clock: &C,

@@ -293,10 +293,10 @@ fn faults_of_explain_in_order(rt: HostRuntime) -> io::Result<()> {
         tells(
             &["explain", "", "99", "9", "a"],
             line,
-            "Failed\n",
+            "Failed: no such file\n",
             Status::Failed,
         ),
-        tells(asked, line, "Failed\n", Status::Failed),
+        tells(asked, line, "Failed: no such file\n", Status::Failed),
         made(),
         tells(asked, line, "ReadFailed\n", Status::Failed),
     ];

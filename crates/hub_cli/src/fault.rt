@@ -6,6 +6,16 @@ ghost use Rattle.hub_cli.specs.declared.fault.Fault.TheVariants.{NoMemory};
 use crate::status::Status;
 use std::alloc::{AllocError, AllocFailed};
 
+/// Why a store's file isn't opened, where the system tells it.
+#[derive(Clone, Copy, Debug, PartialEq, Eq)]
+pub enum Reason {
+    NoSuchFile,
+    NoPermission,
+    /// Another program has it open.
+    Locked,
+    DiskFull,
+}
+
 /// Why a command over a store isn't done.
 #[derive(Clone, Copy, Debug, PartialEq, Eq)]
 pub enum Fault {
@@ -17,6 +27,8 @@ pub enum Fault {
     WrongVersion,
     /// The store failed, or its file can't be opened.
     Failed,
+    /// The store's file can't be opened, for this reason.
+    NotOpened(Reason),
     /// The port can't be bound.
     ListenFailed,
     /// Standard input can't be read, a connection can't be accepted, or the clock can't be read.
@@ -26,7 +38,7 @@ pub enum Fault {
 }
 
 impl Fault {
-    /// The fault's name.
+    /// The fault's name, and behind it the reason, where there is one.
     pub fn name(self) -> &'static str
         ensures { result.now ≡ fault_name self }
     {
@@ -35,6 +47,10 @@ impl Fault {
             Fault::NotOurs => "NotOurs",
             Fault::WrongVersion => "WrongVersion",
             Fault::Failed => "Failed",
+            Fault::NotOpened(Reason::NoSuchFile) => "Failed: no such file",
+            Fault::NotOpened(Reason::NoPermission) => "Failed: no permission",
+            Fault::NotOpened(Reason::Locked) => "Failed: locked by another program",
+            Fault::NotOpened(Reason::DiskFull) => "Failed: disk full",
             Fault::ListenFailed => "ListenFailed",
             Fault::ReadFailed => "ReadFailed",
             Fault::WriteFailed => "WriteFailed",

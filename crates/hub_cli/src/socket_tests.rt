@@ -1,5 +1,6 @@
 //! Connections over loopback.
 
+use crate::asking::reply_to_input;
 use crate::cases::first_wrong;
 use crate::clock::seconds;
 use crate::fault::Fault;
@@ -11,7 +12,7 @@ use crate::store::{close, open_store};
 use crate::store_tests::{ABC, change, made, new_path, remove};
 use circle::name::Name;
 use hub::Hub;
-use hub_core::{ListShelf, Shelf};
+use hub_core::{ListShelf, Request, Shelf};
 use std::io;
 use std::io::{ErrorKind, Read, Write};
 use std::net::{Ipv4Addr, TcpListener, TcpStream};
@@ -84,6 +85,31 @@ fn moments_of_clocks(rt: HostRuntime) {
     assert!(rt; seconds(&At(0)) == Ok(0));
     assert!(rt; seconds(&At(i64::MAX as u64)) == Ok(i64::MAX));
     assert!(rt; seconds(&At(1 << 63)) == Err(Fault::ReadFailed));
+}
+
+/// An input for which there is no memory.
+#[derive(Drop)]
+struct Starved;
+
+impl Read for Starved {
+    fn read(&mut self, _buf: &mut [u8]) -> io::Result<usize> {
+        Err(io::Error::from(ErrorKind::OutOfMemory))
+    }
+}
+
+/// The input is read before the clock: where both fail, the input's failure is told.
+#[test]
+fn the_input_before_the_clock(rt: HostRuntime) -> io::Result<()> {
+    let mut hub = new_hub(&rt)?;
+    let asked = reply_to_input(
+        rt.alloc(),
+        &mut hub,
+        &Stopped,
+        &Request::WhoAmI,
+        &mut Starved,
+    );
+    assert!(rt; matches!(asked, Err(Fault::NoMemory)));
+    Ok(())
 }
 
 #[test]

@@ -2,7 +2,7 @@
 ghost use Rattle.std.specs.Prelude.{◌≡◌, false, IfOk};
 ghost use Rattle.hub_cli.specs.Faults.{told_of_shelf, told_of_opening};
 
-use crate::fault::Fault;
+use crate::fault::{Fault, Reason};
 use hub_core::ShelfFault;
 use hub_store::{OpenFault, SqlShelf};
 use sqlite::{Alter, Connection, Error, ErrorCode, File, FileStore};
@@ -37,19 +37,35 @@ pub fn open_fault(fault: OpenFault) -> Fault
     }
 }
 
+/// Why the system doesn't open the file.
+fn system_fault(kind: ErrorKind) -> Fault {
+    match kind {
+        ErrorKind::NotFound => Fault::NotOpened(Reason::NoSuchFile),
+        ErrorKind::PermissionDenied => Fault::NotOpened(Reason::NoPermission),
+        ErrorKind::StorageFull => Fault::NotOpened(Reason::DiskFull),
+        ErrorKind::OutOfMemory => Fault::NoMemory,
+        _ => Fault::Failed,
+    }
+}
+
+/// Why there is no connection over a file that is there.
+fn connection_fault(error: Error) -> Fault {
+    match error {
+        Error::SqliteFailure(ErrorCode::OutOfMemory) => Fault::NoMemory,
+        Error::SqliteFailure(ErrorCode::DatabaseBusy) => Fault::NotOpened(Reason::Locked),
+        _ => Fault::Failed,
+    }
+}
+
 /// A connection over the file that is there, and its log, which is made with the file's mode where it isn't there.
 pub fn connect(rt: &HostRuntime, path: &str) -> Result<Connection<FileStore<File>>, Fault>
     ensures { IfOk result (λ conn. conn.in_transaction ≡ false) }
 {
     // `Connection::open` would make a file that is missing.
-    if fs::metadata(rt, path).is_err() {
-        return Err(Fault::Failed);
+    if let Err(error) = fs::metadata(rt, path) {
+        return Err(system_fault(error.kind()));
     }
-    match Connection::open(rt, path) {
-        Ok(conn) => Ok(conn),
-        Err(Error::SqliteFailure(ErrorCode::OutOfMemory)) => Err(Fault::NoMemory),
-        Err(_) => Err(Fault::Failed),
-    }
+    Connection::open(rt, path).map_err(connection_fault)
 }
 
 /// Makes the file, for its owner alone, where there is none of the name. The names that the connection takes for no file are
@@ -64,7 +80,7 @@ fn make_file(rt: &HostRuntime, path: &str) -> Result<(), Fault> {
         .mode(0o600)
         .open(rt, path)
     {
-        Err(error) if error.kind() != ErrorKind::AlreadyExists => Err(Fault::Failed),
+        Err(error) if error.kind() != ErrorKind::AlreadyExists => Err(system_fault(error.kind())),
         _ => Ok(()),
     }
 }

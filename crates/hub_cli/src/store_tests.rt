@@ -3,7 +3,7 @@
 use crate::cases::{Case, STORE, first_wrong, prints, refused, tells};
 use crate::input::INPUT_LIMIT;
 use crate::status::Status;
-use crate::store::connect_or_make;
+use crate::store::{connect, connect_or_make};
 use std::io::ErrorKind;
 use std::net::{Ipv4Addr, TcpListener};
 use std::os::unix::fs::PermissionsExt;
@@ -60,7 +60,12 @@ fn names_and_digests_come_before_the_store(rt: HostRuntime) -> io::Result<()> {
         tells(&["init", "", "a\tb", ABC], "", "B1\n", Status::Refused),
         tells(&cut, "", "B1\n", Status::Refused),
         tells(&["init", "", "Hub", "abc"], "", "B1\n", Status::Refused),
-        tells(&["init", "", "Hub", ABC], "", "Failed\n", Status::Failed),
+        tells(
+            &["init", "", "Hub", ABC],
+            "",
+            "Failed: no such file\n",
+            Status::Failed,
+        ),
     ];
     assert_eq!(rt; first_wrong(&rt, "", &cases)?, None);
     Ok(())
@@ -83,7 +88,7 @@ fn a_file_that_is_missing(rt: HostRuntime) -> io::Result<()> {
     let serve = ["serve", STORE, port.as_str(), "0"];
     let line = line_of(&rt, INPUT_LIMIT + 1)?;
     let line = line.as_str();
-    let told = "Failed\n";
+    let told = "Failed: no such file\n";
     let cases = [
         tells(&serve, "", told, Status::Failed),
         tells(&["migrate", STORE], "", told, Status::Failed),
@@ -119,12 +124,27 @@ fn a_store_is_its_owners(rt: HostRuntime) -> io::Result<()> {
 /// Names that stand for no file.
 #[test]
 fn no_file_of_such_a_name(rt: HostRuntime) -> io::Result<()> {
+    let told = "Failed: no such file\n";
     for name in [":memory:", "file:hub.db"] {
-        let case = tells(&["init", STORE, "Hub", ABC], "", "Failed\n", Status::Failed);
+        let case = tells(&["init", STORE, "Hub", ABC], "", told, Status::Failed);
         assert_eq!(rt; first_wrong(&rt, name, &[case])?, None);
         assert!(rt; !fs::exists(&rt, name)?);
     }
     Ok(())
+}
+
+/// One at a time has the store open.
+#[test]
+fn a_store_in_another_hand(rt: HostRuntime) -> io::Result<()> {
+    let path = new_path(&rt, "locked")?;
+    let path = path.as_str();
+    assert_eq!(rt; first_wrong(&rt, path, &[made()])?, None);
+    let held = connect(&rt, path);
+    let told = "Failed: locked by another program\n";
+    let case = tells(&["view", STORE, "1"], "", told, Status::Failed);
+    assert_eq!(rt; first_wrong(&rt, path, &[case])?, None);
+    assert!(rt; held.is_ok());
+    remove(&rt, path)
 }
 
 #[test]

@@ -12,6 +12,7 @@ pub mod Means
 pub mod Parts
 pub mod Layout
 pub mod Content
+pub mod Shelved
 pub mod Laws
 pub mod Keeps
 pub mod Queries

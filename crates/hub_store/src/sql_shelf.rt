@@ -14,6 +14,7 @@ use hub_core::ShelfFault;
 use sqlite::{Alter, Connection};
 use sqlite_schema::schema::Schema;
 use std::alloc::Global;
+use std::marker::Model;
 
 /// The newest version of the tables.
 pub const NEWEST: u32 = 1;
@@ -30,13 +31,23 @@ pub enum OpenFault {
     NoMemory,
 }
 
-/// The hub's tables in a connection that is in no transaction between two calls.
+/// The hub's tables in a connection that is in no transaction between two calls. Contracts see the connection, and how often
+/// the store has failed.
 #[derive(Drop)]
 pub struct SqlShelf<S: Alter> {
     alloc: Global,
     conn: Connection<S>,
     failures: u64,
-    ghost idle: { conn.in_transaction ≡ false },
+}
+
+impl<S: Alter> Model for SqlShelf<S> {
+    ghost use Rattle.hub_store.specs.Shelved.{Shelved};
+
+    ghost Value = { Shelved S };
+
+    ghost view = { λ shelf. record { conn = shelf.conn; failures = shelf.failures } };
+
+    ghost invariant = { λ shelf. shelf.conn.in_transaction ≡ false };
 }
 
 fn is_blank(schema: &Schema) -> bool
@@ -142,7 +153,8 @@ impl<S: Alter> SqlShelf<S> {
 
     /// Gives the connection back, with the content as it was; takes no memory.
     pub fn release(self) -> Connection<S>
-        ensures { result ≡ self.conn }
+        ensures same { result ≡ self.conn }
+        ensures idle { result.in_transaction ≡ false }
     {
         let SqlShelf {
             alloc: _,
