@@ -3,7 +3,7 @@ use Rattle.std.proofs.Common.{◌≡◌, ◌≤◌, inl, inr, ℕ, arith}
 use Rattle.std.specs.Prelude.{Option, Result}
 use Rattle.std.proofs.lemmas.Bool.Decides.{leb_tells}
 use Rattle.hub_core.specs.State.{State}
-use Rattle.hub_core.specs.Shelves.{IsRead, KeepsContent, last_count}
+use Rattle.hub_core.specs.Shelves.{IsRead, last_count}
 use Rattle.hub_core.specs.declared.shelf.ShelfFault.{ShelfFault}
 use Rattle.hub_core.specs.Shelves.{HasFailed, IsKept}
 
@@ -20,11 +20,6 @@ kept_on {doubts = doubts} {old = old} {mid = mid} {new = new} first then = recor
 pub kept_read : {D T : Type 0} {has : D → State → Type 0} {doubts failed : D → ℕ} {may_leave : D → Option State → Type 0} {old new : D} {result : Result T ShelfFault} →
     IsRead has doubts failed may_leave old new result → IsKept has doubts failed may_leave old new
 kept_read read = record { later = read.cause.later; doubt = read.doubt; content = read.content; crash = read.crash }
-
--- the content alone
-pub content_on : {D : Type 0} {has : D → State → Type 0} {doubts failed : D → ℕ} {may_leave : D → Option State → Type 0} {old mid new : D} →
-    KeepsContent has doubts failed may_leave old mid → doubts mid ≤ doubts new → KeepsContent has doubts failed may_leave mid new → KeepsContent has doubts failed may_leave old new
-content_on {doubts = doubts} {mid = mid} first doubt then = λ clean s has. let before : doubts mid ≡ 0 = omega (arith, doubt, clean) in then clean s (first before s has)
 
 -- a failure stands whatever came before it, and whatever comes behind it
 pub failed_before : (a b c : ℕ) → a ≤ b → HasFailed b c → HasFailed a c

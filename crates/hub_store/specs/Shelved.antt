@@ -1,8 +1,14 @@
 -- The shelf over a connection, as its callers see it.
-use Rattle.std.specs.Prelude.{ℕ}
-use Rattle.sqlite.specs.Held.{Held}
+use Rattle.std.specs.Prelude.{ℕ, refl}
+use Rattle.std.specs.Coded.{Coded, code_by, coded×, coded_ℕ}
+use Rattle.sqlite.specs.Held.{Held, held_code}
 
 pub record Shelved (S : Type 0) : Type 0 where
   pub conn : Held S
   -- how often the store has failed
   pub failures : ℕ
+
+-- it is stored as the pair of its fields
+abbrev pub shelved_code : {S : Type 0} → Coded S → Coded (Shelved S)
+shelved_code {S} store =
+    code_by (Held S × ℕ) (coded× (held_code store) coded_ℕ) (λ h. (h.conn, h.failures)) (λ p. record { conn = p.0; failures = p.1 }) (λ _. refl)

@@ -41,9 +41,12 @@ pub struct SqlShelf<S: Alter> {
 }
 
 impl<S: Alter> Model for SqlShelf<S> {
-    ghost use Rattle.hub_store.specs.Shelved.{Shelved};
+    ghost use Rattle.std.specs.Prelude.{◌≡◌, false};
+    ghost use Rattle.hub_store.specs.Shelved.{Shelved, shelved_code};
 
     ghost Value = { Shelved S };
+
+    ghost coded = { shelved_code S.code };
 
     ghost view = { λ shelf. record { conn = shelf.conn; failures = shelf.failures } };
 

@@ -6,7 +6,6 @@ use Rattle.hub_core.specs.Refusals.{state_after}
 use Rattle.hub_core.proofs.Kept.{stays_sound}
 use Rattle.hub.specs.Serving.{made_reply}
 use Rattle.hub.proofs.Changing.{changed_reply}
-use Rattle.hub.proofs.Keeping.{content_on}
 use Rattle.hub.proofs.change.change.Goals as goal
 
 pub returns-in-Ok-apply-clause-step : goal.returns-in-Ok-apply-clause-step
@@ -61,4 +60,7 @@ pub returns-in-Ok-apply-clause-kept : goal.returns-in-Ok-apply-clause-kept
 returns-in-Ok-apply-clause-kept g c = λ unmade. absurd (true≢false (sym c.in_ok-reply.ensures.made ∙ unmade))
 
 pub returns-clause-kept : goal.returns-clause-kept
-returns-clause-kept g c = λ unmade. content_on c.in_ok-facts.ensures.kept.content c.in-Err-apply.ensures.doubt c.in-Err-apply.ensures.none
+returns-clause-kept g c = λ unmade clean s has.
+    let made = c.in-Err-apply.ensures in
+    let mid : g.Sh.Shelf.doubts c.facts.new.self ≡ 0 = omega (arith, made.doubt, clean) in
+    made.none clean s (c.in_ok-facts.ensures.kept.content mid s has)
