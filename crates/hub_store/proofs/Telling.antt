@@ -10,6 +10,7 @@ use Rattle.hub_core.specs.Shelves.{HasCause, IsRead}
 use Rattle.hub_core.specs.declared.shelf.ShelfFault.{ShelfFault}
 use Rattle.hub_store.specs.Queries.{IsReadOutside}
 use Rattle.hub_store.specs.Content.{Has, MayLeave}
+use Rattle.hub_store.specs.Shelved.{Shelved}
 use Rattle.hub_store.proofs.Runs.{knows, kept_has}
 
 -- what commits nothing leaves a crash what it left before
@@ -19,22 +20,29 @@ leaves_no_more old new left survives clean may = elim (survives.crash clean may.
   | inr none ↦ absurd none
 ]
 
+-- the shelf over a connection, with this count
+abbrev seen : {S : Type 0} → Held S → ℕ → Shelved S
+seen conn failures = record { conn = conn; failures = failures }
+
 -- a read of the connection is a read of the shelf
-pub read_keeps : {D S : Type 0} (g : store.Ghosts S) (conn : D → Held S) (failures : D → ℕ) (old new : D) {T : Type 0} (Right : core.State → T → Type 0) (outcome : Result T Error) (result : Result T ShelfFault)
-    → IsReadOutside (state g (conn old)) (state g (conn new)) Right outcome → HasCause (failures old) (failures new) result
-    → IsRead (λ d s. Has (state g (conn d)) s) (λ d. doubt (state g (conn d)).is_clean) failures (λ d left. MayLeave (state g (conn d)) left) old new result
-read_keeps g conn failures old new Right outcome result answers cause = record {
-  cause = cause;
-  doubt = answers.survives.clean;
-  content = λ clean s has. kept_has (state g (conn old)) (state g (conn new)) s (answers.kept clean (knows (state g (conn old)) s has)) has;
-  crash = λ clean left may. leaves_no_more (state g (conn old)) (state g (conn new)) left answers.survives clean may;
-}
+pub read_keeps : {S : Type 0} (g : store.Ghosts S) (conn : Held S) (failures : ℕ) (old new : Shelved S) {T : Type 0} (Right : core.State → T → Type 0) (outcome : Result T Error) (result : Result T ShelfFault)
+    → seen conn failures ≡ old → IsReadOutside (state g conn) (state g new.conn) Right outcome → HasCause failures new.failures result
+    → IsRead (λ (d : Shelved S) s. Has (state g d.conn) s) (λ (d : Shelved S). doubt (state g d.conn).is_clean) (λ (d : Shelved S). d.failures) (λ (d : Shelved S) left. MayLeave (state g d.conn) left) old new result
+read_keeps {S} g conn failures old new Right outcome result same answers cause =
+    subst (λ (h : Shelved S). IsRead (λ (d : Shelved S) s. Has (state g d.conn) s) (λ (d : Shelved S). doubt (state g d.conn).is_clean) (λ (d : Shelved S). d.failures) (λ (d : Shelved S) left. MayLeave (state g d.conn) left) h new result) same
+    (record {
+      cause = cause;
+      doubt = answers.survives.clean;
+      content = λ clean s has. kept_has (state g conn) (state g new.conn) s (answers.kept clean (knows (state g conn) s has)) has;
+      crash = λ clean left may. leaves_no_more (state g conn) (state g new.conn) left answers.survives clean may;
+    })
 
 -- what was found is right, where it is told
-pub read_value : {S : Type 0} (g : store.Ghosts S) (old new : Held S) {T : Type 0} (Right : core.State → T → Type 0) (outcome : Result T Error) (result : Result T ShelfFault)
-    → IsReadOutside (state g old) (state g new) Right outcome → IfOk result (λ x. outcome ≡ Ok x) → HasCleanDisk (state g new) → (s : core.State) → Has (state g old) s → IfOk result (Right s)
-read_value g old new Right outcome (Ok x) answers told clean s has = subst (λ r. IfOk r (Right s)) told (answers.right clean s has)
-read_value g old new Right outcome (Err fault) answers told clean s has = tt
+pub read_value : {S : Type 0} (g : store.Ghosts S) (conn : Held S) (failures : ℕ) (old : Shelved S) (new : Held S) {T : Type 0} (Right : core.State → T → Type 0) (outcome : Result T Error) (result : Result T ShelfFault)
+    → seen conn failures ≡ old → IsReadOutside (state g conn) (state g new) Right outcome → IfOk result (λ x. outcome ≡ Ok x) → HasCleanDisk (state g new) → (s : core.State) → Has (state g old.conn) s → IfOk result (Right s)
+read_value {S} g conn failures old new Right outcome (Ok x) same answers told clean s has =
+    subst (λ r. IfOk r (Right s)) told (answers.right clean s (subst (λ (h : Shelved S). Has (state g h.conn) s) (sym same) has))
+read_value g conn failures old new Right outcome (Err fault) same answers told clean s has = tt
 
 pub err_only : {T E F : Type 0} (made : Result T E) (told : Result T F) (A K Q : Type 0) → IfOk made (λ x. told ≡ Ok x) → (A → OnErr made K) → ((A → K) → Q) → OnErr told Q
 err_only (Ok x) told A K Q given none f = subst (λ r. OnErr r Q) (sym given) tt
