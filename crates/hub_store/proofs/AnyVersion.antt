@@ -11,17 +11,16 @@ use Rattle.sqlite_resolve.specs.declared.error.CompileError.{CompileError}
 use Rattle.sqlite_resolve.specs.declared.error.CompileError.TheVariants.{NoSuchTable}
 use Rattle.sqlite_resolve.specs.Compile.{compiled}
 use Rattle.sqlite_tied.specs.Compute.{everything}
-use Rattle.sqlite_trees.specs.declared.error.StoreError.{StoreError}
-use Rattle.sqlite_trees.specs.declared.error.StoreError.TheVariants.{OutOfMemory, Io, Corrupt, Full, Broken, Unstorable}
 use Rattle.sqlite.specs.declared.error.Error.{Error}
 use Rattle.sqlite.specs.declared.error.Error.TheVariants.{SqliteFailure}
 use Rattle.sqlite.specs.declared.error.ErrorCode.TheVariants as code
 use Rattle.sqlite.specs.Clock.{timed}
 use Rattle.sqlite.specs.Effect.{Database, Reads, RefusesToRead}
 use Rattle.sqlite.specs.Listing.{understood, reads_listing, listing_schema, if_select, IsSourceOf}
-use Rattle.sqlite.specs.State.{State, Shown, IsStatement, IsNoStatement, IsNotRun, Fails, HasCause, FailsToQuery, FailsToShow, IsTooLate, IsUnchanged, store_error}
+use Rattle.sqlite.specs.State.{State, Shown, IsStatement, IsNoStatement, IsNotRun, FailsToQuery, FailsToShow, IsTooLate, IsUnchanged}
 use Rattle.hub_store.specs.Versions.{version_column, version_text, only_u32, IsVersion}
 use Rattle.hub_store.specs.Failing.{HasReason, IsUnreadable}
+use Rattle.hub_store.proofs.Causes.{failed_reason, reason_before}
 use Rattle.hub_store.proofs.Outcomes.{plain_shown}
 use Rattle.hub_store.proofs.Statements.{same_ok}
 
@@ -75,27 +74,15 @@ told_by_rows old new has rows r up is shown found =
 
 -- ---- why the query fails
 
-module _ (old new : State) (e : Error) (other : e ≢ SqliteFailure code.OutOfMemory) where
-  failed_reason : Fails old new ⊥ e → HasReason old new
-  failed_reason h = go h.0 h.1 h.2
-    where
-      go : (cause : StoreError) → e ≡ store_error cause → HasCause old new ⊥ cause → HasReason old new
-      go OutOfMemory is h = absurd (other is)
-      go Io is h = inl h
-      go Corrupt is h = inl h
-      go Full is h = inl h
-      go Broken is h = inr (inl h)
-      go Unstorable is h = absurd h
-
-  not_read_reason : IsNoStatement old version_text [] e → (fault : CompileError) × (understood old.now.schema version_text ≡ Err fault)
-  not_read_reason (inl h) = (h.0, h.1)
-  not_read_reason (inr h) =
-      let bare = bare_anywhere old.now.schema h.0 (from_tables old.now.schema h.0 h.1).1 in
-      elim h.2 [
-        | inl cut ↦ absurd (cut.0 (omega (arith, bare.3)))
-        | inr (inl given) ↦ absurd (given.0 (sym (ap length bare.2)))
-        | inr (inr timed) ↦ absurd (timed.0 bare.1)
-      ]
+not_read_reason : (old : State) (e : Error) → IsNoStatement old version_text [] e → (fault : CompileError) × (understood old.now.schema version_text ≡ Err fault)
+not_read_reason old e (inl h) = (h.0, h.1)
+not_read_reason old e (inr h) =
+    let bare = bare_anywhere old.now.schema h.0 (from_tables old.now.schema h.0 h.1).1 in
+    elim h.2 [
+      | inl cut ↦ absurd (cut.0 (omega (arith, bare.3)))
+      | inr (inl given) ↦ absurd (given.0 (sym (ap length bare.2)))
+      | inr (inr timed) ↦ absurd (timed.0 bare.1)
+    ]
 
 -- what SQL refuses
 refusal_of : (params : Row) (old new : State) (e : Error) → (c : Compiled) × (it : IsStatement old version_text params c) × FailsToShow old new version_text c (timed params c.formats it.now) e c.returning
@@ -115,20 +102,15 @@ by_limit None command db e h = inr h
 pub unread_reason : (old new : State) (has : Bool) (e : Error) → has ≡ true → has ≡ is_some (version_column old.now.schema) → e ≢ SqliteFailure code.OutOfMemory
     → FailsToQuery version_text [] old new e ⊎ IsTooLate version_text [] old new e → HasReason old new ⊎ IsUnreadable old.now
 unfolding FailsToQuery IsNotRun
-unread_reason old new has e up is other (inl (inl (inl h))) = inr (sym is ∙ up, inl (not_read_reason old new e other h.0))
-unread_reason old new has e up is other (inl (inl (inr h))) = inl (failed_reason old new e other h)
+unread_reason old new has e up is other (inl (inl (inl h))) = inr (sym is ∙ up, inl (not_read_reason old e h.0))
+unread_reason old new has e up is other (inl (inl (inr h))) = elim (failed_reason old new e ⊥ other h) [ inl reason ↦ inl reason | inr never ↦ absurd never ]
 unread_reason old new has e up is other (inl (inr h)) =
     let r = refusal_of [] old new e h in
     elim (by_limit old.step_limit r.0.command old.now e r.2) [ inl some ↦ inl (inr (inr some)) | inr refuses ↦ inr (sym is ∙ up, inr (r.0, e, r.1, refuses)) ]
 unread_reason old new has e up is other (inr h) =
     absurd (let none = (bare_anywhere old.now.schema h.0 (from_tables old.now.schema h.0 h.1.is).1).0 in let some = h.2 in cc)
 
--- more may fail later
-reason_later : (old new : State) (faults : ℕ) → new.faults ≤ faults → HasReason old new → HasReason old (record new { faults = faults })
-reason_later old new faults more (inl h) = inl (omega (arith, more, h))
-reason_later old new faults more (inr h) = inr h
-
 pub later_reason : (old new : State) (faults : ℕ) (r : Result (Option ℕ) Error) → new.faults ≤ faults → IfErr r (λ e. e ≢ SqliteFailure code.OutOfMemory → HasReason old new ⊎ IsUnreadable old.now)
     → IfErr r (λ e. e ≢ SqliteFailure code.OutOfMemory → HasReason old (record new { faults = faults }) ⊎ IsUnreadable old.now)
 later_reason old new faults (Ok x) more h = tt
-later_reason old new faults (Err e) more h = λ other. elim (h other) [ inl reason ↦ inl (reason_later old new faults more reason) | inr unread ↦ inr unread ]
+later_reason old new faults (Err e) more h = λ other. elim (h other) [ inl reason ↦ inl (reason_before old new (record new { faults = faults }) more reason) | inr unread ↦ inr unread ]

@@ -9,8 +9,10 @@ pub mod Found
 pub mod Held
 pub mod Exchanged
 pub mod Puts
-pub mod Creates
+pub mod Causes
+pub mod FirstRow
 pub mod Steps
+pub mod Creates
 pub mod PairSets
 pub mod Changes
 pub mod Runs

@@ -1,14 +1,19 @@
 -- Statements one after another in a transaction.
-use Rattle.std.proofs.Common.{ℕ, List, Result, Ok, Err, OnOk, OnErr, IsTrue, inl, refl, sym, subst, ◌∙◌, arith}
+use Rattle.std.proofs.Common.{◌≡◌, ◌≢◌, ℕ, List, Result, Ok, Err, OnOk, OnErr, IfErr, IsErrAnd, IsTrue, inl, refl, sym, subst, ◌∙◌, arith}
+use Rattle.std.proofs.lemmas.Result.{IfErr-weaker}
 use Rattle.sqlite_value.specs.Order.{Row}
 use Rattle.sqlite_trees.specs.declared.store.Store as store
 use Rattle.sqlite.specs.declared.error.Error.{Error}
+use Rattle.sqlite.specs.declared.error.Error.TheVariants.{SqliteFailure}
+use Rattle.sqlite.specs.declared.error.ErrorCode.TheVariants as code
 use Rattle.sqlite.specs.Effect.{Database}
 use Rattle.sqlite.specs.Held.{Held, state}
-use Rattle.sqlite.specs.State.{State, HasCleanDisk, KeepsCommit, Survives, Executes}
+use Rattle.sqlite.specs.State.{State, HasCleanDisk, KeepsCommit, Survives, Executes, ExecutesInside}
 use Rattle.sqlite.proofs.StateLemmas.{survives_then}
-use Rattle.hub_store.specs.Keeps.{Goes, HasRun}
-use Rattle.hub_store.specs.Makes.{Makes}
+use Rattle.hub_store.specs.Keeps.{Goes, HasRun, HasFailed}
+use Rattle.hub_store.specs.Makes.{Makes, Creates}
+use Rattle.hub_store.specs.Failing.{HasReason}
+use Rattle.hub_store.proofs.Causes.{reason_after}
 
 pub on_ok : {T E : Type 0} (r : Result T E) (P Q : Type 0) → (P → Q) → OnOk r P → OnOk r Q
 on_ok (Ok x) P Q f h = f h
@@ -43,6 +48,17 @@ made_by g text params old new Before After result goes ran does = record {
   made = λ clean inside before. on_ok result (HasRun g text params old new) _ (λ (it : HasRun g text params old new). does (state g it.mid) it.count it.executes (subst Before (sym it.same.0.now_is) before)) (ran clean inside);
 }
 
+-- the same, where each failure has a reason
+pub created_by : {S : Type 0} (g : store.Ghosts S) (text : List ℕ) (params : Row) (old new : Held S) (Before After : Database → Type 0) {T : Type 0} (result : Result T Error) → Goes (state g old) (state g new) result →
+    (HasCleanDisk (state g new) → IsTrue (state g old).in_transaction → OnOk result (HasRun g text params old new)) → (HasCleanDisk (state g new) → IsTrue (state g old).in_transaction → IfErr result (HasFailed g text params old new)) →
+    ((mid : State) (count : ℕ) → Executes text params mid (state g new) (Ok count) → Before mid.now → After (state g new).now) →
+    ((mid : State) (e : Error) → ExecutesInside 0 text params mid (state g new) (Err e) → Before mid.now → e ≢ SqliteFailure code.OutOfMemory → HasReason mid (state g new)) → Creates (state g old) (state g new) Before After result
+created_by g text params old new Before After result goes ran failed does why = record {
+  makes = made_by g text params old new Before After result goes ran does;
+  cause = λ clean inside before. IfErr-weaker result (HasFailed g text params old new) (λ e. e ≢ SqliteFailure code.OutOfMemory → HasReason (state g old) (state g new))
+      (λ e h other. reason_after (state g old) (state g h.mid) (state g new) _ h.survives h.is_open (why (state g h.mid) e h.executes (subst Before (sym h.now) before) other)) (failed clean inside);
+}
+
 -- the second after an Ok of the first
 pub makes_then : {T U : Type 0} (a b c : State) (P Q R : Database → Type 0) (x : T) (result : Result U Error) → Makes a b P Q (Ok x) → Makes b c Q R result → Makes a c P R result
 makes_then a b c P Q R x result one two = record {
@@ -63,3 +79,31 @@ makes_start a P x = record {
   goes = record { kept = λ _ _. kept_itself a; inside = λ _ inside. (inside, λ up. up); survives = survives_itself a };
   made = λ _ _ before. before;
 }
+
+pub creates_then : {T U : Type 0} {a b c : State} {P Q R : Database → Type 0} {x : T} {result : Result U Error} → Creates a b P Q (Ok x) → Creates b c Q R result → Creates a c P R result
+creates_then {T} {U} {a} {b} {c} {P} {Q} {R} {x} {result} one two = record {
+  makes = makes_then a b c P Q R x result one.makes two.makes;
+  cause = λ clean inside before.
+      let early = clean_before b c two.makes.goes.survives clean in
+      let mid = one.makes.goes.inside early inside in
+      IfErr-weaker result (λ e. e ≢ SqliteFailure code.OutOfMemory → HasReason b c) (λ e. e ≢ SqliteFailure code.OutOfMemory → HasReason a c)
+      (λ e cause other. reason_after a b c _ one.makes.goes.survives mid.1 (cause other)) (two.cause clean mid.0 (one.makes.made early inside before));
+}
+
+-- an error that is passed on
+pub err_passed : {T E : Type 0} (r : Result T E) (e : E) (P : E → Type 0) → IsErrAnd r (λ y. y ≡ e) → P e → IfErr r P
+err_passed (Ok x) e P is h = tt
+err_passed (Err y) e P is h = subst P (sym is) h
+
+pub creates_not : {T U : Type 0} {a b : State} {P Q R : Database → Type 0} {e : Error} {r : Result U Error} → IsErrAnd r (λ y. y ≡ e) → Creates {T = T} a b P Q (Err e) → Creates a b P R r
+creates_not {T} {U} {a} {b} {P} {Q} {R} {e} {r} is one = record {
+  makes = record {
+    goes = record { kept = one.makes.goes.kept; inside = λ _ _. on_err_only r e _ is; survives = one.makes.goes.survives };
+    made = λ _ _ _. on_err_only r e _ is;
+  };
+  cause = λ clean inside before. err_passed r e (λ e. e ≢ SqliteFailure code.OutOfMemory → HasReason a b) is (one.cause clean inside before);
+}
+  where
+    on_err_only : {U : Type 0} (r : Result U Error) (e : Error) (X : Type 0) → IsErrAnd r (λ y. y ≡ e) → OnOk r X
+    on_err_only (Ok x) e X is = absurd is
+    on_err_only (Err y) e X is = tt

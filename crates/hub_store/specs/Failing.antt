@@ -1,4 +1,4 @@
--- Why a store fails to tell its version.
+-- Why a store fails to make its tables, or to tell its version.
 use Rattle.std.specs.Prelude.{◌≡◌, ◌⊎◌, [], false, None, Ok, Err, IsTrue, IsSome, is_some}
 use Rattle.sqlite_disk.specs.Disk.{MoreFaults}
 use Rattle.sqlite_resolve.specs.declared.compiled.Compiled.{Compiled}

@@ -1,10 +1,10 @@
 -- What a call of the connection leaves, whatever it answers.
-use Rattle.std.specs.Prelude.{◌≡◌, ℕ, List, Result, Ok, OnOk, IsTrue}
+use Rattle.std.specs.Prelude.{◌≡◌, ℕ, List, Result, Ok, Err, OnOk, IsTrue}
 use Rattle.sqlite_value.specs.Order.{Row}
 use Rattle.sqlite_trees.specs.declared.store.Store as store
 use Rattle.sqlite.specs.declared.error.Error.{Error}
 use Rattle.sqlite.specs.Held.{Held, state}
-use Rattle.sqlite.specs.State.{State, HasCleanDisk, KeepsCommit, IsUnchanged, Executes, Survives}
+use Rattle.sqlite.specs.State.{State, HasCleanDisk, KeepsCommit, IsUnchanged, Executes, ExecutesInside, Survives}
 use Rattle.hub_store.specs.Tables.{hub_schema}
 
 -- the schema is that of the hub, as long as the store is open
@@ -23,6 +23,14 @@ pub record HasRun {S : Type 0} (g : store.Ghosts S) (text : List ℕ) (params : 
   pub same : IsUnchanged (state g old) (state g mid)
   pub count : ℕ
   pub executes : Executes text params (state g mid) (state g new) (Ok count)
+
+-- the text failed, as it was prepared or as it ran
+pub record HasFailed {S : Type 0} (g : store.Ghosts S) (text : List ℕ) (params : Row) (old new : Held S) (e : Error) : Type 0 where
+  pub mid : Held S
+  pub survives : Survives (state g old) (state g mid) (λ _. ⊥)
+  pub now : (state g mid).now ≡ (state g old).now
+  pub is_open : IsTrue (state g old).is_open → IsTrue (state g mid).is_open
+  pub executes : ExecutesInside 0 text params (state g mid) (state g new) (Err e)
 
 -- A statement inside a transaction commits nothing, and the transaction goes on at Ok.
 pub record Goes {T : Type 0} (old new : State) (result : Result T Error) : Type 0 where

@@ -1,11 +1,14 @@
 -- What a statement in a transaction makes of the tables.
-use Rattle.std.specs.Prelude.{◌≡◌, [], Result, OnOk, IsTrue}
+use Rattle.std.specs.Prelude.{◌≡◌, ◌≢◌, [], Result, OnOk, IfErr, IsTrue}
 use Rattle.std.specs.List.{AllByRecursion}
 use Rattle.sqlite_schema.specs.declared.schema.Table.{Table}
 use Rattle.sqlite_schema.specs.declared.schema.Schema.{Schema}
 use Rattle.sqlite.specs.declared.error.Error.{Error}
+use Rattle.sqlite.specs.declared.error.Error.TheVariants.{SqliteFailure}
+use Rattle.sqlite.specs.declared.error.ErrorCode.TheVariants as code
 use Rattle.sqlite.specs.Effect.{Database}
 use Rattle.sqlite.specs.State.{State, HasCleanDisk}
+use Rattle.hub_store.specs.Failing.{HasReason}
 use Rattle.hub_store.specs.Keeps.{Goes}
 
 -- the tables of the schema are there, with no row
@@ -17,3 +20,8 @@ pub record HasEmpty (schema : Schema) (db : Database) : Type 0 where
 pub record Makes {T : Type 0} (old new : State) (Before After : Database → Type 0) (result : Result T Error) : Type 0 where
   pub goes : Goes old new result
   pub made : HasCleanDisk new → IsTrue old.in_transaction → Before old.now → OnOk result (After new.now)
+
+-- The same, and where the one held before, it fails only for a reason.
+pub record Creates {T : Type 0} (old new : State) (Before After : Database → Type 0) (result : Result T Error) : Type 0 where
+  pub makes : Makes old new Before After result
+  pub cause : HasCleanDisk new → IsTrue old.in_transaction → Before old.now → IfErr result (λ e. e ≢ SqliteFailure code.OutOfMemory → HasReason old new)

@@ -1,29 +1,30 @@
 //! A new store.
 
-ghost use Rattle.std.specs.Prelude.{◌≡◌, false, OnOk, OnErr};
+ghost use Rattle.std.specs.Prelude.{◌≡◌, ◌≢◌, false, OnOk, OnErr, IfErr};
 ghost use Rattle.sqlite.specs.State.{HasCleanDisk, Survives};
 ghost use Rattle.sqlite.specs.Held.{state};
 ghost use Rattle.hub_core.specs.State.{empty};
 ghost use Rattle.hub_store.specs.Tables.{no_schema, hub_schema};
-ghost use Rattle.hub_store.specs.Makes.{Makes, HasEmpty};
+ghost use Rattle.hub_store.specs.Makes.{Creates, HasEmpty};
 ghost use Rattle.hub_store.specs.Means.{Holds, TreesHold};
 ghost use Rattle.hub_store.specs.Content.{CommitsState};
 ghost use Rattle.hub_store.specs.Keeps.{KeepsCommitted};
+ghost use Rattle.hub_store.specs.Failing.{HasReason};
 
 use crate::statement::run;
 use crate::tables::make_tables;
-use sqlite::{Alter, Connection, Error, Transaction, params};
+use sqlite::{Alter, Connection, Error, ErrorCode, Transaction, params};
 
 fn put_version<S: Alter>(tx: &mut Transaction<'_, S>) -> Result<(), Error>
     ensures same_reference { tx.new.conn.ghost_name ≡ tx.old.conn.ghost_name }
-    ensures made { Makes (state S.Store tx.old.conn.now) (state S.Store tx.new.conn.now) (HasEmpty hub_schema) (λ db. Holds db empty) result }
+    ensures made { Creates (state S.Store tx.old.conn.now) (state S.Store tx.new.conn.now) (HasEmpty hub_schema) (λ db. Holds db empty) result }
 {
     run(tx, "INSERT INTO hub (version) VALUES (?1)", params![1u32])
 }
 
 fn make_in<S: Alter>(tx: &mut Transaction<'_, S>) -> Result<(), Error>
     ensures same_reference { tx.new.conn.ghost_name ≡ tx.old.conn.ghost_name }
-    ensures made { Makes (state S.Store tx.old.conn.now) (state S.Store tx.new.conn.now) (HasEmpty no_schema) (λ db. Holds db empty) result }
+    ensures made { Creates (state S.Store tx.old.conn.now) (state S.Store tx.new.conn.now) (HasEmpty no_schema) (λ db. Holds db empty) result }
 {
     make_tables(tx)?;
     put_version(tx)
@@ -35,6 +36,7 @@ pub(crate) fn make_store<S: Alter>(conn: &mut Connection<S>) -> Result<(), Error
     ensures idle { conn.new.in_transaction ≡ false }
     ensures made { HasCleanDisk (state S.Store conn.new) → (state S.Store conn.old).now.schema ≡ no_schema → OnOk result (CommitsState (state S.Store conn.new) empty) }
     ensures none { HasCleanDisk (state S.Store conn.new) → OnErr result (KeepsCommitted (state S.Store conn.old) (state S.Store conn.new)) }
+    ensures cause { HasCleanDisk (state S.Store conn.new) → (state S.Store conn.old).now.schema ≡ no_schema → IfErr result (λ e. e ≢ Error.SqliteFailure ErrorCode.OutOfMemory → HasReason (state S.Store conn.old) (state S.Store conn.new)) }
     ensures survives { (state S.Store conn.old).now.schema ≡ no_schema → Survives (state S.Store conn.old) (state S.Store conn.new) (λ left. TreesHold left empty) }
 {
     let mut tx = conn.transaction();

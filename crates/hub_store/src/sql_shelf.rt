@@ -66,6 +66,7 @@ impl<S: Alter> SqlShelf<S> {
     ghost use Rattle.hub_store.specs.Content.{Has, MayLeave};
     ghost use Rattle.hub_store.specs.Means.{TreesHold};
     ghost use Rattle.hub_store.specs.Keeps.{KeepsCommitted};
+    ghost use Rattle.hub_store.specs.Failing.{HasReason};
     ghost use Rattle.hub_store.specs.Opening.{IsOpened, IsRefused};
 
     fn over(alloc: Global, conn: Connection<S>) -> SqlShelf<S>
@@ -101,6 +102,7 @@ impl<S: Alter> SqlShelf<S> {
         ensures made { IfOk result (λ shelf. HasCleanDisk (state S.Store shelf.conn) → Has (state S.Store shelf.conn) empty) }
         ensures begun { IfOk result (λ shelf. shelf.failures ≡ 0) }
         ensures taken { (state S.Store conn).now.schema ≢ no_schema → result ≡ Err (ShelfFault.Failed, conn) }
+        ensures cause { (state S.Store conn).now.schema ≡ no_schema → IfErr result (λ e. HasCleanDisk (state S.Store e.1) → e.0 ≡ ShelfFault.Failed → HasReason (state S.Store conn) (state S.Store e.1)) }
         ensures kept { IfErr result (λ e. HasCleanDisk (state S.Store e.1) → KeepsCommitted (state S.Store conn) (state S.Store e.1)) }
         ensures back { IfErr result (λ e. HasCleanDisk (state S.Store e.1) → (s : State) → Has (state S.Store conn) s → Has (state S.Store e.1) s) }
         ensures idle { IfErr result (λ e. e.1.in_transaction ≡ false) }

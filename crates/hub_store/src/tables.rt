@@ -3,14 +3,14 @@
 ghost use Rattle.std.specs.Prelude.{◌≡◌};
 ghost use Rattle.sqlite.specs.Held.{state};
 ghost use Rattle.hub_store.specs.Tables.{no_schema, up_to_hub, up_to_org, up_to_person, up_to_community, up_to_grp, up_to_pair, up_to_gate, up_to_recipient, up_to_permission, hub_schema};
-ghost use Rattle.hub_store.specs.Makes.{Makes, HasEmpty};
+ghost use Rattle.hub_store.specs.Makes.{Creates, HasEmpty};
 
 use crate::statement::run;
 use sqlite::{Alter, Error, Transaction};
 
 fn make_hub<S: Alter>(tx: &mut Transaction<'_, S>) -> Result<(), Error>
     ensures same_reference { tx.new.conn.ghost_name ≡ tx.old.conn.ghost_name }
-    ensures made { Makes (state S.Store tx.old.conn.now) (state S.Store tx.new.conn.now) (HasEmpty no_schema) (HasEmpty up_to_hub) result }
+    ensures made { Creates (state S.Store tx.old.conn.now) (state S.Store tx.new.conn.now) (HasEmpty no_schema) (HasEmpty up_to_hub) result }
 {
     run(
         tx,
@@ -21,7 +21,7 @@ fn make_hub<S: Alter>(tx: &mut Transaction<'_, S>) -> Result<(), Error>
 
 fn make_org<S: Alter>(tx: &mut Transaction<'_, S>) -> Result<(), Error>
     ensures same_reference { tx.new.conn.ghost_name ≡ tx.old.conn.ghost_name }
-    ensures made { Makes (state S.Store tx.old.conn.now) (state S.Store tx.new.conn.now) (HasEmpty up_to_hub) (HasEmpty up_to_org) result }
+    ensures made { Creates (state S.Store tx.old.conn.now) (state S.Store tx.new.conn.now) (HasEmpty up_to_hub) (HasEmpty up_to_org) result }
 {
     run(
         tx,
@@ -32,7 +32,7 @@ fn make_org<S: Alter>(tx: &mut Transaction<'_, S>) -> Result<(), Error>
 
 fn make_person<S: Alter>(tx: &mut Transaction<'_, S>) -> Result<(), Error>
     ensures same_reference { tx.new.conn.ghost_name ≡ tx.old.conn.ghost_name }
-    ensures made { Makes (state S.Store tx.old.conn.now) (state S.Store tx.new.conn.now) (HasEmpty up_to_org) (HasEmpty up_to_person) result }
+    ensures made { Creates (state S.Store tx.old.conn.now) (state S.Store tx.new.conn.now) (HasEmpty up_to_org) (HasEmpty up_to_person) result }
 {
     run(
         tx,
@@ -43,7 +43,7 @@ fn make_person<S: Alter>(tx: &mut Transaction<'_, S>) -> Result<(), Error>
 
 fn make_community<S: Alter>(tx: &mut Transaction<'_, S>) -> Result<(), Error>
     ensures same_reference { tx.new.conn.ghost_name ≡ tx.old.conn.ghost_name }
-    ensures made { Makes (state S.Store tx.old.conn.now) (state S.Store tx.new.conn.now) (HasEmpty up_to_person) (HasEmpty up_to_community) result }
+    ensures made { Creates (state S.Store tx.old.conn.now) (state S.Store tx.new.conn.now) (HasEmpty up_to_person) (HasEmpty up_to_community) result }
 {
     run(
         tx,
@@ -54,7 +54,7 @@ fn make_community<S: Alter>(tx: &mut Transaction<'_, S>) -> Result<(), Error>
 
 fn make_grp<S: Alter>(tx: &mut Transaction<'_, S>) -> Result<(), Error>
     ensures same_reference { tx.new.conn.ghost_name ≡ tx.old.conn.ghost_name }
-    ensures made { Makes (state S.Store tx.old.conn.now) (state S.Store tx.new.conn.now) (HasEmpty up_to_community) (HasEmpty up_to_grp) result }
+    ensures made { Creates (state S.Store tx.old.conn.now) (state S.Store tx.new.conn.now) (HasEmpty up_to_community) (HasEmpty up_to_grp) result }
 {
     run(
         tx,
@@ -65,7 +65,7 @@ fn make_grp<S: Alter>(tx: &mut Transaction<'_, S>) -> Result<(), Error>
 
 fn make_pair<S: Alter>(tx: &mut Transaction<'_, S>) -> Result<(), Error>
     ensures same_reference { tx.new.conn.ghost_name ≡ tx.old.conn.ghost_name }
-    ensures made { Makes (state S.Store tx.old.conn.now) (state S.Store tx.new.conn.now) (HasEmpty up_to_grp) (HasEmpty up_to_pair) result }
+    ensures made { Creates (state S.Store tx.old.conn.now) (state S.Store tx.new.conn.now) (HasEmpty up_to_grp) (HasEmpty up_to_pair) result }
 {
     run(
         tx,
@@ -76,7 +76,7 @@ fn make_pair<S: Alter>(tx: &mut Transaction<'_, S>) -> Result<(), Error>
 
 fn make_gate<S: Alter>(tx: &mut Transaction<'_, S>) -> Result<(), Error>
     ensures same_reference { tx.new.conn.ghost_name ≡ tx.old.conn.ghost_name }
-    ensures made { Makes (state S.Store tx.old.conn.now) (state S.Store tx.new.conn.now) (HasEmpty up_to_pair) (HasEmpty up_to_gate) result }
+    ensures made { Creates (state S.Store tx.old.conn.now) (state S.Store tx.new.conn.now) (HasEmpty up_to_pair) (HasEmpty up_to_gate) result }
 {
     run(
         tx,
@@ -87,7 +87,7 @@ fn make_gate<S: Alter>(tx: &mut Transaction<'_, S>) -> Result<(), Error>
 
 fn make_recipient<S: Alter>(tx: &mut Transaction<'_, S>) -> Result<(), Error>
     ensures same_reference { tx.new.conn.ghost_name ≡ tx.old.conn.ghost_name }
-    ensures made { Makes (state S.Store tx.old.conn.now) (state S.Store tx.new.conn.now) (HasEmpty up_to_gate) (HasEmpty up_to_recipient) result }
+    ensures made { Creates (state S.Store tx.old.conn.now) (state S.Store tx.new.conn.now) (HasEmpty up_to_gate) (HasEmpty up_to_recipient) result }
 {
     run(
         tx,
@@ -98,7 +98,7 @@ fn make_recipient<S: Alter>(tx: &mut Transaction<'_, S>) -> Result<(), Error>
 
 fn make_permission<S: Alter>(tx: &mut Transaction<'_, S>) -> Result<(), Error>
     ensures same_reference { tx.new.conn.ghost_name ≡ tx.old.conn.ghost_name }
-    ensures made { Makes (state S.Store tx.old.conn.now) (state S.Store tx.new.conn.now) (HasEmpty up_to_recipient) (HasEmpty up_to_permission) result }
+    ensures made { Creates (state S.Store tx.old.conn.now) (state S.Store tx.new.conn.now) (HasEmpty up_to_recipient) (HasEmpty up_to_permission) result }
 {
     run(
         tx,
@@ -109,7 +109,7 @@ fn make_permission<S: Alter>(tx: &mut Transaction<'_, S>) -> Result<(), Error>
 
 fn make_incident<S: Alter>(tx: &mut Transaction<'_, S>) -> Result<(), Error>
     ensures same_reference { tx.new.conn.ghost_name ≡ tx.old.conn.ghost_name }
-    ensures made { Makes (state S.Store tx.old.conn.now) (state S.Store tx.new.conn.now) (HasEmpty up_to_permission) (HasEmpty hub_schema) result }
+    ensures made { Creates (state S.Store tx.old.conn.now) (state S.Store tx.new.conn.now) (HasEmpty up_to_permission) (HasEmpty hub_schema) result }
 {
     run(
         tx,
@@ -121,7 +121,7 @@ fn make_incident<S: Alter>(tx: &mut Transaction<'_, S>) -> Result<(), Error>
 /// The tables of the directory.
 fn make_directory<S: Alter>(tx: &mut Transaction<'_, S>) -> Result<(), Error>
     ensures same_reference { tx.new.conn.ghost_name ≡ tx.old.conn.ghost_name }
-    ensures made { Makes (state S.Store tx.old.conn.now) (state S.Store tx.new.conn.now) (HasEmpty no_schema) (HasEmpty up_to_grp) result }
+    ensures made { Creates (state S.Store tx.old.conn.now) (state S.Store tx.new.conn.now) (HasEmpty no_schema) (HasEmpty up_to_grp) result }
 {
     make_hub(tx)?;
     make_org(tx)?;
@@ -133,7 +133,7 @@ fn make_directory<S: Alter>(tx: &mut Transaction<'_, S>) -> Result<(), Error>
 /// The others: those that a later version changes stand last.
 fn make_incidents<S: Alter>(tx: &mut Transaction<'_, S>) -> Result<(), Error>
     ensures same_reference { tx.new.conn.ghost_name ≡ tx.old.conn.ghost_name }
-    ensures made { Makes (state S.Store tx.old.conn.now) (state S.Store tx.new.conn.now) (HasEmpty up_to_grp) (HasEmpty hub_schema) result }
+    ensures made { Creates (state S.Store tx.old.conn.now) (state S.Store tx.new.conn.now) (HasEmpty up_to_grp) (HasEmpty hub_schema) result }
 {
     make_pair(tx)?;
     make_gate(tx)?;
@@ -145,7 +145,7 @@ fn make_incidents<S: Alter>(tx: &mut Transaction<'_, S>) -> Result<(), Error>
 /// Makes all tables, with no row.
 pub(crate) fn make_tables<S: Alter>(tx: &mut Transaction<'_, S>) -> Result<(), Error>
     ensures same_reference { tx.new.conn.ghost_name ≡ tx.old.conn.ghost_name }
-    ensures made { Makes (state S.Store tx.old.conn.now) (state S.Store tx.new.conn.now) (HasEmpty no_schema) (HasEmpty hub_schema) result }
+    ensures made { Creates (state S.Store tx.old.conn.now) (state S.Store tx.new.conn.now) (HasEmpty no_schema) (HasEmpty hub_schema) result }
 {
     make_directory(tx)?;
     make_incidents(tx)

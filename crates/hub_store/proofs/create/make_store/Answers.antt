@@ -20,7 +20,7 @@ returns-clause-made g c clean blank =
     let same : end ≡ c.conn-2-1.given.0 = search rules in
     let late : HasCleanDisk (state g.S.Store end) = search rules in
     let before : HasCleanDisk (state g.S.Store mid) = omega (arith, c.commit.ensures.survives.clean) in
-    let made : Holds (state g.S.Store mid).now empty = (rw begun at c.in_ok-make_in.ensures.made).made before refl (record { known = blank; empty = tt }) in
+    let made : Holds (state g.S.Store mid).now empty = (rw begun at c.in_ok-make_in.ensures.made).makes.made before refl (record { known = blank; empty = tt }) in
     subst (λ h. OnOk c.commit.result (CommitsState (state g.S.Store h) empty)) same
     (on_ok c.commit.result _ _ (λ ok. committed_made (state g.S.Store mid) (state g.S.Store end) _ made ok.1) (c.commit.ensures.ok late))
 
@@ -32,7 +32,7 @@ returns-clause-survives g c blank =
     let end = c.commit.new.self.0 in
     let same : end ≡ c.conn-2-1.given.0 = search rules in
     let P = λ (left : Trees). TreesHold left empty in
-    let inside = (rw begun at c.in_ok-make_in.ensures.made) in
+    let inside = (rw begun at c.in_ok-make_in.ensures.made).makes in
     let whole = survives_then (state g.S.Store old) (state g.S.Store mid) (state g.S.Store end) (λ _. ⊥) (λ db. db ≡ (state g.S.Store mid).now.trees) P (λ _ db none. absurd none)
     (λ clean db is.
     let before : HasCleanDisk (state g.S.Store mid) = omega (arith, c.commit.ensures.survives.clean) in
