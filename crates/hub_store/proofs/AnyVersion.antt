@@ -3,9 +3,7 @@ use Rattle.std.proofs.Common.{◌≡◌, ◌≢◌, ◌≤◌, ◌⊎◌, inl, i
 use Rattle.std.proofs.lemmas.Result.{IfOk-weaker}
 use Rattle.sqlite_value.specs.Order.{Row, column}
 use Rattle.sqlite_schema.specs.declared.command.Command.{Command}
-use Rattle.sqlite_schema.specs.declared.command.Returning.{Returning}
 use Rattle.sqlite_schema.specs.declared.schema.Schema.{Schema}
-use Rattle.sqlite_resolve.specs.Lowering.{and_then}
 use Rattle.sqlite_resolve.specs.declared.compiled.Compiled.{Compiled}
 use Rattle.sqlite_resolve.specs.declared.error.CompileError.{CompileError}
 use Rattle.sqlite_resolve.specs.declared.error.CompileError.TheVariants.{NoSuchTable}
@@ -18,24 +16,14 @@ use Rattle.sqlite.specs.Clock.{timed}
 use Rattle.sqlite.specs.Effect.{Database, Reads, RefusesToRead}
 use Rattle.sqlite.specs.Listing.{understood, reads_listing, listing_schema, if_select, IsSourceOf}
 use Rattle.sqlite.specs.State.{State, Shown, IsStatement, IsNoStatement, IsNotRun, FailsToQuery, FailsToShow, IsTooLate, IsUnchanged}
-use Rattle.hub_store.specs.Versions.{version_column, version_text, only_u32, IsVersion}
+use Rattle.hub_store.specs.Versions.{version_column, version_text, only_u32, version_of}
 use Rattle.hub_store.specs.Failing.{HasReason, IsUnreadable}
+use Rattle.hub_store.proofs.AnySchema.{bare_anywhere}
 use Rattle.hub_store.proofs.Causes.{failed_reason, reason_before}
 use Rattle.hub_store.proofs.Outcomes.{plain_shown}
-use Rattle.hub_store.proofs.Statements.{same_ok}
+use Rattle.hub_store.proofs.VersionRows.{version_told}
 
--- a SELECT has no RETURNING, and reads no clock where it names none
-bare_one : (names formats : List (List ℕ)) (start end tail : ℕ) (x : Result Command CompileError) (c : Compiled)
-    → and_then (and_then (and_then x (λ k. Ok (k, None))) (λ found. Ok (formats, found))) (λ (plan : List (List ℕ) × (Command × Option Returning)). Ok (record { command = plan.1.0; returning = plan.1.1; names = names; formats = plan.0; start = start; end = end; tail = tail })) ≡ Ok c
-    → (c.returning ≡ None) × (c.formats ≡ formats) × (c.names ≡ names) × (c.tail ≡ tail)
-bare_one names formats start end tail (Ok k) c e =
-    (ap (λ (c : Compiled). c.returning) (sym (same_ok e)), ap (λ (c : Compiled). c.formats) (sym (same_ok e)), ap (λ (c : Compiled). c.names) (sym (same_ok e)), ap (λ (c : Compiled). c.tail) (sym (same_ok e)))
-bare_one names formats start end tail (Err s) c e = absurd cc
-
-bare_anywhere : (schema : Schema) (c : Compiled) → compiled schema version_text ≡ Ok c → (c.returning ≡ None) × (c.formats ≡ []) × (c.names ≡ []) × (c.tail ≡ length version_text)
-unfolding compiled everything
-bare_anywhere schema c e = bare_one _ _ _ _ _ _ c e
-
+-- the listing has no such table
 listing_lacks : if_select (compiled listing_schema version_text) ≡ Err NoSuchTable
 unfolding compiled listing_schema everything
 listing_lacks = refl
@@ -65,12 +53,13 @@ versions_same old new rows h =
     let tables = from_tables old.now.schema h.0 h.1.is in
     plain_shown old new version_text h.0 _ rows h.0.returning (bare_anywhere old.now.schema h.0 tables.1).0 h.2
 
--- the rows of a query tell the version, where there is the column
+-- the rows of the query tell the version, where there is the column
 pub told_by_rows : (old new : State) (has : Bool) (rows : List Row) (r : Result (Option ℕ) Error) → has ≡ true → has ≡ is_some (version_column old.now.schema) → Shown version_text [] old new rows → IfOk r (λ found. found ≡ only_u32 (map (λ (r : Row). column r 0) rows))
-    → IfOk r (λ found. IsVersion old.now found)
+    → IfOk r (λ found. found ≡ version_of old.now)
 told_by_rows old new has rows r up is shown found =
-    let there : is_some (version_column old.now.schema) ≡ true = sym is ∙ up in
-    IfOk-weaker r _ _ (λ n same. record { missing = λ none. absurd (let e = sym there ∙ none in cc); there = λ _. (rows, answer_of [] old new rows shown, same) }) found
+    let it = answer_of [] old new rows shown in
+    let told = version_told old.now it.0 rows (sym is ∙ up) (from_tables old.now.schema it.0 it.1).1 it.2 in
+    IfOk-weaker r _ _ (λ n same. same ∙ told) found
 
 -- ---- why the query fails
 

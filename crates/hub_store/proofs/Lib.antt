@@ -32,7 +32,9 @@ pub mod TextsHighest
 pub mod Highest
 pub mod Left
 pub mod Telling
+pub mod AnySchema
 pub mod AnyVersion
+pub mod VersionRows
 pub mod Opened
 pub mod ByNumber
 pub mod AskedPairs

@@ -6,11 +6,11 @@ use Rattle.hub_store.specs.declared.sql_shelf.OpenFault.TheVariants.{Failed}
 use Rattle.hub_store.specs.Failing.{HasReason, IsUnreadable}
 use Rattle.hub_store.specs.Keeps.{KeepsCommitted}
 use Rattle.hub_store.specs.Opening.{newest, IsOpenFault, IsOpened, IsRefused}
-use Rattle.hub_store.specs.Versions.{IsVersion}
+use Rattle.hub_store.specs.Versions.{version_of}
 use Rattle.hub_store.proofs.Runs.{kept_has}
 
 module _ (old new : State) (survives : Survives old new (λ _. ⊥)) (kept : HasCleanDisk new → KeepsCommitted old new) where
-  pub is_opened : (failures : ℕ) → (HasCleanDisk new → IsVersion old.now (Some newest)) → failures ≡ 0 → IsOpened old new failures
+  pub is_opened : (failures : ℕ) → (HasCleanDisk new → version_of old.now ≡ Some newest) → failures ≡ 0 → IsOpened old new failures
   is_opened failures version begun = record { version = version; content = λ clean s has. kept_has old new s (kept clean) has; begun = begun; survives = survives }
 
   pub is_refused : (fault : OpenFault) → (HasCleanDisk new → IsOpenFault old.now fault) → (HasCleanDisk new → fault ≡ Failed → HasReason old new ⊎ IsUnreadable old.now) → IsRefused old new fault

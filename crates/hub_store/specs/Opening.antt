@@ -5,7 +5,7 @@ use Rattle.sqlite.specs.State.{State, HasCleanDisk, Survives}
 use Rattle.hub_core.specs.State as core
 use Rattle.hub_store.specs.Content.{Has}
 use Rattle.hub_store.specs.Keeps.{KeepsCommitted}
-use Rattle.hub_store.specs.Versions.{IsVersion}
+use Rattle.hub_store.specs.Versions.{version_of}
 use Rattle.hub_store.specs.Failing.{HasReason, IsUnreadable}
 use Rattle.hub_store.specs.declared.sql_shelf.OpenFault.{OpenFault}
 use Rattle.hub_store.specs.declared.sql_shelf.OpenFault.TheVariants.{NotOurs, WrongVersion, Failed, NoMemory}
@@ -16,14 +16,14 @@ newest = 1
 
 -- NotOurs where there is no version, WrongVersion where there is another than the newest; the others say nothing of the tables
 abbrev pub IsOpenFault : Database → OpenFault → Type 0
-IsOpenFault db NotOurs = IsVersion db None
-IsOpenFault db (WrongVersion n) = IsVersion db (Some n) × (n ≢ newest)
+IsOpenFault db NotOurs = version_of db ≡ None
+IsOpenFault db (WrongVersion n) = (version_of db ≡ Some n) × (n ≢ newest)
 IsOpenFault db Failed = Unit {0}
 IsOpenFault db NoMemory = Unit {0}
 
 -- The store is of the newest version, its content is what it was, and no failure is counted yet. Nothing was written.
 pub record IsOpened (old new : State) (failures : ℕ) : Type 0 where
-  pub version : HasCleanDisk new → IsVersion old.now (Some newest)
+  pub version : HasCleanDisk new → version_of old.now ≡ Some newest
   pub content : HasCleanDisk new → (s : core.State) → Has old s → Has new s
   pub begun : failures ≡ 0
   pub survives : Survives old new (λ _. ⊥)

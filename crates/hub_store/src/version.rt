@@ -5,7 +5,7 @@ ghost use Rattle.sqlite_value.specs.Order.{column};
 ghost use Rattle.sqlite.specs.State.{HasCleanDisk, KeepsCommit, Survives};
 ghost use Rattle.sqlite.specs.Held.{state};
 ghost use Rattle.hub_store.specs.Keeps.{KeepsCommitted};
-ghost use Rattle.hub_store.specs.Versions.{version_column, only_u32, IsVersion};
+ghost use Rattle.hub_store.specs.Versions.{version_column, only_u32, version_of};
 ghost use Rattle.hub_store.specs.Failing.{HasReason, IsUnreadable};
 
 use crate::told::fault_of;
@@ -51,7 +51,7 @@ fn read_version<S: Alter>(
     ensures same_reference { tx.new.conn.ghost_name ≡ tx.old.conn.ghost_name }
     ensures kept { HasCleanDisk (state S.Store tx.new.conn.now) → KeepsCommit (state S.Store tx.old.conn.now) (state S.Store tx.new.conn.now) }
     ensures survives { Survives (state S.Store tx.old.conn.now) (state S.Store tx.new.conn.now) (λ _. ⊥) }
-    ensures exact { HasCleanDisk (state S.Store tx.new.conn.now) → has_column ≡ is_some (version_column (state S.Store tx.old.conn.now).now.schema) → IfOk result (λ found. IsVersion (state S.Store tx.old.conn.now).now found) }
+    ensures exact { HasCleanDisk (state S.Store tx.new.conn.now) → has_column ≡ is_some (version_column (state S.Store tx.old.conn.now).now.schema) → IfOk result (λ found. found ≡ version_of (state S.Store tx.old.conn.now).now) }
     ensures cause { HasCleanDisk (state S.Store tx.new.conn.now) → has_column ≡ is_some (version_column (state S.Store tx.old.conn.now).now.schema) → IfErr result (λ e. e ≢ Error.SqliteFailure ErrorCode.OutOfMemory → HasReason (state S.Store tx.old.conn.now) (state S.Store tx.new.conn.now) ⊎ IsUnreadable (state S.Store tx.old.conn.now).now) }
 {
     if !has_column {
@@ -70,7 +70,7 @@ fn ask_version<S: Alter>(conn: &mut Connection<S>) -> Result<Option<u32>, Error>
     ensures idle { conn.new.in_transaction ≡ false }
     ensures kept { HasCleanDisk (state S.Store conn.new) → KeepsCommitted (state S.Store conn.old) (state S.Store conn.new) }
     ensures survives { Survives (state S.Store conn.old) (state S.Store conn.new) (λ _. ⊥) }
-    ensures exact { HasCleanDisk (state S.Store conn.new) → IfOk result (λ found. IsVersion (state S.Store conn.old).now found) }
+    ensures exact { HasCleanDisk (state S.Store conn.new) → IfOk result (λ found. found ≡ version_of (state S.Store conn.old).now) }
     ensures cause { HasCleanDisk (state S.Store conn.new) → IfErr result (λ e. e ≢ Error.SqliteFailure ErrorCode.OutOfMemory → HasReason (state S.Store conn.old) (state S.Store conn.new) ⊎ IsUnreadable (state S.Store conn.old).now) }
 {
     let has_column = has_version_column(conn.schema());
@@ -86,7 +86,7 @@ pub(crate) fn version<S: Alter>(conn: &mut Connection<S>) -> Result<Option<u32>,
     ensures idle { conn.new.in_transaction ≡ false }
     ensures kept { HasCleanDisk (state S.Store conn.new) → KeepsCommitted (state S.Store conn.old) (state S.Store conn.new) }
     ensures survives { Survives (state S.Store conn.old) (state S.Store conn.new) (λ _. ⊥) }
-    ensures exact { HasCleanDisk (state S.Store conn.new) → IfOk result (λ found. IsVersion (state S.Store conn.old).now found) }
+    ensures exact { HasCleanDisk (state S.Store conn.new) → IfOk result (λ found. found ≡ version_of (state S.Store conn.old).now) }
     ensures cause { HasCleanDisk (state S.Store conn.new) → IfErr result (λ fault. fault ≡ ShelfFault.Failed → HasReason (state S.Store conn.old) (state S.Store conn.new) ⊎ IsUnreadable (state S.Store conn.old).now) }
 {
     match ask_version(conn) {

@@ -1,0 +1,91 @@
+-- What two rows of the version's query tell of all rows.
+use Rattle.std.proofs.Common.{◌≡◌, ℕ, pos, negsuc, List, [], ◌∷◌, map, filter, take, Bool, true, false, Option, Some, None, is_some, slice_get, option_and_then, inl, inr, Ok, codes, refl, sym, ap, subst, ◌∙◌, arith}
+use Rattle.std.specs.List.{position_from}
+use Rattle.std.specs.List.Sorted.{IsPermutation}
+use Rattle.std.proofs.lemmas.List.Sorted.{IsPermutation-map, length_permutation}
+use Rattle.std.proofs.lemmas.Option.{option_and_then_some, slice_get_cases}
+use Rattle.sqlite_value.specs.declared.value.Value.{Value}
+use Rattle.sqlite_value.specs.declared.value.Value.TheVariants.{Null, Int, Real, Text, Blob}
+use Rattle.sqlite_value.specs.Order.{Row, column}
+use Rattle.sqlite_trees.specs.Tree.{Trees}
+use Rattle.sqlite_trees.proofs.ListLemmas.{map-map}
+use Rattle.sqlite_sql.specs.Term.{lit, col}
+use Rattle.sqlite_sql.specs.Query.{IsAnswer, Output}
+use Rattle.sqlite_schema.specs.declared.schema.Table.{Table}
+use Rattle.sqlite_schema.specs.Names.{table_named, column_named, place_of}
+use Rattle.sqlite_rules.proofs.RowLemmas.{position_within}
+use Rattle.sqlite_resolve.specs.declared.compiled.Compiled.{Compiled}
+use Rattle.sqlite_resolve.specs.Compile.{compiled}
+use Rattle.sqlite.specs.Effect.{Database, Reads}
+use Rattle.sqlite.proofs.Callers.{one_permutation}
+use Rattle.hub_store.specs.Versions.{hub_of, version_column, values_at, versions_by, only_u32, version_of, version_text}
+use Rattle.hub_store.proofs.AnySchema.{column_query, asks}
+use Rattle.hub_store.proofs.Statements.{keeps, ordered_rows, overlaid}
+
+-- two values are no version
+no_version : (x y : Value) (more : List Value) → only_u32 (x ∷ y ∷ more) ≡ None
+no_version Null y more = refl
+no_version (Int (pos n)) y more = refl
+no_version (Int (negsuc n)) y more = refl
+no_version (Real x) y more = refl
+no_version (Text t) y more = refl
+no_version (Blob b) y more = refl
+
+-- with no test no row is dropped
+all_kept : (rows : List Row) → filter (keeps [] []) rows ≡ rows
+all_kept [] = refl
+all_kept (r ∷ rows) = ap (λ l. r ∷ l) (all_kept rows)
+
+-- no rows have one order
+empty_permutation : {X : Type 0} (xs : List X) → IsPermutation [] xs → xs ≡ []
+empty_permutation [] h = refl
+empty_permutation (x ∷ xs) h = absurd (omega (arith, length_permutation [] (x ∷ xs) h))
+
+-- two of the rows tell as much as all, in whatever order
+from_two : (place : ℕ) (rows all : List Row) → IsPermutation (map (λ r. column r place ∷ []) rows) all → only_u32 (map (λ r. column r 0) (take 2 all)) ≡ only_u32 (map (λ r. column r place) rows)
+from_two place [] all same = ap (λ (l : List Row). only_u32 (map (λ r. column r 0) (take 2 l))) (empty_permutation all same)
+from_two place (r ∷ []) all same = ap (λ (l : List Row). only_u32 (map (λ r. column r 0) (take 2 l))) (one_permutation (column r place ∷ []) all same)
+from_two place (r ∷ s ∷ rows) [] same = absurd (omega (arith, length_permutation _ [] same))
+from_two place (r ∷ s ∷ rows) (a ∷ []) same = absurd (omega (arith, length_permutation _ (a ∷ []) same))
+from_two place (r ∷ s ∷ rows) (a ∷ b ∷ all) same = no_version _ _ _ ∙ sym (no_version _ _ _)
+
+-- so the version that is read is that of the rows of the tree
+version_read : (db : Trees) (tree place : ℕ) (rows : List Row) → IsAnswer (column_query tree place) db [] rows → only_u32 (map (λ r. column r 0) rows) ≡ only_u32 (map (λ r. column r place) (db tree))
+version_read db tree place rows a =
+    let got = ordered_rows db tree [] (col 1 place ∷ []) [] (lit (Int (pos 2))) [] rows a in
+    let moved = IsPermutation-map (λ (o : Output). o.1) _ _ got.1 in
+    let shown = map-map (λ (o : Output). o.1) _ _ ∙ ap (map (λ (r : Row). column r place ∷ [])) (all_kept (db tree)) in
+    ap (λ (l : List Row). only_u32 (map (λ r. column r 0) l)) got.3 ∙ from_two place (db tree) _ (subst (λ l. IsPermutation l (map (λ (o : Output). o.1) got.0)) shown moved)
+
+-- what there is
+some_there : {X : Type 0} (o : Option X) → is_some o ≡ true → (x : X) × (o ≡ Some x)
+some_there (Some x) h = (x, refl)
+some_there None h = absurd cc
+
+-- what is found at a place is there
+in_list : {X : Type 0} (p : X → Bool) (xs : List X) (k : ℕ) → position_from p 0 xs ≡ Some k → (x : X) × (slice_get xs k ≡ Some x)
+in_list p xs k found = elim (slice_get_cases xs k).1 [ inl here ↦ (here.0, here.2) | inr past ↦ absurd (omega (arith, position_within p xs 0 k found, past.0)) ]
+
+-- where there is the column, an answer to the text tells the version of the tables
+pub version_told : (db : Database) (c : Compiled) (rows : List Row) → is_some (version_column db.schema) ≡ true → compiled db.schema version_text ≡ Ok c → Reads c.command db [] rows → only_u32 (map (λ r. column r 0) rows) ≡ version_of db
+version_told db c rows there is read =
+    let place = some_there (version_column db.schema) there in
+    option_and_then_some _ (hub_of db.schema) place.0 place.1 (λ table hub called.
+    option_and_then_some _ (table_named db.schema (codes "hub")) table hub (λ at has listed.
+      let column = in_list _ table.columns place.0 called in
+      let answer = subst (λ k. Reads k db [] rows) (asks db.schema at place.0 table column.0 has listed called column.1 c is) read in
+      let plain = subst (λ t. IsAnswer (column_query table.tree (place_of table place.0)) t [] rows) (overlaid db.trees) (answer.answer Null) in
+      version_read db.trees table.tree (place_of table place.0) rows plain ∙ sym (ap (λ o. only_u32 (versions_by db.trees o)) hub ∙ ap (λ o. only_u32 (values_at db.trees table o)) called)))
+
+-- nothing is found in a column that isn't there
+no_values : (db : Trees) (table : Table) (at : Option ℕ) → is_some at ≡ false → only_u32 (values_at db table at) ≡ None
+no_values db table None h = refl
+no_values db table (Some at) h = absurd cc
+
+no_versions : (db : Trees) (hub : Option Table) → is_some (option_and_then (λ (t : Table). column_named t (codes "version")) hub) ≡ false → only_u32 (versions_by db hub) ≡ None
+no_versions db None h = refl
+no_versions db (Some table) h = no_values db table (column_named table (codes "version")) h
+
+-- with no such column there is no version
+pub version_missing : (db : Database) → is_some (version_column db.schema) ≡ false → version_of db ≡ None
+version_missing db h = no_versions db.trees (hub_of db.schema) h
