@@ -165,7 +165,7 @@ is_new schema sql table =
 
 -- all that unfolds besides, where `is_new` runs
 unfoldable pub naming : Unit {0}
-unfolding fits_kind is_free_name begins same_name value_cmp
+unfolding fits_kind is_free_name begins same_name value_cmp lib.Utf8.encode lib.Ieee.is_nan lib.Ieee.lt
 naming = tt
 
 -- the text makes this table under the schema, and nothing is against it: for a schema and a text that are written out each field is `refl`
