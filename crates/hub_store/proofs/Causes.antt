@@ -72,7 +72,7 @@ reason_before a b c more (inr h) = inr h
 
 -- a commit inside a transaction
 pub commit_reason : (old new : State) (e : Error) → IsTrue old.in_transaction → e ≢ SqliteFailure code.OutOfMemory → FailsToCommit old new e → HasReason old new
-commit_reason old new e inside other (inl failed) = elim (failed_reason old new e ⊥ other failed) [ | inl reason ↦ reason | inr never ↦ absurd never ]
+commit_reason old new e inside other (inl failed) = elim (failed_reason old new e ⊥ other failed) [ inl reason ↦ reason | inr never ↦ absurd never ]
 commit_reason old new e inside other (inr ended) = absurd (true≢false (sym inside ∙ ended.1))
 
 -- ---- a text that is one write
@@ -120,7 +120,7 @@ module _ (sql : List ℕ) (params : Row) (old new : State) (schema : Schema) (ha
   is_statement (inl h) = subst (IsWhole sql params) (ap (λ s. understood s sql) (sym has) ∙ h.1) whole
   is_statement (inr h) =
       let all = subst (IsWhole sql params) (sym (known h.0 h.1)) whole in
-      elim h.2 [ | inl cut ↦ absurd (cut.0 (omega (arith, leb-true _ _ all.3))) | inr (inl given) ↦ absurd (given.0 all.2) | inr (inr read) ↦ absurd (read.0 all.1) ]
+      elim h.2 [ inl cut ↦ absurd (cut.0 (omega (arith, leb-true _ _ all.3))) | inr (inl given) ↦ absurd (given.0 all.2) | inr (inr read) ↦ absurd (read.0 all.1) ]
 
   refused : (c : Compiled) (it : IsStatement old sql params c) (stop : Option Error) → Does old.step_limit (mode_of old) (timed params c.formats it.now) old.now (text_of sql c) c.returning c.command (Err stop) → Refuses stop
   refused c it stop h =
@@ -130,7 +130,7 @@ module _ (sql : List ℕ) (params : Row) (old new : State) (schema : Schema) (ha
   ran : (c : Compiled) (it : IsStatement old sql params c) → RunsCommand old new sql c (timed params c.formats it.now) (Err e) → HasReason old new ⊎ ((stop : Option Error) × Refuses stop)
   ran c it (inl (inl wrong, same)) = absurd (placed_write old command e write (subst (λ k. IsMisplaced old k e) (command_is c it.is) wrong))
   ran c it (inl (inr does, same)) = inr (Some e, refused c it (Some e) does.1)
-  ran c it (inr h) = elim (failed_reason old new e _ other h) [ | inl reason ↦ inl reason | inr long ↦ inr (None, refused c it None long) ]
+  ran c it (inr h) = elim (failed_reason old new e _ other h) [ inl reason ↦ inl reason | inr long ↦ inr (None, refused c it None long) ]
 
   silent : (c : Compiled) → understood old.now.schema sql ≡ Ok c → shows_rows false c ≡ false
   silent c at =
@@ -141,7 +141,7 @@ module _ (sql : List ℕ) (params : Row) (old new : State) (schema : Schema) (ha
   pub fails_as : ExecutesInside 0 sql params old new (Err e) → HasReason old new ⊎ ((stop : Option Error) × Refuses stop)
   unfolding ExecutesIn IsNotRun EndsScope
   fails_as (inl (inl (inl none), same)) = absurd (is_statement none.0)
-  fails_as (inl (inl (inr failed), same)) = elim (failed_reason old new e ⊥ other failed) [ | inl reason ↦ inl reason | inr never ↦ absurd never ]
+  fails_as (inl (inl (inr failed), same)) = elim (failed_reason old new e ⊥ other failed) [ inl reason ↦ inl reason | inr never ↦ absurd never ]
   fails_as (inl (inr run, same)) = ran run.0 run.1 (other_one (shows_rows false run.0) _ _ (silent run.0 run.1.is) run.2)
   fails_as (inr ends) = absurd (staying_write old command write (subst (Escapes 0 old) (command_is ends.0.0 ends.0.1.is) ends.0.2))
 
@@ -223,7 +223,7 @@ module _ (schema : Schema) (sql : List ℕ) (table : Table) (it : IsCreation sch
         | inr index ↦ absurd (true≢false (sym index.2 ∙ not-true _ (test_has (λ (i : Index). not (is_used schema i.name)) _ index.0 news.alone index.1)))
       ]
   not_refused BadName h =
-      elim (of_table (λ t. IsBadName t.name (length t.uniques == 0)) h) [ | inl bad ↦ absurd (bad it.utf8.1) | inr bad ↦ absurd (true≢false (sym bad.0 ∙ news.unreserved)) ]
+      elim (of_table (λ t. IsBadName t.name (length t.uniques == 0)) h) [ inl bad ↦ absurd (bad it.utf8.1) | inr bad ↦ absurd (true≢false (sym bad.0 ∙ news.unreserved)) ]
   not_refused TooBig h =
       elim (of_table (λ t. (65536 ≤ next_tree schema + length t.uniques) ⊎ ((2 ^ 64 ≤ table_reals t) ⊎ ((key : List ℕ) × Has t.uniques key × (2 ^ 64 ≤ index_reals (table_reals t) key)))) h) [
         | inl many ↦ absurd (omega (arith, many, news.few))

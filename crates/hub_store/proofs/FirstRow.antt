@@ -35,6 +35,7 @@ use Rattle.sqlite.specs.declared.error.Error.{Error}
 use Rattle.sqlite.specs.declared.error.Error.TheVariants.{SqliteFailure}
 use Rattle.sqlite.specs.declared.error.ErrorCode.TheVariants as code
 use Rattle.sqlite.specs.Listing.{understood}
+use Rattle.sqlite.proofs.Callers.{statement_of}
 use Rattle.sqlite.specs.Effect.{Database}
 use Rattle.sqlite.specs.Rows.{Task, Written, Sourced, Counter, Counts, Edited, Inserts, count_of}
 use Rattle.sqlite.specs.Does.{Does, Concludes, Returns, Tested}
@@ -107,7 +108,7 @@ module _ (db : Trees) (has : HasEmpty hub_schema (record { schema = hub_schema; 
   sized (inl big) = big storable
   sized (inr index) =
       let other : not (index.0.table == 0) ≡ true = test_has (λ (i : Index). not (i.table == 0)) hub_schema.indexes index.0 refl index.1 in
-      true≢false (sym (subst (λ t. not (t == 0) ≡ true) index.2.0 other))
+      true≢false (sym (subst (λ t. not (t == 0) ≡ true) index.2 other))
 
   ends : (n : ℕ) (next : Trees) (why : Option Refusal) → ¬ Leads hub_schema Enforced n next [] (Err why)
   ends zero next why h = absurd (gave h.1)
@@ -117,7 +118,7 @@ module _ (db : Trees) (has : HasEmpty hub_schema (record { schema = hub_schema; 
   written why (inl refused) = unrefused refused.0 refused.1
   written why (inr (inl (row, inl same, big, _))) = sized (subst (IsOversized hub_schema hub_table) same big)
   written why (inr (inl (row, inr none, big, _))) = absurd none
-  written why (inr (inr (next, applies, n, leads))) = ends n next why leads
+  written why (inr (inr h)) = ends h.2.0 h.0 why h.2.1
 
   edit_is : (rows : List Row) → rows ≡ (Null ∷ Int (pos 1) ∷ []) ∷ [] → edit_of db hub_table [] Chosen 0 rows ≡ first_edit
   edit_is rows is =
@@ -142,7 +143,7 @@ module _ (db : Trees) (has : HasEmpty hub_schema (record { schema = hub_schema; 
             | inl uncounted ↦ absurd (gave uncounted)
             | inr counter ↦ elim (stops (Edited hub_schema Enforced db (edit_of db hub_table [] Chosen 0 rows.0)) _ stop counter.2) [
               | inl refused ↦ absurd (written refused.0 (subst (λ it. Writes hub_schema Enforced db it (Err refused.0)) (edit_is rows.0 rows.1.1) refused.1))
-              | inr mid ↦ elim mid.2 [ | inl uncounted ↦ absurd (gave uncounted.1) | inr next ↦ absurd (gave next.2) ]
+              | inr mid ↦ elim mid.2 [ inl uncounted ↦ absurd (gave uncounted.1) | inr next ↦ absurd (gave next.2) ]
             ]
           ]
         ]
@@ -151,7 +152,7 @@ module _ (db : Trees) (has : HasEmpty hub_schema (record { schema = hub_schema; 
     concludes old w stop h =
         elim (stops (Tested (mode_of old) (λ among. Refers among hub_schema w.trees)) _ stop h) [
           | inl broken ↦ absurd (broken.0 (none_refer All hub_schema.tables hub_schema.tables w.trees (refl, (refl, (refl, (refl, (refl, (refl, (refl, (refl, (refl, (refl, tt))))))))))))
-          | inr held ↦ elim held.2 [ | inl shown ↦ absurd (gave shown.1) | inr gives ↦ absurd (gave gives.2) ]
+          | inr held ↦ elim held.2 [ inl shown ↦ absurd (gave shown.1) | inr gives ↦ absurd (gave gives.2) ]
         ]
 
 -- the version is put unless a limit on steps stops it
@@ -170,5 +171,5 @@ unfolding understood everything
 first_fails old new e h has other =
     elim (fails_as put_version (Int (pos 1) ∷ []) old new hub_schema has.known (Insert 0 source) put_version_is tt (refl, refl, refl, refl) e other h) [
       | inl reason ↦ reason
-      | inr refused ↦ inr (inr (first_stops old _ has refused.0 refused.1))
+      | inr refused ↦ inr (inr (first_stops old (statement_of put_version (understood hub_schema put_version)) has refused.0 refused.1))
     ]

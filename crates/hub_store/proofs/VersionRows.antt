@@ -72,10 +72,10 @@ version_told db c rows there is read =
     let place = some_there (version_column db.schema) there in
     option_and_then_some _ (hub_of db.schema) place.0 place.1 (λ table hub called.
     option_and_then_some _ (table_named db.schema (codes "hub")) table hub (λ at has listed.
-      let column = in_list _ table.columns place.0 called in
-      let answer = subst (λ k. Reads k db [] rows) (asks db.schema at place.0 table column.0 has listed called column.1 c is) read in
-      let plain = subst (λ t. IsAnswer (column_query table.tree (place_of table place.0)) t [] rows) (overlaid db.trees) (answer.answer Null) in
-      version_read db.trees table.tree (place_of table place.0) rows plain ∙ sym (ap (λ o. only_u32 (versions_by db.trees o)) hub ∙ ap (λ o. only_u32 (values_at db.trees table o)) called)))
+    let column = in_list _ table.columns place.0 called in
+    let answer = subst (λ k. Reads k db [] rows) (asks db.schema at place.0 table column.0 has listed called column.1 c is) read in
+    let plain = subst (λ t. IsAnswer (column_query table.tree (place_of table place.0)) t [] rows) (overlaid db.trees) (answer.answer Null) in
+    version_read db.trees table.tree (place_of table place.0) rows plain ∙ sym (ap (λ o. only_u32 (versions_by db.trees o)) hub ∙ ap (λ o. only_u32 (values_at db.trees table o)) called)))
 
 -- nothing is found in a column that isn't there
 no_values : (db : Trees) (table : Table) (at : Option ℕ) → is_some at ≡ false → only_u32 (values_at db table at) ≡ None
