@@ -2,6 +2,7 @@
 use Rattle.std.proofs.Common.{◌≡◌, ℕ, ◌+◌, List, [], ◌∷◌, map, length, max, Option, Some, None, Result, Ok, Err, IfOk, OnOk, Bool, true, false, if◌then◌else◌, refl, sym, ap, ◌∙◌, arith, not, ◌&&◌, ◌<◌}
 use Rattle.std.specs.Prelude.{nat_le}
 use Rattle.std.proofs.lemmas.Bool.Decides.{nat_tests}
+use Rattle.circle.specs.declared.TheConstants.{ORG_LIMIT, PERSON_LIMIT, COMMUNITY_LIMIT, GROUP_LIMIT}
 use Rattle.circle.specs.declared.directory.Person.{Person}
 use Rattle.circle.specs.declared.command.CircleFacts.{CircleFacts}
 use Rattle.circle.specs.declared.command.CircleCommand.{CircleCommand}
@@ -52,10 +53,10 @@ next_number number limit rows h =
     let counted = greatest_counts number 0 rows h.0 in omega arith
 
 pub same_edit : (d : Directory) (a : Person) (c : CircleCommand) → IsSound d → edit_of (count_in d c + 1) a c ≡ edit_of (next_in d c) a c
-same_edit d a (AddOrg name) h = ap (λ n. edit_of n a (AddOrg name)) (sym (next_number org_number 1000 d.orgs h.orgs.numbered))
-same_edit d a (AddPerson org name role key) h = ap (λ n. edit_of n a (AddPerson org name role key)) (sym (next_number account_number 10000 d.accounts h.accounts.numbered))
-same_edit d a (AddCommunity name) h = ap (λ n. edit_of n a (AddCommunity name)) (sym (next_number community_number 1000 d.communities h.communities.numbered))
-same_edit d a (NewGroup name releasability) h = ap (λ n. edit_of n a (NewGroup name releasability)) (sym (next_number group_number 1000 d.groups h.groups.numbered))
+same_edit d a (AddOrg name) h = ap (λ n. edit_of n a (AddOrg name)) (sym (next_number org_number ORG_LIMIT d.orgs h.orgs.numbered))
+same_edit d a (AddPerson org name role key) h = ap (λ n. edit_of n a (AddPerson org name role key)) (sym (next_number account_number PERSON_LIMIT d.accounts h.accounts.numbered))
+same_edit d a (AddCommunity name) h = ap (λ n. edit_of n a (AddCommunity name)) (sym (next_number community_number COMMUNITY_LIMIT d.communities h.communities.numbered))
+same_edit d a (NewGroup name releasability) h = ap (λ n. edit_of n a (NewGroup name releasability)) (sym (next_number group_number GROUP_LIMIT d.groups h.groups.numbered))
 same_edit d a (SuspendPerson person) h = refl
 same_edit d a (AddClient org client) h = refl
 same_edit d a (RemoveClient org client) h = refl
@@ -80,12 +81,12 @@ pub passed : (gs : List Ground) → first_answer gs ≡ None → Each (λ (g : G
 passed [] h = tt
 passed (g ∷ gs) h = let said = none_said g.holds g.answer (first_answer gs) h in (said.0, passed gs said.1)
 
-below_limit : (c : CircleCommand) (n : ℕ) → nat_le (limit_of c) n ≡ false → n < 10000
+below_limit : (c : CircleCommand) (n : ℕ) → nat_le (limit_of c) n ≡ false → n < PERSON_LIMIT
 below_limit (AddPerson org name role key) n h = grind (arith, nat_tests)
 below_limit _ n h = grind (arith, nat_tests)
 
 -- where the facts have nothing against a command, there is room for one more number
-room_left : (f : CircleFacts) (c : CircleCommand) → objection_of f c ≡ None → f.count < 10000
+room_left : (f : CircleFacts) (c : CircleCommand) → objection_of f c ≡ None → f.count < PERSON_LIMIT
 room_left f c h =
     let there = none_said (not f.exists) _ _ h in
     let right = none_said (lacks_right c f) _ _ there.1 in
@@ -95,7 +96,7 @@ room_left f c h =
     below_limit c f.count (none_said (nat_le (limit_of c) f.count) _ _ put.1).0
 
 -- where the facts have nothing against a command, its number is one more than what they count
-pub counted_edit : (a : Person) (c : CircleCommand) (f : CircleFacts) (n : ℕ) (edit : Edit) → objection_of f c ≡ None → (f.count < 10000 → n ≡ f.count + 1) → edit ≡ edit_of n a c → edit ≡ edit_of (f.count + 1) a c
+pub counted_edit : (a : Person) (c : CircleCommand) (f : CircleFacts) (n : ℕ) (edit : Edit) → objection_of f c ≡ None → (f.count < PERSON_LIMIT → n ≡ f.count + 1) → edit ≡ edit_of n a c → edit ≡ edit_of (f.count + 1) a c
 counted_edit a c f n edit fine next made = made ∙ ap (λ (m : ℕ). edit_of m a c) (next (room_left f c fine))
 
 -- the facts of a directory refuse as it does

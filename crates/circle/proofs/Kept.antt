@@ -4,6 +4,7 @@ use Rattle.std.specs.Prelude.{nat_le}
 use Rattle.std.specs.List.{list_any}
 use Rattle.std.proofs.lemmas.Grind.{common_steps}
 use Rattle.std.proofs.lemmas.Bool.Decides.{nat_tests}
+use Rattle.circle.specs.declared.TheConstants.{ORG_LIMIT, PERSON_LIMIT, COMMUNITY_LIMIT, GROUP_LIMIT}
 use Rattle.circle.specs.declared.directory.Org.{Org}
 use Rattle.circle.specs.declared.directory.Person.{Person}
 use Rattle.circle.specs.declared.directory.Account.{Account}
@@ -45,9 +46,9 @@ room limit n h = grind (arith, nat_tests)
 org_kept : (n : ℕ) (orgs : List Org) (org : Org) → IsOrg orgs n → IsOrg (put_by (by_number org_number) org orgs) n
 org_kept n orgs org h = any_put (λ (o : Org). o.number == n) (by_number org_number) org orgs h
 
-add_org : (d : Directory) (org : Org) → IsSound d → org.number ≡ length d.orgs + 1 → has_org_named org.name d ≡ false → length d.orgs < 1000 → IsSound (record d { orgs = put_by (by_number org_number) org d.orgs })
+add_org : (d : Directory) (org : Org) → IsSound d → org.number ≡ length d.orgs + 1 → has_org_named org.name d ≡ false → length d.orgs < ORG_LIMIT → IsSound (record d { orgs = put_by (by_number org_number) org d.orgs })
 add_org d org h next new low = record {
-  orgs = record { numbered = numbered_put org_number 1000 org d.orgs next low h.orgs.numbered; names = differ_put (λ (o : Org). o.name) (by_number org_number) org d.orgs new h.orgs.names };
+  orgs = record { numbered = numbered_put org_number ORG_LIMIT org d.orgs next low h.orgs.numbered; names = differ_put (λ (o : Org). o.name) (by_number org_number) org d.orgs new h.orgs.names };
   accounts = record { numbered = h.accounts.numbered; keys = h.accounts.keys; ends = each_weaker _ _ d.accounts (λ a e. org_kept a.person.org d.orgs org e) h.accounts.ends };
   clients = record { rising = h.clients.rising; ends = each_weaker _ _ d.clients (λ c e. (org_kept c.org d.orgs org e.0, org_kept c.client d.orgs org e.1)) h.clients.ends };
   communities = h.communities;
@@ -58,9 +59,9 @@ add_org d org h next new low = record {
   arrangements = record { rising = h.arrangements.rising; ends = each_weaker _ _ d.arrangements (λ a e. (org_kept a.source d.orgs org e.0, org_kept a.org d.orgs org e.1)) h.arrangements.ends };
 }
 
-add_account : (d : Directory) (account : Account) → IsSound d → account.person.number ≡ length d.accounts + 1 → has_key account.key d ≡ false → length d.accounts < 10000 → IsOrg d.orgs account.person.org → SoundAccounts d.orgs (put_by (by_number account_number) account d.accounts)
+add_account : (d : Directory) (account : Account) → IsSound d → account.person.number ≡ length d.accounts + 1 → has_key account.key d ≡ false → length d.accounts < PERSON_LIMIT → IsOrg d.orgs account.person.org → SoundAccounts d.orgs (put_by (by_number account_number) account d.accounts)
 add_account d account h next new low known = record {
-  numbered = numbered_put account_number 10000 account d.accounts next low h.accounts.numbered;
+  numbered = numbered_put account_number PERSON_LIMIT account d.accounts next low h.accounts.numbered;
   keys = differ_put (λ (a : Account). a.key) (by_number account_number) account d.accounts new h.accounts.keys;
   ends = each_put _ (by_number account_number) account d.accounts known h.accounts.ends;
 }
@@ -83,7 +84,7 @@ same_when show false x y e = refl
 
 accounts_exchanged : (d : Directory) (n : ℕ) (f : Person → Person) → ((p : Person) → (f p).number ≡ p.number) → ((p : Person) → (f p).org ≡ p.org) → IsSound d → SoundAccounts d.orgs (exchange_account n f d.accounts)
 accounts_exchanged d n f number org h = record {
-  numbered = numbered_map account_number 10000 (λ (a : Account). if a.person.number == n then record a { person = f a.person } else a) d.accounts (λ a. same_when account_number (a.person.number == n) (record a { person = f a.person }) a (number a.person)) h.accounts.numbered;
+  numbered = numbered_map account_number PERSON_LIMIT (λ (a : Account). if a.person.number == n then record a { person = f a.person } else a) d.accounts (λ a. same_when account_number (a.person.number == n) (record a { person = f a.person }) a (number a.person)) h.accounts.numbered;
   keys = differ_map (λ (a : Account). a.key) (λ (a : Account). if a.person.number == n then record a { person = f a.person } else a) d.accounts (λ a. same_when (λ (x : Account). x.key) (a.person.number == n) (record a { person = f a.person }) a refl) h.accounts.keys;
   ends = each_map (λ (a : Account). IsOrg d.orgs a.person.org) (λ (a : Account). if a.person.number == n then record a { person = f a.person } else a) d.accounts (λ a e. subst (λ o. IsOrg d.orgs o) (sym (same_when (λ (x : Account). x.person.org) (a.person.number == n) (record a { person = f a.person }) a (org a.person))) e) h.accounts.ends;
 }
@@ -98,12 +99,12 @@ with_clients d clients h new = record { orgs = h.orgs; accounts = h.accounts; cl
 community_kept : (n : ℕ) (communities : List Community) (community : Community) → IsCommunity communities n → IsCommunity (put_by (by_number community_number) community communities) n
 community_kept n communities community h = any_put (λ (c : Community). c.number == n) (by_number community_number) community communities h
 
-add_community : (d : Directory) (community : Community) → IsSound d → community.number ≡ length d.communities + 1 → has_community_named community.name d ≡ false → length d.communities < 1000 → IsSound (record d { communities = put_by (by_number community_number) community d.communities })
+add_community : (d : Directory) (community : Community) → IsSound d → community.number ≡ length d.communities + 1 → has_community_named community.name d ≡ false → length d.communities < COMMUNITY_LIMIT → IsSound (record d { communities = put_by (by_number community_number) community d.communities })
 add_community d community h next new low = record {
   orgs = h.orgs;
   accounts = h.accounts;
   clients = h.clients;
-  communities = record { numbered = numbered_put community_number 1000 community d.communities next low h.communities.numbered; names = differ_put (λ (c : Community). c.name) (by_number community_number) community d.communities new h.communities.names };
+  communities = record { numbered = numbered_put community_number COMMUNITY_LIMIT community d.communities next low h.communities.numbered; names = differ_put (λ (c : Community). c.name) (by_number community_number) community d.communities new h.communities.names };
   memberships = record { rising = h.memberships.rising; ends = each_weaker _ _ d.memberships (λ m e. (community_kept m.community d.communities community e.0, e.1)) h.memberships.ends };
   connections = record { rising = h.connections.rising; ends = each_weaker _ _ d.connections (λ l e. (e.0, community_kept l.low d.communities community e.1, community_kept l.high d.communities community e.2)) h.connections.ends };
   groups = h.groups;
@@ -130,19 +131,19 @@ member_put orgs groups rows member h new known = record { rising = rise_put grou
 no_member : (d : Directory) (org : ℕ) → IsSound d → list_any (λ (m : GroupMember). m.group == next_in d (NewGroup [] []) && m.org == org) d.group_members ≡ false
 no_member d org h = none_any _ d.group_members (each_weaker _ _ d.group_members (λ m e.
     let within : m.group ≤ 0 + length d.groups = names_within group_number 0 m.group d.groups h.groups.numbered.0 e.0 in
-    let next : next_in d (NewGroup [] []) ≡ length d.groups + 1 = next_number group_number 1000 d.groups h.groups.numbered in
+    let next : next_in d (NewGroup [] []) ≡ length d.groups + 1 = next_number group_number GROUP_LIMIT d.groups h.groups.numbered in
     not_at m.group (next_in d (NewGroup [] [])) (m.org == org) (omega arith)) h.group_members.ends)
   where
     not_at : (g n : ℕ) (b : Bool) → g < n → (g == n && b) ≡ false
     not_at g n b low = grind (arith, nat_tests)
 
-new_group : (d : Directory) (group : Group) → IsSound d → group.number ≡ next_in d (NewGroup [] []) → has_group_named group.owner group.name d ≡ false → length d.groups < 1000 → IsOrg d.orgs group.owner
+new_group : (d : Directory) (group : Group) → IsSound d → group.number ≡ next_in d (NewGroup [] []) → has_group_named group.owner group.name d ≡ false → length d.groups < GROUP_LIMIT → IsOrg d.orgs group.owner
     → IsSound (record d { groups = put_by (by_number group_number) group d.groups; group_members = put_by (by_pair group_member_key) (record { group = group.number; org = group.owner; extend = true }) d.group_members })
 new_group d group h is new low known =
-    let counted : next_in d (NewGroup [] []) ≡ length d.groups + 1 = next_number group_number 1000 d.groups h.groups.numbered in
+    let counted : next_in d (NewGroup [] []) ≡ length d.groups + 1 = next_number group_number GROUP_LIMIT d.groups h.groups.numbered in
     with_groups d _ _ h
     (record {
-      numbered = numbered_put group_number 1000 group d.groups (is ∙ counted) low h.groups.numbered;
+      numbered = numbered_put group_number GROUP_LIMIT group d.groups (is ∙ counted) low h.groups.numbered;
       names = pairs_put _ (by_number group_number) group d.groups (each_weaker _ _ d.groups (λ g e. ((λ same. pair_apart group.owner g.owner group.name g.name e (ap (λ (p : ℕ × List ℕ). p.0) same) (ap (λ (p : ℕ × List ℕ). p.1) same)), (λ same. pair_apart group.owner g.owner group.name g.name e (ap (λ (p : ℕ × List ℕ). p.0) (sym same)) (ap (λ (p : ℕ × List ℕ). p.1) (sym same))))) (none_of _ d.groups new)) h.groups.names;
       ends = each_put _ (by_number group_number) group d.groups known h.groups.ends;
     })
@@ -158,7 +159,7 @@ new_group d group h is new low known =
 groups_exchanged : (d : Directory) (n : ℕ) (active : Bool) → IsSound d → IsSound (record d { groups = exchange_group n (λ (g : Group). record g { active = active }) d.groups })
 groups_exchanged d n active h = with_groups d _ d.group_members h
     (record {
-      numbered = numbered_map group_number 1000 (λ (g : Group). if g.number == n then record g { active = active } else g) d.groups number h.groups.numbered;
+      numbered = numbered_map group_number GROUP_LIMIT (λ (g : Group). if g.number == n then record g { active = active } else g) d.groups number h.groups.numbered;
       names = differ_map {K = ℕ × List ℕ} (λ (g : Group). (g.owner, g.name)) (λ (g : Group). if g.number == n then record g { active = active } else g) d.groups (λ g. same_when (λ (x : Group). let pair : ℕ × List ℕ = (x.owner, x.name) in pair) (g.number == n) (record g { active = active }) g refl) h.groups.names;
       ends = each_map (λ (g : Group). IsOrg d.orgs g.owner) (λ (g : Group). if g.number == n then record g { active = active } else g) d.groups (λ g e. subst (λ o. IsOrg d.orgs o) (sym (same_when (λ (x : Group). x.owner) (g.number == n) (record g { active = active }) g refl)) e) h.groups.ends;
     })
@@ -170,10 +171,10 @@ groups_exchanged d n active h = with_groups d _ d.group_members h
 pub kept : (d : Directory) (a : Person) (c : CircleCommand) → IsSound d → IsOrg d.orgs a.org → refusal_of d a c ≡ None → IsSound (changed d a c)
 kept d a (AddOrg name) h known fine =
     let p = passed (grounds d a (AddOrg name)) fine in
-    add_org d (record { number = next_in d (AddOrg name); name = name }) h (next_number org_number 1000 d.orgs h.orgs.numbered) p.1.1.0 (room 1000 (length d.orgs) p.1.1.1.0)
+    add_org d (record { number = next_in d (AddOrg name); name = name }) h (next_number org_number ORG_LIMIT d.orgs h.orgs.numbered) p.1.1.0 (room ORG_LIMIT (length d.orgs) p.1.1.1.0)
 kept d a (AddPerson org name role key) h known fine =
     let p = passed (grounds d a (AddPerson org name role key)) fine in
-    with_accounts d _ h (add_account d (record { person = record { number = next_in d (AddPerson org name role key); org = org; name = name; role = role; active = true; nominated = false }; key = key }) h (next_number account_number 10000 d.accounts h.accounts.numbered) p.1.1.1.0 (room 10000 (length d.accounts) p.1.1.1.1.0) (yes (has_org org d) p.1.1.0))
+    with_accounts d _ h (add_account d (record { person = record { number = next_in d (AddPerson org name role key); org = org; name = name; role = role; active = true; nominated = false }; key = key }) h (next_number account_number PERSON_LIMIT d.accounts h.accounts.numbered) p.1.1.1.0 (room PERSON_LIMIT (length d.accounts) p.1.1.1.1.0) (yes (has_org org d) p.1.1.0))
 kept d a (SuspendPerson person) h known fine = with_accounts d _ h (accounts_exchanged d person (λ (p : Person). record p { active = false }) (λ p. refl) (λ p. refl) h)
 kept d a (Nominate person) h known fine = with_accounts d _ h (accounts_exchanged d person (λ (p : Person). record p { nominated = true }) (λ p. refl) (λ p. refl) h)
 kept d a (Unnominate person) h known fine = with_accounts d _ h (accounts_exchanged d person (λ (p : Person). record p { nominated = false }) (λ p. refl) (λ p. refl) h)
@@ -183,7 +184,7 @@ kept d a (AddClient org client) h known fine =
 kept d a (RemoveClient org client) h known fine = with_clients d _ h (clients_left d _ h)
 kept d a (AddCommunity name) h known fine =
     let p = passed (grounds d a (AddCommunity name)) fine in
-    add_community d (record { number = next_in d (AddCommunity name); name = name }) h (next_number community_number 1000 d.communities h.communities.numbered) p.1.1.0 (room 1000 (length d.communities) p.1.1.1.0)
+    add_community d (record { number = next_in d (AddCommunity name); name = name }) h (next_number community_number COMMUNITY_LIMIT d.communities h.communities.numbered) p.1.1.0 (room COMMUNITY_LIMIT (length d.communities) p.1.1.1.0)
 kept d a (Join community org) h known fine =
     let p = passed (grounds d a (Join community org)) fine in
     let row : Membership = record { community = community; org = org } in
@@ -198,7 +199,7 @@ kept d a (Link community other) h known fine =
 kept d a (Unlink community other) h known fine = with_connections d _ h (record { rising = pairs_left _ _ d.connections h.connections.rising; ends = each_left _ _ d.connections h.connections.ends })
 kept d a (NewGroup name releasability) h known fine =
     let p = passed (grounds d a (NewGroup name releasability)) fine in
-    new_group d (record { number = next_in d (NewGroup name releasability); owner = a.org; name = name; releasability = releasability; active = true }) h refl p.1.1.1.0 (room 1000 (length d.groups) p.1.1.1.1.0) known
+    new_group d (record { number = next_in d (NewGroup name releasability); owner = a.org; name = name; releasability = releasability; active = true }) h refl p.1.1.1.0 (room GROUP_LIMIT (length d.groups) p.1.1.1.1.0) known
 kept d a (GroupAdd group org extend) h known fine =
     let p = passed (grounds d a (GroupAdd group org extend)) fine in
     let there = both (has_group_member group a.org d) (has_org org d) p.1.0 in

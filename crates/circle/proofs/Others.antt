@@ -6,6 +6,7 @@ use Rattle.std.specs.Ordering.{is_lt}
 use Rattle.std.specs.Cmp.{IsTotalOrder}
 use Rattle.std.specs.List.{list_any}
 use Rattle.std.proofs.lemmas.Bool.Decides.{nat_tests}
+use Rattle.circle.specs.declared.TheConstants.{GROUP_LIMIT}
 use Rattle.circle.specs.declared.directory.Account.{Account}
 use Rattle.circle.specs.declared.directory.Person.{Person}
 use Rattle.circle.specs.declared.command.CircleCommand.{CircleCommand}
@@ -225,7 +226,7 @@ two_owners d theirs mine own other sound apart of_them of_own same =
 -- a group that is there hasn't the next number
 not_next : (d : Directory) (group other : ℕ) (name releasability : List ℕ) → IsSound d → has_group_of group other d ≡ true → next_in d (NewGroup name releasability) ≢ group
 not_next d group other name releasability sound there same =
-    let next : next_in d (NewGroup name releasability) ≡ length d.groups + 1 = next_number group_number 1000 d.groups sound.groups.numbered in
+    let next : next_in d (NewGroup name releasability) ≡ length d.groups + 1 = next_number group_number GROUP_LIMIT d.groups sound.groups.numbered in
     found_then (λ (g : Group). g.number == group && g.owner == other) (λ (g : Group). g.number ≤ 0 + length d.groups) ⊥ d.groups
     (λ g here low. clash g.number (first_of_pair g.number group g.owner other here) low next)
     there (within group_number 0 d.groups sound.groups.numbered.0)

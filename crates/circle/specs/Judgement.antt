@@ -1,5 +1,6 @@
 -- The refusal as the facts tell it: one order of grounds for every command.
 use Rattle.std.specs.Prelude.{ℕ, Bool, true, false, not, ◌&&◌, ◌||◌, ◌==◌, nat_le, List, Option, Some, None, if◌then◌else◌, codes}
+use Rattle.circle.specs.declared.TheConstants.{ORG_LIMIT, PERSON_LIMIT, COMMUNITY_LIMIT, GROUP_LIMIT}
 use Rattle.circle.specs.declared.directory.Role.{Role}
 use Rattle.circle.specs.declared.directory.Person.{Person}
 use Rattle.circle.specs.declared.command.CircleCommand.{CircleCommand}
@@ -60,9 +61,12 @@ is_removal (CancelArrange org) = true
 is_removal (Unnominate person) = true
 is_removal _ = false
 
+-- how many rows there may be of the kind that the command numbers; of what numbers nothing the facts count 0
 abbrev pub limit_of : CircleCommand → ℕ
-limit_of (AddPerson org name role key) = 10000
-limit_of _ = 1000
+limit_of (AddOrg name) = ORG_LIMIT
+limit_of (AddPerson org name role key) = PERSON_LIMIT
+limit_of (AddCommunity name) = COMMUNITY_LIMIT
+limit_of _ = GROUP_LIMIT
 
 abbrev pub with_field : Option (List ℕ) → Option Refusal → Option Refusal
 with_field (Some field) rest = Some (record { code = B1; detail = field })

@@ -1,5 +1,6 @@
 -- On which grounds a command is refused.
 use Rattle.std.specs.Prelude.{ℕ, Bool, true, false, not, ◌&&◌, ◌||◌, ◌==◌, nat_le, List, [], ◌∷◌, length, Option, Some, None, if◌then◌else◌, codes, min, max}
+use Rattle.circle.specs.declared.TheConstants.{ORG_LIMIT, PERSON_LIMIT, COMMUNITY_LIMIT, GROUP_LIMIT}
 use Rattle.circle.specs.declared.directory.Role.{Role}
 use Rattle.circle.specs.declared.directory.Role.TheVariants.{Administrator, Coordinator}
 use Rattle.circle.specs.declared.directory.Person.{Person}
@@ -67,9 +68,9 @@ full limit rows = refuse L1 (nat_le limit (length rows))
 -- why the actor's command may be refused, the first ground first
 abbrev pub grounds : Directory → Person → CircleCommand → List Ground
 grounds d a (AddOrg name) =
-    unless_administrator a ∷ bad (codes "name") (not (is_name name)) ∷ already (has_org_named name d) ∷ full 1000 d.orgs ∷ []
+    unless_administrator a ∷ bad (codes "name") (not (is_name name)) ∷ already (has_org_named name d) ∷ full ORG_LIMIT d.orgs ∷ []
 grounds d a (AddPerson org name role key) =
-    unless_administrator a ∷ bad (codes "name") (not (is_name name)) ∷ unknown_unless (has_org org d) ∷ already (has_key key d) ∷ full 10000 d.accounts ∷ []
+    unless_administrator a ∷ bad (codes "name") (not (is_name name)) ∷ unknown_unless (has_org org d) ∷ already (has_key key d) ∷ full PERSON_LIMIT d.accounts ∷ []
 grounds d a (SuspendPerson person) =
     unless_administrator a ∷ bad (codes "person") (person == a.number) ∷ unknown_unless (has_person person d) ∷ already (has_suspended person d) ∷ []
 grounds d a (AddClient org client) =
@@ -77,7 +78,7 @@ grounds d a (AddClient org client) =
 grounds d a (RemoveClient org client) =
     unless_administrator a ∷ bad (codes "client") (org == client) ∷ unknown_unless (has_org org d && has_org client d) ∷ not_so_unless (has_client org client d) ∷ []
 grounds d a (AddCommunity name) =
-    unless_administrator a ∷ bad (codes "name") (not (is_name name)) ∷ already (has_community_named name d) ∷ full 1000 d.communities ∷ []
+    unless_administrator a ∷ bad (codes "name") (not (is_name name)) ∷ already (has_community_named name d) ∷ full COMMUNITY_LIMIT d.communities ∷ []
 grounds d a (Join community org) =
     unless_administrator a ∷ unknown_unless (has_community community d && has_org org d) ∷ already (has_membership community org d) ∷ []
 grounds d a (Leave community org) =
@@ -87,7 +88,7 @@ grounds d a (Link community other) =
 grounds d a (Unlink community other) =
     unless_administrator a ∷ bad (codes "other") (community == other) ∷ unknown_unless (has_community community d && has_community other d) ∷ not_so_unless (has_connection (min community other) (max community other) d) ∷ []
 grounds d a (NewGroup name releasability) =
-    unless_coordinator a ∷ bad (codes "name") (not (is_name name)) ∷ bad (codes "releasability") (not (is_releasability releasability)) ∷ already (has_group_named a.org name d) ∷ full 1000 d.groups ∷ []
+    unless_coordinator a ∷ bad (codes "name") (not (is_name name)) ∷ bad (codes "releasability") (not (is_releasability releasability)) ∷ already (has_group_named a.org name d) ∷ full GROUP_LIMIT d.groups ∷ []
 grounds d a (GroupAdd group org extend) =
     unless_coordinator a ∷ unknown_unless (has_group_member group a.org d && has_org org d) ∷ not_yours (not (has_extender group a.org d)) ∷ already (has_group_member group org d) ∷ []
 grounds d a (GroupRemove group org) =

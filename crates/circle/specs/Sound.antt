@@ -2,6 +2,7 @@
 use Rattle.std.specs.Prelude.{◌≡◌, ◌≢◌, ℕ, ◌+◌, ◌≤◌, ◌<◌, ◌==◌, List, [], ◌∷◌, length, IsTrue}
 use Rattle.std.specs.declared.cmp.Ordering.TheVariants.{Less}
 use Rattle.std.specs.List.{AllByRecursion, list_any}
+use Rattle.circle.specs.declared.TheConstants.{ORG_LIMIT, PERSON_LIMIT, COMMUNITY_LIMIT, GROUP_LIMIT}
 use Rattle.circle.specs.declared.directory.Org.{Org}
 use Rattle.circle.specs.declared.directory.Account.{Account}
 use Rattle.circle.specs.declared.directory.Client.{Client}
@@ -52,11 +53,11 @@ abbrev pub IsGroup : List Group → ℕ → Type 0
 IsGroup = Names group_number
 
 pub record SoundOrgs (orgs : List Org) : Type 0 where
-  pub numbered : IsNumbered org_number 1000 orgs
+  pub numbered : IsNumbered org_number ORG_LIMIT orgs
   pub names : Differ (λ (o : Org). o.name) orgs
 
 pub record SoundAccounts (orgs : List Org) (accounts : List Account) : Type 0 where
-  pub numbered : IsNumbered account_number 10000 accounts
+  pub numbered : IsNumbered account_number PERSON_LIMIT accounts
   pub keys : Differ (λ (a : Account). a.key) accounts
   pub ends : Each (λ (a : Account). IsOrg orgs a.person.org) accounts
 
@@ -65,7 +66,7 @@ pub record SoundClients (orgs : List Org) (clients : List Client) : Type 0 where
   pub ends : Each (λ (c : Client). IsOrg orgs c.org × IsOrg orgs c.client) clients
 
 pub record SoundCommunities (communities : List Community) : Type 0 where
-  pub numbered : IsNumbered community_number 1000 communities
+  pub numbered : IsNumbered community_number COMMUNITY_LIMIT communities
   pub names : Differ (λ (c : Community). c.name) communities
 
 pub record SoundMemberships (orgs : List Org) (communities : List Community) (memberships : List Membership) : Type 0 where
@@ -77,7 +78,7 @@ pub record SoundConnections (communities : List Community) (connections : List C
   pub ends : Each (λ (l : Connection). (l.low < l.high) × IsCommunity communities l.low × IsCommunity communities l.high) connections
 
 pub record SoundGroups (orgs : List Org) (groups : List Group) : Type 0 where
-  pub numbered : IsNumbered group_number 1000 groups
+  pub numbered : IsNumbered group_number GROUP_LIMIT groups
   pub names : Differ {K = ℕ × List ℕ} (λ (g : Group). (g.owner, g.name)) groups
   pub ends : Each (λ (g : Group). IsOrg orgs g.owner) groups
 

@@ -12,6 +12,7 @@ use crate::command::{CircleCommand, CircleFacts, Edit};
 use crate::directory::{Person, Role};
 use crate::edit::Unfit;
 use crate::refusal::{Code, Refusal};
+use crate::{COMMUNITY_LIMIT, GROUP_LIMIT, ORG_LIMIT, PERSON_LIMIT};
 use std::alloc::Global;
 
 /// The refusal of the actor's command, or the whole change that it makes: for each directory of which
@@ -140,8 +141,11 @@ impl CircleCommand {
         ensures { result ≡ limit_of self.now }
     {
         match self {
-            CircleCommand::AddPerson { .. } => 10_000,
-            _ => 1_000,
+            CircleCommand::AddOrg { .. } => ORG_LIMIT,
+            CircleCommand::AddPerson { .. } => PERSON_LIMIT,
+            CircleCommand::AddCommunity { .. } => COMMUNITY_LIMIT,
+            // of what numbers nothing the facts count 0, so any limit lets it pass
+            _ => GROUP_LIMIT,
         }
     }
 }

@@ -21,3 +21,21 @@ pub mod name;
 pub mod refusal;
 pub mod releasability;
 pub mod text;
+
+/// How many organisations there may be.
+pub const ORG_LIMIT: u32 = 1_000;
+
+/// How many persons there may be, the suspended ones too.
+pub const PERSON_LIMIT: u32 = 10_000;
+
+/// How many communities there may be.
+pub const COMMUNITY_LIMIT: u32 = 1_000;
+
+/// How many sharing groups there may be, those that aren't active too.
+pub const GROUP_LIMIT: u32 = 1_000;
+
+/// How many bytes a name may have.
+pub const NAME_LIMIT: usize = 128;
+
+/// How many bytes a releasability may have.
+pub const RELEASABILITY_LIMIT: usize = 512;

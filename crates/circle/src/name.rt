@@ -3,10 +3,11 @@ ghost use Rattle.std.specs.Prelude.{◌≡◌, IfOk, IsTrue, Some, None, if◌th
 ghost use Rattle.std.specs.List.{list_all};
 ghost use Rattle.circle.specs.Texts.{is_name, is_no_control};
 
+use crate::NAME_LIMIT;
 use std::alloc::{AllocError, Global};
 use std::marker::Model;
 
-/// The name of an organisation, a person, a community or a group: 1 to 128 bytes, none of them
+/// The name of an organisation, a person, a community or a group: 1 to [`NAME_LIMIT`] bytes, none of them
 /// a control character of ASCII.
 #[derive(Debug, Drop)]
 pub struct Name {
@@ -56,7 +57,7 @@ fn names_something(text: &str) -> bool
     ensures { result ≡ is_name text.now }
 {
     let bytes = text.as_bytes();
-    1 <= bytes.len() && bytes.len() <= 128 && has_no_control(bytes)
+    1 <= bytes.len() && bytes.len() <= NAME_LIMIT && has_no_control(bytes)
 }
 
 fn has_no_control(bytes: &[u8]) -> bool

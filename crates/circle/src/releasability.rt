@@ -2,10 +2,11 @@
 ghost use Rattle.std.specs.Prelude.{◌≡◌, IfOk, IsTrue, Some, None, if◌then◌else◌, string_bytes};
 ghost use Rattle.circle.specs.Texts.{is_releasability};
 
+use crate::RELEASABILITY_LIMIT;
 use std::alloc::{AllocError, Global};
 use std::marker::Model;
 
-/// To whom a group's content may be passed on, in the group's own words: at most 512 bytes.
+/// To whom a group's content may be passed on, in the group's own words: at most [`RELEASABILITY_LIMIT`] bytes.
 #[derive(Debug, Drop)]
 pub struct Releasability {
     text: String,
@@ -27,7 +28,7 @@ impl Releasability {
     pub fn of(alloc: Global, text: &str) -> Result<Option<Releasability>, AllocError>
         ensures { IfOk result (λ found. found ≡ (if is_releasability text.now then Some text.now else None)) }
     {
-        if 512 < text.len() {
+        if RELEASABILITY_LIMIT < text.len() {
             return Ok(None);
         }
         let text = String::from_str(alloc, text)?;
