@@ -13,6 +13,7 @@ use Rattle.circle.specs.Aftermath.{next_in, edit_of, rows_of}
 use Rattle.circle.specs.declared.directory.Person.{Person}
 use Rattle.circle.specs.declared.command.CircleCommand.{CircleCommand}
 use Rattle.circle.specs.declared.command.CircleCommand.TheVariants.{AddOrg, AddPerson, SuspendPerson, AddClient, RemoveClient, AddCommunity, Join, Leave, Link, Unlink, NewGroup, GroupAdd, GroupRemove, GroupActive, Arrange, CancelArrange, Nominate, Unnominate}
+use Rattle.hub_core.specs.declared.TheConstants.{REVISION_LIMIT}
 use Rattle.hub_core.specs.Documents.{Lines, documents_in, made_at}
 use Rattle.hub_core.specs.State.{State, incident_of}
 use Rattle.hub_core.specs.Aftermath.{next_incident, put_gate, put_incident, put_incidents, edits_of}
@@ -88,11 +89,11 @@ same_revision (Some i) = refl
 pub revision_fits : (s : State) (a : Person) (r : Request) → IsSound s → next_known (facts_of s a r) < 2 ^ 32
 revision_fits s a r sound = small (looked_up s (incident_asked r)) (there (incident_asked r))
   where
-    there : (n : Option ℕ) (i : Incident) → looked_up s n ≡ Some i → i.revision ≤ 1000000
+    there : (n : Option ℕ) (i : Incident) → looked_up s n ≡ Some i → i.revision ≤ REVISION_LIMIT
     there None i h = cc
-    there (Some n) i h = found_each (λ (j : Incident). j.revision ≤ 1000000) (λ (j : Incident). j.number == n) s.incidents i h sound.incidents.revisions
+    there (Some n) i h = found_each (λ (j : Incident). j.revision ≤ REVISION_LIMIT) (λ (j : Incident). j.number == n) s.incidents i h sound.incidents.revisions
 
-    small : (o : Option Incident) → ((i : Incident) → o ≡ Some i → i.revision ≤ 1000000) → option_map_or (λ (k : Known). k.revision) (option_map known o) 0 + 1 < 2 ^ 32
+    small : (o : Option Incident) → ((i : Incident) → o ≡ Some i → i.revision ≤ REVISION_LIMIT) → option_map_or (λ (k : Known). k.revision) (option_map known o) 0 + 1 < 2 ^ 32
     small None h = omega arith
     small (Some i) h = let low = h i refl in omega (arith, low)
 

@@ -14,6 +14,7 @@ use Rattle.hub_core.specs.Reads.{standing_for, case_for, entry_of}
 use Rattle.hub_core.specs.declared.state.Incident.{Incident}
 use Rattle.hub_core.specs.declared.reply.View.{View as ViewOf}
 use Rattle.hub_core.specs.declared.reply.Reply.TheVariants.{View}
+use Rattle.hub.specs.declared.TheConstants.{PAGE_LIMIT}
 use Rattle.hub.specs.Told.{standing_at, is_served, is_found, is_addressed, view_of, in_order}
 use Rattle.hub.specs.Replies.{page_of, viewed, nothing_for_you}
 use Rattle.redact.specs.Alike.{IsToldAlike}
@@ -66,7 +67,7 @@ module _ (now : ℤ) (p : Person) (s t : State) (e : Incident → Incident) (inc
       by_test true true false true bs cs fc gc ih = absurd (false≢true cs)
 
   pub page-same : (f g : Incident → Bool) (after : ℕ) → ((i : Incident) → ToldOf now p s t i (e i) → f i ≡ g (e i)) → page_of f after s ≡ page_of g after t
-  page-same f g after same = ap (take 100) (page-map after f g s.incidents same each ∙ ap (λ is. map entry_of (filter g (filter (λ (i : Incident). nat_lt after i.number) is))) (sym incidents))
+  page-same f g after same = ap (take PAGE_LIMIT) (page-map after f g s.incidents same each ∙ ap (λ is. map entry_of (filter g (filter (λ (i : Incident). nat_lt after i.number) is))) (sym incidents))
 
   view-found : (q : ℕ) (xs : List Incident) → AllByRecursion (λ i. ToldOf now p s t i (e i)) xs →
       viewed s now p (find (λ (i : Incident). i.number == q) xs) ≡ viewed t now p (find (λ (i : Incident). i.number == q) (map e xs))

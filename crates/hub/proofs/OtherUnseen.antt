@@ -19,6 +19,7 @@ use Rattle.hub_core.specs.declared.state.Incident.{Incident}
 use Rattle.hub_core.specs.declared.state.Gate.{Gate}
 use Rattle.hub_core.specs.declared.state.Recipient.{Recipient}
 use Rattle.hub_core.specs.declared.state.Permission.{Permission}
+use Rattle.hub.specs.declared.TheConstants.{PAGE_LIMIT}
 use Rattle.hub.specs.Told.{standing_at, is_served, is_found, is_addressed, view_of, in_order}
 use Rattle.redact.proofs.Filtered.{each-from, any-each, any-kept, filter-within, filter-passing, filter-both, filter-agree}
 use Rattle.redact.proofs.Promised.{found-listed}
@@ -144,7 +145,7 @@ module _ (now : ℤ) (a : Account) (s t : State) (ss : IsSound s) (st : IsSound 
   served-same i k = ap (λ c. is_listed i.document c (standing_at s now a.person i)) (case-same i k) ∙ ap (λ st. is_listed i.document (case_for t i) st) (standing-same i k)
 
   pub listed-same : (after : ℕ) → page_of (is_served s now a.person) after s ≡ page_of (is_served t now a.person) after t
-  listed-same after = ap (λ (is : List Incident). take 100 (map entry_of is))
+  listed-same after = ap (λ (is : List Incident). take PAGE_LIMIT (map entry_of is))
       (page-but n after (is_served s now a.person) (is_served t now a.person) s.incidents t.incidents h.others.incidents served-same
       (none-of s n (is_served s now a.person) ss h.first) (none-of t n (is_served t now a.person) st h.second))
 
@@ -203,7 +204,7 @@ module _ (now : ℤ) (a : Account) (s t : State) (ss : IsSound s) (st : IsSound 
   none' = none-of t m (is_served t now p) st h.second
 
   found-page : (needle : Bytes) (class : Option Bytes) (after : ℕ) → page_of (λ (i : Incident). is_found s now p i needle class) after s ≡ page_of (λ (i : Incident). is_found t now p i needle class) after t
-  found-page needle class after = ap (λ (is : List Incident). take 100 (map entry_of is))
+  found-page needle class after = ap (λ (is : List Incident). take PAGE_LIMIT (map entry_of is))
       (page-but m after (λ i. is_found s now p i needle class) (λ i. is_found t now p i needle class) s.incidents t.incidents h.others.incidents
       (λ i k. ap (λ c. finds i.document c (standing_at s now p i) needle class) (case-same now a s t ss st h i k) ∙ ap (λ x. finds i.document (case_for t i) x needle class) (standing-same now a s t ss st h i k))
       (each-from _ _ (λ i f k. unfound s now p i needle class (f k)) s.incidents none)
@@ -214,7 +215,7 @@ module _ (now : ℤ) (a : Account) (s t : State) (ss : IsSound s) (st : IsSound 
   late false y k = refl
 
   addressed-page : (after : ℕ) → page_of (λ (i : Incident). is_addressed s now p i && is_served s now p i) after s ≡ page_of (λ (i : Incident). is_addressed t now p i && is_served t now p i) after t
-  addressed-page after = ap (λ (is : List Incident). take 100 (map entry_of is))
+  addressed-page after = ap (λ (is : List Incident). take PAGE_LIMIT (map entry_of is))
       (page-but m after (λ i. is_addressed s now p i && is_served s now p i) (λ i. is_addressed t now p i && is_served t now p i) s.incidents t.incidents h.others.incidents
       (λ i k. ap (λ x. (x.person || x.addressed) && is_served s now p i) (standing-same now a s t ss st h i k) ∙ ap (λ b. is_addressed t now p i && b) (served-same now a s t ss st h i k))
       (each-from _ _ (λ i f k. late (is_addressed s now p i) (is_served s now p i) (f k)) s.incidents none)

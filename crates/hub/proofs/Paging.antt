@@ -18,6 +18,7 @@ use Rattle.policy.specs.declared.standing.Standing.{Standing}
 use Rattle.policy.specs.declared.case.Case.{Case}
 use Rattle.redact.specs.Told.{is_listed}
 use Rattle.hub_core.specs.Documents.{Lines}
+use Rattle.hub.specs.declared.TheConstants.{PAGE_LIMIT}
 use Rattle.hub.specs.Wanted.{is_told, number_at_end, rules_out}
 use Rattle.hub.specs.declared.wanted.Wanted.{Wanted}
 use Rattle.hub.specs.declared.wanted.Wanted.TheVariants.{Shown, Found, Addressed}
@@ -118,43 +119,43 @@ module _ (s : State) (test : Incident → Bool) where
       ∙ ap (λ is. filter (λ (x : Entry). test_at x.number) (entries_after a n s) ++ map entry_of (filter test is)) (sym behind)
 
   -- a page goes on with the entries read
-  page_by : (a : ℕ) (e : Entry) (old new : List Entry) → IsSound s → slice_get (entries_after a 100 s) (length (entries_after a 100 s) - 1) ≡ Some e →
-      new ≡ take 100 (old ++ filter (λ (x : Entry). test_at x.number) (entries_after a 100 s)) →
-      take 100 (new ++ passing_above e.number) ≡ take 100 (old ++ passing_above a)
+  page_by : (a : ℕ) (e : Entry) (old new : List Entry) → IsSound s → slice_get (entries_after a PAGE_LIMIT s) (length (entries_after a PAGE_LIMIT s) - 1) ≡ Some e →
+      new ≡ take PAGE_LIMIT (old ++ filter (λ (x : Entry). test_at x.number) (entries_after a PAGE_LIMIT s)) →
+      take PAGE_LIMIT (new ++ passing_above e.number) ≡ take PAGE_LIMIT (old ++ passing_above a)
   page_by a e old new sound at is =
-      let F = filter (λ (x : Entry). test_at x.number) (entries_after a 100 s) in
-      ap (λ xs. take 100 (xs ++ passing_above e.number)) is
-      ∙ take_take 100 (old ++ F) (passing_above e.number)
-      ∙ ap (take 100) (append_assoc old F (passing_above e.number))
-      ∙ ap (λ xs. take 100 (old ++ xs)) (sym (passing-split a 100 e sound at))
+      let F = filter (λ (x : Entry). test_at x.number) (entries_after a PAGE_LIMIT s) in
+      ap (λ xs. take PAGE_LIMIT (xs ++ passing_above e.number)) is
+      ∙ take_take PAGE_LIMIT (old ++ F) (passing_above e.number)
+      ∙ ap (take PAGE_LIMIT) (append_assoc old F (passing_above e.number))
+      ∙ ap (λ xs. take PAGE_LIMIT (old ++ xs)) (sym (passing-split a PAGE_LIMIT e sound at))
 
-  pub page_on : (a b : ℕ) (old new : List Entry) → IsSound s → number_at_end (entries_after a 100 s) ≡ Some b →
-      new ≡ take 100 (old ++ filter (λ (x : Entry). test_at x.number) (entries_after a 100 s)) →
-      take 100 (new ++ passing_above b) ≡ take 100 (old ++ passing_above a)
+  pub page_on : (a b : ℕ) (old new : List Entry) → IsSound s → number_at_end (entries_after a PAGE_LIMIT s) ≡ Some b →
+      new ≡ take PAGE_LIMIT (old ++ filter (λ (x : Entry). test_at x.number) (entries_after a PAGE_LIMIT s)) →
+      take PAGE_LIMIT (new ++ passing_above b) ≡ take PAGE_LIMIT (old ++ passing_above a)
   page_on a b old new sound at is =
-      let last = at_end (slice_get (entries_after a 100 s) (length (entries_after a 100 s) - 1)) b at in
-      subst (λ n. take 100 (new ++ passing_above n) ≡ take 100 (old ++ passing_above a)) last.2 (page_by a last.0 old new sound last.1 is)
+      let last = at_end (slice_get (entries_after a PAGE_LIMIT s) (length (entries_after a PAGE_LIMIT s) - 1)) b at in
+      subst (λ n. take PAGE_LIMIT (new ++ passing_above n) ≡ take PAGE_LIMIT (old ++ passing_above a)) last.2 (page_by a last.0 old new sound last.1 is)
 
   -- nothing is left where none is read
-  pub page_end : (a : ℕ) (old : List Entry) → IsSound s → entries_after a 100 s ≡ [] → length old ≤ 100 → take 100 (old ++ passing_above a) ≡ old
+  pub page_end : (a : ℕ) (old : List Entry) → IsSound s → entries_after a PAGE_LIMIT s ≡ [] → length old ≤ PAGE_LIMIT → take PAGE_LIMIT (old ++ passing_above a) ≡ old
   page_end a old sound none few =
       let D = drop a s.incidents in
-      let empty : D ≡ [] = nothing D (sym (entries-drop a 100 sound) ∙ none) in
-      ap (λ is. take 100 (old ++ map entry_of (filter test is))) (above-numbered incident_number a s.incidents sound.incidents.numbered.0 ∙ empty)
-      ∙ ap (take 100) (append-nil old) ∙ take_all 100 old few
+      let empty : D ≡ [] = nothing D (sym (entries-drop a PAGE_LIMIT sound) ∙ none) in
+      ap (λ is. take PAGE_LIMIT (old ++ map entry_of (filter test is))) (above-numbered incident_number a s.incidents sound.incidents.numbered.0 ∙ empty)
+      ∙ ap (take PAGE_LIMIT) (append-nil old) ∙ take_all PAGE_LIMIT old few
     where
-      nothing : (is : List Incident) → map entry_of (take 100 is) ≡ [] → is ≡ []
+      nothing : (is : List Incident) → map entry_of (take PAGE_LIMIT is) ≡ [] → is ≡ []
       nothing [] h = refl
       nothing (i ∷ is) h = cc
 
   -- where the last that is read isn't above the number, none is read
-  pub none_read : (a b : ℕ) → IsSound s → number_at_end (entries_after a 100 s) ≡ Some b → b ≤ a → ⊥
+  pub none_read : (a b : ℕ) → IsSound s → number_at_end (entries_after a PAGE_LIMIT s) ≡ Some b → b ≤ a → ⊥
   none_read a b sound end low =
-      let last = at_end (slice_get (entries_after a 100 s) (length (entries_after a 100 s) - 1)) b end in
+      let last = at_end (slice_get (entries_after a PAGE_LIMIT s) (length (entries_after a PAGE_LIMIT s) - 1)) b end in
       let e = last.0 in
-      let at : slice_get (entries_after a 100 s) (length (entries_after a 100 s) - 1) ≡ Some e = last.1 in
-      let up = last-number a 100 e sound at in
-      let within = slice_get_within (entries_after a 100 s) (length (entries_after a 100 s) - 1) e at in
+      let at : slice_get (entries_after a PAGE_LIMIT s) (length (entries_after a PAGE_LIMIT s) - 1) ≡ Some e = last.1 in
+      let up = last-number a PAGE_LIMIT e sound at in
+      let within = slice_get_within (entries_after a PAGE_LIMIT s) (length (entries_after a PAGE_LIMIT s) - 1) e at in
       omega (arith, up, within, last.2, low)
 
 pub no_last : {X : Type 0} (xs : List X) → slice_get xs (length xs - 1) ≡ None → xs ≡ []
@@ -177,28 +178,28 @@ no_end es h = no_last es (none (slice_get es (length es - 1)) h)
 
 module _ (test : Entry → Bool) (entries : List Entry) (i : ℕ) (d : Entry) (old new : List Entry) where
   pub picked : i < length entries → test (get_or entries i d) ≡ true → new ≡ old ++ get_or entries i d ∷ [] →
-      take 100 (new ++ filter test (drop (i + 1) entries)) ≡ take 100 (old ++ filter test (drop i entries))
+      take PAGE_LIMIT (new ++ filter test (drop (i + 1) entries)) ≡ take PAGE_LIMIT (old ++ filter test (drop i entries))
   picked low holds grown =
       let e = get_or entries i d in
       let D = drop (i + 1) entries in
-      ap (λ xs. take 100 (xs ++ filter test D)) grown
-      ∙ ap (take 100) (append_assoc old (e ∷ []) (filter test D))
-      ∙ ap (λ xs. take 100 (old ++ xs)) (sym (cond-true (test e) (e ∷ filter test D) (filter test D) holds))
-      ∙ ap (λ xs. take 100 (old ++ filter test xs)) (sym (drop_more entries i d low))
+      ap (λ xs. take PAGE_LIMIT (xs ++ filter test D)) grown
+      ∙ ap (take PAGE_LIMIT) (append_assoc old (e ∷ []) (filter test D))
+      ∙ ap (λ xs. take PAGE_LIMIT (old ++ xs)) (sym (cond-true (test e) (e ∷ filter test D) (filter test D) holds))
+      ∙ ap (λ xs. take PAGE_LIMIT (old ++ filter test xs)) (sym (drop_more entries i d low))
 
   pub passed_over : i < length entries → test (get_or entries i d) ≡ false → new ≡ old →
-      take 100 (new ++ filter test (drop (i + 1) entries)) ≡ take 100 (old ++ filter test (drop i entries))
+      take PAGE_LIMIT (new ++ filter test (drop (i + 1) entries)) ≡ take PAGE_LIMIT (old ++ filter test (drop i entries))
   passed_over low fails same =
       let e = get_or entries i d in
       let D = drop (i + 1) entries in
-      ap (λ xs. take 100 (xs ++ filter test D)) same
-      ∙ ap (λ xs. take 100 (old ++ xs)) (sym (cond-false (test e) (e ∷ filter test D) (filter test D) fails))
-      ∙ ap (λ xs. take 100 (old ++ filter test xs)) (sym (drop_more entries i d low))
+      ap (λ xs. take PAGE_LIMIT (xs ++ filter test D)) same
+      ∙ ap (λ xs. take PAGE_LIMIT (old ++ xs)) (sym (cond-false (test e) (e ∷ filter test D) (filter test D) fails))
+      ∙ ap (λ xs. take PAGE_LIMIT (old ++ filter test xs)) (sym (drop_more entries i d low))
 
-pub no_more : (test : Entry → Bool) (entries : List Entry) (i : ℕ) (old : List Entry) → length entries ≤ i → length old ≤ 100 →
-    take 100 (old ++ filter test (drop i entries)) ≡ old
+pub no_more : (test : Entry → Bool) (entries : List Entry) (i : ℕ) (old : List Entry) → length entries ≤ i → length old ≤ PAGE_LIMIT →
+    take PAGE_LIMIT (old ++ filter test (drop i entries)) ≡ old
 no_more test entries i old past few =
-    ap (λ xs. take 100 (old ++ filter test xs)) (drop_all i entries past) ∙ ap (take 100) (append-nil old) ∙ take_all 100 old few
+    ap (λ xs. take PAGE_LIMIT (old ++ filter test xs)) (drop_all i entries past) ∙ ap (take PAGE_LIMIT) (append-nil old) ∙ take_all PAGE_LIMIT old few
 
 -- ---- what a standing rules out
 

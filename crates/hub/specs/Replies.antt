@@ -21,6 +21,7 @@ use Rattle.hub_core.specs.declared.reply.Reply.{Reply}
 use Rattle.hub_core.specs.declared.reply.Reply.TheVariants.{Done, Numbers, Revision, View, Incidents, Groups, Caller, Trace, Refused}
 use Rattle.hub_core.specs.declared.request.Request.{Request}
 use Rattle.hub_core.specs.declared.request.Request.TheVariants as ask
+use Rattle.hub.specs.declared.TheConstants.{PAGE_LIMIT}
 use Rattle.hub.specs.Told.{is_served, is_found, is_addressed, view_of, trace_of}
 use Rattle.hub.specs.declared.key.Key.{Key}
 use Rattle.hub.specs.declared.key.Key.TheVariants.{Absent, Digest}
@@ -38,9 +39,9 @@ caller_of s (Digest key) = if_active (person_by_key key s)
 
 -- ---- pages
 
--- the first 100 incidents above a number of which something holds
+-- the first incidents above a number of which something holds
 abbrev pub page_of : (Incident → Bool) → ℕ → State → List Entry
-page_of test after s = take 100 (map entry_of (filter test (incidents_above after s)))
+page_of test after s = take PAGE_LIMIT (map entry_of (filter test (incidents_above after s)))
 
 -- ---- a change that is made
 

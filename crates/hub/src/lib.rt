@@ -6,7 +6,7 @@
 //! 1. `Machine`: a run is a step for each request. A step is the reply that is due with the state that the request
 //!    leaves, or it is given up (`F1` the store failed, `F2` the memory didn't suffice) and the state is as it was.
 //! 2. `Replies`: the reply that is due, by who asks (`caller_of`), the refusal if there is one, and else the answer
-//!    (`answer_to`); a page is the first 100 incidents above a number of which something holds.
+//!    (`answer_to`); a page is the first [`PAGE_LIMIT`] incidents above a number of which something holds.
 //! 3. `Told`: what a person is told of one incident at a moment, in the words of the redaction: whether it is listed,
 //!    whether a search finds something in it, its excerpt with what is withheld.
 //!
@@ -40,3 +40,6 @@ mod wanted;
 
 pub use hub::Hub;
 pub use key::Key;
+
+/// How many incidents a page lists at most.
+pub const PAGE_LIMIT: usize = 100;

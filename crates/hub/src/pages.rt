@@ -11,6 +11,7 @@ ghost use Rattle.hub.specs.Wanted.{is_told, is_wanted, is_wanted_at, number_at_e
 ghost use Rattle.hub_core.specs.Shelves.{HasFailed, IsKept};
 ghost use Rattle.hub.specs.Asking.{IsThere};
 
+use crate::PAGE_LIMIT;
 use crate::asking::{Asker, content_of, standing};
 use crate::fault::ample;
 use crate::wanted::Wanted;
@@ -19,9 +20,6 @@ use iodef_tree::Document;
 use policy::{Case, Standing};
 use redact::{finds, is_listed};
 use std::alloc::Global;
-
-/// How many incidents a page lists at most.
-const PAGE: usize = 100;
 
 /// Whether what a person is told of an incident makes a page list it.
 fn is_told_so(
@@ -107,14 +105,14 @@ fn pick<Sh: Shelf>(
     entries: &[Entry],
     listed: &mut Vec<Entry>,
 ) -> Result<(), ShelfFault>
-    requires { length listed.old.items ≤ 100 }
-    ensures room { OnOk result (length listed.new.items ≤ 100) }
-    ensures value { Sh.doubts shelf.new ≡ 0 → (s : State) → Sh.has shelf.old s → IsThere s asker.entry.person.now → OnOk result (listed.new.items ≡ take 100 (listed.old.items ++ filter (λ (e : Listed). is_wanted_at s asker.entry.now asker.entry.person.now wanted.entry e.number) entries.now)) }
+    requires { length listed.old.items ≤ PAGE_LIMIT }
+    ensures room { OnOk result (length listed.new.items ≤ PAGE_LIMIT) }
+    ensures value { Sh.doubts shelf.new ≡ 0 → (s : State) → Sh.has shelf.old s → IsThere s asker.entry.person.now → OnOk result (listed.new.items ≡ take PAGE_LIMIT (listed.old.items ++ filter (λ (e : Listed). is_wanted_at s asker.entry.now asker.entry.person.now wanted.entry e.number) entries.now)) }
     ensures kept { IsKept Sh.has Sh.doubts Sh.failed Sh.may_leave shelf.old shelf.new }
     ensures cause { IsErrOf result ShelfFault.Failed → HasFailed (Sh.failed shelf.old) (Sh.failed shelf.new) }
 {
     for entry in entries {
-        if listed.len() == PAGE {
+        if listed.len() == PAGE_LIMIT {
             return Ok(());
         }
         if lists(shelf, alloc, asker, wanted, entry.number)? {
@@ -149,8 +147,8 @@ pub fn page<Sh: Shelf>(
 {
     let mut listed = Vec::new(alloc);
     let mut above = after;
-    'pages: while listed.len() < PAGE {
-        let entries = shelf.incidents_after(above, PAGE as u32)?;
+    'pages: while listed.len() < PAGE_LIMIT {
+        let entries = shelf.incidents_after(above, PAGE_LIMIT as u32)?;
         match last_number(entries.as_slice()) {
             None => break,
             Some(last) => {

@@ -5,6 +5,7 @@ use Rattle.std.specs.Io.KnownBytes.{Consumes, IsAtEnd}
 use Rattle.hex.specs.Hex.{decode_sized}
 use Rattle.hub.specs.declared.key.Key.{Key}
 use Rattle.hub.specs.declared.key.Key.TheVariants.{Absent}
+use Rattle.hub_http.specs.declared.TheConstants.{KEY_LIMIT}
 use Rattle.hub_http.specs.Fields.{is_visible, key_shown}
 
 abbrev pub is_no_newline : ℕ → Bool
@@ -15,9 +16,9 @@ abbrev pub IsFirstLine : Option (List ℕ) → Option (List ℕ) → List ℕ �
 IsFirstLine before after line =
     IsTrue (list_all is_no_newline line) × (Consumes before after (line ++ 10 ∷ []) ⊎ (Consumes before after line × IsAtEnd after))
 
--- 1 to 128 visible bytes
+-- one visible byte or more, at most so many as a key may have
 abbrev pub is_key : List ℕ → Bool
-is_key line = nat_le 1 (length line) && nat_le (length line) 128 && list_all is_visible line
+is_key line = nat_le 1 (length line) && nat_le (length line) KEY_LIMIT && list_all is_visible line
 
 -- who asks: by the key
 abbrev pub line_key : List ℕ → Key

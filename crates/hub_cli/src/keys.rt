@@ -5,7 +5,7 @@ ghost use Rattle.hub_http.specs.Fields.{is_visible};
 ghost use Rattle.hub_cli.specs.Keys as spec;
 
 use hub::Key;
-use hub_http::key_of_text;
+use hub_http::{KEY_LIMIT, key_of_text};
 
 fn has_visible_alone(line: &[u8]) -> bool
     ensures { result ≡ list_all is_visible line.now }
@@ -16,13 +16,13 @@ fn has_visible_alone(line: &[u8]) -> bool
 fn is_key(line: &[u8]) -> bool
     ensures { result ≡ spec.is_key line.now }
 {
-    if line.is_empty() || line.len() > 128 {
+    if line.is_empty() || line.len() > KEY_LIMIT {
         return false;
     }
     has_visible_alone(line)
 }
 
-/// Who asks with this key: 1 to 128 bytes from `!` to `~`, or nothing that is a key.
+/// Who asks with this key: 1 to [`KEY_LIMIT`] bytes from `!` to `~`, or nothing that is a key.
 pub fn line_key(line: &[u8]) -> Key
     ensures { result ≡ spec.line_key line.now }
 {

@@ -5,6 +5,7 @@ use Rattle.circle.specs.Ordered.{put_by}
 use Rattle.circle.specs.declared.directory.Person.{Person}
 use Rattle.circle.proofs.Judged.{passed}
 use Rattle.circle.proofs.Keeping.{each_put, each_left, each_weaker, pairs_left, order_put, none_of}
+use Rattle.hub_core.specs.declared.TheConstants.{RECIPIENT_LIMIT}
 use Rattle.hub_core.specs.Aftermath.{changed}
 use Rattle.hub_core.specs.Refusals.{grounds, refusal_of, is_target, recipients_then}
 use Rattle.hub_core.specs.Sound.{IsSound, SoundRecipients}
@@ -26,16 +27,16 @@ address_kept s a n target h fine =
     let p = passed (grounds s a (ask.Address n target)) fine in
     let row : Recipient = record { incident = n; target = target } in
     let it = own s a n p.1.0 in
-    let few : recipients_then s a (ask.Address n target) ≤ 64 = ltb-false 64 _ p.1.1.1.1.0 in
+    let few : recipients_then s a (ask.Address n target) ≤ RECIPIENT_LIMIT = ltb-false RECIPIENT_LIMIT _ p.1.1.1.1.0 in
     let rest = filter (λ (r : Recipient). not (is_recipient_being n target r)) s.recipients in
     let whole : rest ≡ s.recipients = none_taken (is_recipient_being n target) s.recipients p.1.1.1.0 in
-    let here : recipients_of n (put_by recipient_cmp row s.recipients) ≤ 64 =
-    subst (λ rows. recipients_of n (put_by recipient_cmp row rows) ≤ 64) whole (subst (λ m. m ≤ 64) (counted_is s n it.incident (λ m. recipients_of m (put_by recipient_cmp row rest)) it.found) few) in
+    let here : recipients_of n (put_by recipient_cmp row s.recipients) ≤ RECIPIENT_LIMIT =
+    subst (λ rows. recipients_of n (put_by recipient_cmp row rows) ≤ RECIPIENT_LIMIT) whole (subst (λ m. m ≤ RECIPIENT_LIMIT) (counted_is s n it.incident (λ m. recipients_of m (put_by recipient_cmp row rest)) it.found) few) in
     with_recipients s _ h (record {
       rising = order_put recipient_cmp row s.recipients recipient_total (each_weaker _ _ s.recipients (λ r e. apart_recipient row r e) (none_of (is_recipient_being n target) s.recipients p.1.1.1.0)) h.recipients.rising;
       ends = each_put _ recipient_cmp row s.recipients (is_incident s n it.incident it.found) h.recipients.ends;
       targets = each_put _ recipient_cmp row s.recipients (target_is s.directory target (not-false (is_target s.directory target) p.1.1.0)) h.recipients.targets;
-      limit = limit_put (λ (r : Recipient). r.incident) recipient_cmp 64 row s.recipients s.incidents here h.recipients.limit;
+      limit = limit_put (λ (r : Recipient). r.incident) recipient_cmp RECIPIENT_LIMIT row s.recipients s.incidents here h.recipients.limit;
     })
 
 pub unaddress_kept : (s : State) (a : Person) (n : ℕ) (target : Target) → IsSound s → IsSound (changed s a (ask.Unaddress n target))
@@ -43,5 +44,5 @@ unaddress_kept s a n target h = with_recipients s _ h (record {
   rising = pairs_left _ _ s.recipients h.recipients.rising;
   ends = each_left _ _ s.recipients h.recipients.ends;
   targets = each_left _ _ s.recipients h.recipients.targets;
-  limit = each_weaker _ _ s.incidents (λ i e. at_most _ _ 64 (count_left (λ (r : Recipient). r.incident == i.number) (λ (r : Recipient). not (is_recipient_being n target r)) s.recipients) e) h.recipients.limit;
+  limit = each_weaker _ _ s.incidents (λ i e. at_most _ _ RECIPIENT_LIMIT (count_left (λ (r : Recipient). r.incident == i.number) (λ (r : Recipient). not (is_recipient_being n target r)) s.recipients) e) h.recipients.limit;
 })

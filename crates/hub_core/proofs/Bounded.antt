@@ -6,6 +6,7 @@ use Rattle.std.specs.List.{list_any}
 use Rattle.iodef_tree.specs.Text.{Tokens, is_root}
 use Rattle.circle.specs.Sound.{Each}
 use Rattle.circle.proofs.Keeping.{each_weaker, found_then}
+use Rattle.hub_core.specs.declared.TheConstants.{GATE_LIMIT, RECIPIENT_LIMIT, PERMISSION_LIMIT}
 use Rattle.hub_core.specs.Documents.{is_class_in}
 use Rattle.hub_core.specs.Edits.{edited}
 use Rattle.hub_core.specs.Sound.{IsSound, IsIncident}
@@ -39,17 +40,17 @@ few count limit n incidents all none = split (list_any (λ (i : Incident). i.num
     split true is = found_then (λ (i : Incident). i.number == n) (λ (i : Incident). count i.number ≤ limit) (count n ≤ limit) incidents (λ i same low. subst (λ m. count m ≤ limit) (eqb-true i.number n same) low) is all
     split false is = let zero = none is in omega arith
 
-few_gates : (s : State) (n : ℕ) → IsSound s → class_gates n s.gates ≤ 16
-few_gates s n sound = few (λ m. class_gates m s.gates) 16 n s.incidents sound.gates.limit (λ none.
+few_gates : (s : State) (n : ℕ) → IsSound s → class_gates n s.gates ≤ GATE_LIMIT
+few_gates s n sound = few (λ m. class_gates m s.gates) GATE_LIMIT n s.incidents sound.gates.limit (λ none.
     count_none (λ (g : Gate). g.incident == n && not (is_root g.path)) s.gates (each_weaker _ _ s.gates (λ g there.
     and_left (g.incident == n) (not (is_root g.path)) (apart s.incidents g.incident n (owner s.incidents (λ (i : Incident). is_root g.path || is_class_in i.document g.path) g.incident there) none)) sound.gates.places))
 
-few_recipients : (s : State) (n : ℕ) → IsSound s → recipients_of n s.recipients ≤ 64
-few_recipients s n sound = few (λ m. recipients_of m s.recipients) 64 n s.incidents sound.recipients.limit (λ none.
+few_recipients : (s : State) (n : ℕ) → IsSound s → recipients_of n s.recipients ≤ RECIPIENT_LIMIT
+few_recipients s n sound = few (λ m. recipients_of m s.recipients) RECIPIENT_LIMIT n s.incidents sound.recipients.limit (λ none.
     count_none (λ (r : Recipient). r.incident == n) s.recipients (each_weaker _ _ s.recipients (λ r there. apart s.incidents r.incident n there none) sound.recipients.ends))
 
-few_permissions : (s : State) (n : ℕ) → IsSound s → permissions_of n s.permissions ≤ 64
-few_permissions s n sound = few (λ m. permissions_of m s.permissions) 64 n s.incidents sound.permissions.limit (λ none.
+few_permissions : (s : State) (n : ℕ) → IsSound s → permissions_of n s.permissions ≤ PERMISSION_LIMIT
+few_permissions s n sound = few (λ m. permissions_of m s.permissions) PERMISSION_LIMIT n s.incidents sound.permissions.limit (λ none.
     count_none (λ (x : Permission). x.incident == n) s.permissions (each_weaker _ _ s.permissions (λ x there.
     apart s.incidents x.incident n (owner s.incidents (λ (i : Incident). is_class_in i.document x.path) x.incident there) none) sound.permissions.places))
 
@@ -79,25 +80,25 @@ gates_told_with s n p level group m sound is =
 pub recipients_told_left : (s : State) (n : ℕ) (target : Target) (m : ℕ) → IsSound s → m ≡ recipients_of n (edited (edit.TakeRecipient (record { incident = n; target = target })) s).recipients →
     min m 4294967295 ≡ recipients_of n (edited (edit.TakeRecipient (record { incident = n; target = target })) s).recipients
 recipients_told_left s n target m sound is =
-    let few = at_most _ _ 64 (count_left (λ (r : Recipient). r.incident == n) (λ (r : Recipient). not (is_recipient_being n target r)) s.recipients) (few_recipients s n sound) in
+    let few = at_most _ _ RECIPIENT_LIMIT (count_left (λ (r : Recipient). r.incident == n) (λ (r : Recipient). not (is_recipient_being n target r)) s.recipients) (few_recipients s n sound) in
     omega arith
 
 pub recipients_told_with : (s : State) (n : ℕ) (target : Target) (m k : ℕ) → IsSound s → m ≡ recipients_of n (edited (edit.TakeRecipient (record { incident = n; target = target })) s).recipients → k ≡ min (m + 1) (2 ^ 32 - 1) →
     k ≡ recipients_of n (edited (edit.PutRecipient (record { incident = n; target = target })) (edited (edit.TakeRecipient (record { incident = n; target = target })) s)).recipients
 recipients_told_with s n target m k sound is more =
-    let few = at_most _ _ 64 (count_left (λ (r : Recipient). r.incident == n) (λ (r : Recipient). not (is_recipient_being n target r)) s.recipients) (few_recipients s n sound) in
+    let few = at_most _ _ RECIPIENT_LIMIT (count_left (λ (r : Recipient). r.incident == n) (λ (r : Recipient). not (is_recipient_being n target r)) s.recipients) (few_recipients s n sound) in
     let next = count_more (λ (r : Recipient). r.incident == n) recipient_cmp (record { incident = n; target = target }) (filter (λ (r : Recipient). not (is_recipient_being n target r)) s.recipients) (eq-eqb n n refl) in
     omega arith
 
 pub permissions_told_left : (s : State) (n : ℕ) (p : Tokens) (grantee : Grantee) (m : ℕ) → IsSound s → m ≡ permissions_of n (edited (edit.TakePermission n p grantee) s).permissions →
     min m 4294967295 ≡ permissions_of n (edited (edit.TakePermission n p grantee) s).permissions
 permissions_told_left s n p grantee m sound is =
-    let few = at_most _ _ 64 (count_left (λ (x : Permission). x.incident == n) (λ (x : Permission). not (is_permission_being n p grantee x)) s.permissions) (few_permissions s n sound) in
+    let few = at_most _ _ PERMISSION_LIMIT (count_left (λ (x : Permission). x.incident == n) (λ (x : Permission). not (is_permission_being n p grantee x)) s.permissions) (few_permissions s n sound) in
     omega arith
 
 pub permissions_told_with : (s : State) (n : ℕ) (p : Tokens) (grantee : Grantee) (m k : ℕ) → IsSound s → m ≡ permissions_of n (edited (edit.TakePermission n p grantee) s).permissions → k ≡ min (m + 1) (2 ^ 32 - 1) →
     k ≡ permissions_of n (edited (edit.PutPermission (record { incident = n; path = p; grantee = grantee })) (edited (edit.TakePermission n p grantee) s)).permissions
 permissions_told_with s n p grantee m k sound is more =
-    let few = at_most _ _ 64 (count_left (λ (x : Permission). x.incident == n) (λ (x : Permission). not (is_permission_being n p grantee x)) s.permissions) (few_permissions s n sound) in
+    let few = at_most _ _ PERMISSION_LIMIT (count_left (λ (x : Permission). x.incident == n) (λ (x : Permission). not (is_permission_being n p grantee x)) s.permissions) (few_permissions s n sound) in
     let next = count_more (λ (x : Permission). x.incident == n) permission_cmp (record { incident = n; path = p; grantee = grantee }) (filter (λ (x : Permission). not (is_permission_being n p grantee x)) s.permissions) (eq-eqb n n refl) in
     omega arith

@@ -12,6 +12,7 @@ use Rattle.circle.specs.Sound.{Each, CountsFrom, IsOrg}
 use Rattle.circle.specs.declared.directory.Org.{Org}
 use Rattle.circle.proofs.Keeping.{each_put, each_left, each_weaker, each_map, pairs_left, numbered_map, differ_map, names_map}
 use Rattle.circle.proofs.Kept.{same_when}
+use Rattle.hub_core.specs.declared.TheConstants.{INCIDENT_LIMIT, REVISION_LIMIT, GATE_LIMIT, RECIPIENT_LIMIT, PERMISSION_LIMIT}
 use Rattle.hub_core.specs.Documents.{Lines, is_class_in}
 use Rattle.hub_core.specs.Sound.{IsSound, SoundIncidents, SoundRecipients, SoundPermissions, IsAccepted, IsIncident}
 use Rattle.hub_core.specs.State.{State, incident_number, incident_in, incident_of, root_gates, class_gates, recipients_of, permissions_of}
@@ -121,7 +122,7 @@ put_revised doc i incidents = put_by (by_number incident_number) (revised doc i)
 pub record MayFollow (doc : Lines) (i : Incident) : Type 0 where
   pub accepted : IsAccepted doc
   pub named : incident_id doc ≡ Some i.ident
-  pub room : i.revision + 1 ≤ 1000000
+  pub room : i.revision + 1 ≤ REVISION_LIMIT
 
 is_exchange : (s : State) (i : Incident) (doc : Lines) → IsSound s → incident_of i.number s ≡ Some i → put_revised doc i s.incidents ≡ exchange i.number (revised doc) s.incidents
 is_exchange s i doc h found = put_back i.number 0 (revised doc) s.incidents i (λ x. refl) h.incidents.numbered.0 found refl
@@ -131,10 +132,10 @@ exchanged_map : (orgs : List Org) (n : ℕ) (doc : Lines) (i : Incident) (incide
 exchanged_map orgs n doc i incidents h only new =
     let g : Incident → Incident = λ (y : Incident). if y.number == n then revised doc y else y in
     record {
-      numbered = numbered_map incident_number 1000000 g incidents (λ y. same_when incident_number (y.number == n) (revised doc y) y refl) h.numbered;
+      numbered = numbered_map incident_number INCIDENT_LIMIT g incidents (λ y. same_when incident_number (y.number == n) (revised doc y) y refl) h.numbered;
       idents = differ_map {K = ℕ × Bytes} (λ (y : Incident). (y.source, y.ident)) g incidents (λ y. same_when (λ (x : Incident). let pair : ℕ × Bytes = (x.source, x.ident) in pair) (y.number == n) (revised doc y) y refl) h.idents;
       sources = each_map (λ (y : Incident). IsOrg orgs y.source) g incidents (λ y e. subst (IsOrg orgs) (sym (same_when (λ (x : Incident). x.source) (y.number == n) (revised doc y) y refl)) e) h.sources;
-      revisions = each_exchanged (λ (y : Incident). y.revision ≤ 1000000) n (revised doc) i incidents only new.room h.revisions;
+      revisions = each_exchanged (λ (y : Incident). y.revision ≤ REVISION_LIMIT) n (revised doc) i incidents only new.room h.revisions;
       documents = each_exchanged (λ (y : Incident). IsAccepted y.document) n (revised doc) i incidents only new.accepted h.documents;
       follow = each_exchanged (λ (y : Incident). incident_id y.document ≡ Some y.ident) n (revised doc) i incidents only new.named h.follow;
     }
@@ -177,32 +178,32 @@ beside s i doc h =
       others = each_weaker _ _ (gates_beside n s.gates) (λ g e. not-true (g.incident == n) e) (each_passes (λ (g : Gate). not (g.incident == n)) s.gates);
       roots = each_put (λ (x : Incident). (n == x.number) ≡ false → root_gates x.number (gates_beside n s.gates) ≡ 1) (by_number incident_number) (revised doc i) (others n s.incidents) (λ e. never (n == n) (eq-eqb n n refl) e)
           (each_left _ (λ (x : Incident). not (x.number == n)) s.incidents (each_weaker _ _ s.incidents (λ x e other. count_beside is_root x.number n s.gates other ∙ e) h.gates.roots));
-      limit = each_put (λ (x : Incident). (n == x.number) ≡ false → class_gates x.number (gates_beside n s.gates) ≤ 16) (by_number incident_number) (revised doc i) (others n s.incidents) (λ e. never (n == n) (eq-eqb n n refl) e)
-          (each_left _ (λ (x : Incident). not (x.number == n)) s.incidents (each_weaker _ _ s.incidents (λ x e other. subst (λ k. k ≤ 16) (sym (count_beside (λ p. not (is_root p)) x.number n s.gates other)) e) h.gates.limit));
+      limit = each_put (λ (x : Incident). (n == x.number) ≡ false → class_gates x.number (gates_beside n s.gates) ≤ GATE_LIMIT) (by_number incident_number) (revised doc i) (others n s.incidents) (λ e. never (n == n) (eq-eqb n n refl) e)
+          (each_left _ (λ (x : Incident). not (x.number == n)) s.incidents (each_weaker _ _ s.incidents (λ x e other. subst (λ k. k ≤ GATE_LIMIT) (sym (count_beside (λ p. not (is_root p)) x.number n s.gates other)) e) h.gates.limit));
     }
 
 recipients_stay : (s : State) (i : Incident) (doc : Lines) → IsSound s → incident_of i.number s ≡ Some i → SoundRecipients s.directory (put_revised doc i s.incidents) s.recipients
 recipients_stay s i doc h found =
     let n = i.number in
-    let here : recipients_of n s.recipients ≤ 64 = found_each (λ (x : Incident). recipients_of x.number s.recipients ≤ 64) (λ (x : Incident). x.number == n) s.incidents i found h.recipients.limit in
+    let here : recipients_of n s.recipients ≤ RECIPIENT_LIMIT = found_each (λ (x : Incident). recipients_of x.number s.recipients ≤ RECIPIENT_LIMIT) (λ (x : Incident). x.number == n) s.incidents i found h.recipients.limit in
     record {
       rising = h.recipients.rising;
       ends = each_weaker _ _ s.recipients (λ r e. subst (λ is. IsIncident is r.incident) (sym (is_exchange s i doc h found)) (names_map incident_number (λ (y : Incident). if y.number == n then revised doc y else y) s.incidents r.incident (λ y. same_when incident_number (y.number == n) (revised doc y) y refl) e)) h.recipients.ends;
       targets = h.recipients.targets;
-      limit = each_put (λ (x : Incident). recipients_of x.number s.recipients ≤ 64) (by_number incident_number) (revised doc i) (others n s.incidents) here (each_left _ (λ (x : Incident). not (x.number == n)) s.incidents h.recipients.limit);
+      limit = each_put (λ (x : Incident). recipients_of x.number s.recipients ≤ RECIPIENT_LIMIT) (by_number incident_number) (revised doc i) (others n s.incidents) here (each_left _ (λ (x : Incident). not (x.number == n)) s.incidents h.recipients.limit);
     }
 
 permissions_stay : (s : State) (i : Incident) (doc : Lines) → IsSound s → incident_of i.number s ≡ Some i → SoundPermissions s.directory (put_revised doc i s.incidents) (permissions_beside i.number s.permissions)
 permissions_stay s i doc h found =
     let n = i.number in
-    let fewer : Each (λ (x : Incident). permissions_of x.number (permissions_beside n s.permissions) ≤ 64) s.incidents =
-    each_weaker _ _ s.incidents (λ x e. at_most _ _ 64 (count_left (λ (y : Permission). y.incident == x.number) (λ (y : Permission). not (y.incident == n)) s.permissions) e) h.permissions.limit in
+    let fewer : Each (λ (x : Incident). permissions_of x.number (permissions_beside n s.permissions) ≤ PERMISSION_LIMIT) s.incidents =
+    each_weaker _ _ s.incidents (λ x e. at_most _ _ PERMISSION_LIMIT (count_left (λ (y : Permission). y.incident == x.number) (λ (y : Permission). not (y.incident == n)) s.permissions) e) h.permissions.limit in
     record {
       rising = pairs_left _ (λ (x : Permission). not (x.incident == n)) s.permissions h.permissions.rising;
       places = each_passed _ _ (λ (x : Permission). not (x.incident == n)) s.permissions (λ x other e. holds_before (λ (y : Incident). is_class_in y.document x.path) x.incident i doc s.incidents (not-true (x.incident == n) other) e) h.permissions.places;
       grantees = each_left _ (λ (x : Permission). not (x.incident == n)) s.permissions h.permissions.grantees;
-      limit = each_put (λ (x : Incident). permissions_of x.number (permissions_beside n s.permissions) ≤ 64) (by_number incident_number) (revised doc i) (others n s.incidents)
-          (found_each (λ (x : Incident). permissions_of x.number (permissions_beside n s.permissions) ≤ 64) (λ (x : Incident). x.number == n) s.incidents i found fewer) (each_left _ (λ (x : Incident). not (x.number == n)) s.incidents fewer);
+      limit = each_put (λ (x : Incident). permissions_of x.number (permissions_beside n s.permissions) ≤ PERMISSION_LIMIT) (by_number incident_number) (revised doc i) (others n s.incidents)
+          (found_each (λ (x : Incident). permissions_of x.number (permissions_beside n s.permissions) ≤ PERMISSION_LIMIT) (λ (x : Incident). x.number == n) s.incidents i found fewer) (each_left _ (λ (x : Incident). not (x.number == n)) s.incidents fewer);
     }
 
 -- ---- the state at the end

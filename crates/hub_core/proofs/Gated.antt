@@ -12,6 +12,7 @@ use Rattle.circle.specs.Ordered.{put_by}
 use Rattle.circle.specs.Sound.{Each, Pairwise}
 use Rattle.circle.specs.declared.directory.Group.{Group}
 use Rattle.circle.proofs.Keeping.{each_put, each_weaker, order_put}
+use Rattle.hub_core.specs.declared.TheConstants.{GATE_LIMIT}
 use Rattle.hub_core.specs.Aftermath.{put_gate, put_gates}
 use Rattle.hub_core.specs.Documents.{at_pointer, made_at, is_class_in}
 use Rattle.hub_core.specs.Edits.{after}
@@ -130,14 +131,14 @@ pub record IsBeside (groups : List Group) (incidents : List Incident) (n : ℕ) 
   pub ends : Each (λ (g : Gate). IsGroupIfAny groups g.group) gates
   pub others : Each (λ (g : Gate). (g.incident == n) ≡ false) gates
   pub roots : Each (λ (i : Incident). (n == i.number) ≡ false → root_gates i.number gates ≡ 1) incidents
-  pub limit : Each (λ (i : Incident). (n == i.number) ≡ false → class_gates i.number gates ≤ 16) incidents
+  pub limit : Each (λ (i : Incident). (n == i.number) ≡ false → class_gates i.number gates ≤ GATE_LIMIT) incidents
 
 not_empty : (text : Bytes) → at_pointer is_root text ≡ false → bytes_eq [] text ≡ false
 not_empty [] h = cc
 not_empty (c ∷ cs) h = refl
 
 pub given : (groups : List Group) (incidents : List Incident) (n level : ℕ) (group : Option ℕ) (wanted : List WantedGate) (gates : List Gate) (i : Incident) → incident_in n incidents ≡ Some i → IsGroupIfAny groups group →
-    Each (IsWanted groups incidents n) wanted → stands_twice (map (λ (g : WantedGate). g.path) wanted) ≡ false → length wanted ≤ 16 → IsBeside groups incidents n gates → SoundGates groups incidents (put_all n level group wanted gates)
+    Each (IsWanted groups incidents n) wanted → stands_twice (map (λ (g : WantedGate). g.path) wanted) ≡ false → length wanted ≤ GATE_LIMIT → IsBeside groups incidents n gates → SoundGates groups incidents (put_all n level group wanted gates)
 given groups incidents n level group wanted gates i found known fit once few h =
     let row : Gate = record { incident = n; path = []; level = level; group = group } in
     let first : List Gate = put_by gate_cmp row gates in
@@ -174,14 +175,14 @@ given groups incidents n level group wanted gates i found known fit once few h =
     first_same : (m : ℕ) → class_gates m (put_by gate_cmp (record { incident = n; path = []; level = level; group = group }) gates) ≡ class_gates m gates
     first_same m = count_same (λ (g : Gate). g.incident == m && not (is_root g.path)) gate_cmp (record { incident = n; path = []; level = level; group = group }) gates (and_right (n == m) false refl)
 
-    at_most_16 : (all own had : ℕ) → all ≤ length wanted + own → own ≡ had → had ≡ 0 → all ≤ 16
-    at_most_16 all own had h k none = omega (arith, few)
+    at_most_all : (all own had : ℕ) → all ≤ length wanted + own → own ≡ had → had ≡ 0 → all ≤ GATE_LIMIT
+    at_most_all all own had h k none = omega (arith, few)
 
     limit_at : class_gates n (put_all n level group wanted gates) ≤ length wanted + class_gates n (put_by gate_cmp (record { incident = n; path = []; level = level; group = group }) gates)
         → ((m : ℕ) → (n == m) ≡ false → class_gates m (put_all n level group wanted gates) ≡ class_gates m (put_by gate_cmp (record { incident = n; path = []; level = level; group = group }) gates))
-        → (m : ℕ) → ((n == m) ≡ false → class_gates m gates ≤ 16) → class_gates m (put_all n level group wanted gates) ≤ 16
+        → (m : ℕ) → ((n == m) ≡ false → class_gates m gates ≤ GATE_LIMIT) → class_gates m (put_all n level group wanted gates) ≤ GATE_LIMIT
     limit_at own others m was = at (n == m) refl
       where
-        at : (b : Bool) → (n == m) ≡ b → class_gates m (put_all n level group wanted gates) ≤ 16
-        at true is = subst (λ k. class_gates k (put_all n level group wanted gates) ≤ 16) (eqb-true n m is) (at_most_16 _ _ _ own (first_same n) no_class)
-        at false is = subst (λ k. k ≤ 16) (sym (others m is ∙ first_same m)) (was is)
+        at : (b : Bool) → (n == m) ≡ b → class_gates m (put_all n level group wanted gates) ≤ GATE_LIMIT
+        at true is = subst (λ k. class_gates k (put_all n level group wanted gates) ≤ GATE_LIMIT) (eqb-true n m is) (at_most_all _ _ _ own (first_same n) no_class)
+        at false is = subst (λ k. k ≤ GATE_LIMIT) (sym (others m is ∙ first_same m)) (was is)

@@ -9,6 +9,7 @@ use Rattle.circle.specs.Ordered.{put_by}
 use Rattle.circle.specs.declared.directory.Person.{Person}
 use Rattle.circle.proofs.Judged.{passed}
 use Rattle.circle.proofs.Keeping.{each_put, each_left, each_weaker, pairs_left, order_put, none_of}
+use Rattle.hub_core.specs.declared.TheConstants.{PERMISSION_LIMIT}
 use Rattle.hub_core.specs.Aftermath.{changed}
 use Rattle.hub_core.specs.Documents.{at_pointer, made_at}
 use Rattle.hub_core.specs.Edits.{after}
@@ -30,7 +31,7 @@ with_permissions s rows h new = record { directory = h.directory; incidents = h.
 -- at the path that the pointer names
 granted_at : (s : State) (n : ℕ) (o : Option Tokens) (grantee : Grantee) → IsSound s →
     option_map_or (is_class_of s.incidents n) o false ≡ true → option_map_or (λ p. has_permission n p grantee s) o false ≡ false → IsGrantee s.directory grantee →
-    permissions_of n (after (option_map_or (λ p. TakePermission n p grantee ∷ PutPermission (record { incident = n; path = p; grantee = grantee }) ∷ []) o []) s).permissions ≤ 64 →
+    permissions_of n (after (option_map_or (λ p. TakePermission n p grantee ∷ PutPermission (record { incident = n; path = p; grantee = grantee }) ∷ []) o []) s).permissions ≤ PERMISSION_LIMIT →
     IsSound (after (option_map_or (λ p. PutPermission (record { incident = n; path = p; grantee = grantee }) ∷ []) o []) s)
 granted_at s n None grantee h class new known few = h
 granted_at s n (Some p) grantee h class new known few =
@@ -39,16 +40,16 @@ granted_at s n (Some p) grantee h class new known few =
       rising = order_put permission_cmp row s.permissions permission_total (each_weaker _ _ s.permissions (λ x e. apart_permission row x e) (none_of (is_permission_being n p grantee) s.permissions new)) h.permissions.rising;
       places = each_put _ permission_cmp row s.permissions class h.permissions.places;
       grantees = each_put _ permission_cmp row s.permissions known h.permissions.grantees;
-      limit = limit_put (λ (x : Permission). x.incident) permission_cmp 64 row s.permissions s.incidents (subst (λ rows. permissions_of n (put_by permission_cmp row rows) ≤ 64) (none_taken (is_permission_being n p grantee) s.permissions new) few) h.permissions.limit;
+      limit = limit_put (λ (x : Permission). x.incident) permission_cmp PERMISSION_LIMIT row s.permissions s.incidents (subst (λ rows. permissions_of n (put_by permission_cmp row rows) ≤ PERMISSION_LIMIT) (none_taken (is_permission_being n p grantee) s.permissions new) few) h.permissions.limit;
     })
 
 pub grant_kept : (s : State) (a : Person) (n revision : ℕ) (path : Bytes) (grantee : Grantee) → IsSound s → refusal_of s a (ask.Grant n revision path grantee) ≡ None → IsSound (changed s a (ask.Grant n revision path grantee))
 grant_kept s a n revision path grantee h fine =
     let p = passed (grounds s a (ask.Grant n revision path grantee)) fine in
     let it = own s a n p.1.1.0 in
-    let few : permissions_then s a (ask.Grant n revision path grantee) ≤ 64 = ltb-false 64 _ p.1.1.1.1.1.1.1.0 in
+    let few : permissions_then s a (ask.Grant n revision path grantee) ≤ PERMISSION_LIMIT = ltb-false PERMISSION_LIMIT _ p.1.1.1.1.1.1.1.0 in
     granted_at s n (pointer_tokens path) grantee h (not-false (at_pointer (is_class_of s.incidents n) path) p.1.1.1.1.0) p.1.1.1.1.1.0 (grantee_is s.directory a.org grantee h.directory (not-false (is_grantee s.directory a.org grantee) p.1.1.1.0))
-    (subst (λ m. m ≤ 64) (counted_is s n it.incident (λ m. permissions_of m (after (made_at (λ p. TakePermission n p grantee ∷ PutPermission (record { incident = n; path = p; grantee = grantee }) ∷ []) path) s).permissions) it.found) few)
+    (subst (λ m. m ≤ PERMISSION_LIMIT) (counted_is s n it.incident (λ m. permissions_of m (after (made_at (λ p. TakePermission n p grantee ∷ PutPermission (record { incident = n; path = p; grantee = grantee }) ∷ []) path) s).permissions) it.found) few)
 
 withdrawn_at : (s : State) (n : ℕ) (o : Option Tokens) (grantee : Grantee) → IsSound s → IsSound (after (option_map_or (λ p. TakePermission n p grantee ∷ []) o []) s)
 withdrawn_at s n None grantee h = h
@@ -56,7 +57,7 @@ withdrawn_at s n (Some p) grantee h = with_permissions s _ h (record {
   rising = pairs_left _ _ s.permissions h.permissions.rising;
   places = each_left _ _ s.permissions h.permissions.places;
   grantees = each_left _ _ s.permissions h.permissions.grantees;
-  limit = each_weaker _ _ s.incidents (λ i e. at_most _ _ 64 (count_left (λ (x : Permission). x.incident == i.number) (λ (x : Permission). not (is_permission_being n p grantee x)) s.permissions) e) h.permissions.limit;
+  limit = each_weaker _ _ s.incidents (λ i e. at_most _ _ PERMISSION_LIMIT (count_left (λ (x : Permission). x.incident == i.number) (λ (x : Permission). not (is_permission_being n p grantee x)) s.permissions) e) h.permissions.limit;
 })
 
 pub withdraw_kept : (s : State) (a : Person) (n : ℕ) (path : Bytes) (grantee : Grantee) → IsSound s → IsSound (changed s a (ask.Withdraw n path grantee))

@@ -14,6 +14,7 @@ use Rattle.circle.specs.Sound.{Each, IsOrg}
 use Rattle.circle.specs.declared.refusal.Refusal.{Refusal}
 use Rattle.circle.specs.declared.directory.Person.{Person}
 use Rattle.circle.proofs.Judged.{passed, next_number}
+use Rattle.hub_core.specs.declared.TheConstants.{INCIDENT_LIMIT, REVISION_LIMIT, GATE_LIMIT}
 use Rattle.hub_core.specs.Aftermath.{changed, next_incident, put_gates, put_next, put_revision}
 use Rattle.hub_core.specs.Documents.{Lines, documents_in, ident_of}
 use Rattle.hub_core.specs.Edits.{after}
@@ -41,14 +42,14 @@ post_kept : (s : State) (a : Person) (level : ℕ) (group : Option ℕ) (gates :
 post_kept s a level group gates body h known fine =
     let docs = documents_in body in
     let p = passed (grounds s a (ask.Post level group gates body)) fine in
-    let next : next_incident s ≡ length s.incidents + 1 = next_number incident_number 1000000 s.incidents h.incidents.numbered in
-    let room : length s.incidents + length docs ≤ 1000000 = ltb-false 1000000 _ p.1.1.1.1.1.1.1.1.1.1.0 in
+    let next : next_incident s ≡ length s.incidents + 1 = next_number incident_number INCIDENT_LIMIT s.incidents h.incidents.numbered in
+    let room : length s.incidents + length docs ≤ INCIDENT_LIMIT = ltb-false INCIDENT_LIMIT _ p.1.1.1.1.1.1.1.1.1.1.0 in
     let classes : stand_at_classes gates docs ≡ true = not-false (stand_at_classes gates docs) p.1.1.1.1.1.1.1.1.0 in
     let own : are_own_groups s a group gates ≡ true = not-false (are_own_groups s a group gates) p.1.1.1.1.1.1.1.0 in
     let good : are_bad_gates gates ≡ false = (or_parts (are_bad_gates gates) (has_several docs && has_some gates) p.1.1.1.0).0 in
     posted docs s a.org (next_incident s) level group gates h next room known
     (fit body docs gates (body_read body p.1.1.1.1.0) p.1.1.1.1.1.1.0 classes) p.1.1.1.1.1.0 (not_posted s a.org docs p.1.1.1.1.1.1.1.1.1.0)
-    (wishes s a group gates h.directory good own (ltb-false 16 _ p.1.1.1.1.1.1.1.1.1.1.1.0))
+    (wishes s a group gates h.directory good own (ltb-false GATE_LIMIT _ p.1.1.1.1.1.1.1.1.1.1.1.0))
 
 -- ---- another document
 
@@ -79,15 +80,15 @@ replace_own s a i revision level group gates body h found fine =
     let classes : stand_at_classes gates docs ≡ true = not-false (stand_at_classes gates docs) p.1.1.1.1.1.1.1.1.1.0 in
     let own : are_own_groups s a group gates ≡ true = not-false (are_own_groups s a group gates) p.1.1.1.1.1.1.1.1.0 in
     let kept : keep_ident s n docs ≡ true = not-false (keep_ident s n docs) p.1.1.1.1.1.1.1.1.1.1.0 in
-    let few : number_of gates ≤ 16 = subst (λ m. m ≤ 16) (counted_is s n i (λ m. number_of gates) found) (ltb-false 16 _ p.1.1.1.1.1.1.1.1.1.1.1.1.1.0) in
-    let room : next_revision s n ≤ 1000000 = ltb-false 1000000 _ p.1.1.1.1.1.1.1.1.1.1.1.1.0 in
+    let few : number_of gates ≤ GATE_LIMIT = subst (λ m. m ≤ GATE_LIMIT) (counted_is s n i (λ m. number_of gates) found) (ltb-false GATE_LIMIT _ p.1.1.1.1.1.1.1.1.1.1.1.1.1.0) in
+    let room : next_revision s n ≤ REVISION_LIMIT = ltb-false REVISION_LIMIT _ p.1.1.1.1.1.1.1.1.1.1.1.1.0 in
     let fits : IsFit gates one.0 = (subst (Each (IsFit gates)) one.1 (fit body docs gates read p.1.1.1.1.1.1.0 classes)).0 in
     let same : list_all (λ (doc : Lines). bytes_eq (ident_of doc) i.ident) (one.0 ∷ []) ≡ true =
     ap (list_all (λ (doc : Lines). bytes_eq (ident_of doc) i.ident)) (sym one.1) ∙ (sym (ap (λ o. option_map_or (λ (x : Incident). list_all (λ (doc : Lines). bytes_eq (ident_of doc) x.ident) docs) o false) found) ∙ kept) in
     let ident : ident_of one.0 ≡ i.ident = bytes_eq-true (ident_of one.0) i.ident (all_each (λ (doc : Lines). bytes_eq (ident_of doc) i.ident) (one.0 ∷ []) same).0 in
     subst IsSound (sym (after_replace s i level group gates docs one.0 found one.1))
     (exchanged s i level group gates one.0 h found
-    (record { accepted = fits.accepted; named = fits.named ∙ ap Some ident; room = subst (λ o. option_map_or (λ (x : Incident). x.revision) o 0 + 1 ≤ 1000000) found room })
+    (record { accepted = fits.accepted; named = fits.named ∙ ap Some ident; room = subst (λ o. option_map_or (λ (x : Incident). x.revision) o 0 + 1 ≤ REVISION_LIMIT) found room })
     fits.classes (wishes s a group gates h.directory p.1.1.1.0 own few))
 
 replace_kept : (s : State) (a : Person) (n revision level : ℕ) (group : Option ℕ) (gates : List WantedGate) (body : Bytes) → IsSound s → refusal_of s a (ask.Replace n revision level group gates body) ≡ None →

@@ -14,6 +14,7 @@ use Rattle.circle.specs.declared.directory.Person.{Person}
 use Rattle.circle.specs.declared.refusal.Refusal.{Refusal}
 use Rattle.circle.proofs.Judged.{passed, next_number}
 use Rattle.circle.proofs.Keeping.{names_within}
+use Rattle.hub_core.specs.declared.TheConstants.{INCIDENT_LIMIT}
 use Rattle.hub_core.specs.Aftermath.{changed, edits_of, next_incident, put_gate, put_gates, put_incident, put_incidents, put_next}
 use Rattle.hub_core.specs.Documents.{Lines, documents_in, made_at}
 use Rattle.hub_core.specs.Edits.{after, edited}
@@ -133,7 +134,7 @@ not_theirs s a n i found other h =
 all_spared : (s : State) (a : Person) (r : Request) (i : Incident) → IsSound s → incident_of i.number s ≡ Some i → i.source ≢ a.org → refusal_of s a r ≡ None → Each (Spares i.number) (edits_of s a r)
 all_spared s a (ask.Circle command) i h found other fine = rows_spare i.number (rows_of (circle.edit_of (circle.next_in s.directory command) a command))
 all_spared s a (ask.Post level group gates body) i h found other fine =
-    let next : next_incident s ≡ length s.incidents + 1 = next_number incident_number 1000000 s.incidents h.incidents.numbered in
+    let next : next_incident s ≡ length s.incidents + 1 = next_number incident_number INCIDENT_LIMIT s.incidents h.incidents.numbered in
     let low : i.number ≤ 0 + length s.incidents = names_within incident_number 0 i.number s.incidents h.incidents.numbered.0 (is_incident s i.number i found) in
     incidents_spare i.number a.org (next_incident s) level group gates (documents_in body) (omega (arith, next, low))
 all_spared s a (ask.Replace n revision level group gates body) i h found other fine =

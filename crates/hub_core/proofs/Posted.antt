@@ -11,6 +11,7 @@ use Rattle.circle.specs.Ordered.{put_by, by_number}
 use Rattle.circle.specs.Sound.{Each, CountsFrom, IsOrg}
 use Rattle.circle.specs.declared.directory.Group.{Group}
 use Rattle.circle.proofs.Keeping.{each_put, each_weaker, pairs_put, numbered_put, length_put, any_put, names_within, pair_apart}
+use Rattle.hub_core.specs.declared.TheConstants.{INCIDENT_LIMIT, GATE_LIMIT, RECIPIENT_LIMIT, PERMISSION_LIMIT}
 use Rattle.hub_core.specs.Aftermath.{put_incident, put_incidents}
 use Rattle.hub_core.specs.Documents.{Lines, ident_of, at_pointer, is_class_in}
 use Rattle.hub_core.specs.Edits.{after}
@@ -32,7 +33,7 @@ pub record Wishes (groups : List Group) (group : Option ℕ) (wanted : List Want
   pub groups_known : Each (λ (w : WantedGate). IsGroupIfAny groups w.group) wanted
   pub below : Each (λ (w : WantedGate). at_pointer is_root w.path ≡ false) wanted
   pub once : stands_twice (map (λ (w : WantedGate). w.path) wanted) ≡ false
-  pub few : length wanted ≤ 16
+  pub few : length wanted ≤ GATE_LIMIT
 
 abbrev pub StandAtClasses : List WantedGate → Lines → Type 0
 StandAtClasses wanted doc = Each (λ (w : WantedGate). at_pointer (is_class_in doc) w.path ≡ true) wanted
@@ -93,12 +94,12 @@ new_row source n doc = record { number = n; source = source; ident = ident_of do
 abbrev put_row : ℕ → ℕ → Lines → List Incident → List Incident
 put_row source n doc incidents = put_by (by_number incident_number) (new_row source n doc) incidents
 
-incidents_put : (s : State) (source n : ℕ) (wanted : List WantedGate) (doc : Lines) → IsSound s → n ≡ length s.incidents + 1 → length s.incidents < 1000000 → IsOrg s.directory.orgs source → IsFit wanted doc → IsNew source s.incidents doc →
+incidents_put : (s : State) (source n : ℕ) (wanted : List WantedGate) (doc : Lines) → IsSound s → n ≡ length s.incidents + 1 → length s.incidents < INCIDENT_LIMIT → IsOrg s.directory.orgs source → IsFit wanted doc → IsNew source s.incidents doc →
     SoundIncidents s.directory.orgs (put_row source n doc s.incidents)
 incidents_put s source n wanted doc h next room known fit new =
     let row : Incident = new_row source n doc in
     record {
-      numbered = numbered_put incident_number 1000000 row s.incidents next room h.incidents.numbered;
+      numbered = numbered_put incident_number INCIDENT_LIMIT row s.incidents next room h.incidents.numbered;
       idents = pairs_put _ (by_number incident_number) row s.incidents (each_weaker _ _ s.incidents (λ i e. (
         (λ same. pair_apart source i.source (ident_of doc) i.ident e (ap (λ (p : ℕ × Bytes). p.0) same) (ap (λ (p : ℕ × Bytes). p.1) same)),
         (λ same. pair_apart source i.source (ident_of doc) i.ident e (ap (λ (p : ℕ × Bytes). p.0) (sym same)) (ap (λ (p : ℕ × Bytes). p.1) (sym same))),
@@ -118,7 +119,7 @@ beside s source n doc h next =
       ends = h.gates.ends;
       others = each_weaker _ _ s.gates (λ g e. not_new_of s n g.incident (λ (i : Incident). is_root g.path || is_class_in i.document g.path) h next e) h.gates.places;
       roots = each_put (λ (i : Incident). (n == i.number) ≡ false → root_gates i.number s.gates ≡ 1) (by_number incident_number) row s.incidents (λ e. never (n == n) (eq-eqb n n refl) e) (each_weaker _ _ s.incidents (λ i e _. e) h.gates.roots);
-      limit = each_put (λ (i : Incident). (n == i.number) ≡ false → class_gates i.number s.gates ≤ 16) (by_number incident_number) row s.incidents (λ e. never (n == n) (eq-eqb n n refl) e) (each_weaker _ _ s.incidents (λ i e _. e) h.gates.limit);
+      limit = each_put (λ (i : Incident). (n == i.number) ≡ false → class_gates i.number s.gates ≤ GATE_LIMIT) (by_number incident_number) row s.incidents (λ e. never (n == n) (eq-eqb n n refl) e) (each_weaker _ _ s.incidents (λ i e _. e) h.gates.limit);
     }
 
 zero_low : (n limit : ℕ) → n ≡ 0 → n ≤ limit
@@ -132,7 +133,7 @@ recipients_put s source n doc h next =
       rising = h.recipients.rising;
       ends = each_weaker _ _ s.recipients (λ r e. any_put (λ (i : Incident). i.number == r.incident) (by_number incident_number) row s.incidents e) h.recipients.ends;
       targets = h.recipients.targets;
-      limit = each_put (λ (i : Incident). recipients_of i.number s.recipients ≤ 64) (by_number incident_number) row s.incidents (zero_low _ 64 none) h.recipients.limit;
+      limit = each_put (λ (i : Incident). recipients_of i.number s.recipients ≤ RECIPIENT_LIMIT) (by_number incident_number) row s.incidents (zero_low _ RECIPIENT_LIMIT none) h.recipients.limit;
     }
 
 permissions_put : (s : State) (source n : ℕ) (doc : Lines) → IsSound s → n ≡ length s.incidents + 1 → SoundPermissions s.directory (put_row source n doc s.incidents) s.permissions
@@ -143,7 +144,7 @@ permissions_put s source n doc h next =
       rising = h.permissions.rising;
       places = each_weaker _ _ s.permissions (λ x e. let test = λ (i : Incident). is_class_in i.document x.path in stays test x.incident row s.incidents (not_new_of s n x.incident test h next e) e) h.permissions.places;
       grantees = h.permissions.grantees;
-      limit = each_put (λ (i : Incident). permissions_of i.number s.permissions ≤ 64) (by_number incident_number) row s.incidents (zero_low _ 64 none) h.permissions.limit;
+      limit = each_put (λ (i : Incident). permissions_of i.number s.permissions ≤ PERMISSION_LIMIT) (by_number incident_number) row s.incidents (zero_low _ PERMISSION_LIMIT none) h.permissions.limit;
     }
 
 no_number : (s : State) (n : ℕ) → IsSound s → n ≡ length s.incidents + 1 → Each (λ (i : Incident). (i.number == n) ≡ false) s.incidents
@@ -156,7 +157,7 @@ with_one source n level group wanted doc s = record s { incidents = put_row sour
 after_one : (source n level : ℕ) (group : Option ℕ) (wanted : List WantedGate) (doc : Lines) (s : State) → after (put_incident source n level group wanted doc) s ≡ with_one source n level group wanted doc s
 after_one source n level group wanted doc s = after_gates n level group wanted (record s { incidents = put_row source n doc s.incidents })
 
-posted_one : (s : State) (source n level : ℕ) (group : Option ℕ) (wanted : List WantedGate) (doc : Lines) → IsSound s → n ≡ length s.incidents + 1 → length s.incidents < 1000000 → IsOrg s.directory.orgs source → IsFit wanted doc →
+posted_one : (s : State) (source n level : ℕ) (group : Option ℕ) (wanted : List WantedGate) (doc : Lines) → IsSound s → n ≡ length s.incidents + 1 → length s.incidents < INCIDENT_LIMIT → IsOrg s.directory.orgs source → IsFit wanted doc →
     IsNew source s.incidents doc → Wishes s.directory.groups group wanted → IsSound (with_one source n level group wanted doc s)
 posted_one s source n level group wanted doc h next room known fit new wishes =
     let row : Incident = new_row source n doc in
@@ -179,7 +180,7 @@ still_new source n doc incidents (d ∷ ds) differ new =
     let parts = or_parts (bytes_eq (ident_of doc) (ident_of d)) (list_any (bytes_eq (ident_of doc)) (map ident_of ds)) differ in
     (each_put (λ (i : Incident). (i.source == source && bytes_eq i.ident (ident_of d)) ≡ false) (by_number incident_number) (new_row source n doc) incidents (and_right (source == source) (bytes_eq (ident_of doc) (ident_of d)) parts.0) new.0, still_new source n doc incidents ds parts.1 new.1)
 
-pub posted : (docs : List Lines) (s : State) (source n level : ℕ) (group : Option ℕ) (wanted : List WantedGate) → IsSound s → n ≡ length s.incidents + 1 → length s.incidents + length docs ≤ 1000000 → IsOrg s.directory.orgs source →
+pub posted : (docs : List Lines) (s : State) (source n level : ℕ) (group : Option ℕ) (wanted : List WantedGate) → IsSound s → n ≡ length s.incidents + 1 → length s.incidents + length docs ≤ INCIDENT_LIMIT → IsOrg s.directory.orgs source →
     Each (IsFit wanted) docs → stands_twice (map ident_of docs) ≡ false → Each (IsNew source s.incidents) docs → Wishes s.directory.groups group wanted → IsSound (after (put_incidents source n level group wanted docs) s)
 posted [] s source n level group wanted h next room known fit once new wishes = h
 posted (doc ∷ docs) s source n level group wanted h next room known fit once new wishes =

@@ -10,6 +10,7 @@ use Rattle.circle.specs.Ordered.{put_by}
 use Rattle.circle.specs.declared.directory.Person.{Person}
 use Rattle.circle.proofs.Judged.{passed}
 use Rattle.circle.proofs.Keeping.{each_put, each_left, each_weaker, pairs_left, order_put}
+use Rattle.hub_core.specs.declared.TheConstants.{GATE_LIMIT}
 use Rattle.hub_core.specs.Aftermath.{changed, put_gate}
 use Rattle.hub_core.specs.Documents.{at_pointer}
 use Rattle.hub_core.specs.Edits.{after}
@@ -73,12 +74,12 @@ abbrev class_test : ℕ → ℕ → Tokens → Bool
 class_test m n p = n == m && not (is_root p)
 
 -- no incident has more gates of classes than it may
-still_few : (row : Gate) (gates : List Gate) (m : ℕ) → class_gates row.incident (put_by gate_cmp row (filter (other row.incident row.path) gates)) ≤ 16 → class_gates m gates ≤ 16 → class_gates m (put_by gate_cmp row (filter (other row.incident row.path) gates)) ≤ 16
+still_few : (row : Gate) (gates : List Gate) (m : ℕ) → class_gates row.incident (put_by gate_cmp row (filter (other row.incident row.path) gates)) ≤ GATE_LIMIT → class_gates m gates ≤ GATE_LIMIT → class_gates m (put_by gate_cmp row (filter (other row.incident row.path) gates)) ≤ GATE_LIMIT
 still_few row gates m here there = split (row.incident == m) refl
   where
-    split : (b : Bool) → (row.incident == m) ≡ b → class_gates m (put_by gate_cmp row (filter (other row.incident row.path) gates)) ≤ 16
-    split true is = subst (λ k. class_gates k (put_by gate_cmp row (filter (other row.incident row.path) gates)) ≤ 16) (eqb-true row.incident m is) here
-    split false is = subst (λ k. k ≤ 16) (sym (count_elsewhere (class_test m) row gates (ap (λ b. b && not (is_root row.path)) is))) there
+    split : (b : Bool) → (row.incident == m) ≡ b → class_gates m (put_by gate_cmp row (filter (other row.incident row.path) gates)) ≤ GATE_LIMIT
+    split true is = subst (λ k. class_gates k (put_by gate_cmp row (filter (other row.incident row.path) gates)) ≤ GATE_LIMIT) (eqb-true row.incident m is) here
+    split false is = subst (λ k. k ≤ GATE_LIMIT) (sym (count_elsewhere (class_test m) row gates (ap (λ b. b && not (is_root row.path)) is))) there
 
 -- ---- the request
 
@@ -87,7 +88,7 @@ with_gates s rows h new = record { directory = h.directory; incidents = h.incide
 
 redistributed_at : (s : State) (n : ℕ) (o : Option Tokens) (level : ℕ) (group : Option ℕ) → IsSound s →
     option_map_or (is_place_of s.incidents n) o false ≡ true → IsGroupIfAny s.directory.groups group →
-    class_gates n (after (option_map_or (λ p. TakeGate n p ∷ put_gate n level group p) o []) s).gates ≤ 16 →
+    class_gates n (after (option_map_or (λ p. TakeGate n p ∷ put_gate n level group p) o []) s).gates ≤ GATE_LIMIT →
     IsSound (after (option_map_or (λ p. TakeGate n p ∷ put_gate n level group p) o []) s)
 redistributed_at s n None level group h place known few = h
 redistributed_at s n (Some p) level group h place known few =
@@ -105,6 +106,6 @@ pub redistribute_kept : (s : State) (a : Person) (n revision : ℕ) (path : Byte
 redistribute_kept s a n revision path level group h fine =
     let p = passed (grounds s a (ask.Redistribute n revision path level group)) fine in
     let it = own s a n p.1.1.1.1.0 in
-    let few : gates_then s a (ask.Redistribute n revision path level group) ≤ 16 = ltb-false 16 _ p.1.1.1.1.1.1.1.1.1.0 in
+    let few : gates_then s a (ask.Redistribute n revision path level group) ≤ GATE_LIMIT = ltb-false GATE_LIMIT _ p.1.1.1.1.1.1.1.1.1.0 in
     redistributed_at s n (pointer_tokens path) level group h (not-false (at_pointer (is_place_of s.incidents n) path) p.1.1.1.1.1.1.0) (group_if_any s a group h.directory (not-false (is_own_group s a group) p.1.1.1.1.1.0))
-    (subst (λ m. m ≤ 16) (counted_is s n it.incident (λ m. class_gates m (changed s a (ask.Redistribute n revision path level group)).gates) it.found) few)
+    (subst (λ m. m ≤ GATE_LIMIT) (counted_is s n it.incident (λ m. class_gates m (changed s a (ask.Redistribute n revision path level group)).gates) it.found) few)

@@ -4,6 +4,7 @@ use Rattle.iodef_tree.specs.Text.{Bytes}
 use Rattle.circle.specs.Refusals.{Ground, first_answer, bad, unknown_unless, not_so_unless}
 use Rattle.circle.specs.declared.refusal.Code.TheVariants.{B1, S1, S3}
 use Rattle.circle.specs.declared.directory.Person.{Person}
+use Rattle.hub_core.specs.declared.TheConstants.{INCIDENT_LIMIT, REVISION_LIMIT, GATE_LIMIT}
 use Rattle.hub_core.specs.Documents.{Lines, fault_in, documents_in, ident_of, bad_marking}
 use Rattle.hub_core.specs.Refusals.{because, no_class_unless, over, is_bad_level, is_bad_group, are_bad_gates, stands_twice, has_some, has_several, stand_at_classes}
 use Rattle.hub_core.specs.Judgement.{unless_known_own, keep_known_ident, other_known, next_known}
@@ -38,8 +39,8 @@ post_facts f gates docs =
     unknown_unless f.circle.exists
     ∷ no_class_unless (stand_at_classes gates docs)
     ∷ because S1 (option_map decimal f.posted)
-    ∷ over 1000000 (f.circle.count + length docs)
-    ∷ over 16 f.gates
+    ∷ over INCIDENT_LIMIT (f.circle.count + length docs)
+    ∷ over GATE_LIMIT f.gates
     ∷ []
 
 abbrev pub replace_arguments : List WantedGate → Bytes → List Ground
@@ -58,6 +59,6 @@ replace_facts f a revision gates docs =
     ∷ no_class_unless (stand_at_classes gates docs)
     ∷ not_so_unless (keep_known_ident f docs)
     ∷ because S3 (other_known f revision)
-    ∷ over 1000000 (next_known f)
-    ∷ over 16 f.gates
+    ∷ over REVISION_LIMIT (next_known f)
+    ∷ over GATE_LIMIT f.gates
     ∷ []

@@ -7,6 +7,7 @@ use Rattle.std.proofs.lemmas.List.{take-append-le, drop-append-le, take_all}
 use Rattle.std.proofs.lemmas.Bool.{cases_lt}
 use Rattle.httparse.specs.Grammar.{print_request, ReadsRequest, HasNoRequest, NeverHasRequest, MayBecomeRequest}
 use Rattle.httparse.proofs.GrammarLemmas.{ReadsRequest-append}
+use Rattle.hub_http.specs.declared.TheConstants.{HEAD_LIMIT, FIELD_LIMIT}
 use Rattle.hub_http.specs.declared.wire_fault.WireFault.{WireFault}
 use Rattle.hub_http.specs.declared.wire_fault.WireFault.TheVariants as fault
 use Rattle.hub_http.specs.Outcome.{◌>>=◌, when}
@@ -18,15 +19,15 @@ use Rattle.hub_http.proofs.Heads.{head_fits}
 
 -- the window of more bytes begins with the window
 grown : (bytes more : List ℕ) → (x : List ℕ) × (window (bytes ++ more) ≡ window bytes ++ x)
-grown bytes more = elim (cases_lt (length bytes) 8192) [
+grown bytes more = elim (cases_lt (length bytes) HEAD_LIMIT) [
   | inl short ↦
-      let split : 8192 ≡ length bytes + (8192 - length bytes) = omega (arith, short) in
-      let all : take 8192 bytes ≡ bytes = take_all 8192 bytes (omega (arith, short)) in (
-        take (8192 - length bytes) more,
-        ap (λ k. take k (bytes ++ more)) split ∙ take-append-add bytes more (8192 - length bytes)
-            ∙ ap (λ l. l ++ take (8192 - length bytes) more) (sym all),
+      let split : HEAD_LIMIT ≡ length bytes + (HEAD_LIMIT - length bytes) = omega (arith, short) in
+      let all : take HEAD_LIMIT bytes ≡ bytes = take_all HEAD_LIMIT bytes (omega (arith, short)) in (
+        take (HEAD_LIMIT - length bytes) more,
+        ap (λ k. take k (bytes ++ more)) split ∙ take-append-add bytes more (HEAD_LIMIT - length bytes)
+            ∙ ap (λ l. l ++ take (HEAD_LIMIT - length bytes) more) (sym all),
       )
-  | inr full ↦ ([], take-append-le 8192 bytes more full ∙ sym (append-nil (window bytes)))
+  | inr full ↦ ([], take-append-le HEAD_LIMIT bytes more full ∙ sym (append-nil (window bytes)))
 ]
 
 module _ (method target : List ℕ) (fields : List Pair) (rest more : List ℕ) where
@@ -60,7 +61,7 @@ module _ (method target : List ℕ) (fields : List Pair) (rest more : List ℕ) 
   asked_stands : asked_by method target fields rest ≢ Err fault.Truncated
       → asked_by method target fields (rest ++ more) ≡ asked_by method target fields rest
   unfolding asked_by
-  asked_stands whole = fields_stand (nat_le (length fields) 64) (body_length (bytes_eq method (codes "GET")) fields) whole
+  asked_stands whole = fields_stand (nat_le (length fields) FIELD_LIMIT) (body_length (bytes_eq method (codes "GET")) fields) whole
 
 by_head : (bytes more : List ℕ) (a : Asked) → a ≢ Err fault.Truncated → AsksByHead bytes a → AsksByHead (bytes ++ more) a
 by_head bytes more a whole (h, rest, reads, e) =
@@ -75,8 +76,8 @@ by_head bytes more a whole (h, rest, reads, e) =
 never_more : (front x : List ℕ) → NeverHasRequest front → NeverHasRequest (front ++ x)
 never_more front x never m = subst HasNoRequest (sym (append_assoc front x m)) (never (x ++ m))
 
-full_window : (bytes more : List ℕ) → 8192 ≤ length bytes → window bytes ≡ window (bytes ++ more)
-full_window bytes more full = sym (take-append-le 8192 bytes more full)
+full_window : (bytes more : List ℕ) → HEAD_LIMIT ≤ length bytes → window bytes ≡ window (bytes ++ more)
+full_window bytes more full = sym (take-append-le HEAD_LIMIT bytes more full)
 
 headless : (bytes more : List ℕ) (a : Asked) → a ≢ Err fault.Truncated → IsHeadless bytes a → IsHeadless (bytes ++ more) a
 headless bytes more (Ok x) whole h = absurd h

@@ -7,6 +7,7 @@ use Rattle.httparse.specs.Grammar.{RequestHead, Field, lf, print_end, print_fiel
 use Rattle.httparse.specs.Borrowed.{HoldsRequest, HoldsSomeRequest, header_parts}
 use Rattle.httparse.specs.Spans.{RequestOverflows, RequestExceeds}
 use Rattle.httparse.specs.declared.borrowed.Request.{Request}
+use Rattle.hub_http.specs.declared.TheConstants.{HEAD_LIMIT, FIELD_LIMIT}
 use Rattle.hub_http.specs.declared.wire_fault.WireFault.TheVariants as fault
 use Rattle.hub_http.specs.declared.wire.Arrival.{Arrival}
 use Rattle.hub_http.specs.declared.wire.Arrival.TheVariants.{Wants, Asks, Refused}
@@ -50,30 +51,30 @@ head_arrives bytes len r method target holds m t a s =
     arrives bytes _ (holds.0, _, holds.1.reads, same) (len + length (drop len bytes)) (omega (arith, length-drop len bytes)) a s
 
 -- the head lies in the window
-pub head_fits : (bytes : List ℕ) (h : RequestHead) (rest : List ℕ) → ReadsRequest (window bytes) h rest → (length (print_request h) ≤ 8192) × (length (print_request h) ≤ length bytes)
+pub head_fits : (bytes : List ℕ) (h : RequestHead) (rest : List ℕ) → ReadsRequest (window bytes) h rest → (length (print_request h) ≤ HEAD_LIMIT) × (length (print_request h) ≤ length bytes)
 head_fits bytes h rest reads =
     let e : length (window bytes) ≡ length (print_request h) + length rest = ap length reads.1 ∙ length-append (print_request h) rest in
     (omega (arith, e, length-take {A = ℕ}), omega (arith, e, length-take {A = ℕ}))
 
 -- the same of what the parser holds
-pub within : (bytes front : List ℕ) (len : ℕ) (r : Request) → front ≡ window bytes → HoldsSomeRequest front r len → (len ≤ 8192) × (len ≤ length bytes)
+pub within : (bytes front : List ℕ) (len : ℕ) (r : Request) → front ≡ window bytes → HoldsSomeRequest front r len → (len ≤ HEAD_LIMIT) × (len ≤ length bytes)
 within bytes front len r same (h, holds) =
     let fits = head_fits bytes h (drop len front) (subst (λ l. ReadsRequest l h (drop len front)) same holds.reads) in
     (omega (arith, fits, holds.len_is), omega (arith, fits, holds.len_is))
 
-not_leb : {n : ℕ} → 64 < n → nat_le n 64 ≡ false
+not_leb : {n : ℕ} → FIELD_LIMIT < n → nat_le n FIELD_LIMIT ≡ false
 not_leb h = grind (arith, nat_tests)
 
 -- a whole head has too many fields
 pub too_many_fields : (bytes : List ℕ) (h : RequestHead) (rest : List ℕ) → ReadsRequest (window bytes) h rest
-    → 64 < length h.fields → Wire bytes (Err fault.HeadTooLong)
+    → FIELD_LIMIT < length h.fields → Wire bytes (Err fault.HeadTooLong)
 unfolding asked_by
 too_many_fields bytes h rest reads many =
-    let few : nat_le (length (fields_of h)) 64 ≡ false = rw length-map (not_leb many) in
+    let few : nat_le (length (fields_of h)) FIELD_LIMIT ≡ false = rw length-map (not_leb many) in
     inl (h, rest, reads, rw few refl)
 
 -- the same of what the parser holds
-pub many_fields : (bytes front : List ℕ) (r : Request) (len : ℕ) → front ≡ window bytes → RequestOverflows 64 (window bytes)
+pub many_fields : (bytes front : List ℕ) (r : Request) (len : ℕ) → front ≡ window bytes → RequestOverflows FIELD_LIMIT (window bytes)
     → HoldsSomeRequest front r len → Wire bytes (Err fault.HeadTooLong)
 many_fields bytes front r len same over (h, holds) =
     let reads : ReadsRequest (window bytes) h (drop len front) = subst (λ l. ReadsRequest l h (drop len front)) same holds.reads in
@@ -93,12 +94,12 @@ head_long : (h : RequestHead) → length h.fields + 2 ≤ length (print_request 
 unfolding print_request
 head_long h = simp length-append (omega (arith, fields_short h.fields))
 
-pub never_exceeds : (bytes : List ℕ) (room : ℕ) → 8192 ≤ room → ¬ (RequestExceeds room (window bytes))
+pub never_exceeds : (bytes : List ℕ) (room : ℕ) → HEAD_LIMIT ≤ room → ¬ (RequestExceeds room (window bytes))
 never_exceeds bytes room big (front, rest, whole, h, reads, many) =
     let a : length (front ++ print_end lf) ≡ length (print_request h ++ []) = ap length reads.1 in
     let b : length (window bytes) ≡ length (front ++ rest) = ap length whole in
-    omega (arith, big, head_long h, many, simp (length-append, append-nil) at a, simp length-append at b, length-take {A = ℕ} 8192 bytes)
+    omega (arith, big, head_long h, many, simp (length-append, append-nil) at a, simp length-append at b, length-take {A = ℕ} HEAD_LIMIT bytes)
 
-pub exceeds_none : (bytes front : List ℕ) (room : ℕ) → front ≡ window bytes → 8192 ≤ room → RequestExceeds room front → ⊥
+pub exceeds_none : (bytes front : List ℕ) (room : ℕ) → front ≡ window bytes → HEAD_LIMIT ≤ room → RequestExceeds room front → ⊥
 exceeds_none bytes front room same full h =
     never_exceeds bytes room full (subst (λ l. RequestExceeds room l) same h)

@@ -8,6 +8,7 @@ use Rattle.std.proofs.lemmas.Bool.Decides.{nat_tests}
 use Rattle.std.proofs.lemmas.Int.Digits.{digits_value_more}
 use Rattle.std.proofs.lemmas.Str.Parse.{digit_at, IsNumeralModel, numerals_by_value, parse_digits}
 use Rattle.std.proofs.lemmas.Grind.{common_steps}
+use Rattle.hub_http.specs.declared.TheConstants.{BODY_LIMIT}
 use Rattle.hub_http.specs.Spelling.{is_numeral, number}
 use borrow.Author.Tests.{ltb-true}
 use Rattle.hub_http.specs.declared.request_fault.RequestFault.{RequestFault}
@@ -43,8 +44,8 @@ digit_is c low high = grind (arith, nat_tests)
 
 -- one more digit of a length
 pub capped_step : (text : List ℕ) (i n m : ℕ) → i < length text → list_all is_ascii_digit text ≡ true
-    → n ≡ min (digits_value 10 (take i text)) 262145 → m ≡ min (n * 10 + (get_or text i 0 - 48)) 262145
-    → m ≡ min (digits_value 10 (take (i + 1) text)) 262145
+    → n ≡ min (digits_value 10 (take i text)) (BODY_LIMIT + 1) → m ≡ min (n * 10 + (get_or text i 0 - 48)) (BODY_LIMIT + 1)
+    → m ≡ min (digits_value 10 (take (i + 1) text)) (BODY_LIMIT + 1)
 capped_step text i n m h digits e f =
     let d = digit_at text i (own.to text digits) h in
     let v : digit_value (get_or text i 0) ≡ get_or text i 0 - 48 = digit_is (get_or text i 0) d.0 d.1 in

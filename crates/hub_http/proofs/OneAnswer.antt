@@ -2,6 +2,7 @@
 use Rattle.std.proofs.Common.{◌≡◌, ℕ, ◌<◌, ◌≤◌, ◌⊎◌, List, [], length, drop, Ok, Err, refl, ap, sym, ◌∙◌, subst, inl, inr, arith, append-nil}
 use Rattle.httparse.specs.Grammar.{print_request, HasNoRequest, NeverHasRequest, MayBecomeRequest}
 use Rattle.httparse.proofs.GrammarLemmas.{request_unique}
+use Rattle.hub_http.specs.declared.TheConstants.{HEAD_LIMIT}
 use Rattle.hub_http.specs.declared.wire_fault.WireFault.TheVariants as fault
 use Rattle.hub_http.specs.Wire.{Asked, Wire, AsksByHead, IsHeadless, asked_by, window, fields_of}
 use Rattle.hub_http.specs.Laws.{IsOpenTarget}
@@ -32,8 +33,8 @@ open_target bytes never may = elim may [
 -- which of the three a fault is, with what it says
 data Kind (bytes : List ℕ) (a : Asked) : Type 0 where
   refused : a ≡ Err fault.BadHead → NeverHasRequest (window bytes) → Kind bytes a
-  long : a ≡ Err fault.HeadTooLong → 8192 ≤ length bytes → MayBecomeRequest (window bytes) → Kind bytes a
-  short : a ≡ Err fault.Truncated → length bytes < 8192 → MayBecomeRequest (window bytes) → Kind bytes a
+  long : a ≡ Err fault.HeadTooLong → HEAD_LIMIT ≤ length bytes → MayBecomeRequest (window bytes) → Kind bytes a
+  short : a ≡ Err fault.Truncated → length bytes < HEAD_LIMIT → MayBecomeRequest (window bytes) → Kind bytes a
 
 kind : (bytes : List ℕ) (a : Asked) → IsHeadless bytes a → Kind bytes a
 kind bytes (Ok x) h = absurd h

@@ -1,5 +1,5 @@
 -- What the fields of a head say: how long the body is, and who asks.
-use Rattle.std.specs.Prelude.{ℕ, List, [], ◌∷◌, length, map, take, drop, Bool, ◌&&◌, ◌==◌, nat_lt, nat_le, if◌then◌else◌, Option, Some, None, Result, Ok, Err, codes}
+use Rattle.std.specs.Prelude.{ℕ, ◌+◌, List, [], ◌∷◌, length, map, take, drop, Bool, ◌&&◌, ◌==◌, nat_lt, nat_le, if◌then◌else◌, Option, Some, None, Result, Ok, Err, codes}
 use Rattle.std.specs.List.{list_all}
 use Rattle.std.specs.Char.{is_ascii_digit, to_ascii_lowercase}
 use Rattle.std.specs.Str.{bytes_eq}
@@ -7,6 +7,7 @@ use Rattle.std.specs.Str.Parse.{digits_value}
 use Rattle.sha2.specs.Sha256.{sha256}
 use Rattle.hub.specs.declared.key.Key.{Key}
 use Rattle.hub.specs.declared.key.Key.TheVariants.{Absent, Digest}
+use Rattle.hub_http.specs.declared.TheConstants.{BODY_LIMIT, KEY_LIMIT}
 use Rattle.hub_http.specs.declared.wire_fault.WireFault.{WireFault}
 use Rattle.hub_http.specs.declared.wire_fault.WireFault.TheVariants.{BadHead, Chunked, NoLength, TooLarge}
 use Rattle.hub_http.specs.Outcome.{◌>>=◌, when}
@@ -31,15 +32,11 @@ length_text [] = Ok None
 length_text (text ∷ []) = if is_digits text then Ok (Some text) else Err BadHead
 length_text (text ∷ other ∷ rest) = Err BadHead
 
--- how long a body may be
-abbrev pub body_limit : ℕ
-body_limit = 262144
-
 -- the length that the head wants, where GET needs none
 unfoldable pub wanted_length : Bool → Option (List ℕ) → Result ℕ WireFault
 wanted_length is_get None = if is_get then Ok 0 else Err NoLength
 wanted_length is_get (Some text) =
-    if nat_lt body_limit (digits_value 10 text) then Err TooLarge else Ok (digits_value 10 text)
+    if nat_lt BODY_LIMIT (digits_value 10 text) then Err TooLarge else Ok (digits_value 10 text)
 
 -- no field of this name
 abbrev pub lacks : List ℕ → List Pair → Bool
@@ -56,10 +53,10 @@ body_length is_get fields = do
 abbrev pub is_visible : ℕ → Bool
 is_visible b = nat_le 33 b && nat_le b 126
 
--- `Bearer`, a space, and 1 to 128 visible bytes
+-- `Bearer`, a space, and the visible bytes of a key
 abbrev pub is_bearer : List ℕ → Bool
 is_bearer value =
-    nat_le 8 (length value) && nat_le (length value) 135
+    nat_le 8 (length value) && nat_le (length value) (7 + KEY_LIMIT)
     && same_name (take 7 value) (codes "Bearer ") && list_all is_visible (drop 7 value)
 
 -- who shows a key: its SHA-256

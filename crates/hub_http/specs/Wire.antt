@@ -5,6 +5,7 @@ use Rattle.httparse.specs.Grammar.{RequestHead, print_request, ReadsRequest, Has
 use Rattle.httparse.specs.Spans.{name_and_value}
 use Rattle.hub.specs.declared.key.Key.{Key}
 use Rattle.hub_core.specs.declared.request.Request.{Request}
+use Rattle.hub_http.specs.declared.TheConstants.{HEAD_LIMIT, FIELD_LIMIT}
 use Rattle.hub_http.specs.declared.wire_fault.WireFault.{WireFault}
 use Rattle.hub_http.specs.declared.wire_fault.WireFault.TheVariants as fault
 use Rattle.hub_http.specs.declared.request_fault.RequestFault.{RequestFault}
@@ -18,16 +19,9 @@ use Rattle.hub_http.specs.Requests.{request_by}
 abbrev pub Asked : Type 0
 Asked = Result (Key × Request) WireFault
 
--- how many bytes and how many fields a head may have
-abbrev pub head_limit : ℕ
-head_limit = 8192
-
-abbrev pub field_limit : ℕ
-field_limit = 64
-
 -- the bytes in which a head must end
 abbrev pub window : List ℕ → List ℕ
-window bytes = take head_limit bytes
+window bytes = take HEAD_LIMIT bytes
 
 -- the names and the values of a head's fields
 abbrev pub fields_of : RequestHead → List Pair
@@ -42,7 +36,7 @@ as_wire (Err request_fault.NoMemory) = Err fault.NoMemory
 -- what the parts of a head and the bytes behind it ask
 unfoldable pub asked_by : List ℕ → List ℕ → List Pair → List ℕ → Asked
 asked_by method target fields rest = do
-  _ ← when (nat_le (length fields) field_limit) fault.HeadTooLong
+  _ ← when (nat_le (length fields) FIELD_LIMIT) fault.HeadTooLong
   n ← body_length (bytes_eq method (codes "GET")) fields
   _ ← when (nat_le n (length rest)) fault.Truncated
   request ← as_wire (request_by method target (take n rest))
@@ -58,9 +52,9 @@ AsksByHead bytes asked =
 abbrev pub IsHeadless : List ℕ → Asked → Type 0
 IsHeadless bytes (Err fault.BadHead) = NeverHasRequest (window bytes)
 IsHeadless bytes (Err fault.HeadTooLong) =
-    (head_limit ≤ length bytes) × HasNoRequest (window bytes) × MayBecomeRequest (window bytes)
+    (HEAD_LIMIT ≤ length bytes) × HasNoRequest (window bytes) × MayBecomeRequest (window bytes)
 IsHeadless bytes (Err fault.Truncated) =
-    (length bytes < head_limit) × HasNoRequest (window bytes) × MayBecomeRequest (window bytes)
+    (length bytes < HEAD_LIMIT) × HasNoRequest (window bytes) × MayBecomeRequest (window bytes)
 IsHeadless bytes _ = ⊥
 
 -- The bytes ask this, or have this fault first. There is one answer, but where the window ends inside the target

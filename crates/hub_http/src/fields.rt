@@ -11,11 +11,10 @@ ghost use Rattle.hub_http.specs.Texts.{IsSole};
 
 use crate::spelling::has_digits_alone;
 use crate::wire_fault::WireFault;
+use crate::{BODY_LIMIT, KEY_LIMIT};
 use httparse::Header;
 use hub::Key;
 use sha2::{Digest, Sha256};
-
-const BODY_LIMIT: u32 = 262_144;
 
 /// The value of the fields of a name: none, one, or several.
 #[derive(Clone, Copy, Drop)]
@@ -56,7 +55,7 @@ fn has_digits(text: &[u8]) -> bool
 /// The number that digits write, or one more than a body may have bytes.
 fn capped_value(text: &[u8]) -> u32
     requires { IsTrue (is_digits text.now) }
-    ensures { result ≡ min (digits_value 10 text.now) 262145 }
+    ensures { result ≡ min (digits_value 10 text.now) (BODY_LIMIT + 1) }
 {
     let mut n: u32 = 0;
     for b in text {
@@ -97,7 +96,7 @@ fn has_none(fields: &[Header<'_>], name: &str) -> bool
 pub(crate) fn read_body_length(is_get: bool, fields: &[Header<'_>]) -> Result<u32, WireFault>
     ensures value { result ≡ body_length is_get (map header_parts fields.now) }
     ensures whole { IfErr result (λ e. e ≢ WireFault.Truncated) }
-    ensures bound { IfOk result (λ n. n ≤ 262144) }
+    ensures bound { IfOk result (λ n. n ≤ BODY_LIMIT) }
 {
     let text = read_length_text(fields)?;
     if !has_none(fields, "transfer-encoding") {
@@ -111,7 +110,7 @@ fn wanted(is_get: bool, text: Option<&[u8]>) -> Result<u32, WireFault>
     requires { ForSome text (λ t. IsTrue (is_digits t.now)) }
     ensures value { result ≡ wanted_length is_get (option_copied text.entry) }
     ensures whole { IfErr result (λ e. e ≢ WireFault.Truncated) }
-    ensures bound { IfOk result (λ n. n ≤ 262144) }
+    ensures bound { IfOk result (λ n. n ≤ BODY_LIMIT) }
 {
     let Some(text) = text else {
         return if is_get {
@@ -130,7 +129,7 @@ fn wanted(is_get: bool, text: Option<&[u8]>) -> Result<u32, WireFault>
 fn is_bearer_value(value: &[u8]) -> bool
     ensures { result ≡ is_bearer value.now }
 {
-    if value.len() < 8 || value.len() > 135 {
+    if value.len() < 8 || value.len() > 7 + KEY_LIMIT {
         return false;
     }
     is_same_name(&value[..7], b"Bearer ") && has_visible_alone(&value[7..])

@@ -35,3 +35,15 @@ pub use reply::{body_text, fault_bytes, reply_bytes};
 pub use serve::{ServeFault, Served, serve_one};
 pub use wire::request_of;
 pub use wire_fault::WireFault;
+
+/// How many bytes a head may have.
+pub const HEAD_LIMIT: usize = 8_192;
+
+/// How many fields a head may have.
+pub const FIELD_LIMIT: usize = 64;
+
+/// How many bytes a body may have.
+pub const BODY_LIMIT: u32 = 262_144;
+
+/// How many bytes the key of a caller may have.
+pub const KEY_LIMIT: usize = 128;

@@ -6,6 +6,7 @@ ghost use Rattle.hub_http.specs.Serving.{as_gather, Extends, Gathers, Replies, S
 use crate::reply::{fault_bytes, reply_bytes};
 use crate::wire::{Arrival, read_wire};
 use crate::wire_fault::WireFault;
+use crate::{BODY_LIMIT, HEAD_LIMIT};
 use hub::{Hub, Key};
 use hub_core::{Request, Shelf};
 use std::alloc::Global;
@@ -48,7 +49,7 @@ pub(crate) enum GatherFault {
 }
 
 /// How many reads a request may take: as many as the bytes of a head and a body at their limits.
-const READ_LIMIT: u32 = 270_336;
+const READ_LIMIT: u32 = HEAD_LIMIT as u32 + BODY_LIMIT;
 
 /// How many bytes a read may give.
 const PIECE: usize = 16_384;
@@ -134,7 +135,7 @@ fn reply_to<W: Write, Sh: Shelf>(
 }
 
 /// Serves one connection: reads one request, asks the hub at this moment (in seconds since 1970), and writes the reply. It
-/// reads at most 270,336 times; a reader that still gives bytes then is ReadFailed.
+/// reads at most as many times as a head and a body may have bytes; a reader that still gives bytes then is ReadFailed.
 #[tactic(auto, using(crate::proofs::Replied::serves_reply))]
 pub fn serve_one<R: Read, W: Write, Sh: Shelf>(
     alloc: Global,

@@ -10,6 +10,7 @@ use crate::fields::{read_body_length, read_key};
 use crate::request_fault::RequestFault;
 use crate::requests::read_request;
 use crate::wire_fault::WireFault;
+use crate::{FIELD_LIMIT, HEAD_LIMIT};
 use httparse::{EMPTY_HEADER, Error, Header, Status};
 use hub::Key;
 use hub_core::Request;
@@ -47,10 +48,10 @@ fn after_head(
     head: usize,
     rest: &[u8],
 ) -> Arrival
-    requires { head ≤ 8192 }
+    requires { head ≤ HEAD_LIMIT }
     ensures { Stands (asked_by method.now target.now (map header_parts fields.now) rest.now) (head + length rest.now) result }
 {
-    if fields.len() > 64 {
+    if fields.len() > FIELD_LIMIT {
         return Arrival::Refused(WireFault::HeadTooLong);
     }
     let n = match read_body_length(method == "GET", fields) {
@@ -67,8 +68,6 @@ fn after_head(
         Err(RequestFault::NoMemory) => Arrival::Refused(WireFault::NoMemory),
     }
 }
-
-const HEAD_LIMIT: usize = 8192;
 
 /// The bytes in which a head must end.
 fn front_of(bytes: &[u8]) -> &[u8]
@@ -93,7 +92,7 @@ pub(crate) fn read_wire(alloc: Global, bytes: &[u8]) -> Arrival
     ensures { Arrives bytes.now result }
 {
     let front = front_of(bytes);
-    let mut headers = [EMPTY_HEADER; 64];
+    let mut headers = [EMPTY_HEADER; FIELD_LIMIT];
     let mut head = httparse::Request::new(&mut headers);
     match head.parse(front) {
         Ok(Status::Complete(len)) => {
@@ -122,9 +121,9 @@ fn open_head(bytes: &[u8]) -> Arrival
     }
 }
 
-/// A head with more than 64 fields, or one that goes on, or none.
+/// A head with more than [`FIELD_LIMIT`] fields, or one that goes on, or none.
 fn read_many_fields(alloc: Global, bytes: &[u8]) -> Arrival
-    requires { RequestOverflows 64 (window bytes.now) }
+    requires { RequestOverflows FIELD_LIMIT (window bytes.now) }
     ensures { Arrives bytes.now result }
 {
     match vec![in alloc; EMPTY_HEADER; HEAD_LIMIT] {
@@ -135,8 +134,8 @@ fn read_many_fields(alloc: Global, bytes: &[u8]) -> Arrival
 
 /// The same with room for as many fields as bytes.
 fn read_in_room<'b>(bytes: &'b [u8], headers: &mut [Header<'b>]) -> Arrival
-    requires many { RequestOverflows 64 (window bytes.now) }
-    requires room { 8192 ≤ length headers.old }
+    requires many { RequestOverflows FIELD_LIMIT (window bytes.now) }
+    requires room { HEAD_LIMIT ≤ length headers.old }
     ensures { Arrives bytes.now result }
 {
     let front = front_of(bytes);

@@ -4,7 +4,8 @@ use thiserror::Error;
 /// What is wrong with a request's bytes: the first of these that holds, in this order.
 #[derive(Clone, Copy, Debug, PartialEq, Eq, Drop, Error)]
 pub enum WireFault {
-    /// The first 8,192 bytes are there, hold no whole head and may still begin one; or a whole head has over 64 fields.
+    /// The first [`HEAD_LIMIT`](crate::HEAD_LIMIT) bytes are there, hold no whole head and may still begin one; or a whole
+    /// head has over [`FIELD_LIMIT`](crate::FIELD_LIMIT) fields.
     #[error("the head is too long")]
     HeadTooLong,
     /// The bytes begin no head of HTTP/1.0 or HTTP/1.1, or Content-Length stands there twice or isn't digits.
@@ -16,7 +17,7 @@ pub enum WireFault {
     /// There is no Content-Length, and the method isn't GET.
     #[error("there is no Content-Length")]
     NoLength,
-    /// Content-Length is over 262,144.
+    /// Content-Length is over [`BODY_LIMIT`](crate::BODY_LIMIT).
     #[error("the body is too large")]
     TooLarge,
     /// The bytes end before the head or the body does.

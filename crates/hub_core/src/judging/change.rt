@@ -12,6 +12,7 @@ use crate::judging::stop::{
 };
 use crate::request::Target;
 use crate::state::{Gate, Permission, Recipient};
+use crate::{GATE_LIMIT, PERMISSION_LIMIT, RECIPIENT_LIMIT};
 use circle::directory::Person;
 use circle::refusal::Code;
 use circle::text::Text;
@@ -42,7 +43,7 @@ pub fn address(
     own(alloc, actor, facts)?;
     refuse_if(alloc, !facts.circle.exists, Code::N2)?;
     refuse_if(alloc, facts.circle.stands, Code::S1)?;
-    refuse_if(alloc, facts.recipients > 64, Code::L1)?;
+    refuse_if(alloc, facts.recipients > RECIPIENT_LIMIT, Code::L1)?;
     Ok(one(alloc, Edit::PutRecipient(Recipient { incident, target }))?)
 }
 
@@ -83,7 +84,7 @@ pub fn grant(
     refuse_if(alloc, !is_class(facts, &path), Code::N3)?;
     refuse_if(alloc, facts.circle.stands, Code::S1)?;
     refuse_with(alloc, Code::S3, other_than(known.revision, revision))?;
-    refuse_if(alloc, facts.permissions > 64, Code::L1)?;
+    refuse_if(alloc, facts.permissions > PERMISSION_LIMIT, Code::L1)?;
     Ok(one(
         alloc,
         Edit::PutPermission(Permission {
@@ -143,7 +144,7 @@ pub fn redistribute(
     refuse_if(alloc, !is_place(facts, &path), Code::N3)?;
     refuse_if(alloc, facts.circle.stands, Code::S1)?;
     refuse_with(alloc, Code::S3, other_than(known.revision, revision))?;
-    refuse_if(alloc, facts.gates > 16, Code::L1)?;
+    refuse_if(alloc, facts.gates > GATE_LIMIT, Code::L1)?;
     let mut edits = Vec::with_capacity(alloc, 2)?;
     edits.push(Edit::TakeGate {
         incident,

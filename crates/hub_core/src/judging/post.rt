@@ -16,6 +16,7 @@ use crate::judging::posted::Posted;
 use crate::judging::stop::{Stop, bad_if, poster, refuse_if, refuse_with};
 use crate::request::WantedGates;
 use crate::state::Incident;
+use crate::{GATE_LIMIT, INCIDENT_LIMIT};
 use circle::directory::Person;
 use circle::refusal::Code;
 use std::alloc::{AllocError, Global};
@@ -69,14 +70,14 @@ fn allowed(
     documents: &[Posted],
 ) -> Result<(), Stop>
     ensures asked { Asks (post_facts facts.now gates.now documents.now) result }
-    ensures room { OnOk result (facts.now.circle.count + length documents.now ≤ 1000000) }
+    ensures room { OnOk result (facts.now.circle.count + length documents.now ≤ INCIDENT_LIMIT) }
 {
     refuse_if(alloc, !facts.circle.exists, Code::N2)?;
     refuse_if(alloc, !gates.stand_at_classes(documents), Code::N3)?;
     refuse_with(alloc, Code::S1, facts.posted)?;
-    let count = facts.circle.count as usize;
-    refuse_if(alloc, count + documents.len() > 1_000_000, Code::L1)?;
-    refuse_if(alloc, facts.gates > 16, Code::L1)?;
+    let count = facts.circle.count as usize + documents.len();
+    refuse_if(alloc, count > INCIDENT_LIMIT as usize, Code::L1)?;
+    refuse_if(alloc, facts.gates > GATE_LIMIT, Code::L1)?;
     Ok(())
 }
 

@@ -17,6 +17,7 @@ use crate::judging::posted::Posted;
 use crate::judging::stop::{Stop, bad_if, other_than, own, poster, refuse_if, refuse_with};
 use crate::request::WantedGates;
 use crate::state::Incident;
+use crate::{GATE_LIMIT, REVISION_LIMIT};
 use circle::directory::Person;
 use circle::refusal::Code;
 use circle::text::Text;
@@ -77,15 +78,15 @@ fn allowed<'a>(
     ensures asked { Asks (replace_facts facts.now actor.now revision gates.now documents.now) result }
     ensures known { IfOk result (λ k. facts.now.incident ≡ Some k.now) }
     ensures ident { IfOk result (λ k. list_all (λ (doc : Lines). bytes_eq (ident_of doc) k.now.ident) documents.now ≡ true) }
-    ensures room { IfOk result (λ k. k.now.revision + 1 ≤ 1000000) }
+    ensures room { IfOk result (λ k. k.now.revision + 1 ≤ REVISION_LIMIT) }
 {
     let known = own(alloc, actor, facts)?;
     refuse_if(alloc, !facts.circle.exists, Code::N2)?;
     refuse_if(alloc, !gates.stand_at_classes(documents), Code::N3)?;
     refuse_if(alloc, !have_ident(documents, &known.ident), Code::S2)?;
     refuse_with(alloc, Code::S3, other_than(known.revision, revision))?;
-    refuse_if(alloc, known.revision >= 1_000_000, Code::L1)?;
-    refuse_if(alloc, facts.gates > 16, Code::L1)?;
+    refuse_if(alloc, known.revision >= REVISION_LIMIT, Code::L1)?;
+    refuse_if(alloc, facts.gates > GATE_LIMIT, Code::L1)?;
     Ok(known)
 }
 
@@ -104,7 +105,7 @@ fn next_revision(
 ) -> Result<Vec<Edit>, AllocError>
     requires single { length documents.items ≤ 1 }
     requires ident { list_all (λ (doc : Lines). bytes_eq (ident_of doc) known.now.ident) documents.items ≡ true }
-    requires room { known.now.revision + 1 ≤ 1000000 }
+    requires room { known.now.revision + 1 ≤ REVISION_LIMIT }
     ensures { IfOk result (λ edits. edits.items ≡ put_known incident known.now documents.items) }
 {
     let mut edits = Vec::new(alloc);

@@ -5,6 +5,7 @@ ghost use Rattle.hub_core.specs.Refusals.{is_bad_word as is_word_bad};
 ghost use Rattle.hub_core.specs.Asked.{Asks};
 ghost use Rattle.hub_core.specs.declared.request.Request.TheVariants as ask;
 
+use crate::WORD_LIMIT;
 use crate::edit::Edit;
 use crate::facts::Facts;
 use crate::judging::stop::{Stop, bad_if};
@@ -12,7 +13,7 @@ use circle::directory::Person;
 use circle::text::Text;
 use std::alloc::Global;
 
-/// A needle, or the name of a class, has 1 to 256 bytes.
+/// A needle, or the name of a class, has 1 to [`WORD_LIMIT`] bytes.
 pub fn search(
     alloc: Global,
     actor: &Person,
@@ -35,5 +36,5 @@ fn is_bad_word(text: &Text) -> bool
     ensures { result ≡ is_word_bad text.now }
 {
     let length = text.as_str().len();
-    length == 0 || length > 256
+    length == 0 || length > WORD_LIMIT
 }

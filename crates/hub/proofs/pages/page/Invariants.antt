@@ -1,6 +1,7 @@
 use Rattle.std.proofs.Common.{◌≡◌, ◌≤◌, ◌-◌, ◌++◌, take, length}
 use Rattle.hub_core.specs.State.{State}
 use Rattle.hub_core.specs.Sound.{IsSound}
+use Rattle.hub.specs.declared.TheConstants.{PAGE_LIMIT}
 use Rattle.hub.specs.Replies.{page_of}
 use Rattle.hub.specs.Wanted.{is_wanted}
 use Rattle.hub_core.specs.Shelves.{IsKept}
@@ -12,10 +13,10 @@ abbrev pub invariant-pages : goal.invariant-pages
 invariant-pages g l =
     let shelf = g.Sh.Shelf in
     record {
-      room : length l.listed.items ≤ 100;
+      room : length l.listed.items ≤ PAGE_LIMIT;
       kept : IsKept shelf.has shelf.doubts shelf.failed shelf.may_leave l.initial.shelf l.shelf;
       told : shelf.doubts l.shelf ≡ 0 → (s : State) → shelf.has l.initial.shelf s → IsSound s → IsThere s l.asker.person.now →
-          take 100 (l.listed.items ++ passing_above s (is_wanted s l.asker.now l.asker.person.now l.wanted) l.above) ≡ page_of (is_wanted s l.asker.now l.asker.person.now l.wanted) l.after s;
+          take PAGE_LIMIT (l.listed.items ++ passing_above s (is_wanted s l.asker.now l.asker.person.now l.wanted) l.above) ≡ page_of (is_wanted s l.asker.now l.asker.person.now l.wanted) l.after s;
     }
 
 abbrev pub decreases-pages : goal.decreases-pages

@@ -3,17 +3,18 @@ use Rattle.std.specs.Result.{is_ok}
 use Rattle.std.proofs.lemmas.Bool.{cond-true}
 use Rattle.std.proofs.lemmas.List.{length-append}
 use Rattle.hub_core.specs.declared.reply.Entry.{Entry}
+use Rattle.hub.specs.declared.TheConstants.{PAGE_LIMIT}
 use Rattle.hub.specs.Wanted.{is_wanted_at}
 use Rattle.hub.proofs.Keeping.{kept_on}
 use Rattle.hub.proofs.Paging.{take_full, picked, passed_over, no_more}
 use Rattle.hub.proofs.pages.pick.Goals as goal
 use Rattle.hub.proofs.pages.pick.Goals.{then-branch+else-is_err, else-branch}
 
-pub returns-then-len-eq-PAGE-clause-value : goal.returns-then-len-eq-PAGE-clause-value
-returns-then-len-eq-PAGE-clause-value g c = λ clean s has there.
+pub returns-then-len-eq-PAGE_LIMIT-clause-value : goal.returns-then-len-eq-PAGE_LIMIT-clause-value
+returns-then-len-eq-PAGE_LIMIT-clause-value g c = λ clean s has there.
     let test = λ (e : Entry). is_wanted_at s c.args.asker.now c.args.asker.person.now c.args.wanted e.number in
-    let full : 100 ≤ length c.loop-entry.listed.items = omega arith in
-    sym (take_full 100 c.loop-entry.listed.items (filter test (drop c.loop-entry.entry-index c.args.entries.now)) full c.loop-entry.invariant.room)
+    let full : PAGE_LIMIT ≤ length c.loop-entry.listed.items = omega arith in
+    sym (take_full PAGE_LIMIT c.loop-entry.listed.items (filter test (drop c.loop-entry.entry-index c.args.entries.now)) full c.loop-entry.invariant.room)
     ∙ c.loop-entry.invariant.told clean s has there
 
 pub returns-clause-value : goal.returns-clause-value
