@@ -118,7 +118,7 @@ class Browser:
         ]
         self.call("POST", "/actions", {"actions": [{"type": "key", "id": "keys", "actions": acts}]})
 
-    def wait(self, script: str, *words: object, seconds: float = 20.0) -> bool:
+    def wait(self, script: str, *words: object, seconds: float = 60.0) -> bool:
         """Whether a condition in the page comes to hold."""
         end = time.monotonic() + seconds
         while time.monotonic() < end:
@@ -128,9 +128,9 @@ class Browser:
         return False
 
     def settle(self) -> None:
-        """Waits until the page asks nothing."""
+        """Waits until the page asks nothing; a list of a hundred incidents takes minutes on a busy machine."""
         time.sleep(0.1)
-        if not self.wait("document.body.getAttribute('aria-busy') !== 'true'", seconds=60):
+        if not self.wait("document.body.getAttribute('aria-busy') !== 'true'", seconds=600):
             raise RuntimeError("the page still asks")
 
     def size(self, width: int, height: int) -> None:

@@ -49,7 +49,7 @@ class Circle:
         if method == "GET":
             body = None
         target = path + ("?" + urllib.parse.urlencode(query) if query else "")
-        connection = http.client.HTTPConnection("127.0.0.1", self.port, timeout=120)
+        connection = http.client.HTTPConnection("127.0.0.1", self.port, timeout=600)
         connection.request(method, target, body, {"Authorization": f"Bearer {KEYS.get(who, who)}"})
         answer = json.loads(connection.getresponse().read())
         connection.close()

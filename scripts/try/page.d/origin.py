@@ -101,7 +101,7 @@ class Origin:
 
     def answer_of_hub(self, method: str, target: str, key: str | None, body: bytes) -> Answer:
         with self.one_at_a_time:
-            connection = http.client.HTTPConnection("127.0.0.1", self.hub_port, timeout=60)
+            connection = http.client.HTTPConnection("127.0.0.1", self.hub_port, timeout=600)
             try:
                 headers = {} if key is None else {"Authorization": key}
                 connection.request(method, target, body if method != "GET" else None, headers)
