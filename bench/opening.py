@@ -1,5 +1,6 @@
 #!/usr/bin/env python3
-"""What the opening of a store costs: seconds until `serve` listens, and the peak of its memory, by the number of reports.
+"""What the opening of a store costs: the processor's seconds until `serve` listens, and the peak of its memory, by the number
+of reports. On a machine with a processor to spare the clock tells the same, but for the disk.
 
 usage: bench/opening.py [--program PATH] [--sizes 1000,10000,100000] [--runs 3] [--folder FOLDER]
 
@@ -14,13 +15,13 @@ import argparse
 import hashlib
 import http.client
 import json
+import os
 import pathlib
 import socket
 import sqlite3
 import subprocess
 import sys
 import tempfile
-import time
 
 TOP = pathlib.Path(__file__).resolve().parent.parent
 LABELS = (None, "public", "green", "amber", "red", "need-to-know")
@@ -51,18 +52,17 @@ def report() -> bytes:
 
 
 class Hub:
-    """`serve` over a store, and the seconds until it listened."""
+    """`serve` over a store, and the processor's seconds until it listened."""
 
     def __init__(self, program: str, store: pathlib.Path) -> None:
         with socket.socket() as free:
             free.bind(("127.0.0.1", 0))
             self.port = int(free.getsockname()[1])
-        begun = time.perf_counter()
         self.process = subprocess.Popen([program, "serve", str(store), str(self.port), "4294967295"], stdout=subprocess.PIPE, text=True)
         assert self.process.stdout is not None
         if self.process.stdout.readline() != f"listening {self.port}\n":
             sys.exit(f"opening.py: the program doesn't serve {store}")
-        self.seconds = time.perf_counter() - begun
+        self.opened = self.seconds()
 
     def ask(self, key: str, method: str, target: str, body: bytes = b"") -> bytes:
         connection = http.client.HTTPConnection("127.0.0.1", self.port, timeout=3600)
@@ -73,6 +73,11 @@ class Hub:
         if answer.status != 200:
             sys.exit(f"opening.py: {method} {target}: {answer.status} {told[:200]!r}")
         return told
+
+    def seconds(self) -> float:
+        """What the processor worked for it until here."""
+        fields = pathlib.Path(f"/proc/{self.process.pid}/stat").read_text().rpartition(")")[2].split()
+        return (int(fields[11]) + int(fields[12])) / os.sysconf("SC_CLK_TCK")
 
     def peak(self) -> float:
         """The largest memory until here, in megabytes."""
@@ -120,12 +125,12 @@ def measured(program: str, store: pathlib.Path, size: int) -> tuple[float, float
     last = json.loads(hub.ask("poster", "GET", f"/incidents/{size}"))
     if [each["number"] for each in page] != [size] or last["withheld"] or last["classes"] < 100:
         sys.exit("opening.py: the store isn't what it should be")
-    begun = time.perf_counter()
+    begun = hub.seconds()
     hub.ask("poster", "GET", "/search?needle=in-no-report")
-    searched = time.perf_counter() - begun
+    searched = hub.seconds() - begun
     peak = hub.peak()
     hub.close()
-    return hub.seconds, opened, searched, peak
+    return hub.opened, opened, searched, peak
 
 
 def main() -> None:
