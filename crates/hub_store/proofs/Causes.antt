@@ -1,5 +1,5 @@
 -- Why a statement fails that SQL understands.
-use Rattle.std.proofs.Common.{◌≡◌, ◌≢◌, ◌⊎◌, inl, inr, ℕ, ◌+◌, ◌*◌, ◌^◌, ◌<◌, ◌≤◌, ◌==◌, List, [], ◌∷◌, length, append-nil, codes, Bool, true, false, not, ◌&&◌, ◌||◌, IsTrue, IsSome, is_some, IsUtf8, nat_lt, nat_le, Option, Some, None, Ok, Err, Result, refl, sym, ap, subst, subst₂, ◌∙◌, arith}
+use Rattle.std.proofs.Common.{◌≡◌, ◌≢◌, ◌⊎◌, inl, inr, ℕ, ◌+◌, ◌*◌, ◌^◌, ◌<◌, ◌≤◌, ◌==◌, List, [], length, append-nil, codes, Bool, true, false, not, ◌&&◌, ◌||◌, IsTrue, IsSome, is_some, IsUtf8, nat_lt, nat_le, Option, Some, None, Ok, Err, Result, refl, sym, ap, subst, subst₂, ◌∙◌, arith}
 use Rattle.std.specs.List.{list_all}
 use Rattle.std.proofs.lemmas.Bool.{and_parts, not-true, ltb-true, leb-true, true≢false}
 use Rattle.sqlite_value.specs.declared.value.Value.TheVariants.{Text}

@@ -1,6 +1,6 @@
 -- The first row that is put into tables without a row is refused by no rule.
 use lib.Ieee.{is_nan}
-use Rattle.std.proofs.Common.{◌≡◌, ◌≢◌, ◌⊎◌, inl, inr, ℕ, suc, zero, ◌==◌, ◌/◌, ℤ, pos, negsuc, List, [], ◌∷◌, ◌++◌, length, length-append, map, drop, Bool, true, false, not, ◌||◌, IsSome, Option, Some, None, Ok, Err, Result, refl, sym, ap, subst, ◌∙◌, arith}
+use Rattle.std.proofs.Common.{◌≡◌, ◌≢◌, inl, inr, ℕ, suc, zero, ◌==◌, pos, List, [], ◌∷◌, length, length-append, drop, true, false, not, ◌||◌, IsSome, Option, Some, None, Ok, Err, Result, refl, sym, ap, subst, ◌∙◌, arith}
 use Rattle.std.specs.List.{AllByRecursion, list_all}
 use Rattle.std.proofs.lemmas.Bool.{true≢false}
 use Rattle.std.proofs.lemmas.List.Elements.{All-from_recursion}
@@ -19,10 +19,8 @@ use Rattle.sqlite_schema.specs.declared.schema.Among.{Among}
 use Rattle.sqlite_schema.specs.declared.schema.Among.TheVariants.{All}
 use Rattle.sqlite_schema.specs.declared.schema.Index.{Index}
 use Rattle.sqlite_schema.specs.declared.schema.Table.{Table}
-use Rattle.sqlite_schema.specs.declared.schema.Schema.{Schema}
 use Rattle.sqlite_schema.specs.declared.schema.Keys.TheVariants.{Enforced}
 use Rattle.sqlite_schema.specs.Rules.{Refers, Keeps, has_parent, is_among, passes, table_reals}
-use Rattle.sqlite_rules.specs.Lists.{Has}
 use Rattle.sqlite_rules.proofs.ListLemmas.{test_has}
 use Rattle.sqlite_rules.specs.declared.error.Refusal.{Refusal}
 use Rattle.sqlite_rules.specs.declared.error.Refusal.TheVariants.{Violates, Mismatch, NoRowid, BadReference, TooDeep}
@@ -36,9 +34,8 @@ use Rattle.sqlite.specs.declared.error.Error.TheVariants.{SqliteFailure}
 use Rattle.sqlite.specs.declared.error.ErrorCode.TheVariants as code
 use Rattle.sqlite.specs.Listing.{understood}
 use Rattle.sqlite.proofs.Callers.{statement_of}
-use Rattle.sqlite.specs.Effect.{Database}
-use Rattle.sqlite.specs.Rows.{Task, Written, Sourced, Counter, Counts, Edited, Inserts, count_of}
-use Rattle.sqlite.specs.Does.{Does, Concludes, Returns, Tested}
+use Rattle.sqlite.specs.Rows.{Task, Written, Sourced, Counter, Edited, Inserts}
+use Rattle.sqlite.specs.Does.{Does, Concludes, Tested}
 use Rattle.sqlite.specs.State.{State, ExecutesInside, mode_of}
 use Rattle.hub_store.specs.Tables.{hub_schema, hub_table}
 use Rattle.hub_store.specs.Makes.{HasEmpty}
