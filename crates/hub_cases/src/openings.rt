@@ -80,7 +80,7 @@ fn push(alloc: Global, all: &mut Vec<String>, what: &str, told: &str) -> Result<
 }
 
 /// Statements, and what they make.
-const STORES: [(&str, &str); 10] = [
+const STORES: [(&str, &str); 12] = [
     ("an empty store", ""),
     (
         "no row",
@@ -117,6 +117,14 @@ const STORES: [(&str, &str); 10] = [
     (
         "a view",
         "CREATE TABLE one (version INTEGER NOT NULL) STRICT; INSERT INTO one (version) VALUES (1); CREATE VIEW hub AS SELECT version FROM one",
+    ),
+    (
+        "a view that can't be read",
+        "CREATE TABLE one (n INTEGER NOT NULL) STRICT; INSERT INTO one (n) VALUES (9223372036854775807), (1); CREATE VIEW hub AS SELECT sum(n) AS version FROM one",
+    ),
+    (
+        "another table of that name and column",
+        "CREATE TABLE one (n INTEGER); CREATE TABLE hub (name TEXT, version); INSERT INTO hub (name, version) VALUES ('a', 9)",
     ),
 ];
 
