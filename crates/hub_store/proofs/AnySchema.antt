@@ -23,6 +23,7 @@ use Rattle.sqlite_resolve.specs.Scope.{declared}
 use Rattle.sqlite_resolve.specs.Select.{named}
 use Rattle.sqlite_resolve.specs.Program.{Shown, query_to, viewing, or_view, program as as_typed}
 use Rattle.sqlite_resolve.specs.Compile.{compiled, first}
+use Rattle.sqlite_typing.specs.Types.{accepts_program}
 use Rattle.sqlite_tied.specs.Compute.{everything}
 use Rattle.hub_store.specs.Versions.{version_text}
 use Rattle.hub_store.proofs.Forms.{one_table, program}
@@ -36,6 +37,15 @@ bare_one names formats start stop tail (Ok k) c e =
     let same = sym (same_ok e) in
     (ap (λ (c : Compiled). c.returning) same, ap (λ (c : Compiled). c.formats) same, ap (λ (c : Compiled). c.names) same, ap (λ (c : Compiled). c.tail) same, ap (λ (c : Compiled). Ok c.command) (same_ok e))
 bare_one names formats start stop tail (Err s) c e = absurd cc
+
+-- a command that follows is one that the text is compiled to
+ok_one : (names formats : List (List ℕ)) (start stop tail : ℕ) (x : Checked Command) (k : Command) → x ≡ Ok k
+    → and_then {B = Compiled} (and_then (and_then x (λ k. Ok (k, None))) (λ found. Ok (formats, found))) (λ (plan : List (List ℕ) × (Command × Option Returning)). Ok (record { command = plan.1.0; returning = plan.1.1; names = names; formats = plan.0; start = start; end = stop; tail = tail }))
+    ≡ Ok (record { command = k; returning = None; names = names; formats = formats; start = start; end = stop; tail = tail })
+ok_one names formats start stop tail (Ok j) k e =
+    let made : Command → Checked Compiled = λ k. Ok (record { command = k; returning = None; names = names; formats = formats; start = start; end = stop; tail = tail }) in
+    ap made (same_ok e)
+ok_one names formats start stop tail (Err s) k e = absurd cc
 
 -- the SELECT that the text is
 unfoldable the_select : (s : written.Select) × (and_then (first version_text) (λ p. Ok p.statement) ≡ Ok (statement.Select s))
@@ -61,6 +71,11 @@ by_parts : (schema : Schema) (c : Compiled) → compiled schema version_text ≡
 unfolding compiled the_select after everything
 by_parts schema c e = bare_one _ _ _ _ _ _ c e
 
+-- where a command follows, the text is compiled
+compiles : (schema : Schema) (k : Command) → after schema (named schema the_core [] the_page) ≡ Ok k → (c : Compiled) × (compiled schema version_text ≡ Ok c)
+unfolding compiled the_select after everything
+compiles schema k e = (_, ok_one _ _ _ _ _ _ k e)
+
 pub bare_anywhere : (schema : Schema) (c : Compiled) → compiled schema version_text ≡ Ok c → (c.returning ≡ None) × (c.formats ≡ []) × (c.names ≡ []) × (c.tail ≡ length version_text)
 bare_anywhere schema c e = let parts = by_parts schema c e in (parts.0, parts.1, parts.2, parts.3)
 
@@ -78,6 +93,25 @@ unless_refused : (typed : Bool) (q : Program) (heads : List (List ℕ)) (fault :
 unless_refused true q heads fault k e = sym (same_ok e)
 unless_refused false q heads fault k e = absurd cc
 
+-- what is typed is read, and what is read is typed
+typed_if : (typed : Bool) (q : Program) (heads : List (List ℕ)) (fault : CompileError) (k : Command) → and_then (cond typed (Ok q) (Err fault)) (λ p. Ok (Select p heads)) ≡ Ok k → typed ≡ true
+typed_if true q heads fault k e = refl
+typed_if false q heads fault k e = absurd cc
+
+when_typed : (typed : Bool) (q : Program) (heads : List (List ℕ)) (fault : CompileError) → typed ≡ true → and_then (cond typed (Ok q) (Err fault)) (λ p. Ok (Select p heads)) ≡ Ok (Select q heads)
+when_typed true q heads fault is = refl
+when_typed false q heads fault is = absurd cc
+
+command_typed : (schema : Schema) (x : Checked Shown) (tree place : ℕ) (heads : List (List ℕ)) (hows : List (Option Collation)) (k : Command) → x ≡ Ok (column_shown tree place heads hows) → after schema x ≡ Ok k
+    → accepts_program schema [] (column_query tree place) [] ≡ true
+unfolding after as_typed
+command_typed schema x tree place heads hows k is e = typed_if _ _ heads _ k (subst (λ y. after schema y ≡ Ok k) is e)
+
+typed_command : (schema : Schema) (tree place : ℕ) (heads : List (List ℕ)) (hows : List (Option Collation)) → accepts_program schema [] (column_query tree place) [] ≡ true
+    → after schema (Ok (column_shown tree place heads hows)) ≡ Ok (Select (program (column_query tree place)) heads)
+unfolding after as_typed
+typed_command schema tree place heads hows is = when_typed _ _ heads _ is
+
 -- read as that query, it is the command of that query
 commanded : (schema : Schema) (x : Checked Shown) (tree place : ℕ) (heads : List (List ℕ)) (hows : List (Option Collation)) (k : Command) → x ≡ Ok (column_shown tree place heads hows) → after schema x ≡ Ok k
     → k ≡ Select (program (column_query tree place)) heads
@@ -94,3 +128,11 @@ module _ (schema : Schema) (at place : ℕ) (table : Table) (column : Column) (h
   -- the text asks for this column of this table
   pub asks : (c : Compiled) → compiled schema version_text ≡ Ok c → c.command ≡ Select (program (column_query table.tree (place_of table place))) (column.name ∷ [])
   asks c e = commanded schema _ _ _ _ _ c.command shown_is (by_parts schema c e).4
+
+  -- it is compiled where that query is typed
+  pub reads : accepts_program schema [] (column_query table.tree (place_of table place)) [] ≡ true → (c : Compiled) × (compiled schema version_text ≡ Ok c)
+  reads is = compiles schema _ (subst (λ y. after schema y ≡ Ok (Select (program (column_query table.tree (place_of table place))) (column.name ∷ []))) (sym shown_is) (typed_command schema _ _ _ _ is))
+
+  -- and typed where it is compiled
+  pub typed : (c : Compiled) → compiled schema version_text ≡ Ok c → accepts_program schema [] (column_query table.tree (place_of table place)) [] ≡ true
+  typed c e = command_typed schema _ _ _ _ _ c.command shown_is (by_parts schema c e).4

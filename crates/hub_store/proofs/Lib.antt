@@ -23,6 +23,7 @@ pub mod Asking
 pub mod Finding
 pub mod Answering
 pub mod Listed
+pub mod Readable
 pub mod Reading
 pub mod Incidents
 pub mod Placed

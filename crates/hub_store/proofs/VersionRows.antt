@@ -58,12 +58,12 @@ version_read db tree place rows a =
     ap (λ (l : List Row). only_u32 (map (λ r. column r 0) l)) got.3 ∙ from_two place (db tree) _ (subst (λ l. IsPermutation l (map (λ (o : Output). o.1) got.0)) shown moved)
 
 -- what there is
-some_there : {X : Type 0} (o : Option X) → is_some o ≡ true → (x : X) × (o ≡ Some x)
+pub some_there : {X : Type 0} (o : Option X) → is_some o ≡ true → (x : X) × (o ≡ Some x)
 some_there (Some x) h = (x, refl)
 some_there None h = absurd cc
 
 -- what is found at a place is there
-in_list : {X : Type 0} (p : X → Bool) (xs : List X) (k : ℕ) → position_from p 0 xs ≡ Some k → (x : X) × (slice_get xs k ≡ Some x)
+pub in_list : {X : Type 0} (p : X → Bool) (xs : List X) (k : ℕ) → position_from p 0 xs ≡ Some k → (x : X) × (slice_get xs k ≡ Some x)
 in_list p xs k found = elim (slice_get_cases xs k).1 [ inl here ↦ (here.0, here.2) | inr past ↦ absurd (omega (arith, position_within p xs 0 k found, past.0)) ]
 
 -- where there is the column, an answer to the text tells the version of the tables

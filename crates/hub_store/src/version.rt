@@ -2,11 +2,11 @@
 
 ghost use Rattle.std.specs.Prelude.{◌≡◌, ◌≢◌, ◌⊎◌, false, map, is_some, IfOk, IfErr};
 ghost use Rattle.sqlite_value.specs.Order.{column};
-ghost use Rattle.sqlite.specs.State.{HasCleanDisk, KeepsCommit, Survives};
+ghost use Rattle.sqlite.specs.State.{HasCleanDisk, IsLive, KeepsCommit, Survives};
 ghost use Rattle.sqlite.specs.Held.{state};
 ghost use Rattle.hub_store.specs.Keeps.{KeepsCommitted};
 ghost use Rattle.hub_store.specs.Versions.{version_column, only_u32, version_of};
-ghost use Rattle.hub_store.specs.Failing.{HasReason, IsUnreadable};
+ghost use Rattle.hub_store.specs.Failing.{HasReason, SharesTree};
 
 use crate::told::fault_of;
 use hub_core::ShelfFault;
@@ -52,7 +52,7 @@ fn read_version<S: Alter>(
     ensures kept { HasCleanDisk (state S.Store tx.new.conn.now) → KeepsCommit (state S.Store tx.old.conn.now) (state S.Store tx.new.conn.now) }
     ensures survives { Survives (state S.Store tx.old.conn.now) (state S.Store tx.new.conn.now) (λ _. ⊥) }
     ensures exact { HasCleanDisk (state S.Store tx.new.conn.now) → has_column ≡ is_some (version_column (state S.Store tx.old.conn.now).now.schema) → IfOk result (λ found. found ≡ version_of (state S.Store tx.old.conn.now).now) }
-    ensures cause { HasCleanDisk (state S.Store tx.new.conn.now) → has_column ≡ is_some (version_column (state S.Store tx.old.conn.now).now.schema) → IfErr result (λ e. e ≢ Error.SqliteFailure ErrorCode.OutOfMemory → HasReason (state S.Store tx.old.conn.now) (state S.Store tx.new.conn.now) ⊎ IsUnreadable (state S.Store tx.old.conn.now).now) }
+    ensures cause { HasCleanDisk (state S.Store tx.new.conn.now) → has_column ≡ is_some (version_column (state S.Store tx.old.conn.now).now.schema) → IsLive (state S.Store tx.old.conn.now) → IfErr result (λ e. e ≢ Error.SqliteFailure ErrorCode.OutOfMemory → HasReason (state S.Store tx.old.conn.now) (state S.Store tx.new.conn.now) ⊎ SharesTree (state S.Store tx.old.conn.now).now.schema) }
 {
     if !has_column {
         return Ok(None);
@@ -71,7 +71,7 @@ fn ask_version<S: Alter>(conn: &mut Connection<S>) -> Result<Option<u32>, Error>
     ensures kept { HasCleanDisk (state S.Store conn.new) → KeepsCommitted (state S.Store conn.old) (state S.Store conn.new) }
     ensures survives { Survives (state S.Store conn.old) (state S.Store conn.new) (λ _. ⊥) }
     ensures exact { HasCleanDisk (state S.Store conn.new) → IfOk result (λ found. found ≡ version_of (state S.Store conn.old).now) }
-    ensures cause { HasCleanDisk (state S.Store conn.new) → IfErr result (λ e. e ≢ Error.SqliteFailure ErrorCode.OutOfMemory → HasReason (state S.Store conn.old) (state S.Store conn.new) ⊎ IsUnreadable (state S.Store conn.old).now) }
+    ensures cause { HasCleanDisk (state S.Store conn.new) → IfErr result (λ e. e ≢ Error.SqliteFailure ErrorCode.OutOfMemory → HasReason (state S.Store conn.old) (state S.Store conn.new) ⊎ SharesTree (state S.Store conn.old).now.schema) }
 {
     let has_column = has_version_column(conn.schema());
     let mut tx = conn.transaction();
@@ -87,7 +87,7 @@ pub(crate) fn version<S: Alter>(conn: &mut Connection<S>) -> Result<Option<u32>,
     ensures kept { HasCleanDisk (state S.Store conn.new) → KeepsCommitted (state S.Store conn.old) (state S.Store conn.new) }
     ensures survives { Survives (state S.Store conn.old) (state S.Store conn.new) (λ _. ⊥) }
     ensures exact { HasCleanDisk (state S.Store conn.new) → IfOk result (λ found. found ≡ version_of (state S.Store conn.old).now) }
-    ensures cause { HasCleanDisk (state S.Store conn.new) → IfErr result (λ fault. fault ≡ ShelfFault.Failed → HasReason (state S.Store conn.old) (state S.Store conn.new) ⊎ IsUnreadable (state S.Store conn.old).now) }
+    ensures cause { HasCleanDisk (state S.Store conn.new) → IfErr result (λ fault. fault ≡ ShelfFault.Failed → HasReason (state S.Store conn.old) (state S.Store conn.new) ⊎ SharesTree (state S.Store conn.old).now.schema) }
 {
     match ask_version(conn) {
         Ok(found) => Ok(found),

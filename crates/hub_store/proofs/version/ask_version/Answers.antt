@@ -4,7 +4,7 @@ use Rattle.sqlite.specs.declared.error.ErrorCode.TheVariants as code
 use Rattle.sqlite.specs.State.{HasCleanDisk}
 use Rattle.sqlite.specs.Held.{state}
 use Rattle.hub_store.specs.Versions.{version_column}
-use Rattle.hub_store.specs.Failing.{HasReason, IsUnreadable}
+use Rattle.hub_store.specs.Failing.{HasReason, SharesTree}
 use Rattle.hub_store.proofs.AnyVersion.{later_reason}
 use Rattle.hub_store.proofs.version.ask_version.Goals as goal
 
@@ -17,6 +17,6 @@ returns-clause-cause g c clean =
     let late : HasCleanDisk (state g.S.Store end) = subst (λ h. HasCleanDisk (state g.S.Store h)) (sym same) clean in
     let before : HasCleanDisk (state g.S.Store mid) = omega (arith, c.rollback.ensures.survives.clean) in
     let is = c.has_version_column-has_column.ensures ∙ ap (λ s. is_some (version_column s)) c.schema.ensures.value in
-    let cause = (rw c.transaction-tx.ensures.begun at c.read_version-found.ensures.cause) before is in
-    subst (λ h. IfErr c.read_version-found.result (λ e. e ≢ SqliteFailure code.OutOfMemory → HasReason old (state g.S.Store h) ⊎ IsUnreadable old.now)) same
+    let cause = (rw c.transaction-tx.ensures.begun at c.read_version-found.ensures.cause) before is c.schema.ensures.live in
+    subst (λ h. IfErr c.read_version-found.result (λ e. e ≢ SqliteFailure code.OutOfMemory → HasReason old (state g.S.Store h) ⊎ SharesTree old.now.schema)) same
     (later_reason old (state g.S.Store mid) (state g.S.Store end).faults c.read_version-found.result c.rollback.ensures.survives.counts cause)

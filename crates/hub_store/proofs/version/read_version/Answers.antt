@@ -15,4 +15,4 @@ pub returns-in-Err-clause-kept : goal.returns-in-Err-clause-kept
 returns-in-Err-clause-kept g c clean = unchanged_keeps _ _ (failed_query _ _ _ _ _ (c.in-Err.ensures.err clean))
 
 pub returns-in-Err-clause-cause : goal.returns-in-Err-clause-cause
-returns-in-Err-clause-cause g c clean is other = unread_reason _ _ c.args.has_column _ c.if-not-has_column.false is other (c.in-Err.ensures.err clean)
+returns-in-Err-clause-cause g c clean is live other = unread_reason _ _ c.args.has_column _ c.if-not-has_column.false is live other (c.in-Err.ensures.err clean)
