@@ -30,6 +30,7 @@ use Rattle.hub_core.specs.declared.facts.Known.{Known}
 use Rattle.hub_core.specs.declared.state.Incident.{Incident}
 use Rattle.hub_core.specs.declared.reply.Reply.{Reply}
 use Rattle.hub_core.specs.declared.reply.Reply.TheVariants.{Numbers, Revision}
+use Rattle.hub_core.specs.declared.request.Distribution.{Distribution}
 use Rattle.hub_core.specs.declared.request.WantedGate.{WantedGate}
 use Rattle.hub_core.specs.declared.request.Request.{Request}
 use Rattle.hub_core.specs.declared.request.Request.TheVariants as ask
@@ -51,14 +52,13 @@ no_numbers n (g ∷ gs) =
     ∙ ap (λ ns. ns ++ numbers_put rest) (no_number n g.level g.group (pointer_tokens g.path))
     ∙ no_numbers n gs
 
-numbers_of : (source n level : ℕ) (group : Option ℕ) (gates : List WantedGate) (docs : List Lines) → numbers_put (put_incidents source n level group gates docs) ≡ numbers_from n docs
-numbers_of source n level group gates [] = refl
-numbers_of source n level group gates (doc ∷ docs) =
-    let G = flat_map (λ (g : WantedGate). made_at (put_gate n g.level g.group) g.path) gates in
-    let rest = put_incidents source (n + 1) level group gates docs in
-    filter_map-append number_put (put_incident source n level group gates doc) rest
-    ∙ ap (λ ns. (n ∷ ns) ++ numbers_put rest) (no_numbers n gates)
-    ∙ ap (λ ns. n ∷ ns) (numbers_of source (n + 1) level group gates docs)
+numbers_of : (source n : ℕ) (d : Distribution) (docs : List Lines) → numbers_put (put_incidents source n d docs) ≡ numbers_from n docs
+numbers_of source n d [] = refl
+numbers_of source n d (doc ∷ docs) =
+    let rest = put_incidents source (n + 1) d docs in
+    filter_map-append number_put (put_incident source n d doc) rest
+    ∙ ap (λ ns. (n ∷ ns) ++ numbers_put rest) (no_numbers n d.gates)
+    ∙ ap (λ ns. n ∷ ns) (numbers_of source (n + 1) d docs)
 
 circle_numbers : (d : Directory) (a : Person) (f : Facts) (c : CircleCommand) → made_reply f (ask.Circle c) (map Row (rows_of (edit_of (next_in d c) a c))) ≡ circle_reply d c
 circle_numbers d a f (AddOrg name) = refl
@@ -101,17 +101,17 @@ revision_fits s a r sound = small (looked_up s (incident_asked r)) (there (incid
 
 pub reply_is : (s : State) (now : ℤ) (a : Person) (r : Request) → is_reading r ≡ false → made_reply (facts_of s a r) r (edits_of s a r) ≡ answer_to s now a r
 reply_is s now a (ask.Circle command) h = circle_numbers s.directory a (facts_of s a (ask.Circle command)) command
-reply_is s now a (ask.Post level group gates body) h = ap Numbers (numbers_of a.org (next_incident s) level group gates (documents_in body))
-reply_is s now a (ask.Replace n revision level group gates body) h = ap (λ k. Revision (k + 1)) (same_revision (incident_of n s))
-reply_is s now a (ask.Redistribute n revision path level group) h = refl
-reply_is s now a (ask.Address n target) h = refl
-reply_is s now a (ask.Unaddress n target) h = refl
-reply_is s now a (ask.Grant n revision path grantee) h = refl
-reply_is s now a (ask.Withdraw n path grantee) h = refl
+reply_is s now a (ask.Post r) h = ap Numbers (numbers_of a.org (next_incident s) r.distribution (documents_in r.document))
+reply_is s now a (ask.Replace r) h = ap (λ k. Revision (k + 1)) (same_revision (incident_of r.incident s))
+reply_is s now a (ask.Redistribute r) h = refl
+reply_is s now a (ask.Address r) h = refl
+reply_is s now a (ask.Unaddress r) h = refl
+reply_is s now a (ask.Grant r) h = refl
+reply_is s now a (ask.Withdraw r) h = refl
 reply_is s now a (ask.View n) h = absurd (true≢false h)
-reply_is s now a (ask.Explain person n path) h = absurd (true≢false h)
+reply_is s now a (ask.Explain r) h = absurd (true≢false h)
 reply_is s now a (ask.List after) h = absurd (true≢false h)
-reply_is s now a (ask.Search needle class after) h = absurd (true≢false h)
+reply_is s now a (ask.Search r) h = absurd (true≢false h)
 reply_is s now a (ask.Addressed after) h = absurd (true≢false h)
 reply_is s now a ask.MyGroups h = absurd (true≢false h)
 reply_is s now a ask.WhoAmI h = absurd (true≢false h)
@@ -161,17 +161,17 @@ circle_count s a (Unnominate person) sound = omega arith
 
 count_fits : (s : State) (a : Person) (r : Request) → IsSound s → (facts_of s a r).circle.count < 4294967295
 count_fits s a (ask.Circle command) sound = circle_count s a command sound
-count_fits s a (ask.Post level group gates body) sound = let few = sound.incidents.numbered.1 in omega (arith, few)
-count_fits s a (ask.Replace n revision level group gates body) sound = omega arith
-count_fits s a (ask.Redistribute n revision path level group) sound = omega arith
-count_fits s a (ask.Address n target) sound = omega arith
-count_fits s a (ask.Unaddress n target) sound = omega arith
-count_fits s a (ask.Grant n revision path grantee) sound = omega arith
-count_fits s a (ask.Withdraw n path grantee) sound = omega arith
+count_fits s a (ask.Post r) sound = let few = sound.incidents.numbered.1 in omega (arith, few)
+count_fits s a (ask.Replace r) sound = omega arith
+count_fits s a (ask.Redistribute r) sound = omega arith
+count_fits s a (ask.Address r) sound = omega arith
+count_fits s a (ask.Unaddress r) sound = omega arith
+count_fits s a (ask.Grant r) sound = omega arith
+count_fits s a (ask.Withdraw r) sound = omega arith
 count_fits s a (ask.View n) sound = omega arith
-count_fits s a (ask.Explain person n path) sound = omega arith
+count_fits s a (ask.Explain r) sound = omega arith
 count_fits s a (ask.List after) sound = omega arith
-count_fits s a (ask.Search needle class after) sound = omega arith
+count_fits s a (ask.Search r) sound = omega arith
 count_fits s a (ask.Addressed after) sound = omega arith
 count_fits s a ask.MyGroups sound = omega arith
 count_fits s a ask.WhoAmI sound = omega arith

@@ -1,5 +1,5 @@
 -- An explanation is there wherever it isn't refused.
-use Rattle.std.proofs.Common.{◌≡◌, ℕ, Bool, true, false, not, Option, Some, None, cond, refl, sym, ap}
+use Rattle.std.proofs.Common.{◌≡◌, Bool, true, false, not, Option, Some, None, cond, refl, sym, ap}
 use Rattle.std.specs.Prelude.{ℤ, is_none, option_map}
 use Rattle.std.specs.Option.{option_map_or}
 use Rattle.std.proofs.lemmas.Bool.{true≢false}
@@ -17,6 +17,7 @@ use Rattle.hub_core.specs.State.{State, incident_of}
 use Rattle.hub_core.specs.Documents.{is_class_in}
 use Rattle.hub_core.specs.Refusals.{grounds, refusal_of}
 use Rattle.hub_core.specs.declared.state.Incident.{Incident}
+use Rattle.hub_core.specs.declared.request.Explain.{Explain}
 use Rattle.hub_core.specs.declared.request.Request.TheVariants as ask
 use Rattle.hub.specs.Told.{standing_at, trace_of}
 use Rattle.hub.specs.Explaining.{standing_between, content_in, text_at, text_of}
@@ -36,11 +37,11 @@ there s now (Some p) None path wanted posted active class = absurd (true≢false
 there s now (Some p) (Some i) None wanted posted active class = absurd (true≢false wanted)
 there s now (Some p) (Some i) (Some path) wanted posted active class = told_of (has_class (located i.document) path) _ class
 
-pub explained : (s : State) (now : ℤ) (a : Person) (person n : ℕ) (path : Bytes) → refusal_of s a (ask.Explain person n path) ≡ None →
-    text_of s now (person_of person s.directory) (incident_of n s) (pointer_tokens path) ≡ Some (trace_of s now (person_of person s.directory) (incident_of n s) (pointer_tokens path))
-explained s now a person n path fine =
-    let p = passed (grounds s a (ask.Explain person n path)) fine in
-    there s now (person_of person s.directory) (incident_of n s) (pointer_tokens path) p.1.0 p.1.1.0 p.1.1.1.0 p.1.1.1.1.0
+pub explained : (s : State) (now : ℤ) (a : Person) (r : Explain) → refusal_of s a (ask.Explain r) ≡ None →
+    text_of s now (person_of r.person s.directory) (incident_of r.incident s) (pointer_tokens r.path) ≡ Some (trace_of s now (person_of r.person s.directory) (incident_of r.incident s) (pointer_tokens r.path))
+explained s now a r fine =
+    let p = passed (grounds s a (ask.Explain r)) fine in
+    there s now (person_of r.person s.directory) (incident_of r.incident s) (pointer_tokens r.path) p.1.0 p.1.1.0 p.1.1.1.0 p.1.1.1.1.0
 
 -- ---- what is read, and what is missing
 

@@ -77,20 +77,20 @@ unless_same (Some refusal) s = refl
 
 reads_leave : (s : State) (p : Person) (r : Request) → is_reading r ≡ true → state_after s p r ≡ s
 reads_leave s p (ask.View n) h = refl
-reads_leave s p (ask.Explain person n path) h = unless_same (refusal_of s p (ask.Explain person n path)) s
+reads_leave s p (ask.Explain r) h = unless_same (refusal_of s p (ask.Explain r)) s
 reads_leave s p (ask.List after) h = refl
-reads_leave s p (ask.Search needle class after) h = unless_same (refusal_of s p (ask.Search needle class after)) s
+reads_leave s p (ask.Search r) h = unless_same (refusal_of s p (ask.Search r)) s
 reads_leave s p (ask.Addressed after) h = refl
 reads_leave s p ask.MyGroups h = refl
 reads_leave s p ask.WhoAmI h = refl
 reads_leave s p (ask.Circle command) h = absurd (true≢false (sym h))
-reads_leave s p (ask.Post level group gates body) h = absurd (true≢false (sym h))
-reads_leave s p (ask.Replace n revision level group gates body) h = absurd (true≢false (sym h))
-reads_leave s p (ask.Redistribute n revision path level group) h = absurd (true≢false (sym h))
-reads_leave s p (ask.Address n target) h = absurd (true≢false (sym h))
-reads_leave s p (ask.Unaddress n target) h = absurd (true≢false (sym h))
-reads_leave s p (ask.Grant n revision path grantee) h = absurd (true≢false (sym h))
-reads_leave s p (ask.Withdraw n path grantee) h = absurd (true≢false (sym h))
+reads_leave s p (ask.Post r) h = absurd (true≢false (sym h))
+reads_leave s p (ask.Replace r) h = absurd (true≢false (sym h))
+reads_leave s p (ask.Redistribute r) h = absurd (true≢false (sym h))
+reads_leave s p (ask.Address r) h = absurd (true≢false (sym h))
+reads_leave s p (ask.Unaddress r) h = absurd (true≢false (sym h))
+reads_leave s p (ask.Grant r) h = absurd (true≢false (sym h))
+reads_leave s p (ask.Withdraw r) h = absurd (true≢false (sym h))
 
 view_unmade : (s : State) (now : ℤ) (p : Person) (o : Option Incident) → is_made (viewed s now p o) ≡ false
 view_unmade s now p None = refl
@@ -106,20 +106,20 @@ search_unmade (Some refusal) r h = refl
 
 reads_unmade : (s : State) (now : ℤ) (p : Person) (r : Request) → is_reading r ≡ true → is_made (due_to s now p r) ≡ false
 reads_unmade s now p (ask.View n) h = view_unmade s now p (incident_of n s)
-reads_unmade s now p (ask.Explain person n path) h = search_unmade (refusal_of s p (ask.Explain person n path)) _ refl
+reads_unmade s now p (ask.Explain r) h = search_unmade (refusal_of s p (ask.Explain r)) _ refl
 reads_unmade s now p (ask.List after) h = refl
-reads_unmade s now p (ask.Search needle class after) h = search_unmade (refusal_of s p (ask.Search needle class after)) _ refl
+reads_unmade s now p (ask.Search r) h = search_unmade (refusal_of s p (ask.Search r)) _ refl
 reads_unmade s now p (ask.Addressed after) h = refl
 reads_unmade s now p ask.MyGroups h = refl
 reads_unmade s now p ask.WhoAmI h = refl
 reads_unmade s now p (ask.Circle command) h = absurd (true≢false (sym h))
-reads_unmade s now p (ask.Post level group gates body) h = absurd (true≢false (sym h))
-reads_unmade s now p (ask.Replace n revision level group gates body) h = absurd (true≢false (sym h))
-reads_unmade s now p (ask.Redistribute n revision path level group) h = absurd (true≢false (sym h))
-reads_unmade s now p (ask.Address n target) h = absurd (true≢false (sym h))
-reads_unmade s now p (ask.Unaddress n target) h = absurd (true≢false (sym h))
-reads_unmade s now p (ask.Grant n revision path grantee) h = absurd (true≢false (sym h))
-reads_unmade s now p (ask.Withdraw n path grantee) h = absurd (true≢false (sym h))
+reads_unmade s now p (ask.Post r) h = absurd (true≢false (sym h))
+reads_unmade s now p (ask.Replace r) h = absurd (true≢false (sym h))
+reads_unmade s now p (ask.Redistribute r) h = absurd (true≢false (sym h))
+reads_unmade s now p (ask.Address r) h = absurd (true≢false (sym h))
+reads_unmade s now p (ask.Unaddress r) h = absurd (true≢false (sym h))
+reads_unmade s now p (ask.Grant r) h = absurd (true≢false (sym h))
+reads_unmade s now p (ask.Withdraw r) h = absurd (true≢false (sym h))
 
 read_is : (s : State) (now : ℤ) (p : Person) (r : Request) (reply : Reply) → Some reply ≡ read_by s now p r → (is_reading r ≡ true) × (reply ≡ due_to s now p r)
 read_is s now p r reply h = by_case (is_reading r) refl h
@@ -211,17 +211,17 @@ circle_tells s a (Unnominate person) = refl
 
 grounds_tell : (s : State) (a : Person) (r : Request) → tells_none (grounds s a r) ≡ true
 grounds_tell s a (ask.Circle command) = circle_tells s a command
-grounds_tell s a (ask.Post level group gates body) = refl
-grounds_tell s a (ask.Replace n revision level group gates body) = refl
-grounds_tell s a (ask.Redistribute n revision path level group) = refl
-grounds_tell s a (ask.Address n target) = refl
-grounds_tell s a (ask.Unaddress n target) = refl
-grounds_tell s a (ask.Grant n revision path grantee) = refl
-grounds_tell s a (ask.Withdraw n path grantee) = refl
+grounds_tell s a (ask.Post r) = refl
+grounds_tell s a (ask.Replace r) = refl
+grounds_tell s a (ask.Redistribute r) = refl
+grounds_tell s a (ask.Address r) = refl
+grounds_tell s a (ask.Unaddress r) = refl
+grounds_tell s a (ask.Grant r) = refl
+grounds_tell s a (ask.Withdraw r) = refl
 grounds_tell s a (ask.View n) = refl
-grounds_tell s a (ask.Explain person n path) = refl
+grounds_tell s a (ask.Explain r) = refl
 grounds_tell s a (ask.List after) = refl
-grounds_tell s a (ask.Search needle class after) = refl
+grounds_tell s a (ask.Search r) = refl
 grounds_tell s a (ask.Addressed after) = refl
 grounds_tell s a ask.MyGroups = refl
 grounds_tell s a ask.WhoAmI = refl
@@ -256,17 +256,17 @@ command_untold s (Unnominate person) = refl
 
 answer_untold : (s : State) (now : ℤ) (p : Person) (r : Request) → tells_failure (answer_to s now p r) ≡ false
 answer_untold s now p (ask.Circle command) = command_untold s command
-answer_untold s now p (ask.Post level group gates body) = refl
-answer_untold s now p (ask.Replace n revision level group gates body) = refl
-answer_untold s now p (ask.Redistribute n revision path level group) = refl
-answer_untold s now p (ask.Address n target) = refl
-answer_untold s now p (ask.Unaddress n target) = refl
-answer_untold s now p (ask.Grant n revision path grantee) = refl
-answer_untold s now p (ask.Withdraw n path grantee) = refl
+answer_untold s now p (ask.Post r) = refl
+answer_untold s now p (ask.Replace r) = refl
+answer_untold s now p (ask.Redistribute r) = refl
+answer_untold s now p (ask.Address r) = refl
+answer_untold s now p (ask.Unaddress r) = refl
+answer_untold s now p (ask.Grant r) = refl
+answer_untold s now p (ask.Withdraw r) = refl
 answer_untold s now p (ask.View n) = view_untold s now p (incident_of n s)
-answer_untold s now p (ask.Explain person n path) = refl
+answer_untold s now p (ask.Explain r) = refl
 answer_untold s now p (ask.List after) = refl
-answer_untold s now p (ask.Search needle class after) = refl
+answer_untold s now p (ask.Search r) = refl
 answer_untold s now p (ask.Addressed after) = refl
 answer_untold s now p ask.MyGroups = refl
 answer_untold s now p ask.WhoAmI = refl
@@ -308,17 +308,17 @@ command_made s (Unnominate person) = refl
 
 unmade_reads : (s : State) (now : ℤ) (p : Person) (r : Request) → is_made (answer_to s now p r) ≡ false → is_reading r ≡ true
 unmade_reads s now p (ask.Circle command) h = absurd (true≢false (sym (command_made s command) ∙ h))
-unmade_reads s now p (ask.Post level group gates body) h = absurd (true≢false h)
-unmade_reads s now p (ask.Replace n revision level group gates body) h = absurd (true≢false h)
-unmade_reads s now p (ask.Redistribute n revision path level group) h = absurd (true≢false h)
-unmade_reads s now p (ask.Address n target) h = absurd (true≢false h)
-unmade_reads s now p (ask.Unaddress n target) h = absurd (true≢false h)
-unmade_reads s now p (ask.Grant n revision path grantee) h = absurd (true≢false h)
-unmade_reads s now p (ask.Withdraw n path grantee) h = absurd (true≢false h)
+unmade_reads s now p (ask.Post r) h = absurd (true≢false h)
+unmade_reads s now p (ask.Replace r) h = absurd (true≢false h)
+unmade_reads s now p (ask.Redistribute r) h = absurd (true≢false h)
+unmade_reads s now p (ask.Address r) h = absurd (true≢false h)
+unmade_reads s now p (ask.Unaddress r) h = absurd (true≢false h)
+unmade_reads s now p (ask.Grant r) h = absurd (true≢false h)
+unmade_reads s now p (ask.Withdraw r) h = absurd (true≢false h)
 unmade_reads s now p (ask.View n) h = refl
-unmade_reads s now p (ask.Explain person n path) h = refl
+unmade_reads s now p (ask.Explain r) h = refl
 unmade_reads s now p (ask.List after) h = refl
-unmade_reads s now p (ask.Search needle class after) h = refl
+unmade_reads s now p (ask.Search r) h = refl
 unmade_reads s now p (ask.Addressed after) h = refl
 unmade_reads s now p ask.MyGroups h = refl
 unmade_reads s now p ask.WhoAmI h = refl

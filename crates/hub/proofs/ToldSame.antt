@@ -36,19 +36,19 @@ module _ (now : ℤ) (a : Account) where
     due-same : (r : Request) → is_told r ≡ true → refused_or (refusal_of s p r) (answer_to s now p r) ≡ refused_or (refusal_of t p r) (answer_to t now p r)
     due-same (ask.View n) k = h.view n
     due-same (ask.List n) k = ap Incidents (h.listed n)
-    due-same (ask.Search needle class n) k = ap (λ es. refused_or (refusal_of t p (ask.Search needle class n)) (Incidents es)) (h.found needle class n)
+    due-same (ask.Search r) k = ap (λ es. refused_or (refusal_of t p (ask.Search r)) (Incidents es)) (h.found r.needle r.class r.after)
     due-same (ask.Addressed n) k = ap Incidents (h.addressed n)
     due-same ask.MyGroups k = ap Groups h.groups
     due-same ask.WhoAmI k = refl
     due-same (ask.Circle c) k = absurd (false≢true k)
-    due-same (ask.Post level group gates body) k = absurd (false≢true k)
-    due-same (ask.Replace n revision level group gates body) k = absurd (false≢true k)
-    due-same (ask.Redistribute n revision path level group) k = absurd (false≢true k)
-    due-same (ask.Address n target) k = absurd (false≢true k)
-    due-same (ask.Unaddress n target) k = absurd (false≢true k)
-    due-same (ask.Grant n revision path grantee) k = absurd (false≢true k)
-    due-same (ask.Withdraw n path grantee) k = absurd (false≢true k)
-    due-same (ask.Explain person n path) k = absurd (false≢true k)
+    due-same (ask.Post r) k = absurd (false≢true k)
+    due-same (ask.Replace r) k = absurd (false≢true k)
+    due-same (ask.Redistribute r) k = absurd (false≢true k)
+    due-same (ask.Address r) k = absurd (false≢true k)
+    due-same (ask.Unaddress r) k = absurd (false≢true k)
+    due-same (ask.Grant r) k = absurd (false≢true k)
+    due-same (ask.Withdraw r) k = absurd (false≢true k)
+    due-same (ask.Explain r) k = absurd (false≢true k)
 
     pub reply-same : (r : Request) → is_told r ≡ true → reply_of s now (Digest a.key) r ≡ reply_of t now (Digest a.key) r
     reply-same r k = ap (λ c. reply_by s now c r) h.first ∙ by_active p.active ∙ sym (ap (λ c. reply_by t now c r) h.second)

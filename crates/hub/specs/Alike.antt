@@ -166,7 +166,7 @@ module _ (now : ℤ) (a : Account) where
 abbrev pub is_told : Request → Bool
 is_told (ask.View n) = true
 is_told (ask.List after) = true
-is_told (ask.Search needle class after) = true
+is_told (ask.Search r) = true
 is_told (ask.Addressed after) = true
 is_told ask.MyGroups = true
 is_told ask.WhoAmI = true

@@ -72,17 +72,17 @@ viewed s now p (Some i) = if is_served s now p i then View (view_of s now p i) e
 -- what a person's request is answered, where nothing refuses it
 abbrev pub answer_to : State → ℤ → Person → Request → Reply
 answer_to s now p (ask.Circle command) = circle_reply s.directory command
-answer_to s now p (ask.Post level group gates body) = Numbers (numbers_from (next_incident s) (documents_in body))
-answer_to s now p (ask.Replace n revision level group gates body) = Revision (next_revision s n)
-answer_to s now p (ask.Redistribute n revision path level group) = Done
-answer_to s now p (ask.Address n target) = Done
-answer_to s now p (ask.Unaddress n target) = Done
-answer_to s now p (ask.Grant n revision path grantee) = Done
-answer_to s now p (ask.Withdraw n path grantee) = Done
+answer_to s now p (ask.Post r) = Numbers (numbers_from (next_incident s) (documents_in r.document))
+answer_to s now p (ask.Replace r) = Revision (next_revision s r.incident)
+answer_to s now p (ask.Redistribute r) = Done
+answer_to s now p (ask.Address r) = Done
+answer_to s now p (ask.Unaddress r) = Done
+answer_to s now p (ask.Grant r) = Done
+answer_to s now p (ask.Withdraw r) = Done
 answer_to s now p (ask.View n) = viewed s now p (incident_of n s)
-answer_to s now p (ask.Explain person n path) = Trace (trace_of s now (person_of person s.directory) (incident_of n s) (pointer_tokens path))
+answer_to s now p (ask.Explain r) = Trace (trace_of s now (person_of r.person s.directory) (incident_of r.incident s) (pointer_tokens r.path))
 answer_to s now p (ask.List after) = Incidents (page_of (is_served s now p) after s)
-answer_to s now p (ask.Search needle class after) = Incidents (page_of (λ (i : Incident). is_found s now p i needle class) after s)
+answer_to s now p (ask.Search r) = Incidents (page_of (λ (i : Incident). is_found s now p i r.needle r.class) r.after s)
 answer_to s now p (ask.Addressed after) = Incidents (page_of (λ (i : Incident). is_addressed s now p i && is_served s now p i) after s)
 answer_to s now p ask.MyGroups = Groups (groups_of p s)
 answer_to s now p ask.WhoAmI = Caller p

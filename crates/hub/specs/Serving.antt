@@ -15,10 +15,10 @@ use Rattle.hub_core.specs.declared.reply.Reply.{Reply}
 use Rattle.hub_core.specs.declared.reply.Reply.TheVariants.{Done, Numbers, Revision, Incidents}
 use Rattle.hub_core.specs.declared.request.Request.{Request}
 use Rattle.hub_core.specs.declared.request.Request.TheVariants as ask
+use Rattle.hub_core.specs.declared.request.Search.{Search}
 use Rattle.hub_core.specs.declared.shelf.ShelfFault.{ShelfFault}
 use Rattle.hub_core.specs.declared.shelf.ShelfFault.TheVariants.{Failed}
 use Rattle.hub_core.specs.Shelves.{HasFailed}
-use Rattle.iodef_tree.specs.Text.{Bytes}
 use Rattle.circle.specs.declared.refusal.Refusal.{Refusal}
 use Rattle.hub_core.specs.declared.state.Incident.{Incident}
 use Rattle.hub.specs.Told.{is_found}
@@ -33,8 +33,8 @@ abbrev pub read_by : State → ℤ → Person → Request → Option Reply
 read_by s now p request = if◌then◌else◌ (is_reading request) (Some (due_to s now p request)) None
 
 -- the page of a search, unless it is refused
-abbrev pub searched : Option Refusal → State → ℤ → Person → Bytes → Option Bytes → ℕ → Reply
-searched refusal s now p needle class after = refused_or refusal (Incidents (page_of (λ (i : Incident). is_found s now p i needle class) after s))
+abbrev pub searched : Option Refusal → State → ℤ → Person → Search → Reply
+searched refusal s now p r = refused_or refusal (Incidents (page_of (λ (i : Incident). is_found s now p i r.needle r.class) r.after s))
 
 -- the number that a new row gets, of those whose numbers are told
 abbrev pub number_put : Edit → Option ℕ
@@ -50,7 +50,7 @@ numbers_put edits = filter_map number_put edits
 
 -- a new row is told by its number
 abbrev pub gives_numbers : Request → Bool
-gives_numbers (ask.Post level group gates body) = true
+gives_numbers (ask.Post r) = true
 gives_numbers (ask.Circle (AddOrg name)) = true
 gives_numbers (ask.Circle (AddPerson org name role key)) = true
 gives_numbers (ask.Circle (AddCommunity name)) = true
@@ -59,7 +59,7 @@ gives_numbers _ = false
 
 -- what a change is answered that these edits make
 abbrev pub made_reply : Facts → Request → List Edit → Reply
-made_reply f (ask.Replace n revision level group gates body) edits = Revision (next_known f)
+made_reply f (ask.Replace r) edits = Revision (next_known f)
 made_reply f request edits = if◌then◌else◌ (gives_numbers request) (Numbers (numbers_put edits)) Done
 
 -- a change that was made

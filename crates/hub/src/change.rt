@@ -46,7 +46,7 @@ fn tells_numbers(request: &Request) -> bool
     ensures { result ≡ gives_numbers request.now }
 {
     match request {
-        Request::Post { .. } => true,
+        Request::Post(_) => true,
         Request::Circle(command) => matches!(
             command,
             CircleCommand::AddOrg { .. }
@@ -78,7 +78,7 @@ fn reply_to(
     ensures made { IfOk result (λ reply. is_made reply ≡ true) }
     ensures fault { IfErr result (λ e. e ≡ ShelfFault.NoMemory) }
 {
-    if let Request::Replace { .. } = request {
+    if let Request::Replace(_) = request {
         return Ok(Reply::Revision(next_revision(facts)));
     }
     if tells_numbers(request) {

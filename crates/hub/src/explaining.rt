@@ -18,7 +18,7 @@ use crate::asking::{Asker, Content, content_of, standing_of_person};
 use crate::fault::{ample, told};
 use circle::text::Text;
 use explain::{ExplainFault, explain};
-use hub_core::{Code, Refusal, Reply, Request, Shelf, ShelfFault, judge};
+use hub_core::{Code, Explain, Refusal, Reply, Request, Shelf, ShelfFault, judge};
 use iodef_tree::{Path, PathFault};
 use marking::{MarkingFault, check};
 use policy::Standing;
@@ -78,21 +78,19 @@ fn find_text<Sh: Shelf>(
     shelf: &mut Sh,
     alloc: Global,
     asker: Asker<'_>,
-    person: u32,
-    incident: u32,
-    path: &Text,
+    asked: &Explain,
 ) -> Result<Option<Text>, ShelfFault>
-    ensures value { Sh.doubts shelf.new ≡ 0 → (s : State) → Sh.has shelf.old s → IsSound s → IfOk result (λ text. text ≡ text_told s asker.entry.now (person_of person s.directory) (incident_of incident s) (pointer_tokens path.now)) }
+    ensures value { Sh.doubts shelf.new ≡ 0 → (s : State) → Sh.has shelf.old s → IsSound s → IfOk result (λ text. text ≡ text_told s asker.entry.now (person_of asked.now.person s.directory) (incident_of asked.now.incident s) (pointer_tokens asked.now.path)) }
     ensures kept { IsKept Sh.has Sh.doubts Sh.failed Sh.may_leave shelf.old shelf.new }
     ensures cause { IsErrOf result ShelfFault.Failed → HasFailed (Sh.failed shelf.old) (Sh.failed shelf.new) }
 {
-    let Some(standing) = standing_of_person(shelf, asker, person, incident)? else {
+    let Some(standing) = standing_of_person(shelf, asker, asked.person, asked.incident)? else {
         return Ok(None);
     };
-    let Some(content) = content_of(shelf, incident)? else {
+    let Some(content) = content_of(shelf, asked.incident)? else {
         return Ok(None);
     };
-    let Some(path) = path_of(alloc, path)? else {
+    let Some(path) = path_of(alloc, &asked.path)? else {
         return Ok(None);
     };
     text_of(alloc, &content, &standing, &path)
@@ -114,11 +112,9 @@ pub fn explain_to<Sh: Shelf>(
     alloc: Global,
     asker: Asker<'_>,
     request: &Request,
-    person: u32,
-    incident: u32,
-    path: &Text,
+    asked: &Explain,
 ) -> Result<Reply, ShelfFault>
-    ensures value { Sh.doubts shelf.new ≡ 0 → (s : State) → Sh.has shelf.old s → IsSound s → request.now ≡ ask.Explain person incident path.now → IfOk result (λ reply. reply ≡ refused_or (refusal_of s asker.entry.person.now request.now) (Trace (trace_of s asker.entry.now (person_of person s.directory) (incident_of incident s) (pointer_tokens path.now)))) }
+    ensures value { Sh.doubts shelf.new ≡ 0 → (s : State) → Sh.has shelf.old s → IsSound s → request.now ≡ ask.Explain asked.now → IfOk result (λ reply. reply ≡ refused_or (refusal_of s asker.entry.person.now request.now) (Trace (trace_of s asker.entry.now (person_of asked.now.person s.directory) (incident_of asked.now.incident s) (pointer_tokens asked.now.path)))) }
     ensures kept { IsKept Sh.has Sh.doubts Sh.failed Sh.may_leave shelf.old shelf.new }
     ensures cause { IsErrOf result ShelfFault.Failed → HasFailed (Sh.failed shelf.old) (Sh.failed shelf.new) }
 {
@@ -126,7 +122,7 @@ pub fn explain_to<Sh: Shelf>(
     match judge(alloc, asker.person, &facts, request) {
         Err(refusal) => told(refusal),
         Ok(_) => {
-            let text = find_text(shelf, alloc, asker, person, incident, path)?;
+            let text = find_text(shelf, alloc, asker, asked)?;
             Ok(reply_of(alloc, text))
         }
     }

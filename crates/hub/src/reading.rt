@@ -21,7 +21,9 @@ use crate::pages::page;
 use crate::view::view;
 use crate::wanted::Wanted;
 use circle::text::Text;
-use hub_core::{Code, Entries, JoinedGroups, Refusal, Reply, Request, Shelf, ShelfFault, judge};
+use hub_core::{
+    Code, Entries, JoinedGroups, Refusal, Reply, Request, Search, Shelf, ShelfFault, judge,
+};
 use std::alloc::Global;
 
 /// The incidents above a number that a page lists.
@@ -46,11 +48,9 @@ fn search<Sh: Shelf>(
     alloc: Global,
     asker: Asker<'_>,
     request: &Request,
-    needle: &Text,
-    class: Option<&str>,
-    after: u32,
+    asked: &Search,
 ) -> Result<Reply, ShelfFault>
-    ensures refused { Sh.doubts shelf.new ≡ 0 → (s : State) → Sh.has shelf.old s → IsSound s → IsThere s asker.entry.person.now → IfOk result (λ reply. reply ≡ searched (refusal_of s asker.entry.person.now request.now) s asker.entry.now asker.entry.person.now needle.now (option_map (λ name. name.now) class.entry) after) }
+    ensures refused { Sh.doubts shelf.new ≡ 0 → (s : State) → Sh.has shelf.old s → IsSound s → IsThere s asker.entry.person.now → IfOk result (λ reply. reply ≡ searched (refusal_of s asker.entry.person.now request.now) s asker.entry.now asker.entry.person.now asked.now) }
     ensures kept { IsKept Sh.has Sh.doubts Sh.failed Sh.may_leave shelf.old shelf.new }
     ensures cause { IsErrOf result ShelfFault.Failed → HasFailed (Sh.failed shelf.old) (Sh.failed shelf.new) }
 {
@@ -58,8 +58,15 @@ fn search<Sh: Shelf>(
     match judge(alloc, asker.person, &facts, request) {
         Err(refusal) => told(refusal),
         Ok(_) => {
-            let needle = needle.as_str();
-            list(shelf, alloc, asker, Wanted::Found { needle, class }, after)
+            let needle = asked.needle.as_str();
+            let class = text_of(&asked.class);
+            list(
+                shelf,
+                alloc,
+                asker,
+                Wanted::Found { needle, class },
+                asked.after,
+            )
         }
     }
 }
@@ -113,17 +120,9 @@ pub fn read<Sh: Shelf>(
     let reply = match request {
         Request::View { incident } => look(shelf, alloc, asker, *incident)?,
         Request::List { after } => list(shelf, alloc, asker, Wanted::Shown, *after)?,
-        Request::Search {
-            needle,
-            class,
-            after,
-        } => search(shelf, alloc, asker, request, needle, text_of(class), *after)?,
+        Request::Search(asked) => search(shelf, alloc, asker, request, asked)?,
         Request::Addressed { after } => list(shelf, alloc, asker, Wanted::Addressed, *after)?,
-        Request::Explain {
-            person,
-            incident,
-            path,
-        } => explain_to(shelf, alloc, asker, request, *person, *incident, path)?,
+        Request::Explain(asked) => explain_to(shelf, alloc, asker, request, asked)?,
         Request::MyGroups => groups(shelf, asker)?,
         Request::WhoAmI => Reply::Caller(ample(asker.person.clone())?),
         _ => return Ok(None),

@@ -4,7 +4,10 @@ use crate::commands::{command_of, key_of};
 use crate::fields::{Fields, number_if_any, number_of};
 use circle::text::Text;
 use hub::Key;
-use hub_core::{Bytes, Request, Target, WantedGate, WantedGates};
+use hub_core::{
+    Address, Bytes, Distribution, Explain, Grant, Post, Redistribute, Replace, Request, Search,
+    Target, Unaddress, WantedGate, WantedGates, Withdraw,
+};
 use policy::Grantee;
 use std::alloc::{AllocError, Global};
 
@@ -50,6 +53,14 @@ fn body_of(alloc: Global, text: &str) -> Result<Bytes, AllocError> {
     Ok(Bytes::new(text.as_bytes().to_vec(alloc)?))
 }
 
+fn distribution(alloc: Global, fields: &mut Fields<'_>) -> Result<Distribution, AllocError> {
+    Ok(Distribution {
+        level: fields.number(),
+        group: fields.number_if_any(),
+        gates: gates_of(alloc, fields.word())?,
+    })
+}
+
 /// A request with a document.
 fn posting(
     alloc: Global,
@@ -57,20 +68,16 @@ fn posting(
     fields: &mut Fields<'_>,
 ) -> Result<Option<Request>, AllocError> {
     Ok(match name {
-        "Post" => Some(Request::Post {
-            level: fields.number(),
-            group: fields.number_if_any(),
-            gates: gates_of(alloc, fields.word())?,
+        "Post" => Some(Request::Post(Post {
+            distribution: distribution(alloc, fields)?,
             document: body_of(alloc, fields.word())?,
-        }),
-        "Replace" => Some(Request::Replace {
+        })),
+        "Replace" => Some(Request::Replace(Replace {
             incident: fields.number(),
             revision: fields.number(),
-            level: fields.number(),
-            group: fields.number_if_any(),
-            gates: gates_of(alloc, fields.word())?,
+            distribution: distribution(alloc, fields)?,
             document: body_of(alloc, fields.word())?,
-        }),
+        })),
         _ => None,
     })
 }
@@ -82,32 +89,32 @@ fn sharing(
     fields: &mut Fields<'_>,
 ) -> Result<Option<Request>, AllocError> {
     Ok(match name {
-        "Redistribute" => Some(Request::Redistribute {
+        "Redistribute" => Some(Request::Redistribute(Redistribute {
             incident: fields.number(),
             revision: fields.number(),
             path: fields.text(alloc)?,
             level: fields.number(),
             group: fields.number_if_any(),
-        }),
-        "Address" => Some(Request::Address {
+        })),
+        "Address" => Some(Request::Address(Address {
             incident: fields.number(),
             target: target_of(fields.word()),
-        }),
-        "Unaddress" => Some(Request::Unaddress {
+        })),
+        "Unaddress" => Some(Request::Unaddress(Unaddress {
             incident: fields.number(),
             target: target_of(fields.word()),
-        }),
-        "Grant" => Some(Request::Grant {
+        })),
+        "Grant" => Some(Request::Grant(Grant {
             incident: fields.number(),
             revision: fields.number(),
             path: fields.text(alloc)?,
             grantee: grantee_of(fields.word()),
-        }),
-        "Withdraw" => Some(Request::Withdraw {
+        })),
+        "Withdraw" => Some(Request::Withdraw(Withdraw {
             incident: fields.number(),
             path: fields.text(alloc)?,
             grantee: grantee_of(fields.word()),
-        }),
+        })),
         _ => None,
     })
 }
@@ -125,19 +132,19 @@ fn reading(alloc: Global, name: &str, fields: &mut Fields<'_>) -> Result<Request
         "View" => Request::View {
             incident: fields.number(),
         },
-        "Explain" => Request::Explain {
+        "Explain" => Request::Explain(Explain {
             person: fields.number(),
             incident: fields.number(),
             path: fields.text(alloc)?,
-        },
+        }),
         "List" => Request::List {
             after: fields.number(),
         },
-        "Search" => Request::Search {
+        "Search" => Request::Search(Search {
             needle: fields.text(alloc)?,
             class: class_of(alloc, fields.word())?,
             after: fields.number(),
-        },
+        }),
         "Addressed" => Request::Addressed {
             after: fields.number(),
         },

@@ -9,7 +9,7 @@ use crate::sheet::Body;
 use crate::sight::Sight;
 use crate::traces::{Trace, trace_of};
 use circle::directory::{Group, Person};
-use hub_core::{Code, Entry, Request, Target};
+use hub_core::{Code, Entry, Explain, Request, Search, Target};
 use std::alloc::{AllocError, Global};
 
 /// How many incidents a page has at most.
@@ -104,7 +104,7 @@ fn is_listed(
     let list = verdicts(alloc, &sight)?;
     let shown = count_visible(list.as_slice()) > 0;
     match request {
-        Request::Search { needle, class, .. } => {
+        Request::Search(Search { needle, class, .. }) => {
             let class = match class {
                 Some(class) => Some(class.as_str()),
                 None => None,
@@ -152,15 +152,18 @@ fn read_by(
 ) -> Result<Option<Answer>, AllocError> {
     Ok(Some(match request {
         Request::View { incident } => view(alloc, rows, caller, *incident)?,
-        Request::List { after } | Request::Search { after, .. } | Request::Addressed { after } =>
-            page(alloc, rows, caller, request, *after)?,
+        Request::List { after }
+        | Request::Search(Search { after, .. })
+        | Request::Addressed { after } => page(alloc, rows, caller, request, *after)?,
         Request::MyGroups => groups(alloc, rows, caller)?,
         Request::WhoAmI => Answer::Caller(caller.clone()?),
-        Request::Explain {
-            person,
-            incident,
-            path,
-        } => trace(alloc, rows, *person, *incident, path.as_str())?,
+        Request::Explain(
+            Explain {
+                person,
+                incident,
+                path,
+            },
+        ) => trace(alloc, rows, *person, *incident, path.as_str())?,
         _ => return Ok(None),
     }))
 }

@@ -11,9 +11,8 @@ use std::alloc::{AllocError, Global};
 /// What the body of the request is read as; nothing where it has none.
 pub fn body_in(alloc: Global, request: &Request) -> Result<Body, AllocError> {
     match request {
-        Request::Post { document, .. } | Request::Replace { document, .. } => {
-            body_of(alloc, document.as_slice())
-        }
+        Request::Post(asked) => body_of(alloc, asked.document.as_slice()),
+        Request::Replace(asked) => body_of(alloc, asked.document.as_slice()),
         _ => Ok(Body::Sheets(Vec::new(alloc))),
     }
 }

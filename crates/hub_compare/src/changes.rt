@@ -7,7 +7,9 @@ use circle::directory::{Account, Community, Group, Org, Person, Role};
 use circle::name::Name;
 use circle::releasability::Releasability;
 use circle::text::Text;
-use hub_core::{Recipient, Request, WantedGate};
+use hub_core::{
+    Address, Distribution, Grant, Recipient, Redistribute, Request, Unaddress, Withdraw,
+};
 use std::alloc::{AllocError, Global};
 
 /// What a change is answered by.
@@ -239,12 +241,17 @@ fn put_gates(
     rows: &mut Rows,
     alloc: Global,
     incident: u32,
-    level: u32,
-    group: Option<u32>,
-    gates: &[WantedGate],
+    distribution: &Distribution,
 ) -> Result<(), AllocError> {
-    put_gate(rows, alloc, incident, "", level, group)?;
-    for gate in gates {
+    put_gate(
+        rows,
+        alloc,
+        incident,
+        "",
+        distribution.level,
+        distribution.group,
+    )?;
+    for gate in distribution.gates.as_slice() {
         put_gate(
             rows,
             alloc,
@@ -262,9 +269,7 @@ fn post(
     rows: &mut Rows,
     alloc: Global,
     source: u32,
-    level: u32,
-    group: Option<u32>,
-    gates: &[WantedGate],
+    distribution: &Distribution,
     sheets: Vec<Sheet>,
 ) -> Result<Done, AllocError> {
     let mut numbers = Vec::new(alloc);
@@ -279,7 +284,7 @@ fn post(
             revision: 1,
             sheet,
         })?;
-        put_gates(rows, alloc, number, level, group, gates)?;
+        put_gates(rows, alloc, number, distribution)?;
         numbers.push(number)?;
     }
     Ok(Done::Numbers(numbers))
@@ -303,42 +308,48 @@ fn exchange(rows: &mut Rows, incident: u32, mut sheets: Vec<Sheet>) -> u32 {
 /// Changes the one row that the request names.
 fn amend(rows: &mut Rows, alloc: Global, request: &Request) -> Result<(), AllocError> {
     match request {
-        Request::Redistribute {
-            incident,
-            path,
-            level,
-            group,
-            ..
-        } => {
+        Request::Redistribute(
+            Redistribute {
+                incident,
+                path,
+                level,
+                group,
+                ..
+            },
+        ) => {
             let (number, place) = (*incident, path.as_str());
             rows.gates
                 .retain(|row| row.incident != number || row.path.as_str() != place);
             put_gate(rows, alloc, number, place, *level, *group)?;
         }
-        Request::Address { incident, target } => rows.recipients.push(Recipient {
+        Request::Address(Address { incident, target }) => rows.recipients.push(Recipient {
             incident: *incident,
             target: *target,
         })?,
-        Request::Unaddress { incident, target } => {
+        Request::Unaddress(Unaddress { incident, target }) => {
             let (number, whom) = (*incident, *target);
             rows.recipients
                 .retain(|row| row.incident != number || row.target != whom);
         }
-        Request::Grant {
-            incident,
-            path,
-            grantee,
-            ..
-        } => rows.permissions.push(Granted {
+        Request::Grant(
+            Grant {
+                incident,
+                path,
+                grantee,
+                ..
+            },
+        ) => rows.permissions.push(Granted {
             incident: *incident,
             path: String::from_str(alloc, path.as_str())?,
             grantee: *grantee,
         })?,
-        Request::Withdraw {
-            incident,
-            path,
-            grantee,
-        } => {
+        Request::Withdraw(
+            Withdraw {
+                incident,
+                path,
+                grantee,
+            },
+        ) => {
             let (number, place, whom) = (*incident, path.as_str(), *grantee);
             rows.permissions.retain(|row| row.incident != number
                 || row.path.as_str() != place
@@ -363,23 +374,12 @@ pub fn change(
     };
     match request {
         Request::Circle(command) => coordinate(rows, alloc, own, command),
-        Request::Post {
-            level,
-            group,
-            gates,
-            ..
-        } => post(rows, alloc, own, *level, *group, gates.as_slice(), sheets),
-        Request::Replace {
-            incident,
-            level,
-            group,
-            gates,
-            ..
-        } => {
-            let number = *incident;
+        Request::Post(asked) => post(rows, alloc, own, &asked.distribution, sheets),
+        Request::Replace(asked) => {
+            let number = asked.incident;
             rows.gates.retain(|row| row.incident != number);
             rows.permissions.retain(|row| row.incident != number);
-            put_gates(rows, alloc, number, *level, *group, gates.as_slice())?;
+            put_gates(rows, alloc, number, &asked.distribution)?;
             Ok(Done::Revision(exchange(rows, number, sheets)))
         }
         _ => {

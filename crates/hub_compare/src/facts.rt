@@ -5,7 +5,7 @@ use crate::sheet::Body;
 use crate::spots::is_pointer;
 use circle::command::{CircleCommand, CircleFacts};
 use circle::directory::Person;
-use hub_core::Request;
+use hub_core::{Address, Explain, Grant, Redistribute, Replace, Request, Unaddress, Withdraw};
 
 /// What the facts of a request have to be; the incident is that of the rows.
 #[derive(Drop)]
@@ -37,14 +37,14 @@ fn no_facts() -> CircleFacts {
 /// The incident that a request names.
 fn incident_of(request: &Request) -> Option<u32> {
     match request {
-        Request::Replace { incident, .. }
-        | Request::Redistribute { incident, .. }
-        | Request::Address { incident, .. }
-        | Request::Unaddress { incident, .. }
-        | Request::Grant { incident, .. }
-        | Request::Withdraw { incident, .. }
+        Request::Replace(Replace { incident, .. })
+        | Request::Redistribute(Redistribute { incident, .. })
+        | Request::Address(Address { incident, .. })
+        | Request::Unaddress(Unaddress { incident, .. })
+        | Request::Grant(Grant { incident, .. })
+        | Request::Withdraw(Withdraw { incident, .. })
         | Request::View { incident }
-        | Request::Explain { incident, .. } => Some(*incident),
+        | Request::Explain(Explain { incident, .. }) => Some(*incident),
         _ => None,
     }
 }
@@ -83,45 +83,51 @@ impl Rows {
         let mut facts = no_facts();
         match request {
             Request::Circle(command) => facts = self.command_facts(actor, command),
-            Request::Post { group, gates, .. } => {
-                facts.exists = self.are_own_groups(actor.org, *group, gates.as_slice());
+            Request::Post(asked) => {
+                facts.exists = self.are_own_groups(actor.org, &asked.distribution);
                 facts.count = as_count(self.reports.len());
             }
-            Request::Replace { group, gates, .. } => {
-                facts.exists = self.are_own_groups(actor.org, *group, gates.as_slice());
+            Request::Replace(asked) => {
+                facts.exists = self.are_own_groups(actor.org, &asked.distribution);
             }
-            Request::Redistribute {
-                incident,
-                path,
-                level,
-                group,
-                ..
-            } => {
+            Request::Redistribute(
+                Redistribute {
+                    incident,
+                    path,
+                    level,
+                    group,
+                    ..
+                },
+            ) => {
                 facts.exists = self.is_own_group(actor.org, *group);
                 facts.stands = self.has_gate(*incident, path.as_str(), *level, *group);
             }
-            Request::Address { incident, target } => {
+            Request::Address(Address { incident, target }) => {
                 facts.exists = self.has_target(*target);
                 facts.stands = self.has_recipient(*incident, *target);
             }
-            Request::Unaddress { incident, target } => {
+            Request::Unaddress(Unaddress { incident, target }) => {
                 facts.stands = self.has_recipient(*incident, *target);
             }
-            Request::Grant {
-                incident,
-                path,
-                grantee,
-                ..
-            } => {
+            Request::Grant(
+                Grant {
+                    incident,
+                    path,
+                    grantee,
+                    ..
+                },
+            ) => {
                 facts.exists = self.has_grantee(actor.org, *grantee);
                 facts.stands = self.has_permission(*incident, path.as_str(), *grantee);
             }
-            Request::Withdraw {
-                incident,
-                path,
-                grantee,
-            } => facts.stands = self.has_permission(*incident, path.as_str(), *grantee),
-            Request::Explain { person, .. } => facts.exists = self.is_active(*person),
+            Request::Withdraw(
+                Withdraw {
+                    incident,
+                    path,
+                    grantee,
+                },
+            ) => facts.stands = self.has_permission(*incident, path.as_str(), *grantee),
+            Request::Explain(Explain { person, .. }) => facts.exists = self.is_active(*person),
             _ => {}
         }
         facts
@@ -130,8 +136,9 @@ impl Rows {
     /// How many class gates would stand.
     fn gates_then(&self, request: &Request) -> usize {
         match request {
-            Request::Post { gates, .. } | Request::Replace { gates, .. } => gates.as_slice().len(),
-            Request::Redistribute { incident, path, .. } => {
+            Request::Post(asked) => asked.distribution.gates.as_slice().len(),
+            Request::Replace(asked) => asked.distribution.gates.as_slice().len(),
+            Request::Redistribute(Redistribute { incident, path, .. }) => {
                 let path = path.as_str();
                 let is_new = is_pointer(path)
                     && !path.is_empty()
@@ -153,12 +160,11 @@ impl Rows {
         };
         let count = self.recipients_of(incident);
         match request {
-            Request::Address { incident, target } => {
+            Request::Address(Address { incident, target }) => {
                 count.saturating_add(usize::from(!self.has_recipient(*incident, *target)))
             }
-            Request::Unaddress { incident, target } if self.has_recipient(*incident, *target) => {
-                count.saturating_sub(1)
-            }
+            Request::Unaddress(Unaddress { incident, target })
+                if self.has_recipient(*incident, *target) => { count.saturating_sub(1) }
             _ => count,
         }
     }
@@ -170,21 +176,25 @@ impl Rows {
         };
         let count = self.permissions_of(incident);
         match request {
-            Request::Replace { .. } => 0,
-            Request::Grant {
-                incident,
-                path,
-                grantee,
-                ..
-            } if is_pointer(path.as_str()) => {
+            Request::Replace(_) => 0,
+            Request::Grant(
+                Grant {
+                    incident,
+                    path,
+                    grantee,
+                    ..
+                },
+            ) if is_pointer(path.as_str()) => {
                 let is_new = !self.has_permission(*incident, path.as_str(), *grantee);
                 count.saturating_add(usize::from(is_new))
             }
-            Request::Withdraw {
-                incident,
-                path,
-                grantee,
-            } if self.has_permission(*incident, path.as_str(), *grantee) => count.saturating_sub(1),
+            Request::Withdraw(
+                Withdraw {
+                    incident,
+                    path,
+                    grantee,
+                },
+            ) if self.has_permission(*incident, path.as_str(), *grantee) => count.saturating_sub(1),
             _ => count,
         }
     }
@@ -196,7 +206,7 @@ impl Rows {
             None => None,
         };
         let posts = match request {
-            Request::Post { .. } => true,
+            Request::Post(_) => true,
             _ => false,
         };
         let counts = posts || report.is_some();

@@ -7,7 +7,10 @@ use crate::sheet::{Body, Sheet};
 use crate::spots::{has_class, is_pointer};
 use circle::directory::{Person, Role};
 use circle::text::Text;
-use hub_core::{Request, Target, WantedGate};
+use hub_core::{
+    Address, Distribution, Explain, Grant, Redistribute, Request, Search, Target, Unaddress,
+    WantedGate, Withdraw,
+};
 use policy::Grantee;
 use std::alloc::{AllocError, Global};
 
@@ -115,13 +118,13 @@ impl Rows {
     }
 
     /// Whether that holds of the group of the root and of those of the gates.
-    pub fn are_own_groups(&self, org: u32, group: Option<u32>, gates: &[WantedGate]) -> bool {
-        for gate in gates {
+    pub fn are_own_groups(&self, org: u32, distribution: &Distribution) -> bool {
+        for gate in distribution.gates.as_slice() {
             if !self.is_own_group(org, gate.group) {
                 return false;
             }
         }
-        self.is_own_group(org, group)
+        self.is_own_group(org, distribution.group)
     }
 
     pub fn has_target(&self, target: Target) -> bool {
@@ -185,21 +188,24 @@ fn miss_classes(sheets: &[Sheet], gates: &[WantedGate]) -> bool {
 /// What an incident's document and its gates are to be.
 #[derive(Drop)]
 struct Wanted<'a> {
-    level: u32,
-    group: Option<u32>,
-    gates: &'a [WantedGate],
+    distribution: &'a Distribution,
     body: &'a Body,
 }
 
 impl Wanted<'_> {
+    fn gates(&self) -> &[WantedGate] {
+        self.distribution.gates.as_slice()
+    }
+
     fn bad_field(&self, alloc: Global, several: bool) -> Result<Option<String>, AllocError> {
+        let level = self.distribution.level;
         first_field(
             alloc,
             &[
-                (4 < self.level, "level"),
-                (is_bad_group(self.level, self.group), "group"),
+                (4 < level, "level"),
+                (is_bad_group(level, self.distribution.group), "group"),
                 (
-                    are_bad_gates(self.gates) || (several && !self.gates.is_empty()),
+                    are_bad_gates(self.gates()) || (several && !self.gates().is_empty()),
                     "gates",
                 ),
             ],
@@ -219,14 +225,14 @@ fn post_grounds(
         Some(field) => Some(field),
         None => bad_body(alloc, wanted.body, (have_same_ident(sheets), "IncidentID"))?,
     };
-    grounds.unknown = !rows.are_own_groups(actor.org, wanted.group, wanted.gates);
-    grounds.no_class = miss_classes(sheets, wanted.gates);
+    grounds.unknown = !rows.are_own_groups(actor.org, wanted.distribution);
+    grounds.no_class = miss_classes(sheets, wanted.gates());
     grounds.already = match rows.first_posted(actor.org, sheets) {
         Some(posted) => number(alloc, posted)?,
         None => None,
     };
     grounds.limit = rows.reports.len().saturating_add(sheets.len()) > INCIDENTS
-        || wanted.gates.len() > GATES;
+        || wanted.gates().len() > GATES;
     Ok(grounds)
 }
 
@@ -245,11 +251,11 @@ fn replace_grounds(
         None => bad_body(alloc, wanted.body, (sheets.len() > 1, "document"))?,
     };
     grounds.not_yours = !rows.is_own(actor.org, incident);
-    grounds.unknown = !rows.are_own_groups(actor.org, wanted.group, wanted.gates);
-    grounds.no_class = miss_classes(sheets, wanted.gates);
+    grounds.unknown = !rows.are_own_groups(actor.org, wanted.distribution);
+    grounds.no_class = miss_classes(sheets, wanted.gates());
     if let Some(report) = rows.report(incident) {
         grounds.not_so = have_other_ident(sheets, report.sheet.ident.as_str());
-        grounds.limit = report.revision as usize >= INCIDENTS || wanted.gates.len() > GATES;
+        grounds.limit = report.revision as usize >= INCIDENTS || wanted.gates().len() > GATES;
     }
     grounds.other_revision = rows.other_revision(alloc, incident, revision)?;
     Ok(grounds)
@@ -384,43 +390,29 @@ fn change_grounds(
     body: &Body,
 ) -> Result<Grounds, AllocError> {
     match request {
-        Request::Post {
-            level,
-            group,
-            gates,
-            ..
-        } => {
+        Request::Post(asked) => {
             let wanted = Wanted {
-                level: *level,
-                group: *group,
-                gates: gates.as_slice(),
+                distribution: &asked.distribution,
                 body,
             };
             post_grounds(alloc, rows, actor, &wanted)
         }
-        Request::Replace {
-            incident,
-            revision,
-            level,
-            group,
-            gates,
-            ..
-        } => {
+        Request::Replace(asked) => {
             let wanted = Wanted {
-                level: *level,
-                group: *group,
-                gates: gates.as_slice(),
+                distribution: &asked.distribution,
                 body,
             };
-            replace_grounds(alloc, rows, actor, *incident, *revision, &wanted)
+            replace_grounds(alloc, rows, actor, asked.incident, asked.revision, &wanted)
         }
-        Request::Redistribute {
-            incident,
-            revision,
-            path,
-            level,
-            group,
-        } => {
+        Request::Redistribute(
+            Redistribute {
+                incident,
+                revision,
+                path,
+                level,
+                group,
+            },
+        ) => {
             let gate = WantedGate {
                 level: *level,
                 group: *group,
@@ -428,26 +420,30 @@ fn change_grounds(
             };
             redistribute_grounds(alloc, rows, actor, *incident, *revision, &gate)
         }
-        Request::Address { incident, target } => {
+        Request::Address(Address { incident, target }) => {
             Ok(address_grounds(alloc, rows, actor, *incident, *target))
         }
-        Request::Unaddress { incident, target } => {
+        Request::Unaddress(Unaddress { incident, target }) => {
             let mut grounds = Grounds::none();
             grounds.not_yours = !rows.is_own(actor.org, *incident);
             grounds.not_so = !rows.has_recipient(*incident, *target);
             Ok(grounds)
         }
-        Request::Grant {
-            incident,
-            revision,
-            path,
-            grantee,
-        } => grant_grounds(alloc, rows, actor, *incident, *revision, path, *grantee),
-        Request::Withdraw {
-            incident,
-            path,
-            grantee,
-        } => withdraw_grounds(alloc, rows, actor, *incident, path, *grantee),
+        Request::Grant(
+            Grant {
+                incident,
+                revision,
+                path,
+                grantee,
+            },
+        ) => grant_grounds(alloc, rows, actor, *incident, *revision, path, *grantee),
+        Request::Withdraw(
+            Withdraw {
+                incident,
+                path,
+                grantee,
+            },
+        ) => withdraw_grounds(alloc, rows, actor, *incident, path, *grantee),
         _ => Ok(Grounds::none()),
     }
 }
@@ -456,7 +452,7 @@ fn reads(request: &Request) -> bool {
     match request {
         Request::View { .. }
         | Request::List { .. }
-        | Request::Search { .. }
+        | Request::Search(Search { .. })
         | Request::Addressed { .. }
         | Request::MyGroups
         | Request::WhoAmI => true,
@@ -472,14 +468,16 @@ pub fn grounds_of(
     request: &Request,
     body: &Body,
 ) -> Result<Grounds, AllocError> {
-    if let Request::Search { needle, class, .. } = request {
+    if let Request::Search(Search { needle, class, .. }) = request {
         return search_grounds(alloc, needle, class);
     }
-    if let Request::Explain {
-        person,
-        incident,
-        path,
-    } = request
+    if let Request::Explain(
+        Explain {
+            person,
+            incident,
+            path,
+        },
+    ) = request
     {
         return explain_grounds(alloc, rows, actor, *person, *incident, path);
     }

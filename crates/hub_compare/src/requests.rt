@@ -7,7 +7,10 @@ use crate::rows::{Relation, Rows};
 use circle::command::CircleCommand;
 use circle::directory::Role;
 use circle::text::Text;
-use hub_core::{Bytes, Request, Target, WantedGate, WantedGates};
+use hub_core::{
+    Address, Bytes, Distribution, Explain, Grant, Post, Redistribute, Replace, Request, Search,
+    Target, Unaddress, WantedGate, WantedGates, Withdraw,
+};
 use iodef_tree::Kind;
 use policy::Grantee;
 use std::alloc::{AllocError, Global};
@@ -464,12 +467,15 @@ fn any_post(alloc: Global, dice: &mut Dice, rows: &Rows, own: u32) -> Result<Req
     let (level, group) = any_level(dice, rows, own, 4);
     let idents = any_idents(alloc, dice)?;
     let (gates, document) = any_content(alloc, dice, rows, own, idents.as_slice())?;
-    Ok(Request::Post {
+    let distribution = Distribution {
         level,
         group,
         gates,
+    };
+    Ok(Request::Post(Post {
+        distribution,
         document,
-    })
+    }))
 }
 
 /// The present revision mostly.
@@ -508,14 +514,17 @@ fn any_replace(
     let (level, group) = any_level(dice, rows, own, 4);
     let idents = kept_idents(alloc, dice, rows, incident)?;
     let (gates, document) = any_content(alloc, dice, rows, own, idents.as_slice())?;
-    Ok(Request::Replace {
-        incident,
-        revision: any_revision(dice, rows, incident),
+    let distribution = Distribution {
         level,
         group,
         gates,
+    };
+    Ok(Request::Replace(Replace {
+        incident,
+        revision: any_revision(dice, rows, incident),
+        distribution,
         document,
-    })
+    }))
 }
 
 /// A gate that stands already, in one of four.
@@ -543,13 +552,13 @@ fn any_redistribute(
             }
         }
     }
-    Ok(Request::Redistribute {
+    Ok(Request::Redistribute(Redistribute {
         incident,
         revision,
         path,
         level,
         group,
-    })
+    }))
 }
 
 /// A target, in one of three one that is addressed.
@@ -672,11 +681,11 @@ fn any_question(
         3..=5 => any_labelled(alloc, dice, rows, incident)?,
         _ => any_place(alloc, dice, rows, incident)?,
     };
-    Ok(Request::Explain {
+    Ok(Request::Explain(Explain {
         person: any_reader(dice, rows, incident),
         incident,
         path,
-    })
+    }))
 }
 
 fn any_reading(
@@ -689,11 +698,11 @@ fn any_reading(
     match kind {
         25 => Ok(Request::View { incident }),
         26 => Ok(Request::List { after }),
-        27 => Ok(Request::Search {
+        27 => Ok(Request::Search(Search {
             needle: any_needle(alloc, dice)?,
             class: any_class_name(alloc, dice)?,
             after,
-        }),
+        })),
         28 => Ok(Request::Addressed { after }),
         29 => Ok(Request::MyGroups),
         _ => Ok(Request::WhoAmI),
@@ -716,14 +725,14 @@ pub fn any_request(
         18 => any_post(alloc, dice, rows, own),
         19 => any_replace(alloc, dice, rows, subject),
         20 => any_redistribute(alloc, dice, rows, subject),
-        21 => Ok(Request::Address {
+        21 => Ok(Request::Address(Address {
             incident,
             target: any_target(dice, rows, incident),
-        }),
-        22 => Ok(Request::Unaddress {
+        })),
+        22 => Ok(Request::Unaddress(Unaddress {
             incident,
             target: any_target(dice, rows, incident),
-        }),
+        })),
         23 | 24 => any_permit(alloc, dice, rows, kind, subject),
         31 => any_question(alloc, dice, rows, incident),
         _ => any_reading(alloc, dice, kind, incident),
@@ -741,18 +750,18 @@ fn any_permit(
     let incident = subject.incident;
     let (path, grantee) = any_permission(alloc, dice, rows, subject)?;
     if kind == 24 {
-        return Ok(Request::Withdraw {
+        return Ok(Request::Withdraw(Withdraw {
             incident,
             path,
             grantee,
-        });
+        }));
     }
-    Ok(Request::Grant {
+    Ok(Request::Grant(Grant {
         incident,
         revision: any_revision(dice, rows, incident),
         path,
         grantee,
-    })
+    }))
 }
 
 /// The kind of a request; those with many grounds come more often.

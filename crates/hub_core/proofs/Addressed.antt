@@ -1,5 +1,5 @@
 -- A recipient more or less leaves a sound state.
-use Rattle.std.proofs.Common.{◌≡◌, ℕ, ◌≤◌, ◌==◌, not, List, None, filter, subst}
+use Rattle.std.proofs.Common.{◌≡◌, ◌≤◌, ◌==◌, not, List, None, filter, subst}
 use Rattle.std.proofs.lemmas.Bool.{ltb-false, not-false}
 use Rattle.circle.specs.Ordered.{put_by}
 use Rattle.circle.specs.declared.directory.Person.{Person}
@@ -11,7 +11,8 @@ use Rattle.hub_core.specs.Refusals.{grounds, refusal_of, is_target, recipients_t
 use Rattle.hub_core.specs.Sound.{IsSound, SoundRecipients}
 use Rattle.hub_core.specs.State.{State, recipient_cmp, recipients_of, is_recipient_being}
 use Rattle.hub_core.specs.declared.request.Request.TheVariants as ask
-use Rattle.hub_core.specs.declared.request.Target.{Target}
+use Rattle.hub_core.specs.declared.request.Address.{Address}
+use Rattle.hub_core.specs.declared.request.Unaddress.{Unaddress}
 use Rattle.hub_core.specs.declared.state.Recipient.{Recipient}
 use Rattle.hub_core.specs.Orders.{recipient_total}
 use Rattle.hub_core.proofs.Keys.{apart_recipient}
@@ -22,12 +23,14 @@ use Rattle.hub_core.proofs.Keeping.{count_left, at_most, none_taken}
 with_recipients : (s : State) (rows : List Recipient) → IsSound s → SoundRecipients s.directory s.incidents rows → IsSound (record s { recipients = rows })
 with_recipients s rows h new = record { directory = h.directory; incidents = h.incidents; gates = h.gates; recipients = new; permissions = h.permissions }
 
-pub address_kept : (s : State) (a : Person) (n : ℕ) (target : Target) → IsSound s → refusal_of s a (ask.Address n target) ≡ None → IsSound (changed s a (ask.Address n target))
-address_kept s a n target h fine =
-    let p = passed (grounds s a (ask.Address n target)) fine in
+pub address_kept : (s : State) (a : Person) (r : Address) → IsSound s → refusal_of s a (ask.Address r) ≡ None → IsSound (changed s a (ask.Address r))
+address_kept s a r h fine =
+    let n = r.incident in
+    let target = r.target in
+    let p = passed (grounds s a (ask.Address r)) fine in
     let row : Recipient = record { incident = n; target = target } in
     let it = own s a n p.1.0 in
-    let few : recipients_then s a (ask.Address n target) ≤ RECIPIENT_LIMIT = ltb-false RECIPIENT_LIMIT _ p.1.1.1.1.0 in
+    let few : recipients_then s a (ask.Address r) ≤ RECIPIENT_LIMIT = ltb-false RECIPIENT_LIMIT _ p.1.1.1.1.0 in
     let rest = filter (λ (r : Recipient). not (is_recipient_being n target r)) s.recipients in
     let whole : rest ≡ s.recipients = none_taken (is_recipient_being n target) s.recipients p.1.1.1.0 in
     let here : recipients_of n (put_by recipient_cmp row s.recipients) ≤ RECIPIENT_LIMIT =
@@ -39,10 +42,10 @@ address_kept s a n target h fine =
       limit = limit_put (λ (r : Recipient). r.incident) recipient_cmp RECIPIENT_LIMIT row s.recipients s.incidents here h.recipients.limit;
     })
 
-pub unaddress_kept : (s : State) (a : Person) (n : ℕ) (target : Target) → IsSound s → IsSound (changed s a (ask.Unaddress n target))
-unaddress_kept s a n target h = with_recipients s _ h (record {
+pub unaddress_kept : (s : State) (a : Person) (r : Unaddress) → IsSound s → IsSound (changed s a (ask.Unaddress r))
+unaddress_kept s a r h = with_recipients s _ h (record {
   rising = pairs_left _ _ s.recipients h.recipients.rising;
   ends = each_left _ _ s.recipients h.recipients.ends;
   targets = each_left _ _ s.recipients h.recipients.targets;
-  limit = each_weaker _ _ s.incidents (λ i e. at_most _ _ RECIPIENT_LIMIT (count_left (λ (r : Recipient). r.incident == i.number) (λ (r : Recipient). not (is_recipient_being n target r)) s.recipients) e) h.recipients.limit;
+  limit = each_weaker _ _ s.incidents (λ i e. at_most _ _ RECIPIENT_LIMIT (count_left (λ (x : Recipient). x.incident == i.number) (λ (x : Recipient). not (is_recipient_being r.incident r.target x)) s.recipients) e) h.recipients.limit;
 })

@@ -1,5 +1,5 @@
 -- Another document for an incident, with other gates, leaves a sound state.
-use Rattle.std.proofs.Common.{◌≡◌, ℕ, ◌+◌, ◌≤◌, ◌<◌, ◌==◌, ◌&&◌, ◌||◌, Bool, true, false, not, if◌then◌else◌, List, [], ◌∷◌, map, filter, Option, Some, None, refl, sym, ap, ◌∙◌, subst, arith}
+use Rattle.std.proofs.Common.{◌≡◌, ℕ, ◌+◌, ◌≤◌, ◌<◌, ◌==◌, ◌&&◌, ◌||◌, Bool, true, false, not, if◌then◌else◌, List, [], ◌∷◌, map, filter, Some, None, refl, sym, ap, ◌∙◌, subst, arith}
 use Rattle.std.proofs.lemmas.Bool.{and_parts, eq-eqb, eqb-true, not-true, not_from_false}
 use Rattle.std.specs.Prelude.{count_by, find}
 use Rattle.std.specs.Option.{option_map_or}
@@ -16,7 +16,7 @@ use Rattle.hub_core.specs.declared.TheConstants.{INCIDENT_LIMIT, REVISION_LIMIT,
 use Rattle.hub_core.specs.Documents.{Lines, is_class_in}
 use Rattle.hub_core.specs.Sound.{IsSound, SoundIncidents, SoundRecipients, SoundPermissions, IsAccepted, IsIncident}
 use Rattle.hub_core.specs.State.{State, incident_number, incident_in, incident_of, root_gates, class_gates, recipients_of, permissions_of}
-use Rattle.hub_core.specs.declared.request.WantedGate.{WantedGate}
+use Rattle.hub_core.specs.declared.request.Distribution.{Distribution}
 use Rattle.hub_core.specs.declared.state.Incident.{Incident}
 use Rattle.hub_core.specs.declared.state.Gate.{Gate}
 use Rattle.hub_core.specs.declared.state.Permission.{Permission}
@@ -208,16 +208,16 @@ permissions_stay s i doc h found =
 
 -- ---- the state at the end
 
-abbrev pub with_document : State → Incident → ℕ → Option ℕ → List WantedGate → Lines → State
-with_document s i level group wanted doc = record s {
+abbrev pub with_document : State → Incident → Distribution → Lines → State
+with_document s i d doc = record s {
   incidents = put_revised doc i s.incidents;
-  gates = put_all i.number level group wanted (gates_beside i.number s.gates);
+  gates = put_all i.number d (gates_beside i.number s.gates);
   permissions = permissions_beside i.number s.permissions;
 }
 
-pub exchanged : (s : State) (i : Incident) (level : ℕ) (group : Option ℕ) (wanted : List WantedGate) (doc : Lines) → IsSound s → incident_of i.number s ≡ Some i → MayFollow doc i → StandAtClasses wanted doc → Wishes s.directory.groups group wanted →
-    IsSound (with_document s i level group wanted doc)
-exchanged s i level group wanted doc h found new classes wishes =
+pub exchanged : (s : State) (i : Incident) (d : Distribution) (doc : Lines) → IsSound s → incident_of i.number s ≡ Some i → MayFollow doc i → StandAtClasses d.gates doc → Wishes s.directory.groups d →
+    IsSound (with_document s i d doc)
+exchanged s i d doc h found new classes wishes =
     let n = i.number in
     let incidents : List Incident = put_revised doc i s.incidents in
     let row : Incident = revised doc i in
@@ -226,7 +226,7 @@ exchanged s i level group wanted doc h found new classes wishes =
     record {
       directory = h.directory;
       incidents = incidents_exchanged s i doc h found new;
-      gates = given s.directory.groups incidents n level group wanted (gates_beside n s.gates) row there wishes.known (wanted_at s.directory.groups incidents n group wanted row there wishes classes) wishes.once wishes.few (beside s i doc h);
+      gates = given s.directory.groups incidents n d (gates_beside n s.gates) row there wishes.known (wanted_at s.directory.groups incidents n d row there wishes classes) wishes.once wishes.few (beside s i doc h);
       recipients = recipients_stay s i doc h found;
       permissions = permissions_stay s i doc h found;
     }

@@ -20,6 +20,7 @@ use Rattle.hub_core.specs.Refusals.{stands_twice}
 use Rattle.hub_core.specs.Sound.{SoundGates, IsGroupIfAny}
 use Rattle.hub_core.specs.State.{State, gate_cmp, incident_in, is_class_of, is_place_of, root_gates, class_gates}
 use Rattle.hub_core.specs.declared.edit.Edit.{Edit}
+use Rattle.hub_core.specs.declared.request.Distribution.{Distribution}
 use Rattle.hub_core.specs.declared.request.WantedGate.{WantedGate}
 use Rattle.hub_core.specs.declared.state.Gate.{Gate}
 use Rattle.hub_core.specs.declared.state.Incident.{Incident}
@@ -33,8 +34,8 @@ abbrev pub put_wanted : ℕ → List WantedGate → List Gate → List Gate
 put_wanted n [] gates = gates
 put_wanted n (w ∷ ws) gates = put_wanted n ws (option_map_or (λ p. put_by gate_cmp (record { incident = n; path = p; level = w.level; group = w.group }) gates) (pointer_tokens w.path) gates)
 
-abbrev pub put_all : ℕ → ℕ → Option ℕ → List WantedGate → List Gate → List Gate
-put_all n level group wanted gates = put_wanted n wanted (put_by gate_cmp (record { incident = n; path = []; level = level; group = group }) gates)
+abbrev pub put_all : ℕ → Distribution → List Gate → List Gate
+put_all n d gates = put_wanted n d.gates (put_by gate_cmp (record { incident = n; path = []; level = d.level; group = d.group }) gates)
 
 pub after_append : (xs ys : List Edit) (s : State) → after (xs ++ ys) s ≡ after ys (after xs s)
 after_append [] ys s = refl
@@ -52,8 +53,8 @@ after_wanted n (w ∷ ws) s =
     split None rest = rest s
     split (Some p) rest = rest (after (put_gate n w.level w.group p) s)
 
-pub after_gates : (n level : ℕ) (group : Option ℕ) (wanted : List WantedGate) (s : State) → after (put_gates n level group wanted) s ≡ record s { gates = put_all n level group wanted s.gates }
-after_gates n level group wanted s = after_wanted n wanted (after (put_gate n level group []) s)
+pub after_gates : (n : ℕ) (d : Distribution) (s : State) → after (put_gates n d) s ≡ record s { gates = put_all n d s.gates }
+after_gates n d s = after_wanted n d.gates (after (put_gate n d.level d.group []) s)
 
 -- ---- the gates asked for, one after another
 
@@ -137,17 +138,17 @@ not_empty : (text : Bytes) → at_pointer is_root text ≡ false → bytes_eq []
 not_empty [] h = cc
 not_empty (c ∷ cs) h = refl
 
-pub given : (groups : List Group) (incidents : List Incident) (n level : ℕ) (group : Option ℕ) (wanted : List WantedGate) (gates : List Gate) (i : Incident) → incident_in n incidents ≡ Some i → IsGroupIfAny groups group →
-    Each (IsWanted groups incidents n) wanted → stands_twice (map (λ (g : WantedGate). g.path) wanted) ≡ false → length wanted ≤ GATE_LIMIT → IsBeside groups incidents n gates → SoundGates groups incidents (put_all n level group wanted gates)
-given groups incidents n level group wanted gates i found known fit once few h =
-    let row : Gate = record { incident = n; path = []; level = level; group = group } in
+pub given : (groups : List Group) (incidents : List Incident) (n : ℕ) (d : Distribution) (gates : List Gate) (i : Incident) → incident_in n incidents ≡ Some i → IsGroupIfAny groups d.group →
+    Each (IsWanted groups incidents n) d.gates → stands_twice (map (λ (g : WantedGate). g.path) d.gates) ≡ false → length d.gates ≤ GATE_LIMIT → IsBeside groups incidents n gates → SoundGates groups incidents (put_all n d gates)
+given groups incidents n d gates i found known fit once few h =
+    let row : Gate = record { incident = n; path = []; level = d.level; group = d.group } in
     let first : List Gate = put_by gate_cmp row gates in
     let root : is_place_of incidents n [] ≡ true = ap (λ o. option_map_or (λ (i : Incident). true) o false) found in
-    let all = wanted_put groups incidents n wanted first fit once (record {
+    let all = wanted_put groups incidents n d.gates first fit once (record {
       rising = order_put gate_cmp row gates gate_total (each_weaker _ _ gates (λ g e. apart_gate n [] g (and_left (g.incident == n) (same_path g.path []) e)) h.others) h.rising;
       places = each_put (λ (g : Gate). is_place_of incidents g.incident g.path ≡ true) gate_cmp row gates root h.places;
       ends = each_put (λ (g : Gate). IsGroupIfAny groups g.group) gate_cmp row gates known h.ends;
-      fresh = each_weaker _ _ wanted (λ w e. each_put (λ (g : Gate). is_at n w.path g ≡ false) gate_cmp row gates (and_right (n == n) (bytes_eq [] w.path) (not_empty w.path e.below)) (each_weaker _ _ gates (λ g o. and_left (g.incident == n) (bytes_eq (pointer_text g.path) w.path) o) h.others)) fit;
+      fresh = each_weaker _ _ d.gates (λ w e. each_put (λ (g : Gate). is_at n w.path g ≡ false) gate_cmp row gates (and_right (n == n) (bytes_eq [] w.path) (not_empty w.path e.below)) (each_weaker _ _ gates (λ g o. and_left (g.incident == n) (bytes_eq (pointer_text g.path) w.path) o) h.others)) fit;
     }) in
     record {
       rising = all.rising;
@@ -163,26 +164,26 @@ given groups incidents n level group wanted gates i found known fit once few h =
     no_class : class_gates n gates ≡ 0
     no_class = count_none (λ (g : Gate). g.incident == n && not (is_root g.path)) gates (each_weaker _ _ gates (λ g e. and_left (g.incident == n) (not (is_root g.path)) e) h.others)
 
-    roots_at : (m : ℕ) → ((n == m) ≡ false → root_gates m gates ≡ 1) → root_gates m (put_by gate_cmp (record { incident = n; path = []; level = level; group = group }) gates) ≡ 1
+    roots_at : (m : ℕ) → ((n == m) ≡ false → root_gates m gates ≡ 1) → root_gates m (put_by gate_cmp (record { incident = n; path = []; level = d.level; group = d.group }) gates) ≡ 1
     roots_at m was = at (n == m) refl
       where
-        at : (b : Bool) → (n == m) ≡ b → root_gates m (put_by gate_cmp (record { incident = n; path = []; level = level; group = group }) gates) ≡ 1
+        at : (b : Bool) → (n == m) ≡ b → root_gates m (put_by gate_cmp (record { incident = n; path = []; level = d.level; group = d.group }) gates) ≡ 1
         at true is =
-            count_more (λ (g : Gate). g.incident == m && is_root g.path) gate_cmp (record { incident = n; path = []; level = level; group = group }) gates (and_from (n == m) true is refl)
+            count_more (λ (g : Gate). g.incident == m && is_root g.path) gate_cmp (record { incident = n; path = []; level = d.level; group = d.group }) gates (and_from (n == m) true is refl)
             ∙ ap (λ k. 1 + k) (subst (λ k. root_gates k gates ≡ 0) (eqb-true n m is) no_root)
-        at false is = count_same (λ (g : Gate). g.incident == m && is_root g.path) gate_cmp (record { incident = n; path = []; level = level; group = group }) gates (and_left (n == m) true is) ∙ was is
+        at false is = count_same (λ (g : Gate). g.incident == m && is_root g.path) gate_cmp (record { incident = n; path = []; level = d.level; group = d.group }) gates (and_left (n == m) true is) ∙ was is
 
-    first_same : (m : ℕ) → class_gates m (put_by gate_cmp (record { incident = n; path = []; level = level; group = group }) gates) ≡ class_gates m gates
-    first_same m = count_same (λ (g : Gate). g.incident == m && not (is_root g.path)) gate_cmp (record { incident = n; path = []; level = level; group = group }) gates (and_right (n == m) false refl)
+    first_same : (m : ℕ) → class_gates m (put_by gate_cmp (record { incident = n; path = []; level = d.level; group = d.group }) gates) ≡ class_gates m gates
+    first_same m = count_same (λ (g : Gate). g.incident == m && not (is_root g.path)) gate_cmp (record { incident = n; path = []; level = d.level; group = d.group }) gates (and_right (n == m) false refl)
 
-    at_most_all : (all own had : ℕ) → all ≤ length wanted + own → own ≡ had → had ≡ 0 → all ≤ GATE_LIMIT
+    at_most_all : (all own had : ℕ) → all ≤ length d.gates + own → own ≡ had → had ≡ 0 → all ≤ GATE_LIMIT
     at_most_all all own had h k none = omega (arith, few)
 
-    limit_at : class_gates n (put_all n level group wanted gates) ≤ length wanted + class_gates n (put_by gate_cmp (record { incident = n; path = []; level = level; group = group }) gates)
-        → ((m : ℕ) → (n == m) ≡ false → class_gates m (put_all n level group wanted gates) ≡ class_gates m (put_by gate_cmp (record { incident = n; path = []; level = level; group = group }) gates))
-        → (m : ℕ) → ((n == m) ≡ false → class_gates m gates ≤ GATE_LIMIT) → class_gates m (put_all n level group wanted gates) ≤ GATE_LIMIT
+    limit_at : class_gates n (put_all n d gates) ≤ length d.gates + class_gates n (put_by gate_cmp (record { incident = n; path = []; level = d.level; group = d.group }) gates)
+        → ((m : ℕ) → (n == m) ≡ false → class_gates m (put_all n d gates) ≡ class_gates m (put_by gate_cmp (record { incident = n; path = []; level = d.level; group = d.group }) gates))
+        → (m : ℕ) → ((n == m) ≡ false → class_gates m gates ≤ GATE_LIMIT) → class_gates m (put_all n d gates) ≤ GATE_LIMIT
     limit_at own others m was = at (n == m) refl
       where
-        at : (b : Bool) → (n == m) ≡ b → class_gates m (put_all n level group wanted gates) ≤ GATE_LIMIT
-        at true is = subst (λ k. class_gates k (put_all n level group wanted gates) ≤ GATE_LIMIT) (eqb-true n m is) (at_most_all _ _ _ own (first_same n) no_class)
+        at : (b : Bool) → (n == m) ≡ b → class_gates m (put_all n d gates) ≤ GATE_LIMIT
+        at true is = subst (λ k. class_gates k (put_all n d gates) ≤ GATE_LIMIT) (eqb-true n m is) (at_most_all _ _ _ own (first_same n) no_class)
         at false is = subst (λ k. k ≤ GATE_LIMIT) (sym (others m is ∙ first_same m)) (was is)

@@ -2,7 +2,7 @@
 use Rattle.std.proofs.Common.{◌≡◌, ℕ, ◌≤◌, ◌==◌, not, List, [], ◌∷◌, Option, Some, None, true, false, subst}
 use Rattle.std.proofs.lemmas.Bool.{ltb-false, not-false}
 use Rattle.std.specs.Option.{option_map_or}
-use Rattle.iodef_tree.specs.Text.{Bytes, Tokens}
+use Rattle.iodef_tree.specs.Text.{Tokens}
 use Rattle.iodef_tree.specs.Pointer.{pointer_tokens}
 use Rattle.policy.specs.declared.permission.Grantee.{Grantee}
 use Rattle.circle.specs.Ordered.{put_by}
@@ -17,7 +17,9 @@ use Rattle.hub_core.specs.Refusals.{grounds, refusal_of, is_grantee, permissions
 use Rattle.hub_core.specs.Sound.{IsSound, SoundPermissions, IsGrantee}
 use Rattle.hub_core.specs.State.{State, permission_cmp, permissions_of, is_permission_being, has_permission, is_class_of}
 use Rattle.hub_core.specs.declared.edit.Edit.TheVariants.{PutPermission, TakePermission}
+use Rattle.hub_core.specs.declared.request.Grant.{Grant}
 use Rattle.hub_core.specs.declared.request.Request.TheVariants as ask
+use Rattle.hub_core.specs.declared.request.Withdraw.{Withdraw}
 use Rattle.hub_core.specs.declared.state.Permission.{Permission}
 use Rattle.hub_core.specs.Orders.{permission_total}
 use Rattle.hub_core.proofs.Keys.{apart_permission}
@@ -43,11 +45,14 @@ granted_at s n (Some p) grantee h class new known few =
       limit = limit_put (λ (x : Permission). x.incident) permission_cmp PERMISSION_LIMIT row s.permissions s.incidents (subst (λ rows. permissions_of n (put_by permission_cmp row rows) ≤ PERMISSION_LIMIT) (none_taken (is_permission_being n p grantee) s.permissions new) few) h.permissions.limit;
     })
 
-pub grant_kept : (s : State) (a : Person) (n revision : ℕ) (path : Bytes) (grantee : Grantee) → IsSound s → refusal_of s a (ask.Grant n revision path grantee) ≡ None → IsSound (changed s a (ask.Grant n revision path grantee))
-grant_kept s a n revision path grantee h fine =
-    let p = passed (grounds s a (ask.Grant n revision path grantee)) fine in
+pub grant_kept : (s : State) (a : Person) (r : Grant) → IsSound s → refusal_of s a (ask.Grant r) ≡ None → IsSound (changed s a (ask.Grant r))
+grant_kept s a r h fine =
+    let n = r.incident in
+    let path = r.path in
+    let grantee = r.grantee in
+    let p = passed (grounds s a (ask.Grant r)) fine in
     let it = own s a n p.1.1.0 in
-    let few : permissions_then s a (ask.Grant n revision path grantee) ≤ PERMISSION_LIMIT = ltb-false PERMISSION_LIMIT _ p.1.1.1.1.1.1.1.0 in
+    let few : permissions_then s a (ask.Grant r) ≤ PERMISSION_LIMIT = ltb-false PERMISSION_LIMIT _ p.1.1.1.1.1.1.1.0 in
     granted_at s n (pointer_tokens path) grantee h (not-false (at_pointer (is_class_of s.incidents n) path) p.1.1.1.1.0) p.1.1.1.1.1.0 (grantee_is s.directory a.org grantee h.directory (not-false (is_grantee s.directory a.org grantee) p.1.1.1.0))
     (subst (λ m. m ≤ PERMISSION_LIMIT) (counted_is s n it.incident (λ m. permissions_of m (after (made_at (λ p. TakePermission n p grantee ∷ PutPermission (record { incident = n; path = p; grantee = grantee }) ∷ []) path) s).permissions) it.found) few)
 
@@ -60,5 +65,5 @@ withdrawn_at s n (Some p) grantee h = with_permissions s _ h (record {
   limit = each_weaker _ _ s.incidents (λ i e. at_most _ _ PERMISSION_LIMIT (count_left (λ (x : Permission). x.incident == i.number) (λ (x : Permission). not (is_permission_being n p grantee x)) s.permissions) e) h.permissions.limit;
 })
 
-pub withdraw_kept : (s : State) (a : Person) (n : ℕ) (path : Bytes) (grantee : Grantee) → IsSound s → IsSound (changed s a (ask.Withdraw n path grantee))
-withdraw_kept s a n path grantee h = withdrawn_at s n (pointer_tokens path) grantee h
+pub withdraw_kept : (s : State) (a : Person) (r : Withdraw) → IsSound s → IsSound (changed s a (ask.Withdraw r))
+withdraw_kept s a r h = withdrawn_at s r.incident (pointer_tokens r.path) r.grantee h

@@ -6,7 +6,6 @@ use Rattle.std.specs.List.{list_all}
 use Rattle.std.specs.Option.{option_map_or}
 use Rattle.std.specs.Str.{bytes_eq}
 use Rattle.std.proofs.lemmas.Bool.Decides.{nat_tests}
-use Rattle.iodef_tree.specs.Text.{Bytes}
 use Rattle.iodef_tree.specs.Reading.{reading}
 use Rattle.iodef_tree.proofs.Identified.{has_one, reported}
 use Rattle.iodef_tree.proofs.Order.{bytes_eq-true}
@@ -25,7 +24,9 @@ use Rattle.hub_core.specs.State.{State, incident_number, incident_of}
 use Rattle.hub_core.specs.declared.edit.Edit.TheVariants.{TakePolicy}
 use Rattle.hub_core.specs.declared.request.Request.{Request}
 use Rattle.hub_core.specs.declared.request.Request.TheVariants as ask
-use Rattle.hub_core.specs.declared.request.WantedGate.{WantedGate}
+use Rattle.hub_core.specs.declared.request.Distribution.{Distribution}
+use Rattle.hub_core.specs.declared.request.Post.{Post}
+use Rattle.hub_core.specs.declared.request.Replace.{Replace}
 use Rattle.hub_core.specs.declared.state.Incident.{Incident}
 use Rattle.hub_core.proofs.Addressed.{address_kept, unaddress_kept}
 use Rattle.hub_core.proofs.Bodies.{body_read, fit, not_posted, wishes}
@@ -38,18 +39,19 @@ use Rattle.hub_core.proofs.Posted.{IsFit, posted}
 use Rattle.hub_core.proofs.Redistributed.{redistribute_kept}
 use Rattle.hub_core.proofs.Keeping.{all_each}
 
-post_kept : (s : State) (a : Person) (level : ℕ) (group : Option ℕ) (gates : List WantedGate) (body : Bytes) → IsSound s → IsOrg s.directory.orgs a.org → refusal_of s a (ask.Post level group gates body) ≡ None → IsSound (changed s a (ask.Post level group gates body))
-post_kept s a level group gates body h known fine =
-    let docs = documents_in body in
-    let p = passed (grounds s a (ask.Post level group gates body)) fine in
+post_kept : (s : State) (a : Person) (r : Post) → IsSound s → IsOrg s.directory.orgs a.org → refusal_of s a (ask.Post r) ≡ None → IsSound (changed s a (ask.Post r))
+post_kept s a r h known fine =
+    let d = r.distribution in
+    let docs = documents_in r.document in
+    let p = passed (grounds s a (ask.Post r)) fine in
     let next : next_incident s ≡ length s.incidents + 1 = next_number incident_number INCIDENT_LIMIT s.incidents h.incidents.numbered in
     let room : length s.incidents + length docs ≤ INCIDENT_LIMIT = ltb-false INCIDENT_LIMIT _ p.1.1.1.1.1.1.1.1.1.1.0 in
-    let classes : stand_at_classes gates docs ≡ true = not-false (stand_at_classes gates docs) p.1.1.1.1.1.1.1.1.0 in
-    let own : are_own_groups s a group gates ≡ true = not-false (are_own_groups s a group gates) p.1.1.1.1.1.1.1.0 in
-    let good : are_bad_gates gates ≡ false = (or_parts (are_bad_gates gates) (has_several docs && has_some gates) p.1.1.1.0).0 in
-    posted docs s a.org (next_incident s) level group gates h next room known
-    (fit body docs gates (body_read body p.1.1.1.1.0) p.1.1.1.1.1.1.0 classes) p.1.1.1.1.1.0 (not_posted s a.org docs p.1.1.1.1.1.1.1.1.1.0)
-    (wishes s a group gates h.directory good own (ltb-false GATE_LIMIT _ p.1.1.1.1.1.1.1.1.1.1.1.0))
+    let classes : stand_at_classes d.gates docs ≡ true = not-false (stand_at_classes d.gates docs) p.1.1.1.1.1.1.1.1.0 in
+    let own : are_own_groups s a d ≡ true = not-false (are_own_groups s a d) p.1.1.1.1.1.1.1.0 in
+    let good : are_bad_gates d.gates ≡ false = (or_parts (are_bad_gates d.gates) (has_several docs && has_some d.gates) p.1.1.1.0).0 in
+    posted docs s a.org (next_incident s) d h next room known
+    (fit r.document docs d.gates (body_read r.document p.1.1.1.1.0) p.1.1.1.1.1.1.0 classes) p.1.1.1.1.1.0 (not_posted s a.org docs p.1.1.1.1.1.1.1.1.1.0)
+    (wishes s a d h.directory good own (ltb-false GATE_LIMIT _ p.1.1.1.1.1.1.1.1.1.1.1.0))
 
 -- ---- another document
 
@@ -62,58 +64,54 @@ one_of (doc ∷ other ∷ docs) h k = absurd (false≢true (sym h ∙ two (lengt
     two n = grind (arith, nat_tests)
 
 -- what the edits of the incident, of its gates and of its permissions make
-after_replace : (s : State) (i : Incident) (level : ℕ) (group : Option ℕ) (gates : List WantedGate) (docs : List Lines) (doc : Lines) → incident_of i.number s ≡ Some i → docs ≡ doc ∷ [] →
-    after (put_next (incident_of i.number s) docs ++ TakePolicy i.number ∷ put_gates i.number level group gates) s ≡ with_document s i level group gates doc
-after_replace s i level group gates docs doc found one =
-    ap (λ o. after (put_next o docs ++ TakePolicy i.number ∷ put_gates i.number level group gates) s) found
-    ∙ (ap (λ ds. after (put_revision i ds ++ TakePolicy i.number ∷ put_gates i.number level group gates) s) one
-    ∙ after_gates i.number level group gates (after (put_revision i (doc ∷ []) ++ TakePolicy i.number ∷ []) s))
+after_replace : (s : State) (i : Incident) (n : ℕ) (d : Distribution) (docs : List Lines) (doc : Lines) → i.number ≡ n → incident_of n s ≡ Some i → docs ≡ doc ∷ [] →
+    after (put_next (incident_of n s) docs ++ TakePolicy n ∷ put_gates n d) s ≡ with_document s i d doc
+after_replace s i n d docs doc same found one =
+    subst (λ m. after (put_next (incident_of n s) docs ++ TakePolicy m ∷ put_gates m d) s ≡ with_document s i d doc) same
+    (ap (λ o. after (put_next o docs ++ TakePolicy i.number ∷ put_gates i.number d) s) found
+    ∙ (ap (λ ds. after (put_revision i ds ++ TakePolicy i.number ∷ put_gates i.number d) s) one
+    ∙ after_gates i.number d (after (put_revision i (doc ∷ []) ++ TakePolicy i.number ∷ []) s)))
 
-replace_own : (s : State) (a : Person) (i : Incident) (revision level : ℕ) (group : Option ℕ) (gates : List WantedGate) (body : Bytes) → IsSound s → incident_of i.number s ≡ Some i → refusal_of s a (ask.Replace i.number revision level group gates body) ≡ None →
-    IsSound (changed s a (ask.Replace i.number revision level group gates body))
-replace_own s a i revision level group gates body h found fine =
-    let docs = documents_in body in
-    let n = i.number in
-    let p = passed (grounds s a (ask.Replace n revision level group gates body)) fine in
-    let read : reading body ≡ Ok docs = body_read body p.1.1.1.1.0 in
-    let one = one_of docs p.1.1.1.1.1.0 (reported body docs read).some in
-    let classes : stand_at_classes gates docs ≡ true = not-false (stand_at_classes gates docs) p.1.1.1.1.1.1.1.1.1.0 in
-    let own : are_own_groups s a group gates ≡ true = not-false (are_own_groups s a group gates) p.1.1.1.1.1.1.1.1.0 in
+replace_kept : (s : State) (a : Person) (r : Replace) → IsSound s → refusal_of s a (ask.Replace r) ≡ None → IsSound (changed s a (ask.Replace r))
+replace_kept s a r h fine =
+    let n = r.incident in
+    let d = r.distribution in
+    let docs = documents_in r.document in
+    let p = passed (grounds s a (ask.Replace r)) fine in
+    let it = own s a n p.1.1.1.1.1.1.1.0 in
+    let i = it.incident in
+    let found : incident_of n s ≡ Some i = it.found in
+    let read : reading r.document ≡ Ok docs = body_read r.document p.1.1.1.1.0 in
+    let one = one_of docs p.1.1.1.1.1.0 (reported r.document docs read).some in
+    let classes : stand_at_classes d.gates docs ≡ true = not-false (stand_at_classes d.gates docs) p.1.1.1.1.1.1.1.1.1.0 in
+    let own : are_own_groups s a d ≡ true = not-false (are_own_groups s a d) p.1.1.1.1.1.1.1.1.0 in
     let kept : keep_ident s n docs ≡ true = not-false (keep_ident s n docs) p.1.1.1.1.1.1.1.1.1.1.0 in
-    let few : number_of gates ≤ GATE_LIMIT = subst (λ m. m ≤ GATE_LIMIT) (counted_is s n i (λ m. number_of gates) found) (ltb-false GATE_LIMIT _ p.1.1.1.1.1.1.1.1.1.1.1.1.1.0) in
+    let few : number_of d.gates ≤ GATE_LIMIT = subst (λ m. m ≤ GATE_LIMIT) (counted_is s n i (λ m. number_of d.gates) found) (ltb-false GATE_LIMIT _ p.1.1.1.1.1.1.1.1.1.1.1.1.1.0) in
     let room : next_revision s n ≤ REVISION_LIMIT = ltb-false REVISION_LIMIT _ p.1.1.1.1.1.1.1.1.1.1.1.1.0 in
-    let fits : IsFit gates one.0 = (subst (Each (IsFit gates)) one.1 (fit body docs gates read p.1.1.1.1.1.1.0 classes)).0 in
+    let fits : IsFit d.gates one.0 = (subst (Each (IsFit d.gates)) one.1 (fit r.document docs d.gates read p.1.1.1.1.1.1.0 classes)).0 in
     let same : list_all (λ (doc : Lines). bytes_eq (ident_of doc) i.ident) (one.0 ∷ []) ≡ true =
     ap (list_all (λ (doc : Lines). bytes_eq (ident_of doc) i.ident)) (sym one.1) ∙ (sym (ap (λ o. option_map_or (λ (x : Incident). list_all (λ (doc : Lines). bytes_eq (ident_of doc) x.ident) docs) o false) found) ∙ kept) in
     let ident : ident_of one.0 ≡ i.ident = bytes_eq-true (ident_of one.0) i.ident (all_each (λ (doc : Lines). bytes_eq (ident_of doc) i.ident) (one.0 ∷ []) same).0 in
-    subst IsSound (sym (after_replace s i level group gates docs one.0 found one.1))
-    (exchanged s i level group gates one.0 h found
+    subst IsSound (sym (after_replace s i n d docs one.0 it.number found one.1))
+    (exchanged s i d one.0 h (subst (λ m. incident_of m s ≡ Some i) (sym it.number) found)
     (record { accepted = fits.accepted; named = fits.named ∙ ap Some ident; room = subst (λ o. option_map_or (λ (x : Incident). x.revision) o 0 + 1 ≤ REVISION_LIMIT) found room })
-    fits.classes (wishes s a group gates h.directory p.1.1.1.0 own few))
-
-replace_kept : (s : State) (a : Person) (n revision level : ℕ) (group : Option ℕ) (gates : List WantedGate) (body : Bytes) → IsSound s → refusal_of s a (ask.Replace n revision level group gates body) ≡ None →
-    IsSound (changed s a (ask.Replace n revision level group gates body))
-replace_kept s a n revision level group gates body h fine =
-    let p = passed (grounds s a (ask.Replace n revision level group gates body)) fine in
-    let it = own s a n p.1.1.1.1.1.1.1.0 in
-    let P : ℕ → Type 0 = λ m. incident_of m s ≡ Some it.incident → refusal_of s a (ask.Replace m revision level group gates body) ≡ None → IsSound (changed s a (ask.Replace m revision level group gates body)) in
-    subst P it.number (replace_own s a it.incident revision level group gates body h) it.found fine
+    fits.classes (wishes s a d h.directory p.1.1.1.0 own few))
 
 -- ---- every request
 
 pub kept : (s : State) (a : Person) (r : Request) → IsSound s → IsOrg s.directory.orgs a.org → refusal_of s a r ≡ None → IsSound (changed s a r)
 kept s a (ask.Circle command) h known fine = directory_kept s a command h known fine
-kept s a (ask.Post level group gates body) h known fine = post_kept s a level group gates body h known fine
-kept s a (ask.Replace n revision level group gates body) h known fine = replace_kept s a n revision level group gates body h fine
-kept s a (ask.Redistribute n revision path level group) h known fine = redistribute_kept s a n revision path level group h fine
-kept s a (ask.Address n target) h known fine = address_kept s a n target h fine
-kept s a (ask.Unaddress n target) h known fine = unaddress_kept s a n target h
-kept s a (ask.Grant n revision path grantee) h known fine = grant_kept s a n revision path grantee h fine
-kept s a (ask.Withdraw n path grantee) h known fine = withdraw_kept s a n path grantee h
+kept s a (ask.Post r) h known fine = post_kept s a r h known fine
+kept s a (ask.Replace r) h known fine = replace_kept s a r h fine
+kept s a (ask.Redistribute r) h known fine = redistribute_kept s a r h fine
+kept s a (ask.Address r) h known fine = address_kept s a r h fine
+kept s a (ask.Unaddress r) h known fine = unaddress_kept s a r h
+kept s a (ask.Grant r) h known fine = grant_kept s a r h fine
+kept s a (ask.Withdraw r) h known fine = withdraw_kept s a r h
 kept s a (ask.View n) h known fine = h
-kept s a (ask.Explain person n path) h known fine = h
+kept s a (ask.Explain r) h known fine = h
 kept s a (ask.List after) h known fine = h
-kept s a (ask.Search needle class after) h known fine = h
+kept s a (ask.Search r) h known fine = h
 kept s a (ask.Addressed after) h known fine = h
 kept s a ask.MyGroups h known fine = h
 kept s a ask.WhoAmI h known fine = h

@@ -1,5 +1,5 @@
 -- What the grounds say of what is named, where none holds.
-use Rattle.std.proofs.Common.{◌≡◌, ℕ, ◌==◌, true, false, not, if◌then◌else◌, List, Option, Some, None, ap, subst}
+use Rattle.std.proofs.Common.{◌≡◌, ℕ, ◌==◌, true, false, not, if◌then◌else◌, Option, Some, None, ap, subst}
 use Rattle.std.proofs.lemmas.Bool.{and_parts, eqb-true, not-false}
 use Rattle.std.specs.Prelude.{is_some}
 use Rattle.std.specs.List.{list_all}
@@ -13,6 +13,7 @@ use Rattle.circle.proofs.Keeping.{found_then, each_weaker}
 use Rattle.hub_core.specs.Refusals.{is_own, is_own_group, are_own_groups, is_target, is_grantee, counted}
 use Rattle.hub_core.specs.Sound.{IsIncident, IsTarget, IsGrantee, IsGroupIfAny}
 use Rattle.hub_core.specs.State.{State, incident_of}
+use Rattle.hub_core.specs.declared.request.Distribution.{Distribution}
 use Rattle.hub_core.specs.declared.request.Target.{Target}
 use Rattle.hub_core.specs.declared.request.Target.TheVariants as target
 use Rattle.hub_core.specs.declared.request.WantedGate.{WantedGate}
@@ -60,8 +61,8 @@ group_if_any s a None h k = tt
 group_if_any s a (Some n) h k = group_is s.directory n a.org h k
 
 -- the groups of an incident's gates are there
-pub groups_are : (s : State) (a : Person) (group : Option ℕ) (gates : List WantedGate) → circle.IsSound s.directory → are_own_groups s a group gates ≡ true →
-    IsGroupIfAny s.directory.groups group × Each (λ (g : WantedGate). IsGroupIfAny s.directory.groups g.group) gates
-groups_are s a group gates h k =
-    let parts = and_parts (is_own_group s a group) (list_all (λ (g : WantedGate). is_own_group s a g.group) gates) k in
-    (group_if_any s a group h parts.0, each_weaker _ _ gates (λ g e. group_if_any s a g.group h e) (all_each (λ (g : WantedGate). is_own_group s a g.group) gates parts.1))
+pub groups_are : (s : State) (a : Person) (d : Distribution) → circle.IsSound s.directory → are_own_groups s a d ≡ true →
+    IsGroupIfAny s.directory.groups d.group × Each (λ (g : WantedGate). IsGroupIfAny s.directory.groups g.group) d.gates
+groups_are s a d h k =
+    let parts = and_parts (is_own_group s a d.group) (list_all (λ (g : WantedGate). is_own_group s a g.group) d.gates) k in
+    (group_if_any s a d.group h parts.0, each_weaker _ _ d.gates (λ g e. group_if_any s a g.group h e) (all_each (λ (g : WantedGate). is_own_group s a g.group) d.gates parts.1))

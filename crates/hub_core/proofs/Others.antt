@@ -27,6 +27,7 @@ use Rattle.hub_core.specs.declared.edit.Edit.{Edit}
 use Rattle.hub_core.specs.declared.edit.Edit.TheVariants.{Directory, PutIncident, TakeIncident, TakePolicy, PutGate, TakeGate, PutRecipient, TakeRecipient, PutPermission, TakePermission}
 use Rattle.hub_core.specs.declared.request.Request.{Request}
 use Rattle.hub_core.specs.declared.request.Request.TheVariants as ask
+use Rattle.hub_core.specs.declared.request.Distribution.{Distribution}
 use Rattle.hub_core.specs.declared.request.WantedGate.{WantedGate}
 use Rattle.hub_core.specs.declared.state.Gate.{Gate}
 use Rattle.hub_core.specs.declared.state.Incident.{Incident}
@@ -101,8 +102,8 @@ module _ (P : Edit → Type 0) where
       each_append (made_at (put_gate m g.level g.group) g.path) (flat_map (λ (g : WantedGate). made_at (put_gate m g.level g.group) g.path) gs)
       (each_made (put_gate m g.level g.group) (pointer_tokens g.path) (h g)) (each_wanted m gs h)
 
-gates_spare : (n m level : ℕ) (group : Option ℕ) (gates : List WantedGate) → (m == n) ≡ false → Each (Spares n) (put_gates m level group gates)
-gates_spare n m level group gates h = (h, each_wanted (Spares n) m gates (λ g p. (h, tt)))
+gates_spare : (n m : ℕ) (d : Distribution) → (m == n) ≡ false → Each (Spares n) (put_gates m d)
+gates_spare n m d h = (h, each_wanted (Spares n) m d.gates (λ g p. (h, tt)))
 
 next_spares : (n : ℕ) (o : Option Incident) (docs : List Lines) → ((i : Incident) → o ≡ Some i → (i.number == n) ≡ false) → Each (Spares n) (put_next o docs)
 next_spares n None docs h = tt
@@ -110,11 +111,11 @@ next_spares n (Some i) [] h = tt
 next_spares n (Some i) (doc ∷ docs) h = (h i refl, (h i refl, tt))
 
 -- numbers from one on that is above it
-incidents_spare : (n source m level : ℕ) (group : Option ℕ) (gates : List WantedGate) (docs : List Lines) → n + 1 ≤ m → Each (Spares n) (put_incidents source m level group gates docs)
-incidents_spare n source m level group gates [] h = tt
-incidents_spare n source m level group gates (doc ∷ docs) h =
+incidents_spare : (n source m : ℕ) (d : Distribution) (docs : List Lines) → n + 1 ≤ m → Each (Spares n) (put_incidents source m d docs)
+incidents_spare n source m d [] h = tt
+incidents_spare n source m d (doc ∷ docs) h =
     let other : (m == n) ≡ false = ne_eqb m n (λ e. absurd (omega arith)) in
-    each_append (Spares n) (put_incident source m level group gates doc) (put_incidents source (m + 1) level group gates docs) (other, gates_spare n m level group gates other) (incidents_spare n source (m + 1) level group gates docs (omega arith))
+    each_append (Spares n) (put_incident source m d doc) (put_incidents source (m + 1) d docs) (other, gates_spare n m d other) (incidents_spare n source (m + 1) d docs (omega arith))
 
 rows_spare : (n : ℕ) (rows : List RowEdit) → Each (Spares n) (map Directory rows)
 rows_spare n [] = tt
@@ -133,37 +134,39 @@ not_theirs s a n i found other h =
 
 all_spared : (s : State) (a : Person) (r : Request) (i : Incident) → IsSound s → incident_of i.number s ≡ Some i → i.source ≢ a.org → refusal_of s a r ≡ None → Each (Spares i.number) (edits_of s a r)
 all_spared s a (ask.Circle command) i h found other fine = rows_spare i.number (rows_of (circle.edit_of (circle.next_in s.directory command) a command))
-all_spared s a (ask.Post level group gates body) i h found other fine =
+all_spared s a (ask.Post r) i h found other fine =
     let next : next_incident s ≡ length s.incidents + 1 = next_number incident_number INCIDENT_LIMIT s.incidents h.incidents.numbered in
     let low : i.number ≤ 0 + length s.incidents = names_within incident_number 0 i.number s.incidents h.incidents.numbered.0 (is_incident s i.number i found) in
-    incidents_spare i.number a.org (next_incident s) level group gates (documents_in body) (omega (arith, next, low))
-all_spared s a (ask.Replace n revision level group gates body) i h found other fine =
-    let p = passed (grounds s a (ask.Replace n revision level group gates body)) fine in
+    incidents_spare i.number a.org (next_incident s) r.distribution (documents_in r.document) (omega (arith, next, low))
+all_spared s a (ask.Replace r) i h found other fine =
+    let n = r.incident in
+    let p = passed (grounds s a (ask.Replace r)) fine in
     let apart : (n == i.number) ≡ false = not_theirs s a n i found other p.1.1.1.1.1.1.1.0 in
     let it = own s a n p.1.1.1.1.1.1.1.0 in
-    each_append (Spares i.number) (put_next (incident_of n s) (documents_in body)) (TakePolicy n ∷ put_gates n level group gates)
-    (next_spares i.number (incident_of n s) (documents_in body) (λ x e. subst (λ m. (m == i.number) ≡ false) (sym (ap (λ (y : Incident). y.number) (one_row x it.incident (sym e ∙ it.found)) ∙ it.number)) apart))
-    (apart, gates_spare i.number n level group gates apart)
-all_spared s a (ask.Redistribute n revision path level group) i h found other fine =
-    let p = passed (grounds s a (ask.Redistribute n revision path level group)) fine in
-    let apart : (n == i.number) ≡ false = not_theirs s a n i found other p.1.1.1.1.0 in
-    each_made (Spares i.number) (λ p. TakeGate n p ∷ put_gate n level group p) (pointer_tokens path) (λ q. (apart, (apart, tt)))
-all_spared s a (ask.Address n target) i h found other fine =
-    let p = passed (grounds s a (ask.Address n target)) fine in (not_theirs s a n i found other p.1.0, tt)
-all_spared s a (ask.Unaddress n target) i h found other fine =
-    let p = passed (grounds s a (ask.Unaddress n target)) fine in (not_theirs s a n i found other p.1.0, tt)
-all_spared s a (ask.Grant n revision path grantee) i h found other fine =
-    let p = passed (grounds s a (ask.Grant n revision path grantee)) fine in
-    let apart : (n == i.number) ≡ false = not_theirs s a n i found other p.1.1.0 in
-    each_made (Spares i.number) (λ p. PutPermission (record { incident = n; path = p; grantee = grantee }) ∷ []) (pointer_tokens path) (λ q. (apart, tt))
-all_spared s a (ask.Withdraw n path grantee) i h found other fine =
-    let p = passed (grounds s a (ask.Withdraw n path grantee)) fine in
-    let apart : (n == i.number) ≡ false = not_theirs s a n i found other p.1.1.0 in
-    each_made (Spares i.number) (λ p. TakePermission n p grantee ∷ []) (pointer_tokens path) (λ q. (apart, tt))
+    let docs = documents_in r.document in
+    each_append (Spares i.number) (put_next (incident_of n s) docs) (TakePolicy n ∷ put_gates n r.distribution)
+    (next_spares i.number (incident_of n s) docs (λ x e. subst (λ m. (m == i.number) ≡ false) (sym (ap (λ (y : Incident). y.number) (one_row x it.incident (sym e ∙ it.found)) ∙ it.number)) apart))
+    (apart, gates_spare i.number n r.distribution apart)
+all_spared s a (ask.Redistribute r) i h found other fine =
+    let p = passed (grounds s a (ask.Redistribute r)) fine in
+    let apart : (r.incident == i.number) ≡ false = not_theirs s a r.incident i found other p.1.1.1.1.0 in
+    each_made (Spares i.number) (λ p. TakeGate r.incident p ∷ put_gate r.incident r.level r.group p) (pointer_tokens r.path) (λ q. (apart, (apart, tt)))
+all_spared s a (ask.Address r) i h found other fine =
+    let p = passed (grounds s a (ask.Address r)) fine in (not_theirs s a r.incident i found other p.1.0, tt)
+all_spared s a (ask.Unaddress r) i h found other fine =
+    let p = passed (grounds s a (ask.Unaddress r)) fine in (not_theirs s a r.incident i found other p.1.0, tt)
+all_spared s a (ask.Grant r) i h found other fine =
+    let p = passed (grounds s a (ask.Grant r)) fine in
+    let apart : (r.incident == i.number) ≡ false = not_theirs s a r.incident i found other p.1.1.0 in
+    each_made (Spares i.number) (λ p. PutPermission (record { incident = r.incident; path = p; grantee = r.grantee }) ∷ []) (pointer_tokens r.path) (λ q. (apart, tt))
+all_spared s a (ask.Withdraw r) i h found other fine =
+    let p = passed (grounds s a (ask.Withdraw r)) fine in
+    let apart : (r.incident == i.number) ≡ false = not_theirs s a r.incident i found other p.1.1.0 in
+    each_made (Spares i.number) (λ p. TakePermission r.incident p r.grantee ∷ []) (pointer_tokens r.path) (λ q. (apart, tt))
 all_spared s a (ask.View n) i h found other fine = tt
-all_spared s a (ask.Explain person n path) i h found other fine = tt
+all_spared s a (ask.Explain r) i h found other fine = tt
 all_spared s a (ask.List after) i h found other fine = tt
-all_spared s a (ask.Search needle class after) i h found other fine = tt
+all_spared s a (ask.Search r) i h found other fine = tt
 all_spared s a (ask.Addressed after) i h found other fine = tt
 all_spared s a ask.MyGroups i h found other fine = tt
 all_spared s a ask.WhoAmI i h found other fine = tt
@@ -212,19 +215,20 @@ next_plain None docs = tt
 next_plain (Some i) [] = tt
 next_plain (Some i) (doc ∷ docs) = (tt, (tt, tt))
 
-replaced : (s : State) (n level : ℕ) (group : Option ℕ) (gates : List WantedGate) (o : Option Incident) (docs : List Lines) → EndsPermissions n s (after (put_next o docs ++ TakePolicy n ∷ put_gates n level group gates) s)
-replaced s n level group gates o docs =
+replaced : (s : State) (n : ℕ) (d : Distribution) (o : Option Incident) (docs : List Lines) → EndsPermissions n s (after (put_next o docs ++ TakePolicy n ∷ put_gates n d) s)
+replaced s n d o docs =
     let first = put_next o docs in
     let t : State = after first s in
     let u : State = edited (TakePolicy n) t in
     let one = keeps first s (next_plain o docs) in
-    let two = keeps (put_gates n level group gates) u (tt, each_wanted IsPlain n gates (λ g p. (tt, tt))) in
-    let all : after (first ++ TakePolicy n ∷ put_gates n level group gates) s ≡ after (put_gates n level group gates) u = after_append first (TakePolicy n ∷ put_gates n level group gates) s in
+    let two = keeps (put_gates n d) u (tt, each_wanted IsPlain n d.gates (λ g p. (tt, tt))) in
+    let all : after (first ++ TakePolicy n ∷ put_gates n d) s ≡ after (put_gates n d) u = after_append first (TakePolicy n ∷ put_gates n d) s in
     record {
       permissions = ap (permissions_at n) all ∙ (ap (filter (λ (x : Permission). x.incident == n)) two.permissions ∙ filter_none (λ (x : Permission). x.incident == n) (λ (x : Permission). not (x.incident == n)) t.permissions (λ x h. not-true (x.incident == n) h));
       recipients = ap (recipients_at n) all ∙ ap (filter (λ (r : Recipient). r.incident == n)) (two.recipients ∙ one.recipients);
     }
 
 pub exchanges_end_permissions : ExchangesEndPermissions
-exchanges_end_permissions s a n revision level group gates body fine =
-    subst (λ o. EndsPermissions n s (unless_refused o s (changed s a (ask.Replace n revision level group gates body)))) (sym fine) (replaced s n level group gates (incident_of n s) (documents_in body))
+exchanges_end_permissions s a r fine =
+    let n = r.incident in
+    subst (λ o. EndsPermissions n s (unless_refused o s (changed s a (ask.Replace r)))) (sym fine) (replaced s n r.distribution (incident_of n s) (documents_in r.document))

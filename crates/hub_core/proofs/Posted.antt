@@ -18,6 +18,7 @@ use Rattle.hub_core.specs.Edits.{after}
 use Rattle.hub_core.specs.Refusals.{stands_twice}
 use Rattle.hub_core.specs.Sound.{IsSound, SoundIncidents, SoundRecipients, SoundPermissions, IsAccepted, IsIncident, IsGroupIfAny}
 use Rattle.hub_core.specs.State.{State, incident_number, incident_in, root_gates, class_gates, recipients_of, permissions_of}
+use Rattle.hub_core.specs.declared.request.Distribution.{Distribution}
 use Rattle.hub_core.specs.declared.request.WantedGate.{WantedGate}
 use Rattle.hub_core.specs.declared.state.Incident.{Incident}
 use Rattle.hub_core.specs.declared.state.Recipient.{Recipient}
@@ -28,12 +29,12 @@ use Rattle.hub_core.proofs.Keeping.{never, turned, found_any, found_passing, fin
 
 -- ---- what is asked for every incident alike
 
-pub record Wishes (groups : List Group) (group : Option ℕ) (wanted : List WantedGate) : Type 0 where
-  pub known : IsGroupIfAny groups group
-  pub groups_known : Each (λ (w : WantedGate). IsGroupIfAny groups w.group) wanted
-  pub below : Each (λ (w : WantedGate). at_pointer is_root w.path ≡ false) wanted
-  pub once : stands_twice (map (λ (w : WantedGate). w.path) wanted) ≡ false
-  pub few : length wanted ≤ GATE_LIMIT
+pub record Wishes (groups : List Group) (d : Distribution) : Type 0 where
+  pub known : IsGroupIfAny groups d.group
+  pub groups_known : Each (λ (w : WantedGate). IsGroupIfAny groups w.group) d.gates
+  pub below : Each (λ (w : WantedGate). at_pointer is_root w.path ≡ false) d.gates
+  pub once : stands_twice (map (λ (w : WantedGate). w.path) d.gates) ≡ false
+  pub few : length d.gates ≤ GATE_LIMIT
 
 abbrev pub StandAtClasses : List WantedGate → Lines → Type 0
 StandAtClasses wanted doc = Each (λ (w : WantedGate). at_pointer (is_class_in doc) w.path ≡ true) wanted
@@ -49,9 +50,9 @@ class_at o i None h k = k
 class_at o i (Some p) h k = ap (λ o. option_map_or (λ (x : Incident). is_class_in x.document p) o false) h ∙ k
 
 -- they stand at classes of the incident that has the document
-pub wanted_at : (groups : List Group) (incidents : List Incident) (n : ℕ) (group : Option ℕ) (wanted : List WantedGate) (i : Incident) → incident_in n incidents ≡ Some i → Wishes groups group wanted → StandAtClasses wanted i.document →
-    Each (IsWanted groups incidents n) wanted
-wanted_at groups incidents n group wanted i found wishes classes = go wanted wishes.groups_known wishes.below classes
+pub wanted_at : (groups : List Group) (incidents : List Incident) (n : ℕ) (d : Distribution) (i : Incident) → incident_in n incidents ≡ Some i → Wishes groups d → StandAtClasses d.gates i.document →
+    Each (IsWanted groups incidents n) d.gates
+wanted_at groups incidents n d i found wishes classes = go d.gates wishes.groups_known wishes.below classes
   where
     go : (ws : List WantedGate) → Each (λ (w : WantedGate). IsGroupIfAny groups w.group) ws → Each (λ (w : WantedGate). at_pointer is_root w.path ≡ false) ws → StandAtClasses ws i.document → Each (IsWanted groups incidents n) ws
     go [] a b c = tt
@@ -151,22 +152,22 @@ no_number : (s : State) (n : ℕ) → IsSound s → n ≡ length s.incidents + 1
 no_number s n h next = each_weaker (λ (i : Incident). i.number ≤ 0 + length s.incidents) (λ (i : Incident). (i.number == n) ≡ false) s.incidents (λ i e. above i.number n (length s.incidents) e next) (numbers_low 0 s.incidents h.incidents.numbered.0)
 
 -- what the edits of one document make
-abbrev with_one : ℕ → ℕ → ℕ → Option ℕ → List WantedGate → Lines → State → State
-with_one source n level group wanted doc s = record s { incidents = put_row source n doc s.incidents; gates = put_all n level group wanted s.gates }
+abbrev with_one : ℕ → ℕ → Distribution → Lines → State → State
+with_one source n d doc s = record s { incidents = put_row source n doc s.incidents; gates = put_all n d s.gates }
 
-after_one : (source n level : ℕ) (group : Option ℕ) (wanted : List WantedGate) (doc : Lines) (s : State) → after (put_incident source n level group wanted doc) s ≡ with_one source n level group wanted doc s
-after_one source n level group wanted doc s = after_gates n level group wanted (record s { incidents = put_row source n doc s.incidents })
+after_one : (source n : ℕ) (d : Distribution) (doc : Lines) (s : State) → after (put_incident source n d doc) s ≡ with_one source n d doc s
+after_one source n d doc s = after_gates n d (record s { incidents = put_row source n doc s.incidents })
 
-posted_one : (s : State) (source n level : ℕ) (group : Option ℕ) (wanted : List WantedGate) (doc : Lines) → IsSound s → n ≡ length s.incidents + 1 → length s.incidents < INCIDENT_LIMIT → IsOrg s.directory.orgs source → IsFit wanted doc →
-    IsNew source s.incidents doc → Wishes s.directory.groups group wanted → IsSound (with_one source n level group wanted doc s)
-posted_one s source n level group wanted doc h next room known fit new wishes =
+posted_one : (s : State) (source n : ℕ) (d : Distribution) (doc : Lines) → IsSound s → n ≡ length s.incidents + 1 → length s.incidents < INCIDENT_LIMIT → IsOrg s.directory.orgs source → IsFit d.gates doc →
+    IsNew source s.incidents doc → Wishes s.directory.groups d → IsSound (with_one source n d doc s)
+posted_one s source n d doc h next room known fit new wishes =
     let row : Incident = new_row source n doc in
     let incidents : List Incident = put_row source n doc s.incidents in
     let found : incident_in n incidents ≡ Some row = find_new (λ (i : Incident). i.number == n) (by_number incident_number) row s.incidents (eq-eqb n n refl) (no_number s n h next) in
     record {
       directory = h.directory;
-      incidents = incidents_put s source n wanted doc h next room known fit new;
-      gates = given s.directory.groups incidents n level group wanted s.gates row found wishes.known (wanted_at s.directory.groups incidents n group wanted row found wishes fit.classes) wishes.once wishes.few (beside s source n doc h next);
+      incidents = incidents_put s source n d.gates doc h next room known fit new;
+      gates = given s.directory.groups incidents n d s.gates row found wishes.known (wanted_at s.directory.groups incidents n d row found wishes fit.classes) wishes.once wishes.few (beside s source n doc h next);
       recipients = recipients_put s source n doc h next;
       permissions = permissions_put s source n doc h next;
     }
@@ -180,13 +181,13 @@ still_new source n doc incidents (d ∷ ds) differ new =
     let parts = or_parts (bytes_eq (ident_of doc) (ident_of d)) (list_any (bytes_eq (ident_of doc)) (map ident_of ds)) differ in
     (each_put (λ (i : Incident). (i.source == source && bytes_eq i.ident (ident_of d)) ≡ false) (by_number incident_number) (new_row source n doc) incidents (and_right (source == source) (bytes_eq (ident_of doc) (ident_of d)) parts.0) new.0, still_new source n doc incidents ds parts.1 new.1)
 
-pub posted : (docs : List Lines) (s : State) (source n level : ℕ) (group : Option ℕ) (wanted : List WantedGate) → IsSound s → n ≡ length s.incidents + 1 → length s.incidents + length docs ≤ INCIDENT_LIMIT → IsOrg s.directory.orgs source →
-    Each (IsFit wanted) docs → stands_twice (map ident_of docs) ≡ false → Each (IsNew source s.incidents) docs → Wishes s.directory.groups group wanted → IsSound (after (put_incidents source n level group wanted docs) s)
-posted [] s source n level group wanted h next room known fit once new wishes = h
-posted (doc ∷ docs) s source n level group wanted h next room known fit once new wishes =
-    let t : State = with_one source n level group wanted doc s in
+pub posted : (docs : List Lines) (s : State) (source n : ℕ) (d : Distribution) → IsSound s → n ≡ length s.incidents + 1 → length s.incidents + length docs ≤ INCIDENT_LIMIT → IsOrg s.directory.orgs source →
+    Each (IsFit d.gates) docs → stands_twice (map ident_of docs) ≡ false → Each (IsNew source s.incidents) docs → Wishes s.directory.groups d → IsSound (after (put_incidents source n d docs) s)
+posted [] s source n d h next room known fit once new wishes = h
+posted (doc ∷ docs) s source n d h next room known fit once new wishes =
+    let t : State = with_one source n d doc s in
     let parts = or_parts (list_any (bytes_eq (ident_of doc)) (map ident_of docs)) (stands_twice (map ident_of docs)) once in
     let long : length t.incidents ≡ length s.incidents + 1 = length_put (by_number incident_number) (new_row source n doc) s.incidents in
-    let sound : IsSound t = posted_one s source n level group wanted doc h next (omega (arith, room)) known fit.0 new.0 wishes in
-    subst IsSound (sym (after_append (put_incident source n level group wanted doc) (put_incidents source (n + 1) level group wanted docs) s ∙ ap (after (put_incidents source (n + 1) level group wanted docs)) (after_one source n level group wanted doc s)))
-    (posted docs t source (n + 1) level group wanted sound (omega (arith, next, long)) (omega (arith, room, long)) known fit.1 parts.1 (still_new source n doc s.incidents docs parts.0 new.1) wishes)
+    let sound : IsSound t = posted_one s source n d doc h next (omega (arith, room)) known fit.0 new.0 wishes in
+    subst IsSound (sym (after_append (put_incident source n d doc) (put_incidents source (n + 1) d docs) s ∙ ap (after (put_incidents source (n + 1) d docs)) (after_one source n d doc s)))
+    (posted docs t source (n + 1) d sound (omega (arith, next, long)) (omega (arith, room, long)) known fit.1 parts.1 (still_new source n doc s.incidents docs parts.0 new.1) wishes)

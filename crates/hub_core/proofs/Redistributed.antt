@@ -3,7 +3,7 @@ use Rattle.std.proofs.Common.{◌≡◌, ℕ, ◌+◌, ◌≤◌, ◌==◌, ◌&
 use Rattle.std.proofs.lemmas.Bool.{and_parts, eq-eqb, eqb-true, false_from_ne_true, ltb-false, not-false, not-true, not_from_false}
 use Rattle.std.specs.Prelude.{count_by}
 use Rattle.std.specs.Option.{option_map_or}
-use Rattle.iodef_tree.specs.Text.{Bytes, Tokens, is_root, same_path}
+use Rattle.iodef_tree.specs.Text.{Tokens, is_root, same_path}
 use Rattle.iodef_tree.specs.Pointer.{pointer_tokens}
 use Rattle.iodef_tree.proofs.Order.{same_path-true, same_path-refl}
 use Rattle.circle.specs.Ordered.{put_by}
@@ -18,6 +18,7 @@ use Rattle.hub_core.specs.Refusals.{grounds, refusal_of, gates_then, is_own_grou
 use Rattle.hub_core.specs.Sound.{IsSound, SoundGates, IsGroupIfAny}
 use Rattle.hub_core.specs.State.{State, gate_cmp, is_gate_at, is_place_of, root_gates, class_gates}
 use Rattle.hub_core.specs.declared.edit.Edit.TheVariants.{TakeGate}
+use Rattle.hub_core.specs.declared.request.Redistribute.{Redistribute}
 use Rattle.hub_core.specs.declared.request.Request.TheVariants as ask
 use Rattle.hub_core.specs.declared.state.Gate.{Gate}
 use Rattle.hub_core.specs.Orders.{gate_total}
@@ -102,10 +103,11 @@ redistributed_at s n (Some p) level group h place known few =
       limit = each_weaker _ _ s.incidents (λ i e. still_few row s.gates i.number few e) h.gates.limit;
     })
 
-pub redistribute_kept : (s : State) (a : Person) (n revision : ℕ) (path : Bytes) (level : ℕ) (group : Option ℕ) → IsSound s → refusal_of s a (ask.Redistribute n revision path level group) ≡ None → IsSound (changed s a (ask.Redistribute n revision path level group))
-redistribute_kept s a n revision path level group h fine =
-    let p = passed (grounds s a (ask.Redistribute n revision path level group)) fine in
+pub redistribute_kept : (s : State) (a : Person) (r : Redistribute) → IsSound s → refusal_of s a (ask.Redistribute r) ≡ None → IsSound (changed s a (ask.Redistribute r))
+redistribute_kept s a r h fine =
+    let n = r.incident in
+    let p = passed (grounds s a (ask.Redistribute r)) fine in
     let it = own s a n p.1.1.1.1.0 in
-    let few : gates_then s a (ask.Redistribute n revision path level group) ≤ GATE_LIMIT = ltb-false GATE_LIMIT _ p.1.1.1.1.1.1.1.1.1.0 in
-    redistributed_at s n (pointer_tokens path) level group h (not-false (at_pointer (is_place_of s.incidents n) path) p.1.1.1.1.1.1.0) (group_if_any s a group h.directory (not-false (is_own_group s a group) p.1.1.1.1.1.0))
-    (subst (λ m. m ≤ GATE_LIMIT) (counted_is s n it.incident (λ m. class_gates m (changed s a (ask.Redistribute n revision path level group)).gates) it.found) few)
+    let few : gates_then s a (ask.Redistribute r) ≤ GATE_LIMIT = ltb-false GATE_LIMIT _ p.1.1.1.1.1.1.1.1.1.0 in
+    redistributed_at s n (pointer_tokens r.path) r.level r.group h (not-false (at_pointer (is_place_of s.incidents n) r.path) p.1.1.1.1.1.1.0) (group_if_any s a r.group h.directory (not-false (is_own_group s a r.group) p.1.1.1.1.1.0))
+    (subst (λ m. m ≤ GATE_LIMIT) (counted_is s n it.incident (λ m. class_gates m (changed s a (ask.Redistribute r)).gates) it.found) few)

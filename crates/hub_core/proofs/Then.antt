@@ -9,6 +9,7 @@ use Rattle.hub_core.specs.Documents.{Lines, made_at}
 use Rattle.hub_core.specs.State.{State, permissions_of}
 use Rattle.hub_core.specs.Edits.{after, edited}
 use Rattle.hub_core.specs.Aftermath.{put_gate, put_gates, put_next}
+use Rattle.hub_core.specs.declared.request.Distribution.{Distribution}
 use Rattle.hub_core.specs.declared.request.WantedGate.{WantedGate}
 use Rattle.hub_core.specs.declared.state.Incident.{Incident}
 use Rattle.hub_core.specs.declared.state.Gate.{Gate}
@@ -43,22 +44,22 @@ next_leaves get taken put None docs s = refl
 next_leaves get taken put (Some i) [] s = refl
 next_leaves get taken put (Some i) (doc ∷ docs) s = put (record i { revision = i.revision + 1; document = doc }) (edited (edit.TakeIncident i.number) s) ∙ taken i.number s
 
-pub exchanged_recipients : (o : Option Incident) (docs : List Lines) (n level : ℕ) (group : Option ℕ) (gates : List WantedGate) (s : State) →
-    (let t : State = after (put_next o docs ++ edit.TakePolicy n ∷ put_gates n level group gates) s in t.recipients) ≡ s.recipients
-exchanged_recipients o docs n level group gates s =
+pub exchanged_recipients : (o : Option Incident) (docs : List Lines) (n : ℕ) (d : Distribution) (s : State) →
+    (let t : State = after (put_next o docs ++ edit.TakePolicy n ∷ put_gates n d) s in t.recipients) ≡ s.recipients
+exchanged_recipients o docs n d s =
     let get : State → List Recipient = λ s. s.recipients in
     let t : State = after (put_next o docs) s in
-    ap get (after_append (put_next o docs) (edit.TakePolicy n ∷ put_gates n level group gates) s)
-    ∙ (gates_leave get (λ g u. refl) n gates (edited (edit.PutGate (record { incident = n; path = []; level = level; group = group })) (edited (edit.TakePolicy n) t))
+    ap get (after_append (put_next o docs) (edit.TakePolicy n ∷ put_gates n d) s)
+    ∙ (gates_leave get (λ g u. refl) n d.gates (edited (edit.PutGate (record { incident = n; path = []; level = d.level; group = d.group })) (edited (edit.TakePolicy n) t))
     ∙ next_leaves get (λ m u. refl) (λ i u. refl) o docs s)
 
-pub exchanged_permissions : (o : Option Incident) (docs : List Lines) (n level : ℕ) (group : Option ℕ) (gates : List WantedGate) (s : State) →
-    (let t : State = after (put_next o docs ++ edit.TakePolicy n ∷ put_gates n level group gates) s in t.permissions) ≡ filter (λ (x : Permission). not (x.incident == n)) s.permissions
-exchanged_permissions o docs n level group gates s =
+pub exchanged_permissions : (o : Option Incident) (docs : List Lines) (n : ℕ) (d : Distribution) (s : State) →
+    (let t : State = after (put_next o docs ++ edit.TakePolicy n ∷ put_gates n d) s in t.permissions) ≡ filter (λ (x : Permission). not (x.incident == n)) s.permissions
+exchanged_permissions o docs n d s =
     let get : State → List Permission = λ s. s.permissions in
     let t : State = after (put_next o docs) s in
-    ap get (after_append (put_next o docs) (edit.TakePolicy n ∷ put_gates n level group gates) s)
-    ∙ (gates_leave get (λ g u. refl) n gates (edited (edit.PutGate (record { incident = n; path = []; level = level; group = group })) (edited (edit.TakePolicy n) t))
+    ap get (after_append (put_next o docs) (edit.TakePolicy n ∷ put_gates n d) s)
+    ∙ (gates_leave get (λ g u. refl) n d.gates (edited (edit.PutGate (record { incident = n; path = []; level = d.level; group = d.group })) (edited (edit.TakePolicy n) t))
     ∙ ap (filter (λ (x : Permission). not (x.incident == n))) (next_leaves get (λ m u. refl) (λ i u. refl) o docs s))
 
 nowhere : (b : Bool) → (not b && b) ≡ false

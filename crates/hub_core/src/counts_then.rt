@@ -12,7 +12,7 @@ ghost use Rattle.hub_core.specs.declared.edit.Edit.TheVariants as edit;
 
 use crate::look_ups::LookUps;
 use crate::named_there::path_of;
-use crate::request::{Request, Target};
+use crate::request::{Address, Explain, Grant, Redistribute, Request, Target, Unaddress, Withdraw};
 use crate::shelf::ShelfFault;
 use crate::small_counts::capped;
 use circle::text::Text;
@@ -122,16 +122,16 @@ fn find_gates<L: LookUps>(
     ensures cause { IsErrOf result ShelfFault.Failed → HasFailed (L.failed shelf.old) (L.failed shelf.new) }
 {
     let count = match request {
-        Request::Replace { gates, .. } => capped(gates.as_slice().len()),
-        Request::Redistribute { incident, path, .. } => {
-            gates_redistributed(shelf, alloc, *incident, path)?
+        Request::Replace(asked) => capped(asked.distribution.gates.as_slice().len()),
+        Request::Redistribute(asked) => {
+            gates_redistributed(shelf, alloc, asked.incident, &asked.path)?
         }
-        Request::Address { incident, .. }
-        | Request::Unaddress { incident, .. }
-        | Request::Grant { incident, .. }
-        | Request::Withdraw { incident, .. }
+        Request::Address(Address { incident, .. })
+        | Request::Unaddress(Unaddress { incident, .. })
+        | Request::Grant(Grant { incident, .. })
+        | Request::Withdraw(Withdraw { incident, .. })
         | Request::View { incident }
-        | Request::Explain { incident, .. } => shelf.class_gates(*incident)?,
+        | Request::Explain(Explain { incident, .. }) => shelf.class_gates(*incident)?,
         _ => 0,
     };
     Ok(count)
@@ -144,14 +144,14 @@ fn find_recipients<L: LookUps>(shelf: &mut L, request: &Request) -> Result<u32, 
     ensures cause { IsErrOf result ShelfFault.Failed → HasFailed (L.failed shelf.old) (L.failed shelf.new) }
 {
     let count = match request {
-        Request::Address { incident, target } => recipients_with(shelf, *incident, *target)?,
-        Request::Unaddress { incident, target } => shelf.recipients_without(*incident, *target)?,
-        Request::Replace { incident, .. } => shelf.recipient_count(*incident)?,
-        Request::Redistribute { incident, .. }
-        | Request::Grant { incident, .. }
-        | Request::Withdraw { incident, .. }
+        Request::Address(asked) => recipients_with(shelf, asked.incident, asked.target)?,
+        Request::Unaddress(asked) => shelf.recipients_without(asked.incident, asked.target)?,
+        Request::Replace(asked) => shelf.recipient_count(asked.incident)?,
+        Request::Redistribute(Redistribute { incident, .. })
+        | Request::Grant(Grant { incident, .. })
+        | Request::Withdraw(Withdraw { incident, .. })
         | Request::View { incident }
-        | Request::Explain { incident, .. } => shelf.recipient_count(*incident)?,
+        | Request::Explain(Explain { incident, .. }) => shelf.recipient_count(*incident)?,
         _ => 0,
     };
     Ok(count)
@@ -168,24 +168,19 @@ fn find_permissions<L: LookUps>(
     ensures cause { IsErrOf result ShelfFault.Failed → HasFailed (L.failed shelf.old) (L.failed shelf.new) }
 {
     let count = match request {
-        Request::Grant {
-            incident,
-            path,
-            grantee,
-            ..
-        } => permissions_granted(shelf, alloc, *incident, path, *grantee)?,
-        Request::Withdraw {
-            incident,
-            path,
-            grantee,
-        } => permissions_withdrawn(shelf, alloc, *incident, path, *grantee)?,
-        Request::Redistribute { incident, .. }
-        | Request::Address { incident, .. }
-        | Request::Unaddress { incident, .. }
+        Request::Grant(asked) => {
+            permissions_granted(shelf, alloc, asked.incident, &asked.path, asked.grantee)?
+        }
+        Request::Withdraw(asked) => {
+            permissions_withdrawn(shelf, alloc, asked.incident, &asked.path, asked.grantee)?
+        }
+        Request::Redistribute(Redistribute { incident, .. })
+        | Request::Address(Address { incident, .. })
+        | Request::Unaddress(Unaddress { incident, .. })
         | Request::View { incident }
-        | Request::Explain { incident, .. } => shelf.permission_count(*incident)?,
+        | Request::Explain(Explain { incident, .. }) => shelf.permission_count(*incident)?,
         // an exchanged document ends them
-        Request::Replace { .. } => 0,
+        Request::Replace(_) => 0,
         _ => 0,
     };
     Ok(count)
@@ -196,7 +191,7 @@ fn gates_posted(request: &Request) -> u32
     ensures { (s : State) → (actor : Actor) → is_some (looked_up s (incident_asked request.now)) ≡ false → result ≡ gates_then s actor request.now }
 {
     match request {
-        Request::Post { gates, .. } => capped(gates.as_slice().len()),
+        Request::Post(asked) => capped(asked.distribution.gates.as_slice().len()),
         _ => 0,
     }
 }

@@ -14,13 +14,13 @@ use crate::named_there::{
     are_own_groups, is_active, is_grantee, is_own_group, is_target, stands_gate, stands_permission,
 };
 use crate::posted_earlier::find_posted;
-use crate::request::{Request, Target, WantedGates};
+use crate::request::{
+    Address, Distribution, Explain, Grant, Redistribute, Replace, Request, Unaddress, Withdraw,
+};
 use crate::shelf::ShelfFault;
 use circle::command::CircleFacts;
 use circle::directory::Person;
-use circle::text::Text;
 use iodef_tree::Document;
-use policy::Grantee;
 use std::alloc::Global;
 
 /// The incident that a request names.
@@ -28,14 +28,14 @@ fn incident_asked(request: &Request) -> Option<u32>
     ensures { result ≡ incident_named_by request.now }
 {
     match request {
-        Request::Replace { incident, .. }
-        | Request::Redistribute { incident, .. }
-        | Request::Address { incident, .. }
-        | Request::Unaddress { incident, .. }
-        | Request::Grant { incident, .. }
-        | Request::Withdraw { incident, .. }
+        Request::Replace(Replace { incident, .. })
+        | Request::Redistribute(Redistribute { incident, .. })
+        | Request::Address(Address { incident, .. })
+        | Request::Unaddress(Unaddress { incident, .. })
+        | Request::Grant(Grant { incident, .. })
+        | Request::Withdraw(Withdraw { incident, .. })
         | Request::View { incident }
-        | Request::Explain { incident, .. } => Some(*incident),
+        | Request::Explain(Explain { incident, .. }) => Some(*incident),
         _ => None,
     }
 }
@@ -57,14 +57,13 @@ fn plain_facts(exists: bool, stands: bool, count: u32) -> CircleFacts
 fn post_facts<L: LookUps>(
     shelf: &mut L,
     actor: &Person,
-    group: Option<u32>,
-    gates: &WantedGates,
+    distribution: &Distribution,
 ) -> Result<CircleFacts, ShelfFault>
-    ensures value { L.doubts shelf.new ≡ 0 → (s : State) → L.has shelf.old s → IfOk result (λ facts. facts ≡ plain_facts (are_own_groups s actor.now group gates.now) false (length s.incidents)) }
+    ensures value { L.doubts shelf.new ≡ 0 → (s : State) → L.has shelf.old s → IfOk result (λ facts. facts ≡ plain_facts (are_own_groups s actor.now distribution.now) false (length s.incidents)) }
     ensures kept { IsKept L.has L.doubts L.failed L.may_leave shelf.old shelf.new }
     ensures cause { IsErrOf result ShelfFault.Failed → HasFailed (L.failed shelf.old) (L.failed shelf.new) }
 {
-    let own = are_own_groups(shelf, actor, group, gates)?;
+    let own = are_own_groups(shelf, actor, distribution)?;
     let incidents = shelf.incident_count()?;
     Ok(plain_facts(own, false, incidents))
 }
@@ -72,14 +71,13 @@ fn post_facts<L: LookUps>(
 fn replace_facts<L: LookUps>(
     shelf: &mut L,
     actor: &Person,
-    group: Option<u32>,
-    gates: &WantedGates,
+    distribution: &Distribution,
 ) -> Result<CircleFacts, ShelfFault>
-    ensures value { L.doubts shelf.new ≡ 0 → (s : State) → L.has shelf.old s → IfOk result (λ facts. facts ≡ plain_facts (are_own_groups s actor.now group gates.now) false 0) }
+    ensures value { L.doubts shelf.new ≡ 0 → (s : State) → L.has shelf.old s → IfOk result (λ facts. facts ≡ plain_facts (are_own_groups s actor.now distribution.now) false 0) }
     ensures kept { IsKept L.has L.doubts L.failed L.may_leave shelf.old shelf.new }
     ensures cause { IsErrOf result ShelfFault.Failed → HasFailed (L.failed shelf.old) (L.failed shelf.new) }
 {
-    let own = are_own_groups(shelf, actor, group, gates)?;
+    let own = are_own_groups(shelf, actor, distribution)?;
     Ok(plain_facts(own, false, 0))
 }
 
@@ -87,44 +85,33 @@ fn redistribute_facts<L: LookUps>(
     shelf: &mut L,
     alloc: Global,
     actor: &Person,
-    incident: u32,
-    path: &Text,
-    level: u32,
-    group: Option<u32>,
+    asked: &Redistribute,
 ) -> Result<CircleFacts, ShelfFault>
-    ensures value { L.doubts shelf.new ≡ 0 → (s : State) → L.has shelf.old s → IfOk result (λ facts. facts ≡ plain_facts (is_own_group s actor.now group) (at_pointer (λ p. has_gate incident p level group s) path.now) 0) }
+    ensures value { L.doubts shelf.new ≡ 0 → (s : State) → L.has shelf.old s → IfOk result (λ facts. facts ≡ plain_facts (is_own_group s actor.now asked.now.group) (at_pointer (λ p. has_gate asked.now.incident p asked.now.level asked.now.group s) asked.now.path) 0) }
     ensures kept { IsKept L.has L.doubts L.failed L.may_leave shelf.old shelf.new }
     ensures cause { IsErrOf result ShelfFault.Failed → HasFailed (L.failed shelf.old) (L.failed shelf.new) }
 {
-    let own = is_own_group(shelf, actor, group)?;
-    let stands = stands_gate(shelf, alloc, incident, path, level, group)?;
+    let own = is_own_group(shelf, actor, asked.group)?;
+    let stands = stands_gate(shelf, alloc, asked)?;
     Ok(plain_facts(own, stands, 0))
 }
 
-fn address_facts<L: LookUps>(
-    shelf: &mut L,
-    incident: u32,
-    target: Target,
-) -> Result<CircleFacts, ShelfFault>
-    ensures value { L.doubts shelf.new ≡ 0 → (s : State) → L.has shelf.old s → IfOk result (λ facts. facts ≡ plain_facts (is_target s.directory target) (has_recipient incident target s) 0) }
+fn address_facts<L: LookUps>(shelf: &mut L, asked: &Address) -> Result<CircleFacts, ShelfFault>
+    ensures value { L.doubts shelf.new ≡ 0 → (s : State) → L.has shelf.old s → IfOk result (λ facts. facts ≡ plain_facts (is_target s.directory asked.now.target) (has_recipient asked.now.incident asked.now.target s) 0) }
     ensures kept { IsKept L.has L.doubts L.failed L.may_leave shelf.old shelf.new }
     ensures cause { IsErrOf result ShelfFault.Failed → HasFailed (L.failed shelf.old) (L.failed shelf.new) }
 {
-    let exists = is_target(shelf, target)?;
-    let stands = shelf.has_recipient(incident, target)?;
+    let exists = is_target(shelf, asked.target)?;
+    let stands = shelf.has_recipient(asked.incident, asked.target)?;
     Ok(plain_facts(exists, stands, 0))
 }
 
-fn unaddress_facts<L: LookUps>(
-    shelf: &mut L,
-    incident: u32,
-    target: Target,
-) -> Result<CircleFacts, ShelfFault>
-    ensures value { L.doubts shelf.new ≡ 0 → (s : State) → L.has shelf.old s → IfOk result (λ facts. facts ≡ plain_facts true (has_recipient incident target s) 0) }
+fn unaddress_facts<L: LookUps>(shelf: &mut L, asked: &Unaddress) -> Result<CircleFacts, ShelfFault>
+    ensures value { L.doubts shelf.new ≡ 0 → (s : State) → L.has shelf.old s → IfOk result (λ facts. facts ≡ plain_facts true (has_recipient asked.now.incident asked.now.target s) 0) }
     ensures kept { IsKept L.has L.doubts L.failed L.may_leave shelf.old shelf.new }
     ensures cause { IsErrOf result ShelfFault.Failed → HasFailed (L.failed shelf.old) (L.failed shelf.new) }
 {
-    let stands = shelf.has_recipient(incident, target)?;
+    let stands = shelf.has_recipient(asked.incident, asked.target)?;
     Ok(plain_facts(true, stands, 0))
 }
 
@@ -132,31 +119,27 @@ fn grant_facts<L: LookUps>(
     shelf: &mut L,
     alloc: Global,
     org: u32,
-    incident: u32,
-    path: &Text,
-    grantee: Grantee,
+    asked: &Grant,
 ) -> Result<CircleFacts, ShelfFault>
-    ensures value { L.doubts shelf.new ≡ 0 → (s : State) → L.has shelf.old s → IfOk result (λ facts. facts ≡ plain_facts (is_grantee s.directory org grantee) (at_pointer (λ p. has_permission incident p grantee s) path.now) 0) }
+    ensures value { L.doubts shelf.new ≡ 0 → (s : State) → L.has shelf.old s → IfOk result (λ facts. facts ≡ plain_facts (is_grantee s.directory org asked.now.grantee) (at_pointer (λ p. has_permission asked.now.incident p asked.now.grantee s) asked.now.path) 0) }
     ensures kept { IsKept L.has L.doubts L.failed L.may_leave shelf.old shelf.new }
     ensures cause { IsErrOf result ShelfFault.Failed → HasFailed (L.failed shelf.old) (L.failed shelf.new) }
 {
-    let exists = is_grantee(shelf, org, grantee)?;
-    let stands = stands_permission(shelf, alloc, incident, path, grantee)?;
+    let exists = is_grantee(shelf, org, asked.grantee)?;
+    let stands = stands_permission(shelf, alloc, asked.incident, &asked.path, asked.grantee)?;
     Ok(plain_facts(exists, stands, 0))
 }
 
 fn withdraw_facts<L: LookUps>(
     shelf: &mut L,
     alloc: Global,
-    incident: u32,
-    path: &Text,
-    grantee: Grantee,
+    asked: &Withdraw,
 ) -> Result<CircleFacts, ShelfFault>
-    ensures value { L.doubts shelf.new ≡ 0 → (s : State) → L.has shelf.old s → IfOk result (λ facts. facts ≡ plain_facts true (at_pointer (λ p. has_permission incident p grantee s) path.now) 0) }
+    ensures value { L.doubts shelf.new ≡ 0 → (s : State) → L.has shelf.old s → IfOk result (λ facts. facts ≡ plain_facts true (at_pointer (λ p. has_permission asked.now.incident p asked.now.grantee s) asked.now.path) 0) }
     ensures kept { IsKept L.has L.doubts L.failed L.may_leave shelf.old shelf.new }
     ensures cause { IsErrOf result ShelfFault.Failed → HasFailed (L.failed shelf.old) (L.failed shelf.new) }
 {
-    let stands = stands_permission(shelf, alloc, incident, path, grantee)?;
+    let stands = stands_permission(shelf, alloc, asked.incident, &asked.path, asked.grantee)?;
     Ok(plain_facts(true, stands, 0))
 }
 
@@ -182,29 +165,14 @@ fn find_circle_facts<L: LookUps>(
 {
     match request {
         Request::Circle(command) => shelf.circle_facts(actor, command),
-        Request::Post { group, gates, .. } => post_facts(shelf, actor, *group, gates),
-        Request::Replace { group, gates, .. } => replace_facts(shelf, actor, *group, gates),
-        Request::Redistribute {
-            incident,
-            path,
-            level,
-            group,
-            ..
-        } => redistribute_facts(shelf, alloc, actor, *incident, path, *level, *group),
-        Request::Address { incident, target } => address_facts(shelf, *incident, *target),
-        Request::Unaddress { incident, target } => unaddress_facts(shelf, *incident, *target),
-        Request::Grant {
-            incident,
-            path,
-            grantee,
-            ..
-        } => grant_facts(shelf, alloc, actor.org, *incident, path, *grantee),
-        Request::Withdraw {
-            incident,
-            path,
-            grantee,
-        } => withdraw_facts(shelf, alloc, *incident, path, *grantee),
-        Request::Explain { person, .. } => explain_facts(shelf, *person),
+        Request::Post(asked) => post_facts(shelf, actor, &asked.distribution),
+        Request::Replace(asked) => replace_facts(shelf, actor, &asked.distribution),
+        Request::Redistribute(asked) => redistribute_facts(shelf, alloc, actor, asked),
+        Request::Address(asked) => address_facts(shelf, asked),
+        Request::Unaddress(asked) => unaddress_facts(shelf, asked),
+        Request::Grant(asked) => grant_facts(shelf, alloc, actor.org, asked),
+        Request::Withdraw(asked) => withdraw_facts(shelf, alloc, asked),
+        Request::Explain(asked) => explain_facts(shelf, asked.person),
         _ => Ok(plain_facts(true, false, 0)),
     }
 }

@@ -52,76 +52,15 @@ pub fn judge(
 {
     match request {
         Request::Circle(command) => judge_command(alloc, actor, &facts.circle, command),
-        Request::Post {
-            level,
-            group,
-            gates,
-            document,
-        } => {
-            let judged = post(alloc, actor, facts, *level, *group, gates, document);
-            answer(alloc, judged)
-        }
-        Request::Replace {
-            incident,
-            revision,
-            level,
-            group,
-            gates,
-            document,
-        } => {
-            let judged = replace(
-                alloc, actor, facts, *incident, *revision, *level, *group, gates, document,
-            );
-            answer(alloc, judged)
-        }
-        Request::Redistribute {
-            incident,
-            revision,
-            path,
-            level,
-            group,
-        } => {
-            let judged = redistribute(
-                alloc, actor, facts, *incident, *revision, path, *level, *group,
-            );
-            answer(alloc, judged)
-        }
-        Request::Address { incident, target } => {
-            answer(alloc, address(alloc, actor, facts, *incident, *target))
-        }
-        Request::Unaddress { incident, target } => {
-            answer(alloc, unaddress(alloc, actor, facts, *incident, *target))
-        }
-        Request::Grant {
-            incident,
-            revision,
-            path,
-            grantee,
-        } => {
-            let judged = grant(alloc, actor, facts, *incident, *revision, path, *grantee);
-            answer(alloc, judged)
-        }
-        Request::Withdraw {
-            incident,
-            path,
-            grantee,
-        } => {
-            let judged = withdraw(alloc, actor, facts, *incident, path, *grantee);
-            answer(alloc, judged)
-        }
-        Request::Search {
-            needle,
-            class,
-            after,
-        } => answer(alloc, search(alloc, actor, facts, needle, class, *after)),
-        Request::Explain {
-            person,
-            incident,
-            path,
-        } => answer(
-            alloc,
-            explain(alloc, actor, facts, *person, *incident, path),
-        ),
+        Request::Post(asked) => answer(alloc, post(alloc, actor, facts, asked)),
+        Request::Replace(asked) => answer(alloc, replace(alloc, actor, facts, asked)),
+        Request::Redistribute(asked) => answer(alloc, redistribute(alloc, actor, facts, asked)),
+        Request::Address(asked) => answer(alloc, address(alloc, actor, facts, asked)),
+        Request::Unaddress(asked) => answer(alloc, unaddress(alloc, actor, facts, asked)),
+        Request::Grant(asked) => answer(alloc, grant(alloc, actor, facts, asked)),
+        Request::Withdraw(asked) => answer(alloc, withdraw(alloc, actor, facts, asked)),
+        Request::Explain(asked) => answer(alloc, explain(alloc, actor, facts, asked)),
+        Request::Search(asked) => answer(alloc, search(alloc, actor, facts, asked)),
         _ => Ok(Vec::new(alloc)),
     }
 }

@@ -8,7 +8,7 @@ ghost use Rattle.hub_core.specs.Shelves.{HasFailed, IsKept};
 ghost use Rattle.hub_core.specs.State.{State, has_gate, has_permission};
 
 use crate::look_ups::LookUps;
-use crate::request::{Target, WantedGate, WantedGates};
+use crate::request::{Distribution, Redistribute, Target, WantedGate};
 use crate::shelf::ShelfFault;
 use circle::directory::Person;
 use circle::text::Text;
@@ -62,15 +62,14 @@ fn are_all_own<L: LookUps>(
 pub(crate) fn are_own_groups<L: LookUps>(
     shelf: &mut L,
     actor: &Person,
-    group: Option<u32>,
-    gates: &WantedGates,
+    distribution: &Distribution,
 ) -> Result<bool, ShelfFault>
-    ensures value { L.doubts shelf.new ≡ 0 → (s : State) → L.has shelf.old s → IfOk result (λ b. b ≡ are_own_groups s actor.now group gates.now) }
+    ensures value { L.doubts shelf.new ≡ 0 → (s : State) → L.has shelf.old s → IfOk result (λ b. b ≡ are_own_groups s actor.now distribution.now) }
     ensures kept { IsKept L.has L.doubts L.failed L.may_leave shelf.old shelf.new }
     ensures cause { IsErrOf result ShelfFault.Failed → HasFailed (L.failed shelf.old) (L.failed shelf.new) }
 {
-    if is_own_group(shelf, actor, group)? {
-        are_all_own(shelf, actor, gates.as_slice())
+    if is_own_group(shelf, actor, distribution.group)? {
+        are_all_own(shelf, actor, distribution.gates.as_slice())
     } else {
         Ok(false)
     }
@@ -119,18 +118,15 @@ pub(crate) fn is_active<L: LookUps>(shelf: &mut L, person: u32) -> Result<bool, 
 pub(crate) fn stands_gate<L: LookUps>(
     shelf: &mut L,
     alloc: Global,
-    incident: u32,
-    path: &Text,
-    level: u32,
-    group: Option<u32>,
+    asked: &Redistribute,
 ) -> Result<bool, ShelfFault>
-    ensures value { L.doubts shelf.new ≡ 0 → (s : State) → L.has shelf.old s → IfOk result (λ b. b ≡ at_pointer (λ p. has_gate incident p level group s) path.now) }
+    ensures value { L.doubts shelf.new ≡ 0 → (s : State) → L.has shelf.old s → IfOk result (λ b. b ≡ at_pointer (λ p. has_gate asked.now.incident p asked.now.level asked.now.group s) asked.now.path) }
     ensures kept { IsKept L.has L.doubts L.failed L.may_leave shelf.old shelf.new }
     ensures cause { IsErrOf result ShelfFault.Failed → HasFailed (L.failed shelf.old) (L.failed shelf.new) }
 {
-    match path_of(alloc, path)? {
+    match path_of(alloc, &asked.path)? {
         None => Ok(false),
-        Some(path) => shelf.has_gate(incident, &path, level, group),
+        Some(path) => shelf.has_gate(asked.incident, &path, asked.level, asked.group),
     }
 }
 

@@ -89,7 +89,7 @@ pub(crate) fn find_posted<L: LookUps>(
     ensures cause { IsErrOf result ShelfFault.Failed → HasFailed (L.failed shelf.old) (L.failed shelf.new) }
 {
     match request {
-        Request::Post { document, .. } => posted_in(shelf, alloc, actor.org, document),
+        Request::Post(asked) => posted_in(shelf, alloc, actor.org, &asked.document),
         _ => Ok(None),
     }
 }

@@ -5,7 +5,10 @@ use crate::fields::{number_if_any, number_of, role_of, text_of};
 use crate::world::key_of;
 use circle::command::CircleCommand;
 use circle::directory::Handling;
-use hub_core::{Bytes, Request, Target, WantedGate, WantedGates};
+use hub_core::{
+    Address, Bytes, Distribution, Explain, Grant, Post, Redistribute, Replace, Request, Search,
+    Target, Unaddress, WantedGate, WantedGates, Withdraw,
+};
 use policy::Grantee;
 use std::alloc::{AllocError, Global};
 use std::str::Split;
@@ -60,57 +63,61 @@ fn body_of(alloc: Global, text: &str) -> Result<Bytes, AllocError> {
     Ok(Bytes::new(document_text(text).as_bytes().to_vec(alloc)?))
 }
 
-fn post(alloc: Global, fields: &mut Split<'_, char>) -> Result<Request, AllocError> {
-    Ok(Request::Post {
+fn distribution(alloc: Global, fields: &mut Split<'_, char>) -> Result<Distribution, AllocError> {
+    Ok(Distribution {
         level: next_number(fields),
         group: number_if_any(next(fields)),
         gates: gates_of(alloc, next(fields))?,
-        document: body_of(alloc, next(fields))?,
     })
+}
+
+fn post(alloc: Global, fields: &mut Split<'_, char>) -> Result<Request, AllocError> {
+    Ok(Request::Post(Post {
+        distribution: distribution(alloc, fields)?,
+        document: body_of(alloc, next(fields))?,
+    }))
 }
 
 fn replace(alloc: Global, fields: &mut Split<'_, char>) -> Result<Request, AllocError> {
-    Ok(Request::Replace {
+    Ok(Request::Replace(Replace {
         incident: next_number(fields),
         revision: next_number(fields),
-        level: next_number(fields),
-        group: number_if_any(next(fields)),
-        gates: gates_of(alloc, next(fields))?,
+        distribution: distribution(alloc, fields)?,
         document: body_of(alloc, next(fields))?,
-    })
+    }))
 }
 
 fn redistribute(alloc: Global, fields: &mut Split<'_, char>) -> Result<Request, AllocError> {
-    Ok(Request::Redistribute {
+    Ok(Request::Redistribute(Redistribute {
         incident: next_number(fields),
         revision: next_number(fields),
         path: text_of(alloc, next(fields))?,
         level: next_number(fields),
         group: number_if_any(next(fields)),
-    })
+    }))
 }
 
 fn grant(alloc: Global, fields: &mut Split<'_, char>) -> Result<Request, AllocError> {
-    Ok(Request::Grant {
+    Ok(Request::Grant(Grant {
         incident: next_number(fields),
         revision: next_number(fields),
         path: text_of(alloc, next(fields))?,
         grantee: grantee_of(next(fields)),
-    })
+    }))
 }
 
 fn withdraw(alloc: Global, fields: &mut Split<'_, char>) -> Result<Request, AllocError> {
-    Ok(Request::Withdraw {
+    Ok(Request::Withdraw(Withdraw {
         incident: next_number(fields),
         path: text_of(alloc, next(fields))?,
         grantee: grantee_of(next(fields)),
-    })
+    }))
 }
 
 fn search(alloc: Global, fields: &mut Split<'_, char>) -> Result<Request, AllocError> {
     let needle = text_of(alloc, next(fields))?;
     let class = next(fields);
-    Ok(Request::Search {
+    Ok(Request::Search(Search {
         needle,
         class: if class == "-" {
             None
@@ -118,7 +125,7 @@ fn search(alloc: Global, fields: &mut Split<'_, char>) -> Result<Request, AllocE
             Some(text_of(alloc, class)?)
         },
         after: next_number(fields),
-    })
+    }))
 }
 
 fn handling_of(word: &str) -> Handling {
@@ -216,11 +223,11 @@ fn command(alloc: Global, name: &str, fields: &mut Split<'_, char>) -> Result<Re
 }
 
 fn explain(alloc: Global, fields: &mut Split<'_, char>) -> Result<Request, AllocError> {
-    Ok(Request::Explain {
+    Ok(Request::Explain(Explain {
         person: next_number(fields),
         incident: next_number(fields),
         path: text_of(alloc, next(fields))?,
-    })
+    }))
 }
 
 fn reading(name: &str, fields: &mut Split<'_, char>) -> Request {
@@ -245,14 +252,14 @@ pub fn request_of(alloc: Global, fields: &mut Split<'_, char>) -> Result<Request
         "Post" => post(alloc, fields),
         "Replace" => replace(alloc, fields),
         "Redistribute" => redistribute(alloc, fields),
-        "Address" => Ok(Request::Address {
+        "Address" => Ok(Request::Address(Address {
             incident: next_number(fields),
             target: target_of(next(fields)),
-        }),
-        "Unaddress" => Ok(Request::Unaddress {
+        })),
+        "Unaddress" => Ok(Request::Unaddress(Unaddress {
             incident: next_number(fields),
             target: target_of(next(fields)),
-        }),
+        })),
         "Grant" => grant(alloc, fields),
         "Withdraw" => withdraw(alloc, fields),
         "Search" => search(alloc, fields),

@@ -52,7 +52,7 @@ search_in pairs = do
   needle ← needed (codes "needle") pairs
   class ← optional (codes "class") pairs
   after ← number_or_zero (codes "after") pairs
-  Ok (request.Search needle class after)
+  Ok (request.Search (record { needle = needle; class = class; after = after }))
 
 unfoldable pub explain_in : List Pair → Read Request
 explain_in pairs = do
@@ -60,7 +60,7 @@ explain_in pairs = do
   person ← needed_number (codes "person") pairs
   incident ← needed_number (codes "incident") pairs
   path ← needed (codes "path") pairs
-  Ok (request.Explain person incident path)
+  Ok (request.Explain (record { person = person; incident = incident; path = path }))
 
 -- ---- incidents
 
@@ -70,7 +70,7 @@ post_in pairs body = do
   level ← needed_number (codes "level") pairs
   group ← optional_number (codes "group") pairs
   wanted ← gates (values (codes "gate") pairs)
-  Ok (request.Post level group wanted body)
+  Ok (request.Post (record { distribution = record { level = level; group = group; gates = wanted }; document = body }))
 
 unfoldable pub replace_in : ℕ → List Pair → List ℕ → Read Request
 replace_in n pairs body = do
@@ -79,7 +79,7 @@ replace_in n pairs body = do
   level ← needed_number (codes "level") pairs
   group ← optional_number (codes "group") pairs
   wanted ← gates (values (codes "gate") pairs)
-  Ok (request.Replace n revision level group wanted body)
+  Ok (request.Replace (record { incident = n; revision = revision; distribution = record { level = level; group = group; gates = wanted }; document = body }))
 
 unfoldable pub redistribute_in : ℕ → List Pair → Read Request
 redistribute_in n pairs = do
@@ -88,7 +88,7 @@ redistribute_in n pairs = do
   path ← needed (codes "path") pairs
   level ← needed_number (codes "level") pairs
   group ← optional_number (codes "group") pairs
-  Ok (request.Redistribute n revision path level group)
+  Ok (request.Redistribute (record { incident = n; revision = revision; path = path; level = level; group = group }))
 
 unfoldable pub grant_in : ℕ → List Pair → Read Request
 grant_in n pairs = do
@@ -96,20 +96,20 @@ grant_in n pairs = do
   revision ← needed_number (codes "revision") pairs
   path ← needed (codes "path") pairs
   to ← grantee_in pairs
-  Ok (request.Grant n revision path to)
+  Ok (request.Grant (record { incident = n; revision = revision; path = path; grantee = to }))
 
 unfoldable pub withdraw_in : ℕ → List Pair → Read Request
 withdraw_in n pairs = do
   _ ← only (codes "path" ∷ codes "person" ∷ codes "org" ∷ codes "community" ∷ codes "group" ∷ []) pairs
   path ← needed (codes "path") pairs
   from ← grantee_in pairs
-  Ok (request.Withdraw n path from)
+  Ok (request.Withdraw (record { incident = n; path = path; grantee = from }))
 
 -- what is posted to the incident of this number
 unfoldable pub incident_request : IncidentChange → ℕ → List Pair → Read Request
 incident_request incident.Redistribute n pairs = redistribute_in n pairs
-incident_request incident.Address n pairs = target_alone pairs >>= λ to. Ok (request.Address n to)
-incident_request incident.Unaddress n pairs = target_alone pairs >>= λ to. Ok (request.Unaddress n to)
+incident_request incident.Address n pairs = target_alone pairs >>= λ to. Ok (request.Address (record { incident = n; target = to }))
+incident_request incident.Unaddress n pairs = target_alone pairs >>= λ to. Ok (request.Unaddress (record { incident = n; target = to }))
 incident_request incident.Grant n pairs = grant_in n pairs
 incident_request incident.Withdraw n pairs = withdraw_in n pairs
 

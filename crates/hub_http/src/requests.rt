@@ -9,7 +9,10 @@ use crate::routes::{CircleChange, IncidentChange, PartChange, Route, read_route,
 use crate::spelling::{read_digest, read_flag, read_handling, read_role};
 use circle::command::CircleCommand;
 use circle::text::Text;
-use hub_core::{Bytes, Request};
+use hub_core::{
+    Address, Bytes, Distribution, Explain, Grant, Post, Redistribute, Replace, Request, Search,
+    Unaddress, Withdraw,
+};
 use std::alloc::Global;
 
 /// Where the parameters of a route stand.
@@ -82,11 +85,11 @@ fn read_search(alloc: Global, pairs: &Parameters<'_>) -> Result<Request, Request
     let needle = pairs.needed_text(alloc, "needle")?;
     let class = pairs.optional_text(alloc, "class")?;
     let after = pairs.number_or_zero("after")?;
-    Ok(Request::Search {
+    Ok(Request::Search(Search {
         needle,
         class,
         after,
-    })
+    }))
 }
 
 #[tactic(auto, unfolding(crate::specs::Requests::explain_in))]
@@ -97,11 +100,11 @@ fn read_explain(alloc: Global, pairs: &Parameters<'_>) -> Result<Request, Reques
     let person = pairs.needed_number("person")?;
     let incident = pairs.needed_number("incident")?;
     let path = pairs.needed_text(alloc, "path")?;
-    Ok(Request::Explain {
+    Ok(Request::Explain(Explain {
         person,
         incident,
         path,
-    })
+    }))
 }
 
 #[tactic(auto, unfolding(crate::specs::Requests::post_in))]
@@ -113,12 +116,15 @@ fn read_post(alloc: Global, pairs: &Parameters<'_>, body: &[u8]) -> Result<Reque
     let group = pairs.optional_number("group")?;
     let gates = pairs.gates(alloc)?;
     let document = Bytes::new(Vec::from_slice(alloc, body)?);
-    Ok(Request::Post {
+    let distribution = Distribution {
         level,
         group,
         gates,
+    };
+    Ok(Request::Post(Post {
+        distribution,
         document,
-    })
+    }))
 }
 
 #[tactic(auto, unfolding(crate::specs::Requests::replace_in))]
@@ -136,14 +142,17 @@ fn read_replace(
     let group = pairs.optional_number("group")?;
     let gates = pairs.gates(alloc)?;
     let document = Bytes::new(Vec::from_slice(alloc, body)?);
-    Ok(Request::Replace {
-        incident,
-        revision,
+    let distribution = Distribution {
         level,
         group,
         gates,
+    };
+    Ok(Request::Replace(Replace {
+        incident,
+        revision,
+        distribution,
         document,
-    })
+    }))
 }
 
 #[tactic(auto, unfolding(crate::specs::Requests::redistribute_in))]
@@ -159,13 +168,13 @@ fn read_redistribute(
     let path = pairs.needed_text(alloc, "path")?;
     let level = pairs.needed_number("level")?;
     let group = pairs.optional_number("group")?;
-    Ok(Request::Redistribute {
+    Ok(Request::Redistribute(Redistribute {
         incident,
         revision,
         path,
         level,
         group,
-    })
+    }))
 }
 
 #[tactic(auto, unfolding(crate::specs::Requests::grant_in))]
@@ -176,12 +185,12 @@ fn read_grant(alloc: Global, incident: u32, pairs: &Parameters<'_>) -> Result<Re
     let revision = pairs.needed_number("revision")?;
     let path = pairs.needed_text(alloc, "path")?;
     let grantee = pairs.grantee()?;
-    Ok(Request::Grant {
+    Ok(Request::Grant(Grant {
         incident,
         revision,
         path,
         grantee,
-    })
+    }))
 }
 
 #[tactic(auto, unfolding(crate::specs::Requests::withdraw_in))]
@@ -195,11 +204,11 @@ fn read_withdraw(
     pairs.only(&["path", "person", "org", "community", "group"])?;
     let path = pairs.needed_text(alloc, "path")?;
     let grantee = pairs.grantee()?;
-    Ok(Request::Withdraw {
+    Ok(Request::Withdraw(Withdraw {
         incident,
         path,
         grantee,
-    })
+    }))
 }
 
 /// What is posted to the incident of a number.
@@ -216,11 +225,11 @@ fn read_incident_request(
         IncidentChange::Redistribute => read_redistribute(alloc, incident, pairs),
         IncidentChange::Address => {
             let target = pairs.target_alone()?;
-            Ok(Request::Address { incident, target })
+            Ok(Request::Address(Address { incident, target }))
         }
         IncidentChange::Unaddress => {
             let target = pairs.target_alone()?;
-            Ok(Request::Unaddress { incident, target })
+            Ok(Request::Unaddress(Unaddress { incident, target }))
         }
         IncidentChange::Grant => read_grant(alloc, incident, pairs),
         IncidentChange::Withdraw => read_withdraw(alloc, incident, pairs),

@@ -3,7 +3,10 @@
 use crate::bytes::bytes_of;
 use crate::commands::command;
 use hub::Key;
-use hub_core::{Bytes, Request, Target, WantedGates};
+use hub_core::{
+    Address, Bytes, Distribution, Explain, Grant, Redistribute, Request, Search, Target, Unaddress,
+    WantedGates, Withdraw,
+};
 use hub_http::request_of;
 use policy::Grantee;
 use std::alloc::{AllocError, Global};
@@ -60,11 +63,13 @@ fn reading(alloc: Global, request: &Request) -> Result<Option<String>, AllocErro
     let told = match request {
         Request::View { incident } => format!(in alloc; "View {incident}")?,
         Request::List { after } => format!(in alloc; "List after {after}")?,
-        Request::Search {
-            needle,
-            class,
-            after,
-        } => {
+        Request::Search(
+            Search {
+                needle,
+                class,
+                after,
+            },
+        ) => {
             let needle = needle.as_str();
             match class {
                 Some(class) => {
@@ -74,11 +79,13 @@ fn reading(alloc: Global, request: &Request) -> Result<Option<String>, AllocErro
                 None => format!(in alloc; "Search {needle:?} after {after}")?,
             }
         }
-        Request::Explain {
-            person,
-            incident,
-            path,
-        } => {
+        Request::Explain(
+            Explain {
+                person,
+                incident,
+                path,
+            },
+        ) => {
             let path = path.as_str();
             format!(in alloc; "Explain to {person} of {incident} at {path:?}")?
         }
@@ -90,33 +97,27 @@ fn reading(alloc: Global, request: &Request) -> Result<Option<String>, AllocErro
     Ok(Some(told))
 }
 
+fn distribution(alloc: Global, wanted: &Distribution) -> Result<String, AllocError> {
+    let level = wanted.level;
+    let group = group(alloc, wanted.group)?;
+    let gates = gates(alloc, &wanted.gates)?;
+    format!(in alloc; "level {level} group {group} gates{gates}")
+}
+
 /// A request with a document.
 fn posting(alloc: Global, request: &Request) -> Result<Option<String>, AllocError> {
     let told = match request {
-        Request::Post {
-            level,
-            group: wanted,
-            gates: listed,
-            document: body,
-        } => {
-            let group = group(alloc, *wanted)?;
-            let gates = gates(alloc, listed)?;
-            let document = document(alloc, body)?;
-            format!(in alloc; "Post level {level} group {group} gates{gates} document {document}")?
+        Request::Post(asked) => {
+            let distribution = distribution(alloc, &asked.distribution)?;
+            let document = document(alloc, &asked.document)?;
+            format!(in alloc; "Post {distribution} document {document}")?
         }
-        Request::Replace {
-            incident,
-            revision,
-            level,
-            group: wanted,
-            gates: listed,
-            document: body,
-        } => {
-            let group = group(alloc, *wanted)?;
-            let gates = gates(alloc, listed)?;
-            let document = document(alloc, body)?;
+        Request::Replace(asked) => {
+            let (incident, revision) = (asked.incident, asked.revision);
+            let distribution = distribution(alloc, &asked.distribution)?;
+            let document = document(alloc, &asked.document)?;
             format!(in alloc;
-                "Replace {incident} revision {revision} level {level} group {group} gates{gates} document {document}"
+                "Replace {incident} revision {revision} {distribution} document {document}"
             )?
         }
         _ => return Ok(None),
@@ -127,48 +128,58 @@ fn posting(alloc: Global, request: &Request) -> Result<Option<String>, AllocErro
 /// A request that changes who sees an incident.
 fn widening(alloc: Global, request: &Request) -> Result<Option<String>, AllocError> {
     let told = match request {
-        Request::Redistribute {
-            incident,
-            revision,
-            path,
-            level,
-            group: wanted,
-        } => {
+        Request::Redistribute(
+            Redistribute {
+                incident,
+                revision,
+                path,
+                level,
+                group: wanted,
+            },
+        ) => {
             let path = path.as_str();
             let group = group(alloc, *wanted)?;
             format!(in alloc;
                 "Redistribute {incident} revision {revision} {path:?} level {level} group {group}"
             )?
         }
-        Request::Address {
-            incident,
-            target: to,
-        } => {
+        Request::Address(
+            Address {
+                incident,
+                target: to,
+            },
+        ) => {
             let (kind, number) = target(*to);
             format!(in alloc; "Address {incident} {kind} {number}")?
         }
-        Request::Unaddress {
-            incident,
-            target: to,
-        } => {
+        Request::Unaddress(
+            Unaddress {
+                incident,
+                target: to,
+            },
+        ) => {
             let (kind, number) = target(*to);
             format!(in alloc; "Unaddress {incident} {kind} {number}")?
         }
-        Request::Grant {
-            incident,
-            revision,
-            path,
-            grantee: to,
-        } => {
+        Request::Grant(
+            Grant {
+                incident,
+                revision,
+                path,
+                grantee: to,
+            },
+        ) => {
             let path = path.as_str();
             let (kind, number) = grantee(*to);
             format!(in alloc; "Grant {incident} revision {revision} {path:?} {kind} {number}")?
         }
-        Request::Withdraw {
-            incident,
-            path,
-            grantee: from,
-        } => {
+        Request::Withdraw(
+            Withdraw {
+                incident,
+                path,
+                grantee: from,
+            },
+        ) => {
             let path = path.as_str();
             let (kind, number) = grantee(*from);
             format!(in alloc; "Withdraw {incident} {path:?} {kind} {number}")?

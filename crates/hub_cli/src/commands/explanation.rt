@@ -4,7 +4,7 @@ use crate::asking::ask;
 use crate::fault::Fault;
 use crate::status::Status;
 use circle::text::Text;
-use hub_core::Request;
+use hub_core::{Explain, Request};
 use std::io::{Read, Write};
 
 /// Prints the explanation to the administrator whose key is the first line of the input.
@@ -17,10 +17,10 @@ pub fn run<R: Read, W: Write>(
     reader: &mut R,
     writer: &mut W,
 ) -> Result<Status, Fault> {
-    let request = Request::Explain {
+    let request = Request::Explain(Explain {
         person,
         incident: number,
         path: Text::of(rt.alloc(), pointer)?,
-    };
+    });
     ask(rt, store, &request, reader, writer)
 }

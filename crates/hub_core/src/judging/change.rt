@@ -10,14 +10,12 @@ use crate::judging::gate::{is_bad_group, is_bad_level, is_root};
 use crate::judging::stop::{
     Stop, bad_if, other_than, own, path_of, poster, refuse_if, refuse_with,
 };
-use crate::request::Target;
+use crate::request::{Address, Grant, Redistribute, Unaddress, Withdraw};
 use crate::state::{Gate, Permission, Recipient};
 use crate::{GATE_LIMIT, PERMISSION_LIMIT, RECIPIENT_LIMIT};
 use circle::directory::Person;
 use circle::refusal::Code;
-use circle::text::Text;
 use iodef_tree::Path;
-use policy::Grantee;
 use std::alloc::{AllocFailed, Global};
 
 fn one(alloc: Global, edit: Edit) -> Result<Vec<Edit>, AllocFailed<Edit>>
@@ -33,18 +31,23 @@ pub fn address(
     alloc: Global,
     actor: &Person,
     facts: &Facts,
-    incident: u32,
-    target: Target,
+    request: &Address,
 ) -> Result<Vec<Edit>, Stop>
-    ensures asked { Asks (grounds_by facts.now actor.now (ask.Address incident target)) result }
-    ensures made { IfOk result (λ edits. edits.items ≡ edits_by facts.now actor.now (ask.Address incident target)) }
+    ensures asked { Asks (grounds_by facts.now actor.now (ask.Address request.now)) result }
+    ensures made { IfOk result (λ edits. edits.items ≡ edits_by facts.now actor.now (ask.Address request.now)) }
 {
     poster(alloc, actor)?;
     own(alloc, actor, facts)?;
     refuse_if(alloc, !facts.circle.exists, Code::N2)?;
     refuse_if(alloc, facts.circle.stands, Code::S1)?;
     refuse_if(alloc, facts.recipients > RECIPIENT_LIMIT, Code::L1)?;
-    Ok(one(alloc, Edit::PutRecipient(Recipient { incident, target }))?)
+    Ok(one(
+        alloc,
+        Edit::PutRecipient(Recipient {
+            incident: request.incident,
+            target: request.target,
+        }),
+    )?)
 }
 
 /// A recipient taken back; whom it names isn't looked up.
@@ -52,16 +55,21 @@ pub fn unaddress(
     alloc: Global,
     actor: &Person,
     facts: &Facts,
-    incident: u32,
-    target: Target,
+    request: &Unaddress,
 ) -> Result<Vec<Edit>, Stop>
-    ensures asked { Asks (grounds_by facts.now actor.now (ask.Unaddress incident target)) result }
-    ensures made { IfOk result (λ edits. edits.items ≡ edits_by facts.now actor.now (ask.Unaddress incident target)) }
+    ensures asked { Asks (grounds_by facts.now actor.now (ask.Unaddress request.now)) result }
+    ensures made { IfOk result (λ edits. edits.items ≡ edits_by facts.now actor.now (ask.Unaddress request.now)) }
 {
     poster(alloc, actor)?;
     own(alloc, actor, facts)?;
     refuse_if(alloc, !facts.circle.stands, Code::S2)?;
-    Ok(one(alloc, Edit::TakeRecipient(Recipient { incident, target }))?)
+    Ok(one(
+        alloc,
+        Edit::TakeRecipient(Recipient {
+            incident: request.incident,
+            target: request.target,
+        }),
+    )?)
 }
 
 /// A permission at a class, for the revision that the source has seen.
@@ -69,28 +77,29 @@ pub fn grant(
     alloc: Global,
     actor: &Person,
     facts: &Facts,
-    incident: u32,
-    revision: u32,
-    path: &Text,
-    grantee: Grantee,
+    request: &Grant,
 ) -> Result<Vec<Edit>, Stop>
-    ensures asked { Asks (grounds_by facts.now actor.now (ask.Grant incident revision path.now grantee)) result }
-    ensures made { IfOk result (λ edits. edits.items ≡ edits_by facts.now actor.now (ask.Grant incident revision path.now grantee)) }
+    ensures asked { Asks (grounds_by facts.now actor.now (ask.Grant request.now)) result }
+    ensures made { IfOk result (λ edits. edits.items ≡ edits_by facts.now actor.now (ask.Grant request.now)) }
 {
     poster(alloc, actor)?;
-    let path = path_of(alloc, path.as_str(), "path")?;
+    let path = path_of(alloc, request.path.as_str(), "path")?;
     let known = own(alloc, actor, facts)?;
     refuse_if(alloc, !facts.circle.exists, Code::N2)?;
     refuse_if(alloc, !is_class(facts, &path), Code::N3)?;
     refuse_if(alloc, facts.circle.stands, Code::S1)?;
-    refuse_with(alloc, Code::S3, other_than(known.revision, revision))?;
+    refuse_with(
+        alloc,
+        Code::S3,
+        other_than(known.revision, request.revision),
+    )?;
     refuse_if(alloc, facts.permissions > PERMISSION_LIMIT, Code::L1)?;
     Ok(one(
         alloc,
         Edit::PutPermission(Permission {
-            incident,
+            incident: request.incident,
             path,
-            grantee,
+            grantee: request.grantee,
         }),
     )?)
 }
@@ -100,23 +109,21 @@ pub fn withdraw(
     alloc: Global,
     actor: &Person,
     facts: &Facts,
-    incident: u32,
-    path: &Text,
-    grantee: Grantee,
+    request: &Withdraw,
 ) -> Result<Vec<Edit>, Stop>
-    ensures asked { Asks (grounds_by facts.now actor.now (ask.Withdraw incident path.now grantee)) result }
-    ensures made { IfOk result (λ edits. edits.items ≡ edits_by facts.now actor.now (ask.Withdraw incident path.now grantee)) }
+    ensures asked { Asks (grounds_by facts.now actor.now (ask.Withdraw request.now)) result }
+    ensures made { IfOk result (λ edits. edits.items ≡ edits_by facts.now actor.now (ask.Withdraw request.now)) }
 {
     poster(alloc, actor)?;
-    let path = path_of(alloc, path.as_str(), "path")?;
+    let path = path_of(alloc, request.path.as_str(), "path")?;
     own(alloc, actor, facts)?;
     refuse_if(alloc, !facts.circle.stands, Code::S2)?;
     Ok(one(
         alloc,
         Edit::TakePermission {
-            incident,
+            incident: request.incident,
             path,
-            grantee,
+            grantee: request.grantee,
         },
     )?)
 }
@@ -126,24 +133,25 @@ pub fn redistribute(
     alloc: Global,
     actor: &Person,
     facts: &Facts,
-    incident: u32,
-    revision: u32,
-    path: &Text,
-    level: u32,
-    group: Option<u32>,
+    request: &Redistribute,
 ) -> Result<Vec<Edit>, Stop>
-    ensures asked { Asks (grounds_by facts.now actor.now (ask.Redistribute incident revision path.now level group)) result }
-    ensures made { IfOk result (λ edits. edits.items ≡ edits_by facts.now actor.now (ask.Redistribute incident revision path.now level group)) }
+    ensures asked { Asks (grounds_by facts.now actor.now (ask.Redistribute request.now)) result }
+    ensures made { IfOk result (λ edits. edits.items ≡ edits_by facts.now actor.now (ask.Redistribute request.now)) }
 {
     poster(alloc, actor)?;
-    let path = path_of(alloc, path.as_str(), "path")?;
+    let path = path_of(alloc, request.path.as_str(), "path")?;
+    let (incident, level, group) = (request.incident, request.level, request.group);
     bad_if(alloc, is_bad_level(is_root(&path), level), "level")?;
     bad_if(alloc, is_bad_group(level, group), "group")?;
     let known = own(alloc, actor, facts)?;
     refuse_if(alloc, !facts.circle.exists, Code::N2)?;
     refuse_if(alloc, !is_place(facts, &path), Code::N3)?;
     refuse_if(alloc, facts.circle.stands, Code::S1)?;
-    refuse_with(alloc, Code::S3, other_than(known.revision, revision))?;
+    refuse_with(
+        alloc,
+        Code::S3,
+        other_than(known.revision, request.revision),
+    )?;
     refuse_if(alloc, facts.gates > GATE_LIMIT, Code::L1)?;
     let mut edits = Vec::with_capacity(alloc, 2)?;
     edits.push(Edit::TakeGate {

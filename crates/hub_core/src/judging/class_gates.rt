@@ -69,7 +69,7 @@ impl ClassGates {
         level: u8,
         group: Option<u32>,
     ) -> Result<(), AllocError>
-        ensures { OnOk result (edits.new.items ≡ edits.old.items ++ put_gates incident level group self.now) }
+        ensures { OnOk result (edits.new.items ≡ edits.old.items ++ put_gates incident (record { level = level; group = group; gates = self.now })) }
     {
         edits.push(Edit::PutGate(state::Gate {
             incident,

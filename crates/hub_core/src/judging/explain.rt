@@ -8,9 +8,9 @@ use crate::edit::Edit;
 use crate::facts::Facts;
 use crate::judging::change::is_class;
 use crate::judging::stop::{Stop, administrator, path_of, refuse_if};
+use crate::request::Explain;
 use circle::directory::Person;
 use circle::refusal::Code;
-use circle::text::Text;
 use std::alloc::Global;
 
 /// An administrator asks why an active person sees a class of an incident, or doesn't.
@@ -18,15 +18,13 @@ pub fn explain(
     alloc: Global,
     actor: &Person,
     facts: &Facts,
-    person: u32,
-    incident: u32,
-    path: &Text,
+    request: &Explain,
 ) -> Result<Vec<Edit>, Stop>
-    ensures asked { Asks (grounds_by facts.now actor.now (ask.Explain person incident path.now)) result }
-    ensures made { IfOk result (λ edits. edits.items ≡ edits_by facts.now actor.now (ask.Explain person incident path.now)) }
+    ensures asked { Asks (grounds_by facts.now actor.now (ask.Explain request.now)) result }
+    ensures made { IfOk result (λ edits. edits.items ≡ edits_by facts.now actor.now (ask.Explain request.now)) }
 {
     administrator(alloc, actor)?;
-    let path = path_of(alloc, path.as_str(), "path")?;
+    let path = path_of(alloc, request.path.as_str(), "path")?;
     refuse_if(alloc, facts.incident.is_none(), Code::N1)?;
     refuse_if(alloc, !facts.circle.exists, Code::N2)?;
     refuse_if(alloc, !is_class(facts, &path), Code::N3)?;

@@ -5,6 +5,7 @@ ghost use Rattle.hub_core.specs.Refusals.{is_bad_level as is_level_bad, is_bad_g
 ghost use Rattle.hub_core.specs.Asked.{Asks, root_gate};
 
 use crate::judging::stop::{Stop, bad_if};
+use crate::request::Distribution;
 use iodef_tree::Path;
 use std::alloc::Global;
 
@@ -33,10 +34,11 @@ pub fn is_bad_group(level: u32, group: Option<u32>) -> bool
 }
 
 /// The level of the gate at the root of an incident.
-pub fn root_level(alloc: Global, level: u32, group: Option<u32>) -> Result<u8, Stop>
-    ensures asked { Asks (root_gate level group) result }
-    ensures level { IfOk result (λ l. l ≡ level) }
+pub fn root_level(alloc: Global, distribution: &Distribution) -> Result<u8, Stop>
+    ensures asked { Asks (root_gate distribution.now) result }
+    ensures level { IfOk result (λ l. l ≡ distribution.now.level) }
 {
+    let (level, group) = (distribution.level, distribution.group);
     bad_if(alloc, is_bad_level(true, level), "level")?;
     bad_if(alloc, is_bad_group(level, group), "group")?;
     Ok(level as u8)

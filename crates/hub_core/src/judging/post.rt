@@ -6,7 +6,6 @@ ghost use Rattle.hub_core.specs.Judgement.{grounds_by, edits_by};
 ghost use Rattle.hub_core.specs.Asked.{Asks, post_arguments, post_facts};
 ghost use Rattle.hub_core.specs.declared.request.Request.TheVariants as ask;
 
-use crate::bytes::Bytes;
 use crate::edit::Edit;
 use crate::facts::Facts;
 use crate::judging::body::{documents, have_twins, well_marked};
@@ -14,7 +13,7 @@ use crate::judging::class_gates::ClassGates;
 use crate::judging::gate::root_level;
 use crate::judging::posted::Posted;
 use crate::judging::stop::{Stop, bad_if, poster, refuse_if, refuse_with};
-use crate::request::WantedGates;
+use crate::request::Post;
 use crate::state::Incident;
 use crate::{GATE_LIMIT, INCIDENT_LIMIT};
 use circle::directory::Person;
@@ -22,39 +21,28 @@ use circle::refusal::Code;
 use std::alloc::{AllocError, Global};
 
 /// An incident for each Incident of the body, or a refusal and none.
-pub fn post(
-    alloc: Global,
-    actor: &Person,
-    facts: &Facts,
-    level: u32,
-    group: Option<u32>,
-    gates: &WantedGates,
-    body: &Bytes,
-) -> Result<Vec<Edit>, Stop>
-    ensures asked { Asks (grounds_by facts.now actor.now (ask.Post level group gates.now body.now)) result }
-    ensures made { IfOk result (λ edits. edits.items ≡ edits_by facts.now actor.now (ask.Post level group gates.now body.now)) }
+pub fn post(alloc: Global, actor: &Person, facts: &Facts, request: &Post) -> Result<Vec<Edit>, Stop>
+    ensures asked { Asks (grounds_by facts.now actor.now (ask.Post request.now)) result }
+    ensures made { IfOk result (λ edits. edits.items ≡ edits_by facts.now actor.now (ask.Post request.now)) }
 {
     poster(alloc, actor)?;
-    let level = root_level(alloc, level, group)?;
-    let (gates, documents) = arguments(alloc, gates, body)?;
+    let level = root_level(alloc, &request.distribution)?;
+    let (gates, documents) = arguments(alloc, request)?;
     allowed(alloc, facts, &gates, &documents)?;
     let first = facts.circle.count + 1;
+    let group = request.distribution.group;
     Ok(put_incidents(alloc, actor.org, first, level, group, &gates, documents)?)
 }
 
 /// The gates and the documents. Gates are for a single document, since a path would name another class in each.
-fn arguments(
-    alloc: Global,
-    gates: &WantedGates,
-    body: &Bytes,
-) -> Result<(ClassGates, Vec<Posted>), Stop>
-    ensures asked { Asks (post_arguments gates.now body.now) result }
-    ensures gates { IfOk result (λ both. both.0 ≡ gates.now) }
-    ensures documents { IfOk result (λ both. both.1.items ≡ documents_in body.now) }
+fn arguments(alloc: Global, request: &Post) -> Result<(ClassGates, Vec<Posted>), Stop>
+    ensures asked { Asks (post_arguments request.now) result }
+    ensures gates { IfOk result (λ both. both.0 ≡ request.now.distribution.gates) }
+    ensures documents { IfOk result (λ both. both.1.items ≡ documents_in request.now.document) }
 {
-    let wanted = gates.as_slice();
+    let wanted = request.distribution.gates.as_slice();
     let gates = ClassGates::new(alloc, wanted)?;
-    let documents = documents(alloc, body.as_slice())?;
+    let documents = documents(alloc, request.document.as_slice())?;
     let is_ambiguous = documents.len() > 1 && !wanted.is_empty();
     bad_if(alloc, is_ambiguous, "gates")?;
     bad_if(alloc, have_twins(&documents), "IncidentID")?;
@@ -92,7 +80,7 @@ fn put_incidents(
     documents: Vec<Posted>,
 ) -> Result<Vec<Edit>, AllocError>
     requires { first + length documents.items < 2 ^ 32 }
-    ensures { IfOk result (λ edits. edits.items ≡ put_all_incidents source first level group gates.now documents.items) }
+    ensures { IfOk result (λ edits. edits.items ≡ put_all_incidents source first (record { level = level; group = group; gates = gates.now }) documents.items) }
 {
     let mut edits = Vec::new(alloc);
     let mut number = first;

@@ -7,7 +7,6 @@ ghost use Rattle.hub_core.specs.Judgement.{grounds_by, edits_by, put_known};
 ghost use Rattle.hub_core.specs.Asked.{Asks, replace_arguments, replace_facts};
 ghost use Rattle.hub_core.specs.declared.request.Request.TheVariants as ask;
 
-use crate::bytes::Bytes;
 use crate::edit::Edit;
 use crate::facts::{Facts, Known};
 use crate::judging::body::{documents, well_marked};
@@ -15,7 +14,7 @@ use crate::judging::class_gates::ClassGates;
 use crate::judging::gate::root_level;
 use crate::judging::posted::Posted;
 use crate::judging::stop::{Stop, bad_if, other_than, own, poster, refuse_if, refuse_with};
-use crate::request::WantedGates;
+use crate::request::Replace;
 use crate::state::Incident;
 use crate::{GATE_LIMIT, REVISION_LIMIT};
 use circle::directory::Person;
@@ -28,39 +27,37 @@ pub fn replace(
     alloc: Global,
     actor: &Person,
     facts: &Facts,
-    incident: u32,
-    revision: u32,
-    level: u32,
-    group: Option<u32>,
-    gates: &WantedGates,
-    body: &Bytes,
+    request: &Replace,
 ) -> Result<Vec<Edit>, Stop>
-    ensures asked { Asks (grounds_by facts.now actor.now (ask.Replace incident revision level group gates.now body.now)) result }
-    ensures made { IfOk result (λ edits. edits.items ≡ edits_by facts.now actor.now (ask.Replace incident revision level group gates.now body.now)) }
+    ensures asked { Asks (grounds_by facts.now actor.now (ask.Replace request.now)) result }
+    ensures made { IfOk result (λ edits. edits.items ≡ edits_by facts.now actor.now (ask.Replace request.now)) }
 {
     poster(alloc, actor)?;
-    let level = root_level(alloc, level, group)?;
-    let (gates, documents) = arguments(alloc, gates, body)?;
-    let known = allowed(alloc, actor, facts, revision, &gates, &documents)?;
+    let level = root_level(alloc, &request.distribution)?;
+    let (gates, documents) = arguments(alloc, request)?;
+    let known = allowed(alloc, actor, facts, request.revision, &gates, &documents)?;
+    let incident = request.incident;
     let mut edits = next_revision(alloc, incident, known, documents)?;
     edits.push(Edit::TakePolicy(incident))?;
-    gates.put(alloc, &mut edits, incident, level, group)?;
+    gates.put(
+        alloc,
+        &mut edits,
+        incident,
+        level,
+        request.distribution.group,
+    )?;
     Ok(edits)
 }
 
 /// The gates, and the one document.
-fn arguments(
-    alloc: Global,
-    gates: &WantedGates,
-    body: &Bytes,
-) -> Result<(ClassGates, Vec<Posted>), Stop>
-    ensures asked { Asks (replace_arguments gates.now body.now) result }
-    ensures gates { IfOk result (λ both. both.0 ≡ gates.now) }
-    ensures documents { IfOk result (λ both. both.1.items ≡ documents_in body.now) }
+fn arguments(alloc: Global, request: &Replace) -> Result<(ClassGates, Vec<Posted>), Stop>
+    ensures asked { Asks (replace_arguments request.now) result }
+    ensures gates { IfOk result (λ both. both.0 ≡ request.now.distribution.gates) }
+    ensures documents { IfOk result (λ both. both.1.items ≡ documents_in request.now.document) }
     ensures single { IfOk result (λ both. length both.1.items ≤ 1) }
 {
-    let gates = ClassGates::new(alloc, gates.as_slice())?;
-    let documents = documents(alloc, body.as_slice())?;
+    let gates = ClassGates::new(alloc, request.distribution.gates.as_slice())?;
+    let documents = documents(alloc, request.document.as_slice())?;
     bad_if(alloc, documents.len() > 1, "document")?;
     well_marked(alloc, &documents)?;
     Ok((gates, documents))

@@ -9,6 +9,7 @@ use crate::WORD_LIMIT;
 use crate::edit::Edit;
 use crate::facts::Facts;
 use crate::judging::stop::{Stop, bad_if};
+use crate::request::Search;
 use circle::directory::Person;
 use circle::text::Text;
 use std::alloc::Global;
@@ -18,15 +19,13 @@ pub fn search(
     alloc: Global,
     actor: &Person,
     facts: &Facts,
-    needle: &Text,
-    class: &Option<Text>,
-    after: u32,
+    request: &Search,
 ) -> Result<Vec<Edit>, Stop>
-    ensures asked { Asks (grounds_by facts.now actor.now (ask.Search needle.now class.now after)) result }
-    ensures made { IfOk result (λ edits. edits.items ≡ edits_by facts.now actor.now (ask.Search needle.now class.now after)) }
+    ensures asked { Asks (grounds_by facts.now actor.now (ask.Search request.now)) result }
+    ensures made { IfOk result (λ edits. edits.items ≡ edits_by facts.now actor.now (ask.Search request.now)) }
 {
-    bad_if(alloc, is_bad_word(needle), "needle")?;
-    if let Some(class) = class {
+    bad_if(alloc, is_bad_word(&request.needle), "needle")?;
+    if let Some(class) = &request.class {
         bad_if(alloc, is_bad_word(class), "class")?;
     }
     Ok(Vec::new(alloc))

@@ -15,7 +15,7 @@ returns-clause-value g c = λ clean s has sound is.
     let mid : g.Sh.Shelf.doubts c.facts.new.self ≡ 0 = omega (arith, c.find_text.ensures.kept.doubt) in
     let read = c.in_ok-facts.ensures in
     let fine = c.in-Ok.ensures.allowed s (read.value mid s has) in
-    let told = trace_of s c.args.asker.now (person_of c.args.person s.directory) (incident_of c.args.incident s) (pointer_tokens c.args.path.now) in
+    let told = trace_of s c.args.asker.now (person_of c.args.asked.now.person s.directory) (incident_of c.args.asked.now.incident s) (pointer_tokens c.args.asked.now.path) in
     let text = c.in_ok-text-in-Ok.ensures.value clean s (read.kept.content mid s has) sound in
-    let there = explained s c.args.asker.now asker c.args.person c.args.incident c.args.path.now (subst (λ r. refusal_of s asker r ≡ None) is fine) in
+    let there = explained s c.args.asker.now asker c.args.asked.now (subst (λ r. refusal_of s asker r ≡ None) is fine) in
     c.reply_of.ensures told (text ∙ there) ∙ ap (λ refusal. refused_or refusal (Trace told)) (sym fine)

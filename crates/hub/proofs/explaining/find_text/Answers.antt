@@ -14,10 +14,10 @@ returns-clause-value g c = λ clean s has sound.
     let before : g.Sh.Shelf.doubts c.standing_of_person.new.shelf ≡ 0 = omega (arith, next.kept.doubt) in
     let content = sym c.in-Some-2.is ∙ next.value clean s (first.kept.content before s has) in
     let stands = sym c.in-Some.is ∙ first.value before s has in
-    let person = person_of c.args.person s.directory in
-    let incident = incident_of c.args.incident s in
+    let person = person_of c.args.asked.now.person s.directory in
+    let incident = incident_of c.args.asked.now.incident s in
     let P : Option Bytes → Type 0 = λ due. IfOk c.text_of.result (λ text. text ≡ due) in
     subst P
     (text_there s c.args.asker.now person incident c.in-Some-3.path c.in-Some.standing c.in-Some-2.content stands content
     ∙ ap (λ path. text_of s c.args.asker.now person incident path) (sym c.in-Some-3.is ∙ c.in_ok-path.ensures.value))
-    (c.text_of.ensures.told (marked s c.args.incident c.in-Some-2.content sound content))
+    (c.text_of.ensures.told (marked s c.args.asked.now.incident c.in-Some-2.content sound content))

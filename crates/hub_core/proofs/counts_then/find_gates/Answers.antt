@@ -10,4 +10,4 @@ pub returns-in_ok-count-in-Redistribute-clause-value : goal.returns-in_ok-count-
 returns-in_ok-count-in-Redistribute-clause-value g c = λ clean s has there actor.
     let found = c.in_ok-count-in-Redistribute in
     let P : Request → Type 0 = λ r. is_some (looked_up s (incident_asked r)) ≡ true → found.count ≡ gates_then s actor r in
-    subst P (sym c.in-Redistribute.is) (λ known. where_there _ _ _ known (found.ensures.value clean s has c.in-Redistribute.level c.in-Redistribute.group)) there
+    subst P (sym c.in-Redistribute.is) (λ known. where_there _ _ _ known (found.ensures.value clean s has c.in-Redistribute.asked.level c.in-Redistribute.asked.group)) there

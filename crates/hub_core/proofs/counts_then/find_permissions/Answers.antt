@@ -16,8 +16,8 @@ returns-in_ok-count-in-Grant-clause-value g c = λ clean s has there actor.
 
 pub returns-in-Replace-clause-value : goal.returns-in-Replace-clause-value
 returns-in-Replace-clause-value g c = λ clean s has there actor.
-    let n : ℕ = c.in-Replace.incident in
+    let n : ℕ = c.in-Replace.field-0.incident in
     let P : Request → Type 0 = λ r. 0 ≡ permissions_then s actor r in
     subst P (sym c.in-Replace.is)
     (none_then (is_some (incident_of n s)) _
-    (ap (permissions_of n) (exchanged_permissions (incident_of n s) (documents_in c.in-Replace.document) n c.in-Replace.level c.in-Replace.group c.in-Replace.gates s) ∙ none_left n s.permissions))
+    (ap (permissions_of n) (exchanged_permissions (incident_of n s) (documents_in c.in-Replace.field-0.document) n c.in-Replace.field-0.distribution s) ∙ none_left n s.permissions))

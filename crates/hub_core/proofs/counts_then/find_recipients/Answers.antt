@@ -12,10 +12,10 @@ use Rattle.hub_core.proofs.counts_then.find_recipients.Goals as goal
 pub returns-in_ok-count-in-Replace-clause-value : goal.returns-in_ok-count-in-Replace-clause-value
 returns-in_ok-count-in-Replace-clause-value g c = λ clean s has there actor.
     let found = c.in_ok-count-in-Replace in
-    let n : ℕ = c.in-Replace.incident in
+    let n : ℕ = c.in-Replace.asked.incident in
     let P : Request → Type 0 = λ r. is_some (looked_up s (incident_asked r)) ≡ true → found.count ≡ recipients_then s actor r in
     subst P (sym c.in-Replace.is)
     (λ known. where_there _ _ _ known
     (found.ensures.value clean s has
-    ∙ ap (λ (rows : List Recipient). recipients_of n rows) (sym (exchanged_recipients (incident_of n s) (documents_in c.in-Replace.document) n c.in-Replace.level c.in-Replace.group c.in-Replace.gates s))))
+    ∙ ap (λ (rows : List Recipient). recipients_of n rows) (sym (exchanged_recipients (incident_of n s) (documents_in c.in-Replace.asked.document) n c.in-Replace.asked.distribution s))))
     there

@@ -4,28 +4,28 @@ use Rattle.hub_core.proofs.Judged.{refused_in, allowed_in, made_in}
 use Rattle.hub_core.proofs.judging.judge.Goals as goal
 
 pub returns-in-Post-clause-refused : goal.returns-in-Post-clause-refused
-returns-in-Post-clause-refused c = λ s is. refused_in s c.args.actor.now c.args.request.now (ask.Post c.in-Post.level c.in-Post.group c.in-Post.gates c.in-Post.document) c.args.facts.now c.post-judged.result c.answer.result (record { name = c.in-Post.is; plain = refl; facts = is }) c.post-judged.ensures.asked c.answer.ensures.refused
+returns-in-Post-clause-refused c = λ s is. refused_in s c.args.actor.now c.args.request.now (ask.Post c.in-Post.asked) c.args.facts.now c.post.result c.answer.result (record { name = c.in-Post.is; plain = refl; facts = is }) c.post.ensures.asked c.answer.ensures.refused
 
 pub returns-in-Post-clause-allowed : goal.returns-in-Post-clause-allowed
-returns-in-Post-clause-allowed c = λ s is. allowed_in s c.args.actor.now c.args.request.now (ask.Post c.in-Post.level c.in-Post.group c.in-Post.gates c.in-Post.document) c.args.facts.now c.post-judged.result c.answer.result (record { name = c.in-Post.is; plain = refl; facts = is }) c.post-judged.ensures.asked c.answer.ensures.edits
+returns-in-Post-clause-allowed c = λ s is. allowed_in s c.args.actor.now c.args.request.now (ask.Post c.in-Post.asked) c.args.facts.now c.post.result c.answer.result (record { name = c.in-Post.is; plain = refl; facts = is }) c.post.ensures.asked c.answer.ensures.edits
 
 pub returns-in-Post-clause-made : goal.returns-in-Post-clause-made
-returns-in-Post-clause-made c = λ s sound is. made_in (λ edits. edits.items) s c.args.actor.now c.args.request.now (ask.Post c.in-Post.level c.in-Post.group c.in-Post.gates c.in-Post.document) c.args.facts.now c.post-judged.result c.answer.result (record { name = c.in-Post.is; plain = refl; facts = is }) c.post-judged.ensures.asked c.post-judged.ensures.made c.answer.ensures.edits sound
+returns-in-Post-clause-made c = λ s sound is. made_in (λ edits. edits.items) s c.args.actor.now c.args.request.now (ask.Post c.in-Post.asked) c.args.facts.now c.post.result c.answer.result (record { name = c.in-Post.is; plain = refl; facts = is }) c.post.ensures.asked c.post.ensures.made c.answer.ensures.edits sound
 
 pub returns-in-Replace-clause-refused : goal.returns-in-Replace-clause-refused
-returns-in-Replace-clause-refused c = λ s is. refused_in s c.args.actor.now c.args.request.now (ask.Replace c.in-Replace.incident c.in-Replace.revision c.in-Replace.level c.in-Replace.group c.in-Replace.gates c.in-Replace.document) c.args.facts.now c.replace-judged.result c.answer-in-Replace.result (record { name = c.in-Replace.is; plain = refl; facts = is }) c.replace-judged.ensures.asked c.answer-in-Replace.ensures.refused
+returns-in-Replace-clause-refused c = λ s is. refused_in s c.args.actor.now c.args.request.now (ask.Replace c.in-Replace.asked) c.args.facts.now c.replace.result c.answer-in-Replace.result (record { name = c.in-Replace.is; plain = refl; facts = is }) c.replace.ensures.asked c.answer-in-Replace.ensures.refused
 
 pub returns-in-Replace-clause-allowed : goal.returns-in-Replace-clause-allowed
-returns-in-Replace-clause-allowed c = λ s is. allowed_in s c.args.actor.now c.args.request.now (ask.Replace c.in-Replace.incident c.in-Replace.revision c.in-Replace.level c.in-Replace.group c.in-Replace.gates c.in-Replace.document) c.args.facts.now c.replace-judged.result c.answer-in-Replace.result (record { name = c.in-Replace.is; plain = refl; facts = is }) c.replace-judged.ensures.asked c.answer-in-Replace.ensures.edits
+returns-in-Replace-clause-allowed c = λ s is. allowed_in s c.args.actor.now c.args.request.now (ask.Replace c.in-Replace.asked) c.args.facts.now c.replace.result c.answer-in-Replace.result (record { name = c.in-Replace.is; plain = refl; facts = is }) c.replace.ensures.asked c.answer-in-Replace.ensures.edits
 
 pub returns-in-Replace-clause-made : goal.returns-in-Replace-clause-made
-returns-in-Replace-clause-made c = λ s sound is. made_in (λ edits. edits.items) s c.args.actor.now c.args.request.now (ask.Replace c.in-Replace.incident c.in-Replace.revision c.in-Replace.level c.in-Replace.group c.in-Replace.gates c.in-Replace.document) c.args.facts.now c.replace-judged.result c.answer-in-Replace.result (record { name = c.in-Replace.is; plain = refl; facts = is }) c.replace-judged.ensures.asked c.replace-judged.ensures.made c.answer-in-Replace.ensures.edits sound
+returns-in-Replace-clause-made c = λ s sound is. made_in (λ edits. edits.items) s c.args.actor.now c.args.request.now (ask.Replace c.in-Replace.asked) c.args.facts.now c.replace.result c.answer-in-Replace.result (record { name = c.in-Replace.is; plain = refl; facts = is }) c.replace.ensures.asked c.replace.ensures.made c.answer-in-Replace.ensures.edits sound
 
 pub returns-in-Redistribute-clause-refused : goal.returns-in-Redistribute-clause-refused
-returns-in-Redistribute-clause-refused c = λ s is. refused_in s c.args.actor.now c.args.request.now (ask.Redistribute c.in-Redistribute.incident c.in-Redistribute.revision c.in-Redistribute.path c.in-Redistribute.level c.in-Redistribute.group) c.args.facts.now c.redistribute-judged.result c.answer-in-Redistribute.result (record { name = c.in-Redistribute.is; plain = refl; facts = is }) c.redistribute-judged.ensures.asked c.answer-in-Redistribute.ensures.refused
+returns-in-Redistribute-clause-refused c = λ s is. refused_in s c.args.actor.now c.args.request.now (ask.Redistribute c.in-Redistribute.asked) c.args.facts.now c.redistribute.result c.answer-in-Redistribute.result (record { name = c.in-Redistribute.is; plain = refl; facts = is }) c.redistribute.ensures.asked c.answer-in-Redistribute.ensures.refused
 
 pub returns-in-Redistribute-clause-allowed : goal.returns-in-Redistribute-clause-allowed
-returns-in-Redistribute-clause-allowed c = λ s is. allowed_in s c.args.actor.now c.args.request.now (ask.Redistribute c.in-Redistribute.incident c.in-Redistribute.revision c.in-Redistribute.path c.in-Redistribute.level c.in-Redistribute.group) c.args.facts.now c.redistribute-judged.result c.answer-in-Redistribute.result (record { name = c.in-Redistribute.is; plain = refl; facts = is }) c.redistribute-judged.ensures.asked c.answer-in-Redistribute.ensures.edits
+returns-in-Redistribute-clause-allowed c = λ s is. allowed_in s c.args.actor.now c.args.request.now (ask.Redistribute c.in-Redistribute.asked) c.args.facts.now c.redistribute.result c.answer-in-Redistribute.result (record { name = c.in-Redistribute.is; plain = refl; facts = is }) c.redistribute.ensures.asked c.answer-in-Redistribute.ensures.edits
 
 pub returns-in-Redistribute-clause-made : goal.returns-in-Redistribute-clause-made
-returns-in-Redistribute-clause-made c = λ s sound is. made_in (λ edits. edits.items) s c.args.actor.now c.args.request.now (ask.Redistribute c.in-Redistribute.incident c.in-Redistribute.revision c.in-Redistribute.path c.in-Redistribute.level c.in-Redistribute.group) c.args.facts.now c.redistribute-judged.result c.answer-in-Redistribute.result (record { name = c.in-Redistribute.is; plain = refl; facts = is }) c.redistribute-judged.ensures.asked c.redistribute-judged.ensures.made c.answer-in-Redistribute.ensures.edits sound
+returns-in-Redistribute-clause-made c = λ s sound is. made_in (λ edits. edits.items) s c.args.actor.now c.args.request.now (ask.Redistribute c.in-Redistribute.asked) c.args.facts.now c.redistribute.result c.answer-in-Redistribute.result (record { name = c.in-Redistribute.is; plain = refl; facts = is }) c.redistribute.ensures.asked c.redistribute.ensures.made c.answer-in-Redistribute.ensures.edits sound

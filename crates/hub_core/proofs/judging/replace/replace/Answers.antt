@@ -7,8 +7,8 @@ use Rattle.hub_core.proofs.judging.replace.replace.Goals as goal
 
 pub returns-in_err-known-clause-asked : goal.returns-in_err-known-clause-asked
 returns-in_err-known-clause-asked c =
-    let arguments = replace_arguments c.args.gates.now c.args.body.now in
-    let facts = replace_facts c.args.facts.now c.args.actor.now c.args.revision c.args.gates.now (documents_in c.args.body.now) in
+    let arguments = replace_arguments c.args.request.now in
+    let facts = replace_facts c.args.facts.now c.args.actor.now c.args.request.now.revision c.args.request.now.distribution.gates (documents_in c.args.request.now.document) in
     let result = c.from_residual-in_err-known.result in
     let asked : Asks facts result = search rules in
-    fourth (unless_poster c.args.actor.now ∷ []) (root_gate c.args.level c.args.group) arguments facts result c.in_ok-poster.ensures c.in_ok-level.ensures.asked c.in_ok-gates.ensures.asked asked
+    fourth (unless_poster c.args.actor.now ∷ []) (root_gate c.args.request.now.distribution) arguments facts result c.in_ok-poster.ensures c.in_ok-level.ensures.asked c.in_ok-gates.ensures.asked asked
