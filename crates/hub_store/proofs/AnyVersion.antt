@@ -17,11 +17,11 @@ use Rattle.sqlite.specs.Effect.{Database, Reads, RefusesToRead}
 use Rattle.sqlite.specs.Listing.{understood, reads_listing, listing_schema, if_select, IsSourceOf}
 use Rattle.sqlite.specs.State.{State, Shown, IsStatement, IsNoStatement, IsNotRun, FailsToQuery, FailsToShow, IsTooLate, IsUnchanged, IsLive}
 use Rattle.hub_store.specs.Versions.{version_column, version_text, only_u32, version_of}
-use Rattle.hub_store.specs.Failing.{HasReason, SharesTree}
+use Rattle.hub_store.specs.Failing.{HasReason}
 use Rattle.hub_store.proofs.AnySchema.{bare_anywhere}
 use Rattle.hub_store.proofs.Causes.{failed_reason, reason_before}
 use Rattle.hub_store.proofs.Outcomes.{plain_shown}
-use Rattle.hub_store.proofs.Readable.{unread, never_refused}
+use Rattle.hub_store.proofs.Readable.{read_there, never_refused}
 use Rattle.hub_store.proofs.VersionRows.{version_told}
 
 -- the listing has no such table
@@ -90,22 +90,23 @@ by_limit (Some n) command db e h = inl refl
 by_limit None command db e h = inr h
 
 pub unread_reason : (old new : State) (has : Bool) (e : Error) → has ≡ true → has ≡ is_some (version_column old.now.schema) → IsLive old → e ≢ SqliteFailure code.OutOfMemory
-    → FailsToQuery version_text [] old new e ⊎ IsTooLate version_text [] old new e → HasReason old new ⊎ SharesTree old.now.schema
+    → FailsToQuery version_text [] old new e ⊎ IsTooLate version_text [] old new e → HasReason old new
 unfolding FailsToQuery IsNotRun
 unread_reason old new has e up is live other (inl (inl (inl h))) =
     let none = not_read_reason old e h.0 in
-    inr (unread old.now (live h.1.0.was_open).0 (sym is ∙ up) none.0 none.1)
-unread_reason old new has e up is live other (inl (inl (inr h))) = elim (failed_reason old new e ⊥ other h) [ inl reason ↦ inl reason | inr never ↦ absurd never ]
+    let there = read_there old.now (live h.1.0.was_open).0 (sym is ∙ up) in
+    absurd (let both = sym there.1 ∙ none.1 in cc)
+unread_reason old new has e up is live other (inl (inl (inr h))) = elim (failed_reason old new e ⊥ other h) [ inl reason ↦ reason | inr never ↦ absurd never ]
 unread_reason old new has e up is live other (inl (inr h)) =
     let r = refusal_of [] old new e h in
     elim (by_limit old.step_limit r.0.command old.now e r.2) [
-      | inl some ↦ inl (inr (inr some))
+      | inl some ↦ inr (inr some)
       | inr refuses ↦ absurd (never_refused old.now (sym is ∙ up) r.0 e (from_tables old.now.schema r.0 r.1).1 refuses)
     ]
 unread_reason old new has e up is live other (inr h) =
     absurd (let none = (bare_anywhere old.now.schema h.0 (from_tables old.now.schema h.0 h.1.is).1).0 in let some = h.2 in cc)
 
-pub later_reason : (old new : State) (faults : ℕ) (r : Result (Option ℕ) Error) → new.faults ≤ faults → IfErr r (λ e. e ≢ SqliteFailure code.OutOfMemory → HasReason old new ⊎ SharesTree old.now.schema)
-    → IfErr r (λ e. e ≢ SqliteFailure code.OutOfMemory → HasReason old (record new { faults = faults }) ⊎ SharesTree old.now.schema)
+pub later_reason : (old new : State) (faults : ℕ) (r : Result (Option ℕ) Error) → new.faults ≤ faults → IfErr r (λ e. e ≢ SqliteFailure code.OutOfMemory → HasReason old new)
+    → IfErr r (λ e. e ≢ SqliteFailure code.OutOfMemory → HasReason old (record new { faults = faults }))
 later_reason old new faults (Ok x) more h = tt
-later_reason old new faults (Err e) more h = λ other. elim (h other) [ inl reason ↦ inl (reason_before old new (record new { faults = faults }) more reason) | inr unread ↦ inr unread ]
+later_reason old new faults (Err e) more h = λ other. reason_before old new (record new { faults = faults }) more (h other)

@@ -1,9 +1,9 @@
 -- What an opening gives, by what the version's question left.
-use Rattle.std.proofs.Common.{◌≡◌, ◌⊎◌, ℕ, Some}
+use Rattle.std.proofs.Common.{◌≡◌, ℕ, Some}
 use Rattle.sqlite.specs.State.{State, HasCleanDisk, Survives}
 use Rattle.hub_store.specs.declared.sql_shelf.OpenFault.{OpenFault}
 use Rattle.hub_store.specs.declared.sql_shelf.OpenFault.TheVariants.{Failed}
-use Rattle.hub_store.specs.Failing.{HasReason, SharesTree}
+use Rattle.hub_store.specs.Failing.{HasReason}
 use Rattle.hub_store.specs.Keeps.{KeepsCommitted}
 use Rattle.hub_store.specs.Opening.{newest, IsOpenFault, IsOpened, IsRefused}
 use Rattle.hub_store.specs.Versions.{version_of}
@@ -13,5 +13,5 @@ module _ (old new : State) (survives : Survives old new (λ _. ⊥)) (kept : Has
   pub is_opened : (failures : ℕ) → (HasCleanDisk new → version_of old.now ≡ Some newest) → failures ≡ 0 → IsOpened old new failures
   is_opened failures version begun = record { version = version; content = λ clean s has. kept_has old new s (kept clean) has; begun = begun; survives = survives }
 
-  pub is_refused : (fault : OpenFault) → (HasCleanDisk new → IsOpenFault old.now fault) → (HasCleanDisk new → fault ≡ Failed → HasReason old new ⊎ SharesTree old.now.schema) → IsRefused old new fault
+  pub is_refused : (fault : OpenFault) → (HasCleanDisk new → IsOpenFault old.now fault) → (HasCleanDisk new → fault ≡ Failed → HasReason old new) → IsRefused old new fault
   is_refused fault why cause = record { why = why; cause = cause; kept = kept; content = λ clean s has. kept_has old new s (kept clean) has; survives = survives }

@@ -1,21 +1,20 @@
--- The text that asks for the version is read where there is the column, if no other table has the tree of its table.
-use Rattle.std.proofs.Common.{◌≡◌, ◌<◌, ◌+◌, ◌^◌, ◌==◌, inl, inr, ℕ, zero, suc, List, [], ◌∷◌, Bool, true, false, cond, nat_le, is_some, slice_get, option_map, Option, Some, None, Ok, Err, codes, refl, sym, ap, subst, ◌∙◌, add-one, eqb-true, eq-eqb, arith}
+-- The text that asks for the version is read where there is the column.
+use Rattle.std.proofs.Common.{◌≡◌, ◌<◌, ◌+◌, ◌^◌, ◌≤◌, ◌==◌, inl, inr, ℕ, zero, suc, List, [], ◌∷◌, Bool, true, false, cond, nat_le, count_by, is_some, slice_get, option_map, Some, None, Ok, Err, refl, sym, ap, subst, ◌∙◌, add-one, eq-eqb, arith}
 use Rattle.std.specs.List.{find}
 use Rattle.std.proofs.lemmas.Bool.{true≢false}
 use Rattle.std.proofs.lemmas.Bool.Decides.{leb_tells}
-use Rattle.std.proofs.lemmas.Option.{option_and_then_some, slice_get-map}
+use Rattle.std.proofs.lemmas.List.Sums.{sum_by-cons}
+use Rattle.std.proofs.lemmas.Option.{slice_get-map}
 use Rattle.sqlite_schema.specs.declared.schema.Kind.TheVariants as kind
 use Rattle.sqlite_schema.specs.declared.schema.Column.{Column}
 use Rattle.sqlite_schema.specs.declared.schema.Table.{Table}
 use Rattle.sqlite_schema.specs.declared.schema.Schema.{Schema}
 use Rattle.sqlite_schema.specs.declared.command.Command.TheVariants.{Select}
-use Rattle.sqlite_schema.specs.Names.{table_named, column_named, place_of, is_key}
+use Rattle.sqlite_schema.specs.Names.{place_of, is_key}
 use Rattle.sqlite_typing.specs.declared.class.Class.{Class}
 use Rattle.sqlite_typing.specs.Types.{accepts_program, table_classes, row_classes, column_class, class_in}
 use Rattle.sqlite_rules.specs.Lists.{Has}
-use Rattle.sqlite_rules.proofs.ListLemmas.{has_found}
 use Rattle.sqlite_resolve.specs.declared.compiled.Compiled.{Compiled}
-use Rattle.sqlite_resolve.specs.declared.error.CompileError.{CompileError}
 use Rattle.sqlite_resolve.specs.Lowering.{Checked}
 use Rattle.sqlite_resolve.specs.Compile.{compiled}
 use Rattle.sqlite_catalog.specs.Listing.{IsTableRow}
@@ -23,11 +22,10 @@ use Rattle.sqlite_catalog.proofs.LayoutLemmas.{zipped_left}
 use Rattle.sqlite.specs.declared.error.Error.{Error}
 use Rattle.sqlite.specs.Effect.{Database, IsDatabase, RefusesToRead}
 use Rattle.sqlite.specs.Listing.{understood, if_select, misses_table, listing_schema}
-use Rattle.hub_store.specs.Versions.{hub_of, version_column, version_text}
-use Rattle.hub_store.specs.Failing.{SharesTree}
+use Rattle.hub_store.specs.Versions.{version_column, version_text}
 use Rattle.hub_store.proofs.Forms.{program}
 use Rattle.hub_store.proofs.AnySchema.{column_query, asks, reads, typed}
-use Rattle.hub_store.proofs.VersionRows.{some_there, in_list}
+use Rattle.hub_store.proofs.VersionRows.{with_place}
 
 -- ---- lists
 
@@ -36,14 +34,21 @@ slice_has [] k x e = absurd cc
 slice_has (y ∷ xs) zero x e = inl cc
 slice_has (y ∷ xs) (suc k) x e = inr (slice_has xs k x e)
 
-not_missed : {X : Type 0} (p : X → Bool) (xs : List X) (x : X) → Has xs x → p x ≡ true → find p xs ≡ None → ⊥
-not_missed p [] x h is none = h
-not_missed p (y ∷ xs) x h is none = go (p y) refl none h (λ h none. not_missed p xs x h is none)
+passes_counted : {X : Type 0} (p : X → Bool) (xs : List X) (x : X) → Has xs x → p x ≡ true → 1 ≤ count_by p xs
+passes_counted p [] x h is = absurd h
+passes_counted p (y ∷ xs) x (inl same) is = omega (arith, sum_by-cons (λ x. cond (p x) 1 0) y xs, ap {B = ℕ} (λ b. cond b 1 0) (ap p (sym same) ∙ is))
+passes_counted p (y ∷ xs) x (inr later) is = omega (arith, sum_by-cons (λ x. cond (p x) 1 0) y xs, passes_counted p xs x later is)
+
+-- what alone passes is found
+lone_found : {X : Type 0} (p : X → Bool) (xs : List X) (x : X) → count_by p xs ≡ 1 → Has xs x → p x ≡ true → find p xs ≡ Some x
+lone_found p [] x one h is = absurd h
+lone_found p (y ∷ xs) x one h is = go (p y) refl (sym (sum_by-cons (λ x. cond (p x) 1 0) y xs) ∙ one) h (λ one h. lone_found p xs x one h is)
   where
-    go : (b : Bool) → p y ≡ b → cond b (Some y) (find p xs) ≡ None → Has (y ∷ xs) x → (Has xs x → find p xs ≡ None → ⊥) → ⊥
-    go true here none h more = cc
-    go false off none (inl e) more = true≢false (sym is ∙ ap p e ∙ off)
-    go false off none (inr h) more = more h none
+    go : (b : Bool) → p y ≡ b → cond (p y) 1 0 + count_by p xs ≡ 1 → Has (y ∷ xs) x → (count_by p xs ≡ 1 → Has xs x → find p xs ≡ Some x) → cond b (Some y) (find p xs) ≡ Some x
+    go true here one (inl same) more = ap Some (sym same)
+    go true here one (inr later) more = absurd (omega (arith, one, ap {B = ℕ} (λ b. cond b 1 0) here, passes_counted p xs x later is))
+    go false off one (inl same) more = absurd (true≢false (sym is ∙ ap p same ∙ off))
+    go false off one (inr later) more = more (omega (arith, one, ap {B = ℕ} (λ b. cond b 1 0) off)) later
 
 -- ---- the types of the query
 
@@ -66,17 +71,6 @@ typed_by schema tree place row c known there = simp (known, there)
 
 -- ---- the text
 
--- the table and the column are found
-with_place : {P : Type 0} (schema : Schema) → is_some (version_column schema) ≡ true
-    → ((at place : ℕ) (table : Table) (column : Column) → hub_of schema ≡ Some table → table_named schema (codes "hub") ≡ Some at → slice_get schema.tables at ≡ Some table → column_named table (codes "version") ≡ Some place → slice_get table.columns place ≡ Some column → P)
-    → P
-with_place schema there k =
-    let place = some_there (version_column schema) there in
-    option_and_then_some _ (hub_of schema) place.0 place.1 (λ table hub called.
-    option_and_then_some _ (table_named schema (codes "hub")) table hub (λ at has listed.
-    let column = in_list _ table.columns place.0 called in
-    k at place.0 table column.0 hub has listed called column.1))
-
 -- what is compiled is no query of the listing
 understood_as : (schema : Schema) (c : Compiled) → compiled schema version_text ≡ Ok c → understood schema version_text ≡ Ok c
 unfolding understood
@@ -86,31 +80,22 @@ understood_as schema c e = go (compiled schema version_text) e
     go (Ok d) e = e
     go (Err fault) e = absurd cc
 
--- a text that isn't read tells that a tree is shared
-pub unread : (db : Database) → IsDatabase db → is_some (version_column db.schema) ≡ true → (fault : CompileError) → understood db.schema version_text ≡ Err fault → SharesTree db.schema
-unread db sound there fault e =
-    with_place db.schema there (λ at place table column hub has listed called inside.
-    let tables = db.schema.tables in
-    let p : Table → Bool = λ t. t.tree == table.tree in
-    let own : Has tables table = slice_has tables at table listed in
-    let low : table.tree < 65536 = (zipped_left IsTableRow _ tables table sound.lists.listed.tables own).2.described.low in
+-- where there is the column, the text is read
+pub read_there : (db : Database) → IsDatabase db → is_some (version_column db.schema) ≡ true → (c : Compiled) × (understood db.schema version_text ≡ Ok c)
+read_there db sound there =
+    with_place db.schema there (λ at place table column hub alone has listed called inside.
+    let own : Has db.schema.tables table = slice_has db.schema.tables at table listed in
+    let low : table.tree < 65536 = (zipped_left IsTableRow _ db.schema.tables table sound.lists.listed.tables own).2.described.low in
     let class' = class_there table place column inside in
-    let never : find p tables ≡ Some table → ⊥ = λ found.
-    (let known = table_known db.schema table (low_tree table.tree low) found in
+    let found = lone_found (λ (t : Table). t.tree == table.tree) db.schema.tables table alone own (eq-eqb _ _ refl) in
+    let known = table_known db.schema table (low_tree table.tree low) found in
     let it = reads db.schema at place table column has listed called inside (typed_by db.schema table.tree (place_of table place) (row_classes table) class'.0 known class'.1) in
-    absurd (let both = sym (understood_as db.schema it.0 it.1) ∙ e in cc)) in
-    shared db.schema table hub own p (eq-eqb _ _ refl) (λ t same. eqb-true _ _ same) (find p tables) refl never)
-  where
-    shared : (schema : Schema) (table : Table) → hub_of schema ≡ Some table → Has schema.tables table → (p : Table → Bool) → p table ≡ true → ((t : Table) → p t ≡ true → t.tree ≡ table.tree) → (o : Option Table) → find p schema.tables ≡ o → (find p schema.tables ≡ Some table → ⊥) → SharesTree schema
-    shared schema table hub own p self same None none never = absurd (not_missed p schema.tables table own self none)
-    shared schema table hub own p self same (Some first) found never =
-        let h = has_found p schema.tables first found in
-        (table, first, hub, h.0, same first h.1, λ (is : first ≡ table). never (found ∙ ap Some is))
+    (it.0, understood_as db.schema it.0 it.1))
 
 -- with no limit on steps nothing refuses what is understood
 pub never_refused : (db : Database) → is_some (version_column db.schema) ≡ true → (c : Compiled) (e : Error) → compiled db.schema version_text ≡ Ok c → RefusesToRead None c.command db [] e → ⊥
 never_refused db there c e is refuses =
-    with_place db.schema there (λ at place table column hub has listed called inside.
+    with_place db.schema there (λ at place table column hub alone has listed called inside.
     let asked = asks db.schema at place table column has listed called inside c is in
     refused (table.tree) (place_of table place) (column.name ∷ []) (typed db.schema at place table column has listed called inside c is) (subst (λ k. RefusesToRead None k db [] e) asked refuses))
   where

@@ -1,12 +1,12 @@
 -- What an opening gives, and why a store is not opened.
-use Rattle.std.specs.Prelude.{◌≡◌, ◌≢◌, ◌⊎◌, ℕ, Some, None}
+use Rattle.std.specs.Prelude.{◌≡◌, ◌≢◌, ℕ, Some, None}
 use Rattle.sqlite.specs.Effect.{Database}
 use Rattle.sqlite.specs.State.{State, HasCleanDisk, Survives}
 use Rattle.hub_core.specs.State as core
 use Rattle.hub_store.specs.Content.{Has}
 use Rattle.hub_store.specs.Keeps.{KeepsCommitted}
 use Rattle.hub_store.specs.Versions.{version_of}
-use Rattle.hub_store.specs.Failing.{HasReason, SharesTree}
+use Rattle.hub_store.specs.Failing.{HasReason}
 use Rattle.hub_store.specs.declared.sql_shelf.OpenFault.{OpenFault}
 use Rattle.hub_store.specs.declared.sql_shelf.OpenFault.TheVariants.{NotOurs, WrongVersion, Failed, NoMemory}
 
@@ -31,7 +31,7 @@ pub record IsOpened (old new : State) (failures : ℕ) : Type 0 where
 -- The store isn't opened, for this reason. It keeps its last commit, whatever store it is, and so its content. Nothing was written.
 pub record IsRefused (old new : State) (fault : OpenFault) : Type 0 where
   pub why : HasCleanDisk new → IsOpenFault old.now fault
-  pub cause : HasCleanDisk new → fault ≡ Failed → HasReason old new ⊎ SharesTree old.now.schema
+  pub cause : HasCleanDisk new → fault ≡ Failed → HasReason old new
   pub kept : HasCleanDisk new → KeepsCommitted old new
   pub content : HasCleanDisk new → (s : core.State) → Has old s → Has new s
   pub survives : Survives old new (λ _. ⊥)

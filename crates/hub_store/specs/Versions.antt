@@ -1,5 +1,5 @@
 -- The version of the tables.
-use Rattle.std.specs.Prelude.{ℕ, pos, nat_lt, ◌^◌, if◌then◌else◌, List, [], ◌∷◌, map, slice_get, Option, Some, None, option_and_then, codes}
+use Rattle.std.specs.Prelude.{ℕ, pos, nat_lt, ◌==◌, ◌^◌, if◌then◌else◌, List, [], ◌∷◌, map, count_by, slice_get, Option, Some, None, option_and_then, codes}
 use Rattle.sqlite_value.specs.declared.value.Value.{Value}
 use Rattle.sqlite_value.specs.declared.value.Value.TheVariants.{Int}
 use Rattle.sqlite_value.specs.Order.{Row, column}
@@ -9,9 +9,17 @@ use Rattle.sqlite_schema.specs.declared.schema.Schema.{Schema}
 use Rattle.sqlite_schema.specs.Names.{table_named, column_named, place_of}
 use Rattle.sqlite.specs.Effect.{Database}
 
--- the table `hub`, if there is one
+-- how many tables the list of objects gives this tree
+abbrev pub tables_at : Schema → ℕ → ℕ
+tables_at schema tree = count_by (λ (t : Table). t.tree == tree) schema.tables
+
+-- a table that has its tree alone
+abbrev pub if_alone : Schema → Table → Option Table
+if_alone schema table = if tables_at schema table.tree == 1 then Some table else None
+
+-- the table `hub`, if there is one and no other table has its tree
 abbrev pub hub_of : Schema → Option Table
-hub_of schema = option_and_then (slice_get schema.tables) (table_named schema (codes "hub"))
+hub_of schema = option_and_then (if_alone schema) (option_and_then (slice_get schema.tables) (table_named schema (codes "hub")))
 
 -- its column `version`, if there is one
 abbrev pub version_column : Schema → Option ℕ
@@ -32,7 +40,7 @@ abbrev pub only_u32 : List Value → Option ℕ
 only_u32 (Int (pos n) ∷ []) = if nat_lt n (2 ^ 32) then Some n else None
 only_u32 _ = None
 
--- the u32 in the column `version` of the one row of the table `hub`; none where there is no such table, column, row or number
+-- the u32 in the column `version` of the one row of the table `hub`; none where there is no such table, column, row or number, or another table has its tree
 abbrev pub version_of : Database → Option ℕ
 version_of db = only_u32 (versions_by db.trees (hub_of db.schema))
 

@@ -22,7 +22,7 @@ pub const NEWEST: u32 = 1;
 /// Why a store was not opened.
 #[derive(Clone, Copy, Debug, PartialEq, Eq)]
 pub enum OpenFault {
-    /// There is no table `hub` of one row whose column `version` holds a `u32`.
+    /// There is no table `hub` of one row whose column `version` holds a `u32`, or another table has its tree.
     NotOurs,
     /// The tables are of this version.
     WrongVersion(u32),

@@ -1,19 +1,27 @@
 //! The version of the tables.
 
-ghost use Rattle.std.specs.Prelude.{◌≡◌, ◌≢◌, ◌⊎◌, false, map, is_some, IfOk, IfErr};
+ghost use Rattle.std.specs.Prelude.{◌≡◌, ◌≢◌, ◌==◌, false, map, is_some, IfOk, IfErr};
 ghost use Rattle.sqlite_value.specs.Order.{column};
 ghost use Rattle.sqlite.specs.State.{HasCleanDisk, IsLive, KeepsCommit, Survives};
 ghost use Rattle.sqlite.specs.Held.{state};
 ghost use Rattle.hub_store.specs.Keeps.{KeepsCommitted};
-ghost use Rattle.hub_store.specs.Versions.{version_column, only_u32, version_of};
-ghost use Rattle.hub_store.specs.Failing.{HasReason, SharesTree};
+ghost use Rattle.hub_store.specs.Versions.{tables_at, version_column, only_u32, version_of};
+ghost use Rattle.hub_store.specs.Failing.{HasReason};
 
 use crate::told::fault_of;
 use hub_core::ShelfFault;
 use sqlite::{Alter, Connection, Error, ErrorCode, Row, Transaction};
 use sqlite_schema::schema::Schema;
 
-/// Whether there is a table `hub` with a column `version`.
+/// Whether just one table has this tree.
+fn has_one_table(schema: &Schema, tree: u32) -> bool
+    ensures { result ≡ (tables_at schema.now tree == 1) }
+{
+    let tables = schema.tables.as_slice();
+    tables.iter().filter(|table| table.tree == tree).count() == 1
+}
+
+/// Whether there is a table `hub`, which has its tree alone, with a column `version`.
 fn has_version_column(schema: &Schema) -> bool
     ensures { result ≡ is_some (version_column schema.now) }
 {
@@ -21,7 +29,9 @@ fn has_version_column(schema: &Schema) -> bool
         None => false,
         Some(at) => match schema.tables.as_slice().get(at) {
             None => false,
-            Some(table) => table.column_named(b"version").is_some(),
+            Some(table) => {
+                has_one_table(schema, table.tree) && table.column_named(b"version").is_some()
+            }
         },
     }
 }
@@ -52,7 +62,7 @@ fn read_version<S: Alter>(
     ensures kept { HasCleanDisk (state S.Store tx.new.conn.now) → KeepsCommit (state S.Store tx.old.conn.now) (state S.Store tx.new.conn.now) }
     ensures survives { Survives (state S.Store tx.old.conn.now) (state S.Store tx.new.conn.now) (λ _. ⊥) }
     ensures exact { HasCleanDisk (state S.Store tx.new.conn.now) → has_column ≡ is_some (version_column (state S.Store tx.old.conn.now).now.schema) → IfOk result (λ found. found ≡ version_of (state S.Store tx.old.conn.now).now) }
-    ensures cause { HasCleanDisk (state S.Store tx.new.conn.now) → has_column ≡ is_some (version_column (state S.Store tx.old.conn.now).now.schema) → IsLive (state S.Store tx.old.conn.now) → IfErr result (λ e. e ≢ Error.SqliteFailure ErrorCode.OutOfMemory → HasReason (state S.Store tx.old.conn.now) (state S.Store tx.new.conn.now) ⊎ SharesTree (state S.Store tx.old.conn.now).now.schema) }
+    ensures cause { HasCleanDisk (state S.Store tx.new.conn.now) → has_column ≡ is_some (version_column (state S.Store tx.old.conn.now).now.schema) → IsLive (state S.Store tx.old.conn.now) → IfErr result (λ e. e ≢ Error.SqliteFailure ErrorCode.OutOfMemory → HasReason (state S.Store tx.old.conn.now) (state S.Store tx.new.conn.now)) }
 {
     if !has_column {
         return Ok(None);
@@ -71,7 +81,7 @@ fn ask_version<S: Alter>(conn: &mut Connection<S>) -> Result<Option<u32>, Error>
     ensures kept { HasCleanDisk (state S.Store conn.new) → KeepsCommitted (state S.Store conn.old) (state S.Store conn.new) }
     ensures survives { Survives (state S.Store conn.old) (state S.Store conn.new) (λ _. ⊥) }
     ensures exact { HasCleanDisk (state S.Store conn.new) → IfOk result (λ found. found ≡ version_of (state S.Store conn.old).now) }
-    ensures cause { HasCleanDisk (state S.Store conn.new) → IfErr result (λ e. e ≢ Error.SqliteFailure ErrorCode.OutOfMemory → HasReason (state S.Store conn.old) (state S.Store conn.new) ⊎ SharesTree (state S.Store conn.old).now.schema) }
+    ensures cause { HasCleanDisk (state S.Store conn.new) → IfErr result (λ e. e ≢ Error.SqliteFailure ErrorCode.OutOfMemory → HasReason (state S.Store conn.old) (state S.Store conn.new)) }
 {
     let has_column = has_version_column(conn.schema());
     let mut tx = conn.transaction();
@@ -80,14 +90,15 @@ fn ask_version<S: Alter>(conn: &mut Connection<S>) -> Result<Option<u32>, Error>
     found
 }
 
-/// The version that the one row of the table `hub` holds; none where there is no such table, row or number.
+/// The version that the one row of the table `hub` holds; none where there is no such table, row or number, or another table
+/// has its tree.
 pub(crate) fn version<S: Alter>(conn: &mut Connection<S>) -> Result<Option<u32>, ShelfFault>
     requires { conn.old.in_transaction ≡ false }
     ensures idle { conn.new.in_transaction ≡ false }
     ensures kept { HasCleanDisk (state S.Store conn.new) → KeepsCommitted (state S.Store conn.old) (state S.Store conn.new) }
     ensures survives { Survives (state S.Store conn.old) (state S.Store conn.new) (λ _. ⊥) }
     ensures exact { HasCleanDisk (state S.Store conn.new) → IfOk result (λ found. found ≡ version_of (state S.Store conn.old).now) }
-    ensures cause { HasCleanDisk (state S.Store conn.new) → IfErr result (λ fault. fault ≡ ShelfFault.Failed → HasReason (state S.Store conn.old) (state S.Store conn.new) ⊎ SharesTree (state S.Store conn.old).now.schema) }
+    ensures cause { HasCleanDisk (state S.Store conn.new) → IfErr result (λ fault. fault ≡ ShelfFault.Failed → HasReason (state S.Store conn.old) (state S.Store conn.new)) }
 {
     match ask_version(conn) {
         Ok(found) => Ok(found),

@@ -1,10 +1,10 @@
-use Rattle.std.proofs.Common.{◌≡◌, ◌≢◌, ◌⊎◌, ◌∙◌, IfErr, is_some, ap, sym, subst, arith, rules}
+use Rattle.std.proofs.Common.{◌≡◌, ◌≢◌, ◌∙◌, IfErr, is_some, ap, sym, subst, arith, rules}
 use Rattle.sqlite.specs.declared.error.Error.TheVariants.{SqliteFailure}
 use Rattle.sqlite.specs.declared.error.ErrorCode.TheVariants as code
 use Rattle.sqlite.specs.State.{HasCleanDisk}
 use Rattle.sqlite.specs.Held.{state}
 use Rattle.hub_store.specs.Versions.{version_column}
-use Rattle.hub_store.specs.Failing.{HasReason, SharesTree}
+use Rattle.hub_store.specs.Failing.{HasReason}
 use Rattle.hub_store.proofs.AnyVersion.{later_reason}
 use Rattle.hub_store.proofs.version.ask_version.Goals as goal
 
@@ -18,5 +18,5 @@ returns-clause-cause g c clean =
     let before : HasCleanDisk (state g.S.Store mid) = omega (arith, c.rollback.ensures.survives.clean) in
     let is = c.has_version_column-has_column.ensures ∙ ap (λ s. is_some (version_column s)) c.schema.ensures.value in
     let cause = (rw c.transaction-tx.ensures.begun at c.read_version-found.ensures.cause) before is c.schema.ensures.live in
-    subst (λ h. IfErr c.read_version-found.result (λ e. e ≢ SqliteFailure code.OutOfMemory → HasReason old (state g.S.Store h) ⊎ SharesTree old.now.schema)) same
+    subst (λ h. IfErr c.read_version-found.result (λ e. e ≢ SqliteFailure code.OutOfMemory → HasReason old (state g.S.Store h))) same
     (later_reason old (state g.S.Store mid) (state g.S.Store end).faults c.read_version-found.result c.rollback.ensures.survives.counts cause)
