@@ -12,7 +12,7 @@ ghost use Rattle.hub.specs.Serving.{IsCounted, IsServed, due_to, gives_numbers, 
 use crate::asking::Asker;
 use crate::fault::{ample, told};
 use circle::command::{CircleCommand, RowEdit};
-use hub_core::{Edit, Facts, Reply, Request, Shelf, ShelfFault, judge};
+use hub_core::{Code, Edit, Facts, Refusal, Reply, Request, Shelf, ShelfFault, judge, lacks_role};
 use policy::Numbers;
 use std::alloc::{AllocError, Global};
 
@@ -102,6 +102,10 @@ pub fn change<Sh: Shelf>(
     ensures counted { IsCounted Sh.doubts Sh.failed shelf.old shelf.new result }
     ensures kept { is_made_by result ≡ false → KeepsContent Sh.has Sh.doubts Sh.failed Sh.may_leave shelf.old shelf.new }
 {
+    // Who may not post makes the hub read no body.
+    if lacks_role(asker.person, request) {
+        return told(Refusal::bare(alloc, Code::W1));
+    }
     let facts = shelf.facts(asker.person, request)?;
     let edits = match judge(alloc, asker.person, &facts, request) {
         Ok(edits) => edits,

@@ -19,6 +19,7 @@ mod gate;
 mod post;
 mod posted;
 mod replace;
+mod role;
 mod search;
 mod stop;
 
@@ -32,6 +33,7 @@ use directory::judge_command;
 use explain::explain;
 use post::post;
 use replace::replace;
+pub use role::lacks_role;
 use search::search;
 use std::alloc::Global;
 use stop::Stop;

@@ -54,14 +54,17 @@ const READ_LIMIT: u32 = HEAD_LIMIT as u32 + BODY_LIMIT;
 /// How many bytes a read may give.
 const PIECE: usize = 16_384;
 
-/// Reads once, and puts what comes behind the bytes.
-fn read_more<R: Read>(reader: &mut R, bytes: &mut Vec<u8>) -> Result<usize, GatherFault>
+/// Reads once, by way of the piece, and puts what comes behind the bytes.
+fn read_more<R: Read>(
+    reader: &mut R,
+    piece: &mut [u8; PIECE],
+    bytes: &mut Vec<u8>,
+) -> Result<usize, GatherFault>
     ensures grows { IfOk result (λ n. Extends (R.remaining reader.old) (R.remaining reader.new) bytes.old.items bytes.new.items) }
     ensures end { IfOk result (λ n. n ≡ 0 → IsAtEnd (R.remaining reader.new)) }
     ensures fault { IfErr result (λ e. (e ≡ GatherFault.ReadFailed) ⊎ (e ≡ GatherFault.NoMemory)) }
 {
-    let mut piece = [0; PIECE];
-    let count = match reader.read(&mut piece) {
+    let count = match reader.read(piece) {
         Ok(count) => count,
         Err(_) => return Err(GatherFault::ReadFailed),
     };
@@ -86,9 +89,10 @@ fn gather<R: Read>(alloc: Global, reader: &mut R) -> Result<(Key, Request), Gath
     ensures { Gathers (R.remaining reader.old) (R.remaining reader.new) result }
 {
     let mut bytes: Vec<u8> = Vec::new(alloc);
+    let mut piece = [0; PIECE];
     let mut wanted = 1;
     for _ in 0..READ_LIMIT {
-        let count = match read_more(reader, &mut bytes) {
+        let count = match read_more(reader, &mut piece, &mut bytes) {
             Ok(count) => count,
             Err(GatherFault::NoMemory) => return Err(GatherFault::NoMemory),
             Err(_) => return Err(GatherFault::ReadFailed),

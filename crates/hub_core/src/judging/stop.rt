@@ -2,7 +2,7 @@
 ghost use Rattle.std.specs.Prelude.{◌≡◌, [], ◌∷◌, IfOk, option_map, decimal};
 ghost use Rattle.circle.specs.Refusals.{refuse, bad, unless_administrator};
 ghost use Rattle.iodef_tree.specs.Pointer.{pointer_tokens};
-ghost use Rattle.hub_core.specs.Refusals.{because, unless_poster, is_bad_pointer, other_than as told_unless_same};
+ghost use Rattle.hub_core.specs.Refusals.{because, may_post as is_poster, unless_poster, is_bad_pointer, other_than as told_unless_same};
 ghost use Rattle.hub_core.specs.Judgement.{unless_known_own};
 ghost use Rattle.hub_core.specs.Asked.{Asks};
 ghost use Rattle.hub_core.specs.declared.judging.stop.Stop.TheVariants.{NoMemory};
@@ -82,11 +82,17 @@ pub fn administrator(alloc: Global, actor: &Person) -> Result<(), Stop>
 }
 
 /// Posters and coordinators alone post and change incidents.
+pub fn may_post(actor: &Person) -> bool
+    ensures { result ≡ is_poster actor.now.role }
+{
+    matches!(actor.role, Role::Coordinator | Role::Poster)
+}
+
+/// Refuses who may change no incident.
 pub fn poster(alloc: Global, actor: &Person) -> Result<(), Stop>
     ensures { Asks (unless_poster actor.now ∷ []) result }
 {
-    let may_post = matches!(actor.role, Role::Coordinator | Role::Poster);
-    refuse_if(alloc, !may_post, Code::W1)
+    refuse_if(alloc, !may_post(actor), Code::W1)
 }
 
 /// What is known of the incident, where it is there and the actor's organisation posted it.

@@ -29,3 +29,6 @@ returns-in-Redistribute-clause-allowed c = λ s is. allowed_in s c.args.actor.no
 
 pub returns-in-Redistribute-clause-made : goal.returns-in-Redistribute-clause-made
 returns-in-Redistribute-clause-made c = λ s sound is. made_in (λ edits. edits.items) s c.args.actor.now c.args.request.now (ask.Redistribute c.in-Redistribute.asked) c.args.facts.now c.redistribute.result c.answer-in-Redistribute.result (record { name = c.in-Redistribute.is; plain = refl; facts = is }) c.redistribute.ensures.asked c.redistribute.ensures.made c.answer-in-Redistribute.ensures.edits sound
+
+pub returns-in-Grant-clause-refused : goal.returns-in-Grant-clause-refused
+returns-in-Grant-clause-refused c = λ s is. refused_in s c.args.actor.now c.args.request.now (ask.Grant c.in-Grant.asked) c.args.facts.now c.grant.result c.answer-in-Grant.result (record { name = c.in-Grant.is; plain = refl; facts = is }) c.grant.ensures.asked c.answer-in-Grant.ensures.refused

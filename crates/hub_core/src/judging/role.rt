@@ -1,0 +1,28 @@
+//! Who may ask at all.
+ghost use Rattle.std.specs.Prelude.{◌≡◌, true, Some};
+ghost use Rattle.circle.specs.Outcomes.{bare};
+ghost use Rattle.circle.specs.declared.refusal.Code.TheVariants.{W1};
+ghost use Rattle.hub_core.specs.State.{State};
+ghost use Rattle.hub_core.specs.Refusals.{lacks_role as lacks_its_role, refusal_of};
+
+use crate::judging::stop::may_post;
+use crate::request::Request;
+use circle::directory::Person;
+
+/// Whether the request changes an incident and the actor's role forbids that: then it is refused with `W1` in every state,
+/// so nothing needs to be read for it, neither its body nor the shelf.
+pub fn lacks_role(actor: &Person, request: &Request) -> bool
+    ensures value { result ≡ lacks_its_role actor.now request.now }
+    ensures refused { result ≡ true → (s : State) → refusal_of s actor.now request.now ≡ Some (bare W1) }
+{
+    match request {
+        Request::Post(_)
+        | Request::Replace(_)
+        | Request::Redistribute(_)
+        | Request::Address(_)
+        | Request::Unaddress(_)
+        | Request::Grant(_)
+        | Request::Withdraw(_) => !may_post(actor),
+        _ => false,
+    }
+}
