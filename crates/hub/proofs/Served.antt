@@ -13,8 +13,7 @@ use Rattle.circle.specs.declared.directory.Account.{Account}
 use Rattle.circle.specs.declared.directory.Person.{Person}
 use Rattle.circle.specs.declared.command.CircleCommand.{CircleCommand}
 use Rattle.circle.specs.declared.command.CircleCommand.TheVariants.{AddOrg, AddPerson, SuspendPerson, AddClient, RemoveClient, AddCommunity, Join, Leave, Link, Unlink, NewGroup, GroupAdd, GroupRemove, GroupActive, Arrange, CancelArrange, Nominate, Unnominate}
-use Rattle.circle.specs.declared.refusal.Code.{Code}
-use Rattle.circle.specs.declared.refusal.Code.TheVariants.{K1, N1, F1, F2}
+use Rattle.circle.specs.declared.refusal.Code.TheVariants.{N1, F1, F2}
 use Rattle.circle.specs.declared.refusal.Refusal.{Refusal}
 use Rattle.hub_core.specs.State.{State, incident_of}
 use Rattle.hub_core.specs.Sound.{IsSound}

@@ -1,4 +1,4 @@
-use Rattle.std.proofs.Common.{◌≡◌, false, inl, inr, Err, w64, sym, ap, subst, refl, ◌∙◌}
+use Rattle.std.proofs.Common.{inl, inr, Err, w64, sym, ap, subst, refl, ◌∙◌}
 use Rattle.std.specs.Prelude.{ℤ}
 use Rattle.std.proofs.lemmas.Int.{to_z-of_z}
 use Rattle.hub.specs.Replies.{reply_of}

@@ -1,5 +1,4 @@
 use Rattle.std.proofs.Common.{◌≡◌, ◌++◌, [], ◌∷◌, arith, rules}
-use Rattle.hub.specs.Faults.{AreCounted, failures_told}
 use Rattle.hub.proofs.Failures.{counted_on, failure_alone}
 use Rattle.hub.proofs.Runs.{goes_on, runs_sound}
 use Rattle.hub.proofs.hub.Hub.run.Goals as goal
