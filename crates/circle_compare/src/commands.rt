@@ -1,9 +1,9 @@
 //! Generated commands; the numbers that they name are mostly there.
-use crate::dice::Dice;
 use circle::command::CircleCommand;
 use circle::directory::{Handling, Role};
 use circle::text::Text;
 use std::alloc::{AllocError, Global};
+use trying::Dice;
 
 /// How many kinds of commands there are.
 pub const KINDS: u32 = 18;

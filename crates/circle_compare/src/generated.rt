@@ -1,11 +1,10 @@
 //! Generated commands over a directory that they change.
 use crate::changes::obey;
 use crate::commands::{ADMINISTRATORS, KINDS, any_command, any_role};
-use crate::dice::Dice;
 use crate::reads::agree_on_reads;
 use crate::refusals::code_of;
 use crate::rows::World;
-use crate::tally::Tally;
+use crate::tally::note;
 use circle::command::{CircleCommand, Edit};
 use circle::directory::{Person, Role};
 use circle::judge::judge;
@@ -14,6 +13,7 @@ use circle::refusal::{Code, Refusal};
 use circle::text::Text;
 use circle_rows::DirectoryRows;
 use std::alloc::{AllocError, Global};
+use trying::{Dice, Tally};
 
 /// How many commands are asked of one directory.
 const STEPS: u32 = 200;
@@ -198,7 +198,7 @@ fn agree_on_command(
         return Ok(false);
     }
     let wanted = pair.plain.refusal(actor, command);
-    tally.note(kind, code_of(wanted))?;
+    note(tally, kind, code_of(wanted))?;
     let answer = pair.answer(alloc, actor, command);
     let is_same = is_answer(&answer, wanted);
     pair.change(alloc, actor.org, command, answer)?;

@@ -5,7 +5,6 @@
 
 mod changes;
 mod commands;
-mod dice;
 mod facts;
 mod generated;
 mod limits;
@@ -16,7 +15,8 @@ mod tally;
 
 use std::process::ExitCode;
 use std::{env, io};
-use tally::Tally;
+use tally::lines_of;
+use trying::Tally;
 
 /// How many directories, where the words name no number.
 const SEEDS: u64 = 192;
@@ -35,8 +35,7 @@ fn compare(rt: &HostRuntime, tally: &mut Tally, seeds: u64) -> io::Result<bool> 
 
 /// Tells which outcomes each kind of command met.
 fn tell(rt: &HostRuntime, tally: &Tally) -> io::Result<()> {
-    let mut lines = String::new(rt.alloc());
-    tally.push_lines(&mut lines)?;
+    let lines = lines_of(rt.alloc(), tally)?;
     print!(rt; "{lines}")
 }
 

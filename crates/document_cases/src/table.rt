@@ -2,34 +2,7 @@
 
 use crate::{bodies, outlines, pointers};
 use std::alloc::{AllocError, Global};
-
-fn push_piece(all: &mut String, piece: &str) -> Result<(), AllocError> {
-    match piece.split_once('>') {
-        Some((repeated, behind)) => {
-            push_times(all, repeated)?;
-            all.push_str(behind)
-        }
-        None => all.push_str(piece),
-    }
-}
-
-/// The line with each `<3*0,>` written out as `0,0,0,`.
-fn written_out(alloc: Global, line: &str) -> Result<String, AllocError> {
-    let mut all = String::new(alloc);
-    for piece in line.split('<') {
-        push_piece(&mut all, piece)?;
-    }
-    Ok(all)
-}
-
-fn push_times(all: &mut String, repeated: &str) -> Result<(), AllocError> {
-    if let Some((count, part)) = repeated.split_once('*') {
-        for _ in 0..count.parse::<u32>().unwrap_or(0) {
-            all.push_str(part)?;
-        }
-    }
-    Ok(())
-}
+use trying::written_out;
 
 /// What stands in front of the first space, and what stands behind it.
 pub fn parts(line: &str) -> (&str, &str) {

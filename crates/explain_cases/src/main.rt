@@ -3,23 +3,22 @@
 #![tactic(auto)]
 
 mod cases;
-mod unfit;
-mod words;
 
-use cases::Table;
+use cases::answer;
 use std::io;
 use std::io::Read;
+use trying_policy::Report;
 
 fn main(rt: HostRuntime) -> io::Result<()> {
     let alloc = rt.alloc();
     let mut lines = String::new(alloc);
     rt.reader().read_to_string(&mut lines)?;
-    let mut table = Table::new();
+    let mut report = Report::new();
     for line in lines.lines() {
         if line.is_empty() || line.starts_with('#') {
             continue;
         }
-        match table.answer(alloc, line) {
+        match answer(&mut report, alloc, line) {
             Ok(answer) => print!(rt; "{answer}")?,
             Err(unfit) => {
                 let name = unfit.name();

@@ -15,21 +15,20 @@ use Rattle.circle.specs.declared.command.CircleCommand.{CircleCommand}
 use Rattle.circle.specs.declared.command.CircleCommand.TheVariants.{AddOrg, AddPerson, SuspendPerson, AddClient, RemoveClient, AddCommunity, Join, Leave, Link, Unlink, NewGroup, GroupAdd, GroupRemove, GroupActive, Arrange, CancelArrange, Nominate, Unnominate}
 use Rattle.hub_core.specs.declared.TheConstants.{REVISION_LIMIT}
 use Rattle.hub_core.specs.Documents.{Lines, documents_in, made_at}
-use Rattle.hub_core.specs.State.{State, incident_of}
-use Rattle.hub_core.specs.Aftermath.{next_incident, put_gate, put_incident, put_incidents, edits_of}
-use Rattle.hub_core.specs.Facts.{facts_of, looked_up, known}
-use Rattle.hub_core.specs.Refusals.{incident_asked, refusal_of}
-use Rattle.hub_core.specs.Judgement.{next_known, edits_by}
+use Rattle.hub_core.specs.State.{State}
+use Rattle.hub_core.specs.Aftermath.{next_incident, put_gate, put_incident, put_incidents, edits_of, edits_by}
+use Rattle.hub_core.specs.Facts.{facts_of}
+use Rattle.hub_core.specs.Requests.{looked_up, known, known_of, incident_asked}
+use Rattle.hub_core.specs.Refusals.{refusal_of, next_revision}
 use Rattle.hub_core.specs.Laws.{is_reading}
 use Rattle.hub_core.specs.Sound.{IsSound}
 use Rattle.hub_core.proofs.Agrees.{same_edits}
 use Rattle.hub_core.specs.declared.edit.Edit.{Edit}
 use Rattle.hub_core.specs.declared.edit.Edit.TheVariants.{Directory as Row}
 use Rattle.hub_core.specs.declared.facts.Facts.{Facts}
-use Rattle.hub_core.specs.declared.facts.Known.{Known}
 use Rattle.hub_core.specs.declared.state.Incident.{Incident}
 use Rattle.hub_core.specs.declared.reply.Reply.{Reply}
-use Rattle.hub_core.specs.declared.reply.Reply.TheVariants.{Numbers, Revision}
+use Rattle.hub_core.specs.declared.reply.Reply.TheVariants.{Numbers}
 use Rattle.hub_core.specs.declared.request.Distribution.{Distribution}
 use Rattle.hub_core.specs.declared.request.WantedGate.{WantedGate}
 use Rattle.hub_core.specs.declared.request.Request.{Request}
@@ -82,18 +81,14 @@ circle_numbers d a f (Unnominate person) = refl
 
 -- ---- revisions
 
-same_revision : (o : Option Incident) → option_map_or (λ (k : Known). k.revision) (option_map known o) 0 ≡ option_map_or (λ (i : Incident). i.revision) o 0
-same_revision None = refl
-same_revision (Some i) = refl
-
-pub revision_fits : (s : State) (a : Person) (r : Request) → IsSound s → next_known (facts_of s a r) < 2 ^ 32
+pub revision_fits : (s : State) (a : Person) (r : Request) → IsSound s → next_revision (known_of s r) < 2 ^ 32
 revision_fits s a r sound = small (looked_up s (incident_asked r)) (there (incident_asked r))
   where
-    there : (n : Option ℕ) (i : Incident) → looked_up s n ≡ Some i → i.revision ≤ REVISION_LIMIT
+    there : (n : Option ℕ) (i : Incident) → looked_up s n ≡ Some i → i.naming.revision ≤ REVISION_LIMIT
     there None i h = cc
-    there (Some n) i h = found_each (λ (j : Incident). j.revision ≤ REVISION_LIMIT) (λ (j : Incident). j.number == n) s.incidents i h sound.incidents.revisions
+    there (Some n) i h = found_each (λ (j : Incident). j.naming.revision ≤ REVISION_LIMIT) (λ (j : Incident). j.naming.number == n) s.incidents i h sound.incidents.revisions
 
-    small : (o : Option Incident) → ((i : Incident) → o ≡ Some i → i.revision ≤ REVISION_LIMIT) → option_map_or (λ (k : Known). k.revision) (option_map known o) 0 + 1 < 2 ^ 32
+    small : (o : Option Incident) → ((i : Incident) → o ≡ Some i → i.naming.revision ≤ REVISION_LIMIT) → next_revision (option_map known o) < 2 ^ 32
     small None h = omega arith
     small (Some i) h = let low = h i refl in omega (arith, low)
 
@@ -102,7 +97,7 @@ revision_fits s a r sound = small (looked_up s (incident_asked r)) (there (incid
 pub reply_is : (s : State) (now : ℤ) (a : Person) (r : Request) → is_reading r ≡ false → made_reply (facts_of s a r) r (edits_of s a r) ≡ answer_to s now a r
 reply_is s now a (ask.Circle command) h = circle_numbers s.directory a (facts_of s a (ask.Circle command)) command
 reply_is s now a (ask.Post r) h = ap Numbers (numbers_of a.org (next_incident s) r.distribution (documents_in r.document))
-reply_is s now a (ask.Replace r) h = ap (λ k. Revision (k + 1)) (same_revision (incident_of r.incident s))
+reply_is s now a (ask.Replace r) h = refl
 reply_is s now a (ask.Redistribute r) h = refl
 reply_is s now a (ask.Address r) h = refl
 reply_is s now a (ask.Unaddress r) h = refl
@@ -179,9 +174,9 @@ count_fits s a ask.WhoAmI sound = omega arith
 -- ---- what a change settles
 
 pub changed_reply : (s : State) (now : ℤ) (p : Person) (r : Request) (f : Facts) (edits : List Edit) (reply : Reply) → IsSound s → is_reading r ≡ false → f ≡ facts_of s p r → (f.circle.count < 4294967295 → edits ≡ edits_by f p r) →
-    refusal_of s p r ≡ None → (next_known f < 2 ^ 32 → reply ≡ made_reply f r edits) → reply ≡ due_to s now p r
+    refusal_of s p r ≡ None → (next_revision f.incident < 2 ^ 32 → reply ≡ made_reply f r edits) → reply ≡ due_to s now p r
 changed_reply s now p r f edits reply sound changes told is free made =
-    let fits : next_known f < 2 ^ 32 = subst (λ (g : Facts). next_known g < 2 ^ 32) (sym told) (revision_fits s p r sound) in
+    let fits : next_revision f.incident < 2 ^ 32 = subst (λ (g : Facts). next_revision g.incident < 2 ^ 32) (sym told) (revision_fits s p r sound) in
     let few : f.circle.count < 4294967295 = subst (λ (g : Facts). g.circle.count < 4294967295) (sym told) (count_fits s p r sound) in
     let all : edits ≡ edits_of s p r = is few ∙ ap (λ (g : Facts). edits_by g p r) told ∙ same_edits s p r sound in
     made fits

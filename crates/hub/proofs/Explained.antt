@@ -1,5 +1,5 @@
 -- An explanation is there wherever it isn't refused.
-use Rattle.std.proofs.Common.{◌≡◌, Bool, true, false, not, Option, Some, None, cond, refl, sym, ap}
+use Rattle.std.proofs.Common.{◌≡◌, Bool, true, false, not, Option, Some, None, cond, refl, sym, ◌∙◌, ap}
 use Rattle.std.specs.Prelude.{ℤ, is_none, option_map}
 use Rattle.std.specs.Option.{option_map_or}
 use Rattle.std.proofs.lemmas.Bool.{true≢false}
@@ -7,6 +7,7 @@ use Rattle.iodef_tree.specs.Text.{Bytes, Tokens}
 use Rattle.iodef_tree.specs.Paths.{located, has_class}
 use Rattle.iodef_tree.specs.Pointer.{pointer_tokens}
 use Rattle.policy.specs.declared.standing.Standing.{Standing}
+use Rattle.policy.specs.declared.case.Case.{Case}
 use Rattle.explain.specs.Explanation.{Explanation, explanation_of}
 use Rattle.explain.specs.Explained.{explained_at}
 use Rattle.explain.specs.Lines.{trace_text}
@@ -14,14 +15,15 @@ use Rattle.circle.specs.Reads.{person_of}
 use Rattle.circle.specs.declared.directory.Person.{Person}
 use Rattle.circle.proofs.Judged.{passed}
 use Rattle.hub_core.specs.State.{State, incident_of}
-use Rattle.hub_core.specs.Documents.{is_class_in}
-use Rattle.hub_core.specs.Refusals.{grounds, refusal_of}
+use Rattle.hub_core.specs.Documents.{Lines}
+use Rattle.hub_core.specs.Reads.{case_for}
+use Rattle.hub_core.specs.Requests.{known}
+use Rattle.hub_core.specs.Refusals.{is_class_at, grounds, refusal_of}
 use Rattle.hub_core.specs.declared.state.Incident.{Incident}
 use Rattle.hub_core.specs.declared.request.Explain.{Explain}
 use Rattle.hub_core.specs.declared.request.Request.TheVariants as ask
 use Rattle.hub.specs.Told.{standing_at, trace_of}
-use Rattle.hub.specs.Explaining.{standing_between, content_in, text_at, text_of}
-use Rattle.hub.specs.declared.asking.Content.{Content}
+use Rattle.hub.specs.Explaining.{standing_between, text_at, text_of}
 
 -- what is there is told
 told_of : (b : Bool) (text : Bytes) → not b ≡ false → cond b (Some text) None ≡ Some text
@@ -29,8 +31,8 @@ told_of true text h = refl
 told_of false text h = absurd (true≢false h)
 
 there : (s : State) (now : ℤ) (p : Option Person) (i : Option Incident) (path : Option Tokens) →
-    is_none path ≡ false → is_none i ≡ false → not (option_map_or (λ (q : Person). q.active) p false) ≡ false →
-    not (option_map_or (λ (q : Tokens). option_map_or (λ (j : Incident). is_class_in j.document q) i false) path false) ≡ false →
+    is_none path ≡ false → is_none (option_map known i) ≡ false → not (option_map_or (λ (q : Person). q.active) p false) ≡ false →
+    not (option_map_or (is_class_at (option_map (λ (j : Incident). j.document) i)) path false) ≡ false →
     text_of s now p i path ≡ Some (trace_of s now p i path)
 there s now None i path wanted posted active class = absurd (true≢false active)
 there s now (Some p) None path wanted posted active class = absurd (true≢false posted)
@@ -43,35 +45,22 @@ explained s now a r fine =
     let p = passed (grounds s a (ask.Explain r)) fine in
     there s now (person_of r.person s.directory) (incident_of r.incident s) (pointer_tokens r.path) p.1.0 p.1.1.0 p.1.1.1.0 p.1.1.1.1.0
 
--- ---- what is read, and what is missing
+-- ---- what is read
 
-pub no_standing : (s : State) (now : ℤ) (p : Option Person) (i : Option Incident) (path : Option Tokens) → None ≡ standing_between s now p i → None ≡ text_of s now p i path
-no_standing s now None i path h = refl
-no_standing s now (Some p) None path h = refl
-no_standing s now (Some p) (Some i) path h = cc
-
-pub no_content : (s : State) (now : ℤ) (p : Option Person) (i : Option Incident) (path : Option Tokens) → None ≡ option_map (content_in s) i → None ≡ text_of s now p i path
-no_content s now None i path h = refl
-no_content s now (Some p) None path h = refl
-no_content s now (Some p) (Some i) path h = cc
-
-pub no_path : (s : State) (now : ℤ) (p : Option Person) (i : Option Incident) → None ≡ text_of s now p i None
-no_path s now None i = refl
-no_path s now (Some p) None = refl
-no_path s now (Some p) (Some i) = refl
-
-pub text_there : (s : State) (now : ℤ) (p : Option Person) (i : Option Incident) (path : Tokens) (st : Standing) (c : Content) → Some st ≡ standing_between s now p i → Some c ≡ option_map (content_in s) i → text_at c st path ≡ text_of s now p i (Some path)
-text_there s now None i path st c stands content = cc
-text_there s now (Some p) None path st c stands content = cc
-text_there s now (Some p) (Some i) path st c stands content =
-    let same : c ≡ content_in s i = cc in
+pub text_there : (s : State) (now : ℤ) (p : Option Person) (i : Option Incident) (path : Tokens) (st : Standing) (c : Case) (ls : Lines) →
+    Some st ≡ standing_between s now p i → Some c ≡ option_map (case_for s) i → Some ls ≡ option_map (λ (j : Incident). j.document) i → text_at ls c st path ≡ text_of s now p i (Some path)
+text_there s now None i path st c ls stands judged has = cc
+text_there s now (Some p) None path st c ls stands judged has = cc
+text_there s now (Some p) (Some i) path st c ls stands judged has =
+    let lines : ls ≡ i.document = cc in
+    let case : c ≡ case_for s i = cc in
     let so : st ≡ standing_at s now p i = cc in
-    cc
+    ap (λ x. text_at x c st path) lines ∙ ap (λ x. text_at i.document x st path) case ∙ ap (λ x. text_at i.document (case_for s i) x path) so
 
 -- the text of what is explained is that at the class
-pub text_of_explained : (c : Content) (st : Standing) (path : Tokens) (x : Explanation) → explained_at (located c.document) c.case st path ≡ Some x → Some (trace_text x) ≡ text_at c st path
-text_of_explained c st path x h = by_case (has_class (located c.document) path) h
+pub text_of_explained : (ls : Lines) (c : Case) (st : Standing) (path : Tokens) (x : Explanation) → explained_at (located ls) c st path ≡ Some x → Some (trace_text x) ≡ text_at ls c st path
+text_of_explained ls c st path x h = by_case (has_class (located ls) path) h
   where
-    by_case : (b : Bool) → cond b (Some (explanation_of (located c.document) c.case st path)) None ≡ Some x → Some (trace_text x) ≡ cond b (Some (trace_text (explanation_of (located c.document) c.case st path))) None
-    by_case true k = let same : explanation_of (located c.document) c.case st path ≡ x = cc in sym (ap (λ y. Some (trace_text y)) same)
+    by_case : (b : Bool) → cond b (Some (explanation_of (located ls) c st path)) None ≡ Some x → Some (trace_text x) ≡ cond b (Some (trace_text (explanation_of (located ls) c st path))) None
+    by_case true k = let same : explanation_of (located ls) c st path ≡ x = cc in sym (ap (λ y. Some (trace_text y)) same)
     by_case false k = cc

@@ -1,5 +1,4 @@
 pub mod Standings
-pub mod InOrder
 pub mod ShownServed
 pub mod Keeping
 pub mod Numbered

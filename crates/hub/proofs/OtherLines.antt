@@ -11,24 +11,23 @@ use Rattle.iodef_tree.proofs.ReadSound.{readings-are-documents}
 use Rattle.policy.specs.declared.standing.Standing.{Standing}
 use Rattle.policy.specs.declared.gate.Gate.{Gate as CaseGate}
 use Rattle.policy.specs.declared.permission.Permission.{Permission as CasePermission}
-use Rattle.redact.specs.Told.{is_listed, finds, visible_count, kept_outline, withheld_of}
+use Rattle.redact.specs.Told.{is_listed, finds, withheld_of, excerpt_of}
 use Rattle.circle.specs.declared.directory.Person.{Person}
 use Rattle.circle.specs.declared.directory.Account.{Account}
-use Rattle.hub_core.specs.Documents.{Lines, ident_of}
+use Rattle.hub_core.specs.Documents.{Lines}
 use Rattle.hub_core.specs.State.{State, incident_of, incident_number}
-use Rattle.hub_core.specs.Reads.{standing_for, case_for, case_gate, case_permission}
+use Rattle.hub_core.specs.Reads.{standing_for, case_for, its_gates, its_permissions}
 use Rattle.hub_core.specs.Sound.{IsSound, IsAccepted}
 use Rattle.hub_core.specs.declared.state.Incident.{Incident}
 use Rattle.hub_core.specs.declared.state.Gate.{Gate}
 use Rattle.hub_core.specs.declared.state.Permission.{Permission}
-use Rattle.hub.specs.Told.{standing_at, is_served, is_found, is_addressed, in_order}
+use Rattle.hub.specs.Told.{standing_at, is_served, is_found, is_addressed, view_with}
 use Rattle.redact.specs.Alike.{IsMarked, is_hidden_from}
 use Rattle.hub.specs.Alike.{with_document, report_of, HasOtherPlainLines, HasOtherHiddenClass}
 use Rattle.redact.proofs.Filtered.{filter-both, filter-within, filter-map}
 use Rattle.redact.proofs.ToldAlike.{alike-told}
 use Rattle.hub_core.proofs.Keeping.{not_both, turned, found_each}
 use Rattle.hub.proofs.Numbered.{all_found}
-use Rattle.hub.proofs.InOrder.{from_in_order}
 use Rattle.hub.proofs.Standings.{standing_at-any}
 use Rattle.hub.proofs.ToldSame.{TellsSame}
 use Rattle.hub.proofs.OtherUnseen.{known}
@@ -39,9 +38,9 @@ read-document : (doc : Lines) → IsAccepted doc → IsDocument doc
 read-document doc h = subst IsDocument h.among.2 (all-at IsDocument h.docs h.among.0 doc h.among.1 (readings-are-documents h.body h.docs h.read))
 
 -- the document of an incident of a sound state, with its markings
-pub marked-document : (s : State) (i : Incident) → IsSound s → incident_of i.number s ≡ Some i → IsMarked i.document
+pub marked-document : (s : State) (i : Incident) → IsSound s → incident_of i.naming.number s ≡ Some i → IsMarked i.document
 marked-document s i sound at =
-    let accepted : IsAccepted i.document = found_each (λ (x : Incident). IsAccepted x.document) (λ (x : Incident). x.number == i.number) s.incidents i at sound.incidents.documents in
+    let accepted : IsAccepted i.document = found_each (λ (x : Incident). IsAccepted x.document) (λ (x : Incident). x.naming.number == i.naming.number) s.incidents i at sound.incidents.documents in
     record { document = read-document i.document accepted; marked = accepted.marked }
 
 some-same : {X : Type 0} (x y : X) → Some x ≡ Some y → x ≡ y
@@ -57,42 +56,41 @@ told-of-same now p s t i stands cases =
       served = ap (is_listed i.document (case_for s i)) there ∙ ap (λ c. is_listed i.document c (standing_at t now p i)) (sym cases);
       found = λ needle class. ap (λ x. finds i.document (case_for s i) x needle class) there ∙ ap (λ c. finds i.document c (standing_at t now p i) needle class) (sym cases);
       addressed = ap (λ (x : Standing). x.person || x.addressed) there;
-      view = ap (λ x. record { number = i.number; revision = i.revision; source = i.source; classes = visible_count i.document (case_for s i) x; document = kept_outline i.document (case_for s i) x; withheld = in_order (withheld_of i.document (case_for s i) x) }) there
-          ∙ ap (λ c. record { number = i.number; revision = i.revision; source = i.source; classes = visible_count i.document c (standing_at t now p i); document = kept_outline i.document c (standing_at t now p i); withheld = in_order (withheld_of i.document c (standing_at t now p i)) }) (sym cases);
+      view = ap (λ x. option_map (view_with i) (excerpt_of i.document (case_for s i) x)) there ∙ ap (λ c. option_map (view_with i) (excerpt_of i.document c (standing_at t now p i))) (sym cases);
     }
 
-find-other : (n : ℕ) (doc : Lines) (xs : List Incident) → find (λ (i : Incident). i.number == n) (map (other_of n doc) xs) ≡ option_map (redone doc) (find (λ (i : Incident). i.number == n) xs)
+find-other : (n : ℕ) (doc : Lines) (xs : List Incident) → find (λ (i : Incident). i.naming.number == n) (map (other_of n doc) xs) ≡ option_map (redone doc) (find (λ (i : Incident). i.naming.number == n) xs)
 find-other n doc [] = refl
-find-other n doc (x ∷ xs) = by_test (x.number == n) refl (find-other n doc xs)
+find-other n doc (x ∷ xs) = by_test (x.naming.number == n) refl (find-other n doc xs)
   where
-    by_test : (b : Bool) → (x.number == n) ≡ b → find (λ (i : Incident). i.number == n) (map (other_of n doc) xs) ≡ option_map (redone doc) (find (λ (i : Incident). i.number == n) xs) →
-        (let y = (if b then record x { document = doc; ident = ident_of doc } else x) in cond (y.number == n) (Some y) (find (λ (i : Incident). i.number == n) (map (other_of n doc) xs)))
-        ≡ option_map (redone doc) (cond b (Some x) (find (λ (i : Incident). i.number == n) xs))
-    by_test true k ih = cond-true (x.number == n) _ _ k
-    by_test false k ih = cond-false (x.number == n) _ _ k ∙ ih
+    by_test : (b : Bool) → (x.naming.number == n) ≡ b → find (λ (i : Incident). i.naming.number == n) (map (other_of n doc) xs) ≡ option_map (redone doc) (find (λ (i : Incident). i.naming.number == n) xs) →
+        (let y = (if b then redone doc x else x) in cond (y.naming.number == n) (Some y) (find (λ (i : Incident). i.naming.number == n) (map (other_of n doc) xs)))
+        ≡ option_map (redone doc) (cond b (Some x) (find (λ (i : Incident). i.naming.number == n) xs))
+    by_test true k ih = cond-true (x.naming.number == n) _ _ k
+    by_test false k ih = cond-false (x.naming.number == n) _ _ k ∙ ih
 
-module _ (now : ℤ) (a : Account) (s : State) (ss : IsSound s) (there : Contains s.directory.accounts a) (i : Incident) (doc : Lines) (at : incident_of i.number s ≡ Some i)
+module _ (now : ℤ) (a : Account) (s : State) (ss : IsSound s) (there : Contains s.directory.accounts a) (i : Incident) (doc : Lines) (at : incident_of i.naming.number s ≡ Some i)
     (gates : List Gate) (permissions : List Permission) where
   abbrev u : State
-  u = record s { incidents = with_document i.number doc s.incidents; gates = gates; permissions = permissions }
+  u = record s { incidents = with_document i.naming.number doc s.incidents; gates = gates; permissions = permissions }
 
-  pub at-other : incident_of i.number u ≡ Some (redone doc i)
-  at-other = find-other i.number doc s.incidents ∙ ap (option_map (redone doc)) at
+  pub at-other : incident_of i.naming.number u ≡ Some (redone doc i)
+  at-other = find-other i.naming.number doc s.incidents ∙ ap (option_map (redone doc)) at
 
-  module _ (su : IsSound u) (here : ToldOf now a.person s u i (redone doc i)) (elsewhere : (x : Incident) → (x.number == i.number) ≡ false → case_for u x ≡ case_for s x) where
-    each : (xs : List Incident) → AllByRecursion (λ (x : Incident). incident_of x.number s ≡ Some x) xs → AllByRecursion (λ x. ToldOf now a.person s u x (other_of i.number doc x)) xs
+  module _ (su : IsSound u) (here : ToldOf now a.person s u i (redone doc i)) (elsewhere : (x : Incident) → (x.naming.number == i.naming.number) ≡ false → case_for u x ≡ case_for s x) where
+    each : (xs : List Incident) → AllByRecursion (λ (x : Incident). incident_of x.naming.number s ≡ Some x) xs → AllByRecursion (λ x. ToldOf now a.person s u x (other_of i.naming.number doc x)) xs
     each [] h = tt
-    each (x ∷ xs) h = (by_test (x.number == i.number) refl, each xs h.1)
+    each (x ∷ xs) h = (by_test (x.naming.number == i.naming.number) refl, each xs h.1)
       where
-        by_test : (b : Bool) → (x.number == i.number) ≡ b → ToldOf now a.person s u x (if b then record x { document = doc; ident = ident_of doc } else x)
-        by_test true k = subst (λ y. ToldOf now a.person s u y (record y { document = doc; ident = ident_of doc }))
-            (some-same i x (sym at ∙ ap (λ n. incident_of n s) (sym (eqb-true x.number i.number k)) ∙ h.0)) here
+        by_test : (b : Bool) → (x.naming.number == i.naming.number) ≡ b → ToldOf now a.person s u x (if b then redone doc x else x)
+        by_test true k = subst (λ y. ToldOf now a.person s u y (redone doc y))
+            (some-same i x (sym at ∙ ap (λ n. incident_of n s) (sym (eqb-true x.naming.number i.naming.number k)) ∙ h.0)) here
         by_test false k = told-of-same now a.person s u x refl (elsewhere x k)
 
     pub exchanged-told : TellsSame now a s u
     exchanged-told =
         let all = each s.incidents (all_found incident_number 0 s.incidents ss.incidents.numbered.0) in
-        let e = other_of i.number doc in
+        let e = other_of i.naming.number doc in
         record {
           first = known s a ss there;
           second = known u a su there;
@@ -107,12 +105,12 @@ module _ (now : ℤ) (a : Account) (s : State) (ss : IsSound s) (there : Contain
 pub plain-step : (now : ℤ) (a : Account) (s t : State) → IsSound s → IsSound t → Contains s.directory.accounts a → HasOtherPlainLines now a s t → TellsSame now a s t × Contains t.directory.accounts a
 plain-step now a s t ss st there h = subst (λ w. TellsSame now a s w × Contains w.directory.accounts a) (sym h.after) (told, there)
   where
-    told : TellsSame now a s (record s { incidents = with_document h.incident.number h.document s.incidents })
+    told : TellsSame now a s (record s { incidents = with_document h.incident.naming.number h.document s.incidents })
     told = exchanged-told now a s ss there h.incident h.document h.there s.gates s.permissions (subst IsSound h.after st)
-        (told-by now a.person s (record s { incidents = with_document h.incident.number h.document s.incidents }) h.incident h.document refl
+        (told-by now a.person s (record s { incidents = with_document h.incident.naming.number h.document s.incidents }) h.incident h.document refl
         (alike-told (standing_at s now a.person h.incident) (report_of s h.incident h.incident.document) (report_of s h.incident h.document)
         (marked-document s h.incident ss h.there)
-        (marked-document (record s { incidents = with_document h.incident.number h.document s.incidents }) (redone h.document h.incident) (subst IsSound h.after st)
+        (marked-document (record s { incidents = with_document h.incident.naming.number h.document s.incidents }) (redone h.document h.incident) (subst IsSound h.after st)
         (at-other now a s ss there h.incident h.document h.there s.gates s.permissions))
         (inl (h.path, h.lines))))
         (λ x k. refl)
@@ -149,20 +147,20 @@ hidden-step now a s t ss st there h =
     subst (λ w. TellsSame now a s w × Contains w.directory.accounts a) (sym h.after) (hidden-told now a s t ss st there h, there)
   where
     hidden-told : (now : ℤ) (a : Account) (s t : State) → IsSound s → IsSound t → Contains s.directory.accounts a → (h : HasOtherHiddenClass now a s t) →
-        TellsSame now a s (record s { incidents = with_document h.incident.number h.document s.incidents; gates = t.gates; permissions = t.permissions })
+        TellsSame now a s (record s { incidents = with_document h.incident.naming.number h.document s.incidents; gates = t.gates; permissions = t.permissions })
     hidden-told now a s t ss st there h =
         let i = h.incident in
-        let n = h.incident.number in
+        let n = h.incident.naming.number in
         let p = h.path in
-        let su : IsSound (record s { incidents = with_document h.incident.number h.document s.incidents; gates = t.gates; permissions = t.permissions }) = subst IsSound h.after st in
-        let w : State = record s { incidents = with_document h.incident.number h.document s.incidents; gates = t.gates; permissions = t.permissions } in
+        let su : IsSound (record s { incidents = with_document h.incident.naming.number h.document s.incidents; gates = t.gates; permissions = t.permissions }) = subst IsSound h.after st in
+        let w : State = record s { incidents = with_document h.incident.naming.number h.document s.incidents; gates = t.gates; permissions = t.permissions } in
         let stands : standing_at t now a.person i ≡ standing_at s now a.person i =
         standing_at-any t now a.person i ∙ ap (λ x. standing_for x a.person i) h.after ∙ sym (standing_at-any s now a.person i) in
         exchanged-told now a s ss there i h.document h.there t.gates t.permissions su
-        (told-by now a.person s (record s { incidents = with_document h.incident.number h.document s.incidents; gates = t.gates; permissions = t.permissions }) i h.document refl
+        (told-by now a.person s (record s { incidents = with_document h.incident.naming.number h.document s.incidents; gates = t.gates; permissions = t.permissions }) i h.document refl
         (alike-told (standing_at s now a.person i) (report_of s i i.document) (record { lines = h.document; case = case_for t i })
         (marked-document s i ss h.there)
-        (marked-document (record s { incidents = with_document h.incident.number h.document s.incidents; gates = t.gates; permissions = t.permissions }) (redone h.document i) su (at-other now a s ss there i h.document h.there t.gates t.permissions))
+        (marked-document (record s { incidents = with_document h.incident.naming.number h.document s.incidents; gates = t.gates; permissions = t.permissions }) (redone h.document i) su (at-other now a s ss there i h.document h.there t.gates t.permissions))
         (inr (inl (
           p,
           record {
@@ -171,19 +169,19 @@ hidden-step now a s t ss st there h =
             second = ap (λ x. is_hidden_from x p (report_of t i h.document)) (sym stands) ∙ h.second;
             others = h.others;
             source = refl;
-            gates = filter-map (λ (g : CaseGate). not (is_prefix p g.path)) case_gate (filter (λ (g : Gate). g.incident == n) s.gates)
-                ∙ ap (map case_gate) (within-of (λ (g : Gate). g.incident == n) (λ (g : Gate). is_prefix p g.path) s.gates t.gates h.gates)
-                ∙ sym (filter-map (λ (g : CaseGate). not (is_prefix p g.path)) case_gate (filter (λ (g : Gate). g.incident == n) t.gates));
-            permissions = filter-map (λ (x : CasePermission). not (is_prefix p x.path)) case_permission (filter (λ (x : Permission). x.incident == n) s.permissions)
-                ∙ ap (map case_permission) (within-of (λ (x : Permission). x.incident == n) (λ (x : Permission). is_prefix p x.path) s.permissions t.permissions h.permissions)
-                ∙ sym (filter-map (λ (x : CasePermission). not (is_prefix p x.path)) case_permission (filter (λ (x : Permission). x.incident == n) t.permissions));
-            withheld = from_in_order _ _ (h.withheld ∙ ap (λ x. in_order (withheld_of h.document (case_for t i) x)) (same-at now a s t h));
+            gates = filter-map (λ (g : CaseGate). not (is_prefix p g.path)) (λ (g : Gate). g.gate) (filter (λ (g : Gate). g.incident == n) s.gates)
+                ∙ ap (map (λ (g : Gate). g.gate)) (within-of (λ (g : Gate). g.incident == n) (λ (g : Gate). is_prefix p g.gate.path) s.gates t.gates h.gates)
+                ∙ sym (filter-map (λ (g : CaseGate). not (is_prefix p g.path)) (λ (g : Gate). g.gate) (filter (λ (g : Gate). g.incident == n) t.gates));
+            permissions = filter-map (λ (x : CasePermission). not (is_prefix p x.path)) (λ (x : Permission). x.permission) (filter (λ (x : Permission). x.incident == n) s.permissions)
+                ∙ ap (map (λ (x : Permission). x.permission)) (within-of (λ (x : Permission). x.incident == n) (λ (x : Permission). is_prefix p x.permission.path) s.permissions t.permissions h.permissions)
+                ∙ sym (filter-map (λ (x : CasePermission). not (is_prefix p x.path)) (λ (x : Permission). x.permission) (filter (λ (x : Permission). x.incident == n) t.permissions));
+            withheld = h.withheld ∙ ap (withheld_of h.document (case_for t i)) (same-at now a s t h);
           },
         )))))
-        (λ x k. ap (λ gs. record { source = x.source; gates = map case_gate gs; permissions = map case_permission (filter (λ (y : Permission). y.incident == x.number) t.permissions) })
-        (sym (of-others (λ (g : Gate). g.incident) (λ (g : Gate). is_prefix p g.path) n x.number s.gates t.gates k h.gates))
-        ∙ ap (λ xs. record { source = x.source; gates = map case_gate (filter (λ (g : Gate). g.incident == x.number) s.gates); permissions = map case_permission xs })
-        (sym (of-others (λ (y : Permission). y.incident) (λ (y : Permission). is_prefix p y.path) n x.number s.permissions t.permissions k h.permissions)))
+        (λ x k. ap (λ gs. record { source = x.naming.source; gates = map (λ (g : Gate). g.gate) gs; permissions = its_permissions x.naming.number t.permissions })
+        (sym (of-others (λ (g : Gate). g.incident) (λ (g : Gate). is_prefix p g.gate.path) n x.naming.number s.gates t.gates k h.gates))
+        ∙ ap (λ xs. record { source = x.naming.source; gates = its_gates x.naming.number s.gates; permissions = map (λ (y : Permission). y.permission) xs })
+        (sym (of-others (λ (y : Permission). y.incident) (λ (y : Permission). is_prefix p y.permission.path) n x.naming.number s.permissions t.permissions k h.permissions)))
       where
         same-at : (now : ℤ) (a : Account) (s t : State) (h : HasOtherHiddenClass now a s t) → standing_at t now a.person (record h.incident { document = h.document }) ≡ standing_at s now a.person h.incident
         same-at now a s t h = standing_at-any t now a.person (record h.incident { document = h.document }) ∙ ap (λ x. standing_for x a.person h.incident) h.after ∙ sym (standing_at-any s now a.person h.incident)

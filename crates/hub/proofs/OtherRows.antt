@@ -1,6 +1,6 @@
 -- Other permissions, recipients, persons, arrangements and memberships, none of which concern a person.
 use Rattle.std.proofs.Common.{◌≡◌, ◌⊎◌, ℕ, Bool, true, false, List, [], ◌∷◌, refl, sym, ◌∙◌, ap, subst, ◌&&◌, ◌||◌, ◌==◌, if◌then◌else◌, inl, inr}
-use Rattle.std.specs.Prelude.{ℤ, Option, Some, filter, find, map, Contains, option_map}
+use Rattle.std.specs.Prelude.{ℤ, Option, Some, None, filter, find, map, Contains, option_map}
 use Rattle.std.specs.List.{AllByRecursion, list_any, filter_map}
 use Rattle.std.proofs.lemmas.List.{map-id}
 use Rattle.std.proofs.lemmas.List.Elements.{filter_agree}
@@ -10,7 +10,7 @@ use Rattle.policy.specs.declared.standing.Standing.{Standing}
 use Rattle.policy.specs.declared.permission.Grantee.{Grantee}
 use Rattle.policy.specs.declared.permission.Grantee.TheVariants as grantee
 use Rattle.policy.specs.Permissions.{includes, holds_for}
-use Rattle.redact.specs.Told.{is_listed, finds, visible_count, kept_outline, withheld_of}
+use Rattle.redact.specs.Told.{is_listed, finds, excerpt_of}
 use Rattle.circle.specs.Directory.{has_group_being}
 use Rattle.circle.specs.Reads.{group_of, communities_of, memberships_in_groups, share_community, are_connected}
 use Rattle.circle.specs.declared.directory.Person.{Person}
@@ -20,25 +20,25 @@ use Rattle.circle.specs.declared.directory.Arrangement.{Arrangement}
 use Rattle.circle.specs.declared.directory.GroupMember.{GroupMember}
 use Rattle.hub_core.specs.Handlings.{handling_in}
 use Rattle.hub_core.specs.State.{State, incident_of, incident_number, is_recipient_being, same_target}
-use Rattle.hub_core.specs.Reads.{joined, standing_for, case_for, case_permission}
+use Rattle.hub_core.specs.Reads.{joined, standing_for, case_for}
 use Rattle.hub_core.specs.Sound.{IsSound}
 use Rattle.hub_core.specs.declared.request.Target.{Target}
 use Rattle.hub_core.specs.declared.request.Target.TheVariants as target
 use Rattle.hub_core.specs.declared.state.Incident.{Incident}
 use Rattle.hub_core.specs.declared.state.Recipient.{Recipient}
 use Rattle.hub_core.specs.declared.state.Permission.{Permission}
-use Rattle.hub.specs.Told.{standing_at, is_served, is_found, is_addressed, in_order}
+use Rattle.hub.specs.Told.{standing_at, is_served, is_found, is_addressed, view_with}
 use Rattle.redact.specs.Alike.{IsToldAlike}
 use Rattle.redact.proofs.Filtered.{any-each, any-kept, filter-both, filter-within, filter-map}
 use Rattle.redact.proofs.ToldAlike.{alike-told}
 use Rattle.hub.specs.Alike.{report_of, is_own, includes_person, is_org_or_person, staying_permissions, staying_recipients, staying_accounts, staying_arrangements, staying_members, HasOtherRows}
 use Rattle.hub_core.proofs.Keeping.{find_left}
 use Rattle.hub.proofs.Numbered.{all_found}
-use Rattle.hub.proofs.InOrder.{In, in_contained, contains_in, same_in_order}
+use Rattle.redact.proofs.InOrder.{In, in_contained, contains_in}
 use Rattle.hub.proofs.Standings.{standing_at-any}
 use Rattle.hub.proofs.ToldSame.{TellsSame}
 use Rattle.hub.proofs.OtherUnseen.{known}
-use Rattle.hub.proofs.OtherDocument.{ToldOf, page-same, view-same, view_as}
+use Rattle.hub.proofs.OtherDocument.{ToldOf, page-same, view-same}
 use Rattle.hub.proofs.OtherLines.{marked-document}
 
 in-filter : {X : Type 0} (f : X → Bool) (xs : List X) (x : X) → f x ≡ true → In xs x → In (filter f xs) x
@@ -78,13 +78,13 @@ module _ (now : ℤ) (a : Account) (s : State) (accounts : List Account) (arrang
     -- ---- a standing, by what may differ
     abbrev made : Incident → Bool → Bool → Bool → Option Handling → List GroupMember → Standing
     made i person org client arrangement ms = record {
-      source = p.org == i.source;
+      source = p.org == i.naming.source;
       person = person;
       nominated = p.nominated;
       addressed = org;
       client = client;
-      community = share_community p.org i.source s.directory;
-      connected = are_connected p.org i.source s.directory;
+      community = share_community p.org i.naming.source s.directory;
+      connected = are_connected p.org i.naming.source s.directory;
       arrangement = arrangement;
       who = p.number;
       org = p.org;
@@ -94,20 +94,20 @@ module _ (now : ℤ) (a : Account) (s : State) (accounts : List Account) (arrang
     }
 
     abbrev has_in : List Recipient → Incident → Target → Bool
-    has_in rs i x = list_any (is_recipient_being i.number x) rs
+    has_in rs i x = list_any (is_recipient_being i.naming.number x) rs
 
     abbrev client_in : List Recipient → Incident → Client → Bool
-    client_in rs i c = c.client == p.org && (c.org == i.source || has_in rs i (target.Org c.org))
+    client_in rs i c = c.client == p.org && (c.org == i.naming.source || has_in rs i (target.Org c.org))
 
     abbrev arranged_in : List Arrangement → Incident → Option Handling
-    arranged_in xs i = option_map handling_in (option_map (λ (x : Arrangement). x.handling) (find (λ (x : Arrangement). x.source == i.source && x.org == p.org) xs))
+    arranged_in xs i = option_map handling_in (option_map (λ (x : Arrangement). x.handling) (find (λ (x : Arrangement). x.source == i.naming.source && x.org == p.org) xs))
 
     -- a recipient that is the person or an organisation stays
     kept-recipient : (i : Incident) (x : Target) → is_org_or_person now a x ≡ true → has_in s.recipients i x ≡ has_in recipients i x
     kept-recipient i x k =
-        any-kept (is_recipient_being i.number x) (λ (r : Recipient). is_org_or_person now a r.target || is_own now a s r.incident) s.recipients gone
-        ∙ ap (list_any (is_recipient_being i.number x)) same_recipients
-        ∙ sym (any-kept (is_recipient_being i.number x) (λ (r : Recipient). is_org_or_person now a r.target || is_own now a s r.incident) recipients gone)
+        any-kept (is_recipient_being i.naming.number x) (λ (r : Recipient). is_org_or_person now a r.target || is_own now a s r.incident) s.recipients gone
+        ∙ ap (list_any (is_recipient_being i.naming.number x)) same_recipients
+        ∙ sym (any-kept (is_recipient_being i.naming.number x) (λ (r : Recipient). is_org_or_person now a r.target || is_own now a s r.incident) recipients gone)
       where
         differ : (y x : Target) → is_org_or_person now a x ≡ true → is_org_or_person now a y ≡ false → same_target y x ≡ false
         differ (target.Person m) (target.Person n) k g = unequal (m == n) refl
@@ -118,8 +118,8 @@ module _ (now : ℤ) (a : Account) (s : State) (accounts : List Account) (arrang
         differ (target.Person m) (target.Org n) k g = refl
         differ (target.Org m) x k g = absurd (true≢false g)
 
-        gone : (r : Recipient) → (is_org_or_person now a r.target || is_own now a s r.incident) ≡ false → is_recipient_being i.number x r ≡ false
-        gone r g = and_right (r.incident == i.number) (same_target r.target x) (differ r.target x k (or-false (is_org_or_person now a r.target) _ g))
+        gone : (r : Recipient) → (is_org_or_person now a r.target || is_own now a s r.incident) ≡ false → is_recipient_being i.naming.number x r ≡ false
+        gone r g = and_right (r.incident == i.naming.number) (same_target r.target x) (differ r.target x k (or-false (is_org_or_person now a r.target) _ g))
 
     standing-same : (i : Incident) → standing_for s p i ≡ standing_for w p i
     standing-same i =
@@ -131,11 +131,11 @@ module _ (now : ℤ) (a : Account) (s : State) (accounts : List Account) (arrang
         ap (λ b. made i b (has_in s.recipients i (target.Org p.org)) (list_any (client_in s.recipients i) s.directory.clients) (arranged_in s.directory.arrangements i) ms) (kept-recipient i (target.Person p.number) (eq-eqb p.number p.number refl))
         ∙ ap (λ b. made i person b (list_any (client_in s.recipients i) s.directory.clients) (arranged_in s.directory.arrangements i) ms) (kept-recipient i (target.Org p.org) refl)
         ∙ ap (λ b. made i person org b (arranged_in s.directory.arrangements i) ms) (any-each (client_in s.recipients i) (client_in recipients i) s.directory.clients
-        (λ c. ap (λ b. c.client == p.org && (c.org == i.source || b)) (kept-recipient i (target.Org c.org) refl)))
+        (λ c. ap (λ b. c.client == p.org && (c.org == i.naming.source || b)) (kept-recipient i (target.Org c.org) refl)))
         ∙ ap (λ o. made i person org client (option_map handling_in (option_map (λ (x : Arrangement). x.handling) o)) ms)
-        (sym (find_left (λ (x : Arrangement). x.source == i.source && x.org == p.org) (λ (x : Arrangement). x.org == p.org) s.directory.arrangements (λ x k. (and_parts (x.source == i.source) (x.org == p.org) k).1))
-        ∙ ap (find (λ (x : Arrangement). x.source == i.source && x.org == p.org)) same_arrangements
-        ∙ find_left (λ (x : Arrangement). x.source == i.source && x.org == p.org) (λ (x : Arrangement). x.org == p.org) arrangements (λ x k. (and_parts (x.source == i.source) (x.org == p.org) k).1))
+        (sym (find_left (λ (x : Arrangement). x.source == i.naming.source && x.org == p.org) (λ (x : Arrangement). x.org == p.org) s.directory.arrangements (λ x k. (and_parts (x.source == i.naming.source) (x.org == p.org) k).1))
+        ∙ ap (find (λ (x : Arrangement). x.source == i.naming.source && x.org == p.org)) same_arrangements
+        ∙ find_left (λ (x : Arrangement). x.source == i.naming.source && x.org == p.org) (λ (x : Arrangement). x.org == p.org) arrangements (λ x k. (and_parts (x.source == i.naming.source) (x.org == p.org) k).1))
         ∙ ap (made i person org client arrangement) same_members
 
     -- ---- permissions
@@ -150,7 +150,7 @@ module _ (now : ℤ) (a : Account) (s : State) (accounts : List Account) (arrang
     includes-both g = sym (includes-stands blank g) ∙ ap (λ st. includes st g) (standing-same blank) ∙ stands g
       where
         blank : Incident
-        blank = record { number = 0; source = 0; ident = []; revision = 0; document = [] }
+        blank = record { naming = record { number = 0; source = 0; ident = []; revision = 0 }; document = [] }
 
         stands : (g : Grantee) → includes (standing_for w p blank) g ≡ includes_person now a w.directory g
         stands (grantee.Person n) = refl
@@ -159,33 +159,33 @@ module _ (now : ℤ) (a : Account) (s : State) (accounts : List Account) (arrang
         stands (grantee.Group n) = refl
 
     abbrev keeps : Permission → Bool
-    keeps x = includes_person now a s.directory x.grantee || is_own now a s x.incident
+    keeps x = includes_person now a s.directory x.permission.grantee || is_own now a s x.incident
 
     kept-permissions : (i : Incident) → filter (holds_for (standing_at s now p i)) (case_for s i).permissions ≡ filter (holds_for (standing_at s now p i)) (case_for w i).permissions
-    kept-permissions i = one s.permissions ∙ ap (λ xs. map case_permission (filter both xs)) same ∙ sym (one permissions)
+    kept-permissions i = one s.permissions ∙ ap (λ xs. map (λ (x : Permission). x.permission) (filter both xs)) same ∙ sym (one permissions)
       where
         abbrev-of : Permission → Bool
-        abbrev-of x = x.incident == i.number
+        abbrev-of x = x.incident == i.naming.number
 
         both : Permission → Bool
-        both x = x.incident == i.number && holds_for (standing_at s now p i) (case_permission x)
+        both x = x.incident == i.naming.number && holds_for (standing_at s now p i) x.permission
 
-        holds-is : (x : Permission) → holds_for (standing_at s now p i) (case_permission x) ≡ includes_person now a s.directory x.grantee
-        holds-is x = ap (λ st. includes st x.grantee) (standing_at-any s now p i) ∙ includes-stands i x.grantee
+        holds-is : (x : Permission) → holds_for (standing_at s now p i) x.permission ≡ includes_person now a s.directory x.permission.grantee
+        holds-is x = ap (λ st. includes st x.permission.grantee) (standing_at-any s now p i) ∙ includes-stands i x.permission.grantee
 
-        no : (x : Permission) → keeps x ≡ false → (x.incident == i.number && holds_for (standing_at s now p i) (case_permission x)) ≡ false
-        no x g = and_right (x.incident == i.number) _ (holds-is x ∙ or-false (includes_person now a s.directory x.grantee) _ g)
+        no : (x : Permission) → keeps x ≡ false → (x.incident == i.naming.number && holds_for (standing_at s now p i) x.permission) ≡ false
+        no x g = and_right (x.incident == i.naming.number) _ (holds-is x ∙ or-false (includes_person now a s.directory x.permission.grantee) _ g)
 
         same : filter keeps s.permissions ≡ filter keeps permissions
-        same = same_permissions ∙ sym (filter_agree keeps (λ (x : Permission). includes_person now a w.directory x.grantee || is_own now a s x.incident) (λ x. ap (λ b. b || is_own now a s x.incident) (includes-both x.grantee)) permissions)
+        same = same_permissions ∙ sym (filter_agree keeps (λ (x : Permission). includes_person now a w.directory x.permission.grantee || is_own now a s x.incident) (λ x. ap (λ b. b || is_own now a s x.incident) (includes-both x.permission.grantee)) permissions)
 
-        one : (xs : List Permission) → filter (holds_for (standing_at s now p i)) (map case_permission (filter (λ (x : Permission). x.incident == i.number) xs))
-            ≡ map case_permission (filter (λ (x : Permission). x.incident == i.number && holds_for (standing_at s now p i) (case_permission x)) (filter keeps xs))
-        one xs = filter-map (holds_for (standing_at s now p i)) case_permission (filter (λ (x : Permission). x.incident == i.number) xs)
-            ∙ ap (map case_permission) (filter-both (λ (x : Permission). holds_for (standing_at s now p i) (case_permission x)) (λ (x : Permission). x.incident == i.number) xs
-            ∙ filter-within (λ (x : Permission). x.incident == i.number && holds_for (standing_at s now p i) (case_permission x)) keeps xs no)
+        one : (xs : List Permission) → filter (holds_for (standing_at s now p i)) (map (λ (x : Permission). x.permission) (filter (λ (x : Permission). x.incident == i.naming.number) xs))
+            ≡ map (λ (x : Permission). x.permission) (filter (λ (x : Permission). x.incident == i.naming.number && holds_for (standing_at s now p i) x.permission) (filter keeps xs))
+        one xs = filter-map (holds_for (standing_at s now p i)) (λ (x : Permission). x.permission) (filter (λ (x : Permission). x.incident == i.naming.number) xs)
+            ∙ ap (map (λ (x : Permission). x.permission)) (filter-both (λ (x : Permission). holds_for (standing_at s now p i) x.permission) (λ (x : Permission). x.incident == i.naming.number) xs
+            ∙ filter-within (λ (x : Permission). x.incident == i.naming.number && holds_for (standing_at s now p i) x.permission) keeps xs no)
 
-    told-of : IsSound s → (i : Incident) → incident_of i.number s ≡ Some i → ToldOf now p s w i i
+    told-of : IsSound s → (i : Incident) → incident_of i.naming.number s ≡ Some i → ToldOf now p s w i i
     told-of ss i at =
         let st = standing_at s now p i in
         let there : standing_at w now p i ≡ st = standing_at-any w now p i ∙ sym (standing-same i) ∙ sym (standing_at-any s now p i) in
@@ -196,13 +196,10 @@ module _ (now : ℤ) (a : Account) (s : State) (accounts : List Account) (arrang
         record {
           number = refl;
           entry = refl;
-          served = h.listed ∙ sym (ap (is_listed i.document c) there);
-          found = λ needle class. h.found needle class ∙ sym (ap (λ x. finds i.document c x needle class) there);
+          served = h.met None None ∙ sym (ap (is_listed i.document c) there);
+          found = λ needle class. h.met (Some needle) class ∙ sym (ap (λ x. finds i.document c x needle class) there);
           addressed = sym (ap (λ (x : Standing). x.person || x.addressed) there);
-          view = ap (λ (n : ℕ). view_as i n (kept_outline i.document (case_for s i) st) (in_order (withheld_of i.document (case_for s i) st))) h.count
-              ∙ ap (λ ls. view_as i (visible_count i.document c st) ls (in_order (withheld_of i.document (case_for s i) st))) h.outline
-              ∙ ap (view_as i (visible_count i.document c st) (kept_outline i.document c st)) (same_in_order _ _ h.withheld)
-              ∙ sym (ap (λ x. view_as i (visible_count i.document c x) (kept_outline i.document c x) (in_order (withheld_of i.document c x))) there);
+          view = ap (option_map (view_with i)) (h.excerpt ∙ sym (ap (excerpt_of i.document c) there));
         }
 
     pub rows-told : IsSound s → IsSound w → Contains s.directory.accounts a → TellsSame now a s w × Contains w.directory.accounts a
@@ -224,7 +221,7 @@ module _ (now : ℤ) (a : Account) (s : State) (accounts : List Account) (arrang
           there',
         )
       where
-        each : (xs : List Incident) → AllByRecursion (λ (x : Incident). incident_of x.number s ≡ Some x) xs → AllByRecursion (λ x. ToldOf now p s w x x) xs
+        each : (xs : List Incident) → AllByRecursion (λ (x : Incident). incident_of x.naming.number s ≡ Some x) xs → AllByRecursion (λ x. ToldOf now p s w x x) xs
         each [] f = tt
         each (x ∷ xs) f = (told-of ss x f.0, each xs f.1)
 

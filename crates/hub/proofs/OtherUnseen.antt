@@ -1,5 +1,5 @@
 -- An incident of which a person sees nothing may be anything.
-use Rattle.std.proofs.Common.{◌≡◌, ◌≢◌, inl, inr, bytes_eq, ℕ, Bool, true, false, not, List, [], ◌∷◌, refl, sym, ◌∙◌, ap, subst, ◌&&◌, ◌||◌, ◌==◌, if◌then◌else◌, cond}
+use Rattle.std.proofs.Common.{◌≡◌, ◌≢◌, inl, inr, bytes_eq, ℕ, Bool, true, false, not, List, [], ◌∷◌, refl, sym, ◌∙◌, ap, subst, ◌&&◌, ◌||◌, ◌==◌, cond}
 use Rattle.std.specs.Prelude.{ℤ, Option, Some, None, filter, find, map, take, nat_lt, Contains}
 use Rattle.std.specs.List.{AllByRecursion, list_any}
 use Rattle.std.specs.Option.{option_map_or}
@@ -11,7 +11,7 @@ use Rattle.circle.specs.declared.directory.Person.{Person}
 use Rattle.circle.specs.declared.directory.Account.{Account}
 use Rattle.circle.specs.declared.directory.Client.{Client}
 use Rattle.hub_core.specs.State.{State, incident_of, incident_number, is_recipient_being}
-use Rattle.hub_core.specs.Reads.{groups_of, standing_for, case_for, case_gate, case_permission, entry_of}
+use Rattle.hub_core.specs.Reads.{groups_of, standing_for, case_for, its_gates, its_permissions, entry_of}
 use Rattle.hub_core.specs.Sound.{IsSound}
 use Rattle.hub_core.specs.declared.request.Target.{Target}
 use Rattle.hub_core.specs.declared.request.Target.TheVariants as target
@@ -20,13 +20,11 @@ use Rattle.hub_core.specs.declared.state.Gate.{Gate}
 use Rattle.hub_core.specs.declared.state.Recipient.{Recipient}
 use Rattle.hub_core.specs.declared.state.Permission.{Permission}
 use Rattle.hub.specs.declared.TheConstants.{PAGE_LIMIT}
-use Rattle.hub.specs.Told.{standing_at, is_served, is_found, is_addressed, view_of, in_order}
+use Rattle.hub.specs.Told.{standing_at, is_served, is_found, is_addressed, view_with}
 use Rattle.redact.proofs.Filtered.{each-from, any-each, any-kept, filter-within, filter-passing, filter-both, filter-agree}
 use Rattle.redact.proofs.Promised.{found-listed}
-use Rattle.hub_core.specs.declared.reply.View.{View as ViewOf}
-use Rattle.hub_core.specs.declared.reply.Reply.TheVariants.{View}
 use Rattle.hub.proofs.ToldSame.{TellsSame}
-use Rattle.hub.specs.Replies.{page_of, caller_of, if_active, viewed, nothing_for_you}
+use Rattle.hub.specs.Replies.{page_of, caller_of, if_active, viewed, view_or_nothing, nothing_for_you}
 use Rattle.hub.specs.declared.key.Key.TheVariants.{Digest}
 use Rattle.circle.specs.Sound.{Pairwise}
 use Rattle.circle.specs.Reads.{person_in}
@@ -34,21 +32,21 @@ use Rattle.iodef_tree.proofs.Order.{bytes_eq-true, bytes_eq-refl}
 use Rattle.std.specs.Prelude.{option_map}
 use Rattle.hub.specs.Alike.{HasOtherUnseenIncident}
 use Rattle.hub_core.proofs.Keeping.{not_both, turned, find_left, found_is}
-use Rattle.hub.proofs.InOrder.{In, in_contained}
+use Rattle.redact.proofs.InOrder.{In, in_contained}
 use Rattle.hub.proofs.Numbered.{all_found}
 use Rattle.hub.proofs.Standings.{standing_at-any}
-use Rattle.redact.specs.Told.{is_listed, finds, visible_count, kept_outline, withheld_of}
+use Rattle.redact.specs.Told.{is_listed, finds, told_of, excerpt_of}
 use Rattle.policy.specs.declared.case.Case.{Case}
 
 abbrev pub other : ℕ → Incident → Bool
-other n i = not (i.number == n)
+other n i = not (i.naming.number == n)
 
 -- a page of those above a number, of lists that agree but for an incident on which both tests fail
 page-but : (n after : ℕ) (f g : Incident → Bool) (xs ys : List Incident) → filter (other n) xs ≡ filter (other n) ys →
     ((i : Incident) → other n i ≡ true → f i ≡ g i) → AllByRecursion (λ i. other n i ≡ false → f i ≡ false) xs → AllByRecursion (λ i. other n i ≡ false → g i ≡ false) ys →
-    filter f (filter (λ (i : Incident). nat_lt after i.number) xs) ≡ filter g (filter (λ (i : Incident). nat_lt after i.number) ys)
+    filter f (filter (λ (i : Incident). nat_lt after i.naming.number) xs) ≡ filter g (filter (λ (i : Incident). nat_lt after i.naming.number) ys)
 page-but n after f g xs ys same agree none none' =
-    let up : Incident → Bool = λ i. nat_lt after i.number in
+    let up : Incident → Bool = λ i. nat_lt after i.naming.number in
     filter-both f up xs
     ∙ filter-passing (λ i. up i && f i) (other n) xs (both f xs none)
     ∙ filter-agree (λ i. up i && f i) (λ i. up i && g i) (other n) xs (λ i k. ap (λ b. up i && b) (agree i k))
@@ -60,18 +58,18 @@ page-but n after f g xs ys same agree none none' =
     late true b h = h
     late false b h = refl
 
-    both : (test : Incident → Bool) (zs : List Incident) → AllByRecursion (λ i. other n i ≡ false → test i ≡ false) zs → AllByRecursion (λ i. other n i ≡ false → (nat_lt after i.number && test i) ≡ false) zs
-    both test zs h = each-from (λ i. other n i ≡ false → test i ≡ false) (λ i. other n i ≡ false → (nat_lt after i.number && test i) ≡ false) (λ i e k. late (nat_lt after i.number) (test i) (e k)) zs h
+    both : (test : Incident → Bool) (zs : List Incident) → AllByRecursion (λ i. other n i ≡ false → test i ≡ false) zs → AllByRecursion (λ i. other n i ≡ false → (nat_lt after i.naming.number && test i) ≡ false) zs
+    both test zs h = each-from (λ i. other n i ≡ false → test i ≡ false) (λ i. other n i ≡ false → (nat_lt after i.naming.number && test i) ≡ false) (λ i e k. late (nat_lt after i.naming.number) (test i) (e k)) zs h
 
 -- what is asked of the incident of a number is asked of each that has the number
 none-of : (s : State) (n : ℕ) (test : Incident → Bool) → IsSound s → option_map_or test (incident_of n s) false ≡ false → AllByRecursion (λ i. other n i ≡ false → test i ≡ false) s.incidents
 none-of s n test sound h = each s.incidents (all_found incident_number 0 s.incidents sound.incidents.numbered.0)
   where
-    each : (is : List Incident) → AllByRecursion (λ (i : Incident). incident_of i.number s ≡ Some i) is → AllByRecursion (λ i. other n i ≡ false → test i ≡ false) is
+    each : (is : List Incident) → AllByRecursion (λ (i : Incident). incident_of i.naming.number s ≡ Some i) is → AllByRecursion (λ i. other n i ≡ false → test i ≡ false) is
     each [] f = tt
     each (i ∷ is) f = (
       λ k.
-          let at : i.number ≡ n = eqb-true i.number n (not-false (i.number == n) k) in
+          let at : i.naming.number ≡ n = eqb-true i.naming.number n (not-false (i.naming.number == n) k) in
           ap (λ o. option_map_or test o false) (sym f.0 ∙ ap (λ m. incident_of m s) at) ∙ h,
       each is f.1,
     )
@@ -89,57 +87,57 @@ made d p i person org client = record (standing_for (record { directory = d; inc
 }
 
 abbrev client_by : Directory → (Target → Bool) → Person → Incident → Client → Bool
-client_by d has p i c = c.client == p.org && (c.org == i.source || has (target.Org c.org))
+client_by d has p i c = c.client == p.org && (c.org == i.naming.source || has (target.Org c.org))
 
-standing-made : (s : State) (p : Person) (i : Incident) → let has = λ (x : Target). list_any (is_recipient_being i.number x) s.recipients in
+standing-made : (s : State) (p : Person) (i : Incident) → let has = λ (x : Target). list_any (is_recipient_being i.naming.number x) s.recipients in
     standing_for s p i ≡ made s.directory p i (has (target.Person p.number)) (has (target.Org p.org)) (list_any (client_by s.directory has p i) s.directory.clients)
 standing-made s p i = refl
 
-pub standing-by : (s t : State) (p : Person) (i : Incident) → s.directory ≡ t.directory → Addressed i.number s.recipients t.recipients → standing_for s p i ≡ standing_for t p i
+pub standing-by : (s t : State) (p : Person) (i : Incident) → s.directory ≡ t.directory → Addressed i.naming.number s.recipients t.recipients → standing_for s p i ≡ standing_for t p i
 standing-by s t p i d h =
-    let has : Target → Bool = λ x. list_any (is_recipient_being i.number x) s.recipients in
-    let has' : Target → Bool = λ x. list_any (is_recipient_being i.number x) t.recipients in
+    let has : Target → Bool = λ x. list_any (is_recipient_being i.naming.number x) s.recipients in
+    let has' : Target → Bool = λ x. list_any (is_recipient_being i.naming.number x) t.recipients in
     standing-made s p i
     ∙ ap (λ e. made e p i (has (target.Person p.number)) (has (target.Org p.org)) (list_any (client_by e has p i) e.clients)) d
     ∙ ap (λ b. made t.directory p i b (has (target.Org p.org)) (list_any (client_by t.directory has p i) t.directory.clients)) (h.any (target.Person p.number))
     ∙ ap (λ b. made t.directory p i (has' (target.Person p.number)) b (list_any (client_by t.directory has p i) t.directory.clients)) (h.any (target.Org p.org))
     ∙ ap (λ b. made t.directory p i (has' (target.Person p.number)) (has' (target.Org p.org)) b)
-    (any-each (client_by t.directory has p i) (client_by t.directory has' p i) t.directory.clients (λ c. ap (λ b. c.client == p.org && (c.org == i.source || b)) (h.any (target.Org c.org))))
+    (any-each (client_by t.directory has p i) (client_by t.directory has' p i) t.directory.clients (λ c. ap (λ b. c.client == p.org && (c.org == i.naming.source || b)) (h.any (target.Org c.org))))
     ∙ sym (standing-made t p i)
 
 module _ (now : ℤ) (a : Account) (s t : State) (ss : IsSound s) (st : IsSound t) (h : HasOtherUnseenIncident now a s t) where
   abbrev n : ℕ
   n = h.number
 
-  pub addressed : (i : Incident) → other n i ≡ true → Addressed i.number s.recipients t.recipients
+  pub addressed : (i : Incident) → other n i ≡ true → Addressed i.naming.number s.recipients t.recipients
   addressed i k = record {
     any = λ x.
-        any-kept (is_recipient_being i.number x) (λ (r : Recipient). not (r.incident == n)) s.recipients (apart x)
-        ∙ ap (list_any (is_recipient_being i.number x)) h.others.recipients
-        ∙ sym (any-kept (is_recipient_being i.number x) (λ (r : Recipient). not (r.incident == n)) t.recipients (apart x));
+        any-kept (is_recipient_being i.naming.number x) (λ (r : Recipient). not (r.incident == n)) s.recipients (apart x)
+        ∙ ap (list_any (is_recipient_being i.naming.number x)) h.others.recipients
+        ∙ sym (any-kept (is_recipient_being i.naming.number x) (λ (r : Recipient). not (r.incident == n)) t.recipients (apart x));
   }
     where
-      apart : (x : Target) (r : Recipient) → not (r.incident == n) ≡ false → is_recipient_being i.number x r ≡ false
-      apart x r gone = and_left (r.incident == i.number) _ (not_both r.incident n i.number (turned i.number n (not-true (i.number == n) k)) (not-false (r.incident == n) gone))
+      apart : (x : Target) (r : Recipient) → not (r.incident == n) ≡ false → is_recipient_being i.naming.number x r ≡ false
+      apart x r gone = and_left (r.incident == i.naming.number) _ (not_both r.incident n i.naming.number (turned i.naming.number n (not-true (i.naming.number == n) k)) (not-false (r.incident == n) gone))
 
   standing-same : (i : Incident) → other n i ≡ true → standing_at s now a.person i ≡ standing_at t now a.person i
   standing-same i k = standing_at-any s now a.person i ∙ standing-by s t a.person i h.others.directory (addressed i k) ∙ sym (standing_at-any t now a.person i)
 
   case-same : (i : Incident) → other n i ≡ true → case_for s i ≡ case_for t i
   case-same i k =
-      let gates : filter (λ (g : Gate). g.incident == i.number) s.gates ≡ filter (λ (g : Gate). g.incident == i.number) t.gates =
-      filter-within (λ (g : Gate). g.incident == i.number) (λ (g : Gate). not (g.incident == n)) s.gates (λ g gone. apart g.incident gone)
-      ∙ ap (filter (λ (g : Gate). g.incident == i.number)) h.others.gates
-      ∙ sym (filter-within (λ (g : Gate). g.incident == i.number) (λ (g : Gate). not (g.incident == n)) t.gates (λ g gone. apart g.incident gone)) in
-      let permissions : filter (λ (x : Permission). x.incident == i.number) s.permissions ≡ filter (λ (x : Permission). x.incident == i.number) t.permissions =
-      filter-within (λ (x : Permission). x.incident == i.number) (λ (x : Permission). not (x.incident == n)) s.permissions (λ x gone. apart x.incident gone)
-      ∙ ap (filter (λ (x : Permission). x.incident == i.number)) h.others.permissions
-      ∙ sym (filter-within (λ (x : Permission). x.incident == i.number) (λ (x : Permission). not (x.incident == n)) t.permissions (λ x gone. apart x.incident gone)) in
-      ap (λ gs. record { source = i.source; gates = map case_gate gs; permissions = map case_permission (filter (λ (x : Permission). x.incident == i.number) s.permissions) }) gates
-      ∙ ap (λ xs. record { source = i.source; gates = map case_gate (filter (λ (g : Gate). g.incident == i.number) t.gates); permissions = map case_permission xs }) permissions
+      let gates : filter (λ (g : Gate). g.incident == i.naming.number) s.gates ≡ filter (λ (g : Gate). g.incident == i.naming.number) t.gates =
+      filter-within (λ (g : Gate). g.incident == i.naming.number) (λ (g : Gate). not (g.incident == n)) s.gates (λ g gone. apart g.incident gone)
+      ∙ ap (filter (λ (g : Gate). g.incident == i.naming.number)) h.others.gates
+      ∙ sym (filter-within (λ (g : Gate). g.incident == i.naming.number) (λ (g : Gate). not (g.incident == n)) t.gates (λ g gone. apart g.incident gone)) in
+      let permissions : filter (λ (x : Permission). x.incident == i.naming.number) s.permissions ≡ filter (λ (x : Permission). x.incident == i.naming.number) t.permissions =
+      filter-within (λ (x : Permission). x.incident == i.naming.number) (λ (x : Permission). not (x.incident == n)) s.permissions (λ x gone. apart x.incident gone)
+      ∙ ap (filter (λ (x : Permission). x.incident == i.naming.number)) h.others.permissions
+      ∙ sym (filter-within (λ (x : Permission). x.incident == i.naming.number) (λ (x : Permission). not (x.incident == n)) t.permissions (λ x gone. apart x.incident gone)) in
+      ap (λ gs. record { source = i.naming.source; gates = map (λ (g : Gate). g.gate) gs; permissions = its_permissions i.naming.number s.permissions }) gates
+      ∙ ap (λ xs. record { source = i.naming.source; gates = its_gates i.naming.number t.gates; permissions = map (λ (x : Permission). x.permission) xs }) permissions
     where
-      apart : (m : ℕ) → not (m == n) ≡ false → (m == i.number) ≡ false
-      apart m gone = not_both m n i.number (turned i.number n (not-true (i.number == n) k)) (not-false (m == n) gone)
+      apart : (m : ℕ) → not (m == n) ≡ false → (m == i.naming.number) ≡ false
+      apart m gone = not_both m n i.naming.number (turned i.naming.number n (not-true (i.naming.number == n) k)) (not-false (m == n) gone)
 
   served-same : (i : Incident) → other n i ≡ true → is_served s now a.person i ≡ is_served t now a.person i
   served-same i k = ap (λ c. is_listed i.document c (standing_at s now a.person i)) (case-same i k) ∙ ap (λ st. is_listed i.document (case_for t i) st) (standing-same i k)
@@ -172,11 +170,8 @@ known s a sound there = ap (λ o. if_active (option_map person_in o)) (found-by-
 
 -- ---- the step
 
-abbrev view_by : Incident → Case → Standing → ViewOf
-view_by i c st = record { number = i.number; revision = i.revision; source = i.source; classes = visible_count i.document c st; document = kept_outline i.document c st; withheld = in_order (withheld_of i.document c st) }
-
-view-same-by : (i : Incident) (c c' : Case) (st st' : Standing) → c ≡ c' → st ≡ st' → view_by i c st ≡ view_by i c' st'
-view-same-by i c c' st st' cs ss = ap (λ x. view_by i x st) cs ∙ ap (view_by i c') ss
+view-same-by : (i : Incident) (c c' : Case) (st st' : Standing) → c ≡ c' → st ≡ st' → option_map (view_with i) (excerpt_of i.document c st) ≡ option_map (view_with i) (excerpt_of i.document c' st')
+view-same-by i c c' st st' cs ss = ap (λ x. option_map (view_with i) (excerpt_of i.document x st)) cs ∙ ap (λ x. option_map (view_with i) (excerpt_of i.document c' x)) ss
 
 -- of an incident that isn't served nothing is found
 unfound : (s : State) (now : ℤ) (p : Person) (i : Incident) (needle : Bytes) (class : Option Bytes) → is_served s now p i ≡ false → is_found s now p i needle class ≡ false
@@ -188,7 +183,8 @@ unfound s now p i needle class h = by_test (is_found s now p i needle class) ref
 
 unseen-view : (s : State) (now : ℤ) (p : Person) (o : Option Incident) → option_map_or (is_served s now p) o false ≡ false → viewed s now p o ≡ nothing_for_you
 unseen-view s now p None h = refl
-unseen-view s now p (Some i) h = cond-false (is_served s now p i) _ _ h
+unseen-view s now p (Some i) h =
+    ap (λ o. view_or_nothing (option_map (view_with i) o)) (cond-false (is_served s now p i) (Some (told_of i.document (case_for s i) (standing_at s now p i))) None h)
 
 module _ (now : ℤ) (a : Account) (s t : State) (ss : IsSound s) (st : IsSound t) (there : Contains s.directory.accounts a) (h : HasOtherUnseenIncident now a s t) where
   abbrev p : Person
@@ -223,8 +219,7 @@ module _ (now : ℤ) (a : Account) (s t : State) (ss : IsSound s) (st : IsSound 
 
   viewed-other : (i : Incident) → other m i ≡ true → viewed s now p (Some i) ≡ viewed t now p (Some i)
   viewed-other i k =
-      ap (λ b. if b then View (view_of s now p i) else nothing_for_you) (served-same now a s t ss st h i k)
-      ∙ ap (λ v. if is_served t now p i then View v else nothing_for_you)
+      ap view_or_nothing
       (view-same-by i (case_for s i) (case_for t i) (standing_at s now p i) (standing_at t now p i) (case-same now a s t ss st h i k) (standing-same now a s t ss st h i k))
 
   view-same : (q : ℕ) → viewed s now p (incident_of q s) ≡ viewed t now p (incident_of q t)
@@ -235,17 +230,17 @@ module _ (now : ℤ) (a : Account) (s t : State) (ss : IsSound s) (st : IsSound 
           (unseen-view s now p (incident_of m s) h.first ∙ sym (unseen-view t now p (incident_of m t) h.second))
       by_number false k = same (incident_of q s) refl
         where
-          apart : (x : Incident) → (x.number == q) ≡ true → other m x ≡ true
-          apart x e = ap not (ap (λ y. y == m) (eqb-true x.number q e) ∙ k)
+          apart : (x : Incident) → (x.naming.number == q) ≡ true → other m x ≡ true
+          apart x e = ap not (ap (λ y. y == m) (eqb-true x.naming.number q e) ∙ k)
 
           there-too : incident_of q s ≡ incident_of q t
-          there-too = sym (find_left (λ (x : Incident). x.number == q) (other m) s.incidents apart)
-              ∙ ap (find (λ (x : Incident). x.number == q)) h.others.incidents
-              ∙ find_left (λ (x : Incident). x.number == q) (other m) t.incidents apart
+          there-too = sym (find_left (λ (x : Incident). x.naming.number == q) (other m) s.incidents apart)
+              ∙ ap (find (λ (x : Incident). x.naming.number == q)) h.others.incidents
+              ∙ find_left (λ (x : Incident). x.naming.number == q) (other m) t.incidents apart
 
           same : (o : Option Incident) → incident_of q s ≡ o → viewed s now p (incident_of q s) ≡ viewed t now p (incident_of q t)
           same None e = ap (viewed s now p) e ∙ sym (ap (viewed t now p) (sym there-too ∙ e))
-          same (Some i) e = ap (viewed s now p) e ∙ viewed-other i (apart i (found_is (λ (x : Incident). x.number == q) s.incidents i e)) ∙ sym (ap (viewed t now p) (sym there-too ∙ e))
+          same (Some i) e = ap (viewed s now p) e ∙ viewed-other i (apart i (found_is (λ (x : Incident). x.naming.number == q) s.incidents i e)) ∙ sym (ap (viewed t now p) (sym there-too ∙ e))
 
   pub unseen-told : TellsSame now a s t × Contains t.directory.accounts a
   unseen-told = let there' = subst (λ d. Contains d.accounts a) h.others.directory there in (

@@ -1,5 +1,5 @@
 -- A page, from the entries above a number.
-use Rattle.std.proofs.Common.{◌≡◌, ℕ, zero, suc, ◌+◌, ◌-◌, ◌<◌, ◌≤◌, Bool, true, false, List, [], ◌∷◌, ◌++◌, cond, Option, Some, None, length, take, drop, map, refl, sym, ◌∙◌, ap, subst, arith, filter, slice_get, get_or, not, ◌&&◌, ◌||◌, append_assoc}
+use Rattle.std.proofs.Common.{◌≡◌, ℕ, zero, suc, ◌+◌, ◌-◌, ◌<◌, ◌≤◌, Bool, true, false, List, [], ◌∷◌, ◌++◌, cond, Option, Some, None, length, take, drop, map, refl, sym, ◌∙◌, ap, subst, arith, filter, slice_get, get_or, not, ◌&&◌, append_assoc}
 use Rattle.std.specs.Prelude.{option_map}
 use Rattle.std.specs.List.{AllByRecursion}
 use Rattle.std.specs.Option.{option_map_or}
@@ -11,17 +11,16 @@ use Rattle.std.proofs.lemmas.Option.{slice_get_within}
 use Rattle.circle.specs.Sound.{CountsFrom}
 use Rattle.hub_core.specs.State.{State, incident_number, incident_of}
 use Rattle.hub_core.specs.Sound.{IsSound}
-use Rattle.hub_core.specs.Reads.{entry_of, incidents_above, entries_after}
+use Rattle.hub_core.specs.Reads.{case_for, entry_of, incidents_above, entries_after}
 use Rattle.hub_core.specs.declared.state.Incident.{Incident}
 use Rattle.hub_core.specs.declared.reply.Entry.{Entry}
 use Rattle.policy.specs.declared.standing.Standing.{Standing}
 use Rattle.policy.specs.declared.case.Case.{Case}
-use Rattle.redact.specs.Told.{is_listed}
+use Rattle.redact.specs.Wants.{meets}
 use Rattle.hub_core.specs.Documents.{Lines}
 use Rattle.hub.specs.declared.TheConstants.{PAGE_LIMIT}
-use Rattle.hub.specs.Wanted.{is_told, number_at_end, rules_out}
+use Rattle.hub.specs.Wanted.{admits, is_told, number_at_end}
 use Rattle.hub.specs.declared.wanted.Wanted.{Wanted}
-use Rattle.hub.specs.declared.wanted.Wanted.TheVariants.{Shown, Found, Addressed}
 use Rattle.hub.proofs.Numbered.{above-numbered, counts-drop, counts-take, all_found}
 
 -- ---- the first so many
@@ -50,11 +49,11 @@ module _ (s : State) (test : Incident → Bool) where
   abbrev pub test_at : ℕ → Bool
   test_at n = option_map_or test (incident_of n s) false
 
-  filter_entries : (is : List Incident) → AllByRecursion (λ (i : Incident). incident_of i.number s ≡ Some i) is →
+  filter_entries : (is : List Incident) → AllByRecursion (λ (i : Incident). incident_of i.naming.number s ≡ Some i) is →
       filter (λ (e : Entry). test_at e.number) (map entry_of is) ≡ map entry_of (filter test is)
   filter_entries [] h = refl
   filter_entries (i ∷ is) h =
-      let here : test_at i.number ≡ test i = ap (λ o. option_map_or test o false) h.0 in
+      let here : test_at i.naming.number ≡ test i = ap (λ o. option_map_or test o false) h.0 in
       ap (λ b. cond b (entry_of i ∷ filter (λ (e : Entry). test_at e.number) (map entry_of is)) (filter (λ (e : Entry). test_at e.number) (map entry_of is))) here
       ∙ by_case (test i) _ _ (filter_entries is h.1)
     where
@@ -203,14 +202,29 @@ no_more test entries i old past few =
 
 -- ---- what a standing rules out
 
-pub ruled_out : (w : Wanted) (doc : Lines) (c : Case) (st : Standing) → rules_out w st ≡ true → is_told w doc c st ≡ false
-ruled_out Shown doc c st h = absurd (true≢false (sym h))
-ruled_out (Found needle class) doc c st h = absurd (true≢false (sym h))
-ruled_out Addressed doc c st h = by_case (st.person || st.addressed) h
+pub ruled_out : (w : Wanted) (doc : Lines) (c : Case) (st : Standing) → not (admits w st) ≡ true → is_told w doc c st ≡ false
+ruled_out w doc c st h = by_case (admits w st) h
   where
-    by_case : (b : Bool) → not b ≡ true → (b && is_listed doc c st) ≡ false
+    by_case : (b : Bool) → not b ≡ true → (b && meets w.want.now doc c st) ≡ false
     by_case true k = absurd (true≢false (sym k))
     by_case false k = refl
+
+-- and what it doesn't is told by the want
+admitted : (w : Wanted) (doc : Lines) (c : Case) (st : Standing) → not (admits w st) ≡ false → meets w.want.now doc c st ≡ is_told w doc c st
+admitted w doc c st h = by_case (admits w st) h
+  where
+    by_case : (b : Bool) → not b ≡ false → meets w.want.now doc c st ≡ (b && meets w.want.now doc c st)
+    by_case true k = refl
+    by_case false k = absurd (true≢false k)
+
+pub told_there : (s : State) (w : Wanted) (st : Standing) (o : Option Incident) (c : Case) (doc : Lines) → not (admits w st) ≡ false →
+    Some c ≡ option_map (case_for s) o → Some doc ≡ option_map (λ (i : Incident). i.document) o →
+    meets w.want.now doc c st ≡ option_map_or (λ (i : Incident). is_told w i.document (case_for s i) st) o false
+told_there s w st None c doc not_out judged has = cc
+told_there s w st (Some i) c doc not_out judged has =
+    let case : c ≡ case_for s i = cc in
+    let lines : doc ≡ i.document = cc in
+    admitted w doc c st not_out ∙ ap (λ x. is_told w x c st) lines ∙ ap (λ x. is_told w i.document x st) case
 
 pub none_told : (test : Incident → Bool) (o : Option Incident) → ((i : Incident) → test i ≡ false) → false ≡ option_map_or test o false
 none_told test None h = refl

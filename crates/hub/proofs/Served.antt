@@ -1,6 +1,6 @@
 -- Who asks is there; what is answered, and what is left.
 use Rattle.std.proofs.Common.{◌≡◌, inl, inr, ℕ, Bool, true, false, not, ◌&&◌, ◌==◌, List, [], ◌∷◌, cond, Option, Some, None, refl, sym, ◌∙◌, ap, subst, find}
-use Rattle.std.specs.Prelude.{ℤ, Result, Ok, Err, option_map}
+use Rattle.std.specs.Prelude.{ℤ, Result, Ok, Err, option_map, option_and_then}
 use Rattle.std.specs.List.{list_all, AllByRecursion}
 use Rattle.std.specs.Str.{bytes_eq}
 use Rattle.std.proofs.lemmas.Bool.{true≢false}
@@ -13,7 +13,7 @@ use Rattle.circle.specs.declared.directory.Account.{Account}
 use Rattle.circle.specs.declared.directory.Person.{Person}
 use Rattle.circle.specs.declared.command.CircleCommand.{CircleCommand}
 use Rattle.circle.specs.declared.command.CircleCommand.TheVariants.{AddOrg, AddPerson, SuspendPerson, AddClient, RemoveClient, AddCommunity, Join, Leave, Link, Unlink, NewGroup, GroupAdd, GroupRemove, GroupActive, Arrange, CancelArrange, Nominate, Unnominate}
-use Rattle.circle.specs.declared.refusal.Code.TheVariants.{N1, F1, F2}
+use Rattle.circle.specs.declared.refusal.Code.TheVariants.{F1, F2}
 use Rattle.circle.specs.declared.refusal.Refusal.{Refusal}
 use Rattle.hub_core.specs.State.{State, incident_of}
 use Rattle.hub_core.specs.Sound.{IsSound}
@@ -23,15 +23,16 @@ use Rattle.hub_core.specs.Aftermath.{changed}
 use Rattle.hub_core.specs.Laws.{is_reading}
 use Rattle.hub_core.specs.declared.state.Incident.{Incident}
 use Rattle.hub_core.specs.declared.reply.Reply.{Reply}
-use Rattle.hub_core.specs.declared.reply.Reply.TheVariants.{View, Refused}
+use Rattle.hub_core.specs.declared.reply.Reply.TheVariants.{Refused}
+use Rattle.hub_core.specs.declared.reply.View.{View as ViewOf}
 use Rattle.hub_core.specs.declared.request.Request.{Request}
 use Rattle.hub_core.specs.declared.request.Request.TheVariants as ask
 use Rattle.hub_core.specs.declared.shelf.ShelfFault.{ShelfFault}
 use Rattle.hub_core.specs.declared.shelf.ShelfFault.TheVariants.{NoMemory, Failed}
 use Rattle.hub_core.proofs.Keeping.{found_each}
 use Rattle.hub.specs.Faults.{code_told, is_failure, tells_failure}
-use Rattle.hub.specs.Told.{is_served, view_of}
-use Rattle.hub.specs.Replies.{if_active, caller_of, viewed, circle_reply, refused_or, answer_to, reply_by, reply_of}
+use Rattle.hub.specs.Told.{view_of}
+use Rattle.hub.specs.Replies.{if_active, caller_of, view_or_nothing, viewed, circle_reply, refused_or, answer_to, reply_by, reply_of}
 use Rattle.hub.specs.Machine.{Asked, IsGivenUp, IsStep, left_by}
 use Rattle.hub_core.specs.Shelves.{IsKept}
 use Rattle.hub.specs.Asking.{IsThere}
@@ -92,12 +93,11 @@ reads_leave s p (ask.Grant r) h = absurd (true≢false (sym h))
 reads_leave s p (ask.Withdraw r) h = absurd (true≢false (sym h))
 
 view_unmade : (s : State) (now : ℤ) (p : Person) (o : Option Incident) → is_made (viewed s now p o) ≡ false
-view_unmade s now p None = refl
-view_unmade s now p (Some i) = by_case (is_served s now p i)
+view_unmade s now p o = by_case (option_and_then (view_of s now p) o)
   where
-    by_case : (b : Bool) → is_made (cond b (View (view_of s now p i)) (Refused (bare N1))) ≡ false
-    by_case true = refl
-    by_case false = refl
+    by_case : (v : Option ViewOf) → is_made (view_or_nothing v) ≡ false
+    by_case None = refl
+    by_case (Some v) = refl
 
 search_unmade : (o : Option Refusal) (r : Reply) → is_made r ≡ false → is_made (refused_or o r) ≡ false
 search_unmade None r h = h
@@ -226,12 +226,11 @@ grounds_tell s a ask.MyGroups = refl
 grounds_tell s a ask.WhoAmI = refl
 
 view_untold : (s : State) (now : ℤ) (p : Person) (o : Option Incident) → tells_failure (viewed s now p o) ≡ false
-view_untold s now p None = refl
-view_untold s now p (Some i) = by_case (is_served s now p i)
+view_untold s now p o = by_case (option_and_then (view_of s now p) o)
   where
-    by_case : (b : Bool) → tells_failure (cond b (View (view_of s now p i)) (Refused (bare N1))) ≡ false
-    by_case true = refl
-    by_case false = refl
+    by_case : (v : Option ViewOf) → tells_failure (view_or_nothing v) ≡ false
+    by_case None = refl
+    by_case (Some v) = refl
 
 command_untold : (s : State) (c : CircleCommand) → tells_failure (circle_reply s.directory c) ≡ false
 command_untold s (AddOrg name) = refl

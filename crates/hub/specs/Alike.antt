@@ -8,6 +8,7 @@ use Rattle.policy.specs.Standing.{stranger}
 use Rattle.policy.specs.declared.permission.Grantee.{Grantee}
 use Rattle.redact.specs.Alike as report
 use Rattle.redact.specs.Alike.{Report, is_within, lines_but, is_hidden_from}
+use Rattle.redact.specs.Told.{withheld_of}
 use Rattle.circle.specs.Directory.{Directory}
 use Rattle.circle.specs.Reads.{groups_joined, active_groups_joined, communities_of}
 use Rattle.circle.specs.declared.directory.Account.{Account}
@@ -25,7 +26,7 @@ use Rattle.hub_core.specs.declared.state.Recipient.{Recipient}
 use Rattle.hub_core.specs.declared.state.Permission.{Permission}
 use Rattle.hub_core.specs.declared.request.Request.{Request}
 use Rattle.hub_core.specs.declared.request.Request.TheVariants as ask
-use Rattle.hub.specs.Told.{standing_at, is_served, view_of}
+use Rattle.hub.specs.Told.{standing_at, is_served}
 use Rattle.hub.specs.Replies.{reply_of}
 use Rattle.hub.specs.declared.key.Key.TheVariants.{Digest}
 
@@ -33,14 +34,14 @@ use Rattle.hub.specs.declared.key.Key.TheVariants.{Digest}
 
 -- the incidents, with another document in the one of this number; the IncidentID beside it follows
 abbrev pub with_document : ℕ → Lines → List Incident → List Incident
-with_document n document incidents = map (λ (i : Incident). if i.number == n then record i { document = document; ident = ident_of document } else i) incidents
+with_document n document incidents = map (λ (i : Incident). if i.naming.number == n then record i { naming = record i.naming { ident = ident_of document }; document = document } else i) incidents
 
 -- the gates but those of an incident at the class at p and below it, and the permissions but those
 abbrev pub gates_but_at : ℕ → Tokens → List Gate → List Gate
-gates_but_at n p gates = filter (λ (g : Gate). not (g.incident == n && is_prefix p g.path)) gates
+gates_but_at n p gates = filter (λ (g : Gate). not (g.incident == n && is_prefix p g.gate.path)) gates
 
 abbrev pub permissions_but_at : ℕ → Tokens → List Permission → List Permission
-permissions_but_at n p permissions = filter (λ (x : Permission). not (x.incident == n && is_prefix p x.path)) permissions
+permissions_but_at n p permissions = filter (λ (x : Permission). not (x.incident == n && is_prefix p x.permission.path)) permissions
 
 -- an incident as it is judged, perhaps with another document
 abbrev pub report_of : State → Incident → Lines → Report
@@ -49,7 +50,7 @@ report_of s i document = record { lines = document; case = case_for s i }
 -- all rows stay but those of the incident of this number
 pub record HasOtherIncident (n : ℕ) (s t : State) : Type 0 where
   pub directory : s.directory ≡ t.directory
-  pub incidents : filter (λ (i : Incident). not (i.number == n)) s.incidents ≡ filter (λ (i : Incident). not (i.number == n)) t.incidents
+  pub incidents : filter (λ (i : Incident). not (i.naming.number == n)) s.incidents ≡ filter (λ (i : Incident). not (i.naming.number == n)) t.incidents
   pub gates : filter (λ (g : Gate). not (g.incident == n)) s.gates ≡ filter (λ (g : Gate). not (g.incident == n)) t.gates
   pub recipients : filter (λ (x : Recipient). not (x.incident == n)) s.recipients ≡ filter (λ (x : Recipient). not (x.incident == n)) t.recipients
   pub permissions : filter (λ (x : Permission). not (x.incident == n)) s.permissions ≡ filter (λ (x : Permission). not (x.incident == n)) t.permissions
@@ -59,7 +60,7 @@ pub record HasOtherIncident (n : ℕ) (s t : State) : Type 0 where
 module _ (now : ℤ) (a : Account) where
   -- the incident of this number is the person's organisation's own
   abbrev pub is_own : State → ℕ → Bool
-  is_own s n = option_map_or (λ (i : Incident). i.source == a.person.org) (incident_of n s) false
+  is_own s n = option_map_or (λ (i : Incident). i.naming.source == a.person.org) (incident_of n s) false
 
   -- the person is served something of the incident of this number
   abbrev pub is_served_of : State → ℕ → Bool
@@ -71,10 +72,10 @@ module _ (now : ℤ) (a : Account) where
     pub incident : Incident
     pub path : Tokens
     pub document : Lines
-    pub there : incident_of incident.number s ≡ Some incident
-    pub foreign : is_own s incident.number ≡ false
+    pub there : incident_of incident.naming.number s ≡ Some incident
+    pub foreign : is_own s incident.naming.number ≡ false
     pub lines : report.HasOtherPlainLines (standing_at s now a.person incident) path (report_of s incident incident.document) (report_of s incident document)
-    pub after : t ≡ record s { incidents = with_document incident.number document s.incidents }
+    pub after : t ≡ record s { incidents = with_document incident.naming.number document s.incidents }
 
   -- The lines of a wholly hidden class and of all below it are put in, taken out or exchanged, with the gates and the
   -- permissions at these classes. The paths of all other classes stay, and what is withheld is the same on both sides.
@@ -82,16 +83,17 @@ module _ (now : ℤ) (a : Account) where
     pub incident : Incident
     pub path : Tokens
     pub document : Lines
-    pub there : incident_of incident.number s ≡ Some incident
-    pub foreign : is_own s incident.number ≡ false
+    pub there : incident_of incident.naming.number s ≡ Some incident
+    pub foreign : is_own s incident.naming.number ≡ false
     pub below_root : is_root path ≡ false
     pub first : is_hidden_from (standing_at s now a.person incident) path (report_of s incident incident.document) ≡ true
     pub second : is_hidden_from (standing_at t now a.person incident) path (report_of t incident document) ≡ true
     pub others : lines_but (is_within path) incident.document ≡ lines_but (is_within path) document
-    pub withheld : (view_of s now a.person incident).withheld ≡ (view_of t now a.person (record incident { document = document })).withheld
-    pub gates : gates_but_at incident.number path s.gates ≡ gates_but_at incident.number path t.gates
-    pub permissions : permissions_but_at incident.number path s.permissions ≡ permissions_but_at incident.number path t.permissions
-    pub after : t ≡ record s { incidents = with_document incident.number document s.incidents; gates = t.gates; permissions = t.permissions }
+    pub withheld : withheld_of incident.document (case_for s incident) (standing_at s now a.person incident)
+        ≡ withheld_of document (case_for t incident) (standing_at t now a.person (record incident { document = document }))
+    pub gates : gates_but_at incident.naming.number path s.gates ≡ gates_but_at incident.naming.number path t.gates
+    pub permissions : permissions_but_at incident.naming.number path s.permissions ≡ permissions_but_at incident.naming.number path t.permissions
+    pub after : t ≡ record s { incidents = with_document incident.naming.number document s.incidents; gates = t.gates; permissions = t.permissions }
 
   -- Anything in an incident of which the person sees nothing on either side; it may be missing on one.
   pub record HasOtherUnseenIncident (s t : State) : Type 0 where
@@ -117,7 +119,7 @@ module _ (now : ℤ) (a : Account) where
 
   -- rows that stay when others are put in, taken out or exchanged
   abbrev pub staying_permissions : State → List Permission
-  staying_permissions s = filter (λ (x : Permission). includes_person s.directory x.grantee || is_own s x.incident) s.permissions
+  staying_permissions s = filter (λ (x : Permission). includes_person s.directory x.permission.grantee || is_own s x.incident) s.permissions
 
   abbrev pub staying_recipients : State → List Recipient
   staying_recipients s = filter (λ (x : Recipient). is_org_or_person x.target || is_own s x.incident) s.recipients

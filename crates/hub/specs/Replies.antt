@@ -1,5 +1,5 @@
 -- What a request is answered.
-use Rattle.std.specs.Prelude.{ℕ, ◌+◌, ℤ, Bool, ◌&&◌, List, [], ◌∷◌, map, filter, take, Option, Some, None, if◌then◌else◌}
+use Rattle.std.specs.Prelude.{ℕ, ◌+◌, ℤ, Bool, ◌&&◌, List, [], ◌∷◌, map, filter, take, Option, Some, None, option_and_then, if◌then◌else◌}
 use Rattle.circle.specs.Outcomes.{bare}
 use Rattle.circle.specs.Aftermath.{next_in}
 use Rattle.circle.specs.Directory.{Directory}
@@ -13,10 +13,12 @@ use Rattle.iodef_tree.specs.Pointer.{pointer_tokens}
 use Rattle.hub_core.specs.Documents.{Lines, documents_in}
 use Rattle.hub_core.specs.State.{State, incident_of}
 use Rattle.hub_core.specs.Aftermath.{next_incident}
+use Rattle.hub_core.specs.Requests.{known_of}
 use Rattle.hub_core.specs.Refusals.{refusal_of, next_revision}
 use Rattle.hub_core.specs.Reads.{person_by_key, entry_of, incidents_above, groups_of}
 use Rattle.hub_core.specs.declared.state.Incident.{Incident}
 use Rattle.hub_core.specs.declared.reply.Entry.{Entry}
+use Rattle.hub_core.specs.declared.reply.View.{View as ViewOf}
 use Rattle.hub_core.specs.declared.reply.Reply.{Reply}
 use Rattle.hub_core.specs.declared.reply.Reply.TheVariants.{Done, Numbers, Revision, View, Incidents, Groups, Caller, Trace, Refused}
 use Rattle.hub_core.specs.declared.request.Request.{Request}
@@ -62,10 +64,13 @@ numbers_from n (doc ∷ docs) = n ∷ numbers_from (n + 1) docs
 abbrev pub nothing_for_you : Reply
 nothing_for_you = Refused (bare N1)
 
+abbrev pub view_or_nothing : Option ViewOf → Reply
+view_or_nothing None = nothing_for_you
+view_or_nothing (Some view) = View view
+
 -- an incident of which nothing is visible is answered as one that is missing
 abbrev pub viewed : State → ℤ → Person → Option Incident → Reply
-viewed s now p None = nothing_for_you
-viewed s now p (Some i) = if is_served s now p i then View (view_of s now p i) else nothing_for_you
+viewed s now p i = view_or_nothing (option_and_then (view_of s now p) i)
 
 -- ---- replies
 
@@ -73,7 +78,7 @@ viewed s now p (Some i) = if is_served s now p i then View (view_of s now p i) e
 abbrev pub answer_to : State → ℤ → Person → Request → Reply
 answer_to s now p (ask.Circle command) = circle_reply s.directory command
 answer_to s now p (ask.Post r) = Numbers (numbers_from (next_incident s) (documents_in r.document))
-answer_to s now p (ask.Replace r) = Revision (next_revision s r.incident)
+answer_to s now p (ask.Replace r) = Revision (next_revision (known_of s (ask.Replace r)))
 answer_to s now p (ask.Redistribute r) = Done
 answer_to s now p (ask.Address r) = Done
 answer_to s now p (ask.Unaddress r) = Done

@@ -5,8 +5,7 @@ use Rattle.circle.specs.declared.directory.Person.{Person}
 use Rattle.circle.specs.declared.command.CircleCommand.TheVariants.{AddOrg, AddPerson, AddCommunity, NewGroup}
 use Rattle.circle.specs.declared.command.RowEdit.TheVariants.{PutOrg, PutAccount, PutCommunity, PutGroup}
 use Rattle.hub_core.specs.State.{State}
-use Rattle.hub_core.specs.Refusals.{refusal_of}
-use Rattle.hub_core.specs.Judgement.{next_known}
+use Rattle.hub_core.specs.Refusals.{refusal_of, next_revision}
 use Rattle.hub_core.specs.Laws.{is_reading}
 use Rattle.hub_core.specs.declared.edit.Edit.{Edit}
 use Rattle.hub_core.specs.declared.edit.Edit.TheVariants.{Directory, PutIncident}
@@ -38,7 +37,7 @@ searched refusal s now p r = refused_or refusal (Incidents (page_of (λ (i : Inc
 
 -- the number that a new row gets, of those whose numbers are told
 abbrev pub number_put : Edit → Option ℕ
-number_put (PutIncident i) = Some i.number
+number_put (PutIncident i) = Some i.naming.number
 number_put (Directory (PutOrg o)) = Some o.number
 number_put (Directory (PutAccount a)) = Some a.person.number
 number_put (Directory (PutCommunity c)) = Some c.number
@@ -59,7 +58,7 @@ gives_numbers _ = false
 
 -- what a change is answered that these edits make
 abbrev pub made_reply : Facts → Request → List Edit → Reply
-made_reply f (ask.Replace r) edits = Revision (next_known f)
+made_reply f (ask.Replace r) edits = Revision (next_revision f.incident)
 made_reply f request edits = if◌then◌else◌ (gives_numbers request) (Numbers (numbers_put edits)) Done
 
 -- a change that was made

@@ -3,7 +3,7 @@ use Rattle.std.specs.Prelude.{ℕ, ℤ, Bool, false, not, ◌&&◌, ◌||◌, �
 use Rattle.std.specs.Option.{option_map_or}
 use Rattle.policy.specs.declared.standing.Standing.{Standing}
 use Rattle.policy.specs.declared.case.Case.{Case}
-use Rattle.redact.specs.Told.{is_listed, finds}
+use Rattle.redact.specs.Wants.{meets}
 use Rattle.circle.specs.declared.directory.Person.{Person}
 use Rattle.hub_core.specs.Documents.{Lines}
 use Rattle.hub_core.specs.State.{State, incident_of}
@@ -12,19 +12,14 @@ use Rattle.hub_core.specs.declared.state.Incident.{Incident}
 use Rattle.hub_core.specs.declared.reply.Entry.{Entry}
 use Rattle.hub.specs.Told.{standing_at}
 use Rattle.hub.specs.declared.wanted.Wanted.{Wanted}
-use Rattle.hub.specs.declared.wanted.Wanted.TheVariants.{Shown, Found, Addressed}
+
+-- whether an incident to which a person stands so may be on the page
+abbrev pub admits : Wanted → Standing → Bool
+admits w st = not w.addressed || (st.person || st.addressed)
 
 -- whether a page lists what a person is told of so
 abbrev pub is_told : Wanted → Lines → Case → Standing → Bool
-is_told Shown doc c st = is_listed doc c st
-is_told (Found needle class) doc c st = finds doc c st needle.now (option_map (λ name. name.now) class)
-is_told Addressed doc c st = (st.person || st.addressed) && is_listed doc c st
-
--- whether a standing alone keeps an incident off the page
-abbrev pub rules_out : Wanted → Standing → Bool
-rules_out Shown st = false
-rules_out (Found needle class) st = false
-rules_out Addressed st = not (st.person || st.addressed)
+is_told w doc c st = admits w st && meets w.want.now doc c st
 
 -- whether a page lists the incident
 abbrev pub is_wanted : State → ℤ → Person → Wanted → Incident → Bool

@@ -1,5 +1,5 @@
 //! Reading what a person's requests are answered by.
-ghost use Rattle.std.specs.Prelude.{◌≡◌, IfOk, IsErrOf, option_map, option_and_then};
+ghost use Rattle.std.specs.Prelude.{◌≡◌, IfOk, IsErrOf, option_map};
 ghost use Rattle.hub_core.specs.State.{State, incident_of};
 ghost use Rattle.hub_core.specs.Reads.{case_for};
 ghost use Rattle.hub_core.specs.declared.state.Incident.{Incident};
@@ -21,13 +21,6 @@ use policy::{Case, Standing};
 pub struct Asker<'a> {
     pub person: &'a Person,
     pub now: i64,
-}
-
-/// What an incident is judged by.
-#[derive(Drop)]
-pub struct Content {
-    pub case: Case,
-    pub document: Document,
 }
 
 /// The active person whose key it is.
@@ -73,17 +66,20 @@ pub fn standing_of_person<Sh: Shelf>(
     shelf.standing(person, incident)
 }
 
-/// What an incident is judged by; none where it is missing.
-pub fn content_of<Sh: Shelf>(shelf: &mut Sh, incident: u32) -> Result<Option<Content>, ShelfFault>
-    ensures value { Sh.doubts shelf.new ≡ 0 → (s : State) → Sh.has shelf.old s → IfOk result (λ found. found ≡ option_map (λ (i : Incident). record { case = case_for s i; document = i.document }) (incident_of incident s)) }
+/// By what an incident is judged, beside its document; none where it is missing.
+pub fn case_of<Sh: Shelf>(shelf: &mut Sh, incident: u32) -> Result<Option<Case>, ShelfFault>
+    ensures value { Sh.doubts shelf.new ≡ 0 → (s : State) → Sh.has shelf.old s → IfOk result (λ found. found ≡ option_map (case_for s) (incident_of incident s)) }
     ensures kept { IsKept Sh.has Sh.doubts Sh.failed Sh.may_leave shelf.old shelf.new }
     ensures cause { IsErrOf result ShelfFault.Failed → HasFailed (Sh.failed shelf.old) (Sh.failed shelf.new) }
 {
-    let Some(case) = shelf.case(incident)? else {
-        return Ok(None);
-    };
-    let Some(document) = shelf.document(incident)? else {
-        return Ok(None);
-    };
-    Ok(Some(Content { case, document }))
+    shelf.case(incident)
+}
+
+/// The document of an incident; none where it is missing.
+pub fn document_of<Sh: Shelf>(shelf: &mut Sh, incident: u32) -> Result<Option<Document>, ShelfFault>
+    ensures value { Sh.doubts shelf.new ≡ 0 → (s : State) → Sh.has shelf.old s → IfOk result (λ found. found ≡ option_map (λ (i : Incident). i.document) (incident_of incident s)) }
+    ensures kept { IsKept Sh.has Sh.doubts Sh.failed Sh.may_leave shelf.old shelf.new }
+    ensures cause { IsErrOf result ShelfFault.Failed → HasFailed (Sh.failed shelf.old) (Sh.failed shelf.new) }
+{
+    shelf.document(incident)
 }

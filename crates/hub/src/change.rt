@@ -3,8 +3,7 @@ ghost use Rattle.std.specs.Prelude.{◌≡◌, ◌<◌, ◌^◌, true, false, If
 ghost use Rattle.circle.specs.Sound.{IsOrg};
 ghost use Rattle.hub_core.specs.State.{State};
 ghost use Rattle.hub_core.specs.Sound.{IsSound};
-ghost use Rattle.hub_core.specs.Refusals.{state_after};
-ghost use Rattle.hub_core.specs.Judgement.{next_known};
+ghost use Rattle.hub_core.specs.Refusals.{state_after, next_revision as revision_after};
 ghost use Rattle.hub_core.specs.Laws.{is_reading};
 ghost use Rattle.hub_core.specs.Shelves.{KeepsContent};
 ghost use Rattle.hub.specs.Serving.{IsCounted, IsServed, due_to, gives_numbers, is_made, is_made_by, made_reply, number_put, numbers_put};
@@ -21,7 +20,7 @@ fn new_number(edit: &Edit) -> Option<u32>
     ensures { result ≡ number_put edit.now }
 {
     match edit {
-        Edit::PutIncident(incident) => Some(incident.number),
+        Edit::PutIncident(incident) => Some(incident.naming.number),
         Edit::Directory(RowEdit::PutOrg(org)) => Some(org.number),
         Edit::Directory(RowEdit::PutAccount(account)) => Some(account.person.number),
         Edit::Directory(RowEdit::PutCommunity(community)) => Some(community.number),
@@ -59,7 +58,7 @@ fn tells_numbers(request: &Request) -> bool
 }
 
 fn next_revision(facts: &Facts) -> u32
-    ensures { next_known facts.now < 2 ^ 32 → result ≡ next_known facts.now }
+    ensures { revision_after facts.now.incident < 2 ^ 32 → result ≡ revision_after facts.now.incident }
 {
     match &facts.incident {
         None => 1,
@@ -74,7 +73,7 @@ fn reply_to(
     request: &Request,
     edits: &[Edit],
 ) -> Result<Reply, ShelfFault>
-    ensures reply { next_known facts.now < 2 ^ 32 → IfOk result (λ reply. reply ≡ made_reply facts.now request.now edits.now) }
+    ensures reply { revision_after facts.now.incident < 2 ^ 32 → IfOk result (λ reply. reply ≡ made_reply facts.now request.now edits.now) }
     ensures made { IfOk result (λ reply. is_made reply ≡ true) }
     ensures fault { IfErr result (λ e. e ≡ ShelfFault.NoMemory) }
 {

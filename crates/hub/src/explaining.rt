@@ -6,6 +6,7 @@ ghost use Rattle.marking.specs.Marks.{first_bad_marking};
 ghost use Rattle.circle.specs.Reads.{person_of};
 ghost use Rattle.hub_core.specs.State.{State, incident_of};
 ghost use Rattle.hub_core.specs.Sound.{IsSound};
+ghost use Rattle.hub_core.specs.Facts.{facts_of};
 ghost use Rattle.hub_core.specs.Refusals.{refusal_of};
 ghost use Rattle.hub_core.specs.declared.reply.Reply.TheVariants.{Trace};
 ghost use Rattle.hub_core.specs.declared.request.Request.TheVariants as ask;
@@ -14,29 +15,30 @@ ghost use Rattle.hub.specs.Explaining.{text_at, text_of as text_told};
 ghost use Rattle.hub.specs.Replies.{refused_or};
 ghost use Rattle.hub.specs.Told.{trace_of};
 
-use crate::asking::{Asker, Content, content_of, standing_of_person};
+use crate::asking::{Asker, case_of, standing_of_person};
 use crate::fault::{ample, told};
 use circle::text::Text;
 use explain::{ExplainFault, explain};
-use hub_core::{Code, Explain, Refusal, Reply, Request, Shelf, ShelfFault, judge};
-use iodef_tree::{Path, PathFault};
+use hub_core::{Code, Explain, Facts, Refusal, Reply, Request, Shelf, ShelfFault, judge};
+use iodef_tree::{Document, Path, PathFault};
 use marking::{MarkingFault, check};
-use policy::Standing;
+use policy::{Case, Standing};
 use std::alloc::Global;
 
 /// The explanation of a class as text; none where there is no class at the path. A document whose markings weren't
 /// accepted has none: a shelf has no such document, unless its disk returned what wasn't written.
 fn text_of(
     alloc: Global,
-    content: &Content,
+    document: &Document,
+    case: &Case,
     standing: &Standing,
     path: &Path,
 ) -> Result<Option<Text>, ShelfFault>
-    ensures told { first_bad_marking (located content.now.document) ≡ None → IfOk result (λ text. text ≡ text_at content.now standing.now path.now) }
+    ensures told { first_bad_marking (located document.now) ≡ None → IfOk result (λ text. text ≡ text_at document.now case.now standing.now path.now) }
     ensures fault { IfErr result (λ e. e ≡ ShelfFault.NoMemory) }
 {
-    match check(alloc, &content.document) {
-        Ok(()) => explained(alloc, content, standing, path),
+    match check(alloc, document) {
+        Ok(()) => explained(alloc, document, case, standing, path),
         Err(MarkingFault::BadMarking(_)) => Ok(None),
         Err(MarkingFault::NoMemory) => Err(ShelfFault::NoMemory),
     }
@@ -44,15 +46,16 @@ fn text_of(
 
 fn explained(
     alloc: Global,
-    content: &Content,
+    document: &Document,
+    case: &Case,
     standing: &Standing,
     path: &Path,
 ) -> Result<Option<Text>, ShelfFault>
-    requires { first_bad_marking (located content.now.document) ≡ None }
-    ensures told { IfOk result (λ text. text ≡ text_at content.now standing.now path.now) }
+    requires { first_bad_marking (located document.now) ≡ None }
+    ensures told { IfOk result (λ text. text ≡ text_at document.now case.now standing.now path.now) }
     ensures fault { IfErr result (λ e. e ≡ ShelfFault.NoMemory) }
 {
-    match explain(alloc, &content.document, &content.case, standing, path) {
+    match explain(alloc, document, case, standing, path) {
         Ok(trace) => {
             let text = ample(trace.text(alloc))?;
             Ok(Some(Text::new(text)))
@@ -73,27 +76,31 @@ fn path_of(alloc: Global, text: &Text) -> Result<Option<Path>, ShelfFault>
     }
 }
 
-/// The explanation; none where the person, the incident or the class is missing.
+/// The explanation, by the facts of the question; none where the person, the incident or the class is missing.
 fn find_text<Sh: Shelf>(
     shelf: &mut Sh,
     alloc: Global,
     asker: Asker<'_>,
+    facts: &Facts,
     asked: &Explain,
 ) -> Result<Option<Text>, ShelfFault>
-    ensures value { Sh.doubts shelf.new ≡ 0 → (s : State) → Sh.has shelf.old s → IsSound s → IfOk result (λ text. text ≡ text_told s asker.entry.now (person_of asked.now.person s.directory) (incident_of asked.now.incident s) (pointer_tokens asked.now.path)) }
+    ensures value { Sh.doubts shelf.new ≡ 0 → (s : State) → Sh.has shelf.old s → IsSound s → facts.now ≡ facts_of s asker.entry.person.now (ask.Explain asked.now) → IfOk result (λ text. text ≡ text_told s asker.entry.now (person_of asked.now.person s.directory) (incident_of asked.now.incident s) (pointer_tokens asked.now.path)) }
     ensures kept { IsKept Sh.has Sh.doubts Sh.failed Sh.may_leave shelf.old shelf.new }
     ensures cause { IsErrOf result ShelfFault.Failed → HasFailed (Sh.failed shelf.old) (Sh.failed shelf.new) }
 {
     let Some(standing) = standing_of_person(shelf, asker, asked.person, asked.incident)? else {
         return Ok(None);
     };
-    let Some(content) = content_of(shelf, asked.incident)? else {
+    let Some(case) = case_of(shelf, asked.incident)? else {
+        return Ok(None);
+    };
+    let Some(document) = &facts.document else {
         return Ok(None);
     };
     let Some(path) = path_of(alloc, &asked.path)? else {
         return Ok(None);
     };
-    text_of(alloc, &content, &standing, &path)
+    text_of(alloc, document, &case, &standing, &path)
 }
 
 /// What is answered with the explanation. There is one wherever the question isn't refused.
@@ -122,7 +129,7 @@ pub fn explain_to<Sh: Shelf>(
     match judge(alloc, asker.person, &facts, request) {
         Err(refusal) => told(refusal),
         Ok(_) => {
-            let text = find_text(shelf, alloc, asker, asked)?;
+            let text = find_text(shelf, alloc, asker, &facts, asked)?;
             Ok(reply_of(alloc, text))
         }
     }

@@ -1,5 +1,5 @@
 //! Pages: the incidents of which something holds, by number.
-ghost use Rattle.std.specs.Prelude.{◌≡◌, ◌≤◌, ◌++◌, ℕ, false, IfOk, OnOk, IfErr, IsErrOf, filter, take, length};
+ghost use Rattle.std.specs.Prelude.{◌≡◌, ◌≤◌, ◌++◌, false, not, IfOk, OnOk, IfErr, IsErrOf, filter, take, length};
 ghost use Rattle.std.specs.Option.{option_map_or};
 ghost use Rattle.hub_core.specs.State.{State, incident_of};
 ghost use Rattle.hub_core.specs.Sound.{IsSound};
@@ -7,54 +7,40 @@ ghost use Rattle.hub_core.specs.Reads.{case_for};
 ghost use Rattle.hub_core.specs.declared.state.Incident.{Incident};
 ghost use Rattle.hub_core.specs.declared.reply.Entry.{Entry as Listed};
 ghost use Rattle.hub.specs.Replies.{page_of};
-ghost use Rattle.hub.specs.Wanted.{is_told, is_wanted, is_wanted_at, number_at_end, rules_out};
+ghost use Rattle.redact.specs.Wants.{meets as is_met};
+ghost use Rattle.hub.specs.Wanted.{admits, is_told, is_wanted, is_wanted_at, number_at_end};
 ghost use Rattle.hub_core.specs.Shelves.{HasFailed, IsKept};
 ghost use Rattle.hub.specs.Asking.{IsThere};
 
 use crate::PAGE_LIMIT;
-use crate::asking::{Asker, content_of, standing};
+use crate::asking::{Asker, case_of, document_of, standing};
 use crate::fault::ample;
 use crate::wanted::Wanted;
 use hub_core::{Entry, Shelf, ShelfFault};
 use iodef_tree::Document;
 use policy::{Case, Standing};
-use redact::{finds, is_listed};
+use redact::{Want, meets};
 use std::alloc::Global;
 
-/// Whether what a person is told of an incident makes a page list it.
-fn is_told_so(
+/// Whether what a person is told of an incident meets a want.
+fn meets_so(
     alloc: Global,
-    wanted: Wanted<'_>,
+    want: &Want,
     document: &Document,
     case: &Case,
     standing: &Standing,
 ) -> Result<bool, ShelfFault>
-    ensures told { IfOk result (λ b. b ≡ is_told wanted.entry document.now case.now standing.now) }
+    ensures met { IfOk result (λ b. b ≡ is_met want.now document.now case.now standing.now) }
     ensures fault { IfErr result (λ e. e ≡ ShelfFault.NoMemory) }
 {
-    match wanted {
-        Wanted::Shown => ample(is_listed(alloc, document, case, standing)),
-        Wanted::Found { needle, class } => {
-            ample(finds(alloc, document, case, standing, needle, class))
-        }
-        Wanted::Addressed => {
-            if standing.person || standing.addressed {
-                ample(is_listed(alloc, document, case, standing))
-            } else {
-                Ok(false)
-            }
-        }
-    }
+    ample(meets(alloc, document, case, standing, want))
 }
 
 /// Whether a standing rules an incident out, whatever it holds.
 fn is_ruled_out(wanted: Wanted<'_>, standing: &Standing) -> bool
-    ensures { result ≡ rules_out wanted.entry standing.now }
+    ensures { result ≡ not (admits wanted.entry standing.now) }
 {
-    match wanted {
-        Wanted::Addressed => !(standing.person || standing.addressed),
-        _ => false,
-    }
+    wanted.addressed && !(standing.person || standing.addressed)
 }
 
 /// Whether a page lists the incident, told by how the person stands to it. Where that rules it out, nothing more is read.
@@ -72,10 +58,13 @@ fn is_wanted_by<Sh: Shelf>(
     if is_ruled_out(wanted, standing) {
         return Ok(false);
     }
-    match content_of(shelf, incident)? {
-        None => Ok(false),
-        Some(content) => is_told_so(alloc, wanted, &content.document, &content.case, standing),
-    }
+    let Some(case) = case_of(shelf, incident)? else {
+        return Ok(false);
+    };
+    let Some(document) = document_of(shelf, incident)? else {
+        return Ok(false);
+    };
+    meets_so(alloc, wanted.want, &document, &case, standing)
 }
 
 /// Whether a page lists the incident of this number for the person, at a moment.

@@ -1,6 +1,5 @@
 //! Requests that only read.
-ghost use Rattle.std.specs.Prelude.{◌≡◌, IfOk, IfErr, IsErrOf, option_map};
-ghost use Rattle.circle.specs.Outcomes.{no_memory};
+ghost use Rattle.std.specs.Prelude.{◌≡◌, ◌&&◌, ◌||◌, not, Some, IfOk, IfErr, IsErrOf, option_map, string_bytes};
 ghost use Rattle.hub_core.specs.State.{State};
 ghost use Rattle.hub_core.specs.Sound.{IsSound};
 ghost use Rattle.hub_core.specs.Refusals.{refusal_of};
@@ -8,6 +7,8 @@ ghost use Rattle.hub_core.specs.declared.reply.Reply.TheVariants.{Incidents, Ref
 ghost use Rattle.hub_core.specs.Reads.{groups_of as groups_joined_by};
 ghost use Rattle.hub_core.specs.declared.reply.Reply.TheVariants.{Groups, View};
 ghost use Rattle.hub_core.specs.State.{incident_of};
+ghost use Rattle.hub_core.specs.declared.state.Incident.{Incident};
+ghost use Rattle.hub.specs.Told.{is_served, is_addressed};
 ghost use Rattle.hub.specs.Replies.{page_of, viewed};
 ghost use Rattle.hub.specs.Wanted.{is_wanted};
 ghost use Rattle.hub.specs.Serving.{read_by, searched};
@@ -24,6 +25,7 @@ use circle::text::Text;
 use hub_core::{
     Code, Entries, JoinedGroups, Refusal, Reply, Request, Search, Shelf, ShelfFault, judge,
 };
+use redact::Want;
 use std::alloc::Global;
 
 /// The incidents above a number that a page lists.
@@ -42,6 +44,57 @@ fn list<Sh: Shelf>(
     Ok(Reply::Incidents(Entries::new(listed)))
 }
 
+/// The incidents above a number of which some class is visible; those alone that are addressed to the person, if only they
+/// are asked for.
+fn list_shown<Sh: Shelf>(
+    shelf: &mut Sh,
+    alloc: Global,
+    asker: Asker<'_>,
+    addressed: bool,
+    after: u32,
+) -> Result<Reply, ShelfFault>
+    ensures value { Sh.doubts shelf.new ≡ 0 → (s : State) → Sh.has shelf.old s → IsSound s → IsThere s asker.entry.person.now → IfOk result (λ reply. reply ≡ Incidents (page_of (λ (i : Incident). (not addressed || is_addressed s asker.entry.now asker.entry.person.now i) && is_served s asker.entry.now asker.entry.person.now i) after s)) }
+    ensures kept { IsKept Sh.has Sh.doubts Sh.failed Sh.may_leave shelf.old shelf.new }
+    ensures cause { IsErrOf result ShelfFault.Failed → HasFailed (Sh.failed shelf.old) (Sh.failed shelf.new) }
+{
+    let want = Want {
+        needle: None,
+        class: None,
+    };
+    let wanted = Wanted {
+        addressed,
+        want: &want,
+    };
+    list(shelf, alloc, asker, wanted, after)
+}
+
+fn string_of(alloc: Global, text: &Option<Text>) -> Result<Option<String>, ShelfFault>
+    ensures value { IfOk result (λ string. option_map string_bytes string ≡ text.now) }
+    ensures fault { IfErr result (λ e. e ≡ ShelfFault.NoMemory) }
+{
+    match text {
+        None => Ok(None),
+        Some(text) => {
+            let string = ample(String::from_str(alloc, text.as_str()))?;
+            Ok(Some(string))
+        }
+    }
+}
+
+/// What a search looks for.
+fn want_of(alloc: Global, asked: &Search) -> Result<Want, ShelfFault>
+    ensures needle { IfOk result (λ want. option_map string_bytes want.needle ≡ Some asked.now.needle) }
+    ensures class { IfOk result (λ want. option_map string_bytes want.class ≡ asked.now.class) }
+    ensures fault { IfErr result (λ e. e ≡ ShelfFault.NoMemory) }
+{
+    let needle = ample(String::from_str(alloc, asked.needle.as_str()))?;
+    let class = string_of(alloc, &asked.class)?;
+    Ok(Want {
+        needle: Some(needle),
+        class,
+    })
+}
+
 /// The incidents in which the needle is found, unless an argument is bad.
 fn search<Sh: Shelf>(
     shelf: &mut Sh,
@@ -58,15 +111,12 @@ fn search<Sh: Shelf>(
     match judge(alloc, asker.person, &facts, request) {
         Err(refusal) => told(refusal),
         Ok(_) => {
-            let needle = asked.needle.as_str();
-            let class = text_of(&asked.class);
-            list(
-                shelf,
-                alloc,
-                asker,
-                Wanted::Found { needle, class },
-                asked.after,
-            )
+            let want = want_of(alloc, asked)?;
+            let wanted = Wanted {
+                addressed: false,
+                want: &want,
+            };
+            list(shelf, alloc, asker, wanted, asked.after)
         }
     }
 }
@@ -97,15 +147,6 @@ fn groups<Sh: Shelf>(shelf: &mut Sh, asker: Asker<'_>) -> Result<Reply, ShelfFau
     Ok(Reply::Groups(JoinedGroups::new(groups)))
 }
 
-fn text_of(text: &Option<Text>) -> Option<&str>
-    ensures { option_map (λ t. t.now) result ≡ text.now }
-{
-    match text {
-        None => None,
-        Some(text) => Some(text.as_str()),
-    }
-}
-
 /// What a request that only reads is answered; none for one that changes something.
 pub fn read<Sh: Shelf>(
     shelf: &mut Sh,
@@ -119,9 +160,9 @@ pub fn read<Sh: Shelf>(
 {
     let reply = match request {
         Request::View { incident } => look(shelf, alloc, asker, *incident)?,
-        Request::List { after } => list(shelf, alloc, asker, Wanted::Shown, *after)?,
+        Request::List { after } => list_shown(shelf, alloc, asker, false, *after)?,
         Request::Search(asked) => search(shelf, alloc, asker, request, asked)?,
-        Request::Addressed { after } => list(shelf, alloc, asker, Wanted::Addressed, *after)?,
+        Request::Addressed { after } => list_shown(shelf, alloc, asker, true, *after)?,
         Request::Explain(asked) => explain_to(shelf, alloc, asker, request, asked)?,
         Request::MyGroups => groups(shelf, asker)?,
         Request::WhoAmI => Reply::Caller(ample(asker.person.clone())?),

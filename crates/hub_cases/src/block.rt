@@ -1,7 +1,7 @@
 //! The requests of a block of lines, written out.
 
-use crate::fields::number_of;
 use std::alloc::{AllocError, Global};
+use trying::number_of;
 
 /// A block of the table.
 #[derive(Drop)]

@@ -17,12 +17,9 @@
 #![tactic(auto)]
 
 mod block;
-mod commands;
 mod failing;
-mod fields;
 mod openings;
 mod play;
-mod requests;
 mod tables;
 mod told;
 mod world;

@@ -1,11 +1,11 @@
 //! Stores that are made and opened.
 
-use crate::commands::key_of;
 use crate::tables::{begun, made, opened};
 use hub_core::{Shelf, ShelfFault};
 use hub_store::{OpenFault, SqlShelf};
 use sqlite::{Alter, Connection};
 use std::alloc::{AllocError, Global};
+use trying_hub::key_of;
 
 fn fault_told(alloc: Global, fault: OpenFault) -> Result<String, AllocError> {
     match fault {

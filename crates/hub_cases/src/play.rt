@@ -2,24 +2,15 @@
 
 use crate::block::Block;
 use crate::failing::Failing;
-use crate::world::{first_rows, lines_of, requests_of};
+use crate::world::{lines_of, requests_of};
 use crate::{tables, told};
 use hub::Hub;
-use hub_core::{ListShelf, Shelf};
+use hub_core::Shelf;
 use std::alloc::{AllocError, Global};
+use trying_hub::{first_shelf, key_of};
 
 /// More calls of the shelf than a case makes.
 const MOST_CALLS: u64 = 10_000;
-
-/// The shelf that each case begins with; none where it wasn't made.
-fn first_shelf(alloc: Global) -> Result<Option<ListShelf>, AllocError> {
-    let edits = first_rows(alloc)?;
-    let mut shelf = ListShelf::new(alloc);
-    match shelf.apply(&edits) {
-        Ok(()) => Ok(Some(shelf)),
-        Err(_) => Ok(None),
-    }
-}
 
 /// What the requests are answered, but for one that isn't made; none where the memory doesn't suffice.
 fn replies(
@@ -27,7 +18,7 @@ fn replies(
     lines: &[&str],
     but: Option<usize>,
 ) -> Result<Option<Vec<String>>, AllocError> {
-    let Some(shelf) = first_shelf(alloc)? else {
+    let Some(shelf) = first_shelf(alloc, key_of(1))? else {
         return Ok(None);
     };
     let asked = requests_of(alloc, lines, but)?;
@@ -43,7 +34,7 @@ fn replies_failing(
     lines: &[&str],
     calls: u64,
 ) -> Result<Option<Vec<String>>, AllocError> {
-    let Some(shelf) = first_shelf(alloc)? else {
+    let Some(shelf) = first_shelf(alloc, key_of(1))? else {
         return Ok(None);
     };
     let asked = requests_of(alloc, lines, None)?;

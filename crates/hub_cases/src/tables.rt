@@ -1,12 +1,13 @@
 //! The hub over SQL tables in memory.
 
 use crate::told::reply;
-use crate::world::{first_rows, requests_of};
+use crate::world::requests_of;
 use hub::Hub;
 use hub_core::{Shelf, ShelfFault};
 use hub_store::{OpenFault, SqlShelf};
 use sqlite::{Alter, Connection, MemStore};
 use std::alloc::{AllocError, Global};
+use trying_hub::{first_rows, key_of};
 
 /// New tables over the connection, which comes back where they aren't made.
 pub fn made<S: Alter + Drop>(
@@ -41,7 +42,7 @@ pub fn begun(alloc: Global) -> Result<Option<SqlShelf<MemStore>>, AllocError> {
     let Ok(mut shelf) = made(alloc, Connection::open_in_memory(alloc)?) else {
         return Ok(None);
     };
-    match shelf.apply(&first_rows(alloc)?) {
+    match shelf.apply(&first_rows(alloc, key_of(1))?) {
         Ok(()) => Ok(Some(shelf)),
         Err(_) => Ok(None),
     }

@@ -1,9 +1,9 @@
 //! Replies as text.
 
-use circle::directory::{Person, Role};
-use circle::refusal::Refusal;
+use circle::directory::Person;
 use hub_core::{Entry, JoinedGroup, Reply, View};
 use std::alloc::{AllocError, Global};
+use trying_hub::{refusal_text, role_name};
 
 fn push_pairs(alloc: Global, all: &mut String, view: &View) -> Result<(), AllocError> {
     for (place, rule) in view.withheld.as_slice() {
@@ -74,19 +74,10 @@ fn groups(alloc: Global, groups: &[JoinedGroup]) -> Result<String, AllocError> {
     Ok(all)
 }
 
-fn role(role: Role) -> &'static str {
-    match role {
-        Role::Administrator => "administrator",
-        Role::Coordinator => "coordinator",
-        Role::Poster => "poster",
-        Role::Reader => "reader",
-    }
-}
-
 fn caller(alloc: Global, person: &Person) -> Result<String, AllocError> {
     let (number, org) = (person.number, person.org);
     let name = person.name.as_str();
-    let role = role(person.role);
+    let role = role_name(person.role);
     let nominated = if person.nominated {
         "nominated"
     } else {
@@ -106,16 +97,6 @@ fn trace(alloc: Global, text: &str) -> Result<String, AllocError> {
     Ok(all)
 }
 
-/// The code, and the detail where there is one.
-fn refusal(alloc: Global, refusal: &Refusal) -> Result<String, AllocError> {
-    let code = refusal.code.name();
-    let detail = refusal.detail.as_str();
-    if detail.is_empty() {
-        return String::from_str(alloc, code);
-    }
-    format!(in alloc; "{code} {detail}")
-}
-
 pub fn reply(alloc: Global, reply: &Reply) -> Result<String, AllocError> {
     match reply {
         Reply::Done => String::from_str(alloc, "done"),
@@ -129,7 +110,7 @@ pub fn reply(alloc: Global, reply: &Reply) -> Result<String, AllocError> {
         Reply::Groups(found) => groups(alloc, found.as_slice()),
         Reply::Caller(person) => caller(alloc, person),
         Reply::Trace(text) => trace(alloc, text.as_str()),
-        Reply::Refused(found) => refusal(alloc, found),
+        Reply::Refused(found) => refusal_text(alloc, found),
     }
 }
 

@@ -1,45 +1,14 @@
 //! What each case begins with.
 
 use crate::block::Block;
-use crate::commands::key_of;
-use crate::requests::asked_of;
-use circle::command::RowEdit;
-use circle::directory::{Account, Org, Person, Role};
-use circle::name::Name;
 use hub::Key;
-use hub_core::{Edit, Request};
+use hub_core::Request;
 use std::alloc::{AllocError, Global};
+use trying::number_of;
+use trying_hub::{Fields, key_of, request_of};
 
 /// The moment of the first request, in seconds since 1970; each comes a second behind the one before.
 const FIRST_MOMENT: i64 = 1_700_000_000;
-
-/// The administrator of organisation 1, person 1.
-fn administrator(name: Name) -> Account {
-    Account {
-        person: Person {
-            number: 1,
-            org: 1,
-            name,
-            role: Role::Administrator,
-            active: true,
-            nominated: false,
-        },
-        key: key_of(1),
-    }
-}
-
-/// Organisation 1 and its administrator, person 1.
-pub fn first_rows(alloc: Global) -> Result<Vec<Edit>, AllocError> {
-    let mut edits = Vec::new(alloc);
-    if let Some(name) = Name::of(alloc, "Hub")? {
-        edits.push(Edit::Directory(RowEdit::PutOrg(Org { number: 1, name })))?;
-    }
-    if let Some(name) = Name::of(alloc, "admin")? {
-        let account = administrator(name);
-        edits.push(Edit::Directory(RowEdit::PutAccount(account)))?;
-    }
-    Ok(edits)
-}
 
 fn push_lines<'a>(lines: &mut Vec<&'a str>, block: &'a Block) -> Result<(), AllocError> {
     for line in block.lines.iter() {
@@ -58,6 +27,21 @@ pub fn lines_of<'a>(
     push_lines(&mut lines, world)?;
     push_lines(&mut lines, block)?;
     Ok(lines)
+}
+
+/// By what the caller is known.
+fn caller(word: &str) -> Key {
+    match word.split_once('p') {
+        Some((_, number)) => Key::Digest(key_of(number_of(number))),
+        None => Key::Absent,
+    }
+}
+
+/// Who asks what, by a line.
+fn asked_of(alloc: Global, line: &str) -> Result<(Key, Request), AllocError> {
+    let mut fields = Fields::new(line);
+    let key = caller(fields.word());
+    Ok((key, request_of(alloc, &mut fields)?))
 }
 
 /// The requests of these lines, but for one.

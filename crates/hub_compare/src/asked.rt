@@ -1,33 +1,133 @@
-//! What the plain hub says of a request: what its body is read as, and its refusal.
+//! Generated requests: who asks, when, and what about.
 
-use crate::grounds::Told;
-use crate::rows::Rows;
-use crate::sheet::{Body, body_of};
-use crate::{directory, incidents};
-use circle::directory::Person;
+use crate::commands::{any_administration, any_coordination};
+use crate::posting::{any_post, any_replace};
+use crate::reading::{any_question, any_reading};
+use crate::sharing::any_sharing;
+use crate::world::{World, count_of, key_of};
+use circle::directory::{Person, Role};
+use hub::Key;
 use hub_core::Request;
-use std::alloc::{AllocError, Global};
+use std::alloc::AllocError;
+use trying::Dice;
 
-/// What the body of the request is read as; nothing where it has none.
-pub fn body_in(alloc: Global, request: &Request) -> Result<Body, AllocError> {
-    match request {
-        Request::Post(asked) => body_of(alloc, asked.document.as_slice()),
-        Request::Replace(asked) => body_of(alloc, asked.document.as_slice()),
-        _ => Ok(Body::Sheets(Vec::new(alloc))),
+/// A request, when it is asked, and by whom.
+#[derive(Drop)]
+pub struct Asked {
+    pub now: i64,
+    pub key: Key,
+    pub request: Request,
+}
+
+/// Who asks, of which organisation, and about which incident.
+#[derive(Clone, Copy)]
+pub struct Asker {
+    pub who: u32,
+    pub own: u32,
+    pub incident: u32,
+}
+
+/// What a request is for, and so whose it is.
+#[derive(Clone, Copy)]
+enum Trade {
+    Administration,
+    Coordination,
+    Posting,
+    Exchange,
+    Sharing,
+    Reading,
+    Question,
+}
+
+fn any_trade(dice: &mut Dice) -> Trade {
+    match dice.roll(32) {
+        0..=6 => Trade::Administration,
+        7..=13 => Trade::Coordination,
+        14..=16 => Trade::Posting,
+        17..=19 => Trade::Exchange,
+        20..=24 => Trade::Sharing,
+        25..=27 => Trade::Reading,
+        _ => Trade::Question,
     }
 }
 
-/// Why the request is refused, if it is.
-pub fn refusal(
-    alloc: Global,
-    rows: &Rows,
-    actor: &Person,
-    request: &Request,
-    body: &Body,
-) -> Result<Option<Told>, AllocError> {
-    let grounds = match request {
-        Request::Circle(command) => directory::grounds_of(alloc, rows, actor, command)?,
-        _ => incidents::grounds_of(alloc, rows, actor, request, body)?,
+/// Whether the person has a role for the trade and, where an incident is changed, is of its source.
+fn suits(person: &Person, trade: Trade, source: Option<u32>) -> bool {
+    let may_post = person.role == Role::Coordinator || person.role == Role::Poster;
+    match trade {
+        Trade::Administration | Trade::Question => person.role == Role::Administrator,
+        Trade::Coordination => person.role == Role::Coordinator,
+        Trade::Posting => may_post,
+        Trade::Exchange | Trade::Sharing => {
+            may_post && (source.is_none() || source == Some(person.org))
+        }
+        Trade::Reading => true,
+    }
+}
+
+/// The number of an incident, one that is there mostly.
+fn any_incident(dice: &mut Dice, world: &World) -> u32 {
+    let count = count_of(world.incidents.as_slice());
+    if dice.once_in(12) {
+        return count.saturating_add(dice.roll(3));
+    }
+    dice.one_to(count)
+}
+
+/// A person for the trade, mostly.
+fn any_asker(dice: &mut Dice, world: &World, trade: Trade) -> Result<Asker, AllocError> {
+    let incident = any_incident(dice, world);
+    let source = match world.incident(incident) {
+        Some(row) if !dice.once_in(6) => Some(row.naming.source),
+        _ => None,
     };
-    Ok(grounds.first(alloc))
+    let is_any = dice.once_in(3);
+    let mut suited = Vec::new(world.alloc);
+    for account in world.accounts.iter() {
+        let person = &account.person;
+        if is_any || person.active && suits(person, trade, source) {
+            let (who, own) = (person.number, person.org);
+            suited.push(Asker { who, own, incident })?;
+        }
+    }
+    Ok(match dice.one_of(suited.as_slice()) {
+        Some(asker) => *asker,
+        None => Asker {
+            who: 1,
+            own: 1,
+            incident,
+        },
+    })
+}
+
+fn any_request(
+    dice: &mut Dice,
+    world: &World,
+    trade: Trade,
+    asker: Asker,
+) -> Result<Request, AllocError> {
+    let Asker { who, own, incident } = asker;
+    Ok(match trade {
+        Trade::Administration => Request::Circle(any_administration(dice, world, who)?),
+        Trade::Coordination => Request::Circle(any_coordination(dice, world, own)?),
+        Trade::Posting => Request::Post(any_post(dice, world, own)?),
+        Trade::Exchange => Request::Replace(any_replace(dice, world, asker)?),
+        Trade::Sharing => any_sharing(dice, world, asker)?,
+        Trade::Reading => any_reading(dice, world.alloc, incident)?,
+        Trade::Question => Request::Explain(any_question(dice, world, asker)?),
+    })
+}
+
+/// A request of somebody.
+pub fn any_asked(dice: &mut Dice, world: &World) -> Result<Asked, AllocError> {
+    let trade = any_trade(dice);
+    let asker = any_asker(dice, world, trade)?;
+    let request = any_request(dice, world, trade, asker)?;
+    let key = match dice.roll(60) {
+        0 => Key::Absent,
+        1 => Key::Digest([255; 32]),
+        _ => Key::Digest(key_of(asker.who)),
+    };
+    let now = i64::from(dice.roll(1_000_000));
+    Ok(Asked { now, key, request })
 }

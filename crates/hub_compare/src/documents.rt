@@ -1,7 +1,7 @@
 //! Generated bodies, as JSON texts: some as they should be, some with one flaw.
 
-use crate::dice::Dice;
 use std::alloc::{AllocError, Global};
+use trying::Dice;
 
 /// What is wrong with a body.
 #[derive(Clone, Copy, PartialEq, Eq)]
@@ -32,62 +32,39 @@ pub fn any_flaw(dice: &mut Dice) -> Flaw {
     }
 }
 
-/// Members that spell a label; none mostly.
+/// Members that spell a label, behind others; none mostly.
 fn label(dice: &mut Dice) -> &'static str {
     match dice.roll(24) {
-        0 | 1 => "\"restriction\":\"public\"",
-        2 => "\"restriction\":\"white\"",
-        3 | 17 => "\"restriction\":\"partner\"",
-        4 => "\"restriction\":\"green\",\"ext-restriction\":\"TLP:CLEAR\"",
-        5 => "\"restriction\":\"need-to-know\"",
-        6 => "\"restriction\":\"amber\"",
-        7 => "\"restriction\":\"private\"",
-        8 => "\"restriction\":\"red\"",
-        9 | 10 => "\"restriction\":\"default\"",
-        11 | 16 => "\"restriction\":\"ext-value\",\"ext-restriction\":\"TLP:AMBER\"",
-        12 => "\"restriction\":\"ext-value\",\"ext-restriction\":\"tlp:Amber+Strict\"",
-        13 => "\"restriction\":\"ext-value\",\"ext-restriction\":\"tlp:clear\"",
-        14 => "\"restriction\":\"ext-value\",\"ext-restriction\":\"ours\"",
+        0 | 1 => ",\"restriction\":\"public\"",
+        2 => ",\"restriction\":\"white\"",
+        3 | 17 | 20 => ",\"restriction\":\"partner\"",
+        4 => ",\"restriction\":\"green\",\"ext-restriction\":\"TLP:CLEAR\"",
+        5 => ",\"restriction\":\"need-to-know\"",
+        6 | 18 => ",\"restriction\":\"amber\"",
+        7 => ",\"restriction\":\"private\"",
+        8 => ",\"restriction\":\"red\"",
+        9 | 10 => ",\"restriction\":\"default\"",
+        11 | 16 | 19 => ",\"restriction\":\"ext-value\",\"ext-restriction\":\"TLP:AMBER\"",
+        12 => ",\"restriction\":\"ext-value\",\"ext-restriction\":\"tlp:Amber+Strict\"",
+        13 => ",\"restriction\":\"ext-value\",\"ext-restriction\":\"tlp:clear\"",
+        14 => ",\"restriction\":\"ext-value\",\"ext-restriction\":\"ours\"",
         15 =>
-            "\"restriction\":\"ext-value\",\"ext-restriction\":\"our \\\"o\\\\n\\u0001\\b\\u001f\u{7f}ü\"",
+            ",\"restriction\":\"ext-value\",\"ext-restriction\":\"our \\\"o\\\\n\\u0001\\b\\u001f\u{7f}ü\"",
         _ => "",
     }
 }
 
-/// Members that spell none.
+/// A member whose class spells none.
 fn no_label(dice: &mut Dice) -> &'static str {
     match dice.roll(7) {
-        0 => "{\"restriction\":\"secret\"}",
-        1 => "{\"restriction\":[\"public\"]}",
-        2 => "{\"restriction\":\"ext-value\"}",
-        3 => "{\"ext-restriction\":\"TLP:AMBER\"}",
-        4 => "{\"restriction\":\"red\",\"ext-restriction\":7}",
-        5 => "{\"note\":[\"x\",{\"restriction\":{}}]}",
-        _ => "{\"restriction\":\"public\",\"ext-restriction\":[]}",
+        0 => ",\"zone\":{\"restriction\":\"secret\"}",
+        1 => ",\"zone\":{\"restriction\":[\"public\"]}",
+        2 => ",\"zone\":{\"restriction\":\"ext-value\"}",
+        3 => ",\"zone\":{\"ext-restriction\":\"TLP:AMBER\"}",
+        4 => ",\"zone\":{\"restriction\":\"red\",\"ext-restriction\":7}",
+        5 => ",\"zone\":{\"note\":[\"x\",{\"restriction\":{}}]}",
+        _ => ",\"zone\":{\"restriction\":\"public\",\"ext-restriction\":[]}",
     }
-}
-
-fn push_comma(text: &mut String) -> Result<(), AllocError> {
-    if text.as_str().ends_with('{') || text.as_str().ends_with('[') {
-        return Ok(());
-    }
-    text.push(',')
-}
-
-fn push_member(text: &mut String, name: &str, value: &str) -> Result<(), AllocError> {
-    push_comma(text)?;
-    text.push('"')?;
-    text.push_str(name)?;
-    text.push_str("\":")?;
-    text.push_str(value)
-}
-
-fn push_label(text: &mut String, written: &str) -> Result<(), AllocError> {
-    if written.is_empty() {
-        return Ok(());
-    }
-    push_comma(text)?;
-    text.push_str(written)
 }
 
 fn description(dice: &mut Dice) -> &'static str {
@@ -101,98 +78,74 @@ fn description(dice: &mut Dice) -> &'static str {
     }
 }
 
-/// Systems in one array, the last with a label perhaps.
-fn systems(alloc: Global, dice: &mut Dice) -> Result<String, AllocError> {
-    let mut text = String::from_str(alloc, "[")?;
-    for _ in 0..dice.roll(3) {
-        push_comma(&mut text)?;
-        text.push_str("{\"Note\":\"needle\"}")?;
+fn contacts(dice: &mut Dice) -> &'static str {
+    match dice.roll(3) {
+        0 => "[]",
+        1 => "[{\"ContactName\":[\"n\"]}]",
+        _ =>
+            "[{\"ContactName\":[\"n\"],\"Email\":[{\"EmailTo\":\"e\",\"restriction\":\"green\"}],\"restriction\":\"red\"}]",
     }
-    push_comma(&mut text)?;
-    text.push('{')?;
-    push_label(&mut text, label(dice))?;
-    text.push_str("}]")?;
-    Ok(text)
 }
 
-fn event(alloc: Global, dice: &mut Dice) -> Result<String, AllocError> {
-    let mut text = String::from_str(alloc, "{")?;
-    if !dice.once_in(4) {
-        push_member(&mut text, "Description", description(dice))?;
-    }
-    if dice.once_in(2) {
-        let mut flow = String::from_str(alloc, "[{")?;
-        let systems = systems(alloc, dice)?;
-        push_member(&mut flow, "System", systems.as_str())?;
-        push_label(&mut flow, label(dice))?;
-        flow.push_str("}]")?;
-        push_member(&mut text, "Flow", flow.as_str())?;
-    }
-    push_label(&mut text, label(dice))?;
-    text.push('}')?;
-    Ok(text)
-}
-
-/// So many classes without members in one array.
-fn empty_classes(alloc: Global, count: u32) -> Result<String, AllocError> {
-    let mut text = String::from_str(alloc, "[")?;
+/// The text so many times.
+fn repeated(alloc: Global, text: &str, count: u32) -> Result<String, AllocError> {
+    let mut all = String::new(alloc);
     for _ in 0..count {
-        push_comma(&mut text)?;
-        text.push_str("{}")?;
+        all.push_str(text)?;
     }
-    text.push(']')?;
-    Ok(text)
+    Ok(all)
 }
 
-fn events(alloc: Global, dice: &mut Dice) -> Result<String, AllocError> {
-    let mut text = String::from_str(alloc, "[")?;
+/// An event with a label perhaps; in one of two with a flow of systems that may have labels too.
+fn event(alloc: Global, dice: &mut Dice) -> Result<String, AllocError> {
+    let description = description(dice);
+    let own = label(dice);
+    if dice.once_in(2) {
+        return format!(in alloc; "{{\"Description\":{description}{own}}}");
+    }
+    let systems = repeated(alloc, "{\"Note\":\"needle\"},", dice.roll(3))?;
+    let last = label(dice);
+    let flow = label(dice);
+    format!(in alloc;
+        "{{\"Description\":{description},\"Flow\":[{{\"System\":[{systems}{{\"Note\":\"x\"{last}}}]{flow}}}]{own}}}"
+    )
+}
+
+/// One to three events; in wide documents two dozen empty classes.
+fn events(alloc: Global, dice: &mut Dice, wide: bool) -> Result<String, AllocError> {
+    if wide {
+        let more = repeated(alloc, ",{}", 23)?;
+        return format!(in alloc; "{{}}{more}");
+    }
+    let mut text = event(alloc, dice)?;
     for _ in 0..dice.roll(3) {
-        push_comma(&mut text)?;
+        text.push(',')?;
         text.push_str(event(alloc, dice)?.as_str())?;
     }
-    push_comma(&mut text)?;
-    text.push_str(event(alloc, dice)?.as_str())?;
-    text.push(']')?;
     Ok(text)
 }
 
-/// A class in a class and so on, so many times.
-fn nested(alloc: Global, depth: u32) -> Result<String, AllocError> {
-    let mut text = String::new(alloc);
-    for _ in 0..depth {
-        text.push_str("{\"d\":")?;
-    }
-    text.push_str("{}")?;
-    for _ in 0..depth {
-        text.push('}')?;
-    }
-    Ok(text)
-}
-
-fn many_lines(alloc: Global) -> Result<String, AllocError> {
-    let mut text = String::from_str(alloc, "[1")?;
-    for _ in 0..4096 {
-        text.push_str(",1")?;
-    }
-    text.push(']')?;
-    Ok(text)
-}
-
-/// A member with the flaw.
-fn push_flaw(
-    alloc: Global,
-    dice: &mut Dice,
-    text: &mut String,
-    flaw: Flaw,
-) -> Result<(), AllocError> {
+/// A member with the flaw, behind others.
+fn flawed(alloc: Global, dice: &mut Dice, flaw: Flaw) -> Result<String, AllocError> {
     match flaw {
-        Flaw::NotWhole => push_member(text, "zone", "[{\"n\":[1.5]}]"),
-        Flaw::NestedClass => push_member(text, "zone", "[\"x\",[1,{}]]"),
-        Flaw::TooDeep => push_member(text, "zone", nested(alloc, 33)?.as_str()),
-        Flaw::TooManyLines => push_member(text, "zone", many_lines(alloc)?.as_str()),
-        Flaw::BadMarking => push_member(text, "zone", no_label(dice)),
-        _ => Ok(()),
+        Flaw::NotWhole => String::from_str(alloc, ",\"zone\":[{\"n\":[1.5]}]"),
+        Flaw::NestedClass => String::from_str(alloc, ",\"zone\":[\"x\",[1,{}]]"),
+        Flaw::TooDeep => {
+            let (opened, closed) = (repeated(alloc, "{\"d\":", 33)?, repeated(alloc, "}", 33)?);
+            format!(in alloc; ",\"zone\":{opened}{{}}{closed}")
+        }
+        Flaw::TooManyLines => {
+            let more = repeated(alloc, ",1", 4096)?;
+            format!(in alloc; ",\"zone\":[1{more}]")
+        }
+        Flaw::BadMarking => String::from_str(alloc, no_label(dice)),
+        _ => Ok(String::new(alloc)),
     }
+}
+
+/// The member's name, or another one where the member is to be missing.
+fn unless(is_missing: bool, name: &'static str) -> &'static str {
+    if is_missing { "other" } else { name }
 }
 
 fn incident(
@@ -202,40 +155,19 @@ fn incident(
     flaw: Flaw,
     wide: bool,
 ) -> Result<String, AllocError> {
-    let missing = if flaw == Flaw::Missing {
-        dice.roll(4)
-    } else {
-        4
-    };
-    let mut text = String::from_str(alloc, "{")?;
-    if missing != 0 {
-        let contact = match dice.roll(3) {
-            0 => "[]",
-            1 => "[{\"ContactName\":[\"n\"]}]",
-            _ =>
-                "[{\"ContactName\":[\"n\"],\"Email\":[{\"EmailTo\":\"e\",\"restriction\":\"green\"}],\"restriction\":\"red\"}]",
-        };
-        push_member(&mut text, "Contact", contact)?;
-    }
-    let events = if wide {
-        empty_classes(alloc, 24)?
-    } else {
-        events(alloc, dice)?
-    };
-    push_member(&mut text, "EventData", events.as_str())?;
-    if missing != 1 {
-        push_member(&mut text, "GenerationTime", "\"g\"")?;
-    }
-    if missing != 2 {
-        push_member(&mut text, "IncidentID", ident)?;
-    }
-    if missing != 3 {
-        push_member(&mut text, "purpose", "\"reporting\"")?;
-    }
-    push_flaw(alloc, dice, &mut text, flaw)?;
-    push_label(&mut text, label(dice))?;
-    text.push('}')?;
-    Ok(text)
+    let is_flawed = flaw == Flaw::Missing;
+    let missing = dice.roll(4);
+    let contact = unless(is_flawed && missing == 0, "Contact");
+    let time = unless(is_flawed && missing == 1, "GenerationTime");
+    let id = unless(is_flawed && missing == 2, "IncidentID");
+    let purpose = unless(is_flawed && missing == 3, "purpose");
+    let contacts = contacts(dice);
+    let events = events(alloc, dice, wide)?;
+    let flawed = flawed(alloc, dice, flaw)?;
+    let own = label(dice);
+    format!(in alloc;
+        "{{\"{contact}\":{contacts},\"EventData\":[{events}],\"{time}\":\"g\",\"{id}\":{ident},\"{purpose}\":\"reporting\"{flawed}{own}}}"
+    )
 }
 
 /// A body of an Incident for each of these IncidentIDs, with the flaw in the last; wide ones have two dozen empty classes.
@@ -253,30 +185,27 @@ pub fn any_body(
     }
     let mut text = String::from_str(alloc, "{\"Incident\":[")?;
     for (place, ident) in idents.iter().enumerate() {
-        let own = if place.saturating_add(1) == idents.len() {
-            flaw
-        } else {
-            Flaw::Nothing
-        };
-        push_comma(&mut text)?;
+        let is_last = place.saturating_add(1) == idents.len();
+        let own = if is_last { flaw } else { Flaw::Nothing };
         text.push_str(incident(alloc, dice, ident.as_str(), own, wide)?.as_str())?;
+        text.push_str(if is_last { "]" } else { "," })?;
     }
-    text.push_str("],\"version\":\"2.0\"")?;
-    if dice.once_in(5) {
-        push_member(&mut text, "restriction", "\"public\"")?;
-    }
-    if dice.once_in(5) {
-        push_member(&mut text, "a/b", "{\"Note\":\"needle\"}")?;
-    }
-    if dice.once_in(5) {
-        push_member(&mut text, "\\\"~\\n", "{\"Note\":\"x\"}")?;
+    text.push_str(",\"version\":\"2.0\"")?;
+    for member in [
+        ",\"restriction\":\"public\"",
+        ",\"a/b\":{\"Note\":\"needle\"}",
+        ",\"\\\"~\\n\":{\"Note\":\"x\"}",
+    ] {
+        if dice.once_in(5) {
+            text.push_str(member)?;
+        }
     }
     text.push('}')?;
     Ok(text)
 }
 
 /// The IncidentID of this number: a text, or a class.
-pub fn ident_of(alloc: Global, number: u32) -> Result<String, AllocError> {
+pub fn ident_text(alloc: Global, number: u32) -> Result<String, AllocError> {
     if number % 2 == 0 {
         format!(in alloc; "{{\"id\":\"{number}\",\"name\":\"src.example\"}}")
     } else {

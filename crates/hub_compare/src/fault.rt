@@ -3,6 +3,7 @@
 use hub_core::ShelfFault;
 use std::alloc::{AllocError, AllocFailed};
 
+/// Why a comparison ends early.
 #[derive(Drop)]
 pub enum Fault {
     NoMemory,

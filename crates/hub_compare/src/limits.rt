@@ -1,153 +1,203 @@
-//! A directory with all rows that there may be but one of each kind, and what is asked of it then.
+//! A world with all rows of most kinds that there may be but one, and what is replied to whoever asks for more.
 
+use crate::asked::Asked;
+use crate::documents::{Flaw, any_body, ident_text};
 use crate::fault::{Fault, agree};
-use crate::judged::{Both, ask, outcome_of};
-use crate::reads::{agree_on_groups, agree_on_key};
-use crate::rows::Rows;
-use crate::tally::Tally;
+use crate::outcomes::outcome_of;
+use crate::shelves::Both;
+use crate::tally::note;
+use crate::world::{World, key_of};
 use circle::command::CircleCommand;
-use circle::directory::{Account, Community, Group, Org, Person, Role};
-use circle::name::Name;
-use circle::releasability::Releasability;
+use circle::directory::Role;
 use circle::text::Text;
-use hub_core::Request;
+use hub::Key;
+use hub_core::{
+    Address, Bytes, Distribution, Grant, Recipient, Redistribute, Replace, Reply, Request, Target,
+    WantedGates,
+};
+use iodef_tree::Path;
+use policy::Grantee;
 use std::alloc::{AllocError, Global};
+use trying::{Dice, Tally};
 
-/// How often each kind of row is asked for; the first time it is the last that there may be.
-const TIMES: u32 = 25;
+/// How often one more of each kind is asked for; the first time it is the last that there may be.
+const TIMES: u32 = 3;
 
-/// A key for each number.
-fn key_of(number: u32) -> [u8; 32] {
-    let [a, b, c, d] = number.to_be_bytes();
-    let mut key = [0u8; 32];
-    key[0] = d;
-    key[1] = c;
-    key[2] = b;
-    key[3] = a;
-    key
+/// The administrator, and a coordinator of organisation 1, which owns the groups and posted the incidents.
+const ADMINISTRATOR: u32 = 1;
+
+const COORDINATOR: u32 = 2;
+
+/// How many incidents there are: more than a page has.
+const INCIDENTS: u32 = 112;
+
+/// A report under the IncidentID of this number, of many classes where `wide`.
+fn body(alloc: Global, number: u32, wide: bool) -> Result<String, AllocError> {
+    let mut idents = Vec::new(alloc);
+    idents.push(ident_text(alloc, number)?)?;
+    any_body(
+        alloc,
+        &mut Dice::new(0),
+        idents.as_slice(),
+        Flaw::Nothing,
+        wide,
+    )
 }
 
-fn person(alloc: Global, number: u32, role: Role) -> Result<Option<Person>, AllocError> {
-    match Name::of(alloc, "p")? {
-        Some(name) => Ok(Some(Person {
-            number,
-            org: 1,
-            name,
-            role,
-            active: true,
-            nominated: false,
-        })),
-        None => Ok(None),
+/// Incidents at their last revision but one, with a gate at the root.
+fn add_incidents(world: &mut World) -> Result<(), Fault> {
+    for place in 0..INCIDENTS {
+        let number = place.saturating_add(1);
+        let body = body(world.alloc, number, place < 2)?;
+        let added = world.add_incident(1, 999_999, body.as_str())?;
+        agree(added == Some(number), "the number of an incident")?;
+        world.add_gate(number, Path::root(world.alloc), 3)?;
     }
+    Ok(())
 }
 
-fn add_named(rows: &mut Rows, alloc: Global, number: u32) -> Result<(), AllocError> {
-    let text = format!(in alloc; "row {number}")?;
-    if let Some(name) = Name::of(alloc, text.as_str())? {
-        rows.orgs.push(Org {
-            number,
-            name: name.clone()?,
+/// At the first incident all gates at classes, recipients and permissions but one.
+fn fill_first(world: &mut World) -> Result<(), AllocError> {
+    let incident = 1;
+    let classes = world.classes(incident)?;
+    for path in classes.iter().take(15) {
+        world.add_gate(incident, path.clone()?, 3)?;
+    }
+    for org in 1..64u32 {
+        world.recipients.push(Recipient {
+            incident,
+            target: Target::Org(org),
         })?;
-        rows.communities.push(Community {
-            number,
-            name: name.clone()?,
-        })?;
-        if let Some(releasability) = Releasability::of(alloc, "")? {
-            rows.groups.push(Group {
-                number,
-                owner: 1,
-                name,
-                releasability,
-                active: true,
-            })?;
+        if let Some(path) = classes.first() {
+            world.add_permission(incident, path.clone()?, Grantee::Org(org))?;
         }
     }
     Ok(())
 }
 
-/// Each numbered set with all rows but one that there may be.
-fn nearly_full(alloc: Global) -> Result<Rows, AllocError> {
-    let mut rows = Rows::new(alloc);
-    for number in 1..1000u32 {
-        add_named(&mut rows, alloc, number)?;
+fn nearly_full(alloc: Global) -> Result<World, Fault> {
+    let mut world = World::new(alloc);
+    world.orgs = 999;
+    world.communities = 999;
+    for _ in 1..1000u32 {
+        world.add_group(1, true)?;
     }
-    for number in 1..10_000u32 {
-        let role = if number == 1 {
-            Role::Administrator
-        } else {
-            Role::Coordinator
-        };
-        if let Some(person) = person(alloc, number, role)? {
-            let key = key_of(number);
-            rows.accounts.push(Account { person, key })?;
-        }
-    }
-    Ok(rows)
+    world.add_person(1, Role::Administrator, true, false)?;
+    world.add_person(1, Role::Coordinator, true, false)?;
+    add_incidents(&mut world)?;
+    fill_first(&mut world)?;
+    Ok(world)
 }
 
-/// A command of this kind that asks for a row of its own.
-fn command(alloc: Global, kind: u32, time: u32) -> Result<CircleCommand, AllocError> {
-    let name = Text::new(format!(in alloc; "new {time}")?);
-    match kind {
-        0 => Ok(CircleCommand::AddOrg { name }),
-        1 => Ok(CircleCommand::AddPerson {
-            org: 1,
-            name,
-            role: Role::Reader,
-            key: key_of(time.saturating_add(20_000)),
-        }),
-        5 => Ok(CircleCommand::AddCommunity { name }),
-        _ => Ok(CircleCommand::NewGroup {
-            name,
-            releasability: Text::of(alloc, "")?,
-        }),
-    }
-}
-
-/// Asks for one more row of this kind. Whether it is the last that there may be, or refused behind it.
-fn ask_once(
-    alloc: Global,
-    both: &mut Both,
-    tally: &mut Tally,
-    actor: &Person,
-    kind: u32,
-    time: u32,
-) -> Result<(), Fault> {
-    let request = Request::Circle(command(alloc, kind, time)?);
-    let told = ask(alloc, both, actor, &request)?;
-    let outcome = outcome_of(alloc, &told)?;
-    let wanted = if time == 0 { "done" } else { "L1" };
-    agree(outcome.as_str() == wanted, "an outcome at a limit")?;
-    tally.note(alloc, kind, outcome.as_str())?;
-    Ok(())
-}
-
-fn ask_for(alloc: Global, both: &mut Both, tally: &mut Tally, kind: u32) -> Result<(), Fault> {
-    let role = if kind < 10 {
-        Role::Administrator
-    } else {
-        Role::Coordinator
+/// An organisation, a community and a group more, each with who may ask for it.
+fn commands(alloc: Global, time: u32) -> Result<[(u32, CircleCommand); 3], AllocError> {
+    let text = format!(in alloc; "new {time}")?;
+    let name = text.as_str();
+    let org = CircleCommand::AddOrg {
+        name: Text::of(alloc, name)?,
     };
-    if let Some(actor) = person(alloc, 1, role)? {
-        for time in 0..TIMES {
-            ask_once(alloc, both, tally, &actor, kind, time)?;
-        }
+    let community = CircleCommand::AddCommunity {
+        name: Text::of(alloc, name)?,
+    };
+    let group = CircleCommand::NewGroup {
+        name: Text::of(alloc, name)?,
+        releasability: Text::of(alloc, "")?,
+    };
+    Ok([
+        (ADMINISTRATOR, org),
+        (ADMINISTRATOR, community),
+        (COORDINATOR, group),
+    ])
+}
+
+/// A gate, a recipient, a permission and a revision more; the second time the incident has the last revision.
+fn changes(alloc: Global, time: u32) -> Result<[Request; 4], AllocError> {
+    let org = 64u32.saturating_add(time);
+    let (incident, revision, place) = (1, 999_999u32, 22u32.saturating_add(time.min(1)));
+    let gate = Redistribute {
+        incident,
+        revision,
+        path: Text::new(format!(in alloc; "/Incident/0/EventData/{place}")?),
+        level: 3,
+        group: None,
+    };
+    let recipient = Address {
+        incident,
+        target: Target::Org(org),
+    };
+    let permission = Grant {
+        incident,
+        revision,
+        path: Text::of(alloc, "/Incident/0")?,
+        grantee: Grantee::Org(org),
+    };
+    let distribution = Distribution {
+        level: 3,
+        group: None,
+        gates: WantedGates::new(Vec::new(alloc)),
+    };
+    let exchange = Replace {
+        incident: 2,
+        revision: revision.saturating_add(time.min(1)),
+        distribution,
+        document: Bytes::new(body(alloc, 2, false)?.into_bytes()),
+    };
+    Ok([
+        Request::Redistribute(gate),
+        Request::Address(recipient),
+        Request::Grant(permission),
+        Request::Replace(exchange),
+    ])
+}
+
+/// One more of each kind.
+fn one_more(alloc: Global, time: u32) -> Result<Vec<Asked>, AllocError> {
+    let mut list = Vec::new(alloc);
+    for (who, command) in commands(alloc, time)? {
+        list.push(asked_by(who, Request::Circle(command)))?;
+    }
+    for request in changes(alloc, time)? {
+        list.push(asked_by(COORDINATOR, request))?;
+    }
+    Ok(list)
+}
+
+fn asked_by(who: u32, request: Request) -> Asked {
+    Asked {
+        now: 0,
+        key: Key::Digest(key_of(who)),
+        request,
+    }
+}
+
+/// Compares the first page of the incidents, a hundred of them, and the rest.
+fn agree_on_pages(alloc: Global, both: &mut Both) -> Result<(), Fault> {
+    for (after, count) in [(0, 100), (100, 12)] {
+        let asked = asked_by(COORDINATOR, Request::List { after });
+        let Reply::Incidents(entries) = both.reply(alloc, &asked)? else {
+            return Err(Fault::Differs("a page that is none"));
+        };
+        agree(
+            entries.as_slice().len() == count,
+            "how many incidents a page has",
+        )?;
     }
     Ok(())
 }
 
-/// Compares both over such a directory.
+/// Compares what both hubs reply to whoever asks for one more: that it is done, and from then on that there is no room.
 pub fn agree_at_limits(alloc: Global, tally: &mut Tally) -> Result<(), Fault> {
-    let rows = nearly_full(alloc)?;
-    let mut both = Both::new(alloc, rows)?;
-    for kind in [0, 1, 5, 10] {
-        ask_for(alloc, &mut both, tally, kind)?;
+    let edits = nearly_full(alloc)?.into_edits()?;
+    let mut both = Both::new(alloc, edits.as_slice())?;
+    for time in 0..TIMES {
+        let wanted = if time == 0 { "done" } else { "L1" };
+        for asked in one_more(alloc, time)? {
+            let reply = both.reply(alloc, &asked)?;
+            let outcome = outcome_of(alloc, &reply)?;
+            agree(outcome.as_str() == wanted, "an outcome at a limit")?;
+            note(tally, alloc, &asked.request, &reply)?;
+        }
     }
-    for number in [1, 2, 9_999, 10_000, 20_000, 20_001] {
-        agree_on_key(&mut both.shelf, &both.rows, &key_of(number))?;
-    }
-    if let Some(actor) = person(alloc, 1, Role::Coordinator)? {
-        agree_on_groups(alloc, &mut both.shelf, &both.rows, &actor)?;
-    }
-    Ok(())
+    agree_on_pages(alloc, &mut both)?;
+    both.opened_anew(alloc)?.agree_on_content(alloc)
 }

@@ -1,74 +1,60 @@
-//! Whether a reply is what the plain hub answers.
+//! Whether two replies are equal.
 
-use crate::answers::{Answer, Shown};
-use crate::changes::Done;
-use crate::excerpts::Hidden;
-use crate::reads::{same_document, same_group};
-use circle::directory::Group;
 use hub_core::{JoinedGroup, Reply, View};
-use iodef_tree::Path;
+use iodef_tree::{Document, Path};
 use policy::Rule;
 use std::alloc::{AllocError, Global};
 
-fn same_withheld(
-    alloc: Global,
-    pairs: &[(Path, Rule)],
-    hidden: &[Hidden],
-) -> Result<bool, AllocError> {
-    for (pair, other) in pairs.iter().zip(hidden.iter()) {
-        let place = pair.0.print(alloc)?;
-        if place.as_str() != other.place.as_str() || pair.1.name() != other.rule {
-            return Ok(false);
-        }
-    }
-    Ok(pairs.len() == hidden.len())
+/// Whether they have the same compact JSON.
+pub fn same_document(alloc: Global, one: &Document, other: &Document) -> Result<bool, AllocError> {
+    Ok(one.text(alloc)?.as_str() == other.text(alloc)?.as_str())
 }
 
-fn same_view(alloc: Global, view: &View, shown: &Shown) -> Result<bool, AllocError> {
+fn same_withheld(one: &[(Path, Rule)], other: &[(Path, Rule)]) -> bool {
+    one.len() == other.len()
+        && one
+            .iter()
+            .zip(other.iter())
+            .all(|(a, b)| a.0 == b.0 && a.1.name() == b.1.name())
+}
+
+fn same_view(alloc: Global, one: &View, other: &View) -> Result<bool, AllocError> {
     Ok(
-        view.number == shown.entry.number
-            && view.revision == shown.entry.revision
-            && view.source == shown.entry.source
-            && view.classes as usize == shown.excerpt.classes
-            && same_document(alloc, &view.document, shown.excerpt.spots.as_slice())?
-            && same_withheld(
-                alloc,
-                view.withheld.as_slice(),
-                shown.excerpt.withheld.as_slice(),
-            )?,
+        one.number == other.number
+            && one.revision == other.revision
+            && one.source == other.source
+            && one.classes == other.classes
+            && same_withheld(one.withheld.as_slice(), other.withheld.as_slice())
+            && same_document(alloc, &one.document, &other.document)?,
     )
 }
 
-fn same_groups(joined: &[JoinedGroup], groups: &[(Group, bool)]) -> bool {
-    for (row, group) in joined.iter().zip(groups.iter()) {
-        if !same_group(row, &group.0, group.1) {
-            return false;
-        }
-    }
-    joined.len() == groups.len()
+fn same_group(one: &JoinedGroup, other: &JoinedGroup) -> bool {
+    one.number == other.number
+        && one.owner == other.owner
+        && one.name == other.name
+        && one.releasability == other.releasability
+        && one.active == other.active
+        && one.extend == other.extend
 }
 
-pub fn same_reply(alloc: Global, reply: &Reply, answer: &Answer) -> Result<bool, AllocError> {
-    match (reply, answer) {
-        (Reply::Done, Answer::Changed(Done::Changed)) => Ok(true),
-        (Reply::Numbers(numbers), Answer::Changed(Done::Numbers(wanted))) => {
-            Ok(numbers.as_slice() == wanted.as_slice())
-        }
-        (Reply::Revision(revision), Answer::Changed(Done::Revision(wanted))) => {
-            Ok(*revision == *wanted)
-        }
-        (Reply::View(view), Answer::View(shown)) => same_view(alloc, view, shown),
-        (Reply::Incidents(entries), Answer::Incidents(wanted)) => {
-            Ok(entries.as_slice() == wanted.as_slice())
-        }
-        (Reply::Groups(joined), Answer::Groups(groups)) => {
-            Ok(same_groups(joined.as_slice(), groups.as_slice()))
-        }
-        (Reply::Caller(person), Answer::Caller(wanted)) => Ok(*person == *wanted),
-        (Reply::Trace(text), Answer::Trace(trace)) => Ok(text.as_str() == trace.text.as_str()),
-        (Reply::Refused(refusal), Answer::Refused(told)) => {
-            Ok(refusal.code == told.code && refusal.detail.as_str() == told.detail.as_str())
-        }
+/// Whether they are the same groups in the same order, each field equal.
+pub fn same_groups(one: &[JoinedGroup], other: &[JoinedGroup]) -> bool {
+    one.len() == other.len() && one.iter().zip(other.iter()).all(|(a, b)| same_group(a, b))
+}
+
+/// Whether they are of one kind and equal in each field; documents by their JSON.
+pub fn same_reply(alloc: Global, one: &Reply, other: &Reply) -> Result<bool, AllocError> {
+    match (one, other) {
+        (Reply::Done, Reply::Done) => Ok(true),
+        (Reply::Numbers(a), Reply::Numbers(b)) => Ok(a.as_slice() == b.as_slice()),
+        (Reply::Revision(a), Reply::Revision(b)) => Ok(*a == *b),
+        (Reply::View(a), Reply::View(b)) => same_view(alloc, a, b),
+        (Reply::Incidents(a), Reply::Incidents(b)) => Ok(a.as_slice() == b.as_slice()),
+        (Reply::Groups(a), Reply::Groups(b)) => Ok(same_groups(a.as_slice(), b.as_slice())),
+        (Reply::Caller(a), Reply::Caller(b)) => Ok(*a == *b),
+        (Reply::Trace(a), Reply::Trace(b)) => Ok(*a == *b),
+        (Reply::Refused(a), Reply::Refused(b)) => Ok(a.code == b.code && a.detail == b.detail),
         _ => Ok(false),
     }
 }

@@ -7,7 +7,9 @@ use Rattle.circle.proofs.Judged.{passed}
 use Rattle.circle.proofs.Keeping.{each_put, each_left, each_weaker, pairs_left, order_put, none_of}
 use Rattle.hub_core.specs.declared.TheConstants.{RECIPIENT_LIMIT}
 use Rattle.hub_core.specs.Aftermath.{changed}
-use Rattle.hub_core.specs.Refusals.{grounds, refusal_of, is_target, recipients_then}
+use Rattle.hub_core.specs.Refusals.{grounds, refusal_of}
+use Rattle.hub_core.specs.Requests.{is_target}
+use Rattle.hub_core.specs.Facts.{recipients_then}
 use Rattle.hub_core.specs.Sound.{IsSound, SoundRecipients}
 use Rattle.hub_core.specs.State.{State, recipient_cmp, recipients_of, is_recipient_being}
 use Rattle.hub_core.specs.declared.request.Request.TheVariants as ask
@@ -47,5 +49,5 @@ unaddress_kept s a r h = with_recipients s _ h (record {
   rising = pairs_left _ _ s.recipients h.recipients.rising;
   ends = each_left _ _ s.recipients h.recipients.ends;
   targets = each_left _ _ s.recipients h.recipients.targets;
-  limit = each_weaker _ _ s.incidents (λ i e. at_most _ _ RECIPIENT_LIMIT (count_left (λ (x : Recipient). x.incident == i.number) (λ (x : Recipient). not (is_recipient_being r.incident r.target x)) s.recipients) e) h.recipients.limit;
+  limit = each_weaker _ _ s.incidents (λ i e. at_most _ _ RECIPIENT_LIMIT (count_left (λ (x : Recipient). x.incident == i.naming.number) (λ (x : Recipient). not (is_recipient_being r.incident r.target x)) s.recipients) e) h.recipients.limit;
 })

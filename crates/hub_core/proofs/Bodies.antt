@@ -19,7 +19,9 @@ use Rattle.circle.specs.declared.directory.Person.{Person}
 use Rattle.circle.proofs.Keeping.{each_weaker, none_of}
 use Rattle.hub_core.specs.declared.TheConstants.{GATE_LIMIT}
 use Rattle.hub_core.specs.Documents.{Lines, documents_of, documents_in, fault_of, fault_in, ident_of, is_class_in, at_pointer, bad_marking, bad_marking_from, marking_told}
-use Rattle.hub_core.specs.Refusals.{are_own_groups, is_bad_gate, is_bad_pointer, is_bad_level, is_bad_group, are_bad_gates, stands_twice, stand_at_classes, first_number, posted_in, number_of}
+use Rattle.hub_core.specs.Requests.{are_own_groups}
+use Rattle.hub_core.specs.Refusals.{is_bad_gate, is_bad_pointer, is_bad_level, is_bad_group, are_bad_gates, stands_twice, stand_at_classes}
+use Rattle.hub_core.specs.Facts.{first_number, posted_in, number_of}
 use Rattle.hub_core.specs.State.{State, incident_named}
 use Rattle.hub_core.specs.declared.request.Distribution.{Distribution}
 use Rattle.hub_core.specs.declared.request.WantedGate.{WantedGate}
@@ -83,7 +85,7 @@ none_named s source [] h = tt
 none_named s source (doc ∷ docs) h = split (incident_named source (ident_of doc) s) refl (none_named s source docs)
   where
     split : (o : Option Incident) → incident_named source (ident_of doc) s ≡ o → (filter_map (λ (doc : Lines). incident_named source (ident_of doc) s) docs ≡ [] → Each (IsNew source s.incidents) docs) → Each (IsNew source s.incidents) (doc ∷ docs)
-    split None is rest = (not_found (λ (i : Incident). i.source == source && bytes_eq i.ident (ident_of doc)) s.incidents is, rest (sym (ap (λ o. cons_option o (filter_map (λ (doc : Lines). incident_named source (ident_of doc) s) docs)) is) ∙ h))
+    split None is rest = (not_found (λ (i : Incident). i.naming.source == source && bytes_eq i.naming.ident (ident_of doc)) s.incidents is, rest (sym (ap (λ o. cons_option o (filter_map (λ (doc : Lines). incident_named source (ident_of doc) s) docs)) is) ∙ h))
     split (Some i) is rest = let said = sym (ap (λ o. cons_option o (filter_map (λ (doc : Lines). incident_named source (ident_of doc) s) docs)) is) ∙ h in cc (said)
 
 pub not_posted : (s : State) (source : ℕ) (docs : List Lines) → is_some (option_map decimal (posted_in s source docs)) ≡ false → Each (IsNew source s.incidents) docs

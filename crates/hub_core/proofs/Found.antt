@@ -1,15 +1,8 @@
--- What is found in the rows that stand together is what is found in all.
+-- An incident found by its name, and the incidents above a number.
 use Rattle.std.proofs.Common.{◌≡◌, ◌≢◌, ℕ, ◌==◌, ◌&&◌, ◌||◌, Bool, true, false, not, List, [], ◌∷◌, filter, if◌then◌else◌, Option, Some, None, refl, sym, ap, ◌∙◌, arith}
 use Rattle.std.specs.Prelude.{option_map}
 use Rattle.std.specs.List.{list_any, find}
-use Rattle.iodef_tree.specs.Text.{Tokens, same_path}
-use Rattle.hub_core.specs.State.{is_gate_at, is_recipient_being, is_permission_being, same_group, same_target, same_grantee}
-use Rattle.hub_core.specs.declared.request.Target.{Target}
-use Rattle.hub_core.specs.declared.state.Gate.{Gate}
-use Rattle.hub_core.specs.declared.state.Recipient.{Recipient}
-use Rattle.hub_core.specs.declared.state.Permission.{Permission}
-use Rattle.policy.specs.declared.permission.Grantee.{Grantee}
-use Rattle.hub_core.proofs.Indexing.{and_and, equal_then}
+use Rattle.hub_core.proofs.Indexing.{equal_then}
 use Rattle.hub_core.proofs.Ranked.{partitioned, gone_before}
 use Rattle.std.specs.Prelude.{nat_le, nat_lt, is_some, drop, length}
 use Rattle.std.specs.Str.{bytes_eq}
@@ -23,7 +16,6 @@ use Rattle.std.proofs.lemmas.Map.Text.{is_eq-slice_cmp}
 use Rattle.std.proofs.lemmas.Slice.Eq.{bytes_eq-Decides}
 use Rattle.std.proofs.Common.{◌≤◌, true≢false}
 use Rattle.circle.specs.Sound.{Each, Differ}
-use Rattle.circle.proofs.Lookup.{any_having}
 use Rattle.iodef_tree.specs.Text.{Bytes}
 use Rattle.hub_core.specs.InOrder.{IsInOrder, is_alike}
 use Rattle.hub_core.specs.Lists.{IsIndexOf}
@@ -31,24 +23,6 @@ use Rattle.hub_core.specs.Orders.{incident_cmp, named_cmp}
 use Rattle.hub_core.specs.State.{incident_number}
 use Rattle.hub_core.specs.declared.state.Incident.{Incident}
 use Rattle.hub_core.specs.declared.rows.Named.{Named}
-
-pub any_same : {X : Type 0} (p q : X → Bool) (xs : List X) → ((x : X) → p x ≡ q x) → list_any p xs ≡ list_any q xs
-any_same p q [] same = refl
-any_same p q (x ∷ xs) same = ap (λ b. b || list_any p xs) (same x) ∙ ap (λ b. q x || b) (any_same p q xs same)
-
-pub gate_found : (n : ℕ) (p : Tokens) (level : ℕ) (group : Option ℕ) (xs ys : List Gate) → ys ≡ filter (λ (g : Gate). g.incident == n) xs →
-    list_any (λ (g : Gate). same_path g.path p && (g.level == level && same_group g.group group)) ys ≡ list_any (λ (g : Gate). is_gate_at n p g && (g.level == level && same_group g.group group)) xs
-gate_found n p level group xs ys is =
-    ap (list_any (λ (g : Gate). same_path g.path p && (g.level == level && same_group g.group group))) is
-    ∙ (any_having (λ (g : Gate). g.incident == n) (λ (g : Gate). same_path g.path p && (g.level == level && same_group g.group group)) xs
-    ∙ any_same (λ (g : Gate). g.incident == n && (same_path g.path p && (g.level == level && same_group g.group group))) (λ (g : Gate). is_gate_at n p g && (g.level == level && same_group g.group group)) xs
-    (λ g. sym (and_and (g.incident == n) (same_path g.path p) (g.level == level && same_group g.group group))))
-
-pub recipient_found : (n : ℕ) (target : Target) (xs ys : List Recipient) → ys ≡ filter (λ (r : Recipient). r.incident == n) xs → list_any (λ (r : Recipient). same_target r.target target) ys ≡ list_any (is_recipient_being n target) xs
-recipient_found n target xs ys is = ap (list_any (λ (r : Recipient). same_target r.target target)) is ∙ any_having (λ (r : Recipient). r.incident == n) (λ (r : Recipient). same_target r.target target) xs
-
-pub permission_found : (n : ℕ) (p : Tokens) (grantee : Grantee) (xs ys : List Permission) → ys ≡ filter (λ (x : Permission). x.incident == n) xs → list_any (λ (x : Permission). same_path x.path p && same_grantee x.grantee grantee) ys ≡ list_any (is_permission_being n p grantee) xs
-permission_found n p grantee xs ys is = ap (list_any (λ (x : Permission). same_path x.path p && same_grantee x.grantee grantee)) is ∙ any_having (λ (x : Permission). x.incident == n) (λ (x : Permission). same_path x.path p && same_grantee x.grantee grantee) xs
 
 -- ---- an incident by its name
 
@@ -99,30 +73,30 @@ only_found key p r (y ∷ ys) alone all h = split (p y) refl h (only_found key p
 alike_names : (key e : Named) → is_alike named_cmp e key ≡ (e.source == key.source && bytes_eq e.ident key.ident)
 alike_names key e = equal_then e.source key.source (slice_cmp nat_cmp e.ident key.ident) ∙ ap (λ b. (e.source == key.source) && b) (is_eq-slice_cmp e.ident key.ident)
 
-pub one_name : (source : ℕ) (ident : Bytes) (a b : Incident) → (a.source == source && bytes_eq a.ident ident) ≡ true → (b.source == source && bytes_eq b.ident ident) ≡ true → (let key : Incident → ℕ × List ℕ = λ (i : Incident). (i.source, i.ident) in key a ≡ key b)
+pub one_name : (source : ℕ) (ident : Bytes) (a b : Incident) → (a.naming.source == source && bytes_eq a.naming.ident ident) ≡ true → (b.naming.source == source && bytes_eq b.naming.ident ident) ≡ true → (let key : Incident → ℕ × List ℕ = λ (i : Incident). (i.naming.source, i.naming.ident) in key a ≡ key b)
 one_name source ident a b h k =
-    let one : bytes_eq a.ident ident ≡ true = grind arith in
-    let two : bytes_eq b.ident ident ≡ true = grind arith in
-    let first : a.source ≡ b.source = grind (arith, nat_tests) in
-    let same : a.ident ≡ b.ident = (bytes_eq-Decides a.ident ident).0 one ∙ sym ((bytes_eq-Decides b.ident ident).0 two) in
+    let one : bytes_eq a.naming.ident ident ≡ true = grind arith in
+    let two : bytes_eq b.naming.ident ident ≡ true = grind arith in
+    let first : a.naming.source ≡ b.naming.source = grind (arith, nat_tests) in
+    let same : a.naming.ident ≡ b.naming.ident = (bytes_eq-Decides a.naming.ident ident).0 one ∙ sym ((bytes_eq-Decides b.naming.ident ident).0 two) in
     cc
 
-pub name_found : (key : Named) (incidents : List Incident) (names : List Named) → IsIndexOf incidents names → Differ {K = ℕ × List ℕ} (λ (i : Incident). (i.source, i.ident)) incidents → (o : Option Named) → find (λ e. is_alike named_cmp e key) names ≡ o →
-    option_map (λ (e : Named). e.number) o ≡ option_map incident_number (find (λ (i : Incident). i.source == key.source && bytes_eq i.ident key.ident) incidents)
+pub name_found : (key : Named) (incidents : List Incident) (names : List Named) → IsIndexOf incidents names → Differ {K = ℕ × List ℕ} (λ (i : Incident). (i.naming.source, i.naming.ident)) incidents → (o : Option Named) → find (λ e. is_alike named_cmp e key) names ≡ o →
+    option_map (λ (e : Named). e.number) o ≡ option_map incident_number (find (λ (i : Incident). i.naming.source == key.source && bytes_eq i.naming.ident key.ident) incidents)
 name_found key incidents names indexed apart o is = split o (sym (find_same (λ e. is_alike named_cmp e key) (λ (e : Named). e.source == key.source && bytes_eq e.ident key.ident) names (alike_names key)) ∙ is)
   where
     no_found : (o : Option Incident) → is_some o ≡ false → None ≡ option_map incident_number o
     no_found None e = refl
     no_found (Some i) e = cc
 
-    split : (o : Option Named) → find (λ (e : Named). e.source == key.source && bytes_eq e.ident key.ident) names ≡ o → option_map (λ (e : Named). e.number) o ≡ option_map incident_number (find (λ (i : Incident). i.source == key.source && bytes_eq i.ident key.ident) incidents)
-    split None is = no_found _ (any_found (λ (i : Incident). i.source == key.source && bytes_eq i.ident key.ident) incidents
+    split : (o : Option Named) → find (λ (e : Named). e.source == key.source && bytes_eq e.ident key.ident) names ≡ o → option_map (λ (e : Named). e.number) o ≡ option_map incident_number (find (λ (i : Incident). i.naming.source == key.source && bytes_eq i.naming.ident key.ident) incidents)
+    split None is = no_found _ (any_found (λ (i : Incident). i.naming.source == key.source && bytes_eq i.naming.ident key.ident) incidents
         ∙ (indexed (λ (e : Named). e.source == key.source && bytes_eq e.ident key.ident) ∙ (sym (any_found (λ (e : Named). e.source == key.source && bytes_eq e.ident key.ident) names) ∙ ap is_some is)))
     split (Some e) is =
         let among = found_passes (λ (f : Named). f.source == key.source && bytes_eq f.ident key.ident) (λ (f : Named). f.number == e.number) names e is (eq-eqb e.number e.number refl) in
-        let there = only_found (λ (i : Incident). (i.source, i.ident)) (λ (i : Incident). i.source == key.source && bytes_eq i.ident key.ident) (λ (i : Incident). i.number == e.number) incidents (one_name key.source key.ident) apart
+        let there = only_found (λ (i : Incident). (i.naming.source, i.naming.ident)) (λ (i : Incident). i.naming.source == key.source && bytes_eq i.naming.ident key.ident) (λ (i : Incident). i.naming.number == e.number) incidents (one_name key.source key.ident) apart
         (indexed (λ (f : Named). (f.source == key.source && bytes_eq f.ident key.ident) && (f.number == e.number)) ∙ among) in
-        ap Some (sym (eqb-true there.0.number e.number there.2)) ∙ sym (ap (option_map incident_number) there.1)
+        ap Some (sym (eqb-true there.0.naming.number e.number there.2)) ∙ sym (ap (option_map incident_number) there.1)
 
 -- ---- incidents above a number
 
@@ -133,8 +107,8 @@ number_back : (a b n : ℕ) → is_lt (nat_cmp b a) ≡ false → nat_le b n ≡
 number_back a b n h k = grind (arith, nat_tests)
 
 pub all_above : (n : ℕ) (xs : List Incident) (from : ℕ) → IsInOrder incident_cmp xs → from ≤ length xs →
-    (IsPartitionedBy (λ (i : Incident). nat_le i.number n) xs → IsPartitionPoint (λ (i : Incident). nat_le i.number n ≡ true) (λ (i : Incident). nat_le i.number n ≡ false) xs from) →
-    drop from xs ≡ filter (λ (i : Incident). nat_lt n i.number) xs
+    (IsPartitionedBy (λ (i : Incident). nat_le i.naming.number n) xs → IsPartitionPoint (λ (i : Incident). nat_le i.naming.number n ≡ true) (λ (i : Incident). nat_le i.naming.number n ≡ false) xs from) →
+    drop from xs ≡ filter (λ (i : Incident). nat_lt n i.naming.number) xs
 all_above n xs from all h point =
-    sym (gone_before (λ (i : Incident). nat_le i.number n) xs from h (point (partitioned (λ a b. is_lt (incident_cmp b a) ≡ false) (λ (i : Incident). nat_le i.number n) xs (λ a b. number_back a.number b.number n) all)))
-    ∙ filter_agree (λ (i : Incident). not (nat_le i.number n)) (λ (i : Incident). nat_lt n i.number) (λ i. above_or_not i.number n) xs
+    sym (gone_before (λ (i : Incident). nat_le i.naming.number n) xs from h (point (partitioned (λ a b. is_lt (incident_cmp b a) ≡ false) (λ (i : Incident). nat_le i.naming.number n) xs (λ a b. number_back a.naming.number b.naming.number n) all)))
+    ∙ filter_agree (λ (i : Incident). not (nat_le i.naming.number n)) (λ (i : Incident). nat_lt n i.naming.number) (λ i. above_or_not i.naming.number n) xs

@@ -32,10 +32,10 @@ use Rattle.hub_core.proofs.Keeping.{never, count_more, count_same, count_none, c
 
 abbrev pub put_wanted : ℕ → List WantedGate → List Gate → List Gate
 put_wanted n [] gates = gates
-put_wanted n (w ∷ ws) gates = put_wanted n ws (option_map_or (λ p. put_by gate_cmp (record { incident = n; path = p; level = w.level; group = w.group }) gates) (pointer_tokens w.path) gates)
+put_wanted n (w ∷ ws) gates = put_wanted n ws (option_map_or (λ p. put_by gate_cmp (record { incident = n; gate = record { path = p; level = w.level; group = w.group } }) gates) (pointer_tokens w.path) gates)
 
 abbrev pub put_all : ℕ → Distribution → List Gate → List Gate
-put_all n d gates = put_wanted n d.gates (put_by gate_cmp (record { incident = n; path = []; level = d.level; group = d.group }) gates)
+put_all n d gates = put_wanted n d.gates (put_by gate_cmp (record { incident = n; gate = record { path = []; level = d.level; group = d.group } }) gates)
 
 pub after_append : (xs ys : List Edit) (s : State) → after (xs ++ ys) s ≡ after ys (after xs s)
 after_append [] ys s = refl
@@ -49,7 +49,7 @@ after_wanted n (w ∷ ws) s =
   where
     split : (o : Option Tokens) → ((t : State) → after (flat_map (λ (g : WantedGate). made_at (put_gate n g.level g.group) g.path) ws) t ≡ record t { gates = put_wanted n ws t.gates })
         → after (flat_map (λ (g : WantedGate). made_at (put_gate n g.level g.group) g.path) ws) (after (option_map_or (put_gate n w.level w.group) o []) s)
-        ≡ record s { gates = put_wanted n ws (option_map_or (λ p. put_by gate_cmp (record { incident = n; path = p; level = w.level; group = w.group }) s.gates) o s.gates) }
+        ≡ record s { gates = put_wanted n ws (option_map_or (λ p. put_by gate_cmp (record { incident = n; gate = record { path = p; level = w.level; group = w.group } }) s.gates) o s.gates) }
     split None rest = rest s
     split (Some p) rest = rest (after (put_gate n w.level w.group p) s)
 
@@ -65,20 +65,20 @@ pub record IsWanted (groups : List Group) (incidents : List Incident) (n : ℕ) 
   pub below : at_pointer is_root w.path ≡ false
 
 abbrev is_at : ℕ → Bytes → Gate → Bool
-is_at n text g = g.incident == n && bytes_eq (pointer_text g.path) text
+is_at n text g = g.incident == n && bytes_eq (pointer_text g.gate.path) text
 
 -- none of the gates stands where another is asked for
 record Ready (groups : List Group) (incidents : List Incident) (n : ℕ) (wanted : List WantedGate) (gates : List Gate) : Type 0 where
   rising : Pairwise (λ a b. gate_cmp a b ≡ Less) gates
-  places : Each (λ (g : Gate). is_place_of incidents g.incident g.path ≡ true) gates
-  ends : Each (λ (g : Gate). IsGroupIfAny groups g.group) gates
+  places : Each (λ (g : Gate). is_place_of incidents g.incident g.gate.path ≡ true) gates
+  ends : Each (λ (g : Gate). IsGroupIfAny groups g.gate.group) gates
   fresh : Each (λ (w : WantedGate). Each (λ (g : Gate). is_at n w.path g ≡ false) gates) wanted
 
 -- the same rows with at most so many more gates of classes of the incident
 record Gains (groups : List Group) (incidents : List Incident) (n : ℕ) (most : ℕ) (before gates : List Gate) : Type 0 where
   rising : Pairwise (λ a b. gate_cmp a b ≡ Less) gates
-  places : Each (λ (g : Gate). is_place_of incidents g.incident g.path ≡ true) gates
-  ends : Each (λ (g : Gate). IsGroupIfAny groups g.group) gates
+  places : Each (λ (g : Gate). is_place_of incidents g.incident g.gate.path ≡ true) gates
+  ends : Each (λ (g : Gate). IsGroupIfAny groups g.gate.group) gates
   roots : (m : ℕ) → root_gates m gates ≡ root_gates m before
   others : (m : ℕ) → (n == m) ≡ false → class_gates m gates ≡ class_gates m before
   own : class_gates n gates ≤ most + class_gates n before
@@ -101,26 +101,26 @@ wanted_put groups incidents n (w ∷ ws) gates fit once h =
   where
     split : (o : Option Tokens) → pointer_tokens w.path ≡ o → Each (λ (v : WantedGate). bytes_eq w.path v.path ≡ false) ws
         → ((more : List Gate) → Ready groups incidents n ws more → Gains groups incidents n (length ws) more (put_wanted n ws more))
-        → Gains groups incidents n (length (w ∷ ws)) gates (put_wanted n ws (option_map_or (λ p. put_by gate_cmp (record { incident = n; path = p; level = w.level; group = w.group }) gates) o gates))
+        → Gains groups incidents n (length (w ∷ ws)) gates (put_wanted n ws (option_map_or (λ p. put_by gate_cmp (record { incident = n; gate = record { path = p; level = w.level; group = w.group } }) gates) o gates))
     split None is differ rest = never false (sym (ap (λ o. option_map_or (is_class_of incidents n) o false) is) ∙ fit.0.place) refl
     split (Some p) is differ rest =
-        let row : Gate = record { incident = n; path = p; level = w.level; group = w.group } in
+        let row : Gate = record { incident = n; gate = record { path = p; level = w.level; group = w.group } } in
         let text : pointer_text p ≡ w.path = pointer_text-pointer_tokens w.path p is in
         let class : is_class_of incidents n p ≡ true = sym (ap (λ o. option_map_or (is_class_of incidents n) o false) is) ∙ fit.0.place in
         let below : is_root p ≡ false = sym (ap (λ o. option_map_or is_root o false) is) ∙ fit.0.below in
         let all = rest (put_by gate_cmp row gates) (record {
-          rising = order_put gate_cmp row gates gate_total (each_weaker _ _ gates (λ g e. apart_text n g.incident (pointer_text p) (pointer_text g.path) (subst (λ t. (g.incident == n && bytes_eq (pointer_text g.path) t) ≡ false) (sym text) e)) h.fresh.0) h.rising;
-          places = each_put (λ (g : Gate). is_place_of incidents g.incident g.path ≡ true) gate_cmp row gates (class_place (incident_in n incidents) p class) h.places;
-          ends = each_put (λ (g : Gate). IsGroupIfAny groups g.group) gate_cmp row gates fit.0.group h.ends;
+          rising = order_put gate_cmp row gates gate_total (each_weaker _ _ gates (λ g e. apart_text n g.incident (pointer_text p) (pointer_text g.gate.path) (subst (λ t. (g.incident == n && bytes_eq (pointer_text g.gate.path) t) ≡ false) (sym text) e)) h.fresh.0) h.rising;
+          places = each_put (λ (g : Gate). is_place_of incidents g.incident g.gate.path ≡ true) gate_cmp row gates (class_place (incident_in n incidents) p class) h.places;
+          ends = each_put (λ (g : Gate). IsGroupIfAny groups g.gate.group) gate_cmp row gates fit.0.group h.ends;
           fresh = each_weaker _ _ ws (λ v e. each_put (λ (g : Gate). is_at n v.path g ≡ false) gate_cmp row gates (and_right (n == n) (bytes_eq (pointer_text p) v.path) (subst (λ t. bytes_eq t v.path ≡ false) (sym text) e.0)) e.1) (each_both _ _ ws differ h.fresh.1);
         }) in
         record {
           rising = all.rising;
           places = all.places;
           ends = all.ends;
-          roots = λ m. all.roots m ∙ count_same (λ (g : Gate). g.incident == m && is_root g.path) gate_cmp row gates (and_right (n == m) (is_root p) below);
-          others = λ m e. all.others m e ∙ count_same (λ (g : Gate). g.incident == m && not (is_root g.path)) gate_cmp row gates (and_left (n == m) (not (is_root p)) e);
-          own = let more = all.own in let next = count_next (λ (g : Gate). g.incident == n && not (is_root g.path)) gate_cmp row gates in omega (arith, more, next);
+          roots = λ m. all.roots m ∙ count_same (λ (g : Gate). g.incident == m && is_root g.gate.path) gate_cmp row gates (and_right (n == m) (is_root p) below);
+          others = λ m e. all.others m e ∙ count_same (λ (g : Gate). g.incident == m && not (is_root g.gate.path)) gate_cmp row gates (and_left (n == m) (not (is_root p)) e);
+          own = let more = all.own in let next = count_next (λ (g : Gate). g.incident == n && not (is_root g.gate.path)) gate_cmp row gates in omega (arith, more, next);
         }
 
 -- ---- all gates of an incident that had none
@@ -128,11 +128,11 @@ wanted_put groups incidents n (w ∷ ws) gates fit once h =
 -- what stands beside the incident
 pub record IsBeside (groups : List Group) (incidents : List Incident) (n : ℕ) (gates : List Gate) : Type 0 where
   pub rising : Pairwise (λ a b. gate_cmp a b ≡ Less) gates
-  pub places : Each (λ (g : Gate). is_place_of incidents g.incident g.path ≡ true) gates
-  pub ends : Each (λ (g : Gate). IsGroupIfAny groups g.group) gates
+  pub places : Each (λ (g : Gate). is_place_of incidents g.incident g.gate.path ≡ true) gates
+  pub ends : Each (λ (g : Gate). IsGroupIfAny groups g.gate.group) gates
   pub others : Each (λ (g : Gate). (g.incident == n) ≡ false) gates
-  pub roots : Each (λ (i : Incident). (n == i.number) ≡ false → root_gates i.number gates ≡ 1) incidents
-  pub limit : Each (λ (i : Incident). (n == i.number) ≡ false → class_gates i.number gates ≤ GATE_LIMIT) incidents
+  pub roots : Each (λ (i : Incident). (n == i.naming.number) ≡ false → root_gates i.naming.number gates ≡ 1) incidents
+  pub limit : Each (λ (i : Incident). (n == i.naming.number) ≡ false → class_gates i.naming.number gates ≤ GATE_LIMIT) incidents
 
 not_empty : (text : Bytes) → at_pointer is_root text ≡ false → bytes_eq [] text ≡ false
 not_empty [] h = cc
@@ -141,46 +141,46 @@ not_empty (c ∷ cs) h = refl
 pub given : (groups : List Group) (incidents : List Incident) (n : ℕ) (d : Distribution) (gates : List Gate) (i : Incident) → incident_in n incidents ≡ Some i → IsGroupIfAny groups d.group →
     Each (IsWanted groups incidents n) d.gates → stands_twice (map (λ (g : WantedGate). g.path) d.gates) ≡ false → length d.gates ≤ GATE_LIMIT → IsBeside groups incidents n gates → SoundGates groups incidents (put_all n d gates)
 given groups incidents n d gates i found known fit once few h =
-    let row : Gate = record { incident = n; path = []; level = d.level; group = d.group } in
+    let row : Gate = record { incident = n; gate = record { path = []; level = d.level; group = d.group } } in
     let first : List Gate = put_by gate_cmp row gates in
     let root : is_place_of incidents n [] ≡ true = ap (λ o. option_map_or (λ (i : Incident). true) o false) found in
     let all = wanted_put groups incidents n d.gates first fit once (record {
-      rising = order_put gate_cmp row gates gate_total (each_weaker _ _ gates (λ g e. apart_gate n [] g (and_left (g.incident == n) (same_path g.path []) e)) h.others) h.rising;
-      places = each_put (λ (g : Gate). is_place_of incidents g.incident g.path ≡ true) gate_cmp row gates root h.places;
-      ends = each_put (λ (g : Gate). IsGroupIfAny groups g.group) gate_cmp row gates known h.ends;
-      fresh = each_weaker _ _ d.gates (λ w e. each_put (λ (g : Gate). is_at n w.path g ≡ false) gate_cmp row gates (and_right (n == n) (bytes_eq [] w.path) (not_empty w.path e.below)) (each_weaker _ _ gates (λ g o. and_left (g.incident == n) (bytes_eq (pointer_text g.path) w.path) o) h.others)) fit;
+      rising = order_put gate_cmp row gates gate_total (each_weaker _ _ gates (λ g e. apart_gate (record { incident = n; path = [] }) g (and_left (g.incident == n) (same_path g.gate.path []) e)) h.others) h.rising;
+      places = each_put (λ (g : Gate). is_place_of incidents g.incident g.gate.path ≡ true) gate_cmp row gates root h.places;
+      ends = each_put (λ (g : Gate). IsGroupIfAny groups g.gate.group) gate_cmp row gates known h.ends;
+      fresh = each_weaker _ _ d.gates (λ w e. each_put (λ (g : Gate). is_at n w.path g ≡ false) gate_cmp row gates (and_right (n == n) (bytes_eq [] w.path) (not_empty w.path e.below)) (each_weaker _ _ gates (λ g o. and_left (g.incident == n) (bytes_eq (pointer_text g.gate.path) w.path) o) h.others)) fit;
     }) in
     record {
       rising = all.rising;
       places = all.places;
       ends = all.ends;
-      roots = each_weaker _ _ incidents (λ x e. all.roots x.number ∙ roots_at x.number e) h.roots;
-      limit = each_weaker _ _ incidents (λ x e. limit_at all.own all.others x.number e) h.limit;
+      roots = each_weaker _ _ incidents (λ x e. all.roots x.naming.number ∙ roots_at x.naming.number e) h.roots;
+      limit = each_weaker _ _ incidents (λ x e. limit_at all.own all.others x.naming.number e) h.limit;
     }
   where
     no_root : root_gates n gates ≡ 0
-    no_root = count_none (λ (g : Gate). g.incident == n && is_root g.path) gates (each_weaker _ _ gates (λ g e. and_left (g.incident == n) (is_root g.path) e) h.others)
+    no_root = count_none (λ (g : Gate). g.incident == n && is_root g.gate.path) gates (each_weaker _ _ gates (λ g e. and_left (g.incident == n) (is_root g.gate.path) e) h.others)
 
     no_class : class_gates n gates ≡ 0
-    no_class = count_none (λ (g : Gate). g.incident == n && not (is_root g.path)) gates (each_weaker _ _ gates (λ g e. and_left (g.incident == n) (not (is_root g.path)) e) h.others)
+    no_class = count_none (λ (g : Gate). g.incident == n && not (is_root g.gate.path)) gates (each_weaker _ _ gates (λ g e. and_left (g.incident == n) (not (is_root g.gate.path)) e) h.others)
 
-    roots_at : (m : ℕ) → ((n == m) ≡ false → root_gates m gates ≡ 1) → root_gates m (put_by gate_cmp (record { incident = n; path = []; level = d.level; group = d.group }) gates) ≡ 1
+    roots_at : (m : ℕ) → ((n == m) ≡ false → root_gates m gates ≡ 1) → root_gates m (put_by gate_cmp (record { incident = n; gate = record { path = []; level = d.level; group = d.group } }) gates) ≡ 1
     roots_at m was = at (n == m) refl
       where
-        at : (b : Bool) → (n == m) ≡ b → root_gates m (put_by gate_cmp (record { incident = n; path = []; level = d.level; group = d.group }) gates) ≡ 1
+        at : (b : Bool) → (n == m) ≡ b → root_gates m (put_by gate_cmp (record { incident = n; gate = record { path = []; level = d.level; group = d.group } }) gates) ≡ 1
         at true is =
-            count_more (λ (g : Gate). g.incident == m && is_root g.path) gate_cmp (record { incident = n; path = []; level = d.level; group = d.group }) gates (and_from (n == m) true is refl)
+            count_more (λ (g : Gate). g.incident == m && is_root g.gate.path) gate_cmp (record { incident = n; gate = record { path = []; level = d.level; group = d.group } }) gates (and_from (n == m) true is refl)
             ∙ ap (λ k. 1 + k) (subst (λ k. root_gates k gates ≡ 0) (eqb-true n m is) no_root)
-        at false is = count_same (λ (g : Gate). g.incident == m && is_root g.path) gate_cmp (record { incident = n; path = []; level = d.level; group = d.group }) gates (and_left (n == m) true is) ∙ was is
+        at false is = count_same (λ (g : Gate). g.incident == m && is_root g.gate.path) gate_cmp (record { incident = n; gate = record { path = []; level = d.level; group = d.group } }) gates (and_left (n == m) true is) ∙ was is
 
-    first_same : (m : ℕ) → class_gates m (put_by gate_cmp (record { incident = n; path = []; level = d.level; group = d.group }) gates) ≡ class_gates m gates
-    first_same m = count_same (λ (g : Gate). g.incident == m && not (is_root g.path)) gate_cmp (record { incident = n; path = []; level = d.level; group = d.group }) gates (and_right (n == m) false refl)
+    first_same : (m : ℕ) → class_gates m (put_by gate_cmp (record { incident = n; gate = record { path = []; level = d.level; group = d.group } }) gates) ≡ class_gates m gates
+    first_same m = count_same (λ (g : Gate). g.incident == m && not (is_root g.gate.path)) gate_cmp (record { incident = n; gate = record { path = []; level = d.level; group = d.group } }) gates (and_right (n == m) false refl)
 
     at_most_all : (all own had : ℕ) → all ≤ length d.gates + own → own ≡ had → had ≡ 0 → all ≤ GATE_LIMIT
     at_most_all all own had h k none = omega (arith, few)
 
-    limit_at : class_gates n (put_all n d gates) ≤ length d.gates + class_gates n (put_by gate_cmp (record { incident = n; path = []; level = d.level; group = d.group }) gates)
-        → ((m : ℕ) → (n == m) ≡ false → class_gates m (put_all n d gates) ≡ class_gates m (put_by gate_cmp (record { incident = n; path = []; level = d.level; group = d.group }) gates))
+    limit_at : class_gates n (put_all n d gates) ≤ length d.gates + class_gates n (put_by gate_cmp (record { incident = n; gate = record { path = []; level = d.level; group = d.group } }) gates)
+        → ((m : ℕ) → (n == m) ≡ false → class_gates m (put_all n d gates) ≡ class_gates m (put_by gate_cmp (record { incident = n; gate = record { path = []; level = d.level; group = d.group } }) gates))
         → (m : ℕ) → ((n == m) ≡ false → class_gates m gates ≤ GATE_LIMIT) → class_gates m (put_all n d gates) ≤ GATE_LIMIT
     limit_at own others m was = at (n == m) refl
       where

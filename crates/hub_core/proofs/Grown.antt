@@ -44,7 +44,7 @@ with_directory s e h sound more =
       incidents = record {
         numbered = h.incidents.numbered;
         idents = h.incidents.idents;
-        sources = each_weaker _ _ s.incidents (λ i known. more.orgs i.source known) h.incidents.sources;
+        sources = each_weaker _ _ s.incidents (λ i known. more.orgs i.naming.source known) h.incidents.sources;
         revisions = h.incidents.revisions;
         documents = h.incidents.documents;
         follow = h.incidents.follow;
@@ -52,7 +52,7 @@ with_directory s e h sound more =
       gates = record {
         rising = h.gates.rising;
         places = h.gates.places;
-        ends = each_weaker _ _ s.gates (λ g known. group_stays d e more g.group known) h.gates.ends;
+        ends = each_weaker _ _ s.gates (λ g known. group_stays d e more g.gate.group known) h.gates.ends;
         roots = h.gates.roots;
         limit = h.gates.limit;
       };
@@ -65,7 +65,7 @@ with_directory s e h sound more =
       permissions = record {
         rising = h.permissions.rising;
         places = h.permissions.places;
-        grantees = each_weaker _ _ s.permissions (λ x known. grantee_stays d e more x.grantee known) h.permissions.grantees;
+        grantees = each_weaker _ _ s.permissions (λ x known. grantee_stays d e more x.permission.grantee known) h.permissions.grantees;
         limit = h.permissions.limit;
       };
     }

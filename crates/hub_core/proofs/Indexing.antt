@@ -17,7 +17,7 @@ use Rattle.iodef_tree.specs.Pointer.{pointer_text}
 use Rattle.circle.specs.Ordered.{put_by}
 use Rattle.circle.proofs.Lookup.{any_having}
 use Rattle.hub_core.specs.InOrder.{is_alike}
-use Rattle.hub_core.specs.State.{gate_cmp, permission_cmp, is_gate_at, is_permission_being, same_grantee, grantee_key}
+use Rattle.hub_core.specs.State.{gate_cmp, permission_cmp, gate_key, permission_key, is_gate_at, is_permission_being, same_grantee, grantee_key}
 use Rattle.hub_core.specs.Lists.{IsIndexOf}
 use Rattle.hub_core.specs.Orders.{incident_cmp, named_cmp, named}
 use Rattle.hub_core.specs.declared.state.Incident.{Incident}
@@ -46,9 +46,9 @@ pub index_put : (i : Incident) (incidents : List Incident) (names : List Named) 
 index_put i incidents names all test =
     any_put_is (λ x. test (named x)) incident_cmp i incidents ∙ (ap (λ b. test (named i) || b) (all test) ∙ sym (any_put_is test named_cmp (named i) names))
 
-pub index_left : (n : ℕ) (incidents : List Incident) (names : List Named) → IsIndexOf incidents names → IsIndexOf (filter (λ (i : Incident). not (i.number == n)) incidents) (filter (λ (e : Named). not (e.number == n)) names)
+pub index_left : (n : ℕ) (incidents : List Incident) (names : List Named) → IsIndexOf incidents names → IsIndexOf (filter (λ (i : Incident). not (i.naming.number == n)) incidents) (filter (λ (e : Named). not (e.number == n)) names)
 index_left n incidents names all test =
-    any_having (λ (i : Incident). not (i.number == n)) (λ x. test (named x)) incidents ∙ (all (λ e. not (e.number == n) && test e) ∙ sym (any_having (λ (e : Named). not (e.number == n)) test names))
+    any_having (λ (i : Incident). not (i.naming.number == n)) (λ x. test (named x)) incidents ∙ (all (λ e. not (e.number == n) && test e) ∙ sym (any_having (λ (e : Named). not (e.number == n)) test names))
 
 -- ---- rows under one key
 
@@ -73,22 +73,26 @@ then_equal Greater u = refl
 same_pairs : (a b : ℕ × ℕ) → is_eq (pair_cmp a b) ≡ same_pair a b
 same_pairs a b = grind (arith, nat_tests)
 
-pub gates_alike : (key g : Gate) → is_alike gate_cmp g key ≡ is_gate_at key.incident key.path g
-gates_alike key g = equal_then g.incident key.incident (slice_cmp nat_cmp (pointer_text g.path) (pointer_text key.path)) ∙ ap (λ b. (g.incident == key.incident) && b) (same_pointers g.path key.path)
+pub gates_alike : (row g : Gate) → is_alike gate_cmp g row ≡ is_gate_at (gate_key row) g
+gates_alike row g = equal_then g.incident row.incident (slice_cmp nat_cmp (pointer_text g.gate.path) (pointer_text row.gate.path)) ∙ ap (λ b. (g.incident == row.incident) && b) (same_pointers g.gate.path row.gate.path)
 
 pub and_and : (a b c : Bool) → ((a && b) && c) ≡ (a && (b && c))
 and_and true b c = refl
 and_and false b c = refl
 
-pub permissions_alike : (key x : Permission) → is_alike permission_cmp x key ≡ is_permission_being key.incident key.path key.grantee x
-permissions_alike key x =
-    then_equal (ordering_then (nat_cmp x.incident key.incident) (slice_cmp nat_cmp (pointer_text x.path) (pointer_text key.path))) (pair_cmp (grantee_key x.grantee) (grantee_key key.grantee))
-    ∙ (ap (λ b. b && is_eq (pair_cmp (grantee_key x.grantee) (grantee_key key.grantee))) (equal_then x.incident key.incident (slice_cmp nat_cmp (pointer_text x.path) (pointer_text key.path)) ∙ ap (λ b. (x.incident == key.incident) && b) (same_pointers x.path key.path))
-    ∙ (ap (λ b. ((x.incident == key.incident) && same_path x.path key.path) && b) (same_pairs (grantee_key x.grantee) (grantee_key key.grantee))
-    ∙ and_and (x.incident == key.incident) (same_path x.path key.path) (same_grantee x.grantee key.grantee)))
+pub permissions_alike : (row x : Permission) → is_alike permission_cmp x row ≡ is_permission_being (permission_key row) x
+permissions_alike row x =
+    let p = x.permission.path in
+    let q = row.permission.path in
+    let a = x.permission.grantee in
+    let b = row.permission.grantee in
+    then_equal (ordering_then (nat_cmp x.incident row.incident) (slice_cmp nat_cmp (pointer_text p) (pointer_text q))) (pair_cmp (grantee_key a) (grantee_key b))
+    ∙ (ap (λ c. c && is_eq (pair_cmp (grantee_key a) (grantee_key b))) (equal_then x.incident row.incident (slice_cmp nat_cmp (pointer_text p) (pointer_text q)) ∙ ap (λ c. (x.incident == row.incident) && c) (same_pointers p q))
+    ∙ (ap (λ c. ((x.incident == row.incident) && same_path p q) && c) (same_pairs (grantee_key a) (grantee_key b))
+    ∙ and_and (x.incident == row.incident) (same_path p q) (same_grantee a b)))
 
-pub gates_without : (key : Gate) (xs : List Gate) → filter (λ (g : Gate). not (is_alike gate_cmp g key)) xs ≡ filter (λ (g : Gate). not (is_gate_at key.incident key.path g)) xs
-gates_without key xs = filter_agree (λ (g : Gate). not (is_alike gate_cmp g key)) (λ (g : Gate). not (is_gate_at key.incident key.path g)) (λ g. ap not (gates_alike key g)) xs
+pub gates_without : (row : Gate) (xs : List Gate) → filter (λ (g : Gate). not (is_alike gate_cmp g row)) xs ≡ filter (λ (g : Gate). not (is_gate_at (gate_key row) g)) xs
+gates_without row xs = filter_agree (λ (g : Gate). not (is_alike gate_cmp g row)) (λ (g : Gate). not (is_gate_at (gate_key row) g)) (λ g. ap not (gates_alike row g)) xs
 
-pub permissions_without : (key : Permission) (xs : List Permission) → filter (λ (x : Permission). not (is_alike permission_cmp x key)) xs ≡ filter (λ (x : Permission). not (is_permission_being key.incident key.path key.grantee x)) xs
-permissions_without key xs = filter_agree (λ (x : Permission). not (is_alike permission_cmp x key)) (λ (x : Permission). not (is_permission_being key.incident key.path key.grantee x)) (λ x. ap not (permissions_alike key x)) xs
+pub permissions_without : (row : Permission) (xs : List Permission) → filter (λ (x : Permission). not (is_alike permission_cmp x row)) xs ≡ filter (λ (x : Permission). not (is_permission_being (permission_key row) x)) xs
+permissions_without row xs = filter_agree (λ (x : Permission). not (is_alike permission_cmp x row)) (λ (x : Permission). not (is_permission_being (permission_key row) x)) (λ x. ap not (permissions_alike row x)) xs

@@ -1,9 +1,8 @@
 -- What nothing refuses leaves a sound state.
 use Rattle.std.proofs.Common.{◌≡◌, ℕ, ◌+◌, ◌≤◌, ◌&&◌, true, false, List, [], ◌∷◌, ◌++◌, length, Option, Some, None, refl, sym, ap, ◌∙◌, subst, arith}
 use Rattle.std.proofs.lemmas.Bool.{false≢true, ltb-false, not-false, or_parts}
-use Rattle.std.specs.Prelude.{suc, nat_lt, Ok}
+use Rattle.std.specs.Prelude.{suc, nat_lt, Ok, option_map}
 use Rattle.std.specs.List.{list_all}
-use Rattle.std.specs.Option.{option_map_or}
 use Rattle.std.specs.Str.{bytes_eq}
 use Rattle.std.proofs.lemmas.Bool.Decides.{nat_tests}
 use Rattle.iodef_tree.specs.Reading.{reading}
@@ -17,7 +16,9 @@ use Rattle.hub_core.specs.declared.TheConstants.{INCIDENT_LIMIT, REVISION_LIMIT,
 use Rattle.hub_core.specs.Aftermath.{changed, next_incident, put_gates, put_next, put_revision}
 use Rattle.hub_core.specs.Documents.{Lines, documents_in, ident_of}
 use Rattle.hub_core.specs.Edits.{after}
-use Rattle.hub_core.specs.Refusals.{grounds, refusal_of, are_own_groups, are_bad_gates, has_several, has_some, stand_at_classes, keep_ident, next_revision, number_of, unless_refused}
+use Rattle.hub_core.specs.Refusals.{grounds, refusal_of, are_bad_gates, has_several, has_some, stand_at_classes, keep_ident, next_revision, unless_refused}
+use Rattle.hub_core.specs.Requests.{known, are_own_groups}
+use Rattle.hub_core.specs.Facts.{number_of}
 use Rattle.hub_core.specs.Laws.{StaysSound}
 use Rattle.hub_core.specs.Sound.{IsSound}
 use Rattle.hub_core.specs.State.{State, incident_number, incident_of}
@@ -64,13 +65,13 @@ one_of (doc ∷ other ∷ docs) h k = absurd (false≢true (sym h ∙ two (lengt
     two n = grind (arith, nat_tests)
 
 -- what the edits of the incident, of its gates and of its permissions make
-after_replace : (s : State) (i : Incident) (n : ℕ) (d : Distribution) (docs : List Lines) (doc : Lines) → i.number ≡ n → incident_of n s ≡ Some i → docs ≡ doc ∷ [] →
-    after (put_next (incident_of n s) docs ++ TakePolicy n ∷ put_gates n d) s ≡ with_document s i d doc
+after_replace : (s : State) (i : Incident) (n : ℕ) (d : Distribution) (docs : List Lines) (doc : Lines) → i.naming.number ≡ n → incident_of n s ≡ Some i → docs ≡ doc ∷ [] →
+    after (put_next n (option_map known (incident_of n s)) docs ++ TakePolicy n ∷ put_gates n d) s ≡ with_document s i d doc
 after_replace s i n d docs doc same found one =
-    subst (λ m. after (put_next (incident_of n s) docs ++ TakePolicy m ∷ put_gates m d) s ≡ with_document s i d doc) same
-    (ap (λ o. after (put_next o docs ++ TakePolicy i.number ∷ put_gates i.number d) s) found
-    ∙ (ap (λ ds. after (put_revision i ds ++ TakePolicy i.number ∷ put_gates i.number d) s) one
-    ∙ after_gates i.number d (after (put_revision i (doc ∷ []) ++ TakePolicy i.number ∷ []) s)))
+    subst (λ m. after (put_next m (option_map known (incident_of n s)) docs ++ TakePolicy m ∷ put_gates m d) s ≡ with_document s i d doc) same
+    (ap (λ o. after (put_next i.naming.number (option_map known o) docs ++ TakePolicy i.naming.number ∷ put_gates i.naming.number d) s) found
+    ∙ (ap (λ ds. after (put_revision i.naming.number (known i) ds ++ TakePolicy i.naming.number ∷ put_gates i.naming.number d) s) one
+    ∙ after_gates i.naming.number d (after (put_revision i.naming.number (known i) (doc ∷ []) ++ TakePolicy i.naming.number ∷ []) s)))
 
 replace_kept : (s : State) (a : Person) (r : Replace) → IsSound s → refusal_of s a (ask.Replace r) ≡ None → IsSound (changed s a (ask.Replace r))
 replace_kept s a r h fine =
@@ -85,16 +86,16 @@ replace_kept s a r h fine =
     let one = one_of docs p.1.1.1.1.1.0 (reported r.document docs read).some in
     let classes : stand_at_classes d.gates docs ≡ true = not-false (stand_at_classes d.gates docs) p.1.1.1.1.1.1.1.1.1.0 in
     let own : are_own_groups s a d ≡ true = not-false (are_own_groups s a d) p.1.1.1.1.1.1.1.1.0 in
-    let kept : keep_ident s n docs ≡ true = not-false (keep_ident s n docs) p.1.1.1.1.1.1.1.1.1.1.0 in
+    let kept : keep_ident (option_map known (incident_of n s)) docs ≡ true = not-false (keep_ident (option_map known (incident_of n s)) docs) p.1.1.1.1.1.1.1.1.1.1.0 in
     let few : number_of d.gates ≤ GATE_LIMIT = subst (λ m. m ≤ GATE_LIMIT) (counted_is s n i (λ m. number_of d.gates) found) (ltb-false GATE_LIMIT _ p.1.1.1.1.1.1.1.1.1.1.1.1.1.0) in
-    let room : next_revision s n ≤ REVISION_LIMIT = ltb-false REVISION_LIMIT _ p.1.1.1.1.1.1.1.1.1.1.1.1.0 in
+    let room : next_revision (option_map known (incident_of n s)) ≤ REVISION_LIMIT = ltb-false REVISION_LIMIT _ p.1.1.1.1.1.1.1.1.1.1.1.1.0 in
     let fits : IsFit d.gates one.0 = (subst (Each (IsFit d.gates)) one.1 (fit r.document docs d.gates read p.1.1.1.1.1.1.0 classes)).0 in
-    let same : list_all (λ (doc : Lines). bytes_eq (ident_of doc) i.ident) (one.0 ∷ []) ≡ true =
-    ap (list_all (λ (doc : Lines). bytes_eq (ident_of doc) i.ident)) (sym one.1) ∙ (sym (ap (λ o. option_map_or (λ (x : Incident). list_all (λ (doc : Lines). bytes_eq (ident_of doc) x.ident) docs) o false) found) ∙ kept) in
-    let ident : ident_of one.0 ≡ i.ident = bytes_eq-true (ident_of one.0) i.ident (all_each (λ (doc : Lines). bytes_eq (ident_of doc) i.ident) (one.0 ∷ []) same).0 in
+    let same : list_all (λ (doc : Lines). bytes_eq (ident_of doc) i.naming.ident) (one.0 ∷ []) ≡ true =
+    ap (list_all (λ (doc : Lines). bytes_eq (ident_of doc) i.naming.ident)) (sym one.1) ∙ (sym (ap (λ o. keep_ident (option_map known o) docs) found) ∙ kept) in
+    let ident : ident_of one.0 ≡ i.naming.ident = bytes_eq-true (ident_of one.0) i.naming.ident (all_each (λ (doc : Lines). bytes_eq (ident_of doc) i.naming.ident) (one.0 ∷ []) same).0 in
     subst IsSound (sym (after_replace s i n d docs one.0 it.number found one.1))
     (exchanged s i d one.0 h (subst (λ m. incident_of m s ≡ Some i) (sym it.number) found)
-    (record { accepted = fits.accepted; named = fits.named ∙ ap Some ident; room = subst (λ o. option_map_or (λ (x : Incident). x.revision) o 0 + 1 ≤ REVISION_LIMIT) found room })
+    (record { accepted = fits.accepted; named = fits.named ∙ ap Some ident; room = subst (λ o. next_revision (option_map known o) ≤ REVISION_LIMIT) found room })
     fits.classes (wishes s a d h.directory p.1.1.1.0 own few))
 
 -- ---- every request

@@ -12,8 +12,9 @@ use Rattle.iodef_tree.specs.Pointer.{pointer_text, pointer_tokens}
 use Rattle.iodef_tree.proofs.Order.{bytes_eq-refl, bytes_eq-true, same_path-refl}
 use Rattle.iodef_tree.proofs.Inverse.{pointer_tokens-pointer_text}
 use Rattle.circle.specs.Ordered.{pair_cmp}
-use Rattle.hub_core.specs.State.{path_cmp, recipient_cmp, permission_cmp, target_key, grantee_key, same_pair, is_gate_at, is_recipient_being, is_permission_being}
+use Rattle.hub_core.specs.State.{path_cmp, recipient_cmp, permission_cmp, permission_key, target_key, grantee_key, same_pair, is_gate_at, is_recipient_being, is_permission_being}
 use Rattle.hub_core.specs.declared.state.Gate.{Gate}
+use Rattle.hub_core.specs.declared.state.GateKey.{GateKey}
 use Rattle.hub_core.specs.declared.state.Recipient.{Recipient}
 use Rattle.hub_core.specs.declared.state.Permission.{Permission}
 
@@ -50,10 +51,10 @@ weaker a false true go h = let no : false ≡ true = go refl in cc
 weaker true false false go h = refl
 weaker false b false go h = refl
 
-pub apart_gate : (n : ℕ) (p : Tokens) (g : Gate) → is_gate_at n p g ≡ false → path_cmp n p g.incident g.path ≢ Equal
-apart_gate n p g h =
-    apart_text n g.incident (pointer_text p) (pointer_text g.path)
-    (weaker (g.incident == n) (same_path g.path p) (bytes_eq (pointer_text g.path) (pointer_text p)) (path_of_text p g.path) h)
+pub apart_gate : (key : GateKey) (g : Gate) → is_gate_at key g ≡ false → path_cmp key.incident key.path g.incident g.gate.path ≢ Equal
+apart_gate key g h =
+    apart_text key.incident g.incident (pointer_text key.path) (pointer_text g.gate.path)
+    (weaker (g.incident == key.incident) (same_path g.gate.path key.path) (bytes_eq (pointer_text g.gate.path) (pointer_text key.path)) (path_of_text key.path g.gate.path) h)
 
 abbrev recipient_by : ℕ → ℕ → ℕ × ℕ → ℕ × ℕ → Ordering
 recipient_by i j a b = ordering_then (nat_cmp i j) (pair_cmp a b)
@@ -75,9 +76,9 @@ weaker_inside a false true d go h = let no : false ≡ true = go refl in cc
 weaker_inside true false false d go h = refl
 weaker_inside false b false d go h = refl
 
-pub apart_permission : (row x : Permission) → is_permission_being row.incident row.path row.grantee x ≡ false → permission_cmp row x ≢ Equal
+pub apart_permission : (row x : Permission) → is_permission_being (permission_key row) x ≡ false → permission_cmp row x ≢ Equal
 apart_permission row x h =
-    let s = pointer_text row.path in
-    let t = pointer_text x.path in
-    ties row.incident x.incident (slice_cmp nat_cmp s t) (bytes_eq t s) (grantee_key row.grantee) (grantee_key x.grantee) (turned_text s t (bytes_eq t s) refl)
-    (weaker_inside (x.incident == row.incident) (same_path x.path row.path) (bytes_eq t s) (same_pair (grantee_key x.grantee) (grantee_key row.grantee)) (path_of_text row.path x.path) h)
+    let s = pointer_text row.permission.path in
+    let t = pointer_text x.permission.path in
+    ties row.incident x.incident (slice_cmp nat_cmp s t) (bytes_eq t s) (grantee_key row.permission.grantee) (grantee_key x.permission.grantee) (turned_text s t (bytes_eq t s) refl)
+    (weaker_inside (x.incident == row.incident) (same_path x.permission.path row.permission.path) (bytes_eq t s) (same_pair (grantee_key x.permission.grantee) (grantee_key row.permission.grantee)) (path_of_text row.permission.path x.permission.path) h)

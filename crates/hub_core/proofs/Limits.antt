@@ -20,6 +20,6 @@ still_within number cmp limit x xs n here there = split (number x == n) refl
 -- those of each incident stay within the limit, if those of the row's own do
 pub limit_put : {X : Type 0} (number : X → ℕ) (cmp : X → X → Ordering) (limit : ℕ) (x : X) (xs : List X) (incidents : List Incident) →
     count_by (λ y. number y == number x) (put_by cmp x xs) ≤ limit →
-    Each (λ (i : Incident). count_by (λ y. number y == i.number) xs ≤ limit) incidents →
-    Each (λ (i : Incident). count_by (λ y. number y == i.number) (put_by cmp x xs) ≤ limit) incidents
-limit_put number cmp limit x xs incidents here all = each_weaker _ _ incidents (λ i e. still_within number cmp limit x xs i.number here e) all
+    Each (λ (i : Incident). count_by (λ y. number y == i.naming.number) xs ≤ limit) incidents →
+    Each (λ (i : Incident). count_by (λ y. number y == i.naming.number) (put_by cmp x xs) ≤ limit) incidents
+limit_put number cmp limit x xs incidents here all = each_weaker _ _ incidents (λ i e. still_within number cmp limit x xs i.naming.number here e) all

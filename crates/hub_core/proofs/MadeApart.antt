@@ -16,11 +16,11 @@ beside (edit.PutIncident i ∷ edits) s d e = beside edits (edited (edit.PutInci
 beside (edit.TakeIncident n ∷ edits) s d e = beside edits (edited (edit.TakeIncident n) s) d e
 beside (edit.TakePolicy n ∷ edits) s d e = beside edits (edited (edit.TakePolicy n) s) d e
 beside (edit.PutGate g ∷ edits) s d e = beside edits (edited (edit.PutGate g) s) d e
-beside (edit.TakeGate n p ∷ edits) s d e = beside edits (edited (edit.TakeGate n p) s) d e
+beside (edit.TakeGate key ∷ edits) s d e = beside edits (edited (edit.TakeGate key) s) d e
 beside (edit.PutRecipient r ∷ edits) s d e = beside edits (edited (edit.PutRecipient r) s) d e
 beside (edit.TakeRecipient r ∷ edits) s d e = beside edits (edited (edit.TakeRecipient r) s) d e
 beside (edit.PutPermission x ∷ edits) s d e = beside edits (edited (edit.PutPermission x) s) d e
-beside (edit.TakePermission n p h ∷ edits) s d e = beside edits (edited (edit.TakePermission n p h) s) d e
+beside (edit.TakePermission key ∷ edits) s d e = beside edits (edited (edit.TakePermission key) s) d e
 
 pub made_apart : (edits : List Edit) (s : State) → after edits s ≡ (let t : State = after (row_edits edits) s in record t { directory = edited_rows (directory_edits edits) s.directory })
 made_apart [] s = refl
@@ -29,8 +29,8 @@ made_apart (edit.PutIncident i ∷ edits) s = made_apart edits (edited (edit.Put
 made_apart (edit.TakeIncident n ∷ edits) s = made_apart edits (edited (edit.TakeIncident n) s)
 made_apart (edit.TakePolicy n ∷ edits) s = made_apart edits (edited (edit.TakePolicy n) s)
 made_apart (edit.PutGate g ∷ edits) s = made_apart edits (edited (edit.PutGate g) s)
-made_apart (edit.TakeGate n p ∷ edits) s = made_apart edits (edited (edit.TakeGate n p) s)
+made_apart (edit.TakeGate key ∷ edits) s = made_apart edits (edited (edit.TakeGate key) s)
 made_apart (edit.PutRecipient r ∷ edits) s = made_apart edits (edited (edit.PutRecipient r) s)
 made_apart (edit.TakeRecipient r ∷ edits) s = made_apart edits (edited (edit.TakeRecipient r) s)
 made_apart (edit.PutPermission x ∷ edits) s = made_apart edits (edited (edit.PutPermission x) s)
-made_apart (edit.TakePermission n p h ∷ edits) s = made_apart edits (edited (edit.TakePermission n p h) s)
+made_apart (edit.TakePermission key ∷ edits) s = made_apart edits (edited (edit.TakePermission key) s)

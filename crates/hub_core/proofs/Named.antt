@@ -1,8 +1,10 @@
 -- What the grounds say of what is named, where none holds.
-use Rattle.std.proofs.Common.{◌≡◌, ℕ, ◌==◌, true, false, not, if◌then◌else◌, Option, Some, None, ap, subst}
+use Rattle.std.proofs.Common.{◌≡◌, ℕ, ◌==◌, Bool, true, false, not, if◌then◌else◌, Option, Some, None, refl, sym, ap, ◌∙◌, subst}
 use Rattle.std.proofs.lemmas.Bool.{and_parts, eqb-true, not-false}
-use Rattle.std.specs.Prelude.{is_some}
+use Rattle.std.specs.Prelude.{is_some, option_map}
 use Rattle.std.specs.List.{list_all}
+use Rattle.std.specs.Option.{option_map_or}
+use Rattle.iodef_tree.specs.Text.{Bytes, Tokens}
 use Rattle.policy.specs.declared.permission.Grantee.{Grantee}
 use Rattle.policy.specs.declared.permission.Grantee.TheVariants as grantee
 use Rattle.circle.specs.Directory.{Directory, has_group_member}
@@ -10,7 +12,10 @@ use Rattle.circle.specs.Sound as circle
 use Rattle.circle.specs.Sound.{Each, IsGroup}
 use Rattle.circle.specs.declared.directory.Person.{Person}
 use Rattle.circle.proofs.Keeping.{found_then, each_weaker}
-use Rattle.hub_core.specs.Refusals.{is_own, is_own_group, are_own_groups, is_target, is_grantee, counted}
+use Rattle.hub_core.specs.Refusals.{is_own}
+use Rattle.hub_core.specs.Requests.{known, is_own_group, are_own_groups, is_target, is_grantee}
+use Rattle.hub_core.specs.Facts.{counted}
+use Rattle.hub_core.specs.Documents.{Lines, at_pointer}
 use Rattle.hub_core.specs.Sound.{IsIncident, IsTarget, IsGrantee, IsGroupIfAny}
 use Rattle.hub_core.specs.State.{State, incident_of}
 use Rattle.hub_core.specs.declared.request.Distribution.{Distribution}
@@ -18,25 +23,40 @@ use Rattle.hub_core.specs.declared.request.Target.{Target}
 use Rattle.hub_core.specs.declared.request.Target.TheVariants as target
 use Rattle.hub_core.specs.declared.request.WantedGate.{WantedGate}
 use Rattle.hub_core.specs.declared.state.Incident.{Incident}
+use Rattle.hub_core.specs.declared.facts.Known.{Known}
 use Rattle.hub_core.proofs.Keeping.{all_each, found_any, found_is, found_passing}
+
+-- ---- what is known of an incident
+
+pub map_or_map : {X Y Z : Type 0} (f : Y → Z) (g : X → Y) (o : Option X) (z : Z) → option_map_or f (option_map g o) z ≡ option_map_or (λ x. f (g x)) o z
+map_or_map f g None z = refl
+map_or_map f g (Some x) z = refl
+
+-- a test of the document is one of the incident
+pub of_document : (test : Lines → Tokens → Bool) (o : Option Incident) (path : Bytes) →
+    at_pointer (λ p. option_map_or (λ (doc : Lines). test doc p) (option_map (λ (i : Incident). i.document) o) false) path
+    ≡ at_pointer (λ p. option_map_or (λ (i : Incident). test i.document p) o false) path
+of_document test None path = refl
+of_document test (Some i) path = refl
 
 -- the incident that the source named
 pub record Own (s : State) (a : Person) (n : ℕ) : Type 0 where
   pub incident : Incident
   pub found : incident_of n s ≡ Some incident
-  pub source : incident.source ≡ a.org
-  pub number : incident.number ≡ n
+  pub source : incident.naming.source ≡ a.org
+  pub number : incident.naming.number ≡ n
 
-pub own : (s : State) (a : Person) (n : ℕ) → not (is_own s a n) ≡ false → Own s a n
+pub own : (s : State) (a : Person) (n : ℕ) → not (is_own (option_map known (incident_of n s)) a) ≡ false → Own s a n
 own s a n h =
-    let f = found_passing (λ (i : Incident). i.source == a.org) (incident_of n s) (not-false (is_own s a n) h) in
-    record { incident = f.0; found = f.1; source = eqb-true f.0.source a.org f.2; number = eqb-true f.0.number n (found_is (λ (i : Incident). i.number == n) s.incidents f.0 f.1) }
+    let theirs = λ (k : Known). k.source == a.org in
+    let f = found_passing (λ (i : Incident). i.naming.source == a.org) (incident_of n s) (sym (map_or_map theirs known (incident_of n s) false) ∙ not-false (is_own (option_map known (incident_of n s)) a) h) in
+    record { incident = f.0; found = f.1; source = eqb-true f.0.naming.source a.org f.2; number = eqb-true f.0.naming.number n (found_is (λ (i : Incident). i.naming.number == n) s.incidents f.0 f.1) }
 
 pub some_is : {X : Type 0} (o : Option X) (x : X) → o ≡ Some x → is_some o ≡ true
 some_is o x h = ap is_some h
 
 pub is_incident : (s : State) (n : ℕ) (i : Incident) → incident_of n s ≡ Some i → IsIncident s.incidents n
-is_incident s n i h = found_any (λ (x : Incident). x.number == n) s.incidents (some_is (incident_of n s) i h)
+is_incident s n i h = found_any (λ (x : Incident). x.naming.number == n) s.incidents (some_is (incident_of n s) i h)
 
 -- what is counted where the incident is there
 pub counted_is : (s : State) (n : ℕ) (i : Incident) (count : ℕ → ℕ) → incident_of n s ≡ Some i → counted s (Some n) count ≡ count n

@@ -1,5 +1,8 @@
 -- What a request leaves of the incidents that it doesn't name.
 use Rattle.std.proofs.Common.{◌≡◌, ◌≢◌, ℕ, ◌+◌, ◌≤◌, ◌==◌, ◌&&◌, Bool, true, false, not, List, [], ◌∷◌, ◌++◌, length, map, filter, Option, Some, None, refl, sym, ap, ◌∙◌, subst, arith}
+use Rattle.std.specs.Prelude.{option_map}
+use Rattle.hub_core.specs.declared.facts.Known.{Known}
+use Rattle.hub_core.specs.Requests.{known}
 use Rattle.std.proofs.lemmas.Bool.{and_left, eqb-true, false_from_ne_true, ne_eqb, not-true, not_from_false}
 use Rattle.std.specs.List.{flat_map}
 use Rattle.std.specs.Option.{option_map_or}
@@ -42,15 +45,15 @@ use Rattle.hub_core.proofs.Keeping.{not_both, turned, find_put, find_left, filte
 -- the edit is of another incident, or of the directory
 abbrev Spares : ℕ → Edit → Type 0
 Spares n (Directory edit) = Unit {0}
-Spares n (PutIncident i) = (i.number == n) ≡ false
+Spares n (PutIncident i) = (i.naming.number == n) ≡ false
 Spares n (TakeIncident m) = (m == n) ≡ false
 Spares n (TakePolicy m) = (m == n) ≡ false
 Spares n (PutGate g) = (g.incident == n) ≡ false
-Spares n (TakeGate m p) = (m == n) ≡ false
+Spares n (TakeGate key) = (key.incident == n) ≡ false
 Spares n (PutRecipient r) = (r.incident == n) ≡ false
 Spares n (TakeRecipient r) = (r.incident == n) ≡ false
 Spares n (PutPermission x) = (x.incident == n) ≡ false
-Spares n (TakePermission m p grantee) = (m == n) ≡ false
+Spares n (TakePermission key) = (key.incident == n) ≡ false
 
 -- a row of the one isn't a row of the other
 is_other : (m n k : ℕ) → (m == n) ≡ false → (k == n) ≡ true → not (k == m) ≡ true
@@ -61,8 +64,8 @@ is_no_such m n k b h e = not_from_false (k == m && b) (and_left (k == m) b (not_
 
 spared_by : (n : ℕ) (edit : Edit) (s : State) → Spares n edit → LeavesIncident n s (edited edit s)
 spared_by n (Directory edit) s h = record { row = refl; gates = refl; recipients = refl; permissions = refl }
-spared_by n (PutIncident i) s h = record { row = find_put (λ (x : Incident). x.number == n) (by_number incident_number) i s.incidents h; gates = refl; recipients = refl; permissions = refl }
-spared_by n (TakeIncident m) s h = record { row = find_left (λ (x : Incident). x.number == n) (λ (x : Incident). not (x.number == m)) s.incidents (λ x e. is_other m n x.number h e); gates = refl; recipients = refl; permissions = refl }
+spared_by n (PutIncident i) s h = record { row = find_put (λ (x : Incident). x.naming.number == n) (by_number incident_number) i s.incidents h; gates = refl; recipients = refl; permissions = refl }
+spared_by n (TakeIncident m) s h = record { row = find_left (λ (x : Incident). x.naming.number == n) (λ (x : Incident). not (x.naming.number == m)) s.incidents (λ x e. is_other m n x.naming.number h e); gates = refl; recipients = refl; permissions = refl }
 spared_by n (TakePolicy m) s h = record {
   row = refl;
   gates = filter_left (λ (g : Gate). g.incident == n) (λ (g : Gate). not (g.incident == m)) s.gates (λ g e. is_other m n g.incident h e);
@@ -70,11 +73,11 @@ spared_by n (TakePolicy m) s h = record {
   permissions = filter_left (λ (x : Permission). x.incident == n) (λ (x : Permission). not (x.incident == m)) s.permissions (λ x e. is_other m n x.incident h e);
 }
 spared_by n (PutGate g) s h = record { row = refl; gates = filter_put (λ (x : Gate). x.incident == n) gate_cmp g s.gates h; recipients = refl; permissions = refl }
-spared_by n (TakeGate m p) s h = record { row = refl; gates = filter_left (λ (g : Gate). g.incident == n) (λ (g : Gate). not (is_gate_at m p g)) s.gates (λ g e. is_no_such m n g.incident (same_path g.path p) h e); recipients = refl; permissions = refl }
+spared_by n (TakeGate key) s h = record { row = refl; gates = filter_left (λ (g : Gate). g.incident == n) (λ (g : Gate). not (is_gate_at key g)) s.gates (λ g e. is_no_such key.incident n g.incident (same_path g.gate.path key.path) h e); recipients = refl; permissions = refl }
 spared_by n (PutRecipient r) s h = record { row = refl; gates = refl; recipients = filter_put (λ (x : Recipient). x.incident == n) recipient_cmp r s.recipients h; permissions = refl }
 spared_by n (TakeRecipient r) s h = record { row = refl; gates = refl; recipients = filter_left (λ (x : Recipient). x.incident == n) (λ (x : Recipient). not (is_recipient_being r.incident r.target x)) s.recipients (λ x e. is_no_such r.incident n x.incident (same_target x.target r.target) h e); permissions = refl }
 spared_by n (PutPermission x) s h = record { row = refl; gates = refl; recipients = refl; permissions = filter_put (λ (y : Permission). y.incident == n) permission_cmp x s.permissions h }
-spared_by n (TakePermission m p grantee) s h = record { row = refl; gates = refl; recipients = refl; permissions = filter_left (λ (x : Permission). x.incident == n) (λ (x : Permission). not (is_permission_being m p grantee x)) s.permissions (λ x e. is_no_such m n x.incident (same_path x.path p && same_grantee x.grantee grantee) h e) }
+spared_by n (TakePermission key) s h = record { row = refl; gates = refl; recipients = refl; permissions = filter_left (λ (x : Permission). x.incident == n) (λ (x : Permission). not (is_permission_being key x)) s.permissions (λ x e. is_no_such key.incident n x.incident (same_path x.permission.path key.path && same_grantee x.permission.grantee key.grantee) h e) }
 
 -- ---- all edits
 
@@ -105,10 +108,10 @@ module _ (P : Edit → Type 0) where
 gates_spare : (n m : ℕ) (d : Distribution) → (m == n) ≡ false → Each (Spares n) (put_gates m d)
 gates_spare n m d h = (h, each_wanted (Spares n) m d.gates (λ g p. (h, tt)))
 
-next_spares : (n : ℕ) (o : Option Incident) (docs : List Lines) → ((i : Incident) → o ≡ Some i → (i.number == n) ≡ false) → Each (Spares n) (put_next o docs)
-next_spares n None docs h = tt
-next_spares n (Some i) [] h = tt
-next_spares n (Some i) (doc ∷ docs) h = (h i refl, (h i refl, tt))
+next_spares : (n m : ℕ) (k : Option Known) (docs : List Lines) → (m == n) ≡ false → Each (Spares n) (put_next m k docs)
+next_spares n m None docs h = tt
+next_spares n m (Some k) [] h = tt
+next_spares n m (Some k) (doc ∷ docs) h = (h, (h, tt))
 
 -- numbers from one on that is above it
 incidents_spare : (n source m : ℕ) (d : Distribution) (docs : List Lines) → n + 1 ≤ m → Each (Spares n) (put_incidents source m d docs)
@@ -127,42 +130,42 @@ one_row : (x y : Incident) → Some x ≡ Some y → x ≡ y
 one_row x y e = cc
 
 -- whose incident it is isn't another's
-not_theirs : (s : State) (a : Person) (n : ℕ) (i : Incident) → incident_of i.number s ≡ Some i → i.source ≢ a.org → not (is_own s a n) ≡ false → (n == i.number) ≡ false
+not_theirs : (s : State) (a : Person) (n : ℕ) (i : Incident) → incident_of i.naming.number s ≡ Some i → i.naming.source ≢ a.org → not (is_own (option_map known (incident_of n s)) a) ≡ false → (n == i.naming.number) ≡ false
 not_theirs s a n i found other h =
     let it = own s a n h in
-    false_from_ne_true (n == i.number) (λ e. other (sym (ap (λ (x : Incident). x.source) (one_row it.incident i (sym it.found ∙ (ap (λ m. incident_of m s) (eqb-true n i.number e) ∙ found)))) ∙ it.source))
+    false_from_ne_true (n == i.naming.number) (λ e. other (sym (ap (λ (x : Incident). x.naming.source) (one_row it.incident i (sym it.found ∙ (ap (λ m. incident_of m s) (eqb-true n i.naming.number e) ∙ found)))) ∙ it.source))
 
-all_spared : (s : State) (a : Person) (r : Request) (i : Incident) → IsSound s → incident_of i.number s ≡ Some i → i.source ≢ a.org → refusal_of s a r ≡ None → Each (Spares i.number) (edits_of s a r)
-all_spared s a (ask.Circle command) i h found other fine = rows_spare i.number (rows_of (circle.edit_of (circle.next_in s.directory command) a command))
+all_spared : (s : State) (a : Person) (r : Request) (i : Incident) → IsSound s → incident_of i.naming.number s ≡ Some i → i.naming.source ≢ a.org → refusal_of s a r ≡ None → Each (Spares i.naming.number) (edits_of s a r)
+all_spared s a (ask.Circle command) i h found other fine = rows_spare i.naming.number (rows_of (circle.edit_of (circle.next_in s.directory command) a command))
 all_spared s a (ask.Post r) i h found other fine =
     let next : next_incident s ≡ length s.incidents + 1 = next_number incident_number INCIDENT_LIMIT s.incidents h.incidents.numbered in
-    let low : i.number ≤ 0 + length s.incidents = names_within incident_number 0 i.number s.incidents h.incidents.numbered.0 (is_incident s i.number i found) in
-    incidents_spare i.number a.org (next_incident s) r.distribution (documents_in r.document) (omega (arith, next, low))
+    let low : i.naming.number ≤ 0 + length s.incidents = names_within incident_number 0 i.naming.number s.incidents h.incidents.numbered.0 (is_incident s i.naming.number i found) in
+    incidents_spare i.naming.number a.org (next_incident s) r.distribution (documents_in r.document) (omega (arith, next, low))
 all_spared s a (ask.Replace r) i h found other fine =
     let n = r.incident in
     let p = passed (grounds s a (ask.Replace r)) fine in
-    let apart : (n == i.number) ≡ false = not_theirs s a n i found other p.1.1.1.1.1.1.1.0 in
-    let it = own s a n p.1.1.1.1.1.1.1.0 in
+    let apart : (n == i.naming.number) ≡ false = not_theirs s a n i found other p.1.1.1.1.1.1.1.0 in
     let docs = documents_in r.document in
-    each_append (Spares i.number) (put_next (incident_of n s) docs) (TakePolicy n ∷ put_gates n r.distribution)
-    (next_spares i.number (incident_of n s) docs (λ x e. subst (λ m. (m == i.number) ≡ false) (sym (ap (λ (y : Incident). y.number) (one_row x it.incident (sym e ∙ it.found)) ∙ it.number)) apart))
-    (apart, gates_spare i.number n r.distribution apart)
+    let k = option_map known (incident_of n s) in
+    each_append (Spares i.naming.number) (put_next n k docs) (TakePolicy n ∷ put_gates n r.distribution)
+    (next_spares i.naming.number n k docs apart)
+    (apart, gates_spare i.naming.number n r.distribution apart)
 all_spared s a (ask.Redistribute r) i h found other fine =
     let p = passed (grounds s a (ask.Redistribute r)) fine in
-    let apart : (r.incident == i.number) ≡ false = not_theirs s a r.incident i found other p.1.1.1.1.0 in
-    each_made (Spares i.number) (λ p. TakeGate r.incident p ∷ put_gate r.incident r.level r.group p) (pointer_tokens r.path) (λ q. (apart, (apart, tt)))
+    let apart : (r.incident == i.naming.number) ≡ false = not_theirs s a r.incident i found other p.1.1.1.1.0 in
+    each_made (Spares i.naming.number) (λ p. TakeGate (record { incident = r.incident; path = p }) ∷ put_gate r.incident r.level r.group p) (pointer_tokens r.path) (λ q. (apart, (apart, tt)))
 all_spared s a (ask.Address r) i h found other fine =
     let p = passed (grounds s a (ask.Address r)) fine in (not_theirs s a r.incident i found other p.1.0, tt)
 all_spared s a (ask.Unaddress r) i h found other fine =
     let p = passed (grounds s a (ask.Unaddress r)) fine in (not_theirs s a r.incident i found other p.1.0, tt)
 all_spared s a (ask.Grant r) i h found other fine =
     let p = passed (grounds s a (ask.Grant r)) fine in
-    let apart : (r.incident == i.number) ≡ false = not_theirs s a r.incident i found other p.1.1.0 in
-    each_made (Spares i.number) (λ p. PutPermission (record { incident = r.incident; path = p; grantee = r.grantee }) ∷ []) (pointer_tokens r.path) (λ q. (apart, tt))
+    let apart : (r.incident == i.naming.number) ≡ false = not_theirs s a r.incident i found other p.1.1.0 in
+    each_made (Spares i.naming.number) (λ p. PutPermission (record { incident = r.incident; permission = record { path = p; grantee = r.grantee } }) ∷ []) (pointer_tokens r.path) (λ q. (apart, tt))
 all_spared s a (ask.Withdraw r) i h found other fine =
     let p = passed (grounds s a (ask.Withdraw r)) fine in
-    let apart : (r.incident == i.number) ≡ false = not_theirs s a r.incident i found other p.1.1.0 in
-    each_made (Spares i.number) (λ p. TakePermission r.incident p r.grantee ∷ []) (pointer_tokens r.path) (λ q. (apart, tt))
+    let apart : (r.incident == i.naming.number) ≡ false = not_theirs s a r.incident i found other p.1.1.0 in
+    each_made (Spares i.naming.number) (λ p. TakePermission (record { incident = r.incident; path = p; grantee = r.grantee }) ∷ []) (pointer_tokens r.path) (λ q. (apart, tt))
 all_spared s a (ask.View n) i h found other fine = tt
 all_spared s a (ask.Explain r) i h found other fine = tt
 all_spared s a (ask.List after) i h found other fine = tt
@@ -174,8 +177,8 @@ all_spared s a ask.WhoAmI i h found other fine = tt
 pub others_stay : OthersStay
 others_stay s a r i h found other = split (refusal_of s a r) refl
   where
-    split : (o : Option Refusal) → refusal_of s a r ≡ o → LeavesIncident i.number s (unless_refused o s (changed s a r))
-    split None is = spared i.number (edits_of s a r) s (all_spared s a r i h found other is)
+    split : (o : Option Refusal) → refusal_of s a r ≡ o → LeavesIncident i.naming.number s (unless_refused o s (changed s a r))
+    split None is = spared i.naming.number (edits_of s a r) s (all_spared s a r i h found other is)
     split (Some why) is = record { row = refl; gates = refl; recipients = refl; permissions = refl }
 
 -- ---- another document ends the permissions
@@ -197,11 +200,11 @@ keeps_by (PutIncident i) s h = record { recipients = refl; permissions = refl }
 keeps_by (TakeIncident m) s h = record { recipients = refl; permissions = refl }
 keeps_by (TakePolicy m) s h = absurd h
 keeps_by (PutGate g) s h = record { recipients = refl; permissions = refl }
-keeps_by (TakeGate m p) s h = absurd h
+keeps_by (TakeGate key) s h = absurd h
 keeps_by (PutRecipient r) s h = absurd h
 keeps_by (TakeRecipient r) s h = absurd h
 keeps_by (PutPermission x) s h = absurd h
-keeps_by (TakePermission m p grantee) s h = absurd h
+keeps_by (TakePermission key) s h = absurd h
 
 keeps : (edits : List Edit) (s : State) → Each IsPlain edits → Keeps s (after edits s)
 keeps [] s h = record { recipients = refl; permissions = refl }
@@ -210,17 +213,17 @@ keeps (edit ∷ edits) s h =
     let rest = keeps edits (edited edit s) h.1 in
     record { recipients = rest.recipients ∙ first.recipients; permissions = rest.permissions ∙ first.permissions }
 
-next_plain : (o : Option Incident) (docs : List Lines) → Each IsPlain (put_next o docs)
-next_plain None docs = tt
-next_plain (Some i) [] = tt
-next_plain (Some i) (doc ∷ docs) = (tt, (tt, tt))
+next_plain : (n : ℕ) (k : Option Known) (docs : List Lines) → Each IsPlain (put_next n k docs)
+next_plain n None docs = tt
+next_plain n (Some k) [] = tt
+next_plain n (Some k) (doc ∷ docs) = (tt, (tt, tt))
 
-replaced : (s : State) (n : ℕ) (d : Distribution) (o : Option Incident) (docs : List Lines) → EndsPermissions n s (after (put_next o docs ++ TakePolicy n ∷ put_gates n d) s)
-replaced s n d o docs =
-    let first = put_next o docs in
+replaced : (s : State) (n : ℕ) (d : Distribution) (k : Option Known) (docs : List Lines) → EndsPermissions n s (after (put_next n k docs ++ TakePolicy n ∷ put_gates n d) s)
+replaced s n d k docs =
+    let first = put_next n k docs in
     let t : State = after first s in
     let u : State = edited (TakePolicy n) t in
-    let one = keeps first s (next_plain o docs) in
+    let one = keeps first s (next_plain n k docs) in
     let two = keeps (put_gates n d) u (tt, each_wanted IsPlain n d.gates (λ g p. (tt, tt))) in
     let all : after (first ++ TakePolicy n ∷ put_gates n d) s ≡ after (put_gates n d) u = after_append first (TakePolicy n ∷ put_gates n d) s in
     record {
@@ -231,4 +234,4 @@ replaced s n d o docs =
 pub exchanges_end_permissions : ExchangesEndPermissions
 exchanges_end_permissions s a r fine =
     let n = r.incident in
-    subst (λ o. EndsPermissions n s (unless_refused o s (changed s a (ask.Replace r)))) (sym fine) (replaced s n r.distribution (incident_of n s) (documents_in r.document))
+    subst (λ o. EndsPermissions n s (unless_refused o s (changed s a (ask.Replace r)))) (sym fine) (replaced s n r.distribution (option_map known (incident_of n s)) (documents_in r.document))

@@ -60,11 +60,11 @@ wanted_at groups incidents n d i found wishes classes = go d.gates wishes.groups
 
 -- ---- the number of a new incident
 
-numbers_low : (k : ℕ) (xs : List Incident) → CountsFrom incident_number k xs → Each (λ (i : Incident). i.number ≤ k + length xs) xs
+numbers_low : (k : ℕ) (xs : List Incident) → CountsFrom incident_number k xs → Each (λ (i : Incident). i.naming.number ≤ k + length xs) xs
 numbers_low k [] h = tt
 numbers_low k (x ∷ xs) h =
-    let first : x.number ≡ k + 1 = h.0 in
-    (omega arith, each_weaker (λ (i : Incident). i.number ≤ k + 1 + length xs) (λ (i : Incident). i.number ≤ k + length (x ∷ xs)) xs (λ i e. omega arith) (numbers_low (k + 1) xs h.1))
+    let first : x.naming.number ≡ k + 1 = h.0 in
+    (omega arith, each_weaker (λ (i : Incident). i.naming.number ≤ k + 1 + length xs) (λ (i : Incident). i.naming.number ≤ k + length (x ∷ xs)) xs (λ i e. omega arith) (numbers_low (k + 1) xs h.1))
 
 above : (m n l : ℕ) → m ≤ 0 + l → n ≡ l + 1 → (m == n) ≡ false
 above m n l h is = ne_eqb m n (λ e. absurd (omega arith))
@@ -77,33 +77,33 @@ not_new s n m h next there = above m n (length s.incidents) (names_within incide
 not_new_of : (s : State) (n m : ℕ) (test : Incident → Bool) → IsSound s → n ≡ length s.incidents + 1 → option_map_or test (incident_in m s.incidents) false ≡ true → (m == n) ≡ false
 not_new_of s n m test h next there =
     let f = found_passing test (incident_in m s.incidents) there in
-    not_new s n m h next (found_any (λ (i : Incident). i.number == m) s.incidents (some_is (incident_in m s.incidents) f.0 f.1))
+    not_new s n m h next (found_any (λ (i : Incident). i.naming.number == m) s.incidents (some_is (incident_in m s.incidents) f.0 f.1))
 
 -- what holds of another incident still does
-stays : (test : Incident → Bool) (m : ℕ) (x : Incident) (xs : List Incident) → (m == x.number) ≡ false → option_map_or test (incident_in m xs) false ≡ true → option_map_or test (incident_in m (put_by (by_number incident_number) x xs)) false ≡ true
-stays test m x xs other h = ap (λ o. option_map_or test o false) (find_put (λ (i : Incident). i.number == m) (by_number incident_number) x xs (turned m x.number other)) ∙ h
+stays : (test : Incident → Bool) (m : ℕ) (x : Incident) (xs : List Incident) → (m == x.naming.number) ≡ false → option_map_or test (incident_in m xs) false ≡ true → option_map_or test (incident_in m (put_by (by_number incident_number) x xs)) false ≡ true
+stays test m x xs other h = ap (λ o. option_map_or test o false) (find_put (λ (i : Incident). i.naming.number == m) (by_number incident_number) x xs (turned m x.naming.number other)) ∙ h
 
 -- ---- one document
 
 -- the source posted nothing under this ident
 abbrev pub IsNew : ℕ → List Incident → Lines → Type 0
-IsNew source incidents doc = Each (λ (i : Incident). (i.source == source && bytes_eq i.ident (ident_of doc)) ≡ false) incidents
+IsNew source incidents doc = Each (λ (i : Incident). (i.naming.source == source && bytes_eq i.naming.ident (ident_of doc)) ≡ false) incidents
 
 abbrev new_row : ℕ → ℕ → Lines → Incident
-new_row source n doc = record { number = n; source = source; ident = ident_of doc; revision = 1; document = doc }
+new_row source n doc = record { naming = record { number = n; source = source; ident = ident_of doc; revision = 1 }; document = doc }
 
 abbrev put_row : ℕ → ℕ → Lines → List Incident → List Incident
 put_row source n doc incidents = put_by (by_number incident_number) (new_row source n doc) incidents
 
 incidents_put : (s : State) (source n : ℕ) (wanted : List WantedGate) (doc : Lines) → IsSound s → n ≡ length s.incidents + 1 → length s.incidents < INCIDENT_LIMIT → IsOrg s.directory.orgs source → IsFit wanted doc → IsNew source s.incidents doc →
-    SoundIncidents s.directory.orgs (put_row source n doc s.incidents)
+    SoundIncidents s.directory (put_row source n doc s.incidents)
 incidents_put s source n wanted doc h next room known fit new =
     let row : Incident = new_row source n doc in
     record {
       numbered = numbered_put incident_number INCIDENT_LIMIT row s.incidents next room h.incidents.numbered;
       idents = pairs_put _ (by_number incident_number) row s.incidents (each_weaker _ _ s.incidents (λ i e. (
-        (λ same. pair_apart source i.source (ident_of doc) i.ident e (ap (λ (p : ℕ × Bytes). p.0) same) (ap (λ (p : ℕ × Bytes). p.1) same)),
-        (λ same. pair_apart source i.source (ident_of doc) i.ident e (ap (λ (p : ℕ × Bytes). p.0) (sym same)) (ap (λ (p : ℕ × Bytes). p.1) (sym same))),
+        (λ same. pair_apart source i.naming.source (ident_of doc) i.naming.ident e (ap (λ (p : ℕ × Bytes). p.0) same) (ap (λ (p : ℕ × Bytes). p.1) same)),
+        (λ same. pair_apart source i.naming.source (ident_of doc) i.naming.ident e (ap (λ (p : ℕ × Bytes). p.0) (sym same)) (ap (λ (p : ℕ × Bytes). p.1) (sym same))),
       )) new) h.incidents.idents;
       sources = each_put _ (by_number incident_number) row s.incidents known h.incidents.sources;
       revisions = each_put _ (by_number incident_number) row s.incidents (omega arith) h.incidents.revisions;
@@ -116,11 +116,11 @@ beside s source n doc h next =
     let row : Incident = new_row source n doc in
     record {
       rising = h.gates.rising;
-      places = each_weaker _ _ s.gates (λ g e. let test = λ (i : Incident). is_root g.path || is_class_in i.document g.path in stays test g.incident row s.incidents (not_new_of s n g.incident test h next e) e) h.gates.places;
+      places = each_weaker _ _ s.gates (λ g e. let test = λ (i : Incident). is_root g.gate.path || is_class_in i.document g.gate.path in stays test g.incident row s.incidents (not_new_of s n g.incident test h next e) e) h.gates.places;
       ends = h.gates.ends;
-      others = each_weaker _ _ s.gates (λ g e. not_new_of s n g.incident (λ (i : Incident). is_root g.path || is_class_in i.document g.path) h next e) h.gates.places;
-      roots = each_put (λ (i : Incident). (n == i.number) ≡ false → root_gates i.number s.gates ≡ 1) (by_number incident_number) row s.incidents (λ e. never (n == n) (eq-eqb n n refl) e) (each_weaker _ _ s.incidents (λ i e _. e) h.gates.roots);
-      limit = each_put (λ (i : Incident). (n == i.number) ≡ false → class_gates i.number s.gates ≤ GATE_LIMIT) (by_number incident_number) row s.incidents (λ e. never (n == n) (eq-eqb n n refl) e) (each_weaker _ _ s.incidents (λ i e _. e) h.gates.limit);
+      others = each_weaker _ _ s.gates (λ g e. not_new_of s n g.incident (λ (i : Incident). is_root g.gate.path || is_class_in i.document g.gate.path) h next e) h.gates.places;
+      roots = each_put (λ (i : Incident). (n == i.naming.number) ≡ false → root_gates i.naming.number s.gates ≡ 1) (by_number incident_number) row s.incidents (λ e. never (n == n) (eq-eqb n n refl) e) (each_weaker _ _ s.incidents (λ i e _. e) h.gates.roots);
+      limit = each_put (λ (i : Incident). (n == i.naming.number) ≡ false → class_gates i.naming.number s.gates ≤ GATE_LIMIT) (by_number incident_number) row s.incidents (λ e. never (n == n) (eq-eqb n n refl) e) (each_weaker _ _ s.incidents (λ i e _. e) h.gates.limit);
     }
 
 zero_low : (n limit : ℕ) → n ≡ 0 → n ≤ limit
@@ -132,24 +132,24 @@ recipients_put s source n doc h next =
     let none : recipients_of n s.recipients ≡ 0 = count_none (λ (r : Recipient). r.incident == n) s.recipients (each_weaker _ _ s.recipients (λ r e. not_new s n r.incident h next e) h.recipients.ends) in
     record {
       rising = h.recipients.rising;
-      ends = each_weaker _ _ s.recipients (λ r e. any_put (λ (i : Incident). i.number == r.incident) (by_number incident_number) row s.incidents e) h.recipients.ends;
+      ends = each_weaker _ _ s.recipients (λ r e. any_put (λ (i : Incident). i.naming.number == r.incident) (by_number incident_number) row s.incidents e) h.recipients.ends;
       targets = h.recipients.targets;
-      limit = each_put (λ (i : Incident). recipients_of i.number s.recipients ≤ RECIPIENT_LIMIT) (by_number incident_number) row s.incidents (zero_low _ RECIPIENT_LIMIT none) h.recipients.limit;
+      limit = each_put (λ (i : Incident). recipients_of i.naming.number s.recipients ≤ RECIPIENT_LIMIT) (by_number incident_number) row s.incidents (zero_low _ RECIPIENT_LIMIT none) h.recipients.limit;
     }
 
 permissions_put : (s : State) (source n : ℕ) (doc : Lines) → IsSound s → n ≡ length s.incidents + 1 → SoundPermissions s.directory (put_row source n doc s.incidents) s.permissions
 permissions_put s source n doc h next =
     let row : Incident = new_row source n doc in
-    let none : permissions_of n s.permissions ≡ 0 = count_none (λ (x : Permission). x.incident == n) s.permissions (each_weaker _ _ s.permissions (λ x e. not_new_of s n x.incident (λ (i : Incident). is_class_in i.document x.path) h next e) h.permissions.places) in
+    let none : permissions_of n s.permissions ≡ 0 = count_none (λ (x : Permission). x.incident == n) s.permissions (each_weaker _ _ s.permissions (λ x e. not_new_of s n x.incident (λ (i : Incident). is_class_in i.document x.permission.path) h next e) h.permissions.places) in
     record {
       rising = h.permissions.rising;
-      places = each_weaker _ _ s.permissions (λ x e. let test = λ (i : Incident). is_class_in i.document x.path in stays test x.incident row s.incidents (not_new_of s n x.incident test h next e) e) h.permissions.places;
+      places = each_weaker _ _ s.permissions (λ x e. let test = λ (i : Incident). is_class_in i.document x.permission.path in stays test x.incident row s.incidents (not_new_of s n x.incident test h next e) e) h.permissions.places;
       grantees = h.permissions.grantees;
-      limit = each_put (λ (i : Incident). permissions_of i.number s.permissions ≤ PERMISSION_LIMIT) (by_number incident_number) row s.incidents (zero_low _ PERMISSION_LIMIT none) h.permissions.limit;
+      limit = each_put (λ (i : Incident). permissions_of i.naming.number s.permissions ≤ PERMISSION_LIMIT) (by_number incident_number) row s.incidents (zero_low _ PERMISSION_LIMIT none) h.permissions.limit;
     }
 
-no_number : (s : State) (n : ℕ) → IsSound s → n ≡ length s.incidents + 1 → Each (λ (i : Incident). (i.number == n) ≡ false) s.incidents
-no_number s n h next = each_weaker (λ (i : Incident). i.number ≤ 0 + length s.incidents) (λ (i : Incident). (i.number == n) ≡ false) s.incidents (λ i e. above i.number n (length s.incidents) e next) (numbers_low 0 s.incidents h.incidents.numbered.0)
+no_number : (s : State) (n : ℕ) → IsSound s → n ≡ length s.incidents + 1 → Each (λ (i : Incident). (i.naming.number == n) ≡ false) s.incidents
+no_number s n h next = each_weaker (λ (i : Incident). i.naming.number ≤ 0 + length s.incidents) (λ (i : Incident). (i.naming.number == n) ≡ false) s.incidents (λ i e. above i.naming.number n (length s.incidents) e next) (numbers_low 0 s.incidents h.incidents.numbered.0)
 
 -- what the edits of one document make
 abbrev with_one : ℕ → ℕ → Distribution → Lines → State → State
@@ -163,7 +163,7 @@ posted_one : (s : State) (source n : ℕ) (d : Distribution) (doc : Lines) → I
 posted_one s source n d doc h next room known fit new wishes =
     let row : Incident = new_row source n doc in
     let incidents : List Incident = put_row source n doc s.incidents in
-    let found : incident_in n incidents ≡ Some row = find_new (λ (i : Incident). i.number == n) (by_number incident_number) row s.incidents (eq-eqb n n refl) (no_number s n h next) in
+    let found : incident_in n incidents ≡ Some row = find_new (λ (i : Incident). i.naming.number == n) (by_number incident_number) row s.incidents (eq-eqb n n refl) (no_number s n h next) in
     record {
       directory = h.directory;
       incidents = incidents_put s source n d.gates doc h next room known fit new;
@@ -179,7 +179,7 @@ still_new : (source n : ℕ) (doc : Lines) (incidents : List Incident) (docs : L
 still_new source n doc incidents [] differ new = tt
 still_new source n doc incidents (d ∷ ds) differ new =
     let parts = or_parts (bytes_eq (ident_of doc) (ident_of d)) (list_any (bytes_eq (ident_of doc)) (map ident_of ds)) differ in
-    (each_put (λ (i : Incident). (i.source == source && bytes_eq i.ident (ident_of d)) ≡ false) (by_number incident_number) (new_row source n doc) incidents (and_right (source == source) (bytes_eq (ident_of doc) (ident_of d)) parts.0) new.0, still_new source n doc incidents ds parts.1 new.1)
+    (each_put (λ (i : Incident). (i.naming.source == source && bytes_eq i.naming.ident (ident_of d)) ≡ false) (by_number incident_number) (new_row source n doc) incidents (and_right (source == source) (bytes_eq (ident_of doc) (ident_of d)) parts.0) new.0, still_new source n doc incidents ds parts.1 new.1)
 
 pub posted : (docs : List Lines) (s : State) (source n : ℕ) (d : Distribution) → IsSound s → n ≡ length s.incidents + 1 → length s.incidents + length docs ≤ INCIDENT_LIMIT → IsOrg s.directory.orgs source →
     Each (IsFit d.gates) docs → stands_twice (map ident_of docs) ≡ false → Each (IsNew source s.incidents) docs → Wishes s.directory.groups d → IsSound (after (put_incidents source n d docs) s)

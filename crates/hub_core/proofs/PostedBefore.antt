@@ -3,7 +3,7 @@ use Rattle.std.proofs.Common.{◌≡◌, ℕ, ◌+◌, ◌<◌, true, false, Lis
 use Rattle.std.specs.Prelude.{option_map, is_some}
 use Rattle.std.specs.List.{filter_map, cons_option}
 use Rattle.hub_core.specs.Documents.{Lines, ident_of}
-use Rattle.hub_core.specs.Refusals.{first_number, posted_in}
+use Rattle.hub_core.specs.Facts.{first_number, posted_in}
 use Rattle.hub_core.specs.State.{State, incident_named, incident_number}
 use Rattle.hub_core.specs.declared.state.Incident.{Incident}
 use Rattle.hub_core.proofs.Twins.{from_here}

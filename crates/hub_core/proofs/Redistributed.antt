@@ -1,7 +1,8 @@
 -- Another gate at a place leaves a sound state.
-use Rattle.std.proofs.Common.{◌≡◌, ℕ, ◌+◌, ◌≤◌, ◌==◌, ◌&&◌, Bool, true, false, not, List, [], ◌∷◌, filter, Option, Some, None, refl, sym, ap, ◌∙◌, subst}
+use Rattle.std.proofs.Common.{◌≡◌, ℕ, ◌+◌, ◌≤◌, ◌==◌, ◌&&◌, Bool, true, false, not, List, [], ◌∷◌, filter, Option, Some, None, refl, sym, ap, ◌∙◌, subst, ◌||◌}
+use Rattle.hub_core.specs.declared.state.Incident.{Incident}
 use Rattle.std.proofs.lemmas.Bool.{and_parts, eq-eqb, eqb-true, false_from_ne_true, ltb-false, not-false, not-true, not_from_false}
-use Rattle.std.specs.Prelude.{count_by}
+use Rattle.std.specs.Prelude.{count_by, option_map}
 use Rattle.std.specs.Option.{option_map_or}
 use Rattle.iodef_tree.specs.Text.{Tokens, is_root, same_path}
 use Rattle.iodef_tree.specs.Pointer.{pointer_tokens}
@@ -12,18 +13,21 @@ use Rattle.circle.proofs.Judged.{passed}
 use Rattle.circle.proofs.Keeping.{each_put, each_left, each_weaker, pairs_left, order_put}
 use Rattle.hub_core.specs.declared.TheConstants.{GATE_LIMIT}
 use Rattle.hub_core.specs.Aftermath.{changed, put_gate}
-use Rattle.hub_core.specs.Documents.{at_pointer}
+use Rattle.hub_core.specs.Documents.{at_pointer, is_class_in}
 use Rattle.hub_core.specs.Edits.{after}
-use Rattle.hub_core.specs.Refusals.{grounds, refusal_of, gates_then, is_own_group}
+use Rattle.hub_core.specs.Refusals.{grounds, refusal_of, is_place_at}
+use Rattle.hub_core.specs.Facts.{gates_then}
+use Rattle.hub_core.specs.Requests.{is_own_group}
 use Rattle.hub_core.specs.Sound.{IsSound, SoundGates, IsGroupIfAny}
-use Rattle.hub_core.specs.State.{State, gate_cmp, is_gate_at, is_place_of, root_gates, class_gates}
+use Rattle.hub_core.specs.State.{State, gate_cmp, gate_key, gate_with, is_gate_at, is_place_of, root_gates, class_gates, incident_of}
 use Rattle.hub_core.specs.declared.edit.Edit.TheVariants.{TakeGate}
 use Rattle.hub_core.specs.declared.request.Redistribute.{Redistribute}
 use Rattle.hub_core.specs.declared.request.Request.TheVariants as ask
 use Rattle.hub_core.specs.declared.state.Gate.{Gate}
+use Rattle.hub_core.specs.declared.state.GateKey.{GateKey}
 use Rattle.hub_core.specs.Orders.{gate_total}
 use Rattle.hub_core.proofs.Keys.{apart_gate}
-use Rattle.hub_core.proofs.Named.{own, counted_is, group_if_any}
+use Rattle.hub_core.proofs.Named.{own, counted_is, group_if_any, of_document}
 use Rattle.hub_core.proofs.Keeping.{never, each_passes, count_more, count_same, count_none, count_kept}
 
 root_is : (p : Tokens) → is_root p ≡ true → p ≡ []
@@ -32,21 +36,21 @@ root_is (x ∷ p) h = cc
 
 -- ---- a test of where a gate stands, with the gate at one place exchanged
 
-at_place : (n : ℕ) (p : Tokens) (g : Gate) → is_gate_at n p g ≡ true → (g.incident ≡ n) × (g.path ≡ p)
-at_place n p g h = let parts = and_parts (g.incident == n) (same_path g.path p) h in (eqb-true g.incident n parts.0, same_path-true g.path p parts.1)
+at_place : (key : GateKey) (g : Gate) → is_gate_at key g ≡ true → (g.incident ≡ key.incident) × (g.gate.path ≡ key.path)
+at_place key g h = let parts = and_parts (g.incident == key.incident) (same_path g.gate.path key.path) h in (eqb-true g.incident key.incident parts.0, same_path-true g.gate.path key.path parts.1)
 
-abbrev other : ℕ → Tokens → Gate → Bool
-other n p g = not (is_gate_at n p g)
+abbrev other : GateKey → Gate → Bool
+other key g = not (is_gate_at key g)
 
 -- it counts as many, where the place doesn't count
-count_elsewhere : (test : ℕ → Tokens → Bool) (row : Gate) (gates : List Gate) → test row.incident row.path ≡ false →
-    count_by (λ (g : Gate). test g.incident g.path) (put_by gate_cmp row (filter (other row.incident row.path) gates)) ≡ count_by (λ (g : Gate). test g.incident g.path) gates
+count_elsewhere : (test : ℕ → Tokens → Bool) (row : Gate) (gates : List Gate) → test row.incident row.gate.path ≡ false →
+    count_by (λ (g : Gate). test g.incident g.gate.path) (put_by gate_cmp row (filter (other (gate_key row)) gates)) ≡ count_by (λ (g : Gate). test g.incident g.gate.path) gates
 count_elsewhere test row gates out =
-    count_same (λ (g : Gate). test g.incident g.path) gate_cmp row (filter (other row.incident row.path) gates) out
-    ∙ count_kept (λ (g : Gate). test g.incident g.path) (other row.incident row.path) gates
-    (λ g h. not_from_false (is_gate_at row.incident row.path g) (false_from_ne_true (is_gate_at row.incident row.path g) (λ at.
-    let where_it_is = at_place row.incident row.path g at in
-    never (test g.incident g.path) h (ap (λ m. test m g.path) where_it_is.0 ∙ (ap (test row.incident) where_it_is.1 ∙ out)))))
+    count_same (λ (g : Gate). test g.incident g.gate.path) gate_cmp row (filter (other (gate_key row)) gates) out
+    ∙ count_kept (λ (g : Gate). test g.incident g.gate.path) (other (gate_key row)) gates
+    (λ g h. not_from_false (is_gate_at (gate_key row) g) (false_from_ne_true (is_gate_at (gate_key row) g) (λ at.
+    let where_it_is = at_place (gate_key row) g at in
+    never (test g.incident g.gate.path) h (ap (λ m. test m g.gate.path) where_it_is.0 ∙ (ap (test row.incident) where_it_is.1 ∙ out)))))
 
 abbrev root_test : ℕ → ℕ → Tokens → Bool
 root_test m n p = n == m && is_root p
@@ -60,27 +64,27 @@ is_gate_there n m p q i here there =
     subst (λ k. (k == n && same_path q p) ≡ true) (sym same) (subst (λ r. (n == n && same_path r p) ≡ true) (sym root) (ap (λ b. b && same_path p p) (eq-eqb n n refl) ∙ same_path-refl p))
 
 -- the root keeps one gate
-one_root : (row : Gate) (gates : List Gate) (m : ℕ) → root_gates m gates ≡ 1 → root_gates m (put_by gate_cmp row (filter (other row.incident row.path) gates)) ≡ 1
-one_root row gates m was = split (root_test m row.incident row.path) refl
+one_root : (row : Gate) (gates : List Gate) (m : ℕ) → root_gates m gates ≡ 1 → root_gates m (put_by gate_cmp row (filter (other (gate_key row)) gates)) ≡ 1
+one_root row gates m was = split (root_test m row.incident row.gate.path) refl
   where
-    split : (b : Bool) → root_test m row.incident row.path ≡ b → root_gates m (put_by gate_cmp row (filter (other row.incident row.path) gates)) ≡ 1
+    split : (b : Bool) → root_test m row.incident row.gate.path ≡ b → root_gates m (put_by gate_cmp row (filter (other (gate_key row)) gates)) ≡ 1
     split false is = count_elsewhere (root_test m) row gates is ∙ was
     split true is =
-        count_more (λ (g : Gate). root_test m g.incident g.path) gate_cmp row (filter (other row.incident row.path) gates) is
-        ∙ ap (λ n. 1 + n) (count_none (λ (g : Gate). root_test m g.incident g.path) (filter (other row.incident row.path) gates)
-        (each_weaker _ _ (filter (other row.incident row.path) gates) (λ g h. false_from_ne_true (root_test m g.incident g.path) (λ there. never (is_gate_at row.incident row.path g) (is_gate_there row.incident m row.path g.path g.incident is there) (not-true (is_gate_at row.incident row.path g) h)))
-        (each_passes (other row.incident row.path) gates)))
+        count_more (λ (g : Gate). root_test m g.incident g.gate.path) gate_cmp row (filter (other (gate_key row)) gates) is
+        ∙ ap (λ n. 1 + n) (count_none (λ (g : Gate). root_test m g.incident g.gate.path) (filter (other (gate_key row)) gates)
+        (each_weaker _ _ (filter (other (gate_key row)) gates) (λ g h. false_from_ne_true (root_test m g.incident g.gate.path) (λ there. never (is_gate_at (gate_key row) g) (is_gate_there row.incident m row.gate.path g.gate.path g.incident is there) (not-true (is_gate_at (gate_key row) g) h)))
+        (each_passes (other (gate_key row)) gates)))
 
 abbrev class_test : ℕ → ℕ → Tokens → Bool
 class_test m n p = n == m && not (is_root p)
 
 -- no incident has more gates of classes than it may
-still_few : (row : Gate) (gates : List Gate) (m : ℕ) → class_gates row.incident (put_by gate_cmp row (filter (other row.incident row.path) gates)) ≤ GATE_LIMIT → class_gates m gates ≤ GATE_LIMIT → class_gates m (put_by gate_cmp row (filter (other row.incident row.path) gates)) ≤ GATE_LIMIT
+still_few : (row : Gate) (gates : List Gate) (m : ℕ) → class_gates row.incident (put_by gate_cmp row (filter (other (gate_key row)) gates)) ≤ GATE_LIMIT → class_gates m gates ≤ GATE_LIMIT → class_gates m (put_by gate_cmp row (filter (other (gate_key row)) gates)) ≤ GATE_LIMIT
 still_few row gates m here there = split (row.incident == m) refl
   where
-    split : (b : Bool) → (row.incident == m) ≡ b → class_gates m (put_by gate_cmp row (filter (other row.incident row.path) gates)) ≤ GATE_LIMIT
-    split true is = subst (λ k. class_gates k (put_by gate_cmp row (filter (other row.incident row.path) gates)) ≤ GATE_LIMIT) (eqb-true row.incident m is) here
-    split false is = subst (λ k. k ≤ GATE_LIMIT) (sym (count_elsewhere (class_test m) row gates (ap (λ b. b && not (is_root row.path)) is))) there
+    split : (b : Bool) → (row.incident == m) ≡ b → class_gates m (put_by gate_cmp row (filter (other (gate_key row)) gates)) ≤ GATE_LIMIT
+    split true is = subst (λ k. class_gates k (put_by gate_cmp row (filter (other (gate_key row)) gates)) ≤ GATE_LIMIT) (eqb-true row.incident m is) here
+    split false is = subst (λ k. k ≤ GATE_LIMIT) (sym (count_elsewhere (class_test m) row gates (ap (λ b. b && not (is_root row.gate.path)) is))) there
 
 -- ---- the request
 
@@ -89,18 +93,19 @@ with_gates s rows h new = record { directory = h.directory; incidents = h.incide
 
 redistributed_at : (s : State) (n : ℕ) (o : Option Tokens) (level : ℕ) (group : Option ℕ) → IsSound s →
     option_map_or (is_place_of s.incidents n) o false ≡ true → IsGroupIfAny s.directory.groups group →
-    class_gates n (after (option_map_or (λ p. TakeGate n p ∷ put_gate n level group p) o []) s).gates ≤ GATE_LIMIT →
-    IsSound (after (option_map_or (λ p. TakeGate n p ∷ put_gate n level group p) o []) s)
+    class_gates n (after (option_map_or (λ p. TakeGate (record { incident = n; path = p }) ∷ put_gate n level group p) o []) s).gates ≤ GATE_LIMIT →
+    IsSound (after (option_map_or (λ p. TakeGate (record { incident = n; path = p }) ∷ put_gate n level group p) o []) s)
 redistributed_at s n None level group h place known few = h
 redistributed_at s n (Some p) level group h place known few =
-    let row : Gate = record { incident = n; path = p; level = level; group = group } in
-    let left : List Gate = filter (other n p) s.gates in
+    let key : GateKey = record { incident = n; path = p } in
+    let row : Gate = gate_with key level group in
+    let left : List Gate = filter (other key) s.gates in
     with_gates s _ h (record {
-      rising = order_put gate_cmp row left gate_total (each_weaker _ _ left (λ g e. apart_gate n p g (not-true (is_gate_at n p g) e)) (each_passes (other n p) s.gates)) (pairs_left _ _ s.gates h.gates.rising);
+      rising = order_put gate_cmp row left gate_total (each_weaker _ _ left (λ g e. apart_gate key g (not-true (is_gate_at key g) e)) (each_passes (other key) s.gates)) (pairs_left _ _ s.gates h.gates.rising);
       places = each_put _ gate_cmp row left place (each_left _ _ s.gates h.gates.places);
       ends = each_put _ gate_cmp row left known (each_left _ _ s.gates h.gates.ends);
-      roots = each_weaker _ _ s.incidents (λ i e. one_root row s.gates i.number e) h.gates.roots;
-      limit = each_weaker _ _ s.incidents (λ i e. still_few row s.gates i.number few e) h.gates.limit;
+      roots = each_weaker _ _ s.incidents (λ i e. one_root row s.gates i.naming.number e) h.gates.roots;
+      limit = each_weaker _ _ s.incidents (λ i e. still_few row s.gates i.naming.number few e) h.gates.limit;
     })
 
 pub redistribute_kept : (s : State) (a : Person) (r : Redistribute) → IsSound s → refusal_of s a (ask.Redistribute r) ≡ None → IsSound (changed s a (ask.Redistribute r))
@@ -109,5 +114,5 @@ redistribute_kept s a r h fine =
     let p = passed (grounds s a (ask.Redistribute r)) fine in
     let it = own s a n p.1.1.1.1.0 in
     let few : gates_then s a (ask.Redistribute r) ≤ GATE_LIMIT = ltb-false GATE_LIMIT _ p.1.1.1.1.1.1.1.1.1.0 in
-    redistributed_at s n (pointer_tokens r.path) r.level r.group h (not-false (at_pointer (is_place_of s.incidents n) r.path) p.1.1.1.1.1.1.0) (group_if_any s a r.group h.directory (not-false (is_own_group s a r.group) p.1.1.1.1.1.0))
+    redistributed_at s n (pointer_tokens r.path) r.level r.group h (sym (of_document (λ doc p. is_root p || is_class_in doc p) (incident_of n s) r.path) ∙ not-false (at_pointer (is_place_at (option_map (λ (i : Incident). i.document) (incident_of n s))) r.path) p.1.1.1.1.1.1.0) (group_if_any s a r.group h.directory (not-false (is_own_group s a r.group) p.1.1.1.1.1.0))
     (subst (λ m. m ≤ GATE_LIMIT) (counted_is s n it.incident (λ m. class_gates m (changed s a (ask.Redistribute r)).gates) it.found) few)

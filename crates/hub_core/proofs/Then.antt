@@ -1,5 +1,5 @@
 -- What a request leaves of the rows that are counted for it.
-use Rattle.std.proofs.Common.{◌≡◌, ℕ, ◌+◌, ◌==◌, ◌&&◌, Bool, true, false, not, List, [], ◌∷◌, ◌++◌, filter, if◌then◌else◌, Option, Some, None, refl, sym, ap, ◌∙◌}
+use Rattle.std.proofs.Common.{◌≡◌, ℕ, ◌+◌, ◌==◌, ◌&&◌, Bool, true, false, not, List, [], ◌∷◌, ◌++◌, filter, if◌then◌else◌, Option, Some, None, refl, ap, ◌∙◌}
 use Rattle.std.specs.Prelude.{count_by}
 use Rattle.std.specs.List.{flat_map}
 use Rattle.std.specs.Option.{option_map_or}
@@ -8,9 +8,11 @@ use Rattle.iodef_tree.specs.Pointer.{pointer_tokens}
 use Rattle.hub_core.specs.Documents.{Lines, made_at}
 use Rattle.hub_core.specs.State.{State, permissions_of}
 use Rattle.hub_core.specs.Edits.{after, edited}
-use Rattle.hub_core.specs.Aftermath.{put_gate, put_gates, put_next}
+use Rattle.hub_core.specs.Aftermath.{next_row, put_gate, put_gates, put_next}
+use Rattle.hub_core.specs.declared.counts_then.Counts.{Counts}
 use Rattle.hub_core.specs.declared.request.Distribution.{Distribution}
 use Rattle.hub_core.specs.declared.request.WantedGate.{WantedGate}
+use Rattle.hub_core.specs.declared.facts.Known.{Known}
 use Rattle.hub_core.specs.declared.state.Incident.{Incident}
 use Rattle.hub_core.specs.declared.state.Gate.{Gate}
 use Rattle.hub_core.specs.declared.state.Recipient.{Recipient}
@@ -35,32 +37,32 @@ gates_leave get same n [] s = refl
 gates_leave get same n (g ∷ gates) s =
     ap get (after_append (made_at (put_gate n g.level g.group) g.path) (flat_map (λ (g : WantedGate). made_at (put_gate n g.level g.group) g.path) gates) s)
     ∙ (gates_leave get same n gates (after (made_at (put_gate n g.level g.group) g.path) s)
-    ∙ along_path get (put_gate n g.level g.group) g.path s (λ p. same (record { incident = n; path = p; level = g.level; group = g.group }) s))
+    ∙ along_path get (put_gate n g.level g.group) g.path s (λ p. same (record { incident = n; gate = record { path = p; level = g.level; group = g.group } }) s))
 
 -- an incident that is exchanged
 next_leaves : {X : Type 0} (get : State → X) → ((n : ℕ) (s : State) → get (edited (edit.TakeIncident n) s) ≡ get s) → ((i : Incident) (s : State) → get (edited (edit.PutIncident i) s) ≡ get s) →
-    (o : Option Incident) (docs : List Lines) (s : State) → get (after (put_next o docs) s) ≡ get s
-next_leaves get taken put None docs s = refl
-next_leaves get taken put (Some i) [] s = refl
-next_leaves get taken put (Some i) (doc ∷ docs) s = put (record i { revision = i.revision + 1; document = doc }) (edited (edit.TakeIncident i.number) s) ∙ taken i.number s
+    (n : ℕ) (k : Option Known) (docs : List Lines) (s : State) → get (after (put_next n k docs) s) ≡ get s
+next_leaves get taken put n None docs s = refl
+next_leaves get taken put n (Some k) [] s = refl
+next_leaves get taken put n (Some k) (doc ∷ docs) s = put (next_row n k doc) (edited (edit.TakeIncident n) s) ∙ taken n s
 
-pub exchanged_recipients : (o : Option Incident) (docs : List Lines) (n : ℕ) (d : Distribution) (s : State) →
-    (let t : State = after (put_next o docs ++ edit.TakePolicy n ∷ put_gates n d) s in t.recipients) ≡ s.recipients
-exchanged_recipients o docs n d s =
+pub exchanged_recipients : (k : Option Known) (docs : List Lines) (n : ℕ) (d : Distribution) (s : State) →
+    (let t : State = after (put_next n k docs ++ edit.TakePolicy n ∷ put_gates n d) s in t.recipients) ≡ s.recipients
+exchanged_recipients k docs n d s =
     let get : State → List Recipient = λ s. s.recipients in
-    let t : State = after (put_next o docs) s in
-    ap get (after_append (put_next o docs) (edit.TakePolicy n ∷ put_gates n d) s)
-    ∙ (gates_leave get (λ g u. refl) n d.gates (edited (edit.PutGate (record { incident = n; path = []; level = d.level; group = d.group })) (edited (edit.TakePolicy n) t))
-    ∙ next_leaves get (λ m u. refl) (λ i u. refl) o docs s)
+    let t : State = after (put_next n k docs) s in
+    ap get (after_append (put_next n k docs) (edit.TakePolicy n ∷ put_gates n d) s)
+    ∙ (gates_leave get (λ g u. refl) n d.gates (edited (edit.PutGate (record { incident = n; gate = record { path = []; level = d.level; group = d.group } })) (edited (edit.TakePolicy n) t))
+    ∙ next_leaves get (λ m u. refl) (λ i u. refl) n k docs s)
 
-pub exchanged_permissions : (o : Option Incident) (docs : List Lines) (n : ℕ) (d : Distribution) (s : State) →
-    (let t : State = after (put_next o docs ++ edit.TakePolicy n ∷ put_gates n d) s in t.permissions) ≡ filter (λ (x : Permission). not (x.incident == n)) s.permissions
-exchanged_permissions o docs n d s =
+pub exchanged_permissions : (k : Option Known) (docs : List Lines) (n : ℕ) (d : Distribution) (s : State) →
+    (let t : State = after (put_next n k docs ++ edit.TakePolicy n ∷ put_gates n d) s in t.permissions) ≡ filter (λ (x : Permission). not (x.incident == n)) s.permissions
+exchanged_permissions k docs n d s =
     let get : State → List Permission = λ s. s.permissions in
-    let t : State = after (put_next o docs) s in
-    ap get (after_append (put_next o docs) (edit.TakePolicy n ∷ put_gates n d) s)
-    ∙ (gates_leave get (λ g u. refl) n d.gates (edited (edit.PutGate (record { incident = n; path = []; level = d.level; group = d.group })) (edited (edit.TakePolicy n) t))
-    ∙ ap (filter (λ (x : Permission). not (x.incident == n))) (next_leaves get (λ m u. refl) (λ i u. refl) o docs s))
+    let t : State = after (put_next n k docs) s in
+    ap get (after_append (put_next n k docs) (edit.TakePolicy n ∷ put_gates n d) s)
+    ∙ (gates_leave get (λ g u. refl) n d.gates (edited (edit.PutGate (record { incident = n; gate = record { path = []; level = d.level; group = d.group } })) (edited (edit.TakePolicy n) t))
+    ∙ ap (filter (λ (x : Permission). not (x.incident == n))) (next_leaves get (λ m u. refl) (λ i u. refl) n k docs s))
 
 nowhere : (b : Bool) → (not b && b) ≡ false
 nowhere true = refl
@@ -75,10 +77,12 @@ pub none_left : (n : ℕ) (xs : List Permission) → permissions_of n (filter (�
 none_left n xs = count_filter (λ (x : Permission). x.incident == n) (λ (x : Permission). not (x.incident == n)) xs
     ∙ (count_agree (λ (x : Permission). not (x.incident == n) && (x.incident == n)) (λ x. false) xs (λ x. nowhere (x.incident == n)) ∙ none_counted xs)
 
-pub none_then : (b : Bool) (k : ℕ) → k ≡ 0 → 0 ≡ (if b then k else 0)
-none_then true k h = sym h
-none_then false k h = refl
+-- ---- counts
 
-pub where_there : (b : Bool) (k n : ℕ) → b ≡ true → n ≡ k → n ≡ (if b then k else 0)
-where_there true k n h e = e
-where_there false k n h e = cc
+-- where the incident is there, what is counted is what would stand
+pub counts_are : (k : Counts) (b : Bool) (gates recipients permissions : ℕ) → b ≡ true → k.gates ≡ gates → k.recipients ≡ recipients → k.permissions ≡ permissions →
+    k ≡ record { gates = if b then gates else 0; recipients = if b then recipients else 0; permissions = if b then permissions else 0 }
+counts_are k false gates recipients permissions there e f h = cc
+counts_are k true gates recipients permissions there e f h =
+    let make : ℕ → ℕ → ℕ → Counts = λ g r p. record { gates = g; recipients = r; permissions = p } in
+    ap (λ m. make m k.recipients k.permissions) e ∙ (ap (λ m. make gates m k.permissions) f ∙ ap (make gates recipients) h)

@@ -24,18 +24,18 @@ first_rises_twice : (m n : ℕ) (o u : Ordering) → is_lt (ordering_then (order
 first_rises_twice m n o u h = grind (arith, nat_tests)
 
 pub gate_total : IsTotalOrder gate_cmp
-gate_total = then_total (on_total (λ (g : Gate). g.incident) nat_cmp_total) (on_total (λ (g : Gate). pointer_text g.path) nat_list_cmp_total)
+gate_total = then_total (on_total (λ (g : Gate). g.incident) nat_cmp_total) (on_total (λ (g : Gate). pointer_text g.gate.path) nat_list_cmp_total)
 
 pub gates_together : (a b : Gate) → is_lt (gate_cmp b a) ≡ false → a.incident ≤ b.incident
-gates_together a b h = first_rises a.incident b.incident (slice_cmp nat_cmp (pointer_text b.path) (pointer_text a.path)) h
+gates_together a b h = first_rises a.incident b.incident (slice_cmp nat_cmp (pointer_text b.gate.path) (pointer_text a.gate.path)) h
 
 pub permission_total : IsTotalOrder permission_cmp
 permission_total = then_total
-    (then_total (on_total (λ (x : Permission). x.incident) nat_cmp_total) (on_total (λ (x : Permission). pointer_text x.path) nat_list_cmp_total))
-    (on_total (λ (x : Permission). grantee_key x.grantee) pair_total)
+    (then_total (on_total (λ (x : Permission). x.incident) nat_cmp_total) (on_total (λ (x : Permission). pointer_text x.permission.path) nat_list_cmp_total))
+    (on_total (λ (x : Permission). grantee_key x.permission.grantee) pair_total)
 
 pub permissions_together : (a b : Permission) → is_lt (permission_cmp b a) ≡ false → a.incident ≤ b.incident
-permissions_together a b h = first_rises_twice a.incident b.incident (slice_cmp nat_cmp (pointer_text b.path) (pointer_text a.path)) (pair_cmp (grantee_key b.grantee) (grantee_key a.grantee)) h
+permissions_together a b h = first_rises_twice a.incident b.incident (slice_cmp nat_cmp (pointer_text b.permission.path) (pointer_text a.permission.path)) (pair_cmp (grantee_key b.permission.grantee) (grantee_key a.permission.grantee)) h
 
 pub recipient_total : IsTotalOrder recipient_cmp
 recipient_total = then_total (on_total (λ (r : Recipient). r.incident) nat_cmp_total) (on_total (λ (r : Recipient). target_key r.target) pair_total)
@@ -49,12 +49,12 @@ incident_cmp = by_number incident_number
 pub incident_total : IsTotalOrder incident_cmp
 incident_total = on_total incident_number nat_cmp_total
 
-pub incidents_together : (a b : Incident) → is_lt (incident_cmp b a) ≡ false → a.number ≤ b.number
+pub incidents_together : (a b : Incident) → is_lt (incident_cmp b a) ≡ false → a.naming.number ≤ b.naming.number
 incidents_together a b h = grind (arith, nat_tests)
 
 -- which incident its source posted under its ident
 abbrev pub named : Incident → Named
-named i = record { source = i.source; ident = i.ident; number = i.number }
+named i = record { source = i.naming.source; ident = i.naming.ident; number = i.naming.number }
 
 -- by source and ident
 abbrev pub named_cmp : Named → Named → Ordering

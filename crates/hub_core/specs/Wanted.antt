@@ -10,4 +10,4 @@ abbrev pub asked_as : Gate → WantedGate
 asked_as g = record { level = g.level; group = g.group; path = pointer_text g.path }
 
 abbrev pub put_at : ℕ → Gate → Edit
-put_at n g = PutGate (record { incident = n; path = g.path; level = g.level; group = g.group })
+put_at n g = PutGate (record { incident = n; gate = g })

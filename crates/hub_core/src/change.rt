@@ -1,13 +1,13 @@
 //! Edits for which memory is taken already.
 ghost use Rattle.std.specs.Prelude.{◌≡◌, IfOk, map};
 ghost use Rattle.hub_core.specs.Changes.{edit_in, row_edit, directory_edits, row_edits};
+ghost use Rattle.hub_core.specs.State.{gate_key, permission_key};
 
+use crate::copies::{copy_of_gate, copy_of_permission};
 use crate::edit::Edit;
 use crate::rows::{Indexed, PlacedGate, PlacedPermission};
-use crate::state::{Gate, Incident, Permission, Recipient};
+use crate::state::{Gate, GateKey, Incident, Permission, PermissionKey, Recipient};
 use circle::command::RowEdit;
-use iodef_tree::Path;
-use policy::Grantee;
 use std::alloc::{AllocError, Global};
 
 /// An edit for which memory is taken already.
@@ -67,22 +67,13 @@ fn change_of(alloc: Global, edit: &Edit) -> Result<Change, AllocError>
         Edit::TakeIncident(number) => RowChange::TakeIncident(*number),
         Edit::TakePolicy(number) => RowChange::TakePolicy(*number),
         Edit::PutGate(gate) => RowChange::PutGate(copy_gate(alloc, gate)?),
-        Edit::TakeGate { incident, path } => {
-            RowChange::TakeGate(gate_at(alloc, *incident, path)?)
-        }
+        Edit::TakeGate(key) => RowChange::TakeGate(gate_at(alloc, key)?),
         Edit::PutRecipient(recipient) => RowChange::PutRecipient(*recipient),
         Edit::TakeRecipient(recipient) => RowChange::TakeRecipient(*recipient),
-        Edit::PutPermission(permission) => RowChange::PutPermission(permission_for(
-            alloc,
-            permission.incident,
-            &permission.path,
-            permission.grantee,
-        )?),
-        Edit::TakePermission {
-            incident,
-            path,
-            grantee,
-        } => RowChange::TakePermission(permission_for(alloc, *incident, path, *grantee)?),
+        Edit::PutPermission(permission) => {
+            RowChange::PutPermission(copy_permission(alloc, permission)?)
+        }
+        Edit::TakePermission(key) => RowChange::TakePermission(permission_at(alloc, key)?),
     };
     Ok(Change::Row(row))
 }
@@ -91,10 +82,7 @@ fn copy_incident(alloc: Global, incident: &Incident) -> Result<Incident, AllocEr
     ensures { IfOk result (λ i. i ≡ incident.now) }
 {
     Ok(Incident {
-        number: incident.number,
-        source: incident.source,
-        ident: incident.ident.clone()?,
-        revision: incident.revision,
+        naming: incident.naming.clone()?,
         document: incident.document.copy(alloc)?,
     })
 }
@@ -104,39 +92,48 @@ fn copy_gate(alloc: Global, gate: &Gate) -> Result<PlacedGate, AllocError>
 {
     let copy = Gate {
         incident: gate.incident,
-        path: gate.path.clone()?,
-        level: gate.level,
-        group: gate.group,
+        gate: copy_of_gate(&gate.gate)?,
     };
     PlacedGate::new(alloc, copy)
 }
 
-/// Some gate at this place.
-fn gate_at(alloc: Global, incident: u32, path: &Path) -> Result<PlacedGate, AllocError>
-    ensures incident { IfOk result (λ g. g.incident ≡ incident) }
-    ensures path { IfOk result (λ g. g.path ≡ path.now) }
+/// Some gate with this key.
+fn gate_at(alloc: Global, key: &GateKey) -> Result<PlacedGate, AllocError>
+    ensures { IfOk result (λ g. gate_key g ≡ key.now) }
 {
-    let gate = Gate {
-        incident,
-        path: path.clone()?,
+    let gate = policy::Gate {
+        path: key.path.clone()?,
         level: 0,
         group: None,
     };
-    PlacedGate::new(alloc, gate)
+    let row = Gate {
+        incident: key.incident,
+        gate,
+    };
+    PlacedGate::new(alloc, row)
 }
 
-fn permission_for(
-    alloc: Global,
-    incident: u32,
-    path: &Path,
-    grantee: Grantee,
-) -> Result<PlacedPermission, AllocError>
-    ensures { IfOk result (λ x. x ≡ record { incident = incident; path = path.now; grantee = grantee }) }
+fn copy_permission(alloc: Global, permission: &Permission) -> Result<PlacedPermission, AllocError>
+    ensures { IfOk result (λ x. x ≡ permission.now) }
 {
-    let permission = Permission {
-        incident,
-        path: path.clone()?,
-        grantee,
+    let copy = Permission {
+        incident: permission.incident,
+        permission: copy_of_permission(&permission.permission)?,
     };
-    PlacedPermission::new(alloc, permission)
+    PlacedPermission::new(alloc, copy)
+}
+
+/// The permission with this key.
+fn permission_at(alloc: Global, key: &PermissionKey) -> Result<PlacedPermission, AllocError>
+    ensures { IfOk result (λ x. permission_key x ≡ key.now) }
+{
+    let permission = policy::Permission {
+        path: key.path.clone()?,
+        grantee: key.grantee,
+    };
+    let row = Permission {
+        incident: key.incident,
+        permission,
+    };
+    PlacedPermission::new(alloc, row)
 }

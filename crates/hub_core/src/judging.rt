@@ -7,7 +7,7 @@ ghost use Rattle.hub_core.specs.Edits.{after as after_edits};
 ghost use Rattle.hub_core.specs.Sound.{IsSound};
 ghost use Rattle.hub_core.specs.Facts.{facts_of};
 ghost use Rattle.hub_core.specs.Refusals.{refusal_of, state_after};
-ghost use Rattle.hub_core.specs.Judgement.{edits_by};
+ghost use Rattle.hub_core.specs.Aftermath.{edits_by};
 ghost use Rattle.hub_core.specs.Asked.{Asks};
 
 mod body;

@@ -1,16 +1,15 @@
 //! What the shelf in memory looks up.
-use crate::facts::Known;
 use crate::list_shelf::ListShelf;
 use crate::look_ups::{GroupsJoined, LookUps};
-use crate::request::Target;
+use crate::recipients::Recipients;
 use crate::rows::Named;
 use crate::shelf::ShelfFault;
-use crate::small_counts::capped;
+use crate::state::Naming;
 use circle::command::{CircleCommand, CircleFacts};
 use circle::directory::{Handling, Person};
 use circle::text::Text;
-use iodef_tree::{Document, Path};
-use policy::{Grantee, Numbers};
+use iodef_tree::Document;
+use policy::{Gates, Numbers, Permissions};
 
 impl LookUps for ListShelf {
     ghost use Rattle.std.specs.Prelude.{◌≡◌, Some};
@@ -54,6 +53,10 @@ impl LookUps for ListShelf {
         Ok(self.directory().has_community(number))
     }
 
+    fn has_membership(&mut self, community: u32, org: u32) -> Result<bool, ShelfFault> {
+        Ok(self.directory().has_membership(community, org))
+    }
+
     fn has_group_member(&mut self, group: u32, org: u32) -> Result<bool, ShelfFault> {
         Ok(self.directory().has_group_member(group, org))
     }
@@ -94,8 +97,8 @@ impl LookUps for ListShelf {
         Ok(ListShelf::incident_count(self))
     }
 
-    fn known(&mut self, incident: u32) -> Result<Option<Known>, ShelfFault> {
-        Ok(self.find_known(incident)?)
+    fn naming(&mut self, incident: u32) -> Result<Option<Naming>, ShelfFault> {
+        Ok(self.find_naming(incident)?)
     }
 
     fn stored_document(&mut self, incident: u32) -> Result<Option<Document>, ShelfFault> {
@@ -111,55 +114,15 @@ impl LookUps for ListShelf {
         Ok(ListShelf::number_of(self, &name))
     }
 
-    fn has_recipient(&mut self, incident: u32, target: Target) -> Result<bool, ShelfFault> {
-        Ok(ListShelf::has_recipient(self, incident, target))
+    fn gates_of(&mut self, incident: u32) -> Result<Gates, ShelfFault> {
+        Ok(self.case_gates(incident)?)
     }
 
-    fn has_gate(
-        &mut self,
-        incident: u32,
-        path: &Path,
-        level: u32,
-        group: Option<u32>,
-    ) -> Result<bool, ShelfFault> {
-        Ok(ListShelf::has_gate(self, incident, path, level, group))
+    fn recipients_of(&mut self, incident: u32) -> Result<Recipients, ShelfFault> {
+        Ok(self.copied_recipients(incident)?)
     }
 
-    fn has_permission(
-        &mut self,
-        incident: u32,
-        path: &Path,
-        grantee: Grantee,
-    ) -> Result<bool, ShelfFault> {
-        Ok(ListShelf::has_permission(self, incident, path, grantee))
-    }
-
-    fn class_gates(&mut self, incident: u32) -> Result<u32, ShelfFault> {
-        Ok(capped(ListShelf::class_gates(self, incident)))
-    }
-
-    fn class_gates_with(&mut self, incident: u32, path: &Path) -> Result<u32, ShelfFault> {
-        Ok(capped(ListShelf::class_gates_with(self, incident, path)))
-    }
-
-    fn recipient_count(&mut self, incident: u32) -> Result<u32, ShelfFault> {
-        Ok(capped(ListShelf::recipient_count(self, incident)))
-    }
-
-    fn recipients_without(&mut self, incident: u32, target: Target) -> Result<u32, ShelfFault> {
-        Ok(capped(ListShelf::recipients_without(self, incident, target)))
-    }
-
-    fn permission_count(&mut self, incident: u32) -> Result<u32, ShelfFault> {
-        Ok(capped(ListShelf::permission_count(self, incident)))
-    }
-
-    fn permissions_without(
-        &mut self,
-        incident: u32,
-        path: &Path,
-        grantee: Grantee,
-    ) -> Result<u32, ShelfFault> {
-        Ok(capped(ListShelf::permissions_without(self, incident, path, grantee)))
+    fn permissions_of(&mut self, incident: u32) -> Result<Permissions, ShelfFault> {
+        Ok(self.case_permissions(incident)?)
     }
 }

@@ -1,15 +1,12 @@
 //! What the shelf in memory tells.
-ghost use Rattle.std.specs.Prelude.{◌≡◌, IfOk, option_map};
+ghost use Rattle.std.specs.Prelude.{◌≡◌, IfOk};
 ghost use Rattle.std.specs.Option.{option_copied};
 ghost use Rattle.circle.specs.Reads.{person_of};
-ghost use Rattle.hub_core.specs.Facts.{known};
-ghost use Rattle.hub_core.specs.Reads.{person_by_key as person_of_key, case_of, document_of, groups_of as groups_joined_by, joined};
-ghost use Rattle.hub_core.specs.State.{incident_of};
+ghost use Rattle.hub_core.specs.Reads.{person_by_key as person_of_key, case_of, document_of, groups_of as groups_joined_by, joined, naming_of};
 
-use crate::facts::Known;
 use crate::list_shelf::ListShelf;
 use crate::reply::JoinedGroup;
-use crate::state::Incident;
+use crate::state::Naming;
 use circle::directory::{Group, GroupMember, Person};
 use iodef_tree::Document;
 use policy::Case;
@@ -34,19 +31,19 @@ impl ListShelf {
         match self.incident(incident) {
             None => Ok(None),
             Some(incident) => Ok(Some(Case {
-                source: incident.source,
-                gates: self.case_gates(incident.number)?,
-                permissions: self.case_permissions(incident.number)?,
+                source: incident.naming.source,
+                gates: self.case_gates(incident.naming.number)?,
+                permissions: self.case_permissions(incident.naming.number)?,
             })),
         }
     }
 
-    pub(crate) fn find_known(&self, incident: u32) -> Result<Option<Known>, AllocError>
-        ensures { IfOk result (λ found. found ≡ option_map known (incident_of incident self.now)) }
+    pub(crate) fn find_naming(&self, incident: u32) -> Result<Option<Naming>, AllocError>
+        ensures { IfOk result (λ found. found ≡ naming_of incident self.now) }
     {
         match self.incident(incident) {
             None => Ok(None),
-            Some(incident) => Ok(Some(known_of(incident)?)),
+            Some(incident) => Ok(Some(incident.naming.clone()?)),
         }
     }
 
@@ -82,16 +79,6 @@ fn copy_of(person: Option<&Person>) -> Result<Option<Person>, AllocError>
         None => Ok(None),
         Some(person) => Ok(Some(person.clone()?)),
     }
-}
-
-fn known_of(row: &Incident) -> Result<Known, AllocError>
-    ensures { IfOk result (λ k. k ≡ known row.now) }
-{
-    Ok(Known {
-        source: row.source,
-        revision: row.revision,
-        ident: row.ident.clone()?,
-    })
 }
 
 fn joined_group(member: &GroupMember, group: &Group) -> Result<JoinedGroup, AllocError>

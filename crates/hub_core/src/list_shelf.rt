@@ -1,19 +1,19 @@
 //! The hub's state in memory.
-ghost use Rattle.std.specs.Prelude.{◌≡◌, ◌==◌, ℕ, Option, OnOk, OnErr, IfOk, map, filter, length, min, option_map};
+ghost use Rattle.std.specs.Prelude.{◌≡◌, OnOk, OnErr, IfOk, length, min, option_map};
 ghost use Rattle.std.specs.Option.{option_copied};
-ghost use Rattle.hub_core.specs.State.{State, empty, incident_of, incident_named, incident_number, has_gate, has_recipient, has_permission, class_gates, recipients_of, permissions_of};
-ghost use Rattle.hub_core.specs.Reads.{case_gate, case_permission, entries_after};
-ghost use Rattle.hub_core.specs.Edits.{edited, after as after_edits};
+ghost use Rattle.hub_core.specs.State.{State, empty, incident_of, incident_named, incident_number};
+ghost use Rattle.hub_core.specs.Reads.{its_gates, its_permissions, its_recipients, entries_after};
+ghost use Rattle.hub_core.specs.Edits.{after as after_edits};
 ghost use Rattle.hub_core.specs.Sound.{IsSound};
-ghost use Rattle.hub_core.specs.declared.edit.Edit.TheVariants as edit;
 
 use crate::change::changes_of;
 use crate::edit::Edit;
 use crate::facts::Facts;
 use crate::facts_made::facts_by;
 use crate::lists::Lists;
+use crate::recipients::Recipients;
 use crate::reply::{Entry, JoinedGroup};
-use crate::request::{Request, Target};
+use crate::request::Request;
 use crate::rows::Named;
 use crate::shelf::{Shelf, ShelfFault};
 use crate::small_counts::capped;
@@ -21,8 +21,8 @@ use crate::standing::standing_by;
 use crate::state::Incident;
 use circle::directory::Person;
 use circle_rows::DirectoryRows;
-use iodef_tree::{Document, Path};
-use policy::{Case, Gates, Grantee, Permissions, Standing};
+use iodef_tree::Document;
+use policy::{Case, Gates, Permissions, Standing};
 use std::alloc::{AllocError, Global};
 use std::marker::Model;
 
@@ -73,77 +73,11 @@ impl ListShelf {
         self.lists.incident(number)
     }
 
-    pub(crate) fn has_recipient(&self, incident: u32, target: Target) -> bool
-        ensures { result ≡ has_recipient incident target self.now }
-    {
-        self.lists.has_recipient(incident, target)
-    }
-
-    pub(crate) fn has_gate(
-        &self,
-        incident: u32,
-        path: &Path,
-        level: u32,
-        group: Option<u32>,
-    ) -> bool
-        ensures { result ≡ has_gate incident path.now level group self.now }
-    {
-        self.lists.has_gate(incident, path, level, group)
-    }
-
-    pub(crate) fn has_permission(&self, incident: u32, path: &Path, grantee: Grantee) -> bool
-        ensures { result ≡ has_permission incident path.now grantee self.now }
-    {
-        self.lists.has_permission(incident, path, grantee)
-    }
-
     /// How many incidents there are, as far as a u32 counts.
     pub(crate) fn incident_count(&self) -> u32
         ensures { result ≡ min (length self.now.incidents) 4294967295 }
     {
         capped(self.lists.incidents.as_slice().len())
-    }
-
-    /// How many class gates the incident has.
-    pub(crate) fn class_gates(&self, incident: u32) -> usize
-        ensures { result ≡ class_gates incident self.now.gates }
-    {
-        self.lists.class_gates(incident)
-    }
-
-    /// How many class gates the incident would have with a gate at this path, in the place of the one that stands there.
-    pub(crate) fn class_gates_with(&self, incident: u32, path: &Path) -> usize
-        ensures { (level : ℕ) → (group : Option ℕ) → result ≡ class_gates incident (edited (edit.PutGate (record { incident = incident; path = path.now; level = level; group = group })) (edited (edit.TakeGate incident path.now) self.now)).gates }
-    {
-        self.lists.class_gates_with(incident, path)
-    }
-
-    /// How many recipients the incident has.
-    pub(crate) fn recipient_count(&self, incident: u32) -> usize
-        ensures { result ≡ recipients_of incident self.now.recipients }
-    {
-        self.lists.recipient_count(incident)
-    }
-
-    /// How many recipients the incident would have without this one.
-    pub(crate) fn recipients_without(&self, incident: u32, target: Target) -> usize
-        ensures { result ≡ recipients_of incident (edited (edit.TakeRecipient (record { incident = incident; target = target })) self.now).recipients }
-    {
-        self.lists.recipients_without(incident, target)
-    }
-
-    /// How many permissions the incident has.
-    pub(crate) fn permission_count(&self, incident: u32) -> usize
-        ensures { result ≡ permissions_of incident self.now.permissions }
-    {
-        self.lists.permission_count(incident)
-    }
-
-    /// How many permissions the incident would have without the one at this path for this grantee.
-    pub(crate) fn permissions_without(&self, incident: u32, path: &Path, grantee: Grantee) -> usize
-        ensures { result ≡ permissions_of incident (edited (edit.TakePermission incident path.now grantee) self.now).permissions }
-    {
-        self.lists.permissions_without(incident, path, grantee)
     }
 
     /// The number of the incident that a source has posted under an ident.
@@ -154,13 +88,19 @@ impl ListShelf {
     }
 
     pub(crate) fn case_gates(&self, incident: u32) -> Result<Gates, AllocError>
-        ensures { IfOk result (λ v. v ≡ map case_gate (filter (λ g. g.incident == incident) self.now.gates)) }
+        ensures { IfOk result (λ v. v ≡ its_gates incident self.now.gates) }
     {
         self.lists.case_gates(self.alloc, incident)
     }
 
+    pub(crate) fn copied_recipients(&self, incident: u32) -> Result<Recipients, AllocError>
+        ensures { IfOk result (λ v. v ≡ its_recipients incident self.now.recipients) }
+    {
+        self.lists.copied_recipients(self.alloc, incident)
+    }
+
     pub(crate) fn case_permissions(&self, incident: u32) -> Result<Permissions, AllocError>
-        ensures { IfOk result (λ v. v ≡ map case_permission (filter (λ x. x.incident == incident) self.now.permissions)) }
+        ensures { IfOk result (λ v. v ≡ its_permissions incident self.now.permissions) }
     {
         self.lists.case_permissions(self.alloc, incident)
     }

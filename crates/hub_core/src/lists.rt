@@ -1,7 +1,7 @@
 //! The incidents, their gates, recipients and permissions in memory, each list in the order of its rows.
 ghost use Rattle.std.specs.Prelude.{◌≡◌, length, map, OnOk};
 ghost use Rattle.circle.specs.Directory.{Directory};
-ghost use Rattle.hub_core.specs.State.{empty};
+ghost use Rattle.hub_core.specs.State.{empty, gate_key, permission_key};
 ghost use Rattle.hub_core.specs.Edits.{after};
 ghost use Rattle.hub_core.specs.Changes.{row_edit};
 ghost use Rattle.hub_core.specs.Lists.{AreInOrder, HasRoom, IsMade, with_directory};
@@ -118,7 +118,7 @@ impl Lists {
     // Takes out the gate that stands where this one does.
     fn take_gate(&mut self, gate: &PlacedGate)
         requires { AreInOrder self.old }
-        ensures { IsMade (edit.TakeGate gate.now.incident gate.now.path) self.old self.new }
+        ensures { IsMade (edit.TakeGate (gate_key gate.now)) self.old self.new }
     {
         take(&mut self.gates, gate);
     }
@@ -149,7 +149,7 @@ impl Lists {
     // Takes out the permission that is at the same class for the same grantee.
     fn take_permission(&mut self, permission: &PlacedPermission)
         requires { AreInOrder self.old }
-        ensures { IsMade (edit.TakePermission permission.now.incident permission.now.path permission.now.grantee) self.old self.new }
+        ensures { IsMade (edit.TakePermission (permission_key permission.now)) self.old self.new }
     {
         take(&mut self.permissions, permission);
     }

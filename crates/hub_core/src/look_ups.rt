@@ -1,24 +1,21 @@
 //! What a shelf looks up in its rows.
 ghost use Rattle.std.specs.Prelude.{◌≡◌, ◌==◌, ℕ, Option, IfOk, option_map, length};
-ghost use Rattle.circle.specs.Directory.{has_org as is_org, has_person as is_person, has_community as is_community, has_group_member as is_group_member};
+ghost use Rattle.circle.specs.Directory.{has_org as is_org, has_person as is_person, has_community as is_community, has_membership as is_membership, has_group_member as is_group_member};
 ghost use Rattle.circle.specs.Facts.{facts_of as directory_facts};
 ghost use Rattle.circle.specs.Reads.{person_of as person_numbered, communities_of as communities_joined, groups_joined as groups_joined_by, active_groups_joined as active_groups_joined_by, share_community as are_in_one_community, are_connected as are_in_connected, arranged as arranged_with, served_by as organisations_served_by};
-ghost use Rattle.hub_core.specs.Edits.{edited};
-ghost use Rattle.hub_core.specs.Facts.{known as known_of};
-ghost use Rattle.hub_core.specs.Reads.{document_of};
+ghost use Rattle.hub_core.specs.Reads.{document_of, its_gates, its_permissions, its_recipients, naming_of};
 ghost use Rattle.hub_core.specs.Shelves.{IsRead, last_count};
 ghost use Rattle.hub_core.specs.Sound.{IsSound};
-ghost use Rattle.hub_core.specs.State.{State, incident_of, incident_named, incident_number, has_gate as is_gate, has_recipient as is_recipient, has_permission as is_permission, class_gates as class_gates_in, recipients_of as recipients_in, permissions_of as permissions_in};
-ghost use Rattle.hub_core.specs.declared.edit.Edit.TheVariants as edit;
+ghost use Rattle.hub_core.specs.State.{State, incident_named, incident_number};
 
-use crate::facts::Known;
-use crate::request::Target;
+use crate::recipients::Recipients;
 use crate::shelf::ShelfFault;
+use crate::state::Naming;
 use circle::command::{CircleCommand, CircleFacts};
 use circle::directory::{Handling, Person};
 use circle::text::Text;
-use iodef_tree::{Document, Path};
-use policy::{Grantee, Numbers};
+use iodef_tree::Document;
+use policy::{Gates, Numbers, Permissions};
 
 /// The groups of which an organisation is a member, by number, and those of them that are active.
 #[derive(Drop)]
@@ -57,18 +54,27 @@ pub trait LookUps {
         ensures value { doubts self.new ≡ 0 → (s : State) → has self.old s → IfOk result (λ found. found ≡ person_numbered number s.directory) }
         ensures kept { IsRead has doubts failed may_leave self.old self.new result };
 
+    /// Whether there is a person with this number, active or not.
     fn has_person(&mut self, number: u32) -> Result<bool, ShelfFault>
         ensures value { doubts self.new ≡ 0 → (s : State) → has self.old s → IfOk result (λ found. found ≡ is_person number s.directory) }
         ensures kept { IsRead has doubts failed may_leave self.old self.new result };
 
+    /// Whether there is an organisation with this number.
     fn has_org(&mut self, number: u32) -> Result<bool, ShelfFault>
         ensures value { doubts self.new ≡ 0 → (s : State) → has self.old s → IfOk result (λ found. found ≡ is_org number s.directory) }
         ensures kept { IsRead has doubts failed may_leave self.old self.new result };
 
+    /// Whether there is a community with this number.
     fn has_community(&mut self, number: u32) -> Result<bool, ShelfFault>
         ensures value { doubts self.new ≡ 0 → (s : State) → has self.old s → IfOk result (λ found. found ≡ is_community number s.directory) }
         ensures kept { IsRead has doubts failed may_leave self.old self.new result };
 
+    /// Whether an organisation is a member of a community.
+    fn has_membership(&mut self, community: u32, org: u32) -> Result<bool, ShelfFault>
+        ensures value { doubts self.new ≡ 0 → (s : State) → has self.old s → IfOk result (λ found. found ≡ is_membership community org s.directory) }
+        ensures kept { IsRead has doubts failed may_leave self.old self.new result };
+
+    /// Whether an organisation is a member of a group.
     fn has_group_member(&mut self, group: u32, org: u32) -> Result<bool, ShelfFault>
         ensures value { doubts self.new ≡ 0 → (s : State) → has self.old s → IfOk result (λ found. found ≡ is_group_member group org s.directory) }
         ensures kept { IsRead has doubts failed may_leave self.old self.new result };
@@ -78,10 +84,12 @@ pub trait LookUps {
         ensures value { doubts self.new ≡ 0 → (s : State) → has self.old s → IfOk result (λ found. found ≡ record { all = groups_joined_by org s.directory; active = active_groups_joined_by org s.directory }) }
         ensures kept { IsRead has doubts failed may_leave self.old self.new result };
 
+    /// The communities of which an organisation is a member, by number.
     fn communities_of(&mut self, org: u32) -> Result<Vec<u32>, ShelfFault>
         ensures value { doubts self.new ≡ 0 → (s : State) → has self.old s → IfOk result (λ found. found.items ≡ communities_joined org s.directory) }
         ensures kept { IsRead has doubts failed may_leave self.old self.new result };
 
+    /// Whether they are in one community.
     fn share_community(&mut self, org: u32, other: u32) -> Result<bool, ShelfFault>
         ensures value { doubts self.new ≡ 0 → (s : State) → has self.old s → IfOk result (λ found. found ≡ are_in_one_community org other s.directory) }
         ensures kept { IsRead has doubts failed may_leave self.old self.new result };
@@ -106,9 +114,9 @@ pub trait LookUps {
         ensures value { doubts self.new ≡ 0 → (s : State) → has self.old s → IfOk result (λ found. found ≡ length s.incidents) }
         ensures kept { IsRead has doubts failed may_leave self.old self.new result };
 
-    /// What is known of an incident, its document apart.
-    fn known(&mut self, incident: u32) -> Result<Option<Known>, ShelfFault>
-        ensures value { doubts self.new ≡ 0 → (s : State) → has self.old s → IfOk result (λ found. found ≡ option_map known_of (incident_of incident s)) }
+    /// What an incident is known by, beside its document.
+    fn naming(&mut self, incident: u32) -> Result<Option<Naming>, ShelfFault>
+        ensures value { doubts self.new ≡ 0 → (s : State) → has self.old s → IfOk result (λ found. found ≡ naming_of incident s) }
         ensures kept { IsRead has doubts failed may_leave self.old self.new result };
 
     /// The document of an incident.
@@ -121,62 +129,19 @@ pub trait LookUps {
         ensures value { doubts self.new ≡ 0 → (s : State) → has self.old s → IfOk result (λ found. found ≡ option_map incident_number (incident_named source ident.now s)) }
         ensures kept { IsRead has doubts failed may_leave self.old self.new result };
 
-    fn has_recipient(&mut self, incident: u32, target: Target) -> Result<bool, ShelfFault>
-        ensures value { doubts self.new ≡ 0 → (s : State) → has self.old s → IfOk result (λ found. found ≡ is_recipient incident target s) }
+    /// The gates of an incident.
+    fn gates_of(&mut self, incident: u32) -> Result<Gates, ShelfFault>
+        ensures value { doubts self.new ≡ 0 → (s : State) → has self.old s → IfOk result (λ found. found ≡ its_gates incident s.gates) }
         ensures kept { IsRead has doubts failed may_leave self.old self.new result };
 
-    fn has_gate(
-        &mut self,
-        incident: u32,
-        path: &Path,
-        level: u32,
-        group: Option<u32>,
-    ) -> Result<bool, ShelfFault>
-        ensures value { doubts self.new ≡ 0 → (s : State) → has self.old s → IfOk result (λ found. found ≡ is_gate incident path.now level group s) }
+    /// To whom an incident is addressed.
+    fn recipients_of(&mut self, incident: u32) -> Result<Recipients, ShelfFault>
+        ensures value { doubts self.new ≡ 0 → (s : State) → has self.old s → IfOk result (λ found. found ≡ its_recipients incident s.recipients) }
         ensures kept { IsRead has doubts failed may_leave self.old self.new result };
 
-    fn has_permission(
-        &mut self,
-        incident: u32,
-        path: &Path,
-        grantee: Grantee,
-    ) -> Result<bool, ShelfFault>
-        ensures value { doubts self.new ≡ 0 → (s : State) → has self.old s → IfOk result (λ found. found ≡ is_permission incident path.now grantee s) }
-        ensures kept { IsRead has doubts failed may_leave self.old self.new result };
-
-    /// How many class gates an incident has.
-    fn class_gates(&mut self, incident: u32) -> Result<u32, ShelfFault>
-        ensures value { doubts self.new ≡ 0 → (s : State) → has self.old s → IfOk result (λ found. found ≡ class_gates_in incident s.gates) }
-        ensures kept { IsRead has doubts failed may_leave self.old self.new result };
-
-    /// How many it would have with a gate at this path, in the place of the one that stands there.
-    fn class_gates_with(&mut self, incident: u32, path: &Path) -> Result<u32, ShelfFault>
-        ensures value { doubts self.new ≡ 0 → (s : State) → has self.old s → IfOk result (λ found. (level : ℕ) → (group : Option ℕ) → found ≡ class_gates_in incident (edited (edit.PutGate (record { incident = incident; path = path.now; level = level; group = group })) (edited (edit.TakeGate incident path.now) s)).gates) }
-        ensures kept { IsRead has doubts failed may_leave self.old self.new result };
-
-    /// How many recipients an incident has.
-    fn recipient_count(&mut self, incident: u32) -> Result<u32, ShelfFault>
-        ensures value { doubts self.new ≡ 0 → (s : State) → has self.old s → IfOk result (λ found. found ≡ recipients_in incident s.recipients) }
-        ensures kept { IsRead has doubts failed may_leave self.old self.new result };
-
-    /// How many it would have without this one.
-    fn recipients_without(&mut self, incident: u32, target: Target) -> Result<u32, ShelfFault>
-        ensures value { doubts self.new ≡ 0 → (s : State) → has self.old s → IfOk result (λ found. found ≡ recipients_in incident (edited (edit.TakeRecipient (record { incident = incident; target = target })) s).recipients) }
-        ensures kept { IsRead has doubts failed may_leave self.old self.new result };
-
-    /// How many permissions an incident has.
-    fn permission_count(&mut self, incident: u32) -> Result<u32, ShelfFault>
-        ensures value { doubts self.new ≡ 0 → (s : State) → has self.old s → IfOk result (λ found. found ≡ permissions_in incident s.permissions) }
-        ensures kept { IsRead has doubts failed may_leave self.old self.new result };
-
-    /// How many it would have without the one at this path for this grantee.
-    fn permissions_without(
-        &mut self,
-        incident: u32,
-        path: &Path,
-        grantee: Grantee,
-    ) -> Result<u32, ShelfFault>
-        ensures value { doubts self.new ≡ 0 → (s : State) → has self.old s → IfOk result (λ found. found ≡ permissions_in incident (edited (edit.TakePermission incident path.now grantee) s).permissions) }
+    /// The permissions of an incident.
+    fn permissions_of(&mut self, incident: u32) -> Result<Permissions, ShelfFault>
+        ensures value { doubts self.new ≡ 0 → (s : State) → has self.old s → IfOk result (λ found. found ≡ its_permissions incident s.permissions) }
         ensures kept { IsRead has doubts failed may_leave self.old self.new result };
 
     // what a shelf has is sound

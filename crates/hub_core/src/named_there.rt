@@ -2,13 +2,12 @@
 ghost use Rattle.std.specs.Prelude.{◌≡◌, IfOk, IsErrOf};
 ghost use Rattle.std.specs.List.{list_all};
 ghost use Rattle.iodef_tree.specs.Pointer.{pointer_tokens};
-ghost use Rattle.hub_core.specs.Documents.{at_pointer};
-ghost use Rattle.hub_core.specs.Refusals.{is_own_group, are_own_groups, is_target, is_grantee, is_active};
+ghost use Rattle.hub_core.specs.Requests.{is_own_group, are_own_groups, is_target, is_grantee, is_active};
 ghost use Rattle.hub_core.specs.Shelves.{HasFailed, IsKept};
-ghost use Rattle.hub_core.specs.State.{State, has_gate, has_permission};
+ghost use Rattle.hub_core.specs.State.{State};
 
 use crate::look_ups::LookUps;
-use crate::request::{Distribution, Redistribute, Target, WantedGate};
+use crate::request::{Distribution, Target, WantedGate};
 use crate::shelf::ShelfFault;
 use circle::directory::Person;
 use circle::text::Text;
@@ -112,37 +111,5 @@ pub(crate) fn is_active<L: LookUps>(shelf: &mut L, person: u32) -> Result<bool, 
     match shelf.person_of(person)? {
         None => Ok(false),
         Some(person) => Ok(person.active),
-    }
-}
-
-pub(crate) fn stands_gate<L: LookUps>(
-    shelf: &mut L,
-    alloc: Global,
-    asked: &Redistribute,
-) -> Result<bool, ShelfFault>
-    ensures value { L.doubts shelf.new ≡ 0 → (s : State) → L.has shelf.old s → IfOk result (λ b. b ≡ at_pointer (λ p. has_gate asked.now.incident p asked.now.level asked.now.group s) asked.now.path) }
-    ensures kept { IsKept L.has L.doubts L.failed L.may_leave shelf.old shelf.new }
-    ensures cause { IsErrOf result ShelfFault.Failed → HasFailed (L.failed shelf.old) (L.failed shelf.new) }
-{
-    match path_of(alloc, &asked.path)? {
-        None => Ok(false),
-        Some(path) => shelf.has_gate(asked.incident, &path, asked.level, asked.group),
-    }
-}
-
-pub(crate) fn stands_permission<L: LookUps>(
-    shelf: &mut L,
-    alloc: Global,
-    incident: u32,
-    path: &Text,
-    grantee: Grantee,
-) -> Result<bool, ShelfFault>
-    ensures value { L.doubts shelf.new ≡ 0 → (s : State) → L.has shelf.old s → IfOk result (λ b. b ≡ at_pointer (λ p. has_permission incident p grantee s) path.now) }
-    ensures kept { IsKept L.has L.doubts L.failed L.may_leave shelf.old shelf.new }
-    ensures cause { IsErrOf result ShelfFault.Failed → HasFailed (L.failed shelf.old) (L.failed shelf.new) }
-{
-    match path_of(alloc, path)? {
-        None => Ok(false),
-        Some(path) => shelf.has_permission(incident, &path, grantee),
     }
 }

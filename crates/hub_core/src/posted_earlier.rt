@@ -1,8 +1,7 @@
 //! What a body's source has posted before, by a shelf's look-ups.
 ghost use Rattle.std.specs.Prelude.{◌≡◌, IfOk, IsErrOf, option_map};
 ghost use Rattle.hub_core.specs.Documents.{documents_in, ident_of};
-ghost use Rattle.hub_core.specs.Facts.{posted_of};
-ghost use Rattle.hub_core.specs.Refusals.{posted_in};
+ghost use Rattle.hub_core.specs.Facts.{posted_of, posted_in};
 ghost use Rattle.hub_core.specs.Shelves.{HasFailed, IsKept};
 ghost use Rattle.hub_core.specs.State.{State, incident_named, incident_number};
 

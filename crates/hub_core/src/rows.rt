@@ -18,7 +18,7 @@ use std::marker::Model;
 /// A gate with the pointer of its path; contracts see the gate.
 #[derive(Drop)]
 pub(crate) struct PlacedGate {
-    gate: Gate,
+    row: Gate,
     pointer: String,
 }
 
@@ -29,27 +29,27 @@ impl Model for PlacedGate {
 
     ghost Value = { Gate };
 
-    ghost view = { λ p. p.gate };
+    ghost view = { λ p. p.row };
 
-    ghost invariant = { λ p. string_bytes p.pointer ≡ pointer_text p.gate.path };
+    ghost invariant = { λ p. string_bytes p.pointer ≡ pointer_text p.row.gate.path };
 }
 
 impl PlacedGate {
-    pub(crate) fn new(alloc: Global, gate: Gate) -> Result<PlacedGate, AllocError>
-        ensures { IfOk result (λ p. p ≡ gate) }
+    pub(crate) fn new(alloc: Global, row: Gate) -> Result<PlacedGate, AllocError>
+        ensures { IfOk result (λ p. p ≡ row) }
     {
-        let pointer = gate.path.print(alloc)?;
-        Ok(PlacedGate { gate, pointer })
+        let pointer = row.gate.path.print(alloc)?;
+        Ok(PlacedGate { row, pointer })
     }
 
-    pub(crate) fn gate(&self) -> &Gate
+    pub(crate) fn row(&self) -> &Gate
         ensures { result.now ≡ self.now }
     {
-        &self.gate
+        &self.row
     }
 
     pub(crate) fn pointer(&self) -> &[u8]
-        ensures { result.now ≡ pointer_text self.now.path }
+        ensures { result.now ≡ pointer_text self.now.gate.path }
     {
         self.pointer.as_bytes()
     }
@@ -69,8 +69,8 @@ impl Row for PlacedGate {
     ghost together = { gates_together };
 
     fn compare(&self, other: &PlacedGate) -> Ordering {
-        let ours = self.gate().incident;
-        let theirs = other.gate().incident;
+        let ours = self.row().incident;
+        let theirs = other.row().incident;
         match ours.cmp(&theirs) {
             Ordering::Less => Ordering::Less,
             Ordering::Equal => self.pointer().cmp(other.pointer()),
@@ -79,14 +79,14 @@ impl Row for PlacedGate {
     }
 
     fn owned_by(&self) -> u32 {
-        self.gate().incident
+        self.row().incident
     }
 }
 
 /// A permission with the pointer of its path; contracts see the permission.
 #[derive(Drop)]
 pub(crate) struct PlacedPermission {
-    permission: Permission,
+    row: Permission,
     pointer: String,
 }
 
@@ -97,30 +97,33 @@ impl Model for PlacedPermission {
 
     ghost Value = { Permission };
 
-    ghost view = { λ p. p.permission };
+    ghost view = { λ p. p.row };
 
-    ghost invariant = { λ p. string_bytes p.pointer ≡ pointer_text p.permission.path };
+    ghost invariant = { λ p. string_bytes p.pointer ≡ pointer_text p.row.permission.path };
 }
 
 impl PlacedPermission {
-    pub(crate) fn new(alloc: Global, permission: Permission) -> Result<PlacedPermission, AllocError>
-        ensures { IfOk result (λ p. p ≡ permission) }
+    pub(crate) fn new(alloc: Global, row: Permission) -> Result<PlacedPermission, AllocError>
+        ensures { IfOk result (λ p. p ≡ row) }
     {
-        let pointer = permission.path.print(alloc)?;
-        Ok(PlacedPermission {
-            permission,
-            pointer,
-        })
+        let pointer = row.permission.path.print(alloc)?;
+        Ok(PlacedPermission { row, pointer })
     }
 
-    pub(crate) fn permission(&self) -> &Permission
+    pub(crate) fn row(&self) -> &Permission
         ensures { result.now ≡ self.now }
     {
-        &self.permission
+        &self.row
+    }
+
+    pub(crate) fn grantee(&self) -> Grantee
+        ensures { result ≡ self.now.permission.grantee }
+    {
+        self.row.permission.grantee
     }
 
     pub(crate) fn pointer(&self) -> &[u8]
-        ensures { result.now ≡ pointer_text self.now.path }
+        ensures { result.now ≡ pointer_text self.now.permission.path }
     {
         self.pointer.as_bytes()
     }
@@ -140,15 +143,13 @@ impl Row for PlacedPermission {
     ghost together = { permissions_together };
 
     fn compare(&self, other: &PlacedPermission) -> Ordering {
-        let ours = self.permission().incident;
-        let theirs = other.permission().incident;
+        let ours = self.row().incident;
+        let theirs = other.row().incident;
         match ours.cmp(&theirs) {
             Ordering::Less => Ordering::Less,
             Ordering::Equal => match self.pointer().cmp(other.pointer()) {
                 Ordering::Less => Ordering::Less,
-                Ordering::Equal => {
-                    compare_grantees(self.permission().grantee, other.permission().grantee)
-                }
+                Ordering::Equal => compare_grantees(self.grantee(), other.grantee()),
                 Ordering::Greater => Ordering::Greater,
             },
             Ordering::Greater => Ordering::Greater,
@@ -156,7 +157,7 @@ impl Row for PlacedPermission {
     }
 
     fn owned_by(&self) -> u32 {
-        self.permission().incident
+        self.row().incident
     }
 }
 
@@ -208,18 +209,18 @@ impl Row for Incident {
 
     ghost order = { incident_cmp };
 
-    ghost owner = { λ (i : Incident). i.number };
+    ghost owner = { λ (i : Incident). i.naming.number };
 
     ghost total = { incident_total };
 
     ghost together = { incidents_together };
 
     fn compare(&self, other: &Incident) -> Ordering {
-        self.number.cmp(&other.number)
+        self.naming.number.cmp(&other.naming.number)
     }
 
     fn owned_by(&self) -> u32 {
-        self.number
+        self.naming.number
     }
 }
 
@@ -255,9 +256,9 @@ impl Indexed {
         ensures { IfOk result (λ x. x ≡ incident) }
     {
         let name = Named {
-            source: incident.source,
-            ident: incident.ident.clone()?,
-            number: incident.number,
+            source: incident.naming.source,
+            ident: incident.naming.ident.clone()?,
+            number: incident.naming.number,
         };
         Ok(Indexed { incident, name })
     }

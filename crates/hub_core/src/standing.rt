@@ -2,6 +2,7 @@
 ghost use Rattle.std.specs.Prelude.{◌≡◌, ◌==◌, ◌||◌, IfOk, IsErrOf};
 ghost use Rattle.std.specs.List.{list_any};
 ghost use Rattle.circle.specs.Reads.{communities_of, groups_joined, active_groups_joined, share_community, are_connected};
+ghost use Rattle.hub_core.specs.Questions as spec;
 ghost use Rattle.hub_core.specs.Reads.{standing_of, standing_for, is_client_for, arranged as arranged_with};
 ghost use Rattle.hub_core.specs.Shelves.{HasFailed, IsKept, IsRead};
 ghost use Rattle.hub_core.specs.State.{State, has_recipient};
@@ -10,6 +11,7 @@ ghost use Rattle.hub_core.specs.declared.state.Incident.{Incident};
 
 use crate::handling::handling_in;
 use crate::look_ups::LookUps;
+use crate::questions::is_target_among;
 use crate::request::Target;
 use crate::shelf::ShelfFault;
 use circle::directory::Person;
@@ -76,56 +78,20 @@ fn find_ties<L: LookUps>(shelf: &mut L, org: u32, source: u32) -> Result<Ties, S
     })
 }
 
-/// Whether an organisation is the source, or a recipient of the incident.
-fn is_reached<L: LookUps>(
-    shelf: &mut L,
-    incident: u32,
-    source: u32,
-    org: u32,
-) -> Result<bool, ShelfFault>
-    ensures value { L.doubts shelf.new ≡ 0 → (s : State) → L.has shelf.old s → IfOk result (λ b. b ≡ (org == source || has_recipient incident (target.Org org) s)) }
-    ensures kept { IsKept L.has L.doubts L.failed L.may_leave shelf.old shelf.new }
-    ensures cause { IsErrOf result ShelfFault.Failed → HasFailed (L.failed shelf.old) (L.failed shelf.new) }
+/// Whether an organisation is the source, or among the recipients.
+fn is_reached(org: u32, source: u32, recipients: &[Target]) -> bool
+    ensures { result ≡ (org == source || spec.is_target_among (target.Org org) recipients.now) }
 {
-    if org == source {
-        Ok(true)
-    } else {
-        shelf.has_recipient(incident, Target::Org(org))
-    }
+    org == source || is_target_among(recipients, Target::Org(org))
 }
 
-/// Whether one of the organisations is the source, or a recipient of the incident.
-fn is_among<L: LookUps>(
-    shelf: &mut L,
-    incident: u32,
-    source: u32,
-    orgs: &[u32],
-) -> Result<bool, ShelfFault>
-    ensures value { L.doubts shelf.new ≡ 0 → (s : State) → L.has shelf.old s → IfOk result (λ b. b ≡ list_any (λ org. org == source || has_recipient incident (target.Org org) s) orgs.now) }
-    ensures kept { IsKept L.has L.doubts L.failed L.may_leave shelf.old shelf.new }
-    ensures cause { IsErrOf result ShelfFault.Failed → HasFailed (L.failed shelf.old) (L.failed shelf.new) }
+/// Whether one of the organisations is the source, or among the recipients.
+fn is_client(served: &[u32], source: u32, recipients: &[Target]) -> bool
+    ensures { result ≡ list_any (λ org. org == source || spec.is_target_among (target.Org org) recipients.now) served.now }
 {
-    for org in orgs {
-        if is_reached(shelf, incident, source, *org)? {
-            return Ok(true);
-        }
-    }
-    Ok(false)
-}
-
-/// Whether an organisation is a client of the source or of one that is addressed.
-fn is_client<L: LookUps>(
-    shelf: &mut L,
-    incident: u32,
-    source: u32,
-    org: u32,
-) -> Result<bool, ShelfFault>
-    ensures value { L.doubts shelf.new ≡ 0 → (s : State) → L.has shelf.old s → (i : Incident) → i.number ≡ incident → i.source ≡ source → IfOk result (λ b. b ≡ is_client_for s i org) }
-    ensures kept { IsKept L.has L.doubts L.failed L.may_leave shelf.old shelf.new }
-    ensures cause { IsErrOf result ShelfFault.Failed → HasFailed (L.failed shelf.old) (L.failed shelf.new) }
-{
-    let served = shelf.served_by(org)?;
-    is_among(shelf, incident, source, served.as_slice())
+    served
+        .iter()
+        .any(|org| is_reached(*org, source, recipients))
 }
 
 /// Whether the reader, its organisation or one that serves it is addressed.
@@ -142,17 +108,17 @@ fn find_addressed<L: LookUps>(
     incident: u32,
     source: u32,
 ) -> Result<Addressed, ShelfFault>
-    ensures value { L.doubts shelf.new ≡ 0 → (s : State) → L.has shelf.old s → (i : Incident) → i.number ≡ incident → i.source ≡ source → IfOk result (λ found. found ≡ record { person = has_recipient incident (target.Person reader.now.number) s; org = has_recipient incident (target.Org reader.now.org) s; client = is_client_for s i reader.now.org }) }
+    ensures value { L.doubts shelf.new ≡ 0 → (s : State) → L.has shelf.old s → (i : Incident) → i.naming.number ≡ incident → i.naming.source ≡ source → IfOk result (λ found. found ≡ record { person = has_recipient incident (target.Person reader.now.number) s; org = has_recipient incident (target.Org reader.now.org) s; client = is_client_for s i reader.now.org }) }
     ensures kept { IsKept L.has L.doubts L.failed L.may_leave shelf.old shelf.new }
     ensures cause { IsErrOf result ShelfFault.Failed → HasFailed (L.failed shelf.old) (L.failed shelf.new) }
 {
-    let person = shelf.has_recipient(incident, Target::Person(reader.number))?;
-    let org = shelf.has_recipient(incident, Target::Org(reader.org))?;
-    let client = is_client(shelf, incident, source, reader.org)?;
+    let served = shelf.served_by(reader.org)?;
+    let recipients = shelf.recipients_of(incident)?;
+    let targets = recipients.as_slice();
     Ok(Addressed {
-        person,
-        org,
-        client,
+        person: is_target_among(targets, Target::Person(reader.number)),
+        org: is_target_among(targets, Target::Org(reader.org)),
+        client: is_client(served.as_slice(), source, targets),
     })
 }
 
@@ -162,7 +128,7 @@ fn standing_to<L: LookUps>(
     incident: u32,
     source: u32,
 ) -> Result<Standing, ShelfFault>
-    ensures value { L.doubts shelf.new ≡ 0 → (s : State) → L.has shelf.old s → (i : Incident) → i.number ≡ incident → i.source ≡ source → IfOk result (λ found. found ≡ standing_for s reader.now i) }
+    ensures value { L.doubts shelf.new ≡ 0 → (s : State) → L.has shelf.old s → (i : Incident) → i.naming.number ≡ incident → i.naming.source ≡ source → IfOk result (λ found. found ≡ standing_for s reader.now i) }
     ensures kept { IsKept L.has L.doubts L.failed L.may_leave shelf.old shelf.new }
     ensures cause { IsErrOf result ShelfFault.Failed → HasFailed (L.failed shelf.old) (L.failed shelf.new) }
 {
@@ -199,10 +165,10 @@ fn find_standing<L: LookUps>(
     let Some(reader) = shelf.person_of(person)? else {
         return Ok(None);
     };
-    let Some(known) = shelf.known(incident)? else {
+    let Some(naming) = shelf.naming(incident)? else {
         return Ok(None);
     };
-    Ok(Some(standing_to(shelf, &reader, incident, known.source)?))
+    Ok(Some(standing_to(shelf, &reader, incident, naming.source)?))
 }
 
 /// How a person stands to an incident, by a shelf's look-ups; none where either is missing.

@@ -1,10 +1,11 @@
 //! What the shelf found out, by words.
 
-use crate::fields::{number_of, text_of};
 use circle::command::CircleFacts;
+use circle::text::Text;
 use hub_core::{Facts, Known};
 use iodef_tree::Document;
 use std::alloc::{AllocError, Global};
+use trying::number_of;
 
 fn value<'a>(words: &'a str, name: &str) -> Option<&'a str> {
     for word in words.split(' ') {
@@ -34,7 +35,7 @@ fn known_of(alloc: Global, words: &str) -> Result<Option<Known>, AllocError> {
     Ok(Some(Known {
         source: number_of(source),
         revision: number_of(revision),
-        ident: text_of(alloc, ident)?,
+        ident: Text::of(alloc, ident)?,
     }))
 }
 

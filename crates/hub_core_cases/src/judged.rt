@@ -1,13 +1,13 @@
 //! From a line of the table to its answer.
 
 use crate::facts::facts_of;
-use crate::fields::{number_of, role_of};
-use crate::requests::request_of;
 use crate::told;
 use circle::directory::Person;
 use circle::name::Name;
 use hub_core::{Facts, Request, judge};
 use std::alloc::{AllocError, Global};
+use trying::number_of;
+use trying_hub::{Fields, refusal_text, request_of, role_of};
 
 fn actor_of(alloc: Global, words: &str) -> Result<Option<Person>, AllocError> {
     let (role, org) = words.split_once(' ').unwrap_or((words, ""));
@@ -32,16 +32,16 @@ fn judged(
 ) -> Result<String, AllocError> {
     match judge(alloc, actor, facts, request) {
         Ok(edits) => told::edits(alloc, &edits),
-        Err(refusal) => told::refusal(alloc, &refusal),
+        Err(refusal) => refusal_text(alloc, &refusal),
     }
 }
 
 pub fn answer(alloc: Global, line: &str) -> Result<String, AllocError> {
-    let mut fields = line.split('|');
-    let Some(actor) = actor_of(alloc, fields.next().unwrap_or(""))? else {
+    let mut fields = Fields::new(line);
+    let Some(actor) = actor_of(alloc, fields.word())? else {
         return String::from_str(alloc, "no actor");
     };
-    let facts = facts_of(alloc, fields.next().unwrap_or(""))?;
+    let facts = facts_of(alloc, fields.word())?;
     let request = request_of(alloc, &mut fields)?;
     judged(alloc, &actor, &facts, &request)
 }

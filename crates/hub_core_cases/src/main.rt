@@ -8,33 +8,30 @@
 //!   `permissions=65`; `known=2,1,"2"` is an incident of organisation 2 in revision 1 with that IncidentID, `document=JSON` its
 //!   document. What isn't named is false, 0 or none.
 //! - A group is `-` for none. Gates are LEVEL:GROUP:POINTER with a space between them. Targets and grantees are `person 4`,
-//!   `org 3`, `community 1` or `group 1`. A class is `-` for none. `DOC1` and its kin are documents (`documents.rt`).
+//!   `org 3`, `community 1` or `group 1`. A class is `-` for none. `DOC1` and its kin are documents (`documents.rt` of `trying_hub`).
 //!
 //! The answer is the refusal, its code and perhaps its detail, or the edits with a semicolon between them.
 //!
 //! Or it is `world;` and steps with a semicolon between them, over a shelf in memory that holds the test world (`world.rt`):
 //!
-//! - PERSON REQUEST|FIELD..: a request by the person whose key is `abc` (person 1) or `key-2` and so on. The answer is the refusal, or
+//! - PERSON REQUEST|FIELD..: a request by the person who has the key of this number, `key-7` in a request. The answer is the refusal, or
 //!   `nothing` of a request that only reads, the numbers of new incidents, the revision, or `done`; `nobody` where no person has the key.
 //! - `facts` before it: what the shelf finds out about it, in the words above.
 //! - `case 1`, `standing 4 1` (a person, an incident), `document 1`, `entries 0 100` (above a number, at most so many), `groups 4`
 //!   and `person 4` (persons by their keys), `failures`: what stands there.
 #![tactic(auto)]
 
-mod documents;
 mod facts;
-mod fields;
 mod judged;
-mod requests;
 mod seen;
 mod story;
 mod told;
 mod world;
 
-use crate::fields::written_out;
 use std::alloc::{AllocError, Global};
 use std::io;
 use std::io::Read;
+use trying::written_out;
 
 fn main(rt: HostRuntime) -> io::Result<()> {
     let alloc = rt.alloc();

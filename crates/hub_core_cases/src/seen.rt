@@ -1,11 +1,12 @@
 //! What a shelf tells, as text.
 
 use crate::told::grantee_text;
-use circle::directory::{Person, Role};
+use circle::directory::Person;
 use hub_core::{Entry, JoinedGroup};
 use iodef_tree::Document;
 use policy::{Case, Gate, Permission, Standing};
 use std::alloc::{AllocError, Global};
+use trying_hub::role_name;
 
 fn none(alloc: Global) -> Result<String, AllocError> {
     String::from_str(alloc, "none")
@@ -135,15 +136,6 @@ pub fn groups(alloc: Global, groups: &[JoinedGroup]) -> Result<String, AllocErro
         all.push_str(group(alloc, row)?.as_str())?;
     }
     Ok(all)
-}
-
-fn role_name(role: Role) -> &'static str {
-    match role {
-        Role::Administrator => "administrator",
-        Role::Coordinator => "coordinator",
-        Role::Poster => "poster",
-        Role::Reader => "reader",
-    }
 }
 
 pub fn person(alloc: Global, person: Option<Person>) -> Result<String, AllocError> {

@@ -1,22 +1,16 @@
 //! Requests one after another over a shelf in memory, from the test world on.
 
 use crate::facts::told as told_facts;
-use crate::fields::number_of;
-use crate::requests::request_of;
-use crate::world::{key_of, key_text, world};
+use crate::world::world;
 use crate::{seen, told};
 use circle::directory::Person;
 use hub_core::{Edit, ListShelf, Request, Shelf, ShelfFault, judge};
 use std::alloc::{AllocError, Global};
+use trying::number_of;
+use trying_hub::{Fields, key_of, refusal_text, request_of};
 
-fn person<S: Shelf>(
-    alloc: Global,
-    shelf: &mut S,
-    number: u32,
-) -> Result<Option<Person>, ShelfFault> {
-    let text = key_text(alloc, number)?;
-    let key = key_of(text.as_str());
-    shelf.person_by_key(&key)
+fn person<S: Shelf>(shelf: &mut S, number: u32) -> Result<Option<Person>, ShelfFault> {
+    shelf.person_by_key(&key_of(number))
 }
 
 /// What the person's request is answered, and is made where nothing refuses it.
@@ -28,7 +22,7 @@ fn asked<S: Shelf>(
 ) -> Result<String, ShelfFault> {
     let facts = shelf.facts(actor, request)?;
     match judge(alloc, actor, &facts, request) {
-        Err(refusal) => Ok(told::refusal(alloc, &refusal)?),
+        Err(refusal) => Ok(refusal_text(alloc, &refusal)?),
         Ok(edits) => {
             shelf.apply(&edits)?;
             Ok(told::outcome(alloc, &edits)?)
@@ -54,10 +48,10 @@ fn request<S: Shelf>(
     facts_alone: bool,
 ) -> Result<String, ShelfFault> {
     let (number, rest) = words.split_once(' ').unwrap_or((words, ""));
-    let Some(actor) = person(alloc, shelf, number_of(number))? else {
+    let Some(actor) = person(shelf, number_of(number))? else {
         return Ok(String::from_str(alloc, "nobody")?);
     };
-    let mut fields = rest.split('|');
+    let mut fields = Fields::new(rest);
     let request = request_of(alloc, &mut fields)?;
     if facts_alone {
         found(alloc, shelf, &actor, &request)
@@ -71,7 +65,7 @@ fn joined_groups<S: Shelf>(
     shelf: &mut S,
     number: u32,
 ) -> Result<String, ShelfFault> {
-    match person(alloc, shelf, number)? {
+    match person(shelf, number)? {
         None => Ok(String::from_str(alloc, "nobody")?),
         Some(person) => {
             let groups = shelf.groups_of(&person)?;
@@ -95,7 +89,7 @@ fn read<S: Shelf>(
         "document" => seen::document(alloc, shelf.document(number)?)?,
         "entries" => seen::entries(alloc, &shelf.incidents_after(number, other)?)?,
         "groups" => joined_groups(alloc, shelf, number)?,
-        "person" => seen::person(alloc, person(alloc, shelf, number)?)?,
+        "person" => seen::person(alloc, person(shelf, number)?)?,
         "failures" => format!(in alloc; "{}", shelf.failures())?,
         _ => return Ok(None),
     }))

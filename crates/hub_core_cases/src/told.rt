@@ -1,7 +1,8 @@
 //! Refusals and edits as text.
 
-use circle::refusal::Refusal;
-use hub_core::{Edit, Gate, Incident, Permission, Recipient, ShelfFault, Target};
+use hub_core::{
+    Edit, Gate, GateKey, Incident, Permission, PermissionKey, Recipient, ShelfFault, Target,
+};
 use iodef_tree::Path;
 use policy::Grantee;
 use std::alloc::{AllocError, Global};
@@ -24,16 +25,17 @@ fn recipient(alloc: Global, recipient: &Recipient) -> Result<String, AllocError>
 }
 
 fn incident(alloc: Global, row: &Incident) -> Result<String, AllocError> {
-    let (number, source, revision) = (row.number, row.source, row.revision);
-    let ident = row.ident.as_str();
+    let naming = &row.naming;
+    let (number, source, revision) = (naming.number, naming.source, naming.revision);
+    let ident = naming.ident.as_str();
     let text = row.document.text(alloc)?;
     format!(in alloc; "put incident {number} of {source} {ident} revision {revision} {text}")
 }
 
-fn gate(alloc: Global, gate: &Gate) -> Result<String, AllocError> {
-    let (incident, level) = (gate.incident, gate.level);
-    let path = gate.path.print(alloc)?;
-    match gate.group {
+fn gate(alloc: Global, row: &Gate) -> Result<String, AllocError> {
+    let (incident, level) = (row.incident, row.gate.level);
+    let path = row.gate.path.print(alloc)?;
+    match row.gate.group {
         Some(group) => format!(in alloc; "put gate {incident} '{path}' {level} {group}"),
         None => format!(in alloc; "put gate {incident} '{path}' {level} -"),
     }
@@ -52,7 +54,18 @@ fn permission(
 }
 
 fn put_permission(alloc: Global, row: &Permission) -> Result<String, AllocError> {
-    permission(alloc, "put", row.incident, &row.path, row.grantee)
+    let (path, grantee) = (&row.permission.path, row.permission.grantee);
+    permission(alloc, "put", row.incident, path, grantee)
+}
+
+fn take_permission(alloc: Global, key: &PermissionKey) -> Result<String, AllocError> {
+    permission(alloc, "take", key.incident, &key.path, key.grantee)
+}
+
+fn take_gate(alloc: Global, key: &GateKey) -> Result<String, AllocError> {
+    let incident = key.incident;
+    let path = key.path.print(alloc)?;
+    format!(in alloc; "take gate {incident} '{path}'")
 }
 
 fn edit(alloc: Global, edit: &Edit) -> Result<String, AllocError> {
@@ -62,10 +75,7 @@ fn edit(alloc: Global, edit: &Edit) -> Result<String, AllocError> {
         Edit::TakeIncident(n) => format!(in alloc; "take incident {n}"),
         Edit::TakePolicy(n) => format!(in alloc; "take policy {n}"),
         Edit::PutGate(row) => gate(alloc, row),
-        Edit::TakeGate { incident, path } => {
-            let path = path.print(alloc)?;
-            format!(in alloc; "take gate {incident} '{path}'")
-        }
+        Edit::TakeGate(key) => take_gate(alloc, key),
         Edit::PutRecipient(row) => {
             let row = recipient(alloc, row)?;
             format!(in alloc; "put recipient {row}")
@@ -75,11 +85,7 @@ fn edit(alloc: Global, edit: &Edit) -> Result<String, AllocError> {
             format!(in alloc; "take recipient {row}")
         }
         Edit::PutPermission(row) => put_permission(alloc, row),
-        Edit::TakePermission {
-            incident,
-            path,
-            grantee,
-        } => permission(alloc, "take", *incident, path, *grantee),
+        Edit::TakePermission(key) => take_permission(alloc, key),
     }
 }
 
@@ -97,20 +103,11 @@ pub fn edits(alloc: Global, edits: &[Edit]) -> Result<String, AllocError> {
     Ok(all)
 }
 
-pub fn refusal(alloc: Global, refusal: &Refusal) -> Result<String, AllocError> {
-    let code = refusal.code.name();
-    let detail = refusal.detail.as_str();
-    if detail.is_empty() {
-        return String::from_str(alloc, code);
-    }
-    format!(in alloc; "{code} {detail}")
-}
-
 fn numbers(alloc: Global, edits: &[Edit]) -> Result<String, AllocError> {
     let mut all = String::from_str(alloc, "numbers")?;
     for one in edits {
         if let Edit::PutIncident(row) = one {
-            let number = row.number;
+            let number = row.naming.number;
             all.push_str(format!(in alloc; " {number}")?.as_str())?;
         }
     }
@@ -123,7 +120,7 @@ pub fn outcome(alloc: Global, edits: &[Edit]) -> Result<String, AllocError> {
     match edits {
         [] => String::from_str(alloc, "nothing"),
         [Edit::TakeIncident(_), Edit::PutIncident(row), ..] => {
-            let revision = row.revision;
+            let revision = row.naming.revision;
             format!(in alloc; "revision {revision}")
         }
         [Edit::PutIncident(_), ..] => numbers(alloc, edits),

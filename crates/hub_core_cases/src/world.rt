@@ -5,22 +5,8 @@ use circle::directory::{Account, Community, Group, GroupMember, Membership, Org,
 use circle::name::Name;
 use circle::releasability::Releasability;
 use hub_core::Edit;
-use sha2::{Digest, Sha256};
 use std::alloc::{AllocError, Global};
-
-/// The key of a person of the test world: `abc` of the first, `key-2` and so on of the others.
-pub fn key_text(alloc: Global, person: u32) -> Result<String, AllocError> {
-    if person == 1 {
-        String::from_str(alloc, "abc")
-    } else {
-        format!(in alloc; "key-{person}")
-    }
-}
-
-/// The SHA-256 of a key.
-pub fn key_of(text: &str) -> [u8; 32] {
-    Sha256::digest(text.as_bytes())
-}
+use trying_hub::key_of;
 
 /// A row with a name; where the text is none, an edit that changes nothing stands in its place.
 fn put_org(alloc: Global, number: u32, name: &str) -> Result<Edit, AllocError> {
@@ -37,8 +23,7 @@ fn put_person(
     name: &str,
     role: Role,
 ) -> Result<Edit, AllocError> {
-    let text = key_text(alloc, number)?;
-    let key = key_of(text.as_str());
+    let key = key_of(number);
     Ok(Edit::Directory(match Name::of(alloc, name)? {
         Some(name) => {
             let person = Person {

@@ -8,8 +8,8 @@ use hub_core::{
     WantedGates, Withdraw,
 };
 use hub_http::request_of;
-use policy::Grantee;
 use std::alloc::{AllocError, Global};
+use trying_policy::kind_of;
 
 /// The longest document that is printed whole, in bytes.
 const SHORT: usize = 100;
@@ -39,15 +39,6 @@ fn document(alloc: Global, document: &Bytes) -> Result<String, AllocError> {
     match str::from_utf8(bytes) {
         Ok(text) if count <= SHORT => format!(in alloc; "{text:?}"),
         _ => format!(in alloc; "{count} bytes"),
-    }
-}
-
-fn grantee(grantee: Grantee) -> (&'static str, u32) {
-    match grantee {
-        Grantee::Person(n) => ("person", n),
-        Grantee::Org(n) => ("org", n),
-        Grantee::Community(n) => ("community", n),
-        Grantee::Group(n) => ("group", n),
     }
 }
 
@@ -170,7 +161,7 @@ fn widening(alloc: Global, request: &Request) -> Result<Option<String>, AllocErr
             },
         ) => {
             let path = path.as_str();
-            let (kind, number) = grantee(*to);
+            let (kind, number) = kind_of(*to);
             format!(in alloc; "Grant {incident} revision {revision} {path:?} {kind} {number}")?
         }
         Request::Withdraw(
@@ -181,7 +172,7 @@ fn widening(alloc: Global, request: &Request) -> Result<Option<String>, AllocErr
             },
         ) => {
             let path = path.as_str();
-            let (kind, number) = grantee(*from);
+            let (kind, number) = kind_of(*from);
             format!(in alloc; "Withdraw {incident} {path:?} {kind} {number}")?
         }
         Request::Circle(wanted) => command(alloc, wanted)?,

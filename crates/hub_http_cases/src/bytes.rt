@@ -1,30 +1,7 @@
 //! The bytes that a line stands for.
 
 use std::alloc::{AllocError, Global};
-
-/// The line with each `<3*0,>` written out as `0,0,0,`.
-fn written_out(alloc: Global, line: &str) -> Result<String, AllocError> {
-    let mut all = String::new(alloc);
-    for piece in line.split('<') {
-        match piece.split_once('>') {
-            Some((repeated, behind)) => {
-                push_times(&mut all, repeated)?;
-                all.push_str(behind)?;
-            }
-            None => all.push_str(piece)?,
-        }
-    }
-    Ok(all)
-}
-
-fn push_times(all: &mut String, repeated: &str) -> Result<(), AllocError> {
-    if let Some((count, part)) = repeated.split_once('*') {
-        for _ in 0..count.parse::<u32>().unwrap_or(0) {
-            all.push_str(part)?;
-        }
-    }
-    Ok(())
-}
+use trying::written_out;
 
 /// The byte of two hexadecimal digits, or 0.
 fn byte_of(digits: &[u8]) -> u8 {

@@ -1,31 +1,9 @@
 //! A command on the directory, in words.
 
 use circle::command::CircleCommand;
-use circle::directory::{Handling, Role};
+use circle::directory::Handling;
 use std::alloc::{AllocError, Global};
-
-fn word_of(command: &CircleCommand) -> &'static str {
-    match command {
-        CircleCommand::AddOrg { .. } => "AddOrg",
-        CircleCommand::AddPerson { .. } => "AddPerson",
-        CircleCommand::SuspendPerson { .. } => "SuspendPerson",
-        CircleCommand::AddClient { .. } => "AddClient",
-        CircleCommand::RemoveClient { .. } => "RemoveClient",
-        CircleCommand::AddCommunity { .. } => "AddCommunity",
-        CircleCommand::Join { .. } => "Join",
-        CircleCommand::Leave { .. } => "Leave",
-        CircleCommand::Link { .. } => "Link",
-        CircleCommand::Unlink { .. } => "Unlink",
-        CircleCommand::NewGroup { .. } => "NewGroup",
-        CircleCommand::GroupAdd { .. } => "GroupAdd",
-        CircleCommand::GroupRemove { .. } => "GroupRemove",
-        CircleCommand::GroupActive { .. } => "GroupActive",
-        CircleCommand::Arrange { .. } => "Arrange",
-        CircleCommand::CancelArrange { .. } => "CancelArrange",
-        CircleCommand::Nominate { .. } => "Nominate",
-        CircleCommand::Unnominate { .. } => "Unnominate",
-    }
-}
+use trying_hub::{command_name, role_name};
 
 fn numbers_of(command: &CircleCommand) -> [Option<u32>; 2] {
     match *command {
@@ -88,41 +66,32 @@ fn texts_of(command: &CircleCommand) -> [Option<&str>; 2] {
     }
 }
 
-fn role_name(role: Role) -> &'static str {
-    match role {
-        Role::Administrator => " administrator",
-        Role::Coordinator => " coordinator",
-        Role::Poster => " poster",
-        Role::Reader => " reader",
-    }
-}
-
 fn handling_name(handling: Handling) -> &'static str {
     match handling {
-        Handling::Clear => " clear",
-        Handling::Green => " green",
-        Handling::Amber => " amber",
-        Handling::Strict => " strict",
-        Handling::Red => " red",
+        Handling::Clear => "clear",
+        Handling::Green => "green",
+        Handling::Amber => "amber",
+        Handling::Strict => "strict",
+        Handling::Red => "red",
     }
 }
 
-/// The role, the handling or the flag that the command sets, behind a space.
+/// The role, the handling or the flag that the command sets, if it sets one.
 fn setting_of(command: &CircleCommand) -> &'static str {
     match command {
         CircleCommand::AddPerson { role, .. } => role_name(*role),
         CircleCommand::Arrange { handling, .. } => handling_name(*handling),
-        CircleCommand::GroupAdd { extend: true, .. } => " extending",
-        CircleCommand::GroupAdd { extend: false, .. } => " not extending",
-        CircleCommand::GroupActive { active: true, .. } => " active",
-        CircleCommand::GroupActive { active: false, .. } => " inactive",
+        CircleCommand::GroupAdd { extend: true, .. } => "extending",
+        CircleCommand::GroupAdd { extend: false, .. } => "not extending",
+        CircleCommand::GroupActive { active: true, .. } => "active",
+        CircleCommand::GroupActive { active: false, .. } => "inactive",
         _ => "",
     }
 }
 
 /// Its word, its numbers and texts in their order, what it sets, and a digest.
 pub fn command(alloc: Global, command: &CircleCommand) -> Result<String, AllocError> {
-    let mut all = String::from_str(alloc, word_of(command))?;
+    let mut all = String::from_str(alloc, command_name(command))?;
     for number in numbers_of(command).into_iter().flatten() {
         let number = format!(in alloc; " {number}")?;
         all.push_str(number.as_str())?;
@@ -131,7 +100,11 @@ pub fn command(alloc: Global, command: &CircleCommand) -> Result<String, AllocEr
         let text = format!(in alloc; " {text:?}")?;
         all.push_str(text.as_str())?;
     }
-    all.push_str(setting_of(command))?;
+    let setting = setting_of(command);
+    if !setting.is_empty() {
+        all.push(' ')?;
+        all.push_str(setting)?;
+    }
     if let CircleCommand::AddPerson { key, .. } = command {
         let key = hex::encode(alloc, key.as_slice())?;
         all.push(' ')?;

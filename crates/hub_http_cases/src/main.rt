@@ -34,7 +34,6 @@ mod replies;
 mod serving;
 mod streams;
 mod views;
-mod world;
 mod written;
 
 use hub::Hub;
@@ -42,6 +41,7 @@ use hub_core::ListShelf;
 use std::alloc::{AllocError, Global};
 use std::io;
 use std::io::Read;
+use trying_hub::{ABC, first_shelf};
 
 fn answer(alloc: Global, hub: &mut Hub<ListShelf>, line: &str) -> Result<String, AllocError> {
     let (kind, rest) = line.split_once('|').unwrap_or((line, ""));
@@ -58,7 +58,7 @@ fn main(rt: HostRuntime) -> io::Result<()> {
     let alloc = rt.alloc();
     let mut table = String::new(alloc);
     rt.reader().read_to_string(&mut table)?;
-    let Some(shelf) = world::first_shelf(alloc)? else {
+    let Some(shelf) = first_shelf(alloc, ABC)? else {
         return Ok(());
     };
     let mut hub = Hub::new(shelf);

@@ -1,18 +1,15 @@
 //! The reply that a line tells.
 
 use crate::views::view_of;
-use circle::directory::{Person, Role};
+use circle::directory::Person;
 use circle::name::Name;
 use circle::releasability::Releasability;
 use circle::text::Text;
 use hub_core::{Code, Entries, Entry, JoinedGroup, JoinedGroups, Refusal, Reply};
 use policy::Numbers;
 use std::alloc::{AllocError, Global};
-
-/// The number, or 0.
-pub fn number_of(word: &str) -> u32 {
-    word.parse::<u32>().unwrap_or(0)
-}
+use trying::number_of;
+use trying_hub::role_of;
 
 fn numbers_of(alloc: Global, words: &str) -> Result<Reply, AllocError> {
     let mut list = Vec::new(alloc);
@@ -70,15 +67,6 @@ fn groups_of(alloc: Global, words: &str) -> Result<Reply, AllocError> {
         }
     }
     Ok(Reply::Groups(JoinedGroups::new(list)))
-}
-
-fn role_of(word: &str) -> Role {
-    match word {
-        "administrator" => Role::Administrator,
-        "coordinator" => Role::Coordinator,
-        "poster" => Role::Poster,
-        _ => Role::Reader,
-    }
 }
 
 fn caller_of(alloc: Global, fields: &str) -> Result<Option<Reply>, AllocError> {

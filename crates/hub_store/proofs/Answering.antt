@@ -1,5 +1,5 @@
 -- A query in a transaction that is rolled back answers of the last commit.
-use Rattle.std.proofs.Common.{◌≡◌, List, ℕ, inl, Result, Ok, Err, IfOk, OnOk, IsTrue, true, false, ◌∙◌}
+use Rattle.std.proofs.Common.{◌≡◌, List, ℕ, inl, Result, Ok, Err, IfOk, OnOk, IsErrAnd, IsTrue, true, false, ◌∙◌}
 use Rattle.sqlite_value.specs.Order.{Row}
 use Rattle.sqlite_sql.specs.Query.{Query, IsAnswer}
 use Rattle.sqlite_schema.specs.declared.command.Command.TheVariants.{Select}
@@ -35,6 +35,11 @@ read_shown g text params old new rows q names Right result is plain survives sho
 if_up : {T : Type 0} (r : Result T Error) (Up : Type 0) (P : T → Type 0) → OnOk r Up → (Up → IfOk r P) → IfOk r P
 if_up (Ok x) Up P up f = f up
 if_up (Err e) Up P up f = tt
+
+-- what couldn't be read is no answer
+pub unread : {T : Type 0} (r : Result T Error) (e : Error) (P : T → Type 0) → IsErrAnd r (λ y. y ≡ e) → IfOk r P
+unread (Ok x) e P is = absurd is
+unread (Err y) e P is = tt
 
 pub rolled : {S : Type 0} (g : store.Ghosts S) (old mid end : Held S) {T : Type 0} (Right : core.State → T → Type 0) (result : Result T Error) → IsReadInside (state g (record old { in_transaction = true })) (state g mid) Right result
     → (HasCleanDisk (state g end) → IsRolledBack (state g mid) (state g end)) → Survives (state g mid) (state g end) (λ _. ⊥) → IsReadOutside (state g old) (state g end) Right result

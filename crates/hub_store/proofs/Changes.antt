@@ -9,9 +9,8 @@ use Rattle.sqlite_value.specs.declared.value.Value.TheVariants.{Null, Int, Text,
 use Rattle.sqlite_trees.proofs.ListLemmas.{filter-map, all-filter}
 use Rattle.sqlite_sql.specs.Term.{lit, col}
 use Rattle.sqlite.specs.State.{State, Executes}
-use Rattle.iodef_tree.specs.Text.{Tokens, same_path}
+use Rattle.iodef_tree.specs.Text.{same_path}
 use Rattle.iodef_tree.specs.Pointer.{pointer_text}
-use Rattle.policy.specs.declared.permission.Grantee.{Grantee}
 use Rattle.circle.specs.Ordered.{put_by, by_number, by_pair}
 use Rattle.circle.proofs.Keeping.{each_put}
 use Rattle.circle.specs.Directory.{org_number, account_number, community_number, group_number, client_key, membership_key, connection_key, group_member_key, arrangement_key}
@@ -31,8 +30,10 @@ use Rattle.hub_core.specs.Edits.{edited}
 use Rattle.hub_core.specs.declared.request.Target.{Target}
 use Rattle.hub_core.specs.declared.state.Incident.{Incident}
 use Rattle.hub_core.specs.declared.state.Gate.{Gate}
+use Rattle.hub_core.specs.declared.state.GateKey.{GateKey}
 use Rattle.hub_core.specs.declared.state.Recipient.{Recipient}
 use Rattle.hub_core.specs.declared.state.Permission.{Permission}
+use Rattle.hub_core.specs.declared.state.PermissionKey.{PermissionKey}
 use Rattle.hub_core.specs.declared.edit.Edit.TheVariants.{Directory, PutIncident, TakeIncident, TakePolicy, PutGate, TakeGate, PutRecipient, TakeRecipient, PutPermission, TakePermission}
 use Rattle.hub_core.proofs.Indexing.{paths_by_pointers}
 use Rattle.hub_store.specs.Values.{flag}
@@ -64,15 +65,15 @@ each_exchanged P k f step (x ∷ xs) all = (elim (k x) as (λ b. P (cond b (f x)
 
 -- ---- tests of rows are tests of elements
 
-pub gate_test : (n : ℕ) (p : Tokens) (g : Gate) → begins 0 (Int (pos n) ∷ Text (pointer_text p) ∷ []) (gate_row g) ≡ is_gate_at n p g
-gate_test n p g = rw (equal_numbers g.incident n, equal_texts (pointer_text g.path) (pointer_text p), paths_by_pointers g.path p, and_true (same_path g.path p)) refl
+pub gate_test : (key : GateKey) (g : Gate) → begins 0 (Int (pos key.incident) ∷ Text (pointer_text key.path) ∷ []) (gate_row g) ≡ is_gate_at key g
+gate_test key g = rw (equal_numbers g.incident key.incident, equal_texts (pointer_text g.gate.path) (pointer_text key.path), paths_by_pointers g.gate.path key.path, and_true (same_path g.gate.path key.path)) refl
 
 pub recipient_test : (n : ℕ) (target : Target) (r : Recipient) → begins 0 (Int (pos n) ∷ Int (pos (target_key target).0) ∷ Int (pos (target_key target).1) ∷ []) (recipient_row r) ≡ is_recipient_being n target r
 recipient_test n target r = rw (equal_numbers r.incident n, equal_numbers (target_key r.target).0 (target_key target).0, equal_numbers (target_key r.target).1 (target_key target).1, and_true ((target_key r.target).1 == (target_key target).1)) refl
 
-pub permission_test : (n : ℕ) (p : Tokens) (grantee : Grantee) (x : Permission) → begins 0 (Int (pos n) ∷ Text (pointer_text p) ∷ Int (pos (grantee_key grantee).0) ∷ Int (pos (grantee_key grantee).1) ∷ []) (permission_row x) ≡ is_permission_being n p grantee x
-permission_test n p grantee x =
-    rw (equal_numbers x.incident n, equal_texts (pointer_text x.path) (pointer_text p), paths_by_pointers x.path p, equal_numbers (grantee_key x.grantee).0 (grantee_key grantee).0, equal_numbers (grantee_key x.grantee).1 (grantee_key grantee).1, and_true ((grantee_key x.grantee).1 == (grantee_key grantee).1)) refl
+pub permission_test : (key : PermissionKey) (x : Permission) → begins 0 (Int (pos key.incident) ∷ Text (pointer_text key.path) ∷ Int (pos (grantee_key key.grantee).0) ∷ Int (pos (grantee_key key.grantee).1) ∷ []) (permission_row x) ≡ is_permission_being key x
+permission_test key x =
+    rw (equal_numbers x.incident key.incident, equal_texts (pointer_text x.permission.path) (pointer_text key.path), paths_by_pointers x.permission.path key.path, equal_numbers (grantee_key x.permission.grantee).0 (grantee_key key.grantee).0, equal_numbers (grantee_key x.permission.grantee).1 (grantee_key key.grantee).1, and_true ((grantee_key x.permission.grantee).1 == (grantee_key key.grantee).1)) refl
 
 -- ---- edits
 
@@ -120,9 +121,9 @@ puts_group old new group count h fit s held =
       fit = record { orgs = held.fit.orgs; accounts = held.fit.accounts; communities = held.fit.communities; groups = each_put FitGroup (by_number group_number) group s.directory.groups fit held.fit.groups; gates = held.fit.gates; incidents = held.fit.incidents };
     }
 
-pub puts_incident : (old new : State) (incident : Incident) (count : ℕ) → Executes put_incident (Int (pos incident.number) ∷ Int (pos incident.source) ∷ Text incident.ident ∷ Int (pos incident.revision) ∷ Text (document_text incident.document) ∷ []) old new (Ok count) → FitIncident incident → (s : core.State) → Holds old.now s → Holds new.now (edited (PutIncident incident) s)
+pub puts_incident : (old new : State) (incident : Incident) (count : ℕ) → Executes put_incident (Int (pos incident.naming.number) ∷ Int (pos incident.naming.source) ∷ Text incident.naming.ident ∷ Int (pos incident.naming.revision) ∷ Text (document_text incident.document) ∷ []) old new (Ok count) → FitIncident incident → (s : core.State) → Holds old.now s → Holds new.now (edited (PutIncident incident) s)
 puts_incident old new incident count h fit s held =
-    let put = puts.puts_incident old new incident.number incident.source incident.ident incident.revision (document_text incident.document) held.known count h in
+    let put = puts.puts_incident old new incident.naming.number incident.naming.source incident.naming.ident incident.naming.revision (document_text incident.document) held.known count h in
     record {
       known = put.0;
       whole = put.2;
@@ -133,7 +134,7 @@ puts_incident old new incident count h fit s held =
 
 pub puts_gate : (old new : State) (gate : Gate) (count : ℕ) → Executes put_gate (gate_row gate) old new (Ok count) → FitGate gate → (s : core.State) → Holds old.now s → Holds new.now (edited (PutGate gate) s)
 puts_gate old new gate count h fit s held =
-    let put = puts.puts_gate old new gate.incident (pointer_text gate.path) gate.level gate.group held.known count h in
+    let put = puts.puts_gate old new gate.incident (pointer_text gate.gate.path) gate.gate.level gate.gate.group held.known count h in
     record {
       known = put.0;
       whole = put.2;
@@ -155,7 +156,7 @@ puts_recipient old new recipient count h s held =
 
 pub puts_permission : (old new : State) (permission : Permission) (count : ℕ) → Executes put_permission (permission_row permission) old new (Ok count) → (s : core.State) → Holds old.now s → Holds new.now (edited (PutPermission permission) s)
 puts_permission old new permission count h s held =
-    let put = puts.puts_permission old new permission.incident (pointer_text permission.path) (grantee_key permission.grantee).0 (grantee_key permission.grantee).1 held.known count h in
+    let put = puts.puts_permission old new permission.incident (pointer_text permission.permission.path) (grantee_key permission.permission.grantee).0 (grantee_key permission.permission.grantee).1 held.known count h in
     record {
       known = put.0;
       whole = put.2;
@@ -294,17 +295,17 @@ takes_arrangement old new source org count h s held =
       fit = record { orgs = held.fit.orgs; accounts = held.fit.accounts; communities = held.fit.communities; groups = held.fit.groups; gates = held.fit.gates; incidents = held.fit.incidents };
     }
 
-pub takes_gate : (old new : State) (n : ℕ) (p : Tokens) (count : ℕ) → Executes take_gate (Int (pos n) ∷ Text (pointer_text p) ∷ []) old new (Ok count) → (s : core.State) → Holds old.now s → Holds new.now (edited (TakeGate n p) s)
-takes_gate old new n p count h s held =
-    let params = Int (pos n) ∷ Text (pointer_text p) ∷ [] in
+pub takes_gate : (old new : State) (key : GateKey) (count : ℕ) → Executes take_gate (Int (pos key.incident) ∷ Text (pointer_text key.path) ∷ []) old new (Ok count) → (s : core.State) → Holds old.now s → Holds new.now (edited (TakeGate key) s)
+takes_gate old new key count h s held =
+    let params = Int (pos key.incident) ∷ Text (pointer_text key.path) ∷ [] in
     let taken = puts.takes_gate old new params held.known count h in
     record {
       known = taken.2.schema_is;
       whole = taken.2.whole;
-      means = held_taken gates old new 6 (holdings s) (holdings (edited (TakeGate n p) s)) (drop 1) (map gate_row s.gates) refl refl held.means (is_param 1 0 ∷ is_param 2 1 ∷ []) params (begins 0 params) (map gate_row (filter (λ x. not (is_gate_at n p x)) s.gates)) refl
-          (past_two (Int (pos n)) (Text (pointer_text p)))
-          (filter_rows gate_row (λ r. not (begins 0 params r)) (λ x. not (is_gate_at n p x)) (λ x. ap not (gate_test n p x)) s.gates) taken;
-      fit = record { orgs = held.fit.orgs; accounts = held.fit.accounts; communities = held.fit.communities; groups = held.fit.groups; gates = all-filter FitGate (λ x. not (is_gate_at n p x)) s.gates held.fit.gates; incidents = held.fit.incidents };
+      means = held_taken gates old new 6 (holdings s) (holdings (edited (TakeGate key) s)) (drop 1) (map gate_row s.gates) refl refl held.means (is_param 1 0 ∷ is_param 2 1 ∷ []) params (begins 0 params) (map gate_row (filter (λ x. not (is_gate_at key x)) s.gates)) refl
+          (past_two (Int (pos key.incident)) (Text (pointer_text key.path)))
+          (filter_rows gate_row (λ r. not (begins 0 params r)) (λ x. not (is_gate_at key x)) (λ x. ap not (gate_test key x)) s.gates) taken;
+      fit = record { orgs = held.fit.orgs; accounts = held.fit.accounts; communities = held.fit.communities; groups = held.fit.groups; gates = all-filter FitGate (λ x. not (is_gate_at key x)) s.gates held.fit.gates; incidents = held.fit.incidents };
     }
 
 pub takes_recipient : (old new : State) (recipient : Recipient) (count : ℕ) → Executes take_recipient (recipient_row recipient) old new (Ok count) → (s : core.State) → Holds old.now s → Holds new.now (edited (TakeRecipient recipient) s)
@@ -320,16 +321,16 @@ takes_recipient old new recipient count h s held =
       fit = record { orgs = held.fit.orgs; accounts = held.fit.accounts; communities = held.fit.communities; groups = held.fit.groups; gates = held.fit.gates; incidents = held.fit.incidents };
     }
 
-pub takes_permission : (old new : State) (n : ℕ) (p : Tokens) (grantee : Grantee) (count : ℕ) → Executes take_permission (Int (pos n) ∷ Text (pointer_text p) ∷ Int (pos (grantee_key grantee).0) ∷ Int (pos (grantee_key grantee).1) ∷ []) old new (Ok count) → (s : core.State) → Holds old.now s → Holds new.now (edited (TakePermission n p grantee) s)
-takes_permission old new n p grantee count h s held =
-    let params = Int (pos n) ∷ Text (pointer_text p) ∷ Int (pos (grantee_key grantee).0) ∷ Int (pos (grantee_key grantee).1) ∷ [] in
+pub takes_permission : (old new : State) (key : PermissionKey) (count : ℕ) → Executes take_permission (Int (pos key.incident) ∷ Text (pointer_text key.path) ∷ Int (pos (grantee_key key.grantee).0) ∷ Int (pos (grantee_key key.grantee).1) ∷ []) old new (Ok count) → (s : core.State) → Holds old.now s → Holds new.now (edited (TakePermission key) s)
+takes_permission old new key count h s held =
+    let params = Int (pos key.incident) ∷ Text (pointer_text key.path) ∷ Int (pos (grantee_key key.grantee).0) ∷ Int (pos (grantee_key key.grantee).1) ∷ [] in
     let taken = puts.takes_permission old new params held.known count h in
     record {
       known = taken.2.schema_is;
       whole = taken.2.whole;
-      means = held_taken permissions old new 8 (holdings s) (holdings (edited (TakePermission n p grantee) s)) (drop 1) (map permission_row s.permissions) refl refl held.means (is_param 1 0 ∷ is_param 2 1 ∷ is_param 3 2 ∷ is_param 4 3 ∷ []) params (begins 0 params) (map permission_row (filter (λ x. not (is_permission_being n p grantee x)) s.permissions)) refl
-          (past_four (Int (pos n)) (Text (pointer_text p)) (Int (pos (grantee_key grantee).0)) (Int (pos (grantee_key grantee).1)))
-          (filter_rows permission_row (λ r. not (begins 0 params r)) (λ x. not (is_permission_being n p grantee x)) (λ x. ap not (permission_test n p grantee x)) s.permissions) taken;
+      means = held_taken permissions old new 8 (holdings s) (holdings (edited (TakePermission key) s)) (drop 1) (map permission_row s.permissions) refl refl held.means (is_param 1 0 ∷ is_param 2 1 ∷ is_param 3 2 ∷ is_param 4 3 ∷ []) params (begins 0 params) (map permission_row (filter (λ x. not (is_permission_being key x)) s.permissions)) refl
+          (past_four (Int (pos key.incident)) (Text (pointer_text key.path)) (Int (pos (grantee_key key.grantee).0)) (Int (pos (grantee_key key.grantee).1)))
+          (filter_rows permission_row (λ r. not (begins 0 params r)) (λ x. not (is_permission_being key x)) (λ x. ap not (permission_test key x)) s.permissions) taken;
       fit = record { orgs = held.fit.orgs; accounts = held.fit.accounts; communities = held.fit.communities; groups = held.fit.groups; gates = held.fit.gates; incidents = held.fit.incidents };
     }
 
@@ -340,10 +341,10 @@ takes_incident old new n count h s held =
     record {
       known = taken.2.schema_is;
       whole = taken.2.whole;
-      means = held_taken incidents old new 9 (holdings s) (holdings (edited (TakeIncident n) s)) (λ r. r) (map incident_row s.incidents) refl refl held.means (is_param 0 0 ∷ []) params (begins 0 params) (map incident_row (filter (λ (i : Incident). not (i.number == n)) s.incidents)) refl
+      means = held_taken incidents old new 9 (holdings s) (holdings (edited (TakeIncident n) s)) (λ r. r) (map incident_row s.incidents) refl refl held.means (is_param 0 0 ∷ []) params (begins 0 params) (map incident_row (filter (λ (i : Incident). not (i.naming.number == n)) s.incidents)) refl
           (λ r. refl)
-          (filter_rows incident_row (λ r. not (begins 0 params r)) (λ (i : Incident). not (i.number == n)) (λ i. ap not (and_true _ ∙ equal_numbers i.number n)) s.incidents) taken;
-      fit = record { orgs = held.fit.orgs; accounts = held.fit.accounts; communities = held.fit.communities; groups = held.fit.groups; gates = held.fit.gates; incidents = all-filter FitIncident (λ (i : Incident). not (i.number == n)) s.incidents held.fit.incidents };
+          (filter_rows incident_row (λ r. not (begins 0 params r)) (λ (i : Incident). not (i.naming.number == n)) (λ i. ap not (and_true _ ∙ equal_numbers i.naming.number n)) s.incidents) taken;
+      fit = record { orgs = held.fit.orgs; accounts = held.fit.accounts; communities = held.fit.communities; groups = held.fit.groups; gates = held.fit.gates; incidents = all-filter FitIncident (λ (i : Incident). not (i.naming.number == n)) s.incidents held.fit.incidents };
     }
 
 -- the gates of an incident, and then its permissions

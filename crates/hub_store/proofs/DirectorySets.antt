@@ -17,7 +17,7 @@ use Rattle.circle.specs.Directory.{Directory, has_membership, has_group_member}
 use Rattle.circle.specs.Reads.{communities_of, memberships_in_groups, share_community, joins, are_connected, arranged}
 use Rattle.circle.specs.Sound.{IsSound}
 use Rattle.circle.proofs.Lookup.{any_having}
-use Rattle.hub_core.proofs.Found.{any_same}
+use Rattle.hub_core.proofs.Counted.{any_same}
 use Rattle.hub_core.proofs.Twins.{any_map}
 use Rattle.hub_store.specs.Pairs.{Pair}
 use Rattle.hub_store.specs.PairKinds.{pairs_of, pair_between, is_between, pairs_from, pairs_to, value_shown, first_shown}

@@ -16,21 +16,18 @@ use Rattle.sqlite_sql.specs.Query.{Query, IsAnswer, Output}
 use Rattle.sqlite.specs.declared.error.Error.{Error}
 use Rattle.sqlite.proofs.Callers.{one_permutation}
 use Rattle.hub_core.specs.Documents.{Lines}
-use Rattle.hub_core.specs.Facts.{known}
-use Rattle.hub_core.specs.Reads.{entry_of, entries_after, case_gate, case_permission, case_for, case_of}
+use Rattle.hub_core.specs.Reads.{naming_of, entry_of, entries_after, its_gates, its_permissions, case_for, case_of}
 use Rattle.hub_core.specs.State as core
 use Rattle.hub_core.specs.State.{incident_number, incident_of}
 use Rattle.hub_core.specs.Sound.{IsSound}
 use Rattle.hub_core.proofs.Keeping.{found_is, found_each}
-use Rattle.hub_core.specs.declared.facts.Known.{Known}
+use Rattle.hub_core.specs.declared.state.Naming.{Naming}
 use Rattle.hub_core.specs.declared.state.Incident.{Incident}
-use Rattle.hub_core.specs.declared.state.Gate.{Gate}
-use Rattle.hub_core.specs.declared.state.Permission.{Permission}
 use Rattle.policy.specs.declared.case.Case.{Case}
 use Rattle.hub_store.specs.Fit.{IsFit}
 use Rattle.hub_store.specs.Means.{Means}
 use Rattle.hub_store.specs.Rows.{incident_row, document_text}
-use Rattle.hub_store.specs.Shown.{ShowsFirst, ShowsDocument, IsCase, entry_shown, known_shown}
+use Rattle.hub_store.specs.Shown.{ShowsFirst, ShowsDocument, IsCase, entry_shown, naming_shown}
 use Rattle.hub_store.proofs.ByNumber.{one_with_number}
 use Rattle.hub_store.proofs.Compare.{more_than, and_true}
 use Rattle.hub_store.proofs.Forms.{one_table, is_param, is_above, by_column}
@@ -45,17 +42,17 @@ pub incident_found : (db : Trees) (s : core.State) (n : ℕ) (project : List Ter
     → IsPermutation (map (λ (i : Incident). shows project (Int (pos n) ∷ []) (incident_row i)) (option_to_list (incident_of n s))) rows
 incident_found db s n project rows sound means a = one_with_number db 18 incident_row incident_number s.incidents (λ i. refl) n project rows means.1.1.1.1.1.1.1.1.1.0 a sound.incidents.numbered.0
 
-pub known_found : (db : Trees) (s : core.State) (n : ℕ) (rows : List Row) → IsSound s → Means db s → IsAnswer (one_table 18 (is_param 0 0 ∷ []) (col 1 2 ∷ col 1 4 ∷ col 1 3 ∷ [])) db (Int (pos n) ∷ []) rows
-    → IsPermutation (map known_shown (option_to_list (option_map known (incident_of n s)))) rows
-known_found db s n rows sound means a =
-    let project = col 1 2 ∷ col 1 4 ∷ col 1 3 ∷ [] in
-    subst (λ l. IsPermutation l rows) (as_viewed (λ (i : Incident). shows project (Int (pos n) ∷ []) (incident_row i)) known known_shown (λ i. refl) (incident_of n s))
+pub naming_found : (db : Trees) (s : core.State) (n : ℕ) (rows : List Row) → IsSound s → Means db s → IsAnswer (one_table 18 (is_param 0 0 ∷ []) (col 1 0 ∷ col 1 2 ∷ col 1 3 ∷ col 1 4 ∷ [])) db (Int (pos n) ∷ []) rows
+    → IsPermutation (map naming_shown (option_to_list (naming_of n s))) rows
+naming_found db s n rows sound means a =
+    let project = col 1 0 ∷ col 1 2 ∷ col 1 3 ∷ col 1 4 ∷ [] in
+    subst (λ l. IsPermutation l rows) (as_viewed (λ (i : Incident). shows project (Int (pos n) ∷ []) (incident_row i)) (λ (i : Incident). i.naming) naming_shown (λ i. refl) (incident_of n s))
     (incident_found db s n project rows sound means a)
 
 -- ---- documents
 
 pub is_stored : (s : core.State) (n : ℕ) (i : Incident) → IsSound s → IsFit s → incident_of n s ≡ Some i → IsStored i
-is_stored s n i sound fit is = found_each IsStored (λ (i : Incident). i.number == n) s.incidents i is (all_both _ _ IsStored (λ i p q. (p, q)) s.incidents sound.incidents.documents fit.incidents)
+is_stored s n i sound fit is = found_each IsStored (λ (i : Incident). i.naming.number == n) s.incidents i is (all_both _ _ IsStored (λ i p q. (p, q)) s.incidents sound.incidents.documents fit.incidents)
 
 abbrev text_row : Incident → Row
 text_row i = Text (document_text i.document) ∷ []
@@ -88,25 +85,25 @@ entries_listed db s number most rows sound means a =
     let project = col 1 0 ∷ col 1 4 ∷ col 1 2 ∷ [] in
     let order = by_column 0 ∷ [] in
     let params = Int (pos number) ∷ Int (pos most) ∷ [] in
-    let passes = λ (i : Incident). nat_lt number i.number in
+    let passes = λ (i : Incident). nat_lt number i.naming.number in
     let out : Row → Output = λ r. (eval_all (map (λ (k : Term × Key). k.0) order) (params ∷ r ∷ []), shows project params r) in
-    listed db 18 (λ r. r) incident_row s.incidents passes terms project order (col 0 1) params (keeps terms params) out rows (λ r. refl) (λ r. refl) (λ i. and_true _ ∙ more_than i.number number)
-    (λ (a b : Incident). nat_cmp a.number b.number ≡ Less) (counted incident_number 0 s.incidents sound.incidents.numbered.0)
-    (λ a b _ less _. rw (value_cmp-Int (pos a.number) (pos b.number), int_below a.number b.number less) refl)
+    listed db 18 (λ r. r) incident_row s.incidents passes terms project order (col 0 1) params (keeps terms params) out rows (λ r. refl) (λ r. refl) (λ i. and_true _ ∙ more_than i.naming.number number)
+    (λ (a b : Incident). nat_cmp a.naming.number b.naming.number ≡ Less) (counted incident_number 0 s.incidents sound.incidents.numbered.0)
+    (λ a b _ less _. rw (value_cmp-Int (pos a.naming.number) (pos b.naming.number), int_below a.naming.number b.naming.number less) refl)
     means.1.1.1.1.1.1.1.1.1.0 a
     ∙ (sym (ap (take most) (map-map entry_shown entry_of (filter passes s.incidents))) ∙ take-map entry_shown most (map entry_of (filter passes s.incidents)))
 
 -- ---- cases
 
 -- the case of an incident that is there, by what was read of it
-pub case_is : (s : core.State) (n : ℕ) (k : Known) (case : Case) → Some k ≡ option_map known (incident_of n s) → IsCase k.source n s case → Some case ≡ case_of n s
+pub case_is : (s : core.State) (n : ℕ) (k : Naming) (case : Case) → Some k ≡ naming_of n s → IsCase k.source n s case → Some case ≡ case_of n s
 case_is s n k case is it = go (incident_of n s) refl is
   where
-    go : (o : Option Incident) → incident_of n s ≡ o → Some k ≡ option_map known o → Some case ≡ option_map (case_for s) o
+    go : (o : Option Incident) → incident_of n s ≡ o → Some k ≡ option_map (λ (i : Incident). i.naming) o → Some case ≡ option_map (case_for s) o
     go None e h = absurd cc
     go (Some i) e h =
-        let number : i.number ≡ n = eqb-true i.number n (found_is (λ (i : Incident). i.number == n) s.incidents i e) in
-        let source : k.source ≡ i.source = cc in
-        let gates = it.1 ∙ sym (ap (λ m. map case_gate (filter (λ (g : Gate). g.incident == m) s.gates)) number) in
-        let permissions = it.2 ∙ sym (ap (λ m. map case_permission (filter (λ (x : Permission). x.incident == m) s.permissions)) number) in
+        let number : i.naming.number ≡ n = eqb-true i.naming.number n (found_is (λ (i : Incident). i.naming.number == n) s.incidents i e) in
+        let source : k.source ≡ i.naming.source = cc in
+        let gates = it.1 ∙ sym (ap (λ m. its_gates m s.gates) number) in
+        let permissions = it.2 ∙ sym (ap (λ m. its_permissions m s.permissions) number) in
         ap Some (λ j. record { source = (it.0 ∙ source) j; gates = gates j; permissions = permissions j })

@@ -41,8 +41,6 @@ pub mod ByNumber
 pub mod AskedPairs
 pub mod PairRows
 pub mod Extending
-pub mod OfIncident
-pub mod Recipients
 pub mod Named
 pub mod DirectorySets
 pub mod GroupSets

@@ -29,10 +29,10 @@ use Rattle.hub_store.proofs.Statements.{shows}
 use Rattle.hub_store.proofs.Finding.{Once, as_viewed, reads_first}
 
 abbrev is_named : ℕ → List ℕ → Incident → Bool
-is_named source ident i = i.source == source && bytes_eq i.ident ident
+is_named source ident i = i.naming.source == source && bytes_eq i.naming.ident ident
 
 abbrev name_of : Incident → ℕ × List ℕ
-name_of i = (i.source, i.ident)
+name_of i = (i.naming.source, i.naming.ident)
 
 -- a source posts an ident once
 once_named : (source : ℕ) (ident : List ℕ) (xs : List Incident) → Differ name_of xs → Once (is_named source ident) xs
@@ -49,7 +49,7 @@ number_found db s source ident rows sound means a =
     let params = Int (pos source) ∷ Text ident ∷ [] in
     let is_it = is_named source ident in
     subst (λ l. IsPermutation l rows) (as_viewed (λ (i : Incident). shows project params (incident_row i)) incident_number number_shown (λ i. refl) (incident_named source ident s))
-    (found_once db 18 incident_row s.incidents (is_param 2 0 ∷ is_param 3 1 ∷ []) project params is_it rows (λ i. rw (equal_numbers i.source source, equal_texts i.ident ident) (ap (λ b. i.source == source && b) (and_true (bytes_eq i.ident ident)))) (once_named source ident s.incidents sound.incidents.idents) means.1.1.1.1.1.1.1.1.1.0 a)
+    (found_once db 18 incident_row s.incidents (is_param 2 0 ∷ is_param 3 1 ∷ []) project params is_it rows (λ i. rw (equal_numbers i.naming.source source, equal_texts i.naming.ident ident) (ap (λ b. i.naming.source == source && b) (and_true (bytes_eq i.naming.ident ident)))) (once_named source ident s.incidents sound.incidents.idents) means.1.1.1.1.1.1.1.1.1.0 a)
 
 -- ---- what the rows are read as
 

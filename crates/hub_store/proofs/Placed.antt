@@ -1,4 +1,4 @@
--- The gates and the permissions of an incident, as queries list them.
+-- The gates, the permissions and the recipients of an incident, as queries list them.
 use Rattle.std.proofs.Common.{◌≡◌, ℕ, pos, negsuc, List, [], ◌∷◌, map, filter, drop, true, ◌==◌, nat_cmp, refl, sym, ◌∙◌, arith}
 use Rattle.std.specs.Ordering.{ordering_then, int_cmp}
 use Rattle.std.specs.Cmp.Lexicographic.{slice_cmp}
@@ -16,14 +16,15 @@ use Rattle.sqlite_sql.specs.Term.{Term, lit, col, eval_all}
 use Rattle.sqlite_sql.specs.Query.{Query, IsAnswer, Output}
 use Rattle.iodef_tree.specs.Pointer.{pointer_text}
 use Rattle.hub_core.specs.State as core
-use Rattle.hub_core.specs.State.{gate_cmp, permission_cmp, grantee_key}
-use Rattle.hub_core.specs.Reads.{case_gate, case_permission}
+use Rattle.hub_core.specs.State.{gate_cmp, recipient_cmp, permission_cmp, target_key, grantee_key}
+use Rattle.hub_core.specs.Reads.{its_gates, its_recipients, its_permissions}
 use Rattle.hub_core.specs.Sound.{IsSound}
 use Rattle.hub_core.specs.declared.state.Gate.{Gate}
+use Rattle.hub_core.specs.declared.state.Recipient.{Recipient}
 use Rattle.hub_core.specs.declared.state.Permission.{Permission}
 use Rattle.hub_store.specs.Means.{Means}
-use Rattle.hub_store.specs.Rows.{gate_row, permission_row}
-use Rattle.hub_store.specs.Shown.{gate_shown, permission_shown}
+use Rattle.hub_store.specs.Rows.{gate_row, recipient_row, permission_row}
+use Rattle.hub_store.specs.Shown.{gate_shown, target_shown, permission_shown}
 use Rattle.hub_store.proofs.Compare.{begins, equal_numbers, and_true}
 use Rattle.hub_store.proofs.Forms.{one_table, is_param, by_column, in_order}
 use Rattle.hub_store.proofs.Listed.{listed, int_below, not_less, next_decides}
@@ -41,16 +42,16 @@ past_gates : (params r : Row) → (eval_all (map (λ (k : Term × Key). k.0) (by
 past_gates params [] = refl
 past_gates params (x ∷ r) = refl
 
-pub gates_listed : (db : Trees) (s : core.State) (n : ℕ) (rows : List Row) → IsSound s → Means db s → IsAnswer gates_query db (Int (pos n) ∷ []) rows → rows ≡ map gate_shown (map case_gate (filter (λ (g : Gate). g.incident == n) s.gates))
+pub gates_listed : (db : Trees) (s : core.State) (n : ℕ) (rows : List Row) → IsSound s → Means db s → IsAnswer gates_query db (Int (pos n) ∷ []) rows → rows ≡ map gate_shown (its_gates n s.gates)
 gates_listed db s n rows sound means a =
     let params = Int (pos n) ∷ [] in
     let is_its = λ (g : Gate). g.incident == n in
     listed db 12 (drop 1) gate_row s.gates is_its (is_param 1 0 ∷ []) (col 1 2 ∷ col 1 3 ∷ col 1 4 ∷ []) (by_column 2 ∷ []) (lit (Int (negsuc 0))) params (begins 0 params) gate_out rows
     (past_one (Int (pos n))) (past_gates params) (λ g. and_true _ ∙ equal_numbers g.incident n)
     (λ a b. gate_cmp a b ≡ Less) (rising _ s.gates sound.gates.rising)
-    (λ a b p less q. rw (value_cmp-Text (pointer_text a.path) (pointer_text b.path), next_decides a.incident b.incident n (slice_cmp nat_cmp (pointer_text a.path) (pointer_text b.path)) p q less) refl)
+    (λ a b p less q. rw (value_cmp-Text (pointer_text a.gate.path) (pointer_text b.gate.path), next_decides a.incident b.incident n (slice_cmp nat_cmp (pointer_text a.gate.path) (pointer_text b.gate.path)) p q less) refl)
     means.1.1.1.1.1.1.0 a
-    ∙ sym (map-map gate_shown case_gate (filter is_its s.gates))
+    ∙ sym (map-map gate_shown (λ (g : Gate). g.gate) (filter is_its s.gates))
 
 -- ---- permissions: by path, kind and number
 
@@ -60,7 +61,7 @@ int_equal a b h = grind (arith, nat_tests)
 int_above : (a b : ℕ) → nat_cmp a b ≡ Greater → int_cmp (pos a) (pos b) ≡ Greater
 int_above a b h = grind (arith, nat_tests)
 
-pub int_as_nat : (a b : ℕ) → int_cmp (pos a) (pos b) ≡ nat_cmp a b
+int_as_nat : (a b : ℕ) → int_cmp (pos a) (pos b) ≡ nat_cmp a b
 int_as_nat a b = go (nat_cmp a b) refl
   where
     go : (c : Ordering) → nat_cmp a b ≡ c → int_cmp (pos a) (pos b) ≡ nat_cmp a b
@@ -95,14 +96,46 @@ past_permissions : (params r : Row) → (eval_all (map (λ (k : Term × Key). k.
 past_permissions params [] = refl
 past_permissions params (x ∷ r) = refl
 
-pub permissions_listed : (db : Trees) (s : core.State) (n : ℕ) (rows : List Row) → IsSound s → Means db s → IsAnswer permissions_query db (Int (pos n) ∷ []) rows → rows ≡ map permission_shown (map case_permission (filter (λ (x : Permission). x.incident == n) s.permissions))
+pub permissions_listed : (db : Trees) (s : core.State) (n : ℕ) (rows : List Row) → IsSound s → Means db s → IsAnswer permissions_query db (Int (pos n) ∷ []) rows → rows ≡ map permission_shown (its_permissions n s.permissions)
 permissions_listed db s n rows sound means a =
     let params = Int (pos n) ∷ [] in
     let is_its = λ (x : Permission). x.incident == n in
     listed db 16 (drop 1) permission_row s.permissions is_its (is_param 1 0 ∷ []) (col 1 2 ∷ col 1 3 ∷ col 1 4 ∷ []) (by_column 2 ∷ by_column 3 ∷ by_column 4 ∷ []) (lit (Int (negsuc 0))) params (begins 0 params) permission_out rows
     (past_one (Int (pos n))) (past_permissions params) (λ x. and_true _ ∙ equal_numbers x.incident n)
     (λ a b. permission_cmp a b ≡ Less) (rising _ s.permissions sound.permissions.rising)
-    (λ a b p less q. rw (value_cmp-Text (pointer_text a.path) (pointer_text b.path), value_cmp-Int (pos (grantee_key a.grantee).0) (pos (grantee_key b.grantee).0), value_cmp-Int (pos (grantee_key a.grantee).1) (pos (grantee_key b.grantee).1), int_as_nat (grantee_key a.grantee).0 (grantee_key b.grantee).0, int_as_nat (grantee_key a.grantee).1 (grantee_key b.grantee).1)
-    (three_decide a.incident b.incident n (slice_cmp nat_cmp (pointer_text a.path) (pointer_text b.path)) (nat_cmp (grantee_key a.grantee).0 (grantee_key b.grantee).0) (nat_cmp (grantee_key a.grantee).1 (grantee_key b.grantee).1) p q less))
+    (λ a b p less q. rw (value_cmp-Text (pointer_text a.permission.path) (pointer_text b.permission.path), value_cmp-Int (pos (grantee_key a.permission.grantee).0) (pos (grantee_key b.permission.grantee).0), value_cmp-Int (pos (grantee_key a.permission.grantee).1) (pos (grantee_key b.permission.grantee).1), int_as_nat (grantee_key a.permission.grantee).0 (grantee_key b.permission.grantee).0, int_as_nat (grantee_key a.permission.grantee).1 (grantee_key b.permission.grantee).1)
+    (three_decide a.incident b.incident n (slice_cmp nat_cmp (pointer_text a.permission.path) (pointer_text b.permission.path)) (nat_cmp (grantee_key a.permission.grantee).0 (grantee_key b.permission.grantee).0) (nat_cmp (grantee_key a.permission.grantee).1 (grantee_key b.permission.grantee).1) p q less))
     means.1.1.1.1.1.1.1.1.0 a
-    ∙ sym (map-map permission_shown case_permission (filter is_its s.permissions))
+    ∙ sym (map-map permission_shown (λ (x : Permission). x.permission) (filter is_its s.permissions))
+
+-- ---- recipients: by kind and number
+
+abbrev recipients_query : Query
+recipients_query = in_order (by_column 2 ∷ by_column 3 ∷ []) (one_table 14 (is_param 1 0 ∷ []) (col 1 2 ∷ col 1 3 ∷ []))
+
+abbrev recipient_out : Row → Output
+recipient_out r = (column r 1 ∷ column r 2 ∷ [], column r 1 ∷ column r 2 ∷ [])
+
+past_recipients : (params r : Row) → (eval_all (map (λ (k : Term × Key). k.0) (by_column 2 ∷ by_column 3 ∷ [])) (params ∷ r ∷ []), shows (col 1 2 ∷ col 1 3 ∷ []) params r) ≡ recipient_out (drop 1 r)
+past_recipients params [] = refl
+past_recipients params (x ∷ r) = refl
+
+last_two : (o p : Ordering) → ordering_then o p ≡ Less → ordering_then o (ordering_then p Equal) ≡ Less
+last_two Less p h = refl
+last_two Greater p h = absurd cc
+last_two Equal Less h = refl
+last_two Equal Equal h = absurd cc
+last_two Equal Greater h = absurd cc
+
+pub recipients_listed : (db : Trees) (s : core.State) (n : ℕ) (rows : List Row) → IsSound s → Means db s → IsAnswer recipients_query db (Int (pos n) ∷ []) rows → rows ≡ map target_shown (its_recipients n s.recipients)
+recipients_listed db s n rows sound means a =
+    let params = Int (pos n) ∷ [] in
+    let is_its = λ (r : Recipient). r.incident == n in
+    listed db 14 (drop 1) recipient_row s.recipients is_its (is_param 1 0 ∷ []) (col 1 2 ∷ col 1 3 ∷ []) (by_column 2 ∷ by_column 3 ∷ []) (lit (Int (negsuc 0))) params (begins 0 params) recipient_out rows
+    (past_one (Int (pos n))) (past_recipients params) (λ r. and_true _ ∙ equal_numbers r.incident n)
+    (λ a b. recipient_cmp a b ≡ Less) (rising _ s.recipients sound.recipients.rising)
+    (λ a b p less q. rw (value_cmp-Int (pos (target_key a.target).0) (pos (target_key b.target).0), value_cmp-Int (pos (target_key a.target).1) (pos (target_key b.target).1), int_as_nat (target_key a.target).0 (target_key b.target).0, int_as_nat (target_key a.target).1 (target_key b.target).1)
+    (last_two (nat_cmp (target_key a.target).0 (target_key b.target).0) (nat_cmp (target_key a.target).1 (target_key b.target).1)
+    (next_decides a.incident b.incident n (ordering_then (nat_cmp (target_key a.target).0 (target_key b.target).0) (nat_cmp (target_key a.target).1 (target_key b.target).1)) p q less)))
+    means.1.1.1.1.1.1.1.0 a
+    ∙ sym (map-map target_shown (λ (r : Recipient). r.target) (filter is_its s.recipients))

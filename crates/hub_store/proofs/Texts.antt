@@ -376,17 +376,6 @@ pub recipients_of_incident_plain : IsPlain (understood hub_schema recipients_of_
 unfolding understood everything
 recipients_of_incident_plain = ((refl, refl), refl)
 
-abbrev pub recipient_being : List ℕ
-recipient_being = codes "SELECT target FROM recipient WHERE incident = ?1 AND kind = ?2 AND target = ?3"
-
-pub recipient_being_is : command_of (understood hub_schema recipient_being) ≡ Select (program (one_table 14 (is_param 1 0 ∷ is_param 2 1 ∷ is_param 3 2 ∷ []) (col 1 3 ∷ []))) (codes "target" ∷ [])
-unfolding understood everything
-recipient_being_is = refl
-
-pub recipient_being_plain : IsPlain (understood hub_schema recipient_being) × (reads_listing hub_schema recipient_being ≡ false)
-unfolding understood everything
-recipient_being_plain = ((refl, refl), refl)
-
 abbrev pub permissions_of_incident : List ℕ
 permissions_of_incident = codes "SELECT path, kind, target FROM permission WHERE incident = ?1 ORDER BY path, kind, target"
 
@@ -399,9 +388,9 @@ unfolding understood everything
 permissions_of_incident_plain = ((refl, refl), refl)
 
 abbrev pub incident_with_number : List ℕ
-incident_with_number = codes "SELECT source, revision, ident FROM incident WHERE number = ?1"
+incident_with_number = codes "SELECT number, source, ident, revision FROM incident WHERE number = ?1"
 
-pub incident_with_number_is : command_of (understood hub_schema incident_with_number) ≡ Select (program (one_table 18 (is_param 0 0 ∷ []) (col 1 2 ∷ col 1 4 ∷ col 1 3 ∷ []))) (codes "source" ∷ codes "revision" ∷ codes "ident" ∷ [])
+pub incident_with_number_is : command_of (understood hub_schema incident_with_number) ≡ Select (program (one_table 18 (is_param 0 0 ∷ []) (col 1 0 ∷ col 1 2 ∷ col 1 3 ∷ col 1 4 ∷ []))) (codes "number" ∷ codes "source" ∷ codes "ident" ∷ codes "revision" ∷ [])
 unfolding understood everything
 incident_with_number_is = refl
 

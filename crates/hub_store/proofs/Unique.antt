@@ -224,12 +224,12 @@ one_group a b e =
 one_gate : (a b : Gate) → gate_row a ≡ gate_row b → a ≡ b
 one_gate a b e =
     let incident : a.incident ≡ b.incident = cc in
-    let text : pointer_text a.path ≡ pointer_text b.path = cc in
-    let level : a.level ≡ b.level = cc in
-    let null : number_or_null a.group ≡ number_or_null b.group = cc in
-    let path = one_path a.path b.path text in
-    let group = one_number a.group b.group null in
-    λ i. record { incident = incident i; path = path i; level = level i; group = group i }
+    let text : pointer_text a.gate.path ≡ pointer_text b.gate.path = cc in
+    let level : a.gate.level ≡ b.gate.level = cc in
+    let null : number_or_null a.gate.group ≡ number_or_null b.gate.group = cc in
+    let path = one_path a.gate.path b.gate.path text in
+    let group = one_number a.gate.group b.gate.group null in
+    λ i. record { incident = incident i; gate = record { path = path i; level = level i; group = group i } }
 
 one_recipient : (a b : Recipient) → recipient_row a ≡ recipient_row b → a ≡ b
 one_recipient a b e =
@@ -242,12 +242,12 @@ one_recipient a b e =
 one_permission : (a b : Permission) → permission_row a ≡ permission_row b → a ≡ b
 one_permission a b e =
     let incident : a.incident ≡ b.incident = cc in
-    let text : pointer_text a.path ≡ pointer_text b.path = cc in
-    let kind : (grantee_key a.grantee).0 ≡ (grantee_key b.grantee).0 = cc in
-    let number : (grantee_key a.grantee).1 ≡ (grantee_key b.grantee).1 = cc in
-    let path = one_path a.path b.path text in
-    let it = one_grantee a.grantee b.grantee kind number in
-    λ i. record { incident = incident i; path = path i; grantee = it i }
+    let text : pointer_text a.permission.path ≡ pointer_text b.permission.path = cc in
+    let kind : (grantee_key a.permission.grantee).0 ≡ (grantee_key b.permission.grantee).0 = cc in
+    let number : (grantee_key a.permission.grantee).1 ≡ (grantee_key b.permission.grantee).1 = cc in
+    let path = one_path a.permission.path b.permission.path text in
+    let it = one_grantee a.permission.grantee b.permission.grantee kind number in
+    λ i. record { incident = incident i; permission = record { path = path i; grantee = it i } }
 
 one_pair : (kind : List ℕ) (p q : Pair) → pair_row kind p ≡ pair_row kind q → (p.0.0 ≡ q.0.0) × (p.0.1 ≡ q.0.1) × (p.1 ≡ q.1)
 one_pair kind p q e =
@@ -295,13 +295,13 @@ IsStored i = IsAccepted i.document × FitIncident i
 
 one_incident : (a b : Incident) → IsStored a → IsStored b → incident_row a ≡ incident_row b → a ≡ b
 one_incident a b p q e =
-    let number : a.number ≡ b.number = cc in
-    let source : a.source ≡ b.source = cc in
-    let ident : a.ident ≡ b.ident = cc in
-    let revision : a.revision ≡ b.revision = cc in
+    let number : a.naming.number ≡ b.naming.number = cc in
+    let source : a.naming.source ≡ b.naming.source = cc in
+    let ident : a.naming.ident ≡ b.naming.ident = cc in
+    let revision : a.naming.revision ≡ b.naming.revision = cc in
     let text : document_text a.document ≡ document_text b.document = cc in
     let document = some_one a.document b.document (sym (read_back a.document p.0 p.1) ∙ (ap reading text ∙ read_back b.document q.0 q.1)) in
-    λ i. record { number = number i; source = source i; ident = ident i; revision = revision i; document = document i }
+    λ i. record { naming = record { number = number i; source = source i; ident = ident i; revision = revision i }; document = document i }
 
 abbrev Any : {X : Type 0} → X → Type 0
 Any x = Unit {0}

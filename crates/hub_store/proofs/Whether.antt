@@ -10,7 +10,7 @@ use Rattle.sqlite_trees.specs.Tree.{Trees}
 use Rattle.sqlite_sql.specs.Term.{Term}
 use Rattle.sqlite_sql.specs.Query.{IsAnswer}
 use Rattle.circle.proofs.Lookup.{any_having, some_having}
-use Rattle.hub_core.proofs.Found.{any_same}
+use Rattle.hub_core.proofs.Counted.{any_same}
 use Rattle.hub_core.proofs.Twins.{any_map}
 use Rattle.hub_store.specs.Holdings.{Holding, IsHeld}
 use Rattle.hub_store.proofs.Finding.{Once, only_one}

@@ -25,7 +25,7 @@ abbrev pub FitGroup : Group → Type 0
 FitGroup g = IsTrue (is_name g.name) × IsTrue (is_releasability g.releasability)
 
 abbrev pub FitGate : Gate → Type 0
-FitGate g = g.level < 256
+FitGate g = g.gate.level < 256
 
 abbrev pub FitIncident : Incident → Type 0
 FitIncident i = IsUtf8 (document_text i.document)

@@ -23,4 +23,3 @@ pub mod Makes
 pub mod Versions
 pub mod Failing
 pub mod Opening
-pub mod TargetsShown

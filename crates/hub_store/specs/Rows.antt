@@ -63,18 +63,18 @@ abbrev pub document_text : Lines → List ℕ
 document_text doc = compact_text (object (data_of doc))
 
 abbrev pub incident_row : Incident → Row
-incident_row i = Int (pos i.number) ∷ Null ∷ Int (pos i.source) ∷ Text i.ident ∷ Int (pos i.revision) ∷ Text (document_text i.document) ∷ []
+incident_row i = Int (pos i.naming.number) ∷ Null ∷ Int (pos i.naming.source) ∷ Text i.naming.ident ∷ Int (pos i.naming.revision) ∷ Text (document_text i.document) ∷ []
 
 -- ---- rows without one
 
 abbrev pub gate_row : Gate → Row
-gate_row g = Int (pos g.incident) ∷ Text (pointer_text g.path) ∷ Int (pos g.level) ∷ number_or_null g.group ∷ []
+gate_row g = Int (pos g.incident) ∷ Text (pointer_text g.gate.path) ∷ Int (pos g.gate.level) ∷ number_or_null g.gate.group ∷ []
 
 abbrev pub recipient_row : Recipient → Row
 recipient_row r = Int (pos r.incident) ∷ Int (pos (target_key r.target).0) ∷ Int (pos (target_key r.target).1) ∷ []
 
 abbrev pub permission_row : Permission → Row
-permission_row x = Int (pos x.incident) ∷ Text (pointer_text x.path) ∷ Int (pos (grantee_key x.grantee).0) ∷ Int (pos (grantee_key x.grantee).1) ∷ []
+permission_row x = Int (pos x.incident) ∷ Text (pointer_text x.permission.path) ∷ Int (pos (grantee_key x.permission.grantee).0) ∷ Int (pos (grantee_key x.permission.grantee).1) ∷ []
 
 -- ---- five sets in one table, each under its name: two numbers, and a third if there is one
 

@@ -1,5 +1,5 @@
 -- What the rows of a query show.
-use Rattle.std.specs.Prelude.{◌≡◌, ◌==◌, ℕ, pos, List, [], ◌∷◌, map, filter, Option, Some, None, Ok}
+use Rattle.std.specs.Prelude.{◌≡◌, ℕ, pos, List, [], ◌∷◌, Option, Some, None, Ok}
 use Rattle.sqlite_value.specs.declared.value.Value.TheVariants.{Int, Text}
 use Rattle.sqlite_value.specs.Order.{Row}
 use Rattle.circle.specs.declared.directory.Person.{Person}
@@ -9,11 +9,10 @@ use Rattle.policy.specs.declared.gate.Gate.{Gate}
 use Rattle.policy.specs.declared.permission.Permission.{Permission}
 use Rattle.policy.specs.declared.case.Case.{Case}
 use Rattle.hub_core.specs.Documents.{Lines}
-use Rattle.hub_core.specs.Reads.{case_gate, case_permission}
-use Rattle.hub_core.specs.State.{State, grantee_key}
-use Rattle.hub_core.specs.declared.state.Gate.{Gate as StoredGate}
-use Rattle.hub_core.specs.declared.state.Permission.{Permission as StoredPermission}
-use Rattle.hub_core.specs.declared.facts.Known.{Known}
+use Rattle.hub_core.specs.Reads.{its_gates, its_permissions}
+use Rattle.hub_core.specs.State.{State, target_key, grantee_key}
+use Rattle.hub_core.specs.declared.request.Target.{Target}
+use Rattle.hub_core.specs.declared.state.Naming.{Naming}
 use Rattle.hub_core.specs.declared.reply.Entry.{Entry}
 use Rattle.hub_store.specs.Values.{flag, number_or_null}
 use Rattle.hub_store.specs.Rows.{role_number}
@@ -44,11 +43,14 @@ person_shown p = Int (pos p.number) ∷ Int (pos p.org) ∷ Text p.name ∷ Int 
 abbrev pub entry_shown : Entry → Row
 entry_shown e = Int (pos e.number) ∷ Int (pos e.revision) ∷ Int (pos e.source) ∷ []
 
-abbrev pub known_shown : Known → Row
-known_shown k = Int (pos k.source) ∷ Int (pos k.revision) ∷ Text k.ident ∷ []
+abbrev pub naming_shown : Naming → Row
+naming_shown k = Int (pos k.number) ∷ Int (pos k.source) ∷ Text k.ident ∷ Int (pos k.revision) ∷ []
 
 abbrev pub gate_shown : Gate → Row
 gate_shown g = Text (pointer_text g.path) ∷ Int (pos g.level) ∷ number_or_null g.group ∷ []
+
+abbrev pub target_shown : Target → Row
+target_shown target = Int (pos (target_key target).0) ∷ Int (pos (target_key target).1) ∷ []
 
 abbrev pub permission_shown : Permission → Row
 permission_shown x = Text (pointer_text x.path) ∷ Int (pos (grantee_key x.grantee).0) ∷ Int (pos (grantee_key x.grantee).1) ∷ []
@@ -59,4 +61,4 @@ ShowsDocument row document = (text : List ℕ) → row ≡ Text text ∷ [] → 
 
 -- the case of an incident with this source and number
 abbrev pub IsCase : ℕ → ℕ → State → Case → Type 0
-IsCase source n s case = (case.source ≡ source) × (case.gates ≡ map case_gate (filter (λ (g : StoredGate). g.incident == n) s.gates)) × (case.permissions ≡ map case_permission (filter (λ (x : StoredPermission). x.incident == n) s.permissions))
+IsCase source n s case = (case.source ≡ source) × (case.gates ≡ its_gates n s.gates) × (case.permissions ≡ its_permissions n s.permissions)

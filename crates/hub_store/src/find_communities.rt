@@ -3,11 +3,13 @@
 ghost use Rattle.std.specs.Prelude.{◌≡◌, false};
 ghost use Rattle.std.specs.List.{list_any};
 ghost use Rattle.sqlite.specs.Held.{state};
+ghost use Rattle.circle.specs.Directory.{has_membership as is_membership};
 ghost use Rattle.circle.specs.Reads.{communities_of as communities_joined, share_community as are_in_one_community, are_connected as are_in_connected};
 ghost use Rattle.hub_store.specs.Queries.{IsReadInside, IsReadOutside};
 ghost use Rattle.hub_store.specs.ShownPairs.{AreRising, is_one_of, linked_with};
 
 use crate::common_numbers::have_common;
+use crate::has_pair::read_has_membership;
 use crate::pair_kind::PairKind;
 use crate::read_pairs::{read_firsts, read_seconds};
 use sqlite::{Alter, Connection, Error, Transaction};
@@ -121,6 +123,22 @@ pub(crate) fn are_connected<S: Alter>(
 {
     let mut tx = conn.transaction();
     let found = read_connected(&mut tx, alloc, org, other);
+    tx.rollback();
+    found
+}
+
+/// Whether the organisation is a member of the community.
+pub(crate) fn has_membership<S: Alter>(
+    conn: &mut Connection<S>,
+    community: u32,
+    org: u32,
+) -> Result<bool, Error>
+    requires { conn.old.in_transaction ≡ false }
+    ensures idle { conn.new.in_transaction ≡ false }
+    ensures answers { IsReadOutside (state S.Store conn.old) (state S.Store conn.new) (λ s found. found ≡ is_membership community org s.directory) result }
+{
+    let mut tx = conn.transaction();
+    let found = read_has_membership(&mut tx, community, org);
     tx.rollback();
     found
 }

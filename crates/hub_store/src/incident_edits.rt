@@ -13,9 +13,9 @@ ghost use Rattle.hub_store.specs.Makes.{Makes};
 
 use crate::directory_edits::make_row;
 use crate::statement::run;
-use hub_core::{Edit, Gate, Incident, Permission, Recipient, grantee_key, target_key};
-use iodef_tree::Path;
-use policy::Grantee;
+use hub_core::{
+    Edit, Gate, GateKey, Incident, Permission, PermissionKey, Recipient, grantee_key, target_key,
+};
 use sqlite::{Alter, Error, Transaction, params};
 use std::alloc::Global;
 
@@ -31,10 +31,10 @@ fn insert_incident<S: Alter>(
         tx,
         "INSERT INTO incident (number, source, ident, revision, text) VALUES (?1, ?2, ?3, ?4, ?5)",
         params![
-            incident.number,
-            incident.source,
-            incident.ident.as_str(),
-            incident.revision,
+            incident.naming.number,
+            incident.naming.source,
+            incident.naming.ident.as_str(),
+            incident.naming.revision,
             text,
         ],
     )
@@ -95,12 +95,17 @@ fn take_policy<S: Alter>(tx: &mut Transaction<'_, S>, incident: u32) -> Result<(
 
 fn insert_gate<S: Alter>(tx: &mut Transaction<'_, S>, gate: &Gate, path: &str) -> Result<(), Error>
     ensures same_reference { tx.new.conn.ghost_name ≡ tx.old.conn.ghost_name }
-    ensures made { path.now ≡ pointer_text gate.now.path → (s : State) → Makes (state S.Store tx.old.conn.now) (state S.Store tx.new.conn.now) (λ db. Holds db s) (λ db. Holds db (edited (PutGate gate.now) s)) result }
+    ensures made { path.now ≡ pointer_text gate.now.gate.path → (s : State) → Makes (state S.Store tx.old.conn.now) (state S.Store tx.new.conn.now) (λ db. Holds db s) (λ db. Holds db (edited (PutGate gate.now) s)) result }
 {
     run(
         tx,
         "INSERT INTO gate (incident, path, level, grp) VALUES (?1, ?2, ?3, ?4)",
-        params![gate.incident, path, u32::from(gate.level), gate.group],
+        params![
+            gate.incident,
+            path,
+            u32::from(gate.gate.level),
+            gate.gate.group,
+        ],
     )
 }
 
@@ -108,37 +113,35 @@ fn put_gate<S: Alter>(tx: &mut Transaction<'_, S>, alloc: Global, gate: &Gate) -
     ensures same_reference { tx.new.conn.ghost_name ≡ tx.old.conn.ghost_name }
     ensures made { (s : State) → Makes (state S.Store tx.old.conn.now) (state S.Store tx.new.conn.now) (λ db. Holds db s) (λ db. Holds db (edited (PutGate gate.now) s)) result }
 {
-    let path = gate.path.print(alloc)?;
+    let path = gate.gate.path.print(alloc)?;
     insert_gate(tx, gate, &path)
 }
 
 fn remove_gate<S: Alter>(
     tx: &mut Transaction<'_, S>,
-    incident: u32,
-    path: &Path,
-    text: &str,
+    key: &GateKey,
+    path: &str,
 ) -> Result<(), Error>
     ensures same_reference { tx.new.conn.ghost_name ≡ tx.old.conn.ghost_name }
-    ensures made { text.now ≡ pointer_text path.now → (s : State) → Makes (state S.Store tx.old.conn.now) (state S.Store tx.new.conn.now) (λ db. Holds db s) (λ db. Holds db (edited (TakeGate incident path.now) s)) result }
+    ensures made { path.now ≡ pointer_text key.now.path → (s : State) → Makes (state S.Store tx.old.conn.now) (state S.Store tx.new.conn.now) (λ db. Holds db s) (λ db. Holds db (edited (TakeGate key.now) s)) result }
 {
     run(
         tx,
         "DELETE FROM gate WHERE incident = ?1 AND path = ?2",
-        params![incident, text],
+        params![key.incident, path],
     )
 }
 
 fn take_gate<S: Alter>(
     tx: &mut Transaction<'_, S>,
     alloc: Global,
-    incident: u32,
-    path: &Path,
+    key: &GateKey,
 ) -> Result<(), Error>
     ensures same_reference { tx.new.conn.ghost_name ≡ tx.old.conn.ghost_name }
-    ensures made { (s : State) → Makes (state S.Store tx.old.conn.now) (state S.Store tx.new.conn.now) (λ db. Holds db s) (λ db. Holds db (edited (TakeGate incident path.now) s)) result }
+    ensures made { (s : State) → Makes (state S.Store tx.old.conn.now) (state S.Store tx.new.conn.now) (λ db. Holds db s) (λ db. Holds db (edited (TakeGate key.now) s)) result }
 {
-    let text = path.print(alloc)?;
-    remove_gate(tx, incident, path, &text)
+    let path = key.path.print(alloc)?;
+    remove_gate(tx, key, &path)
 }
 
 fn put_recipient<S: Alter>(tx: &mut Transaction<'_, S>, recipient: &Recipient) -> Result<(), Error>
@@ -171,9 +174,9 @@ fn insert_permission<S: Alter>(
     path: &str,
 ) -> Result<(), Error>
     ensures same_reference { tx.new.conn.ghost_name ≡ tx.old.conn.ghost_name }
-    ensures made { path.now ≡ pointer_text permission.now.path → (s : State) → Makes (state S.Store tx.old.conn.now) (state S.Store tx.new.conn.now) (λ db. Holds db s) (λ db. Holds db (edited (PutPermission permission.now) s)) result }
+    ensures made { path.now ≡ pointer_text permission.now.permission.path → (s : State) → Makes (state S.Store tx.old.conn.now) (state S.Store tx.new.conn.now) (λ db. Holds db s) (λ db. Holds db (edited (PutPermission permission.now) s)) result }
 {
-    let (kind, target) = grantee_key(permission.grantee);
+    let (kind, target) = grantee_key(permission.permission.grantee);
     run(
         tx,
         "INSERT INTO permission (incident, path, kind, target) VALUES (?1, ?2, ?3, ?4)",
@@ -189,40 +192,36 @@ fn put_permission<S: Alter>(
     ensures same_reference { tx.new.conn.ghost_name ≡ tx.old.conn.ghost_name }
     ensures made { (s : State) → Makes (state S.Store tx.old.conn.now) (state S.Store tx.new.conn.now) (λ db. Holds db s) (λ db. Holds db (edited (PutPermission permission.now) s)) result }
 {
-    let path = permission.path.print(alloc)?;
+    let path = permission.permission.path.print(alloc)?;
     insert_permission(tx, permission, &path)
 }
 
 fn remove_permission<S: Alter>(
     tx: &mut Transaction<'_, S>,
-    incident: u32,
-    path: &Path,
-    text: &str,
-    grantee: Grantee,
+    key: &PermissionKey,
+    path: &str,
 ) -> Result<(), Error>
     ensures same_reference { tx.new.conn.ghost_name ≡ tx.old.conn.ghost_name }
-    ensures made { text.now ≡ pointer_text path.now → (s : State) → Makes (state S.Store tx.old.conn.now) (state S.Store tx.new.conn.now) (λ db. Holds db s) (λ db. Holds db (edited (TakePermission incident path.now grantee) s)) result }
+    ensures made { path.now ≡ pointer_text key.now.path → (s : State) → Makes (state S.Store tx.old.conn.now) (state S.Store tx.new.conn.now) (λ db. Holds db s) (λ db. Holds db (edited (TakePermission key.now) s)) result }
 {
-    let (kind, target) = grantee_key(grantee);
+    let (kind, target) = grantee_key(key.grantee);
     run(
         tx,
         "DELETE FROM permission WHERE incident = ?1 AND path = ?2 AND kind = ?3 AND target = ?4",
-        params![incident, text, kind, target],
+        params![key.incident, path, kind, target],
     )
 }
 
 fn take_permission<S: Alter>(
     tx: &mut Transaction<'_, S>,
     alloc: Global,
-    incident: u32,
-    path: &Path,
-    grantee: Grantee,
+    key: &PermissionKey,
 ) -> Result<(), Error>
     ensures same_reference { tx.new.conn.ghost_name ≡ tx.old.conn.ghost_name }
-    ensures made { (s : State) → Makes (state S.Store tx.old.conn.now) (state S.Store tx.new.conn.now) (λ db. Holds db s) (λ db. Holds db (edited (TakePermission incident path.now grantee) s)) result }
+    ensures made { (s : State) → Makes (state S.Store tx.old.conn.now) (state S.Store tx.new.conn.now) (λ db. Holds db s) (λ db. Holds db (edited (TakePermission key.now) s)) result }
 {
-    let text = path.print(alloc)?;
-    remove_permission(tx, incident, path, &text, grantee)
+    let path = key.path.print(alloc)?;
+    remove_permission(tx, key, &path)
 }
 
 /// Makes one edit.
@@ -240,14 +239,10 @@ pub(crate) fn make_edit<S: Alter>(
         Edit::TakeIncident(number) => take_incident(tx, *number),
         Edit::TakePolicy(incident) => take_policy(tx, *incident),
         Edit::PutGate(gate) => put_gate(tx, alloc, gate),
-        Edit::TakeGate { incident, path } => take_gate(tx, alloc, *incident, path),
+        Edit::TakeGate(key) => take_gate(tx, alloc, key),
         Edit::PutRecipient(recipient) => put_recipient(tx, recipient),
         Edit::TakeRecipient(recipient) => take_recipient(tx, recipient),
         Edit::PutPermission(permission) => put_permission(tx, alloc, permission),
-        Edit::TakePermission {
-            incident,
-            path,
-            grantee,
-        } => take_permission(tx, alloc, *incident, path, *grantee),
+        Edit::TakePermission(key) => take_permission(tx, alloc, key),
     }
 }

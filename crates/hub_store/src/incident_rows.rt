@@ -1,17 +1,17 @@
-//! Incidents, their documents, gates and permissions as rows.
+//! Incidents, their documents, gates, recipients and permissions as rows.
 
-ghost use Rattle.std.specs.Prelude.{◌≡◌, ℕ, Option, [], ◌∷◌, Ok, IfOk, string_bytes};
+ghost use Rattle.std.specs.Prelude.{◌≡◌, ℕ, Option, [], ◌∷◌, Ok, IfOk};
 ghost use Rattle.sqlite_value.specs.Order.{column};
 ghost use Rattle.iodef_tree.specs.Pointer.{pointer_text};
 ghost use Rattle.iodef_tree.specs.Text.{Tokens};
 ghost use Rattle.iodef_tree.specs.Reading.{reading};
-ghost use Rattle.hub_core.specs.State.{grantee_key};
-ghost use Rattle.hub_store.specs.Shown.{IsShownBy, ShowsDocument, entry_shown, known_shown, gate_shown, permission_shown};
+ghost use Rattle.hub_core.specs.State.{target_key, grantee_key};
+ghost use Rattle.hub_store.specs.Shown.{IsShownBy, ShowsDocument, entry_shown, naming_shown, gate_shown, target_shown, permission_shown};
 ghost use Rattle.hub_store.specs.Values.{number_or_null};
 
 use crate::from_row::{FromRow, STRANGE};
 use circle::text::Text;
-use hub_core::{Entry, Known};
+use hub_core::{Entry, Naming, Target};
 use iodef_tree::{Document, Path, PathFault, ReadFault};
 use policy::{Gate, Grantee, Permission};
 use sqlite::{Error, ErrorCode, Row};
@@ -49,6 +49,16 @@ fn path_of(alloc: Global, text: &str) -> Result<Path, Error>
         Ok(path) => Ok(path),
         Err(PathFault::NoMemory) => Err(NO_MEMORY),
         Err(PathFault::BadPath) => Err(STRANGE),
+    }
+}
+
+fn target_of(kind: u32, number: u32) -> Result<Target, Error>
+    ensures { IfOk result (λ target. target_key target ≡ (kind, number)) }
+{
+    match kind {
+        0 => Ok(Target::Person(number)),
+        1 => Ok(Target::Org(number)),
+        _ => Err(STRANGE),
     }
 }
 
@@ -100,14 +110,15 @@ impl FromRow for Entry {
     }
 }
 
-impl FromRow for Known {
-    ghost shows = { IsShownBy known_shown };
+impl FromRow for Naming {
+    ghost shows = { IsShownBy naming_shown };
 
-    fn from_row(_alloc: Global, row: &Row) -> Result<Known, Error> {
-        Ok(Known {
-            source: row.get(0)?,
-            revision: row.get(1)?,
+    fn from_row(_alloc: Global, row: &Row) -> Result<Naming, Error> {
+        Ok(Naming {
+            number: row.get(0)?,
+            source: row.get(1)?,
             ident: Text::new(row.get(2)?),
+            revision: row.get(3)?,
         })
     }
 }
@@ -122,6 +133,15 @@ impl FromRow for Gate {
             level: level_of(row.get(1)?)?,
             group: number_if_any(row, 2)?,
         })
+    }
+}
+
+impl FromRow for Target {
+    ghost shows = { IsShownBy target_shown };
+
+    fn from_row(_alloc: Global, row: &Row) -> Result<Target, Error> {
+        let kind: u32 = row.get(0)?;
+        target_of(kind, row.get(1)?)
     }
 }
 

@@ -15,10 +15,10 @@
 //! - `pair_kind`, `numbers`, `from_row`, `person_rows`, `joined_rows`, `incident_rows`: values as rows, and rows as values;
 //! - `statement` and `query`: a text that is prepared and run, and asked in a transaction; `any_row`, `ask_pairs`,
 //!   `read_pairs`: the queries that several of these ask;
-//! - `find_person`, `find_numbered`, `find_number`, `find_known`, `find_document`, `find_case`, `find_groups`,
-//!   `find_communities`, `find_arranged`, `list_entries`, `has_row`, `has_pair`, `common_numbers`: what is looked up;
-//! - `counts`, `count_incidents`, `incident_gates`, `incident_recipients`, `incident_permissions`, `directory_facts`: what
-//!   the facts of a request want;
+//! - `find_person`, `find_numbered`, `find_number`, `find_naming`, `find_document`, `find_gates`, `find_recipients`,
+//!   `find_permissions`, `find_case`, `find_groups`, `find_communities`, `find_arranged`, `list_entries`, `has_row`,
+//!   `has_pair`, `common_numbers`: what is looked up;
+//! - `counts`, `count_incidents`, `directory_facts`: what the facts of a request want;
 //! - `directory_edits`, `incident_edits` and `apply`: the edits, each by its statements, in one transaction;
 //! - `sql_shelf`: [`SqlShelf`], made, opened, brought up to date and released, its look-ups and its reads; `told`: how a
 //!   failure of the store is told; `laws`: the law of what a crash leaves.
@@ -37,18 +37,18 @@ mod find_arranged;
 mod find_case;
 mod find_communities;
 mod find_document;
+mod find_gates;
 mod find_groups;
-mod find_known;
+mod find_naming;
 mod find_number;
 mod find_numbered;
+mod find_permissions;
 mod find_person;
+mod find_recipients;
 mod from_row;
 mod has_pair;
 mod has_row;
 mod incident_edits;
-mod incident_gates;
-mod incident_permissions;
-mod incident_recipients;
 mod incident_rows;
 mod joined_rows;
 pub mod laws;

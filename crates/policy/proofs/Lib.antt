@@ -1,7 +1,8 @@
 pub mod Steps
 mod Clearances
 mod Refusals
-mod Sight
+pub mod Sight
 mod Onwards
 pub mod Descents
 mod Reaches
+mod Computed

@@ -8,5 +8,6 @@ pub mod Verdict
 pub mod Inherited
 pub mod Decided
 pub mod Laws
+pub mod Examples
 pub mod Ahead
 pub mod Descent

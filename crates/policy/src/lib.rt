@@ -14,7 +14,8 @@
 //!   there is none;
 //! - for passes over a whole document: `inherited`, [`Carried`], what is handed down; `ahead`, [`Ahead`], the gates and
 //!   permissions that can still be met (`onward`); `spot`, where a pass is;
-//! - [`laws`]: what the policy promises of every document, case and reader.
+//! - [`laws`]: what the policy promises of every document, case and reader; [`examples`], the definitions computed on small
+//!   reports.
 #![tactic(auto)]
 
 mod ahead;
@@ -23,6 +24,7 @@ mod cleared;
 mod covering;
 mod deciding;
 mod descent;
+pub mod examples;
 mod fault;
 mod gate;
 mod inherited;

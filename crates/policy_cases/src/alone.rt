@@ -2,13 +2,15 @@
 
 use crate::labels::{compared, spelled};
 use crate::line::Line;
-use crate::unfit::{Unfit, said};
+use crate::served::SOURCE;
 use crate::verdicts::{cleared, given_back, groups_given_back, passed};
-use crate::words::{arranged_of, case_of, grantee_of, handling_of, passage_of, standing_of};
 use iodef_tree::Path;
 use marking::is_incident;
 use policy::{Gate, Standing, includes};
 use std::alloc::Global;
+use trying_policy::{
+    Unfit, arranged_of, case_of, grantee_of, handling_of, passage_of, said, standing_of,
+};
 
 fn truth(alloc: Global, holds: bool) -> Result<String, Unfit> {
     said(alloc, if holds { "yes" } else { "no" })
@@ -43,7 +45,7 @@ fn grantee(alloc: Global, standing: &Standing, grantee: &str) -> Result<String, 
 }
 
 fn lists(alloc: Global, gates: &str, permissions: &str) -> Result<String, Unfit> {
-    let case = case_of(alloc, gates, permissions)?;
+    let case = case_of(alloc, SOURCE, gates, permissions)?;
     Ok(given_back(alloc, case)?)
 }
 

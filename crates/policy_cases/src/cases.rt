@@ -20,97 +20,33 @@
 //!     lists|GATES|PERMISSIONS               the gates and permissions that a case gives back
 //!     numbers|STANDING                      the groups that the reader's standing gives back
 //!
-//! `words` tells how standings, gates, permissions and grantees are written. Empty lines, and those that begin with #, are
-//! skipped.
-
-ghost use Rattle.std.specs.Prelude.{◌≡◌, None};
-ghost use Rattle.iodef_tree.specs.Paths.{located};
-ghost use Rattle.marking.specs.Marks.{first_bad_marking};
+//! `words` of `trying_policy` tells how standings, gates, permissions and grantees are written. Empty lines, and those that
+//! begin with #, are skipped.
 
 use crate::alone::answer_alone;
 use crate::labels::{marked, sited};
 use crate::line::Line;
 use crate::rows::fed;
 use crate::served::{answer_to, asker_of};
-use crate::unfit::{Unfit, said};
-use iodef_tree::{Document, Path};
-use marking::{MarkingFault, check};
+use iodef_tree::Path;
 use std::alloc::Global;
+use trying_policy::{Report, Unfit};
 
-/// A report whose markings were accepted.
-#[derive(Drop)]
-struct Report {
-    document: Document,
-    ghost accepted: { first_bad_marking (located document) ≡ None },
-}
-
-/// The table as far as it was answered: the report that the last line with one gave.
-#[derive(Drop)]
-pub struct Table {
-    report: Option<Report>,
-}
-
-impl Table {
-    pub fn new() -> Table {
-        Table { report: None }
-    }
-
-    pub fn answer(&mut self, alloc: Global, line: &str) -> Result<String, Unfit> {
-        let line = Line::of(line)?;
-        match line.kind {
-            "report" => self.read(alloc, line.first),
-            "marks" => self.marks(alloc),
-            "site" => self.site(alloc, line.first),
-            "decide" | "excerpt" | "kept" | "listed" | "find" => self.answer_to(alloc, &line),
-            "feed" => fed(alloc, asker_of(alloc, &line)?, line.fourth),
-            _ => answer_alone(alloc, &line),
+/// The answer of a line; the report is the one that the last line with one gave.
+pub fn answer(report: &mut Report, alloc: Global, line: &str) -> Result<String, Unfit> {
+    let line = Line::of(line)?;
+    match line.kind {
+        "report" => report.read(alloc, line.first),
+        "marks" => marked(alloc, report.document()?),
+        "site" => {
+            let document = report.document()?;
+            sited(alloc, document, &Path::parse(alloc, line.first)?)
         }
-    }
-
-    fn read(&mut self, alloc: Global, body: &str) -> Result<String, Unfit> {
-        self.report = None;
-        let Ok(mut documents) = Document::read(alloc, body.as_bytes()) else {
-            return said(alloc, "not read");
-        };
-        let document = documents.pop().ok_or(Unfit::NoCase)?;
-        self.keep(alloc, document)
-    }
-
-    /// Keeps a document whose markings are accepted.
-    fn keep(&mut self, alloc: Global, document: Document) -> Result<String, Unfit> {
-        match check(alloc, &document) {
-            Ok(()) => {
-                self.report = Some(Report { document });
-                said(alloc, "accepted")
-            }
-            Err(fault) => told(alloc, fault),
+        "decide" | "excerpt" | "kept" | "listed" | "find" => {
+            let document = report.document()?;
+            answer_to(alloc, document, &asker_of(alloc, &line)?, &line)
         }
+        "feed" => fed(alloc, asker_of(alloc, &line)?, line.fourth),
+        _ => answer_alone(alloc, &line),
     }
-
-    fn marks(&self, alloc: Global) -> Result<String, Unfit> {
-        let report = self.report.as_ref().ok_or(Unfit::NoCase)?;
-        marked(alloc, &report.document)
-    }
-
-    fn site(&self, alloc: Global, pointer: &str) -> Result<String, Unfit> {
-        let report = self.report.as_ref().ok_or(Unfit::NoCase)?;
-        let path = Path::parse(alloc, pointer)?;
-        sited(alloc, &report.document, &path)
-    }
-
-    /// The answer of a line that asks something for a reader.
-    fn answer_to(&self, alloc: Global, line: &Line<'_>) -> Result<String, Unfit> {
-        let report = self.report.as_ref().ok_or(Unfit::NoCase)?;
-        let asker = asker_of(alloc, line)?;
-        answer_to(alloc, &report.document, &asker, line)
-    }
-}
-
-/// Which marking isn't accepted.
-fn told(alloc: Global, fault: MarkingFault) -> Result<String, Unfit> {
-    let MarkingFault::BadMarking(path) = fault else {
-        return Err(Unfit::NoMemory);
-    };
-    let pointer = path.print(alloc)?;
-    Ok(format!(in alloc; "BadMarking {pointer}")?)
 }

@@ -4,11 +4,11 @@ ghost use Rattle.std.specs.Prelude.{◌≡◌, [], None};
 ghost use Rattle.iodef_tree.specs.Paths.{located};
 ghost use Rattle.marking.specs.Marks.{first_bad_marking};
 
-use crate::unfit::Unfit;
 use iodef_tree::{Document, Path};
 use marking::{Handling, Label, Mark, MarkWriter, SiteFault, own, site, write_marks, written_at};
 use std::alloc::{AllocError, Global};
 use std::cmp::Ordering;
+use trying_policy::Unfit;
 
 /// The label that the two texts spell, and how it is handled.
 pub fn spelled(

@@ -1,6 +1,6 @@
 //! The words of a line.
 
-use crate::unfit::Unfit;
+use trying_policy::Unfit;
 
 /// What a line asks, and the words behind it; those that aren't there are empty.
 #[derive(Clone, Copy)]

@@ -8,14 +8,12 @@ mod labels;
 mod line;
 mod rows;
 mod served;
-mod unfit;
 mod verdicts;
-mod words;
 
-use cases::Table;
 use std::alloc::{AllocError, Global};
 use std::io;
 use std::io::Read;
+use trying_policy::Report;
 
 fn main(rt: HostRuntime) -> io::Result<()> {
     let mut lines = String::new(rt.alloc());
@@ -24,23 +22,23 @@ fn main(rt: HostRuntime) -> io::Result<()> {
 }
 
 fn answer_all(rt: &HostRuntime, lines: &str) -> io::Result<()> {
-    let mut table = Table::new();
+    let mut report = Report::new();
     for line in lines.lines() {
         if !line.is_empty() && !line.starts_with('#') {
-            print_answer(rt, &mut table, line)?;
+            print_answer(rt, &mut report, line)?;
         }
     }
     Ok(())
 }
 
-fn print_answer(rt: &HostRuntime, table: &mut Table, line: &str) -> io::Result<()> {
-    let answer = answer(table, rt.alloc(), line)?;
+fn print_answer(rt: &HostRuntime, report: &mut Report, line: &str) -> io::Result<()> {
+    let answer = answer(report, rt.alloc(), line)?;
     println!(rt; "{answer}")
 }
 
-/// The answer of the table, or why there is none.
-fn answer(table: &mut Table, alloc: Global, line: &str) -> Result<String, AllocError> {
-    match table.answer(alloc, line) {
+/// The answer of a line, or why there is none.
+fn answer(report: &mut Report, alloc: Global, line: &str) -> Result<String, AllocError> {
+    match cases::answer(report, alloc, line) {
         Ok(answer) => Ok(answer),
         Err(unfit) => String::from_str(alloc, unfit.name()),
     }

@@ -1,11 +1,10 @@
 //! A pass that is fed lines one at a time.
 
 use crate::served::{Asker, shown};
-use crate::unfit::{Unfit, said};
-use crate::words::number_of;
 use iodef_tree::{Document, Kind, Line, OutlineFault, Text};
 use redact::RowPass;
 use std::alloc::Global;
+use trying_policy::{Unfit, number_of, said};
 
 /// What the pass answers of one more line.
 fn answer_of(pass: &mut RowPass, line: Line) -> Result<&'static str, Unfit> {

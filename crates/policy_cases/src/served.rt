@@ -7,13 +7,15 @@ ghost use Rattle.marking.specs.Marks.{first_bad_marking};
 use crate::labels::sited;
 use crate::line::Line;
 use crate::rows::served_by_lines;
-use crate::unfit::{Unfit, said};
 use crate::verdicts::verdicts;
-use crate::words::{case_of, standing_of};
 use iodef_tree::{Document, Path};
 use policy::{Case, Rule, Standing};
 use redact::{Excerpt, excerpt, finds, is_listed};
 use std::alloc::{AllocError, Global};
+use trying_policy::{Unfit, case_of, said, standing_of};
+
+/// The source of each case.
+pub const SOURCE: u32 = 2;
 
 /// Who asks of a report, and by what it is judged.
 #[derive(Drop)]
@@ -26,7 +28,7 @@ pub struct Asker {
 pub fn asker_of(alloc: Global, line: &Line<'_>) -> Result<Asker, Unfit> {
     Ok(Asker {
         standing: standing_of(alloc, line.first)?,
-        case: case_of(alloc, line.second, line.third.unwrap_or(""))?,
+        case: case_of(alloc, SOURCE, line.second, line.third.unwrap_or(""))?,
     })
 }
 

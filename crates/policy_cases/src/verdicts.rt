@@ -5,13 +5,10 @@ ghost use Rattle.iodef_tree.specs.Paths.{located};
 ghost use Rattle.marking.specs.Marks.{first_bad_marking};
 
 use crate::served::Asker;
-use crate::unfit::Unfit;
 use iodef_tree::{Document, Path};
-use policy::{
-    Case, DecideFault, Gate, Gates, Grantee, Permission, Permissions, Standing, Verdict, clearance,
-    decide, passes,
-};
+use policy::{Case, DecideFault, Gate, Standing, Verdict, clearance, decide, passes};
 use std::alloc::{AllocError, Global};
+use trying_policy::{Unfit, gate_word, permission_word};
 
 pub fn cleared(alloc: Global, standing: &Standing) -> Result<String, Unfit> {
     let (handling, rule) = clearance(standing);
@@ -79,60 +76,18 @@ pub fn verdicts(
     Ok(told)
 }
 
-fn kind_of(grantee: Grantee) -> (&'static str, u32) {
-    match grantee {
-        Grantee::Person(number) => ("person", number),
-        Grantee::Org(number) => ("org", number),
-        Grantee::Community(number) => ("community", number),
-        Grantee::Group(number) => ("group", number),
-    }
-}
-
-fn push_gate(told: &mut String, alloc: Global, gate: &Gate) -> Result<(), AllocError> {
-    let level = gate.level;
-    let pointer = gate.path.print(alloc)?;
-    let line = match gate.group {
-        Some(group) => format!(in alloc; "; {level}:{group}@{pointer}")?,
-        None => format!(in alloc; "; {level}@{pointer}")?,
-    };
-    told.push_str(line.as_str())
-}
-
-fn push_permission(
-    told: &mut String,
-    alloc: Global,
-    permission: &Permission,
-) -> Result<(), AllocError> {
-    let (kind, number) = kind_of(permission.grantee);
-    let pointer = permission.path.print(alloc)?;
-    let line = format!(in alloc; "; {kind}:{number}@{pointer}")?;
-    told.push_str(line.as_str())
-}
-
-fn push_gates(told: &mut String, alloc: Global, gates: Gates) -> Result<(), AllocError> {
-    for gate in &gates.into_vec() {
-        push_gate(told, alloc, gate)?;
-    }
-    Ok(())
-}
-
-fn push_permissions(
-    told: &mut String,
-    alloc: Global,
-    permissions: Permissions,
-) -> Result<(), AllocError> {
-    for permission in &permissions.into_vec() {
-        push_permission(told, alloc, permission)?;
-    }
-    Ok(())
-}
-
 /// The gates and permissions that a case gives back.
 pub fn given_back(alloc: Global, case: Case) -> Result<String, AllocError> {
     let source = case.source;
     let mut told = format!(in alloc; "source {source}")?;
-    push_gates(&mut told, alloc, case.gates)?;
-    push_permissions(&mut told, alloc, case.permissions)?;
+    for gate in &case.gates.into_vec() {
+        told.push_str("; ")?;
+        told.push_str(gate_word(alloc, gate)?.as_str())?;
+    }
+    for permission in &case.permissions.into_vec() {
+        told.push_str("; ")?;
+        told.push_str(permission_word(alloc, permission)?.as_str())?;
+    }
     Ok(told)
 }
 

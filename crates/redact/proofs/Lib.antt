@@ -5,6 +5,7 @@ pub mod Counts
 pub mod Ordered
 pub mod Whole
 pub mod Listing
+pub mod InOrder
 pub mod Fronts
 pub mod Going
 pub mod Entering
@@ -13,6 +14,7 @@ pub mod Alike
 pub mod Needles
 pub mod Searching
 pub mod Promised
+pub mod Shut
 pub mod Fates
 pub mod Spelling
 pub mod Survival
@@ -23,3 +25,4 @@ pub mod DecidedAlike
 pub mod LabelsStay
 pub mod ToldAlike
 pub mod Taking
+mod Computed

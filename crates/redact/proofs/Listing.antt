@@ -58,16 +58,9 @@ lists-dedup xs ys same sorted = record {
   complete = λ x h. Contains-dedup withheld-equiv withheld-same ys x (Contains-permutation xs ys x same h);
 }
 
--- a list of some pairs is one of the same pairs in another order or number
-pub lists-same : (ps qs xs : List Withheld) → ((x : Withheld) → is_among ps x ≡ is_among qs x) → Lists ps xs → Lists qs xs
-lists-same ps qs xs same l = record {
-  ascending = l.ascending;
-  sound = λ x h. over ps qs same x (l.sound x h);
-  complete = λ x h. l.complete x (over qs ps (λ y. sym (same y)) x h);
-}
-  where
-    over : (ps qs : List Withheld) → ((x : Withheld) → is_among ps x ≡ is_among qs x) → (x : Withheld) → Contains ps x → Contains qs x
-    over ps qs same x h = Contains-from_any withheld-same x qs (sym (same x) ∙ list_any-from_Contains withheld-equiv x ps h)
+-- a pair that is contained in a list is so in one of the same pairs
+pub among-contains : (ps qs : List Withheld) → ((x : Withheld) → is_among ps x ≡ is_among qs x) → (x : Withheld) → Contains ps x → Contains qs x
+among-contains ps qs same x h = Contains-from_any withheld-same x qs (sym (same x) ∙ list_any-from_Contains withheld-equiv x ps h)
 
 -- a rule of a name that is among these is tested among them
 any-known : (test : Rule → Bool) (r : Rule) (rs : List Rule) → has_rule rs r ≡ true →

@@ -1,24 +1,25 @@
 -- The laws of excerpts and searches.
-use Rattle.std.proofs.Common.{◌≡◌, ◌==◌, ℕ, suc, Bool, true, false, not, ◌&&◌, ◌||◌, List, [], ◌∷◌, length, map, cond, if◌then◌else◌, refl, sym, ◌∙◌, ap, arith, Option, filter, count_by, inl, inr, subst, Some, None, is_some, Contains, IsSomeAnd, flat_map}
+use Rattle.std.proofs.Common.{◌≡◌, ◌==◌, ◌<◌, ℕ, zero, suc, Bool, true, false, not, ◌&&◌, ◌||◌, List, [], ◌∷◌, length, map, cond, if◌then◌else◌, refl, sym, ◌∙◌, ap, arith, Option, filter, count_by, inl, inr, subst, Some, None, is_some, Contains, IsSomeAnd, flat_map}
 use Rattle.std.specs.List.{list_any, zip}
-use Rattle.std.proofs.lemmas.Bool.{cond_both, false≢true}
+use Rattle.std.proofs.lemmas.Bool.{and_parts, cond_both, cond-true, cond-false, false≢true, ne_eqb}
 use Rattle.std.proofs.lemmas.List.{length-map}
 use Rattle.std.proofs.lemmas.List.Folds.{list_any_at}
-use Rattle.iodef_tree.specs.Text.{Bytes, Tokens, same_path, is_root}
-use Rattle.iodef_tree.specs.Paths.{LocatedLine, is_class, is_class_kind, placed, located_after, located, class_paths, classes_of}
+use Rattle.iodef_tree.specs.Text.{Bytes, Tokens, same_path, is_root, is_under}
+use Rattle.iodef_tree.specs.Paths.{LocatedLine, is_class, is_class_kind, placed, located_after, located, below, class_paths, classes_of}
 use Rattle.iodef_tree.proofs.Order.{same_path-refl}
 use Rattle.iodef_tree.specs.declared.line.Line.{Line}
 use Rattle.policy.specs.declared.standing.Standing.{Standing}
 use Rattle.policy.specs.declared.case.Case.{Case}
 use Rattle.redact.proofs.Counts.{count_by-cons}
 use Rattle.redact.specs.Kept.{Attribute, Verdicts, comes_after, put, put_all, attribute_line, attribute_lines, is_kept, says_label, added, labelled, kept, is_frame}
-use Rattle.redact.specs.Told.{is_seen_class, is_named, holds_needle, visible_count, is_listed, finds, verdicts_of, excerpt_place, withheld_of}
+use Rattle.redact.specs.Told.{Told, is_seen_class, is_named, holds_needle, kept_outline, visible_count, is_listed, told_of, excerpt_of, finds, verdicts_of, excerpt_place, withheld_of, some_seen}
 use Rattle.std.proofs.lemmas.List.Concat.{flat_map-cons}
 use Rattle.std.proofs.lemmas.List.Elements.{Contains-append_left, Contains-append_right, Contains-append_cases, Contains-push_cases}
 use Rattle.policy.specs.declared.rule.Rule.{Rule}
 use Rattle.policy.specs.declared.verdict.Verdict.TheVariants.{Shown, Hidden}
 use Rattle.policy.specs.Verdict.{is_visible}
-use Rattle.redact.specs.Withheld.{withheld_at, beside, class_places, place_by}
+use Rattle.redact.specs.Withheld.{Withheld, withheld_at, withheld_pairs, beside, class_places, place_by}
+use Rattle.redact.proofs.InOrder.{order-lists}
 use Rattle.redact.specs.Laws.{is_shown, VerdictIsServed}
 
 -- ---- listed, served, found
@@ -33,6 +34,31 @@ any-less P Q (x ∷ xs) h = let later = any-less P Q xs in grind (arith, later, 
 
 pub listed-served : (ls : List Line) (c : Case) (s : Standing) → is_listed ls c s ≡ not (visible_count ls c s == 0)
 listed-served ls c s = any-count (is_seen_class ls c s) (located ls)
+
+-- ---- the excerpt
+
+-- none where nothing is visible
+pub excerpt-none : (ls : List Line) (c : Case) (s : Standing) → visible_count ls c s ≡ 0 → None ≡ excerpt_of ls c s
+excerpt-none ls c s none = sym (cond-false (is_listed ls c s) (Some (told_of ls c s)) None (listed-served ls c s ∙ ap (λ n. not (n == 0)) none))
+
+abbrev pub told_as : List Line → List Withheld → ℕ → Told
+told_as outline withheld classes = record { outline = outline; withheld = withheld; classes = classes }
+
+pub told-is : (ls : List Line) (c : Case) (s : Standing) (outline : List Line) (withheld : List Withheld) (classes : ℕ) →
+    outline ≡ kept_outline ls c s → withheld ≡ withheld_of ls c s → classes ≡ visible_count ls c s → told_as outline withheld classes ≡ told_of ls c s
+told-is ls c s outline withheld classes o w n =
+    ap (λ x. told_as x withheld classes) o
+    ∙ (ap (λ x. told_as (kept_outline ls c s) x classes) w
+    ∙ ap (told_as (kept_outline ls c s) (withheld_of ls c s)) n)
+
+above-none : (n : ℕ) → 0 < n → not (n == 0) ≡ true
+above-none n h = ap not (ne_eqb n 0 (λ e. absurd (omega (arith, h, e))))
+
+-- and else all that is told
+pub excerpt-some : (ls : List Line) (c : Case) (s : Standing) (t : Told) → t ≡ told_of ls c s → 0 < t.classes → Some t ≡ excerpt_of ls c s
+excerpt-some ls c s t is some =
+    ap Some is
+    ∙ sym (cond-true (is_listed ls c s) (Some (told_of ls c s)) None (listed-served ls c s ∙ ap (λ (x : Told). not (x.classes == 0)) (sym is) ∙ above-none t.classes some))
 
 pub found-listed : (ls : List Line) (c : Case) (s : Standing) (needle : Bytes) (name : Option Bytes) → finds ls c s needle name ≡ true → is_listed ls c s ≡ true
 found-listed ls c s needle name h =
@@ -154,20 +180,48 @@ told_frame v place e q class frame there = rw (class, frame, there) (0, omega ar
 kept_by : (class visible frame plain : Bool) → class ≡ true → frame ≡ true → (if class then visible || frame else plain) ≡ true
 kept_by class visible frame plain h k = grind arith
 
+-- an incident is listed where a class of it is visible, and where one of it is a frame
+seen_listed : (ls : List Line) (c : Case) (s : Standing) (e : LocatedLine) → Contains (located ls) e → is_class e ≡ true → is_visible (located ls) c s e.path ≡ true → is_listed ls c s ≡ true
+seen_listed ls c s e here class sees =
+    let own : is_seen_class ls c s e ≡ true = rw (class, sees) refl in
+    list_any_at (is_seen_class ls c s) (located ls) here.0 e here.1 (ap (is_seen_class ls c s) here.2 ∙ own)
+
+any-within : {X : Type 0} (P Q : X → Bool) (xs : List X) → list_any P (filter Q xs) ≡ true → list_any P xs ≡ true
+any-within P Q [] h = h
+any-within P Q (x ∷ xs) h = by_test (Q x) (any-within P Q xs) h
+  where
+    by_test : (b : Bool) → (list_any P (filter Q xs) ≡ true → list_any P xs ≡ true) → list_any P (if b then x ∷ filter Q xs else filter Q xs) ≡ true → (P x || list_any P xs) ≡ true
+    by_test true later k = grind (arith, later, k)
+    by_test false later k = grind (arith, later, k)
+
+frame_listed : (ls : List Line) (c : Case) (s : Standing) (p : Tokens) → is_frame (verdicts_of (located ls) c s) p ≡ true → is_listed ls c s ≡ true
+frame_listed ls c s p frame =
+    let seen : some_seen (is_visible (located ls) c s) (below p (located ls)) ≡ true = (and_parts (not (is_visible (located ls) c s p)) _ frame).1 in
+    any-within (is_seen_class ls c s) (λ e. is_under p e.path) (located ls) seen
+
 pub verdicts-served : (ls : List Line) (c : Case) (s : Standing) (e : LocatedLine) → Contains (located ls) e → is_class e ≡ true → VerdictIsServed ls c s e
 verdicts-served ls c s e here class =
     let v = verdicts_of (located ls) c s in
     record {
       shown = by_sight (is_visible (located ls) c s e.path) _ _;
       hidden = λ r is. by_rule (is_visible (located ls) c s e.path) _ _ r is;
-      frame = λ frame. told (excerpt_place ls c s e.path) refl frame
-          (kept-placed v (located ls) e here class (kept_by (is_class e) (v.visible e.path) (is_frame v e.path) _ class frame));
+      served = λ sees. served (is_listed ls c s) (seen_listed ls c s e here class sees);
+      frame = λ frame. listed (λ t. IsSomeAnd (excerpt_place ls c s e.path) (λ q. Contains t.withheld (q, v.rule e.path))) (is_listed ls c s) (frame_listed ls c s e.path frame) (told (excerpt_place ls c s e.path) refl frame
+          (kept-placed v (located ls) e here class (kept_by (is_class e) (v.visible e.path) (is_frame v e.path) _ class frame)));
     }
   where
+    served : (b : Bool) → b ≡ true → is_some (if b then Some (told_of ls c s) else None) ≡ true
+    served true h = refl
+    served false h = absurd (false≢true h)
+
+    listed : (P : Told → Type 0) (b : Bool) → b ≡ true → P (told_of ls c s) → IsSomeAnd (if b then Some (told_of ls c s) else None) P
+    listed P true h k = k
+    listed P false h k = absurd (false≢true h)
+
     told : (o : Option Tokens) → excerpt_place ls c s e.path ≡ o → is_frame (verdicts_of (located ls) c s) e.path ≡ true → is_some o ≡ true →
         IsSomeAnd o (λ q. Contains (withheld_of ls c s) (q, (verdicts_of (located ls) c s).rule e.path))
     told None is frame some = absurd (false≢true some)
     told (Some q) is frame some =
         let v = verdicts_of (located ls) c s in
         let place = place_by (class_places v (located ls)) in
-        among (withheld_at v place) (located ls) e _ here (told_frame v place e q class frame is)
+        (order-lists (withheld_pairs v (located ls))).complete _ (among (withheld_at v place) (located ls) e _ here (told_frame v place e q class frame is))

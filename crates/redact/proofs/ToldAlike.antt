@@ -1,9 +1,9 @@
 -- The three steps between two reports, and that a reader is told the same on both sides of each.
 use Rattle.std.proofs.Common.{◌≡◌, Bool, true, false, not, List, [], ◌∷◌, refl, sym, ◌∙◌, ap, subst, map, if◌then◌else◌, ◌&&◌, ◌||◌, inl, inr}
-use Rattle.std.specs.Prelude.{filter, Contains}
+use Rattle.std.specs.Prelude.{filter, Option, Some, None}
 use Rattle.std.specs.List.{AllByRecursion, list_any, filter_map}
 use Rattle.std.proofs.lemmas.Bool.{false≢true, true≢false, not-false, not-true, false_from_ne_true, and_left, and_right, and_parts, and_from, or_from, cond-true, cond-false}
-use Rattle.iodef_tree.specs.Text.{Tokens, is_root, same_path, is_prefix, is_under, prefixes}
+use Rattle.iodef_tree.specs.Text.{Bytes, Tokens, is_root, same_path, is_prefix, is_under, prefixes}
 use Rattle.iodef_tree.specs.Paths.{LocatedLine, is_class, located, has_class, below}
 use Rattle.iodef_tree.specs.Tree.{lines}
 use Rattle.iodef_tree.specs.Laws.{IsNearestClass}
@@ -21,17 +21,30 @@ use Rattle.policy.specs.declared.permission.Permission.{Permission}
 use Rattle.policy.specs.declared.gate.Gate.{Gate}
 use Rattle.policy.specs.declared.case.Case.{Case}
 use Rattle.redact.specs.Kept.{Verdicts, is_frame, is_kept}
-use Rattle.redact.specs.Withheld.{Withheld}
-use Rattle.redact.specs.Told.{some_seen, verdicts_of}
-use Rattle.redact.specs.Alike.{Report, class_path, by_class, HasSame, IsToldAlike, is_plain_of, is_within, is_hidden_from, HasOtherPermissions, HasOtherPlainLines, HasOtherHiddenClass, IsAlikeStep, IsMarked}
+use Rattle.redact.specs.Withheld.{in_order}
+use Rattle.redact.specs.Told.{some_seen, verdicts_of, kept_outline, withheld_of, visible_count, is_listed, told_of, excerpt_of, finds}
+use Rattle.redact.specs.Wants.{meets_by}
+use Rattle.redact.specs.Alike.{Report, class_path, by_class, IsToldAlike, is_plain_of, is_within, is_hidden_from, HasOtherPermissions, HasOtherPlainLines, HasOtherHiddenClass, IsAlikeStep, IsMarked}
 use Rattle.iodef_tree.specs.Laws.{IsDocument}
 use Rattle.redact.proofs.Filtered.{each, each-from, any-kept, any-none, none-any, any-both, filter-within}
 use Rattle.redact.proofs.LabelsStay.{labels-stay}
 use Rattle.redact.proofs.AgreedVerdicts.{Agree, Worlds, outline-same, count-same, listed-same, found-same, pairs-same}
 use Rattle.redact.proofs.DecidedAlike.{Decides, verdicts-agree, written-same, classes-same, prefix-trans, under-prefix, prefixes-are}
 
-same_pairs : (xs ys : List Withheld) → xs ≡ ys → HasSame xs ys
-same_pairs xs ys h = record { first = λ x k. subst (λ zs. Contains zs x) h k; second = λ x k. subst (λ zs. Contains zs x) (sym h) k }
+-- the parts of what is told, each the same
+told-same : (s : Standing) (a b : Report) → kept_outline a.lines a.case s ≡ kept_outline b.lines b.case s → withheld_of a.lines a.case s ≡ withheld_of b.lines b.case s →
+    visible_count a.lines a.case s ≡ visible_count b.lines b.case s → told_of a.lines a.case s ≡ told_of b.lines b.case s
+told-same s a b o w n = λ i. record { outline = o i; withheld = w i; classes = n i }
+
+excerpt-same : (s : Standing) (a b : Report) → is_listed a.lines a.case s ≡ is_listed b.lines b.case s → told_of a.lines a.case s ≡ told_of b.lines b.case s →
+    excerpt_of a.lines a.case s ≡ excerpt_of b.lines b.case s
+excerpt-same s a b listed told = λ i. if listed i then Some (told i) else None
+
+met-same : (s : Standing) (a b : Report) → is_listed a.lines a.case s ≡ is_listed b.lines b.case s →
+    ((needle : Bytes) (name : Option Bytes) → finds a.lines a.case s needle name ≡ finds b.lines b.case s needle name) →
+    (needle class : Option Bytes) → meets_by needle class a.lines a.case s ≡ meets_by needle class b.lines b.case s
+met-same s a b listed found None class = listed
+met-same s a b listed found (Some needle) class = found needle class
 
 -- each line stands in the root or in a class
 abbrev HasParents : List LocatedLine → List LocatedLine → Type 0
@@ -53,6 +66,13 @@ module _ (s : Standing) (a b : Report) (da : IsMarked a.lines) (db : IsMarked b.
 
   abbrev v' : Verdicts
   v' = verdicts_of es' b.case s
+
+  told-by : kept_outline a.lines a.case s ≡ kept_outline b.lines b.case s → withheld_of a.lines a.case s ≡ withheld_of b.lines b.case s →
+      visible_count a.lines a.case s ≡ visible_count b.lines b.case s → is_listed a.lines a.case s ≡ is_listed b.lines b.case s →
+      ((needle : Bytes) (name : Option Bytes) → finds a.lines a.case s needle name ≡ finds b.lines b.case s needle name) → IsToldAlike s a b
+  told-by outline withheld count listed found =
+      let told = told-same s a b outline withheld count in
+      record { excerpt = excerpt-same s a b listed told; told = told; met = met-same s a b listed found }
 
   -- ---- other permissions
   module _ (h : HasOtherPermissions s a b) where
@@ -92,13 +112,7 @@ module _ (s : Standing) (a b : Report) (da : IsMarked a.lines) (db : IsMarked b.
     }
 
     permissions-told : IsToldAlike s a b
-    permissions-told = record {
-      outline = outline-same permissions_world;
-      withheld = same_pairs _ _ (pairs-same permissions_world (λ p. refl) (λ e k. absurd (true≢false k)));
-      count = count-same permissions_world;
-      listed = listed-same permissions_world;
-      found = found-same permissions_world;
-    }
+    permissions-told = told-by (outline-same permissions_world) (ap in_order (pairs-same permissions_world (λ p. refl) (λ e k. absurd (true≢false k)))) (count-same permissions_world) (listed-same permissions_world) (found-same permissions_world)
 
   -- ---- other plain lines
   module _ (p : Tokens) (h : HasOtherPlainLines s p a b) where
@@ -164,13 +178,7 @@ module _ (s : Standing) (a b : Report) (da : IsMarked a.lines) (db : IsMarked b.
     }
 
     plain-told : IsToldAlike s a b
-    plain-told = record {
-      outline = outline-same plain_world;
-      withheld = same_pairs _ _ (pairs-same plain_world (λ q. refl) (λ e k. (in_p e k).0));
-      count = count-same plain_world;
-      listed = listed-same plain_world;
-      found = found-same plain_world;
-    }
+    plain-told = told-by (outline-same plain_world) (ap in_order (pairs-same plain_world (λ q. refl) (λ e k. (in_p e k).0))) (count-same plain_world) (listed-same plain_world) (found-same plain_world)
 
   -- ---- another hidden class
   module _ (p : Tokens) (h : HasOtherHiddenClass s p a b) where
@@ -350,13 +358,7 @@ module _ (s : Standing) (a b : Report) (da : IsMarked a.lines) (db : IsMarked b.
     }
 
     hidden-told : IsToldAlike s a b
-    hidden-told = record {
-      outline = outline-same hidden_world;
-      withheld = h.withheld;
-      count = count-same hidden_world;
-      listed = listed-same hidden_world;
-      found = found-same hidden_world;
-    }
+    hidden-told = told-by (outline-same hidden_world) (h.withheld) (count-same hidden_world) (listed-same hidden_world) (found-same hidden_world)
 
 pub alike-told : (s : Standing) (a b : Report) → IsMarked a.lines → IsMarked b.lines → IsAlikeStep s a b → IsToldAlike s a b
 alike-told s a b da db (inl h) = plain-told s a b da db h.0 h.1

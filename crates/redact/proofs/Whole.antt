@@ -19,7 +19,7 @@ use Rattle.policy.proofs.Steps.{enter_class-at, enter_array-at, at_root-is}
 use Rattle.policy.specs.declared.standing.Standing.{Standing}
 use Rattle.policy.specs.declared.case.Case.{Case}
 use Rattle.redact.specs.Kept.{Verdicts, kept}
-use Rattle.redact.specs.Withheld.{Withheld, is_among, place_by, class_places, withheld_pairs}
+use Rattle.redact.specs.Withheld.{Withheld, is_among, place_by, class_places, withheld_pairs, in_order}
 use Rattle.redact.specs.Judged.{Judged, plain, judge, root, cut, visible_classes, told}
 use Rattle.redact.specs.Told.{verdicts_of, kept_outline, withheld_of, visible_count}
 use Rattle.redact.specs.Pass.{enter, pass}
@@ -28,6 +28,7 @@ use Rattle.redact.proofs.Ordered.{trails-none, ordered-cut}
 use Rattle.redact.proofs.Counts.{within-cut, count-walk, few-seen}
 use Rattle.redact.proofs.Places.{kept-lines, placed}
 use Rattle.redact.proofs.Withheld.{withheld-walk}
+use Rattle.redact.proofs.InOrder.{same_in_order}
 use Rattle.redact.proofs.Spelling.{label-names, labels-fit}
 
 -- ---- each class is judged as the definitions judge its path
@@ -109,15 +110,16 @@ module _ (f : Forest) (c : Case) (s : Standing) (sound : IsSound f) (ok : first_
     pub excerpt-lines : kept_outline (lines 1 f) c s ≡ lines 1 (cut root 0 j)
     excerpt-lines = rw judged-is left-lines
 
-    -- the withheld pairs are those that the pass tells
+    -- what is withheld is what the pass tells, in order
     pub excerpt-told : (ws : List Withheld) (q : Tokens) → q ≡ [] → is_among (ws ++ []) ≡ is_among (told root q 0 j) →
-        (x : Withheld) → is_among ws x ≡ is_among (withheld_of (lines 1 f) c s) x
-    excerpt-told ws q at told_all x =
-        let pairs : withheld_of (lines 1 f) c s ≡ told root [] 0 (judge v [] f) =
+        in_order ws ≡ withheld_of (lines 1 f) c s
+    excerpt-told ws q at told_all =
+        let all : List Withheld = withheld_pairs v es in
+        let pairs : all ≡ told root [] 0 (judge v [] f) =
         ap (withheld_pairs v) (located-lines f sound)
         ∙ withheld-walk v (place_by (class_places v (walk 1 [] f))) f 1 [] [] 0 says (placed v f sound says left-sound) refl refl in
-        let same : told root q 0 j ≡ withheld_of (lines 1 f) c s = cc (at, judged-is, pairs) in
-        ap (λ (among : Withheld → Bool). among x) (ap is_among (sym (append-nil ws)) ∙ told_all ∙ ap is_among same)
+        let same : told root q 0 j ≡ all = cc (at, judged-is, pairs) in
+        same_in_order ws all (λ x. ap (λ (among : Withheld → Bool). among x) (ap is_among (sym (append-nil ws)) ∙ told_all ∙ ap is_among same))
 
     -- the visible classes are those that the pass counts, which are few
     pub excerpt-count : (n : ℕ) → (0 + visible_classes j < 2 ^ 32 → n + 0 ≡ 0 + visible_classes j) → n ≡ visible_count (lines 1 f) c s

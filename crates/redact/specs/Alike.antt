@@ -1,5 +1,5 @@
 -- Steps from one report to another, which differs in what a reader may not see.
-use Rattle.std.specs.Prelude.{◌≡◌, Bool, true, false, ◌&&◌, not, List, map, filter, Option, None, Contains, if◌then◌else◌, ◌⊎◌}
+use Rattle.std.specs.Prelude.{◌≡◌, Bool, true, false, ◌&&◌, not, List, map, filter, Option, None, if◌then◌else◌, ◌⊎◌}
 use Rattle.iodef_tree.specs.Text.{Bytes, Tokens, same_path, is_prefix, is_root}
 use Rattle.iodef_tree.specs.Paths.{LocatedLine, is_class, located, has_class}
 use Rattle.iodef_tree.specs.Laws.{IsDocument}
@@ -11,8 +11,8 @@ use Rattle.policy.specs.declared.standing.Standing.{Standing}
 use Rattle.policy.specs.declared.gate.Gate.{Gate}
 use Rattle.policy.specs.declared.permission.Permission.{Permission}
 use Rattle.policy.specs.declared.case.Case.{Case}
-use Rattle.redact.specs.Withheld.{Withheld}
-use Rattle.redact.specs.Told.{some_seen, kept_outline, withheld_of, visible_count, is_listed, finds}
+use Rattle.redact.specs.Told.{some_seen, withheld_of, told_of, excerpt_of}
+use Rattle.redact.specs.Wants.{meets_by}
 
 -- the lines of a document, and what is judged by beside them
 pub record Report : Type 0 where
@@ -51,23 +51,15 @@ permissions_but p permissions = filter (λ x. not (is_prefix p x.path)) permissi
 
 -- ---- what is told
 
--- the same pairs, however often and in whatever order
-pub record HasSame (xs ys : List Withheld) : Type 0 where
-  pub first : (x : Withheld) → Contains xs x → Contains ys x
-  pub second : (x : Withheld) → Contains ys x → Contains xs x
-
 module _ (s : Standing) where
   abbrev pub sees : Report → Tokens → Bool
   sees a p = is_visible (located a.lines) a.case s p
 
-  -- the reader is told the same of both: the excerpt's outline, what is withheld, how many classes are visible, whether the
-  -- report is listed, and what a search finds
+  -- the reader is told the same of both: the same excerpt, if there is one, and whether what is looked for is met
   pub record IsToldAlike (a b : Report) : Type 0 where
-    pub outline : kept_outline a.lines a.case s ≡ kept_outline b.lines b.case s
-    pub withheld : HasSame (withheld_of a.lines a.case s) (withheld_of b.lines b.case s)
-    pub count : visible_count a.lines a.case s ≡ visible_count b.lines b.case s
-    pub listed : is_listed a.lines a.case s ≡ is_listed b.lines b.case s
-    pub found : (needle : Bytes) (name : Option Bytes) → finds a.lines a.case s needle name ≡ finds b.lines b.case s needle name
+    pub excerpt : excerpt_of a.lines a.case s ≡ excerpt_of b.lines b.case s
+    pub told : told_of a.lines a.case s ≡ told_of b.lines b.case s
+    pub met : (needle class : Option Bytes) → meets_by needle class a.lines a.case s ≡ meets_by needle class b.lines b.case s
 
   -- ---- steps
 
@@ -94,7 +86,7 @@ module _ (s : Standing) where
     pub source : a.case.source ≡ b.case.source
     pub gates : gates_but p a.case.gates ≡ gates_but p b.case.gates
     pub permissions : permissions_but p a.case.permissions ≡ permissions_but p b.case.permissions
-    pub withheld : HasSame (withheld_of a.lines a.case s) (withheld_of b.lines b.case s)
+    pub withheld : withheld_of a.lines a.case s ≡ withheld_of b.lines b.case s
 
   -- other permissions, whose grantees don't include the reader
   pub record HasOtherPermissions (a b : Report) : Type 0 where

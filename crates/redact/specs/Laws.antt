@@ -1,16 +1,20 @@
 -- What excerpts and searches promise, whatever the document, the case and the reader are.
-use Rattle.std.specs.Prelude.{◌≡◌, ◌==◌, Bool, true, false, not, List, map, filter, Option, Contains, IsSomeAnd}
-use Rattle.iodef_tree.specs.Text.{Bytes}
+use Rattle.std.specs.Prelude.{◌≡◌, ◌==◌, Bool, true, false, not, List, map, filter, Option, None, is_some, Contains, IsSomeAnd}
+use Rattle.iodef_tree.specs.Text.{Bytes, is_root}
 use Rattle.iodef_tree.specs.Paths.{LocatedLine, is_class, is_class_kind, located}
 use Rattle.iodef_tree.specs.declared.line.Line.{Line}
 use Rattle.policy.specs.declared.standing.Standing.{Standing}
 use Rattle.policy.specs.declared.case.Case.{Case}
+use Rattle.policy.specs.declared.gate.Gate.{Gate}
 use Rattle.policy.specs.declared.rule.Rule.{Rule}
 use Rattle.policy.specs.declared.verdict.Verdict.{Verdict}
 use Rattle.policy.specs.declared.verdict.Verdict.TheVariants.{Shown, Hidden}
+use Rattle.policy.specs.Gates.{passage_of}
 use Rattle.policy.specs.Verdict.{is_visible, verdict_of}
 use Rattle.redact.specs.Kept.{Verdicts, is_kept, is_frame, kept}
-use Rattle.redact.specs.Told.{verdicts_of, excerpt_place, withheld_of, visible_count, is_listed, finds}
+use Rattle.redact.specs.Withheld.{Withheld, in_order, Lists}
+use Rattle.redact.specs.Told.{verdicts_of, excerpt_place, visible_count, is_listed, excerpt_of, finds}
+use Rattle.redact.specs.Wants.{meets_by}
 
 -- an incident is listed exactly where an excerpt of it is served: where some class is visible
 abbrev pub ListedIsServed : Type 0
@@ -25,19 +29,35 @@ abbrev pub KeptClassesStay : Type 0
 KeptClassesStay = (v : Verdicts) (es : List LocatedLine) →
     filter (λ l. is_class_kind l.kind) (kept v es) ≡ map (λ e. e.line) (filter is_class (filter (is_kept v) es))
 
+-- Nothing is told: there is no excerpt, and nothing that is looked for is met.
+pub record TellsNothing (ls : List Line) (c : Case) (s : Standing) : Type 0 where
+  pub excerpt : excerpt_of ls c s ≡ None
+  pub met : (needle class : Option Bytes) → meets_by needle class ls c s ≡ false
+
+-- a reader who isn't of the source, and whom a gate at the root refuses, is told nothing, whatever the lines are
+abbrev pub RootGateTellsNothing : Type 0
+RootGateTellsNothing = (ls : List Line) (c : Case) (s : Standing) (g : Gate) → s.source ≡ false →
+    Contains c.gates g → is_root g.path ≡ true → is_some (passage_of s g) ≡ true → TellsNothing ls c s
+
+-- what is withheld is listed in order and without repeats: all of it, and nothing else
+abbrev pub WithheldIsListed : Type 0
+WithheldIsListed = (pairs : List Withheld) → Lists pairs (in_order pairs)
+
 -- ---- what is decided, and what is served
 
 abbrev pub is_shown : Verdict → Bool
 is_shown (Shown r) = true
 is_shown (Hidden r) = false
 
--- A verdict tells what is served. It is Shown exactly where the class is visible; where it is Hidden, by the rule that hides
--- the class; and a frame has a place in the excerpt, at which the rule that hides it is told.
+-- A verdict tells what is served. It is Shown exactly where the class is visible, and then an excerpt is served; where it is
+-- Hidden, by the rule that hides the class; and of a frame an excerpt is served in which it has a place, at which the rule that
+-- hides it is told.
 pub record VerdictIsServed (ls : List Line) (c : Case) (s : Standing) (e : LocatedLine) : Type 0 where
   pub shown : is_shown (verdict_of (located ls) c s e.path) ≡ is_visible (located ls) c s e.path
   pub hidden : (r : Rule) → verdict_of (located ls) c s e.path ≡ Hidden r → r ≡ (verdicts_of (located ls) c s).rule e.path
+  pub served : is_visible (located ls) c s e.path ≡ true → is_some (excerpt_of ls c s) ≡ true
   pub frame : is_frame (verdicts_of (located ls) c s) e.path ≡ true →
-      IsSomeAnd (excerpt_place ls c s e.path) (λ q. Contains (withheld_of ls c s) (q, (verdicts_of (located ls) c s).rule e.path))
+      IsSomeAnd (excerpt_of ls c s) (λ t. IsSomeAnd (excerpt_place ls c s e.path) (λ q. Contains t.withheld (q, (verdicts_of (located ls) c s).rule e.path)))
 
 abbrev pub VerdictsAreServed : Type 0
 VerdictsAreServed = (ls : List Line) (c : Case) (s : Standing) (e : LocatedLine) → Contains (located ls) e → is_class e ≡ true → VerdictIsServed ls c s e

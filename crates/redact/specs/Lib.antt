@@ -9,7 +9,9 @@ pub mod Left
 pub mod Saying
 pub mod Excerpts
 pub mod Search
+pub mod Wants
 pub mod Ties
 pub mod Laws
+pub mod Examples
 pub mod Alike
 pub mod Feeding

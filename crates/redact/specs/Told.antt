@@ -1,5 +1,5 @@
 -- What a reader is told of an incident: one set of words for excerpts, listings and searches.
-use Rattle.std.specs.Prelude.{ℕ, Bool, true, false, ◌&&◌, ◌||◌, ◌==◌, is_none, List, [], ◌∷◌, count_by, Option, Some, None, codes}
+use Rattle.std.specs.Prelude.{ℕ, Bool, true, false, ◌&&◌, ◌||◌, ◌==◌, is_none, List, [], ◌∷◌, count_by, if◌then◌else◌, Option, Some, None, codes}
 use Rattle.std.specs.List.{list_any}
 use Rattle.std.specs.Str.{bytes_eq}
 use Rattle.iodef_tree.specs.Text.{Bytes, Tokens, same_path}
@@ -13,7 +13,7 @@ use Rattle.policy.specs.Verdict.{is_visible, hiding_rule}
 use Rattle.policy.specs.declared.standing.Standing.{Standing}
 use Rattle.policy.specs.declared.case.Case.{Case}
 use Rattle.redact.specs.Kept.{Attribute, Verdicts, kept}
-use Rattle.redact.specs.Withheld.{Withheld, class_places, place_by, withheld_pairs}
+use Rattle.redact.specs.Withheld.{Withheld, class_places, place_by, withheld_pairs, in_order}
 
 -- the value of `ext-restriction`, for an extended label (RFC 7970 section 5.1.1)
 abbrev pub ext_restriction_of : Marking → Option Bytes
@@ -74,6 +74,12 @@ holds_needle es needle p = list_any (λ e. same_path e.parent p && is_hit needle
 
 -- ---- all that is told
 
+-- what an excerpt tells: its outline, what is withheld at which of its places, and how many classes are visible
+pub record Told : Type 0 where
+  pub outline : List Line
+  pub withheld : List Withheld
+  pub classes : ℕ
+
 module _ (ls : List Line) (c : Case) (s : Standing) where
   abbrev pub is_seen_class : LocatedLine → Bool
   is_seen_class e = is_class e && is_visible (located ls) c s e.path
@@ -82,9 +88,9 @@ module _ (ls : List Line) (c : Case) (s : Standing) where
   abbrev pub kept_outline : List Line
   kept_outline = kept (verdicts_of (located ls) c s) (located ls)
 
-  -- what is withheld, in stored order and with repeats
+  -- what is withheld, in order and without repeats
   abbrev pub withheld_of : List Withheld
-  withheld_of = withheld_pairs (verdicts_of (located ls) c s) (located ls)
+  withheld_of = in_order (withheld_pairs (verdicts_of (located ls) c s) (located ls))
 
   -- the place in the excerpt of the class at a path, if it is kept
   abbrev pub excerpt_place : Tokens → Option Tokens
@@ -97,6 +103,14 @@ module _ (ls : List Line) (c : Case) (s : Standing) where
   -- the incident is listed: some class of it is visible
   abbrev pub is_listed : Bool
   is_listed = list_any is_seen_class (located ls)
+
+  -- what is told of the incident to whom it is listed
+  abbrev pub told_of : Told
+  told_of = record { outline = kept_outline; withheld = withheld_of; classes = visible_count }
+
+  -- the excerpt of these lines for this case and standing; none where no class is visible
+  abbrev pub excerpt_of : Option Told
+  excerpt_of = if is_listed then Some told_of else None
 
   -- a visible class, of this name if one is given, directly holds a text that contains the needle
   abbrev pub finds : Bytes → Option Bytes → Bool

@@ -3,6 +3,7 @@ use Rattle.std.specs.Prelude.{Bool, ◌&&◌, not, List, [], ◌∷◌, ◌++◌
 use Rattle.std.specs.List.{flat_map, list_any, zip}
 use Rattle.std.specs.List.Sorted.{IsStrictlySortedBy}
 use Rattle.std.specs.declared.cmp.Ordering.{Ordering}
+use Rattle.std.specs.declared.cmp.Ordering.TheVariants.{Less, Equal, Greater}
 use Rattle.std.specs.Ordering.{nat_cmp, on, then_cmp, eq_of_both}
 use Rattle.std.specs.Str.{bytes_eq}
 use Rattle.std.specs.Cmp.Lexicographic.{slice_cmp}
@@ -61,6 +62,31 @@ withheld_cmp = then_cmp (on (λ x. pointer_text x.0) (slice_cmp nat_cmp)) (on (�
 abbrev pub same_withheld : Withheld → Withheld → Bool
 same_withheld = eq_of_both (on (λ x. pointer_text x.0) bytes_eq) (on (λ x. name_of x.1) bytes_eq)
 
+-- ---- in order
+
+abbrev pub noted_by : Ordering → Withheld → Withheld → List Withheld → List Withheld → List Withheld
+noted_by Less x y ys rest = x ∷ y ∷ ys
+noted_by Equal x y ys rest = y ∷ ys
+noted_by Greater x y ys rest = y ∷ rest
+
+-- a pair at its place in the order, unless it stands there
+abbrev pub noted : Withheld → List Withheld → List Withheld
+noted x [] = x ∷ []
+noted x (y ∷ ys) = noted_by (withheld_cmp x y) x y ys (noted x ys)
+
+-- by the bytes of the place and then of the rule, none twice
+abbrev pub in_order : List Withheld → List Withheld
+in_order [] = []
+in_order (x ∷ xs) = noted x (in_order xs)
+
+-- a list in this order, without repeats, of the same pairs
+pub record Lists (pairs listed : List Withheld) : Type 0 where
+  pub ascending : IsStrictlySortedBy withheld_cmp listed
+  pub sound : (x : Withheld) → Contains listed x → Contains pairs x
+  pub complete : (x : Withheld) → Contains pairs x → Contains listed x
+
+-- ---- as a pass notes it
+
 -- a pair is among these
 abbrev pub is_among : List Withheld → Withheld → Bool
 is_among ps x = list_any (same_withheld x) ps
@@ -79,9 +105,3 @@ at_rule q r = (q, r)
 
 abbrev pub at_place : Tokens → List Rule → List Withheld
 at_place q rules = map (at_rule q) rules
-
--- a list in this order, without repeats, of the same pairs
-pub record Lists (pairs listed : List Withheld) : Type 0 where
-  pub ascending : IsStrictlySortedBy withheld_cmp listed
-  pub sound : (x : Withheld) → Contains listed x → Contains pairs x
-  pub complete : (x : Withheld) → Contains pairs x → Contains listed x

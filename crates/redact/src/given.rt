@@ -1,10 +1,10 @@
 //! The excerpt of a whole document.
 
-ghost use Rattle.std.specs.Prelude.{◌≡◌, None, IfOk, IfSome};
+ghost use Rattle.std.specs.Prelude.{◌≡◌, None, option_map, IfOk, IfSome};
 ghost use Rattle.iodef_tree.specs.Paths.{located};
 ghost use Rattle.marking.specs.Marks.{first_bad_marking};
-ghost use Rattle.redact.specs.Excerpts.{Gives, LabelsSurvive};
-ghost use Rattle.redact.specs.Withheld.{Lists};
+ghost use Rattle.redact.specs.Told.{excerpt_of};
+ghost use Rattle.redact.specs.Excerpts.{told_by, LabelsSurvive};
 
 use crate::kept::Excerpt;
 use crate::listed::listed;
@@ -26,7 +26,7 @@ pub fn excerpt<'a>(
     standing: &'a Standing,
 ) -> Result<Option<Excerpt>, AllocError>
     requires { first_bad_marking (located document.now) ≡ None }
-    ensures told { IfOk result (λ r. Gives document.now case.now standing.now r) }
+    ensures told { IfOk result (λ r. option_map told_by r ≡ excerpt_of document.now case.now standing.now) }
     ensures checked { IfOk result (λ r. IfSome r (λ e. first_bad_marking (located e.document) ≡ None)) }
     ensures labels { IfOk result (λ r. IfSome r (λ e. LabelsSurvive document.now case.now standing.now e.document)) }
 {

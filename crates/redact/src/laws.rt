@@ -2,7 +2,7 @@
 //! function that does nothing.
 
 ghost use Rattle.redact.specs.Alike.{AlikeIsToldAlike};
-ghost use Rattle.redact.specs.Laws.{ListedIsServed, FoundIsListed, KeptClassesStay, VerdictsAreServed};
+ghost use Rattle.redact.specs.Laws.{ListedIsServed, FoundIsListed, KeptClassesStay, WithheldIsListed, RootGateTellsNothing, VerdictsAreServed};
 
 /// An incident is listed exactly where an excerpt of it is served.
 pub fn listed_is_served()
@@ -19,8 +19,18 @@ pub fn kept_classes_stay()
     ensures { KeptClassesStay }
 {}
 
-/// The verdict of a class tells what is served of it: Shown exactly where the class is visible, else the rule that hides it,
-/// which is told at its place in the excerpt where the class is a frame.
+/// What is withheld is told in order and without repeats: all of it, and nothing else.
+pub fn withheld_is_listed()
+    ensures { WithheldIsListed }
+{}
+
+/// Where a gate at the root refuses a reader who isn't of the source, nothing is listed, found or served.
+pub fn root_gate_tells_nothing()
+    ensures { RootGateTellsNothing }
+{}
+
+/// The verdict of a class tells what is served of it: Shown exactly where the class is visible, of which an excerpt is served,
+/// else the rule that hides it, which is told at its place in the excerpt where the class is a frame.
 pub fn verdicts_are_served()
     ensures { VerdictsAreServed }
 {}

@@ -1,10 +1,11 @@
 //! What a reader is served of a document whose lines come one at a time.
 
-ghost use Rattle.std.specs.Prelude.{◌≡◌, true, None, Err, is_some, IfOk, IfErr, IfSome};
+ghost use Rattle.std.specs.Prelude.{◌≡◌, true, None, Err, is_some, option_map, IfOk, IfErr, IfSome};
 ghost use Rattle.iodef_tree.specs.Paths.{located};
 ghost use Rattle.iodef_tree.specs.declared.fault.OutlineFault.TheVariants.{NoMemory};
 ghost use Rattle.marking.specs.Marks.{first_bad_marking};
-ghost use Rattle.redact.specs.Excerpts.{Gives, LabelsSurvive};
+ghost use Rattle.redact.specs.Told.{excerpt_of};
+ghost use Rattle.redact.specs.Excerpts.{told_by, LabelsSurvive};
 ghost use Rattle.redact.specs.Feeding.{FeedsLine};
 
 use crate::given::excerpt;
@@ -23,7 +24,7 @@ pub fn excerpt_if_marked(
     case: &Case,
     standing: &Standing,
 ) -> Result<Option<Excerpt>, AllocError>
-    ensures told { first_bad_marking (located document.now) ≡ None → IfOk result (λ r. Gives document.now case.now standing.now r) }
+    ensures told { first_bad_marking (located document.now) ≡ None → IfOk result (λ r. option_map told_by r ≡ excerpt_of document.now case.now standing.now) }
     ensures refused { is_some (first_bad_marking (located document.now)) ≡ true → IfOk result (λ r. r ≡ None) }
     ensures checked { IfOk result (λ r. IfSome r (λ e. first_bad_marking (located e.document) ≡ None)) }
     ensures labels { first_bad_marking (located document.now) ≡ None → IfOk result (λ r. IfSome r (λ e. LabelsSurvive document.now case.now standing.now e.document)) }
@@ -78,7 +79,7 @@ impl RowPass {
     /// What the reader is served of the document with these lines; nothing of one whose markings aren't accepted.
     pub fn finish(self) -> Result<Option<Excerpt>, OutlineFault>
         ensures ended { IfSome self.fed.fault (λ f. result ≡ Err f) }
-        ensures told { self.fed.fault ≡ None → first_bad_marking (located self.fed.lines) ≡ None → IfOk result (λ r. Gives self.fed.lines self.case self.standing r) }
+        ensures told { self.fed.fault ≡ None → first_bad_marking (located self.fed.lines) ≡ None → IfOk result (λ r. option_map told_by r ≡ excerpt_of self.fed.lines self.case self.standing) }
         ensures refused { self.fed.fault ≡ None → is_some (first_bad_marking (located self.fed.lines)) ≡ true → IfOk result (λ r. r ≡ None) }
         ensures checked { IfOk result (λ r. IfSome r (λ e. first_bad_marking (located e.document) ≡ None)) }
         ensures labels { self.fed.fault ≡ None → first_bad_marking (located self.fed.lines) ≡ None → IfOk result (λ r. IfSome r (λ e. LabelsSurvive self.fed.lines self.case self.standing e.document)) }

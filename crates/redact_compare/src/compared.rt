@@ -4,7 +4,6 @@ ghost use Rattle.std.specs.Prelude.{◌≡◌, None};
 ghost use Rattle.iodef_tree.specs.Paths.{located as entries_of};
 ghost use Rattle.marking.specs.Marks.{first_bad_marking};
 
-use crate::dice::Dice;
 use crate::documents::report_text;
 use crate::entry::{Entry, located};
 use crate::judged::{
@@ -21,6 +20,7 @@ use marking::check;
 use policy::{Case, Rule, Standing};
 use redact::{Excerpt, excerpt, finds, is_listed};
 use std::alloc::{AllocError, Global};
+use trying::Dice;
 
 /// The needles, and the classes in which they are searched.
 const SEARCHES: &[Sought<'static>] = &[

@@ -1,8 +1,8 @@
 //! Generated reports, as JSON texts.
 
-use crate::dice::Dice;
 use crate::writing::Writing;
 use std::alloc::{AllocError, Global};
+use trying::Dice;
 
 /// A text of this many bytes takes no further classes but such without members.
 const ROOM: usize = 600;

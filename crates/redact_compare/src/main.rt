@@ -4,7 +4,6 @@
 #![tactic(auto)]
 
 mod compared;
-mod dice;
 mod documents;
 mod entry;
 mod judged;

@@ -1,11 +1,11 @@
 //! Generated gates, permissions and readers.
 
-use crate::dice::Dice;
 use crate::entry::element;
 use iodef_tree::{Path, Text};
 use marking::Handling;
 use policy::{Case, Gate, Gates, Grantee, Numbers, Permission, Permissions, Standing};
 use std::alloc::{AllocError, Global};
+use trying::Dice;
 
 /// What stands above a path.
 fn above(path: Path) -> Path {

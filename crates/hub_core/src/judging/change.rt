@@ -1,6 +1,7 @@
 //! Recipients, permissions and gates, one at a time.
 ghost use Rattle.std.specs.Prelude.{◌≡◌, [], ◌∷◌, IfOk};
-ghost use Rattle.hub_core.specs.Judgement.{grounds_by, edits_by, is_known_class, is_known_place};
+ghost use Rattle.hub_core.specs.Refusals.{grounds_by, is_class_at, is_place_at};
+ghost use Rattle.hub_core.specs.Aftermath.{edits_by};
 ghost use Rattle.hub_core.specs.Asked.{Asks};
 ghost use Rattle.hub_core.specs.declared.request.Request.TheVariants as ask;
 
@@ -11,7 +12,7 @@ use crate::judging::stop::{
     Stop, bad_if, other_than, own, path_of, poster, refuse_if, refuse_with,
 };
 use crate::request::{Address, Grant, Redistribute, Unaddress, Withdraw};
-use crate::state::{Gate, Permission, Recipient};
+use crate::state::{Gate, GateKey, Permission, PermissionKey, Recipient};
 use crate::{GATE_LIMIT, PERMISSION_LIMIT, RECIPIENT_LIMIT};
 use circle::directory::Person;
 use circle::refusal::Code;
@@ -98,8 +99,10 @@ pub fn grant(
         alloc,
         Edit::PutPermission(Permission {
             incident: request.incident,
-            path,
-            grantee: request.grantee,
+            permission: policy::Permission {
+                path,
+                grantee: request.grantee,
+            },
         }),
     )?)
 }
@@ -120,11 +123,11 @@ pub fn withdraw(
     refuse_if(alloc, !facts.circle.stands, Code::S2)?;
     Ok(one(
         alloc,
-        Edit::TakePermission {
+        Edit::TakePermission(PermissionKey {
             incident: request.incident,
             path,
             grantee: request.grantee,
-        },
+        }),
     )?)
 }
 
@@ -154,22 +157,24 @@ pub fn redistribute(
     )?;
     refuse_if(alloc, facts.gates > GATE_LIMIT, Code::L1)?;
     let mut edits = Vec::with_capacity(alloc, 2)?;
-    edits.push(Edit::TakeGate {
+    edits.push(Edit::TakeGate(GateKey {
         incident,
         path: path.clone()?,
-    })?;
+    }))?;
     edits.push(Edit::PutGate(Gate {
         incident,
-        path,
-        level: level as u8,
-        group,
+        gate: policy::Gate {
+            path,
+            level: level as u8,
+            group,
+        },
     }))?;
     Ok(edits)
 }
 
 /// Whether the incident that is asked about has a class at the path.
 pub fn is_class(facts: &Facts, path: &Path) -> bool
-    ensures { result ≡ is_known_class facts.now path.now }
+    ensures { result ≡ is_class_at facts.now.document path.now }
 {
     match &facts.document {
         Some(document) => document.has_class(path),
@@ -179,7 +184,7 @@ pub fn is_class(facts: &Facts, path: &Path) -> bool
 
 /// The root, or a class.
 fn is_place(facts: &Facts, path: &Path) -> bool
-    ensures { result ≡ is_known_place facts.now path.now }
+    ensures { result ≡ is_place_at facts.now.document path.now }
 {
     match &facts.document {
         Some(document) => is_root(path) || document.has_class(path),

@@ -11,6 +11,7 @@ ghost use Rattle.hub_core.specs.Asked.{Asks};
 ghost use Rattle.hub_core.specs.Wanted.{asked_as, put_at};
 ghost use Rattle.hub_core.specs.declared.request.WantedGate.{WantedGate};
 
+use crate::copies::copy_of_gate;
 use crate::edit::Edit;
 use crate::judging::gate::{is_bad_group, is_bad_level, is_root};
 use crate::judging::posted::Posted;
@@ -71,12 +72,12 @@ impl ClassGates {
     ) -> Result<(), AllocError>
         ensures { OnOk result (edits.new.items ≡ edits.old.items ++ put_gates incident (record { level = level; group = group; gates = self.now })) }
     {
-        edits.push(Edit::PutGate(state::Gate {
-            incident,
+        let gate = Gate {
             path: Path::root(alloc),
             level,
             group,
-        }))?;
+        };
+        edits.push(Edit::PutGate(state::Gate { incident, gate }))?;
         put_each(edits, incident, &self.gates)?;
         Ok(())
     }
@@ -88,9 +89,7 @@ fn put_each(edits: &mut Vec<Edit>, incident: u32, gates: &[Gate]) -> Result<(), 
     for gate in gates {
         edits.push(Edit::PutGate(state::Gate {
             incident,
-            path: gate.path.clone()?,
-            level: gate.level,
-            group: gate.group,
+            gate: copy_of_gate(gate)?,
         }))?;
     }
     Ok(())

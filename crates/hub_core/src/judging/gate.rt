@@ -1,14 +1,15 @@
 //! The levels and the groups of gates (the MISP book's distribution levels).
 ghost use Rattle.std.specs.Prelude.{◌≡◌, IfOk};
 ghost use Rattle.iodef_tree.specs.Text.{is_root as is_path_of_root};
-ghost use Rattle.hub_core.specs.Refusals.{is_bad_level as is_level_bad, is_bad_group as is_group_bad};
-ghost use Rattle.hub_core.specs.Asked.{Asks, root_gate};
+ghost use Rattle.hub_core.specs.Refusals.{is_bad_level as is_level_bad, is_bad_group as is_group_bad, root_gate};
+ghost use Rattle.hub_core.specs.Asked.{Asks};
 
 use crate::judging::stop::{Stop, bad_if};
 use crate::request::Distribution;
 use iodef_tree::Path;
 use std::alloc::Global;
 
+/// Whether a path is that of the root.
 pub fn is_root(path: &Path) -> bool
     ensures { result ≡ is_path_of_root path.now }
 {

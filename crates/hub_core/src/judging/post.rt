@@ -1,9 +1,9 @@
 //! New incidents, one for each Incident of a body.
 ghost use Rattle.std.specs.Prelude.{◌≡◌, ◌+◌, ◌<◌, ◌≤◌, ◌^◌, length, IfOk, OnOk};
 ghost use Rattle.hub_core.specs.Documents.{documents_in};
-ghost use Rattle.hub_core.specs.Aftermath.{put_incidents as put_all_incidents};
-ghost use Rattle.hub_core.specs.Judgement.{grounds_by, edits_by};
-ghost use Rattle.hub_core.specs.Asked.{Asks, post_arguments, post_facts};
+ghost use Rattle.hub_core.specs.Aftermath.{put_incidents as put_all_incidents, edits_by};
+ghost use Rattle.hub_core.specs.Refusals.{grounds_by, post_arguments, post_facts};
+ghost use Rattle.hub_core.specs.Asked.{Asks};
 ghost use Rattle.hub_core.specs.declared.request.Request.TheVariants as ask;
 
 use crate::edit::Edit;
@@ -14,7 +14,7 @@ use crate::judging::gate::root_level;
 use crate::judging::posted::Posted;
 use crate::judging::stop::{Stop, bad_if, poster, refuse_if, refuse_with};
 use crate::request::Post;
-use crate::state::Incident;
+use crate::state::{Incident, Naming};
 use crate::{GATE_LIMIT, INCIDENT_LIMIT};
 use circle::directory::Person;
 use circle::refusal::Code;
@@ -86,13 +86,13 @@ fn put_incidents(
     let mut number = first;
     for posted in documents {
         let (document, ident) = posted.into_parts();
-        edits.push(Edit::PutIncident(Incident {
+        let naming = Naming {
             number,
             source,
             ident,
             revision: 1,
-            document,
-        }))?;
+        };
+        edits.push(Edit::PutIncident(Incident { naming, document }))?;
         gates.put(alloc, &mut edits, number, level, group)?;
         number += 1;
     }

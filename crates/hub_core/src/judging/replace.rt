@@ -3,8 +3,9 @@ ghost use Rattle.std.specs.Prelude.{◌≡◌, ◌+◌, ◌≤◌, true, Some, l
 ghost use Rattle.std.specs.List.{list_all};
 ghost use Rattle.std.specs.Str.{bytes_eq};
 ghost use Rattle.hub_core.specs.Documents.{Lines, documents_in, ident_of};
-ghost use Rattle.hub_core.specs.Judgement.{grounds_by, edits_by, put_known};
-ghost use Rattle.hub_core.specs.Asked.{Asks, replace_arguments, replace_facts};
+ghost use Rattle.hub_core.specs.Refusals.{grounds_by, replace_arguments, replace_facts};
+ghost use Rattle.hub_core.specs.Aftermath.{edits_by, put_revision};
+ghost use Rattle.hub_core.specs.Asked.{Asks};
 ghost use Rattle.hub_core.specs.declared.request.Request.TheVariants as ask;
 
 use crate::edit::Edit;
@@ -15,7 +16,7 @@ use crate::judging::gate::root_level;
 use crate::judging::posted::Posted;
 use crate::judging::stop::{Stop, bad_if, other_than, own, poster, refuse_if, refuse_with};
 use crate::request::Replace;
-use crate::state::Incident;
+use crate::state::{Incident, Naming};
 use crate::{GATE_LIMIT, REVISION_LIMIT};
 use circle::directory::Person;
 use circle::refusal::Code;
@@ -103,19 +104,19 @@ fn next_revision(
     requires single { length documents.items ≤ 1 }
     requires ident { list_all (λ (doc : Lines). bytes_eq (ident_of doc) known.now.ident) documents.items ≡ true }
     requires room { known.now.revision + 1 ≤ REVISION_LIMIT }
-    ensures { IfOk result (λ edits. edits.items ≡ put_known incident known.now documents.items) }
+    ensures { IfOk result (λ edits. edits.items ≡ put_revision incident known.now documents.items) }
 {
     let mut edits = Vec::new(alloc);
     if let Some(posted) = documents.pop() {
         let (document, ident) = posted.into_parts();
         edits.push(Edit::TakeIncident(incident))?;
-        edits.push(Edit::PutIncident(Incident {
+        let naming = Naming {
             number: incident,
             source: known.source,
             ident,
             revision: known.revision + 1,
-            document,
-        }))?;
+        };
+        edits.push(Edit::PutIncident(Incident { naming, document }))?;
     }
     Ok(edits)
 }

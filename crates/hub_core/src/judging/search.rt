@@ -1,7 +1,7 @@
 //! What may be wrong with a search.
-ghost use Rattle.std.specs.Prelude.{◌≡◌, IfOk, option_map};
-ghost use Rattle.hub_core.specs.Judgement.{grounds_by, edits_by};
-ghost use Rattle.hub_core.specs.Refusals.{is_bad_word as is_word_bad};
+ghost use Rattle.std.specs.Prelude.{◌≡◌, IfOk};
+ghost use Rattle.hub_core.specs.Refusals.{grounds_by, is_bad_word as is_word_bad};
+ghost use Rattle.hub_core.specs.Aftermath.{edits_by};
 ghost use Rattle.hub_core.specs.Asked.{Asks};
 ghost use Rattle.hub_core.specs.declared.request.Request.TheVariants as ask;
 

@@ -1,27 +1,27 @@
 //! What the tables look up for standings and facts.
 
-ghost use Rattle.std.specs.Prelude.{◌≡◌, ◌<◌};
+ghost use Rattle.std.specs.Prelude.{◌<◌};
 
 use super::SqlShelf;
 use crate::count_incidents::incident_count;
 use crate::directory_facts::find_circle_facts;
 use crate::find_arranged::{arranged, served_by};
-use crate::find_communities::{are_connected, communities_of, share_community};
+use crate::find_communities::{are_connected, communities_of, has_membership, share_community};
 use crate::find_document::find_document;
+use crate::find_gates::find_gates;
 use crate::find_groups::{groups_joined, has_group_member};
-use crate::find_known::find_known;
+use crate::find_naming::find_naming;
 use crate::find_number::number_of;
 use crate::find_numbered::{has_community, has_org, has_person, person_of};
-use crate::incident_gates::{class_gates, class_gates_with, has_gate};
-use crate::incident_permissions::{has_permission, permission_count, permissions_without};
-use crate::incident_recipients::{has_recipient, recipient_count, recipients_without};
+use crate::find_permissions::find_permissions;
+use crate::find_recipients::find_recipients;
 use crate::told::told;
 use circle::command::{CircleCommand, CircleFacts};
 use circle::directory::{Handling, Person};
 use circle::text::Text;
-use hub_core::{GroupsJoined, Known, LookUps, ShelfFault, Target};
-use iodef_tree::{Document, Path};
-use policy::Grantee;
+use hub_core::{GroupsJoined, LookUps, Naming, Recipients, ShelfFault};
+use iodef_tree::Document;
+use policy::{Gates, Permissions};
 use sqlite::Alter;
 
 impl<S: Alter> LookUps for SqlShelf<S> {
@@ -77,6 +77,12 @@ impl<S: Alter> LookUps for SqlShelf<S> {
         told(&mut self.failures, found)
     }
 
+    fn has_membership(&mut self, community: u32, org: u32) -> Result<bool, ShelfFault> {
+        self.may_ask()?;
+        let found = has_membership(&mut self.conn, community, org);
+        told(&mut self.failures, found)
+    }
+
     fn has_group_member(&mut self, group: u32, org: u32) -> Result<bool, ShelfFault> {
         self.may_ask()?;
         let found = has_group_member(&mut self.conn, group, org);
@@ -125,9 +131,9 @@ impl<S: Alter> LookUps for SqlShelf<S> {
         told(&mut self.failures, found)
     }
 
-    fn known(&mut self, incident: u32) -> Result<Option<Known>, ShelfFault> {
+    fn naming(&mut self, incident: u32) -> Result<Option<Naming>, ShelfFault> {
         self.may_ask()?;
-        let found = find_known(&mut self.conn, self.alloc, incident);
+        let found = find_naming(&mut self.conn, self.alloc, incident);
         told(&mut self.failures, found)
     }
 
@@ -143,73 +149,21 @@ impl<S: Alter> LookUps for SqlShelf<S> {
         told(&mut self.failures, found)
     }
 
-    fn has_recipient(&mut self, incident: u32, target: Target) -> Result<bool, ShelfFault> {
+    fn gates_of(&mut self, incident: u32) -> Result<Gates, ShelfFault> {
         self.may_ask()?;
-        let found = has_recipient(&mut self.conn, incident, target);
+        let found = find_gates(&mut self.conn, self.alloc, incident);
         told(&mut self.failures, found)
     }
 
-    fn has_gate(
-        &mut self,
-        incident: u32,
-        path: &Path,
-        level: u32,
-        group: Option<u32>,
-    ) -> Result<bool, ShelfFault> {
+    fn recipients_of(&mut self, incident: u32) -> Result<Recipients, ShelfFault> {
         self.may_ask()?;
-        let found = has_gate(&mut self.conn, self.alloc, incident, path, level, group);
+        let found = find_recipients(&mut self.conn, self.alloc, incident);
         told(&mut self.failures, found)
     }
 
-    fn has_permission(
-        &mut self,
-        incident: u32,
-        path: &Path,
-        grantee: Grantee,
-    ) -> Result<bool, ShelfFault> {
+    fn permissions_of(&mut self, incident: u32) -> Result<Permissions, ShelfFault> {
         self.may_ask()?;
-        let found = has_permission(&mut self.conn, self.alloc, incident, path, grantee);
-        told(&mut self.failures, found)
-    }
-
-    fn class_gates(&mut self, incident: u32) -> Result<u32, ShelfFault> {
-        self.may_ask()?;
-        let found = class_gates(&mut self.conn, self.alloc, incident);
-        told(&mut self.failures, found)
-    }
-
-    fn class_gates_with(&mut self, incident: u32, path: &Path) -> Result<u32, ShelfFault> {
-        self.may_ask()?;
-        let found = class_gates_with(&mut self.conn, self.alloc, incident, path);
-        told(&mut self.failures, found)
-    }
-
-    fn recipient_count(&mut self, incident: u32) -> Result<u32, ShelfFault> {
-        self.may_ask()?;
-        let found = recipient_count(&mut self.conn, self.alloc, incident);
-        told(&mut self.failures, found)
-    }
-
-    fn recipients_without(&mut self, incident: u32, target: Target) -> Result<u32, ShelfFault> {
-        self.may_ask()?;
-        let found = recipients_without(&mut self.conn, self.alloc, incident, target);
-        told(&mut self.failures, found)
-    }
-
-    fn permission_count(&mut self, incident: u32) -> Result<u32, ShelfFault> {
-        self.may_ask()?;
-        let found = permission_count(&mut self.conn, self.alloc, incident);
-        told(&mut self.failures, found)
-    }
-
-    fn permissions_without(
-        &mut self,
-        incident: u32,
-        path: &Path,
-        grantee: Grantee,
-    ) -> Result<u32, ShelfFault> {
-        self.may_ask()?;
-        let found = permissions_without(&mut self.conn, self.alloc, incident, path, grantee);
+        let found = find_permissions(&mut self.conn, self.alloc, incident);
         told(&mut self.failures, found)
     }
 }

@@ -1,6 +1,6 @@
 use Rattle.std.proofs.Common.{◌≡◌, true, take}
 use Rattle.std.specs.List.{list_all}
-use Rattle.hub_core.specs.Refusals.{is_own_group}
+use Rattle.hub_core.specs.Requests.{is_own_group}
 use Rattle.hub_core.specs.Shelves.{IsKept}
 use Rattle.hub_core.specs.State.{State}
 use Rattle.hub_core.specs.declared.request.WantedGate.{WantedGate}

@@ -1,7 +1,7 @@
 use Rattle.std.proofs.Common.{◌≡◌, ◌&&◌, true, Bool, sym, ap, subst, ◌∙◌, arith}
 use Rattle.std.specs.Prelude.{IfOk}
 use Rattle.std.specs.List.{list_all}
-use Rattle.hub_core.specs.Refusals.{is_own_group}
+use Rattle.hub_core.specs.Requests.{is_own_group}
 use Rattle.hub_core.specs.declared.request.WantedGate.{WantedGate}
 use Rattle.hub_core.proofs.named_there.are_own_groups.Goals as goal
 

@@ -1,5 +1,5 @@
 use Rattle.std.proofs.Common.{◌≡◌, drop}
-use Rattle.hub_core.specs.Refusals.{posted_in}
+use Rattle.hub_core.specs.Facts.{posted_in}
 use Rattle.hub_core.specs.Shelves.{IsKept}
 use Rattle.hub_core.specs.State.{State}
 use Rattle.hub_core.proofs.posted_earlier.posted_among.Given as goal

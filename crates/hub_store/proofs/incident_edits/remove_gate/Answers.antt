@@ -8,4 +8,4 @@ use Rattle.hub_store.proofs.incident_edits.remove_gate.Goals as goal
 
 pub returns-clause-made : goal.returns-clause-made
 returns-clause-made g c is s =
-    made_by g.S.Store take_gate _ _ _ (λ db. Holds db s) (λ db. Holds db (edited (TakeGate c.args.incident c.args.path.now) s)) _ c.run.ensures.goes (λ clean inside. rw (c.params-to_sql.ensures, c.params-to_sql-2.ensures, is) at (c.run.ensures.ran clean inside)) (λ mid count h held. takes_gate mid _ c.args.incident c.args.path.now count h s held)
+    made_by g.S.Store take_gate _ _ _ (λ db. Holds db s) (λ db. Holds db (edited (TakeGate c.args.key.now) s)) _ c.run.ensures.goes (λ clean inside. rw (c.params-to_sql.ensures, c.params-to_sql-2.ensures, is) at (c.run.ensures.ran clean inside)) (λ mid count h held. takes_gate mid _ c.args.key.now count h s held)

@@ -8,4 +8,4 @@ use Rattle.hub_store.proofs.incident_edits.remove_permission.Goals as goal
 
 pub returns-clause-made : goal.returns-clause-made
 returns-clause-made g c is s =
-    made_by g.S.Store take_permission _ _ _ (λ db. Holds db s) (λ db. Holds db (edited (TakePermission c.args.incident c.args.path.now c.args.grantee) s)) _ c.run.ensures.goes (λ clean inside. rw (c.params-to_sql.ensures, c.params-to_sql-2.ensures, c.params-to_sql-3.ensures, c.params-to_sql-4.ensures, c.grantee_key-kind.ensures, is) at (c.run.ensures.ran clean inside)) (λ mid count h held. takes_permission mid _ c.args.incident c.args.path.now c.args.grantee count h s held)
+    made_by g.S.Store take_permission _ _ _ (λ db. Holds db s) (λ db. Holds db (edited (TakePermission c.args.key.now) s)) _ c.run.ensures.goes (λ clean inside. rw (c.params-to_sql.ensures, c.params-to_sql-2.ensures, c.params-to_sql-3.ensures, c.params-to_sql-4.ensures, c.grantee_key-kind.ensures, is) at (c.run.ensures.ran clean inside)) (λ mid count h held. takes_permission mid _ c.args.key.now count h s held)

@@ -1,9 +1,10 @@
-use Rattle.std.proofs.Common.{◌≡◌, List, sym, ◌∙◌, subst, IsPermutation}
+use Rattle.std.proofs.Common.{◌≡◌, List, ◌∙◌, subst, IsPermutation}
 use Rattle.std.proofs.lemmas.Result.{IfOk-weaker}
 use Rattle.std.specs.List.{dedup}
 use Rattle.std.proofs.lemmas.List.Filters.{dedup_is}
-use Rattle.redact.specs.Withheld.{Withheld, same_withheld, Lists}
+use Rattle.redact.specs.Withheld.{Withheld, same_withheld}
 use Rattle.redact.proofs.Listing.{lists-dedup}
+use Rattle.redact.proofs.InOrder.{listed_in_order}
 use Rattle.redact.proofs.listed.listed.Goals as goal
 
 pub returns : goal.returns
@@ -13,4 +14,4 @@ returns c =
     let zs : List Withheld = c.dedup.new.self.items in
     let once : zs ≡ dedup same_withheld ys = dedup_is same_withheld ys zs c.dedup.ensures.filtered in
     let moved : IsPermutation xs ys = subst (λ ws. IsPermutation ws ys) c.in_ok-entries.ensures c.in_ok-sort.ensures.permutation in
-    IfOk-weaker c.pairs_of.result _ _ (λ v is. subst (Lists xs) (sym (is ∙ once)) (lists-dedup xs ys moved c.in_ok-sort.ensures.sorted)) c.pairs_of.ensures
+    IfOk-weaker c.pairs_of.result _ _ (λ v is. is ∙ once ∙ listed_in_order xs (dedup same_withheld ys) (lists-dedup xs ys moved c.in_ok-sort.ensures.sorted)) c.pairs_of.ensures

@@ -7,5 +7,5 @@ use Rattle.hub_core.proofs.list_shelf.ListShelf.number_of.Goals as goal
 
 pub returns : goal.returns
 returns c = λ sound.
-    c.number_of.ensures c.self.inside.directory (subst (λ (s : State). Differ {K = ℕ × List ℕ} (λ (i : Incident). (i.source, i.ident)) s.incidents) (sym c.self.view_is) sound.incidents.idents)
+    c.number_of.ensures c.self.inside.directory (subst (λ (s : State). Differ {K = ℕ × List ℕ} (λ (i : Incident). (i.naming.source, i.naming.ident)) s.incidents) (sym c.self.view_is) sound.incidents.idents)
     ∙ ap (λ (s : State). option_map incident_number (incident_named c.args.name.now.source c.args.name.now.ident s)) c.self.view_is

@@ -11,7 +11,7 @@ use Rattle.hub_core.proofs.lists.Lists.take_incident.Goals as goal
 
 pub returns : goal.returns
 returns c =
-    let one : c.take_all.new.rows.items ≡ filter (λ (i : Incident). not (i.number == c.args.number)) c.args.self.now.incidents.items = search rules in
+    let one : c.take_all.new.rows.items ≡ filter (λ (i : Incident). not (i.naming.number == c.args.number)) c.args.self.now.incidents.items = search rules in
     let two : c.retain.new.self.items ≡ filter (λ (e : Named). not (e.number == c.args.number)) c.args.self.now.names.items = filter_same _ (λ (e : Named). not (e.number == c.args.number)) _ (λ x b f k. search rules) c.args.self.now.names.items c.retain.new.self.items c.retain.ensures.filtered in
     record {
       made = λ d. search rules;

@@ -1,0 +1,9 @@
+-- What the examples compute with, bodies read from their bytes among it.
+use Rattle.std.specs.Fmt.{digits}
+use Rattle.std.specs.Str.{chars, is_utf8}
+use Rattle.serde_json.proofs.OnLiterals.{serde_json_on_literals}
+use Rattle.iodef_tree.specs.Reading.{all_fit, reading}
+
+unfoldable pub computed : Unit {0}
+unfolding serde_json_on_literals digits chars is_utf8 all_fit reading
+computed = tt

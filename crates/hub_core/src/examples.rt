@@ -1,0 +1,55 @@
+//! The definitions computed on a small circle and what is asked in it, which stand in `specs/Examples.antt`: a wrong definition would show
+//! here, with no program between. Each is the contract of a function that does nothing.
+#![tactic(auto, unfolding(crate::proofs::Computed::computed))]
+
+ghost use Rattle.hub_core.specs.Examples.{StandingsAreFound, ReaderPostsNothing, FirstPostIsFirst, PostsAreRefused, GrantsAreRefused, GatesAreRefused, OthersAreNotThere, PermissionsAreWithdrawn, ReplaceEndsPermissions, CoordinatorsKeepToTheirs};
+
+/// How persons stand to an incident, by the rows of the circle.
+pub fn standings_are_found()
+    ensures { StandingsAreFound }
+{}
+
+/// A reader posts nothing and grants nothing.
+pub fn reader_posts_nothing()
+    ensures { ReaderPostsNothing }
+{}
+
+/// The first incident that is posted, read from its bytes.
+pub fn first_post_is_first()
+    ensures { FirstPostIsFirst }
+{}
+
+/// Why a post is refused, by what its body says.
+pub fn posts_are_refused()
+    ensures { PostsAreRefused }
+{}
+
+/// Why a grant is refused, and one that is not.
+pub fn grants_are_refused()
+    ensures { GrantsAreRefused }
+{}
+
+/// Why a gate is refused, and one that is not.
+pub fn gates_are_refused()
+    ensures { GatesAreRefused }
+{}
+
+/// Another organisation's incident is answered as one that isn't there.
+pub fn others_are_not_there()
+    ensures { OthersAreNotThere }
+{}
+
+/// A permission that stands is taken back, and no other.
+pub fn permissions_are_withdrawn()
+    ensures { PermissionsAreWithdrawn }
+{}
+
+/// An exchange of a document, and why one is refused.
+pub fn replace_ends_permissions()
+    ensures { ReplaceEndsPermissions }
+{}
+
+/// Coordinators nominate their own, and arrange once.
+pub fn coordinators_keep_to_theirs()
+    ensures { CoordinatorsKeepToTheirs }
+{}

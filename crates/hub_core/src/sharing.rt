@@ -1,0 +1,113 @@
+//! How an incident is shared, as a shelf looks it up, and whether what a request would put or take stands there.
+ghost use Rattle.std.specs.Prelude.{◌≡◌, [], IfOk, IsErrOf};
+ghost use Rattle.hub_core.specs.Documents.{at_pointer};
+ghost use Rattle.hub_core.specs.Facts.{stands_in};
+ghost use Rattle.hub_core.specs.Questions as spec;
+ghost use Rattle.hub_core.specs.Requests.{incident_asked};
+ghost use Rattle.hub_core.specs.Shared.{sharing_asked, sharing_of};
+ghost use Rattle.hub_core.specs.Shelves.{HasFailed, IsKept};
+ghost use Rattle.hub_core.specs.State.{State};
+
+use crate::look_ups::LookUps;
+use crate::named_there::path_of;
+use crate::questions::{is_gate_among, is_permission_among, is_target_among};
+use crate::recipients::Recipients;
+use crate::request::{Redistribute, Request};
+use crate::shelf::ShelfFault;
+use circle::text::Text;
+use policy::{Gate, Gates, Grantee, Permission, Permissions};
+use std::alloc::{AllocError, Global};
+
+/// The gates, recipients and permissions of an incident.
+#[derive(Drop)]
+pub(crate) struct Sharing {
+    pub(crate) gates: Gates,
+    pub(crate) recipients: Recipients,
+    pub(crate) permissions: Permissions,
+}
+
+fn nothing_shared(alloc: Global) -> Sharing
+    ensures { result ≡ record { gates = []; recipients = []; permissions = [] } }
+{
+    Sharing {
+        gates: Gates::new(Vec::new(alloc)),
+        recipients: Recipients::new(Vec::new(alloc)),
+        permissions: Permissions::new(Vec::new(alloc)),
+    }
+}
+
+fn find_sharing_of<L: LookUps>(shelf: &mut L, incident: u32) -> Result<Sharing, ShelfFault>
+    ensures value { L.doubts shelf.new ≡ 0 → (s : State) → L.has shelf.old s → IfOk result (λ found. found ≡ sharing_of incident s) }
+    ensures kept { IsKept L.has L.doubts L.failed L.may_leave shelf.old shelf.new }
+    ensures cause { IsErrOf result ShelfFault.Failed → HasFailed (L.failed shelf.old) (L.failed shelf.new) }
+{
+    let gates = shelf.gates_of(incident)?;
+    let recipients = shelf.recipients_of(incident)?;
+    let permissions = shelf.permissions_of(incident)?;
+    Ok(Sharing {
+        gates,
+        recipients,
+        permissions,
+    })
+}
+
+/// How the incident asked of is shared; not at all, where none is named.
+pub(crate) fn find_sharing<L: LookUps>(
+    shelf: &mut L,
+    alloc: Global,
+    incident: Option<u32>,
+) -> Result<Sharing, ShelfFault>
+    ensures value { L.doubts shelf.new ≡ 0 → (s : State) → L.has shelf.old s → IfOk result (λ found. found ≡ sharing_asked incident s) }
+    ensures kept { IsKept L.has L.doubts L.failed L.may_leave shelf.old shelf.new }
+    ensures cause { IsErrOf result ShelfFault.Failed → HasFailed (L.failed shelf.old) (L.failed shelf.new) }
+{
+    match incident {
+        None => Ok(nothing_shared(alloc)),
+        Some(incident) => find_sharing_of(shelf, incident),
+    }
+}
+
+fn stands_gate(alloc: Global, asked: &Redistribute, gates: &[Gate]) -> Result<bool, AllocError>
+    ensures { IfOk result (λ b. b ≡ at_pointer (λ p. spec.is_gate_among p asked.now.level asked.now.group gates.now) asked.now.path) }
+{
+    match path_of(alloc, &asked.path)? {
+        None => Ok(false),
+        Some(path) => Ok(is_gate_among(gates, &path, asked.level, asked.group)),
+    }
+}
+
+fn stands_permission(
+    alloc: Global,
+    path: &Text,
+    grantee: Grantee,
+    permissions: &[Permission],
+) -> Result<bool, AllocError>
+    ensures { IfOk result (λ b. b ≡ at_pointer (λ p. spec.is_permission_among p grantee permissions.now) path.now) }
+{
+    match path_of(alloc, path)? {
+        None => Ok(false),
+        Some(path) => Ok(is_permission_among(permissions, &path, grantee)),
+    }
+}
+
+/// Whether what a request would put or take stands in the sharing of the incident that it names.
+pub(crate) fn stands(
+    alloc: Global,
+    request: &Request,
+    sharing: &Sharing,
+) -> Result<bool, AllocError>
+    ensures { (s : State) → sharing.now ≡ sharing_asked (incident_asked request.now) s → IfOk result (λ b. b ≡ stands_in s request.now) }
+{
+    let targets = sharing.recipients.as_slice();
+    let permissions = sharing.permissions.as_slice();
+    match request {
+        Request::Redistribute(asked) => stands_gate(alloc, asked, sharing.gates.as_slice()),
+        Request::Address(asked) => Ok(is_target_among(targets, asked.target)),
+        Request::Unaddress(asked) => Ok(is_target_among(targets, asked.target)),
+        Request::Grant(asked) => stands_permission(alloc, &asked.path, asked.grantee, permissions),
+        Request::Withdraw(asked) => {
+            stands_permission(alloc, &asked.path, asked.grantee, permissions)
+        }
+        _ => Ok(false),
+    }
+}

@@ -1,0 +1,219 @@
+-- Readers, gates and small reports by hand, and what the policy says of them: to be computed by the definitions alone.
+-- The source is organisation 2. The readers are of organisation 3, and have the number 7.
+use Rattle.std.specs.Prelude.{◌≡◌, ℕ, List, [], ◌∷◌, ◌++◌, map, Bool, true, false, Option, Some, None, codes}
+use Rattle.iodef_tree.specs.Text.{Bytes, Tokens}
+use Rattle.iodef_tree.specs.Paths.{located, class_paths}
+use Rattle.iodef_tree.specs.declared.line.Line.{Line}
+use Rattle.marking.specs.Examples.{class_line, text_line}
+use Rattle.marking.specs.Marks.{incident_path}
+use Rattle.marking.specs.declared.label.Handling.{Handling}
+use Rattle.marking.specs.declared.label.Handling.TheVariants.{Clear, Green, Amber, Strict, Red}
+use Rattle.policy.specs.Standing.{stranger}
+use Rattle.policy.specs.Clearance.{clearance_of}
+use Rattle.policy.specs.Gates.{passage_of}
+use Rattle.policy.specs.Permissions.{includes}
+use Rattle.policy.specs.Verdict.{verdict_of}
+use Rattle.policy.specs.declared.rule.Rule.TheVariants.{Src, P, O, C, M, A, X, G0, G1, G2, G4, G4X, HGreen, HAmber, HStrict, HRed}
+use Rattle.policy.specs.declared.standing.Standing.{Standing}
+use Rattle.policy.specs.declared.gate.Gate.{Gate}
+use Rattle.policy.specs.declared.permission.Grantee.TheVariants.{Person, Org, Community, Group}
+use Rattle.policy.specs.declared.permission.Permission.{Permission}
+use Rattle.policy.specs.declared.case.Case.{Case}
+use Rattle.policy.specs.declared.verdict.Verdict.{Verdict}
+use Rattle.policy.specs.declared.verdict.Verdict.TheVariants.{Shown, Hidden}
+
+-- ---- readers
+
+-- of whom nothing holds
+abbrev pub anybody : Standing
+anybody = stranger 7 3
+
+-- of the source, which is in a community
+abbrev pub colleague : Standing
+colleague = record anybody { source = true; community = true }
+
+-- of an organisation that is in one community with the source
+abbrev pub neighbour : Standing
+neighbour = record anybody { community = true }
+
+-- of an organisation in a community that is linked to the source's
+abbrev pub acquaintance : Standing
+acquaintance = record anybody { connected = true }
+
+-- whom the source addressed by name
+abbrev pub recipient : Standing
+recipient = record anybody { person = true }
+
+-- of an organisation that the source addressed
+abbrev pub addressed_only : Standing
+addressed_only = record anybody { addressed = true }
+
+-- nominated by its own organisation, which the source addressed
+abbrev pub nominated_partner : Standing
+nominated_partner = record anybody { nominated = true; addressed = true }
+
+-- nominated by its own organisation, which is the source's client
+abbrev pub nominated_client : Standing
+nominated_client = record anybody { nominated = true; client = true }
+
+-- with whose organisation the source arranged this
+abbrev pub arranged_at : Handling → Standing → Standing
+arranged_at h s = record s { arrangement = Some h }
+
+-- in one community with the source, and a member of group 1, which is active or isn't
+abbrev pub group_member : Bool → Standing
+group_member true = record neighbour { groups = 1 ∷ []; active_groups = 1 ∷ [] }
+group_member false = record neighbour { groups = 1 ∷ [] }
+
+-- ---- reports
+
+abbrev pub event_path : Tokens
+event_path = incident_path ++ codes "EventData" ∷ codes "0" ∷ []
+
+abbrev pub flow_path : Tokens
+flow_path = event_path ++ codes "Flow" ∷ codes "0" ∷ []
+
+abbrev pub gate_at : Tokens → ℕ → Option ℕ → Gate
+gate_at path level group = record { path = path; level = level; group = group }
+
+abbrev pub case_of : List Gate → List Permission → Case
+case_of gates permissions = record { source = 2; gates = gates; permissions = permissions }
+
+-- open to all at the root, with these gates at classes
+abbrev pub behind : List Gate → Case
+behind gates = case_of (gate_at [] 3 None ∷ gates) []
+
+-- a permission at the EventData for an organisation
+abbrev pub for_organisation : ℕ → List Permission
+for_organisation n = record { path = event_path; grantee = Org n } ∷ []
+
+-- open to all at the root, with such a permission
+abbrev pub shared_with : ℕ → Case
+shared_with n = case_of (gate_at [] 3 None ∷ []) (for_organisation n)
+
+-- the verdicts of the classes of a report, in stored order
+abbrev pub verdicts : List Line → Case → Standing → List Verdict
+verdicts ls c s = let es = located ls in map (verdict_of es c s) (class_paths es)
+
+-- an Incident with this label, an EventData in it and a Flow in that
+abbrev pub nested : Bytes → List Line
+nested label =
+    class_line 1 (codes "Incident") true
+    ∷ class_line 2 (codes "EventData") true
+    ∷ text_line 3 (codes "Description") true (codes "x")
+    ∷ class_line 3 (codes "Flow") true
+    ∷ text_line 2 (codes "restriction") false label
+    ∷ []
+
+-- a public Incident with four EventData: one is green, one `amber`, one of the text TLP:AMBER, and one red
+abbrev pub in_colours : List Line
+in_colours =
+    class_line 1 (codes "Incident") true
+    ∷ class_line 2 (codes "EventData") true
+    ∷ text_line 3 (codes "restriction") false (codes "green")
+    ∷ class_line 2 (codes "EventData") true
+    ∷ text_line 3 (codes "restriction") false (codes "amber")
+    ∷ class_line 2 (codes "EventData") true
+    ∷ text_line 3 (codes "ext-restriction") false (codes "TLP:AMBER")
+    ∷ text_line 3 (codes "restriction") false (codes "ext-value")
+    ∷ class_line 2 (codes "EventData") true
+    ∷ text_line 3 (codes "restriction") false (codes "red")
+    ∷ text_line 2 (codes "restriction") false (codes "public")
+    ∷ []
+
+-- a public Incident with an EventData of `default`
+abbrev pub by_agreement : List Line
+by_agreement =
+    class_line 1 (codes "Incident") true
+    ∷ class_line 2 (codes "EventData") true
+    ∷ text_line 3 (codes "restriction") false (codes "default")
+    ∷ text_line 2 (codes "restriction") false (codes "public")
+    ∷ []
+
+-- an unmarked Incident with an EventData, in which one Flow is unmarked and one is red
+abbrev pub red_below : List Line
+red_below =
+    class_line 1 (codes "Incident") true
+    ∷ class_line 2 (codes "EventData") true
+    ∷ class_line 3 (codes "Flow") true
+    ∷ class_line 3 (codes "Flow") true
+    ∷ text_line 4 (codes "restriction") false (codes "red")
+    ∷ []
+
+-- ---- what the policy says
+
+-- Each way of standing has its clearance, and the strictest of several holds. An organisation that is addressed clears
+-- nobody who isn't nominated, and an arrangement clears nobody.
+abbrev pub StandingsAreCleared : Type 0
+StandingsAreCleared =
+    map clearance_of (recipient ∷ nominated_partner ∷ nominated_client ∷ neighbour ∷ anybody ∷ addressed_only ∷ arranged_at Amber anybody ∷ record nominated_client { community = true } ∷ [])
+    ≡ (Red, P) ∷ (Strict, O) ∷ (Amber, C) ∷ (Green, M) ∷ (Clear, A) ∷ (Clear, A) ∷ (Clear, A) ∷ (Amber, C) ∷ []
+
+-- who passes a gate of each level that names no group: the source alone, its communities, those linked to them too, and all
+abbrev pub LevelsLetPass : Type 0
+LevelsLetPass =
+    map (λ s. map (λ level. passage_of s (gate_at event_path level None)) (0 ∷ 1 ∷ 2 ∷ 3 ∷ 5 ∷ [])) (colleague ∷ neighbour ∷ acquaintance ∷ anybody ∷ [])
+    ≡ (None ∷ None ∷ None ∷ None ∷ None ∷ [])
+    ∷ (Some G0 ∷ None ∷ None ∷ None ∷ None ∷ [])
+    ∷ (Some G0 ∷ Some G1 ∷ None ∷ None ∷ None ∷ [])
+    ∷ (Some G0 ∷ Some G1 ∷ Some G2 ∷ None ∷ None ∷ [])
+    ∷ []
+
+-- A gate of level 4 lets the members of its group pass, while that is active.
+abbrev pub GroupsLetPass : Type 0
+GroupsLetPass =
+    map (λ s. passage_of s (gate_at event_path 4 (Some 1))) (group_member true ∷ group_member false ∷ neighbour ∷ recipient ∷ [])
+    ≡ None ∷ Some G4X ∷ Some G4 ∷ Some G4 ∷ []
+
+-- to whom a permission is given: the person, its organisation, a community of that, or a group while it is active
+abbrev pub GranteesInclude : Type 0
+GranteesInclude =
+    (map (includes (record anybody { groups = 4 ∷ 5 ∷ []; active_groups = 5 ∷ []; communities = 8 ∷ [] }))
+    (Person 7 ∷ Person 3 ∷ Org 3 ∷ Org 7 ∷ Community 8 ∷ Community 5 ∷ Group 5 ∷ Group 4 ∷ Group 8 ∷ []))
+    ≡ true ∷ false ∷ true ∷ false ∷ true ∷ false ∷ true ∷ false ∷ false ∷ []
+
+-- Of the colours each reader sees those for which it is cleared. `amber` is for the addressed organisation alone; TLP:AMBER is
+-- for clients too.
+abbrev pub ColoursAreForTheCleared : Type 0
+ColoursAreForTheCleared =
+    map (verdicts in_colours (behind [])) (anybody ∷ neighbour ∷ nominated_client ∷ nominated_partner ∷ recipient ∷ [])
+    ≡ (Shown A ∷ Hidden HGreen ∷ Hidden HStrict ∷ Hidden HAmber ∷ Hidden HRed ∷ [])
+    ∷ (Shown M ∷ Shown M ∷ Hidden HStrict ∷ Hidden HAmber ∷ Hidden HRed ∷ [])
+    ∷ (Shown C ∷ Shown C ∷ Hidden HStrict ∷ Shown C ∷ Hidden HRed ∷ [])
+    ∷ (Shown O ∷ Shown O ∷ Shown O ∷ Shown O ∷ Hidden HRed ∷ [])
+    ∷ (Shown P ∷ Shown P ∷ Shown P ∷ Shown P ∷ Shown P ∷ [])
+    ∷ []
+
+-- What is `default` is handled as it was arranged, and as RED without an arrangement. A neighbour is cleared for GREEN.
+abbrev pub ArrangementsHandleDefault : Type 0
+ArrangementsHandleDefault =
+    map (verdicts by_agreement (behind [])) (arranged_at Green neighbour ∷ arranged_at Amber neighbour ∷ neighbour ∷ [])
+    ≡ (Shown M ∷ Shown M ∷ []) ∷ (Shown M ∷ Hidden HAmber ∷ []) ∷ (Shown M ∷ Hidden HRed ∷ []) ∷ []
+
+-- Where the gate of the root lets pass and that of the EventData refuses, this one hides the EventData and what is in it, and
+-- the gate below it isn't asked.
+abbrev pub DeeperGateRefuses : Type 0
+DeeperGateRefuses =
+    map (verdicts (nested (codes "public")) (behind (gate_at event_path 4 (Some 1) ∷ gate_at flow_path 0 None ∷ []))) (anybody ∷ group_member false ∷ group_member true ∷ [])
+    ≡ (Shown A ∷ Hidden G4 ∷ Hidden G4 ∷ []) ∷ (Shown M ∷ Hidden G4X ∷ Hidden G4X ∷ []) ∷ (Shown M ∷ Shown M ∷ Hidden G0 ∷ []) ∷ []
+
+-- Who is addressed by name is cleared for all that is red, and kept out by the gate of the root, unless its organisation is a
+-- neighbour. The source sees all behind every gate.
+abbrev pub RootGateRefuses : Type 0
+RootGateRefuses =
+    map (verdicts (nested (codes "red")) (case_of (gate_at [] 1 None ∷ gate_at flow_path 0 None ∷ []) [])) (recipient ∷ record recipient { community = true } ∷ colleague ∷ [])
+    ≡ (Hidden G1 ∷ Hidden G1 ∷ Hidden G1 ∷ []) ∷ (Shown P ∷ Shown P ∷ Hidden G0 ∷ []) ∷ (Shown Src ∷ Shown Src ∷ Shown Src ∷ []) ∷ []
+
+-- A permission at the EventData covers it and what is below it, down to the next written label, and nothing above it. For
+-- another organisation it does nothing.
+abbrev pub PermissionReachesDown : Type 0
+PermissionReachesDown =
+    map (λ n. verdicts red_below (shared_with n) anybody) (3 ∷ 4 ∷ [])
+    ≡ (Hidden HRed ∷ Shown X ∷ Shown X ∷ Hidden HRed ∷ []) ∷ (Hidden HRed ∷ Hidden HRed ∷ Hidden HRed ∷ Hidden HRed ∷ []) ∷ []
+
+-- A permission stops at a gate: at one below it, and at that of the root.
+abbrev pub PermissionStopsAtGate : Type 0
+PermissionStopsAtGate =
+    map (λ gates. verdicts (nested (codes "private")) (case_of gates (for_organisation 3)) anybody)
+    ((gate_at [] 3 None ∷ gate_at flow_path 2 None ∷ []) ∷ (gate_at [] 1 None ∷ []) ∷ [])
+    ≡ (Hidden HRed ∷ Shown X ∷ Hidden G2 ∷ []) ∷ (Hidden G1 ∷ Hidden G1 ∷ Hidden G1 ∷ []) ∷ []

@@ -1,0 +1,17 @@
+-- What is looked for in an incident.
+use Rattle.std.specs.Prelude.{Bool, List, Option, Some, None, option_map, string_bytes}
+use Rattle.iodef_tree.specs.Text.{Bytes}
+use Rattle.iodef_tree.specs.declared.line.Line.{Line}
+use Rattle.policy.specs.declared.standing.Standing.{Standing}
+use Rattle.policy.specs.declared.case.Case.{Case}
+use Rattle.redact.specs.Told.{is_listed, finds}
+use Rattle.redact.specs.declared.want.Want.{Want}
+
+-- With no needle the incident is listed, whatever class is named; with one a search finds it there.
+abbrev pub meets_by : Option Bytes → Option Bytes → List Line → Case → Standing → Bool
+meets_by None class ls c s = is_listed ls c s
+meets_by (Some needle) class ls c s = finds ls c s needle class
+
+-- these lines meet the want, for this case and standing
+abbrev pub meets : Want → List Line → Case → Standing → Bool
+meets want ls c s = meets_by (option_map string_bytes want.needle) (option_map string_bytes want.class) ls c s

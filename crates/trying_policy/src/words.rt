@@ -1,0 +1,179 @@
+//! What the words of a line stand for, and the words that tell it. Of what words make nothing is promised: it would be said by
+//! the same words again, and `stdout` of the programs shows it.
+
+use crate::unfit::Unfit;
+use iodef_tree::Path;
+use marking::Handling;
+use policy::{Case, Gate, Gates, Grantee, Numbers, Permission, Permissions, Standing};
+use std::alloc::{AllocError, Global};
+
+pub fn handling_of(word: &str) -> Result<Handling, Unfit> {
+    match word {
+        "CLEAR" => Ok(Handling::Clear),
+        "GREEN" => Ok(Handling::Green),
+        "AMBER" => Ok(Handling::Amber),
+        "STRICT" => Ok(Handling::Strict),
+        "RED" => Ok(Handling::Red),
+        _ => Err(Unfit::NoCase),
+    }
+}
+
+/// What was arranged, `-` for nothing.
+pub fn arranged_of(word: &str) -> Result<Option<Handling>, Unfit> {
+    if word == "-" {
+        return Ok(None);
+    }
+    Ok(Some(handling_of(word)?))
+}
+
+pub fn number_of(word: &str) -> Result<u32, Unfit> {
+    word.parse::<u32>().ok().ok_or(Unfit::NoCase)
+}
+
+/// Numbers with commas between them.
+fn numbers_of(alloc: Global, words: &str) -> Result<Numbers, Unfit> {
+    let mut numbers = Vec::new(alloc);
+    for word in words.split(',') {
+        numbers.push(number_of(word)?)?;
+    }
+    Ok(Numbers::new(numbers))
+}
+
+/// A reader by the numbers of the person and of its organisation, as `4/3`, and what holds of it, each a word behind a
+/// space: `source`, `person`, `nominated`, `addressed`, `client`, `community`, `connected`, `arranged:GREEN`, and lists
+/// as `groups:1,7`, `active:7` and `communities:2`.
+pub fn standing_of(alloc: Global, words: &str) -> Result<Standing, Unfit> {
+    let mut words = words.split(' ');
+    let mut standing = stranger_of(alloc, words.next().unwrap_or(""))?;
+    for word in words {
+        hold(alloc, &mut standing, word)?;
+    }
+    Ok(standing)
+}
+
+/// A reader of whom nothing holds, by its two numbers.
+fn stranger_of(alloc: Global, word: &str) -> Result<Standing, Unfit> {
+    let (who, org) = word.split_once('/').ok_or(Unfit::NoCase)?;
+    let who = number_of(who)?;
+    let org = number_of(org)?;
+    Ok(Standing::stranger(alloc, who, org))
+}
+
+fn hold(alloc: Global, standing: &mut Standing, word: &str) -> Result<(), Unfit> {
+    match word {
+        "source" => standing.source = true,
+        "person" => standing.person = true,
+        "nominated" => standing.nominated = true,
+        "addressed" => standing.addressed = true,
+        "client" => standing.client = true,
+        "community" => standing.community = true,
+        "connected" => standing.connected = true,
+        _ => {
+            let (name, list) = word.split_once(':').ok_or(Unfit::NoCase)?;
+            hold_named(alloc, standing, name, list)?;
+        }
+    }
+    Ok(())
+}
+
+fn hold_named(alloc: Global, standing: &mut Standing, name: &str, list: &str) -> Result<(), Unfit> {
+    match name {
+        "arranged" => standing.arrangement = arranged_of(list)?,
+        "groups" => standing.groups = numbers_of(alloc, list)?,
+        "active" => standing.active_groups = numbers_of(alloc, list)?,
+        "communities" => standing.communities = numbers_of(alloc, list)?,
+        _ => return Err(Unfit::NoCase),
+    }
+    Ok(())
+}
+
+/// A level, and its group behind a colon if it has one: `4:1`.
+pub fn passage_of(word: &str) -> Result<(u8, Option<u32>), Unfit> {
+    let (level, group) = match word.split_once(':') {
+        Some((level, group)) => (level, Some(number_of(group)?)),
+        None => (word, None),
+    };
+    let level = level.parse::<u8>().ok().ok_or(Unfit::NoCase)?;
+    Ok((level, group))
+}
+
+/// A gate by its level and group, and its pointer behind an `@`: `4:1@/Incident/0`.
+fn gate_of(alloc: Global, word: &str) -> Result<Gate, Unfit> {
+    let (passage, pointer) = word.split_once('@').ok_or(Unfit::NoCase)?;
+    let (level, group) = passage_of(passage)?;
+    let path = Path::parse(alloc, pointer)?;
+    Ok(Gate { path, level, group })
+}
+
+/// A grantee by its kind and number: `person:4`, `org:3`, `community:2`, `group:7`.
+pub fn grantee_of(word: &str) -> Result<Grantee, Unfit> {
+    let (kind, number) = word.split_once(':').ok_or(Unfit::NoCase)?;
+    let number = number_of(number)?;
+    match kind {
+        "person" => Ok(Grantee::Person(number)),
+        "org" => Ok(Grantee::Org(number)),
+        "community" => Ok(Grantee::Community(number)),
+        "group" => Ok(Grantee::Group(number)),
+        _ => Err(Unfit::NoCase),
+    }
+}
+
+/// A permission by its grantee and its pointer: `org:4@/Incident/0`.
+fn permission_of(alloc: Global, word: &str) -> Result<Permission, Unfit> {
+    let (grantee, pointer) = word.split_once('@').ok_or(Unfit::NoCase)?;
+    let grantee = grantee_of(grantee)?;
+    let path = Path::parse(alloc, pointer)?;
+    Ok(Permission { path, grantee })
+}
+
+fn gates_of(alloc: Global, words: &str) -> Result<Gates, Unfit> {
+    let mut gates = Vec::new(alloc);
+    for word in words.split_whitespace() {
+        gates.push(gate_of(alloc, word)?)?;
+    }
+    Ok(Gates::new(gates))
+}
+
+fn permissions_of(alloc: Global, words: &str) -> Result<Permissions, Unfit> {
+    let mut permissions = Vec::new(alloc);
+    for word in words.split_whitespace() {
+        permissions.push(permission_of(alloc, word)?)?;
+    }
+    Ok(Permissions::new(permissions))
+}
+
+/// A case by its gates and its permissions, with spaces between them.
+pub fn case_of(alloc: Global, source: u32, gates: &str, permissions: &str) -> Result<Case, Unfit> {
+    Ok(Case {
+        source,
+        gates: gates_of(alloc, gates)?,
+        permissions: permissions_of(alloc, permissions)?,
+    })
+}
+
+/// The kind and the number of a grantee.
+pub fn kind_of(grantee: Grantee) -> (&'static str, u32) {
+    match grantee {
+        Grantee::Person(number) => ("person", number),
+        Grantee::Org(number) => ("org", number),
+        Grantee::Community(number) => ("community", number),
+        Grantee::Group(number) => ("group", number),
+    }
+}
+
+/// The word of a gate.
+pub fn gate_word(alloc: Global, gate: &Gate) -> Result<String, AllocError> {
+    let level = gate.level;
+    let pointer = gate.path.print(alloc)?;
+    match gate.group {
+        Some(group) => format!(in alloc; "{level}:{group}@{pointer}"),
+        None => format!(in alloc; "{level}@{pointer}"),
+    }
+}
+
+/// The word of a permission.
+pub fn permission_word(alloc: Global, permission: &Permission) -> Result<String, AllocError> {
+    let (kind, number) = kind_of(permission.grantee);
+    let pointer = permission.path.print(alloc)?;
+    format!(in alloc; "{kind}:{number}@{pointer}")
+}
