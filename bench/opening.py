@@ -32,10 +32,10 @@ def digest(key: str) -> str:
     return hashlib.sha256(key.encode()).hexdigest()
 
 
-def report() -> bytes:
-    """One of the reports that bench/stores.py makes."""
+def document(identity: dict[str, str], count: int) -> dict[str, object]:
+    """A report like those of bench/stores.py, with so many `EventData` classes."""
     events: list[dict[str, object]] = []
-    for at in range(20):
+    for at in range(count):
         address = {"category": "ipv4-addr", "value": f"192.0.2.{at}"}
         event: dict[str, object] = {
             "Description": [f"step {at} of the campaign"],
@@ -44,11 +44,14 @@ def report() -> bytes:
         if label is not None:
             event["restriction"] = label
         events.append(event)
-    return json.dumps({"version": "2.0", "lang": "en", "Incident": [{
-        "purpose": "reporting", "restriction": "green",
-        "IncidentID": {"id": IDENTITY, "name": "csirt.example.com"}, "GenerationTime": "2026-01-01T00:00:00Z",
+    return {"version": "2.0", "lang": "en", "Incident": [{
+        "purpose": "reporting", "restriction": "green", "IncidentID": identity, "GenerationTime": "2026-01-01T00:00:00Z",
         "Contact": [{"type": "organization", "role": "creator", "Email": [{"EmailTo": "contact@csirt.example.com"}]}],
-        "EventData": events}]}, separators=(",", ":")).encode()
+        "EventData": events}]}
+
+
+def report() -> bytes:
+    return json.dumps(document({"id": IDENTITY, "name": "csirt.example.com"}, 20), separators=(",", ":")).encode()
 
 
 class Hub:
@@ -104,13 +107,15 @@ def make(program: str, store: pathlib.Path) -> None:
 def fill(store: pathlib.Path, size: int) -> None:
     """Rows like those of report 1, up to this number of reports."""
     rows = sqlite3.connect(store)
-    (source, identity, revision, text), = rows.execute("SELECT source, ident, revision, text FROM incident WHERE number = 1")
+    (source, identity, revision), = rows.execute("SELECT source, ident, revision FROM incident WHERE number = 1")
+    lines = list(rows.execute("SELECT place, depth, name, in_array, kind, text FROM item WHERE incident = 1 ORDER BY place"))
     (level, group), = rows.execute("SELECT level, grp FROM gate WHERE incident = 1 AND path = ''")
     begin, = rows.execute("SELECT max(number) + 1 FROM incident").fetchone()
     for number in range(begin, size + 1):
         own = IDENTITY[:len(IDENTITY) - 7] + f"{number:07}"
-        rows.execute("INSERT INTO incident VALUES (?, ?, ?, ?, ?)",
-                     (number, source, identity.replace(IDENTITY, own), revision, text.replace(IDENTITY, own)))
+        rows.execute("INSERT INTO incident VALUES (?, ?, ?, ?)", (number, source, identity.replace(IDENTITY, own), revision))
+        rows.executemany("INSERT INTO item VALUES (?, ?, ?, ?, ?, ?, ?)",
+                         [(number, *line[:5], line[5].replace(IDENTITY, own)) for line in lines])
         rows.execute("INSERT INTO gate VALUES (?, '', ?, ?)", (number, level, group))
     rows.commit()
     rows.execute("PRAGMA wal_checkpoint(TRUNCATE)")

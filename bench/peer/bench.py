@@ -1,7 +1,7 @@
 #!/usr/bin/env python3
 """Speed of iodef-hub beside the plain Rust peer, on the same work in one run. Prints ratios: below 1 the hub is faster.
 
-usage: bench/peer/bench.py [--only mark,excerpt,post,view,list,search] [--incidents N] [--bin PATH] [--redact PATH] [--peer PATH]
+usage: bench/peer/bench.py [--only mark,excerpt,post,view,list,search] [--incidents N] [--events N] [--bin PATH] [--redact PATH] [--peer PATH]
 
 Where no paths are given, the programs are out/iodef-hub, crates/redact_bench/out/redact_bench and target/release/peer beside
 this file. README.md tells how they are built. Instructions are counted where valgrind is there.
@@ -103,6 +103,7 @@ def main():
     p.add_argument("--peer", default=str(HERE / "target/release/peer"))
     p.add_argument("--only", default="mark,post,view,list,search")
     p.add_argument("--incidents", type=int, default=500)
+    p.add_argument("--events", type=int, default=20, help="EventData classes of each report that is posted: 20 are 204 lines, 60 are 604")
     a = p.parse_args()
     wanted = a.only.split(",")
     rows = []
@@ -130,7 +131,7 @@ def main():
             try:
                 for s in servers:
                     s.ask("POST", "/persons", ("org=1&name=poster&role=poster&key=" + POSTER).encode(), KEY)
-                posts = [("POST", "/incidents?level=3", document(n, 20)) for n in range(1, a.incidents + 1)]
+                posts = [("POST", "/incidents?level=3", document(n, a.events)) for n in range(1, a.incidents + 1)]
                 work = {"post": lambda s: per_second(s, posts),
                         "view": lambda s: per_second(s, [("GET", "/incidents/%d" % (1 + n % a.incidents)) for n in range(300)]),
                         "list": lambda s: per_second(s, [("GET", "/incidents?after=%d" % (n * 17 % a.incidents)) for n in range(30)]),

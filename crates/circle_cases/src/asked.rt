@@ -1,4 +1,5 @@
 //! ask|QUESTION|ONE|OTHER: what the small directory answers.
+use crate::told;
 use crate::world::world;
 use crate::written::number_of;
 use circle_rows::DirectoryRows;
@@ -46,17 +47,17 @@ fn accounts(alloc: Global, rows: &DirectoryRows) -> Result<String, AllocError> {
     for account in rows.accounts() {
         numbers.push(account.person.number)?;
     }
-    format!(in alloc; "{numbers:?}")
+    told::rows(alloc, numbers.as_slice())
 }
 
 /// The rows of a set, if it is one of pairs.
 fn pairs(alloc: Global, rows: &DirectoryRows, name: &str) -> Option<Result<String, AllocError>> {
     match name {
-        "clients" => Some(format!(in alloc; "{:?}", rows.clients())),
-        "memberships" => Some(format!(in alloc; "{:?}", rows.memberships())),
-        "connections" => Some(format!(in alloc; "{:?}", rows.connections())),
-        "group_members" => Some(format!(in alloc; "{:?}", rows.group_members())),
-        "arrangements" => Some(format!(in alloc; "{:?}", rows.arrangements())),
+        "clients" => Some(told::rows(alloc, rows.clients())),
+        "memberships" => Some(told::rows(alloc, rows.memberships())),
+        "connections" => Some(told::rows(alloc, rows.connections())),
+        "group_members" => Some(told::rows(alloc, rows.group_members())),
+        "arrangements" => Some(told::rows(alloc, rows.arrangements())),
         _ => None,
     }
 }
@@ -64,22 +65,20 @@ fn pairs(alloc: Global, rows: &DirectoryRows, name: &str) -> Option<Result<Strin
 /// The rows of a set, if it is one of numbered rows.
 fn numbered(alloc: Global, rows: &DirectoryRows, name: &str) -> Option<Result<String, AllocError>> {
     match name {
-        "orgs" => Some(format!(in alloc; "{:?}", rows.orgs())),
-        "communities" => Some(format!(in alloc; "{:?}", rows.communities())),
-        "groups" => Some(format!(in alloc; "{:?}", rows.groups())),
+        "orgs" => Some(told::rows(alloc, rows.orgs())),
+        "communities" => Some(told::rows(alloc, rows.communities())),
+        "groups" => Some(told::rows(alloc, rows.groups())),
         "accounts" => Some(accounts(alloc, rows)),
         _ => None,
     }
 }
 
 fn numbers(alloc: Global, found: Result<Vec<u32>, AllocError>) -> Result<String, AllocError> {
-    let numbers = found?;
-    format!(in alloc; "{numbers:?}")
+    told::rows(alloc, found?.as_slice())
 }
 
 fn memberships(alloc: Global, rows: &DirectoryRows, org: u32) -> Result<String, AllocError> {
-    let found = rows.memberships_in_groups(alloc, org)?;
-    format!(in alloc; "{found:?}")
+    told::rows(alloc, rows.memberships_in_groups(alloc, org)?.as_slice())
 }
 
 /// What an organisation is part of.
@@ -109,10 +108,10 @@ fn row(
 ) -> Result<String, AllocError> {
     let key = [u8::try_from(one).unwrap_or(0); 32];
     match question {
-        "arranged" => format!(in alloc; "{:?}", rows.arranged(one, other)),
-        "person_of" => format!(in alloc; "{:?}", rows.person_of(one)),
-        "person_of_key" => format!(in alloc; "{:?}", rows.person_of_key(&key)),
-        "group_of" => format!(in alloc; "{:?}", rows.group_of(one)),
+        "arranged" => told::row_if_any(alloc, rows.arranged(one, other).as_ref()),
+        "person_of" => told::row_if_any(alloc, rows.person_of(one)),
+        "person_of_key" => told::row_if_any(alloc, rows.person_of_key(&key)),
+        "group_of" => told::row_if_any(alloc, rows.group_of(one)),
         _ => String::from_str(alloc, "no question"),
     }
 }

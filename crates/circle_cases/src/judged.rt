@@ -1,5 +1,6 @@
 //! ROLE|FACTS|COUNT|COMMAND|ONE|OTHER|FLAG|TEXT|MORE: what is answered to the command of person 2 of organisation 2.
 use crate::commands::{Named, command_fields, command_of, role_of};
+use crate::told;
 use crate::written::number_of;
 use circle::command::{CircleCommand, CircleFacts};
 use circle::directory::{Person, Role};
@@ -53,20 +54,22 @@ fn actor(alloc: Global, role: Role) -> Result<Option<Person>, AllocError> {
     }
 }
 
-/// The edit or the refusal, as `Debug` shows them.
-fn told(
+/// The edit or the refusal in words.
+fn answer_to(
     alloc: Global,
     actor: &Person,
     facts: &CircleFacts,
     command: &CircleCommand,
 ) -> Result<String, AllocError> {
-    let answer = judge(alloc, actor, facts, command);
-    format!(in alloc; "{answer:?}")
+    match judge(alloc, actor, facts, command) {
+        Ok(edit) => told::edit(alloc, &edit),
+        Err(refusal) => told::refusal(alloc, &refusal),
+    }
 }
 
 fn judged_by(alloc: Global, actor: &Person, case: &Case<'_>) -> Result<String, AllocError> {
     let command = command_of(alloc, &case.named)?;
-    told(alloc, actor, &case.facts, &command)
+    answer_to(alloc, actor, &case.facts, &command)
 }
 
 fn judged(alloc: Global, case: &Case<'_>) -> Result<String, AllocError> {

@@ -1,11 +1,13 @@
-//! Answers the cases on standard input, one a line: a command to judge, a question to a small directory in memory, or
-//! a text, a refusal or a code to show.
+//! Answers the cases on standard input, one a line, and prints each answer: of a command to judge (`judged`), of a question to a
+//! small directory in memory (`asked`), or of a text, a refusal or a code to show (`parts`). `told` says in which words. A line
+//! that begins with `#` is printed as it is.
 #![tactic(auto)]
 
 mod asked;
 mod commands;
 mod judged;
 mod parts;
+mod told;
 mod world;
 mod written;
 
@@ -18,8 +20,12 @@ fn main(rt: HostRuntime) -> io::Result<()> {
     let mut table = String::new(alloc);
     rt.reader().read_to_string(&mut table)?;
     for line in table.lines() {
-        let answer = answer(alloc, line)?;
-        println!(rt; "{answer}")?;
+        if line.starts_with('#') {
+            println!(rt; "{line}")?;
+        } else {
+            let answer = answer(alloc, line)?;
+            println!(rt; "{answer}")?;
+        }
     }
     Ok(())
 }

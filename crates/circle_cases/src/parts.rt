@@ -1,4 +1,6 @@
 //! name|TEXT, releasability|TEXT, text|ONE|OTHER, between|ONE|OTHER, refusal|CODE|DETAIL, code|CODE.
+use crate::told;
+use crate::told::Row;
 use crate::written::{number_of, text_of};
 use circle::directory::Connection;
 use circle::name::Name;
@@ -96,7 +98,7 @@ fn refusal(alloc: Global, word: &str, detail: &str) -> Result<String, AllocError
     } else {
         Refusal::new(alloc, code, detail)
     };
-    format!(in alloc; "{refusal:?}")
+    told::refusal(alloc, &refusal)
 }
 
 fn code(alloc: Global, word: &str) -> Result<String, AllocError> {
@@ -112,8 +114,7 @@ fn code(alloc: Global, word: &str) -> Result<String, AllocError> {
 }
 
 fn between(alloc: Global, one: &str, other: &str) -> Result<String, AllocError> {
-    let row = Connection::between(number_of(one), number_of(other));
-    format!(in alloc; "{row:?}")
+    Connection::between(number_of(one), number_of(other)).words(alloc)
 }
 
 /// Whether the texts are kept, or are the same; none of another kind.

@@ -4,8 +4,8 @@
 //!     explain|STANDING|GATES|PERMISSIONS|POINTER      the text of the trace of the pointer, or NoClass
 //!     fields|STANDING|GATES|PERMISSIONS|POINTER       the gates and permissions of the trace, in its own order
 //!
-//! `words` of `trying_policy` tells how standings, gates and permissions are written. Empty lines, and those that begin with #,
-//! are skipped.
+//! `words` of `trying_policy` tells how standings, gates and permissions are written. Lines that begin with # are headings, which
+//! are printed as they are; empty lines are skipped.
 
 use explain::{ExplainFault, Trace, explain};
 use iodef_tree::Path;

@@ -9,6 +9,7 @@ pub mod Changing
 pub mod Served
 pub mod Failures
 pub mod Runs
+pub mod Stopped
 pub mod ToldSame
 pub mod OtherUnseen
 pub mod OtherDocument

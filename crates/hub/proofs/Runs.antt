@@ -29,7 +29,7 @@ runs_sound s end [] (reply ∷ replies) sound run = absurd run
 runs_sound s end (asked ∷ others) [] sound run = absurd run
 runs_sound s end (asked ∷ others) (reply ∷ replies) sound run = runs_sound run.0 end others replies (step_sound s run.0 asked reply sound run.1) run.2
 
-run_on : (s mid end : State) (others : List Asked) (replies : List Reply) (asked : Asked) (reply : Reply) → IsRun s others replies mid → IsStep mid asked reply end → IsRun s (others ++ asked ∷ []) (replies ++ reply ∷ []) end
+pub run_on : (s mid end : State) (others : List Asked) (replies : List Reply) (asked : Asked) (reply : Reply) → IsRun s others replies mid → IsStep mid asked reply end → IsRun s (others ++ asked ∷ []) (replies ++ reply ∷ []) end
 run_on s mid end [] [] asked reply run step = (end, subst (λ m. IsStep m asked reply end) run step, refl)
 run_on s mid end [] (r ∷ replies) asked reply run step = absurd run
 run_on s mid end (q ∷ others) [] asked reply run step = absurd run

@@ -1,6 +1,6 @@
 -- A view is made of what is read.
 use Rattle.std.proofs.Common.{◌≡◌, ℕ, ◌+◌, ◌-◌, ◌≤◌, Bool, true, false, ◌==◌, nat_lt, List, [], ◌∷◌, cond, Option, Some, None, take, map, refl, sym, ◌∙◌, ap, arith, filter, find}
-use Rattle.std.specs.Prelude.{ℤ, option_map, option_and_then}
+use Rattle.std.specs.Prelude.{ℤ, is_some, if◌then◌else◌, option_map, option_and_then}
 use Rattle.std.proofs.lemmas.Bool.{cond-true, cond-false, ltb-true, ltb-false, eqb-true}
 use Rattle.std.proofs.lemmas.Bool.Decides.{eqb_tells}
 use Rattle.std.proofs.Common.{◌⊎◌, inl, inr}
@@ -9,6 +9,7 @@ use Rattle.marking.specs.Marks.{first_bad_marking}
 use Rattle.policy.specs.declared.standing.Standing.{Standing}
 use Rattle.policy.specs.declared.case.Case.{Case}
 use Rattle.redact.specs.Told.{Told, excerpt_of}
+use Rattle.redact.specs.Excerpts.{served_of}
 use Rattle.circle.specs.Sound.{CountsFrom}
 use Rattle.circle.specs.declared.directory.Person.{Person}
 use Rattle.hub_core.specs.Documents.{Lines}
@@ -71,27 +72,38 @@ marked s n ls sound is = by_case (incident_of n s) refl is
         let same : i.document ≡ ls = cc in
         ap (λ d. first_bad_marking (located d)) (sym same) ∙ (found_each (λ (j : Incident). IsAccepted j.document) (λ (j : Incident). j.naming.number == n) s.incidents i at sound.incidents.documents).marked
 
+-- the markings of an incident that is found are accepted
+abbrev pub IsMarked : Option Incident → Type 0
+IsMarked None = Unit {0}
+IsMarked (Some i) = first_bad_marking (located i.document) ≡ None
+
+pub marked_found : (s : State) (n : ℕ) → IsSound s → IsMarked (incident_of n s)
+marked_found s n sound = by_case (incident_of n s) refl
+  where
+    by_case : (o : Option Incident) → incident_of n s ≡ o → IsMarked o
+    by_case None at = tt
+    by_case (Some i) at = (found_each (λ (j : Incident). IsAccepted j.document) (λ (j : Incident). j.naming.number == n) s.incidents i at sound.incidents.documents).marked
+
 -- ---- the view
 
 module _ (s : State) (now : ℤ) (p : Person) where
-  -- the excerpt by what is read is that of the incident
-  excerpt_at : (i : Incident) (st : Standing) (c : Case) (ls : Lines) → Some st ≡ Some (standing_at s now p i) → Some c ≡ Some (case_for s i) → Some ls ≡ Some i.document →
-      excerpt_of ls c st ≡ excerpt_of i.document (case_for s i) (standing_at s now p i)
-  excerpt_at i st c ls stands judged has =
+  -- what is served of an incident is the excerpt of its document
+  served_at : (i : Incident) (st : Standing) (c : Case) → first_bad_marking (located i.document) ≡ None → Some st ≡ Some (standing_at s now p i) → Some c ≡ Some (case_for s i) →
+      served_of i.document c st ≡ excerpt_of i.document (case_for s i) (standing_at s now p i)
+  served_at i st c accepted stands judged =
       let same : st ≡ standing_at s now p i = cc in
       let case : c ≡ case_for s i = cc in
-      let lines : ls ≡ i.document = cc in
-      ap (λ x. excerpt_of x c st) lines ∙ ap (λ x. excerpt_of i.document x st) case ∙ ap (excerpt_of i.document (case_for s i)) same
+      ap (λ o. if is_some o then None else excerpt_of i.document c st) accepted ∙ ap (λ x. excerpt_of i.document x st) case ∙ ap (excerpt_of i.document (case_for s i)) same
 
-  pub nothing_seen : (o : Option Incident) (st : Standing) (c : Case) (ls : Lines) → Some st ≡ option_map (λ (i : Incident). standing_at s now p i) o →
-      Some c ≡ option_map (case_for s) o → Some ls ≡ option_map (λ (i : Incident). i.document) o → None ≡ excerpt_of ls c st → None ≡ option_and_then (view_of s now p) o
-  nothing_seen None st c ls stands judged has none = cc
-  nothing_seen (Some i) st c ls stands judged has none = ap (option_map (view_with i)) (none ∙ excerpt_at i st c ls stands judged has)
+  pub nothing_seen : (o : Option Incident) (st : Standing) (c : Case) → IsMarked o → Some st ≡ option_map (λ (i : Incident). standing_at s now p i) o → Some c ≡ option_map (case_for s) o →
+      None ≡ option_and_then (λ (ls : Lines). served_of ls c st) (option_map (λ (i : Incident). i.document) o) → None ≡ option_and_then (view_of s now p) o
+  nothing_seen None st c accepted stands judged none = cc
+  nothing_seen (Some i) st c accepted stands judged none = ap (option_map (view_with i)) (none ∙ served_at i st c accepted stands judged)
 
-  pub is_seen : (o : Option Incident) (st : Standing) (c : Case) (ls : Lines) (e : Entry) (t : Told) → Some st ≡ option_map (λ (i : Incident). standing_at s now p i) o →
-      Some c ≡ option_map (case_for s) o → Some ls ≡ option_map (λ (i : Incident). i.document) o → Some e ≡ option_map entry_of o → Some t ≡ excerpt_of ls c st →
+  pub is_seen : (o : Option Incident) (st : Standing) (c : Case) (e : Entry) (t : Told) → IsMarked o → Some st ≡ option_map (λ (i : Incident). standing_at s now p i) o → Some c ≡ option_map (case_for s) o →
+      Some e ≡ option_map entry_of o → Some t ≡ option_and_then (λ (ls : Lines). served_of ls c st) (option_map (λ (i : Incident). i.document) o) →
       Some (view_made e t) ≡ option_and_then (view_of s now p) o
-  is_seen None st c ls e t stands judged has listed some = cc
-  is_seen (Some i) st c ls e t stands judged has listed some =
+  is_seen None st c e t accepted stands judged listed some = cc
+  is_seen (Some i) st c e t accepted stands judged listed some =
       let entry : e ≡ entry_of i = cc in
-      ap (λ (y : Entry). Some (view_made y t)) entry ∙ ap (option_map (view_with i)) (some ∙ excerpt_at i st c ls stands judged has)
+      ap (λ (y : Entry). Some (view_made y t)) entry ∙ ap (option_map (view_with i)) (some ∙ served_at i st c accepted stands judged)

@@ -7,5 +7,6 @@ pub mod Wanted
 pub mod Viewing
 pub mod Explaining
 pub mod Serving
+pub mod Stops
 pub mod Laws
 pub mod Alike

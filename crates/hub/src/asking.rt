@@ -1,7 +1,8 @@
 //! Reading what a person's requests are answered by.
 ghost use Rattle.std.specs.Prelude.{◌≡◌, IfOk, IsErrOf, option_map};
 ghost use Rattle.hub_core.specs.State.{State, incident_of};
-ghost use Rattle.hub_core.specs.Reads.{case_for};
+ghost use Rattle.redact.specs.Excerpts.{told_by};
+ghost use Rattle.hub_core.specs.Reads.{case_for, served_of_incident};
 ghost use Rattle.hub_core.specs.declared.state.Incident.{Incident};
 ghost use Rattle.circle.specs.Reads.{person_of};
 ghost use Rattle.hub.specs.Told.{standing_at};
@@ -15,6 +16,7 @@ use circle::directory::Person;
 use hub_core::{Shelf, ShelfFault};
 use iodef_tree::Document;
 use policy::{Case, Standing};
+use redact::Excerpt;
 
 /// Who asks, and when.
 #[derive(Clone, Copy)]
@@ -82,4 +84,19 @@ pub fn document_of<Sh: Shelf>(shelf: &mut Sh, incident: u32) -> Result<Option<Do
     ensures cause { IsErrOf result ShelfFault.Failed → HasFailed (Sh.failed shelf.old) (Sh.failed shelf.new) }
 {
     shelf.document(incident)
+}
+
+/// What a reader of this standing is served of an incident that is judged by this case; none where it is missing, or where no
+/// class of it is visible.
+pub fn excerpt_of<Sh: Shelf>(
+    shelf: &mut Sh,
+    incident: u32,
+    case: Case,
+    standing: Standing,
+) -> Result<Option<Excerpt>, ShelfFault>
+    ensures value { Sh.doubts shelf.new ≡ 0 → (s : State) → Sh.has shelf.old s → IfOk result (λ found. option_map told_by found ≡ served_of_incident incident case standing s) }
+    ensures kept { IsKept Sh.has Sh.doubts Sh.failed Sh.may_leave shelf.old shelf.new }
+    ensures cause { IsErrOf result ShelfFault.Failed → HasFailed (Sh.failed shelf.old) (Sh.failed shelf.new) }
+{
+    shelf.excerpt(incident, case, standing)
 }

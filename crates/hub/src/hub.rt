@@ -1,5 +1,5 @@
 //! The hub over a shelf: one request, and a list of them.
-ghost use Rattle.std.specs.Prelude.{◌≡◌, ◌⊎◌, ◌≤◌, ◌↔◌, Option, Some, true, false, IsTrue, IfOk, OnErr};
+ghost use Rattle.std.specs.Prelude.{◌≡◌, ◌⊎◌, ◌≤◌, ◌↔◌, Option, Some, true, false, IsTrue, IfOk, IsSomeAnd, OnErr};
 ghost use Rattle.circle.specs.Outcomes.{bare};
 ghost use Rattle.circle.specs.declared.directory.Account.{Account};
 ghost use Rattle.circle.specs.declared.refusal.Code.TheVariants.{F1};
@@ -12,6 +12,7 @@ ghost use Rattle.hub.specs.Faults.{AreCounted, failures_told};
 ghost use Rattle.hub.specs.Machine.{IsGivenUp, IsRun, IsStep, state_left};
 ghost use Rattle.hub.specs.Replies.{reply_of};
 ghost use Rattle.hub.specs.Serving.{is_made};
+ghost use Rattle.hub.specs.Stops.{MayBeLeft, any_made};
 ghost use Rattle.hub.specs.declared.key.Key.TheVariants.{Digest};
 
 use crate::fault::given_up;
@@ -78,6 +79,8 @@ impl<Sh: Shelf> Hub<Sh> {
     fn step(&mut self, alloc: Global, asked: &(i64, Key, Request)) -> Reply
         ensures step { Sh.doubts self.new ≡ 0 → (s : State) → Sh.has self.old s → IsSound s → (left : State) × IsStep s asked.now result left × Sh.has self.new left }
         ensures cause { Sh.doubts self.new ≡ 0 → (s : State) → Sh.has self.old s → IsSound s → result ≡ Refused (bare F1) → HasFailed (Sh.failed self.old) (Sh.failed self.new) }
+        ensures durable { Sh.doubts self.new ≡ 0 → (s : State) → Sh.has self.old s → IsSound s → IsTrue (is_made result) → (left : Option State) → Sh.may_leave self.new left ↔ (left ≡ Some (state_left s asked.now.1 asked.now.2)) }
+        ensures crash { Sh.doubts self.new ≡ 0 → (s : State) → Sh.has self.old s → IsSound s → (left : Option State) → Sh.may_leave self.new left → Sh.may_leave self.old left ⊎ (left ≡ Some (state_left s asked.now.1 asked.now.2)) }
         ensures later { Sh.failed self.old ≤ Sh.failed self.new }
         ensures doubt { Sh.doubts self.old ≤ Sh.doubts self.new }
     {
@@ -87,6 +90,10 @@ impl<Sh: Shelf> Hub<Sh> {
     /// Answers a list of requests, one after another: a run, from whatever sound state the shelf has. `F1` is among the
     /// replies at most as often as the shelf counted a failure meanwhile, unless that count stands at its last value. The
     /// memory for the list of replies is taken first, so want of memory is told before the first request or never.
+    ///
+    /// If everything stops behind the list, the content after all changes that are answered as made may be left, with or
+    /// without one that was given up since. What could have been left before, also what stands for no sound state, may be left
+    /// only where no change is answered as made.
     pub fn run(
         &mut self,
         alloc: Global,
@@ -94,6 +101,7 @@ impl<Sh: Shelf> Hub<Sh> {
     ) -> Result<Vec<Reply>, AllocError>
         ensures run { Sh.doubts self.new ≡ 0 → (s : State) → Sh.has self.old s → IsSound s → IfOk result (λ replies. (end : State) × IsRun s asked.now replies.items end × Sh.has self.new end) }
         ensures cause { Sh.doubts self.new ≡ 0 → (s : State) → Sh.has self.old s → IsSound s → IfOk result (λ replies. AreCounted (failures_told replies.items) (Sh.failed self.old) (Sh.failed self.new)) }
+        ensures crash { Sh.doubts self.new ≡ 0 → (s : State) → Sh.has self.old s → IsSound s → IfOk result (λ replies. (left : Option State) → Sh.may_leave self.new left → (Sh.may_leave self.old left × (any_made replies.items ≡ false)) ⊎ IsSomeAnd left (λ content. MayBeLeft s asked.now replies.items content)) }
         ensures none { OnErr result (self.new ≡ self.old) }
         ensures later { Sh.failed self.old ≤ Sh.failed self.new }
         ensures doubt { Sh.doubts self.old ≤ Sh.doubts self.new }

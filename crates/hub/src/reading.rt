@@ -132,7 +132,7 @@ fn look<Sh: Shelf>(
     ensures kept { IsKept Sh.has Sh.doubts Sh.failed Sh.may_leave shelf.old shelf.new }
     ensures cause { IsErrOf result ShelfFault.Failed → HasFailed (Sh.failed shelf.old) (Sh.failed shelf.new) }
 {
-    match view(shelf, alloc, asker, incident)? {
+    match view(shelf, asker, incident)? {
         Some(view) => Ok(Reply::View(view)),
         None => Ok(Reply::Refused(Refusal::bare(alloc, Code::N1))),
     }

@@ -1,8 +1,5 @@
 //! The excerpt of one incident.
-ghost use Rattle.std.specs.Prelude.{◌≡◌, None, option_map, option_and_then, IfOk, IfErr, IsErrOf};
-ghost use Rattle.iodef_tree.specs.Paths.{located};
-ghost use Rattle.marking.specs.Marks.{first_bad_marking};
-ghost use Rattle.redact.specs.Told.{excerpt_of};
+ghost use Rattle.std.specs.Prelude.{◌≡◌, option_map, option_and_then, IfOk, IsErrOf};
 ghost use Rattle.redact.specs.Excerpts.{told_by};
 ghost use Rattle.hub_core.specs.State.{State, incident_of};
 ghost use Rattle.hub_core.specs.Sound.{IsSound};
@@ -12,27 +9,9 @@ ghost use Rattle.hub.specs.Viewing.{first_being, view_made};
 ghost use Rattle.hub_core.specs.Shelves.{HasFailed, IsKept};
 ghost use Rattle.hub.specs.Asking.{IsThere};
 
-use crate::asking::{Asker, case_of, document_of, standing};
-use crate::fault::ample;
+use crate::asking::{Asker, case_of, excerpt_of, standing};
 use hub_core::{Entry, Shelf, ShelfFault, View, Withheld};
-use iodef_tree::Document;
-use policy::{Case, Standing};
-use redact::{Excerpt, excerpt_if_marked};
-use std::alloc::Global;
-
-/// What a reader may see of an incident; none where no class is visible. A document whose markings weren't accepted shows
-/// nothing: a shelf has none, unless its disk returned what wasn't written.
-fn excerpt_for(
-    alloc: Global,
-    document: &Document,
-    case: &Case,
-    standing: &Standing,
-) -> Result<Option<Excerpt>, ShelfFault>
-    ensures told { first_bad_marking (located document.now) ≡ None → IfOk result (λ r. option_map told_by r ≡ excerpt_of document.now case.now standing.now) }
-    ensures fault { IfErr result (λ e. e ≡ ShelfFault.NoMemory) }
-{
-    ample(excerpt_if_marked(alloc, document, case, standing))
-}
+use redact::Excerpt;
 
 /// The first of the entries, if it is that of this incident.
 fn first_of(entries: &[Entry], incident: u32) -> Option<Entry>
@@ -70,7 +49,6 @@ fn view_by(entry: Entry, excerpt: Excerpt) -> View
 /// What a person may see of an incident; none where that is nothing, or where it is missing.
 pub fn view<Sh: Shelf>(
     shelf: &mut Sh,
-    alloc: Global,
     asker: Asker<'_>,
     incident: u32,
 ) -> Result<Option<View>, ShelfFault>
@@ -84,10 +62,7 @@ pub fn view<Sh: Shelf>(
     let Some(case) = case_of(shelf, incident)? else {
         return Ok(None);
     };
-    let Some(document) = document_of(shelf, incident)? else {
-        return Ok(None);
-    };
-    let Some(excerpt) = excerpt_for(alloc, &document, &case, &standing)? else {
+    let Some(excerpt) = excerpt_of(shelf, incident, case, standing)? else {
         return Ok(None);
     };
     let Some(entry) = entry(shelf, incident)? else {

@@ -11,6 +11,8 @@ pub struct Block {
     pub lines: Vec<String>,
     /// Whether each call of the shelf is to fail in turn.
     pub fails: bool,
+    /// Whether the steps of statements are to be limited, to ever more.
+    pub limits: bool,
 }
 
 impl Block {
@@ -19,6 +21,7 @@ impl Block {
             alloc,
             lines: Vec::new(alloc),
             fails: false,
+            limits: false,
         }
     }
 
@@ -30,6 +33,10 @@ impl Block {
     pub fn add(&mut self, line: &str) -> Result<(), AllocError> {
         if line == "every call fails" {
             self.fails = true;
+            return Ok(());
+        }
+        if line == "steps are limited" {
+            self.limits = true;
             return Ok(());
         }
         let (times, request) = line.split_once(" times ").unwrap_or(("1", line));

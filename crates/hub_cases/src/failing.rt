@@ -1,12 +1,13 @@
 //! A shelf of which one call fails.
 
-ghost use Rattle.std.specs.Prelude.{◌≡◌, ◌⊎◌, ◌<◌, ◌+◌, IfErr, IsErrOf, OnOk, OnErr};
+ghost use Rattle.std.specs.Prelude.{◌≡◌, ◌<◌, ◌+◌, IfErr, OnOk};
 ghost use Rattle.hub_core.specs.Shelves.{HasCause, last_count};
 
 use circle::directory::Person;
 use hub_core::{Edit, Entry, Facts, JoinedGroup, Request, Shelf, ShelfFault};
 use iodef_tree::Document;
 use policy::{Case, Standing};
+use redact::Excerpt;
 
 /// A shelf whose calls are answered by another one, but for one of them: behind so many calls, one fails and does nothing.
 #[derive(Drop)]
@@ -88,6 +89,17 @@ impl<Sh: Shelf> Shelf for Failing<Sh> {
     fn document(&mut self, incident: u32) -> Result<Option<Document>, ShelfFault> {
         self.ask()?;
         let found = self.shelf.document(incident);
+        self.told(found)
+    }
+
+    fn excerpt(
+        &mut self,
+        incident: u32,
+        case: Case,
+        standing: Standing,
+    ) -> Result<Option<Excerpt>, ShelfFault> {
+        self.ask()?;
+        let found = self.shelf.excerpt(incident, case, standing);
         self.told(found)
     }
 

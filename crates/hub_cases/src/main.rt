@@ -10,16 +10,22 @@
 //! `150 times` before a request asks it so often; in it `<n>` is the number of the time, and `<a,b>` is a and b in turn.
 //!
 //! Behind the answers of a block stands whether tables in memory, opened anew behind each request, answer the same. Behind
-//! all blocks stands what becomes of stores that are made, opened and refused.
+//! all blocks stands what becomes of stores that are made, opened and refused, the lines of a report as rows, and a store of
+//! an older version, brought to the newest.
 //!
 //! A block with a line `every call fails` is run once more for each call of the shelf, which then fails that one time: one
-//! request is answered F1, and all others as if that one hadn't been made.
+//! request is answered F1, and all others as if that one hadn't been made. One with a line `steps are limited` is run once more
+//! over tables for each limit on the steps of a statement, from one on: a request is answered F1 or as with no limit, behind F1
+//! everybody sees what stood before, and the same request is then answered with no limit.
 #![tactic(auto)]
 
 mod block;
 mod failing;
+mod old_store;
 mod openings;
 mod play;
+mod steps;
+mod stored_lines;
 mod tables;
 mod told;
 mod world;
@@ -50,6 +56,11 @@ fn main(rt: HostRuntime) -> io::Result<()> {
         }
     }
     for told in openings::all(alloc)? {
+        println!(rt; "{told}")?;
+    }
+    let told = stored_lines::told(alloc, &world)?;
+    println!(rt; "{told}")?;
+    for told in old_store::all(alloc)? {
         println!(rt; "{told}")?;
     }
     Ok(())

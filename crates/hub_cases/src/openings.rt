@@ -7,7 +7,8 @@ use sqlite::{Alter, Connection};
 use std::alloc::{AllocError, Global};
 use trying_hub::key_of;
 
-fn fault_told(alloc: Global, fault: OpenFault) -> Result<String, AllocError> {
+/// A fault by its name.
+pub fn fault_told(alloc: Global, fault: OpenFault) -> Result<String, AllocError> {
     match fault {
         OpenFault::NotOurs => String::from_str(alloc, "NotOurs"),
         OpenFault::WrongVersion(n) => format!(in alloc; "WrongVersion({n})"),
@@ -80,7 +81,7 @@ fn push(alloc: Global, all: &mut Vec<String>, what: &str, told: &str) -> Result<
 }
 
 /// Statements, and what they make.
-const STORES: [(&str, &str); 12] = [
+const STORES: [(&str, &str); 13] = [
     ("an empty store", ""),
     (
         "no row",
@@ -89,6 +90,10 @@ const STORES: [(&str, &str); 12] = [
     (
         "version 0",
         "CREATE TABLE hub (version INTEGER NOT NULL) STRICT; INSERT INTO hub (version) VALUES (0)",
+    ),
+    (
+        "version 1 with no other table",
+        "CREATE TABLE hub (version INTEGER NOT NULL) STRICT; INSERT INTO hub (version) VALUES (1)",
     ),
     (
         "version 9",

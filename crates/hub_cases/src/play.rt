@@ -2,6 +2,7 @@
 
 use crate::block::Block;
 use crate::failing::Failing;
+use crate::steps::limited;
 use crate::world::{lines_of, requests_of};
 use crate::{tables, told};
 use hub::Hub;
@@ -115,6 +116,10 @@ pub fn answers(alloc: Global, world: &Block, block: &Block) -> Result<Vec<String
     answers.push(String::from_str(alloc, same)?)?;
     if block.fails {
         answers.push(String::from_str(alloc, failed_in_turn(alloc, &lines)?)?)?;
+    }
+    if block.limits {
+        let told = limited(alloc, &lines, world.lines.len())?;
+        answers.push(String::from_str(alloc, told)?)?;
     }
     Ok(answers)
 }

@@ -1,15 +1,17 @@
 //! What the shelf in memory tells.
-ghost use Rattle.std.specs.Prelude.{◌≡◌, IfOk};
+ghost use Rattle.std.specs.Prelude.{◌≡◌, option_map, IfOk};
 ghost use Rattle.std.specs.Option.{option_copied};
 ghost use Rattle.circle.specs.Reads.{person_of};
-ghost use Rattle.hub_core.specs.Reads.{person_by_key as person_of_key, case_of, document_of, groups_of as groups_joined_by, joined, naming_of};
+ghost use Rattle.hub_core.specs.Reads.{person_by_key as person_of_key, case_of, document_of, served_of_incident, groups_of as groups_joined_by, joined, naming_of};
+ghost use Rattle.redact.specs.Excerpts.{told_by};
 
 use crate::list_shelf::ListShelf;
 use crate::reply::JoinedGroup;
 use crate::state::Naming;
 use circle::directory::{Group, GroupMember, Person};
 use iodef_tree::Document;
-use policy::Case;
+use policy::{Case, Standing};
+use redact::{Excerpt, excerpt_if_marked};
 use std::alloc::AllocError;
 
 impl ListShelf {
@@ -53,6 +55,21 @@ impl ListShelf {
         match self.incident(incident) {
             None => Ok(None),
             Some(incident) => Ok(Some(incident.document.copy(self.alloc())?)),
+        }
+    }
+
+    /// Of the document where it lies: nothing of it is copied but what is served.
+    pub(crate) fn find_excerpt(
+        &self,
+        incident: u32,
+        case: &Case,
+        standing: &Standing,
+    ) -> Result<Option<Excerpt>, AllocError>
+        ensures { IfOk result (λ found. option_map told_by found ≡ served_of_incident incident case.now standing.now self.now) }
+    {
+        match self.incident(incident) {
+            None => Ok(None),
+            Some(incident) => excerpt_if_marked(self.alloc(), &incident.document, case, standing),
         }
     }
 

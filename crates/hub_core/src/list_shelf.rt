@@ -23,6 +23,7 @@ use circle::directory::Person;
 use circle_rows::DirectoryRows;
 use iodef_tree::Document;
 use policy::{Case, Gates, Permissions, Standing};
+use redact::Excerpt;
 use std::alloc::{AllocError, Global};
 use std::marker::Model;
 
@@ -165,6 +166,15 @@ impl Shelf for ListShelf {
 
     fn document(&mut self, incident: u32) -> Result<Option<Document>, ShelfFault> {
         Ok(self.find_document(incident)?)
+    }
+
+    fn excerpt(
+        &mut self,
+        incident: u32,
+        case: Case,
+        standing: Standing,
+    ) -> Result<Option<Excerpt>, ShelfFault> {
+        Ok(self.find_excerpt(incident, &case, &standing)?)
     }
 
     fn incidents_after(&mut self, number: u32, most: u32) -> Result<Vec<Entry>, ShelfFault> {

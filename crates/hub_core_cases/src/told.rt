@@ -1,5 +1,7 @@
 //! Refusals and edits as text.
 
+use circle::command::RowEdit;
+use circle::directory::{Group, GroupMember};
 use hub_core::{
     Edit, Gate, GateKey, Incident, Permission, PermissionKey, Recipient, ShelfFault, Target,
 };
@@ -68,9 +70,38 @@ fn take_gate(alloc: Global, key: &GateKey) -> Result<String, AllocError> {
     format!(in alloc; "take gate {incident} '{path}'")
 }
 
+fn group(alloc: Global, group: &Group) -> Result<String, AllocError> {
+    let (number, owner, name) = (group.number, group.owner, group.name.as_str());
+    let releasability = group.releasability.as_str();
+    let active = if group.active { "active" } else { "inactive" };
+    format!(in alloc; "put group {number} of {owner} {name:?} {releasability:?} {active}")
+}
+
+fn group_member(alloc: Global, member: &GroupMember) -> Result<String, AllocError> {
+    let (group, org) = (member.group, member.org);
+    let extend = if member.extend { " extend" } else { "" };
+    format!(in alloc; "put member {org} of group {group}{extend}")
+}
+
+/// What the table of the directory says of its edits, of those that occur here.
+fn directory(alloc: Global, row: &RowEdit) -> Result<String, AllocError> {
+    match row {
+        RowEdit::PutOrg(org) => {
+            let (number, name) = (org.number, org.name.as_str());
+            format!(in alloc; "put org {number} {name:?}")
+        }
+        RowEdit::PutGroup(row) => group(alloc, row),
+        RowEdit::PutGroupMember(row) => group_member(alloc, row),
+        RowEdit::TakeGroupMember { group, org } => {
+            format!(in alloc; "take member {org} of group {group}")
+        }
+        _ => String::from_str(alloc, "another edit of the directory"),
+    }
+}
+
 fn edit(alloc: Global, edit: &Edit) -> Result<String, AllocError> {
     match edit {
-        Edit::Directory(row) => format!(in alloc; "{row:?}"),
+        Edit::Directory(row) => directory(alloc, row),
         Edit::PutIncident(row) => incident(alloc, row),
         Edit::TakeIncident(n) => format!(in alloc; "take incident {n}"),
         Edit::TakePolicy(n) => format!(in alloc; "take policy {n}"),

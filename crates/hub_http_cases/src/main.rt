@@ -24,7 +24,10 @@
 //! - `reads`: one by one, and the k-th read fails, for each k up to the last read that a request takes; told is how many ended so with
 //!   nothing written;
 //! - `writes`: the writer takes 16 bytes at a time, and its k-th write fails, for each k up to the last write that the reply takes;
-//!   told is how many ended so.
+//!   told is how many ended so;
+//! - `writes anew`, with two requests and a bar between them: the same for the second, which the first one takes back before each k;
+//!   told is the outcome for each k, and with which code it is then refused;
+//! - `disturbed`: the first read is interrupted, and no byte is asked of the line; `unwritten`: the writer takes nothing.
 #![tactic(auto)]
 
 mod asked;

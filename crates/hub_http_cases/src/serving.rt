@@ -1,7 +1,7 @@
 //! Serves a request over memory, in the way that the line names.
 
 use crate::bytes::bytes_of;
-use crate::streams::{Drip, Narrow};
+use crate::streams::{Disturbed, Drip, Full, Narrow};
 use crate::written::shown_bytes;
 use hub::Hub;
 use hub_core::ListShelf;
@@ -112,6 +112,46 @@ fn failing_writes(
     String::from_str(alloc, "every write failed")
 }
 
+/// One request, of whose reply the k-th write fails, for each k. Before each it is taken back by another one, and behind each
+/// failure it is asked again, with a writer that takes all.
+fn failing_writes_anew(
+    alloc: Global,
+    hub: &mut Hub<ListShelf>,
+    back: &[u8],
+    bytes: &[u8],
+) -> Result<String, AllocError> {
+    let mut all = String::new(alloc);
+    for k in 0..u32::MAX {
+        whole(alloc, hub, back)?;
+        let mut reader = bytes;
+        let mut writer = Narrow {
+            writes: 0,
+            fails_after: k,
+        };
+        let served = serve_one(alloc, &mut reader, &mut writer, hub, NOW);
+        if served != Err(ServeFault::WriteFailed) {
+            all.push_str(outcome(served))?;
+            return Ok(all);
+        }
+        let again = whole(alloc, hub, bytes)?;
+        let code = again.as_str().split('"').nth(3).unwrap_or("no code");
+        all.push_str(format!(in alloc; "WriteFailed and {code}, ")?.as_str())?;
+    }
+    Ok(all)
+}
+
+fn disturbed(alloc: Global, hub: &mut Hub<ListShelf>) -> Result<String, AllocError> {
+    let mut out: Vec<u8> = Vec::new(alloc);
+    let served = serve_one(alloc, &mut Disturbed, &mut out, hub, NOW);
+    told(alloc, served, &out)
+}
+
+fn unwritten(alloc: Global, hub: &mut Hub<ListShelf>, bytes: &[u8]) -> Result<String, AllocError> {
+    let mut reader = bytes;
+    let served = serve_one(alloc, &mut reader, &mut Full, hub, NOW);
+    String::from_str(alloc, outcome(served))
+}
+
 /// The answer to the bytes of a request that are served in this way.
 pub fn answer(
     alloc: Global,
@@ -119,6 +159,10 @@ pub fn answer(
     way: &str,
     request: &str,
 ) -> Result<String, AllocError> {
+    if let ("writes anew", Some((back, again))) = (way, request.split_once('|')) {
+        let back = bytes_of(alloc, back)?;
+        return failing_writes_anew(alloc, hub, &back, &bytes_of(alloc, again)?);
+    }
     let bytes = bytes_of(alloc, request)?;
     match way {
         "whole" => whole(alloc, hub, &bytes),
@@ -126,6 +170,8 @@ pub fn answer(
         "prefixes" => prefixes(alloc, hub, &bytes),
         "reads" => failing_reads(alloc, hub, &bytes),
         "writes" => failing_writes(alloc, hub, &bytes),
+        "disturbed" => disturbed(alloc, hub),
+        "unwritten" => unwritten(alloc, hub, &bytes),
         _ => String::from_str(alloc, "no such way"),
     }
 }

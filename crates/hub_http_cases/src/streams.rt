@@ -48,3 +48,27 @@ impl Write for Narrow {
         Ok(())
     }
 }
+
+/// Gives nothing, since a signal came in between.
+#[derive(Drop)]
+pub struct Disturbed;
+
+impl Read for Disturbed {
+    fn read(&mut self, _: &mut [u8]) -> io::Result<usize> {
+        Err(io::Error::from(ErrorKind::Interrupted))
+    }
+}
+
+/// Takes nothing.
+#[derive(Drop)]
+pub struct Full;
+
+impl Write for Full {
+    fn write(&mut self, _: &[u8]) -> io::Result<usize> {
+        Ok(0)
+    }
+
+    fn flush(&mut self) -> io::Result<()> {
+        Ok(())
+    }
+}

@@ -30,7 +30,7 @@ use Rattle.hub_store.proofs.Forms.{one_table, program}
 use Rattle.hub_store.proofs.Statements.{same_ok}
 
 -- a SELECT has no RETURNING, and reads no clock where it names none
-bare_one : (names formats : List (List ℕ)) (start stop tail : ℕ) (x : Checked Command) (c : Compiled)
+pub bare_one : (names formats : List (List ℕ)) (start stop tail : ℕ) (x : Checked Command) (c : Compiled)
     → and_then (and_then (and_then x (λ k. Ok (k, None))) (λ found. Ok (formats, found))) (λ (plan : List (List ℕ) × (Command × Option Returning)). Ok (record { command = plan.1.0; returning = plan.1.1; names = names; formats = plan.0; start = start; end = stop; tail = tail })) ≡ Ok c
     → (c.returning ≡ None) × (c.formats ≡ formats) × (c.names ≡ names) × (c.tail ≡ tail) × (x ≡ Ok c.command)
 bare_one names formats start stop tail (Ok k) c e =

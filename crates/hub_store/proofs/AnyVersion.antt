@@ -1,5 +1,5 @@
 -- The query for the version, whatever the schema is.
-use Rattle.std.proofs.Common.{◌≡◌, ◌≢◌, ◌≤◌, ◌⊎◌, inl, inr, ℕ, List, [], length, map, append-nil, Bool, true, false, cond, IsSome, is_some, Option, Some, None, Ok, Err, Result, IfOk, IfErr, refl, sym, ap, subst, ◌∙◌, arith}
+use Rattle.std.proofs.Common.{◌≡◌, ◌≢◌, ◌≤◌, ◌⊎◌, inl, inr, ℕ, List, [], length, map, append-nil, Bool, true, false, cond, IsSome, is_some, Option, Some, None, Ok, Err, Result, IfOk, IfErr, IfSome, refl, sym, ap, subst, ◌∙◌, arith}
 use Rattle.std.proofs.lemmas.Result.{IfOk-weaker}
 use Rattle.sqlite_value.specs.Order.{Row, column}
 use Rattle.sqlite_schema.specs.declared.command.Command.{Command}
@@ -61,6 +61,12 @@ told_by_rows old new has rows r up is shown found =
     let it = answer_of [] old new rows shown in
     let told = version_told old.now it.0 rows (sym is ∙ up) (from_tables old.now.schema it.0 it.1).1 it.2 in
     IfOk-weaker r _ _ (λ n same. same ∙ told) found
+
+-- what holds once the query has answered holds of a version that is found
+pub once_told : (P : Type 0) (r : Result (Option ℕ) Error) → P → IfOk r (λ found. IfSome found (λ _. P))
+once_told P (Ok (Some n)) p = p
+once_told P (Ok None) p = tt
+once_told P (Err e) p = tt
 
 -- ---- why the query fails
 

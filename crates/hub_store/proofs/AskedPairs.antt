@@ -32,7 +32,8 @@ use Rattle.hub_store.proofs.Listed.{in_its_order, int_below, not_less, first_dec
 use Rattle.hub_store.proofs.OneKind.{kind_alone, is_of}
 use Rattle.hub_store.proofs.Puts.{past_two, past_three}
 use Rattle.hub_store.proofs.Statements.{keeps, shows, selected}
-use Rattle.hub_store.proofs.Unique.{rising}
+use Rattle.hub_store.proofs.Rising.{rising}
+use Rattle.hub_store.proofs.Places.{pair_place, pair_tree, held_of}
 
 -- ---- one set of the table
 
@@ -97,33 +98,33 @@ module _ (db : Trees) (s : core.State) (k : PairKind) (sound : IsSound s) (means
   passing : {Y : Type 0} (keep : Row → Bool) (show : Row → Y) (test : Row → Bool) (out : Row → Y) (q : Pair → Bool) (found : List Y) → ((r : Row) → keep r ≡ is_of (kind_name k) test (drop 1 r)) → ((r : Row) → show r ≡ out (drop 1 r)) → ((p : Pair) → test (pair_row (kind_name k) p) ≡ q p)
       → IsPermutation (map show (filter keep (db 9))) found → IsPermutation (map (λ p. out (pair_row (kind_name k) p)) (filter q (pairs_of k s.directory))) found
   passing keep show test out q found keeps shows same is =
-      let seen = seen_through db (without_rowids 9 (rows_of_pairs (pair_sets s.directory))) keep show (is_of (kind_name k) test) out found keeps shows means.1.1.1.1.1.0 is in
+      let seen = seen_through db (without_rowids pair_tree (rows_of_pairs (pair_sets s.directory))) keep show (is_of (kind_name k) test) out found keeps shows (held_of s pair_place _ refl means) is in
       of_elements (pair_row (kind_name k)) test out q (pairs_of k s.directory) found same (subst (λ l. IsPermutation (map out l) found) (seen_kind k test s.directory) seen)
 
-  pub between_shown : (a b : ℕ) (rows : List Row) → IsAnswer (one_table 9 (is_param 1 0 ∷ is_param 2 1 ∷ is_param 3 2 ∷ []) (col 1 4 ∷ [])) db (Text (kind_name k) ∷ Int (pos a) ∷ Int (pos b) ∷ []) rows → rows ≡ map value_shown (option_to_list (pair_between k a b s.directory))
+  pub between_shown : (a b : ℕ) (rows : List Row) → IsAnswer (one_table pair_tree (is_param 1 0 ∷ is_param 2 1 ∷ is_param 3 2 ∷ []) (col 1 4 ∷ [])) db (Text (kind_name k) ∷ Int (pos a) ∷ Int (pos b) ∷ []) rows → rows ≡ map value_shown (option_to_list (pair_between k a b s.directory))
   between_shown a b rows answer =
       let terms = is_param 1 0 ∷ is_param 2 1 ∷ is_param 3 2 ∷ [] in
       let params = Text (kind_name k) ∷ Int (pos a) ∷ Int (pos b) ∷ [] in
       let found = passing (keeps terms params) (shows (col 1 4 ∷ []) params) (begins 1 (Int (pos a) ∷ Int (pos b) ∷ [])) (λ r. column r 3 ∷ []) (is_between a b) rows (past_three (Text (kind_name k)) (Int (pos a)) (Int (pos b))) (past_both params)
-      (λ p. rw (equal_numbers p.0.0 a, equal_numbers p.0.1 b, and_true (p.0.1 == b)) refl) (selected db 9 terms (col 1 4 ∷ []) params rows answer) in
+      (λ p. rw (equal_numbers p.0.0 a, equal_numbers p.0.1 b, and_true (p.0.1 == b)) refl) (selected db pair_tree terms (col 1 4 ∷ []) params rows answer) in
       alone value_shown (pair_between k a b s.directory) rows (subst (λ l. IsPermutation (map value_shown l) rows) (only_one (is_between a b) (pairs_of k s.directory) (once_between a b (pairs_of k s.directory) (pairs_rise k s.directory sound.directory))) found)
 
   -- the pairs of the set that pass, in the order of the query
   ordered : (terms project : List Term) (order : List (Term × Key)) (params : Row) (test : Row → Bool) (out : Row → Output) (q : Pair → Bool) (rows : List Row) → ((r : Row) → keeps terms params r ≡ is_of (kind_name k) test (drop 1 r))
       → ((r : Row) → (eval_all (map (λ (key : Term × Key). key.0) order) (params ∷ r ∷ []), shows project params r) ≡ out (drop 1 r)) → ((p : Pair) → test (pair_row (kind_name k) p) ≡ q p)
-      → ((a b : Pair) → q a ≡ true → Below a b → q b ≡ true → output_cmp (in_order order (one_table 9 terms project)) (out (pair_row (kind_name k) a)) (out (pair_row (kind_name k) b)) ≡ Less)
-      → IsAnswer (in_order order (one_table 9 terms project)) db params rows → rows ≡ map (λ p. (out (pair_row (kind_name k) p)).1) (filter q (pairs_of k s.directory))
+      → ((a b : Pair) → q a ≡ true → Below a b → q b ≡ true → output_cmp (in_order order (one_table pair_tree terms project)) (out (pair_row (kind_name k) a)) (out (pair_row (kind_name k) b)) ≡ Less)
+      → IsAnswer (in_order order (one_table pair_tree terms project)) db params rows → rows ≡ map (λ p. (out (pair_row (kind_name k) p)).1) (filter q (pairs_of k s.directory))
   ordered terms project order params test out q rows kept show same below answer =
-      in_its_order db 9 (pairs_of k s.directory) q terms project order (lit (Int (negsuc 0))) params (λ p. out (pair_row (kind_name k) p)) rows Below (pairs_rise k s.directory sound.directory) below
+      in_its_order db pair_tree (pairs_of k s.directory) q terms project order (lit (Int (negsuc 0))) params (λ p. out (pair_row (kind_name k) p)) rows Below (pairs_rise k s.directory sound.directory) below
       (λ all found. passing (keeps terms params) (λ r. (eval_all (map (λ (key : Term × Key). key.0) order) (params ∷ r ∷ []), shows project params r)) test out q all kept show same found) answer
 
-  pub from_shown : (a : ℕ) (rows : List Row) → IsAnswer (in_order (by_column 3 ∷ []) (one_table 9 (is_param 1 0 ∷ is_param 2 1 ∷ []) (col 1 3 ∷ col 1 4 ∷ []))) db (Text (kind_name k) ∷ Int (pos a) ∷ []) rows → rows ≡ map second_shown (pairs_from k a s.directory)
+  pub from_shown : (a : ℕ) (rows : List Row) → IsAnswer (in_order (by_column 3 ∷ []) (one_table pair_tree (is_param 1 0 ∷ is_param 2 1 ∷ []) (col 1 3 ∷ col 1 4 ∷ []))) db (Text (kind_name k) ∷ Int (pos a) ∷ []) rows → rows ≡ map second_shown (pairs_from k a s.directory)
   from_shown a rows answer =
       let params = Text (kind_name k) ∷ Int (pos a) ∷ [] in
       ordered (is_param 1 0 ∷ is_param 2 1 ∷ []) (col 1 3 ∷ col 1 4 ∷ []) (by_column 3 ∷ []) params (begins 1 (Int (pos a) ∷ [])) from_out (λ (p : Pair). p.0.0 == a) rows (past_two (Text (kind_name k)) (Int (pos a))) (past_from params) (λ p. and_true _ ∙ equal_numbers p.0.0 a)
       (λ p q one less other. rw (value_cmp-Int (pos p.0.1) (pos q.0.1), int_below p.0.1 q.0.1 (next_decides p.0.0 q.0.0 a (nat_cmp p.0.1 q.0.1) one other less)) refl) answer
 
-  pub to_shown : (b : ℕ) (rows : List Row) → IsAnswer (in_order (by_column 2 ∷ []) (one_table 9 (is_param 1 0 ∷ is_param 3 1 ∷ []) (col 1 2 ∷ col 1 4 ∷ []))) db (Text (kind_name k) ∷ Int (pos b) ∷ []) rows → rows ≡ map first_shown (pairs_to k b s.directory)
+  pub to_shown : (b : ℕ) (rows : List Row) → IsAnswer (in_order (by_column 2 ∷ []) (one_table pair_tree (is_param 1 0 ∷ is_param 3 1 ∷ []) (col 1 2 ∷ col 1 4 ∷ []))) db (Text (kind_name k) ∷ Int (pos b) ∷ []) rows → rows ≡ map first_shown (pairs_to k b s.directory)
   to_shown b rows answer =
       let params = Text (kind_name k) ∷ Int (pos b) ∷ [] in
       ordered (is_param 1 0 ∷ is_param 3 1 ∷ []) (col 1 2 ∷ col 1 4 ∷ []) (by_column 2 ∷ []) params (begins 2 (Int (pos b) ∷ [])) to_out (λ (p : Pair). p.0.1 == b) rows (kept_to (kind_name k) b) (past_to params) (λ p. and_true _ ∙ equal_numbers p.0.1 b)

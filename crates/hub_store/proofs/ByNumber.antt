@@ -22,6 +22,7 @@ use Rattle.hub_store.proofs.Forms.{one_table, is_param}
 use Rattle.hub_store.proofs.Statements.{keeps, shows, selected}
 use Rattle.hub_store.proofs.Finding.{Once, seen_through, of_elements, only_one, once_numbered, as_viewed}
 use Rattle.hub_store.proofs.Whether.{any_shown}
+use Rattle.hub_store.proofs.Places.{community_place, community_tree, org_place, org_tree, person_place, person_tree, held_of}
 
 module _ {X : Type 0} (db : Trees) (tree : ℕ) (row : X → Row) (xs : List X) (terms project : List Term) (params : Row) (q : X → Bool) (rows : List Row) (same : (x : X) → keeps terms params (row x) ≡ q x) where
   -- the rows show those that pass
@@ -46,18 +47,18 @@ module _ {X : Type 0} (db : Trees) (tree : ℕ) (row : X → Row) (number : X �
   pub one_with_number : CountsFrom number 0 xs → IsPermutation (map (λ x. shows project (Int (pos n) ∷ []) (row x)) (option_to_list (find (λ x. number x == n) xs))) rows
   one_with_number counts = found_once db tree row xs (is_param 0 0 ∷ []) project (Int (pos n) ∷ []) (λ x. number x == n) rows by_first (once_numbered number n xs counts) held a
 
-pub org_found : (db : Trees) (s : core.State) (n : ℕ) (rows : List Row) → Means db s → IsAnswer (one_table 1 (is_param 0 0 ∷ []) (col 1 0 ∷ [])) db (Int (pos n) ∷ []) rows → not (length rows == 0) ≡ has_org n s.directory
-org_found db s n rows means a = any_shown _ _ s.directory.orgs rows (with_number db 1 org_row org_number s.directory.orgs (λ x. refl) n (col 1 0 ∷ []) rows means.1.0 a)
+pub org_found : (db : Trees) (s : core.State) (n : ℕ) (rows : List Row) → Means db s → IsAnswer (one_table org_tree (is_param 0 0 ∷ []) (col 1 0 ∷ [])) db (Int (pos n) ∷ []) rows → not (length rows == 0) ≡ has_org n s.directory
+org_found db s n rows means a = any_shown _ _ s.directory.orgs rows (with_number db org_tree org_row org_number s.directory.orgs (λ x. refl) n (col 1 0 ∷ []) rows (held_of s org_place _ refl means) a)
 
-pub community_found : (db : Trees) (s : core.State) (n : ℕ) (rows : List Row) → Means db s → IsAnswer (one_table 5 (is_param 0 0 ∷ []) (col 1 0 ∷ [])) db (Int (pos n) ∷ []) rows → not (length rows == 0) ≡ has_community n s.directory
-community_found db s n rows means a = any_shown _ _ s.directory.communities rows (with_number db 5 community_row community_number s.directory.communities (λ x. refl) n (col 1 0 ∷ []) rows means.1.1.1.0 a)
+pub community_found : (db : Trees) (s : core.State) (n : ℕ) (rows : List Row) → Means db s → IsAnswer (one_table community_tree (is_param 0 0 ∷ []) (col 1 0 ∷ [])) db (Int (pos n) ∷ []) rows → not (length rows == 0) ≡ has_community n s.directory
+community_found db s n rows means a = any_shown _ _ s.directory.communities rows (with_number db community_tree community_row community_number s.directory.communities (λ x. refl) n (col 1 0 ∷ []) rows (held_of s community_place _ refl means) a)
 
-pub person_numbered_found : (db : Trees) (s : core.State) (n : ℕ) (rows : List Row) → IsSound s → Means db s → IsAnswer (one_table 3 (is_param 0 0 ∷ []) (col 1 0 ∷ col 1 2 ∷ col 1 3 ∷ col 1 4 ∷ col 1 6 ∷ col 1 7 ∷ [])) db (Int (pos n) ∷ []) rows
+pub person_numbered_found : (db : Trees) (s : core.State) (n : ℕ) (rows : List Row) → IsSound s → Means db s → IsAnswer (one_table person_tree (is_param 0 0 ∷ []) (col 1 0 ∷ col 1 2 ∷ col 1 3 ∷ col 1 4 ∷ col 1 6 ∷ col 1 7 ∷ [])) db (Int (pos n) ∷ []) rows
     → IsPermutation (map person_shown (option_to_list (person_of n s.directory))) rows
 person_numbered_found db s n rows sound means a =
     let project = col 1 0 ∷ col 1 2 ∷ col 1 3 ∷ col 1 4 ∷ col 1 6 ∷ col 1 7 ∷ [] in
     subst (λ l. IsPermutation l rows) (as_viewed (λ a. shows project (Int (pos n) ∷ []) (account_row a)) person_in person_shown (λ a. refl) _)
-    (one_with_number db 3 account_row account_number s.directory.accounts (λ x. refl) n project rows means.1.1.0 a sound.directory.accounts.numbered.0)
+    (one_with_number db person_tree account_row account_number s.directory.accounts (λ x. refl) n project rows (held_of s person_place _ refl means) a sound.directory.accounts.numbered.0)
 
 -- an option that is there, and a list that has such an element
 pub some_passes : {X Y : Type 0} (view : X → Y) (q : X → Bool) (xs : List X) → is_some (option_map view (find q xs)) ≡ list_any q xs

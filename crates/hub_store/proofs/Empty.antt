@@ -13,10 +13,12 @@ use Rattle.hub_core.specs.State.{empty}
 use Rattle.hub_core.specs.Sound.{IsSound}
 use Rattle.hub_store.specs.Content.{Has, CommitsState}
 use Rattle.hub_store.specs.Tables.{hub_schema}
+use Rattle.hub_store.specs.Layout.{newest}
 use Rattle.hub_store.specs.Holdings.{Holding, IsHeld, without_rowids}
 use Rattle.hub_store.specs.Makes.{HasEmpty}
 use Rattle.hub_store.specs.Means.{holdings, Holds}
 use Rattle.hub_store.proofs.Held.{AreHeld}
+use Rattle.hub_store.proofs.Places.{hub_place}
 use Rattle.hub_store.proofs.Puts.{hubs, puts_version, held_put}
 use Rattle.hub_store.proofs.Texts.{put_version}
 
@@ -45,7 +47,7 @@ all_bare db has =
               bare db 7 _ e.1.1.1.1.0,
               (
                 bare db 9 _ e.1.1.1.1.1.0,
-                (bare db 12 _ e.1.1.1.1.1.1.0, (bare db 14 _ e.1.1.1.1.1.1.1.0, (bare db 16 _ e.1.1.1.1.1.1.1.1.0, (bare db 18 _ e.1.1.1.1.1.1.1.1.1.0, tt)))),
+                (bare db 12 _ e.1.1.1.1.1.1.0, (bare db 14 _ e.1.1.1.1.1.1.1.0, (bare db 16 _ e.1.1.1.1.1.1.1.1.0, (bare db 20 _ e.1.1.1.1.1.1.1.1.1.0, (bare db 22 _ e.1.1.1.1.1.1.1.1.1.1.0, tt))))),
               ),
             ),
           ),
@@ -53,15 +55,15 @@ all_bare db has =
       ),
     )
 
-pub begins_empty : (old new : State) (count : ℕ) → Executes put_version (Int (pos 1) ∷ []) old new (Ok count) → HasEmpty hub_schema old.now → Holds new.now empty
+pub begins_empty : (old new : State) (count : ℕ) → Executes put_version (Int (pos newest) ∷ []) old new (Ok count) → HasEmpty hub_schema old.now → Holds new.now empty
 unfolding unversioned
 begins_empty old new count h has =
-    let put = puts_version old new 1 has.known count h in
+    let put = puts_version old new newest has.known count h in
     record {
       known = put.0;
       whole = put.2;
-      means = held_put hubs old new 0 unversioned (holdings empty) (drop 1) [] refl refl (all_bare old.now.trees (record { known = refl; empty = has.empty })) (Null ∷ Int (pos 1) ∷ []) (Int (pos 1) ∷ []) ((Int (pos 1) ∷ []) ∷ []) refl (λ rows. refl) (IsPermutation-refl _) put;
-      fit = record { orgs = tt; accounts = tt; communities = tt; groups = tt; gates = tt; incidents = tt };
+      means = held_put hubs old new hub_place unversioned (holdings empty) (drop 1) [] refl refl (all_bare old.now.trees (record { known = refl; empty = has.empty })) (Null ∷ Int (pos newest) ∷ []) (Int (pos newest) ∷ []) ((Int (pos newest) ∷ []) ∷ []) refl (λ rows. refl) (IsPermutation-refl _) put;
+      fit = record { orgs = tt; accounts = tt; communities = tt; groups = tt; gates = tt };
     }
 
 pub sound_empty : IsSound empty

@@ -18,7 +18,7 @@ use Rattle.hub_store.specs.Holdings.{Holding, IsHeld}
 use Rattle.hub_store.specs.Shown.{IsShownBy, ShowsFirst, ShowsAll}
 use Rattle.hub_store.proofs.Found.{always, filter_rows, map_each}
 use Rattle.hub_store.proofs.Lists.{Rises}
-use Rattle.hub_store.proofs.Unique.{counted}
+use Rattle.hub_store.proofs.Rising.{counted}
 
 -- ---- the elements that pass
 

@@ -38,6 +38,7 @@ use Rattle.sqlite.specs.Rows.{Task, Written, Sourced, Counter, Edited, Inserts}
 use Rattle.sqlite.specs.Does.{Does, Concludes, Tested}
 use Rattle.sqlite.specs.State.{State, ExecutesInside, mode_of}
 use Rattle.hub_store.specs.Tables.{hub_schema, hub_table}
+use Rattle.hub_store.specs.Layout.{newest}
 use Rattle.hub_store.specs.Makes.{HasEmpty}
 use Rattle.hub_store.proofs.Compare.{cast_int, cast_null}
 use Rattle.hub_store.specs.Failing.{HasReason}
@@ -57,7 +58,7 @@ each_row Q each [] = tt
 each_row Q each (r ∷ rows) = (each r, each_row Q each rows)
 
 -- tables without a reference refer to nothing that is missing
-none_refer : (among : Among) (all ts : List Table) (db : Trees) → AllByRecursion (λ (t : Table). t.references ≡ []) ts
+pub none_refer : (among : Among) (all ts : List Table) (db : Trees) → AllByRecursion (λ (t : Table). t.references ≡ []) ts
     → AllByRecursion (λ (t : Table). AllByRecursion (λ row. list_all (λ ref. not (is_among among ref) || has_parent all db row ref) t.references ≡ true) (db t.tree)) ts
 none_refer among all [] db none = tt
 none_refer among all (t ∷ ts) db none =
@@ -65,7 +66,7 @@ none_refer among all (t ∷ ts) db none =
 
 -- the row of the version under the first rowid
 abbrev first : Row
-first = Int (pos 1) ∷ Int (pos 1) ∷ []
+first = Int (pos 1) ∷ Int (pos newest) ∷ []
 
 abbrev first_edit : Edit
 first_edit = record { table = hub_table; gone = []; news = first ∷ [] }
@@ -74,7 +75,7 @@ abbrev source : Source
 source = Values (lit Null ∷ col 0 0 ∷ []) 2
 
 abbrev task : Option ℕ → Task
-task limit = record { limit = limit; keys = Enforced; schema = hub_schema; table = hub_table; params = Int (pos 1) ∷ [] }
+task limit = record { limit = limit; keys = Enforced; schema = hub_schema; table = hub_table; params = Int (pos newest) ∷ [] }
 
 module _ (db : Trees) (has : HasEmpty hub_schema (record { schema = hub_schema; trees = db })) where
   unrefused : (why : Refusal) → ¬ IsRefused hub_schema Enforced db first_edit why
@@ -117,16 +118,16 @@ module _ (db : Trees) (has : HasEmpty hub_schema (record { schema = hub_schema; 
   written why (inr (inl (row, inr none, big, _))) = absurd none
   written why (inr (inr h)) = ends h.2.0 h.0 why h.2.1
 
-  edit_is : (rows : List Row) → rows ≡ (Null ∷ Int (pos 1) ∷ []) ∷ [] → edit_of db hub_table [] Chosen 0 rows ≡ first_edit
+  edit_is : (rows : List Row) → rows ≡ (Null ∷ Int (pos newest) ∷ []) ∷ [] → edit_of db hub_table [] Chosen 0 rows ≡ first_edit
   edit_is rows is =
       ap (λ l. edit_of db hub_table [] Chosen 0 l) is
-      ∙ ap (λ r. record first_edit { news = numbered Chosen (db 0) (r ∷ []) }) (cast 1) ∙ ap (λ l. record first_edit { news = numbered Chosen l ((Null ∷ Int (pos 1) ∷ []) ∷ []) }) has.empty.0
+      ∙ ap (λ r. record first_edit { news = numbered Chosen (db 0) (r ∷ []) }) (cast newest) ∙ ap (λ l. record first_edit { news = numbered Chosen l ((Null ∷ Int (pos newest) ∷ []) ∷ []) }) has.empty.0
     where
       cast : (n : ℕ) → cast_row hub_table (Null ∷ Int (pos n) ∷ []) ≡ Null ∷ Int (pos n) ∷ []
       cast n = rw (cast_int n, cast_null) refl
 
   module _ (limit : Option ℕ) where
-    sourced : (stop : Option Error) → Sourced limit (record { schema = hub_schema; trees = db }) (Int (pos 1) ∷ []) source (Err stop) → IsSome limit
+    sourced : (stop : Option Error) → Sourced limit (record { schema = hub_schema; trees = db }) (Int (pos newest) ∷ []) source (Err stop) → IsSome limit
     sourced None h = absurd h
     sourced (Some e) (inl h) = absurd (true≢false h.1)
     sourced (Some e) (inr h) = h.1
@@ -134,7 +135,7 @@ module _ (db : Trees) (has : HasEmpty hub_schema (record { schema = hub_schema; 
     -- it stops only at a limit on steps
     inserts : (stop : Option Error) → Inserts (task limit) source db (Err stop) → IsSome limit
     inserts stop h =
-        elim (stops (Sourced limit (record { schema = hub_schema; trees = db }) (Int (pos 1) ∷ []) source) _ stop h) [
+        elim (stops (Sourced limit (record { schema = hub_schema; trees = db }) (Int (pos newest) ∷ []) source) _ stop h) [
           | inl unread ↦ sourced stop unread
           | inr rows ↦ elim (stops (Counter (task limit) db) _ stop rows.2) [
             | inl uncounted ↦ absurd (gave uncounted)
@@ -148,25 +149,25 @@ module _ (db : Trees) (has : HasEmpty hub_schema (record { schema = hub_schema; 
     concludes : (old : State) (w : Written) (stop : Option Error) → ¬ Concludes (task limit) (mode_of old) None w (Err stop)
     concludes old w stop h =
         elim (stops (Tested (mode_of old) (λ among. Refers among hub_schema w.trees)) _ stop h) [
-          | inl broken ↦ absurd (broken.0 (none_refer All hub_schema.tables hub_schema.tables w.trees (refl, (refl, (refl, (refl, (refl, (refl, (refl, (refl, (refl, (refl, tt))))))))))))
+          | inl broken ↦ absurd (broken.0 (none_refer All hub_schema.tables hub_schema.tables w.trees (refl, (refl, (refl, (refl, (refl, (refl, (refl, (refl, (refl, (refl, (refl, tt)))))))))))))
           | inr held ↦ elim held.2 [ inl shown ↦ absurd (gave shown.1) | inr gives ↦ absurd (gave gives.2) ]
         ]
 
 -- the version is put unless a limit on steps stops it
-first_stops : (old : State) (sql : List ℕ) → HasEmpty hub_schema old.now → (stop : Option Error) → Does old.step_limit (mode_of old) (Int (pos 1) ∷ []) old.now sql None (Insert 0 (Values (lit Null ∷ col 0 0 ∷ []) 2)) (Err stop)
+first_stops : (old : State) (sql : List ℕ) → HasEmpty hub_schema old.now → (stop : Option Error) → Does old.step_limit (mode_of old) (Int (pos newest) ∷ []) old.now sql None (Insert 0 (Values (lit Null ∷ col 0 0 ∷ []) 2)) (Err stop)
     → IsSome old.step_limit
 first_stops old sql has stop h =
     let empty : HasEmpty hub_schema (record { schema = hub_schema; trees = old.now.trees }) = record { known = refl; empty = has.empty } in
-    let on_rows = subst (λ s. Does old.step_limit (mode_of old) (Int (pos 1) ∷ []) (record old.now { schema = s }) sql None (Insert 0 source) (Err stop)) has.known h in
+    let on_rows = subst (λ s. Does old.step_limit (mode_of old) (Int (pos newest) ∷ []) (record old.now { schema = s }) sql None (Insert 0 source) (Err stop)) has.known h in
     elim (stops (Inserts (task old.step_limit) source old.now.trees) _ stop on_rows) [
       | inl stopped ↦ inserts old.now.trees empty old.step_limit stop stopped
       | inr wrote ↦ absurd (concludes old.now.trees empty old.step_limit old wrote.0 stop wrote.2)
     ]
 
-pub first_fails : (old new : State) (e : Error) → ExecutesInside 0 put_version (Int (pos 1) ∷ []) old new (Err e) → HasEmpty hub_schema old.now → e ≢ SqliteFailure code.OutOfMemory → HasReason old new
+pub first_fails : (old new : State) (e : Error) → ExecutesInside 0 put_version (Int (pos newest) ∷ []) old new (Err e) → HasEmpty hub_schema old.now → e ≢ SqliteFailure code.OutOfMemory → HasReason old new
 unfolding understood everything
 first_fails old new e h has other =
-    elim (fails_as put_version (Int (pos 1) ∷ []) old new hub_schema has.known (Insert 0 source) put_version_is tt (refl, refl, refl, refl) e other h) [
+    elim (fails_as put_version (Int (pos newest) ∷ []) old new hub_schema has.known (Insert 0 source) put_version_is tt (refl, refl, refl, refl) e other h) [
       | inl reason ↦ reason
       | inr refused ↦ inr (inr (first_stops old (statement_of put_version (understood hub_schema put_version)) has refused.0 refused.1))
     ]

@@ -27,10 +27,11 @@ use Rattle.hub_store.specs.ShownPairs.{group_shown, joined_of, group_if_any, gro
 use Rattle.hub_store.proofs.ByNumber.{one_with_number, some_passes}
 use Rattle.hub_store.proofs.Finding.{only_one, once_numbered}
 use Rattle.hub_store.proofs.Forms.{one_table, is_param}
+use Rattle.hub_store.proofs.Places.{grp_place, grp_tree, held_of}
 
-pub group_found : (db : Trees) (s : core.State) (n : ℕ) (rows : List Row) → IsSound s → Means db s → IsAnswer (one_table 7 (is_param 0 0 ∷ []) (col 1 0 ∷ col 1 2 ∷ col 1 3 ∷ col 1 4 ∷ col 1 5 ∷ [])) db (Int (pos n) ∷ []) rows
+pub group_found : (db : Trees) (s : core.State) (n : ℕ) (rows : List Row) → IsSound s → Means db s → IsAnswer (one_table grp_tree (is_param 0 0 ∷ []) (col 1 0 ∷ col 1 2 ∷ col 1 3 ∷ col 1 4 ∷ col 1 5 ∷ [])) db (Int (pos n) ∷ []) rows
     → IsPermutation (map group_shown (option_to_list (group_of n s.directory))) rows
-group_found db s n rows sound means a = one_with_number db 7 group_row group_number s.directory.groups (λ x. refl) n (col 1 0 ∷ col 1 2 ∷ col 1 3 ∷ col 1 4 ∷ col 1 5 ∷ []) rows means.1.1.1.1.0 a sound.directory.groups.numbered.0
+group_found db s n rows sound means a = one_with_number db grp_tree group_row group_number s.directory.groups (λ x. refl) n (col 1 0 ∷ col 1 2 ∷ col 1 3 ∷ col 1 4 ∷ col 1 5 ∷ []) rows (held_of s grp_place _ refl means) a sound.directory.groups.numbered.0
 
 -- ---- each membership with its group
 

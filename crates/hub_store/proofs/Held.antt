@@ -4,10 +4,12 @@ use Rattle.std.specs.List.{AllByRecursion, list_any, list_all}
 use Rattle.std.specs.List.Sorted.{IsPermutation}
 use Rattle.std.proofs.lemmas.Bool.{and_parts, eqb-true, not-true}
 use Rattle.std.proofs.lemmas.Bool.Decides.{nat_tests}
-use Rattle.std.proofs.lemmas.List.Sorted.{IsPermutation-map, IsPermutation-cons, IsPermutation-trans, IsPermutation-sym}
+use Rattle.std.proofs.lemmas.List.{map-append}
+use Rattle.std.proofs.lemmas.List.Sorted.{IsPermutation-map, IsPermutation-cons, IsPermutation-trans, IsPermutation-sym, IsPermutation-refl, IsPermutation-middle, IsPermutation-append_right}
+use Rattle.sqlite_value.specs.declared.value.Value.TheVariants.{Null}
 use Rattle.sqlite_value.specs.Order.{Row}
 use Rattle.sqlite_trees.specs.declared.store.Shape.TheVariants as shape
-use Rattle.sqlite_trees.specs.Tree.{Trees}
+use Rattle.sqlite_trees.specs.Tree.{Trees, put_row}
 use Rattle.sqlite_trees.specs.View.{IsShaped}
 use Rattle.sqlite_trees.proofs.TreeLemmas.{IsShaped-put_row, IsShaped-filter}
 use Rattle.sqlite_trees.proofs.ListLemmas.{map-map, filter-map, filter_same, IsPermutation-filter}
@@ -17,7 +19,8 @@ use Rattle.sqlite_schema.specs.declared.schema.Keys.TheVariants.{Enforced}
 use Rattle.sqlite_sql.specs.Term.{Term, col}
 use Rattle.sqlite_sql.specs.Query.{IsAnswer}
 use Rattle.sqlite_rules.specs.Calls.{ids_of}
-use Rattle.sqlite_rules.specs.Edit.{Edit, is_taken, without_all, Applies}
+use Rattle.sqlite_rules.specs.declared.error.Rowids.TheVariants.{Chosen}
+use Rattle.sqlite_rules.specs.Edit.{Edit, is_taken, without_all, Applies, put_all, have_rowids, are_fresh, with_rowid, numbered}
 use Rattle.hub_store.specs.Tables.{hub_schema}
 use Rattle.hub_store.specs.Holdings.{Holding, IsHeld}
 use Rattle.hub_store.proofs.Forms.{one_table}
@@ -89,6 +92,35 @@ comes_in db next table seen all new a held =
       shaped = subst (IsShaped shape.Table) (sym a.rows) (IsShaped-put_row new (db table.tree) (and_parts _ _ a.keyed).0 held.shaped);
       same = subst (λ rows. IsPermutation (seen new ∷ all) (map seen rows)) (sym a.rows) (IsPermutation-trans _ _ _ (IsPermutation-cons (seen new) _ _ held.same) (IsPermutation-map seen _ _ (came_in new (db table.tree) fresh)));
     }
+
+all_put : (news rows : List Row) → have_rowids news ≡ true → are_fresh rows news ≡ true → IsShaped shape.Table rows → IsShaped shape.Table (put_all rows news) × IsPermutation (news ++ rows) (put_all rows news)
+all_put [] rows keyed fresh shaped = (shaped, IsPermutation-refl rows)
+all_put (r ∷ news) rows keyed fresh shaped =
+    let ids = and_parts _ _ keyed in
+    let new = and_parts _ _ fresh in
+    let more = all_put news (put_row r rows) ids.1 new.1 (IsShaped-put_row r rows ids.0 shaped) in
+    let one = IsPermutation-append_right news (r ∷ rows) (put_row r rows) (came_in r rows (not-true _ new.0)) in
+    (more.0, IsPermutation-trans _ _ _ (IsPermutation-sym _ _ (IsPermutation-middle news r rows)) (IsPermutation-trans _ _ _ one more.1))
+
+-- several at once
+pub come_in : {schema : Schema} (db next : Trees) (table : Table) (seen : Row → Row) (all news : List Row) → Applies schema Enforced db (record { table = table; gone = []; news = news }) next →
+    IsHeld db (record { tree = table.tree; seen = seen; rows = all }) → IsHeld next (record { tree = table.tree; seen = seen; rows = map seen news ++ all })
+come_in db next table seen all news a held =
+    let put = all_put news (db table.tree) a.keyed a.fresh held.shaped in
+    let seen_all = subst (λ l. IsPermutation l (map seen (put_all (db table.tree) news))) (map-append seen news (db table.tree)) (IsPermutation-map seen _ _ put.1) in
+    record {
+      shaped = subst (IsShaped shape.Table) (sym a.rows) put.0;
+      same = subst (λ rows. IsPermutation (map seen news ++ all) (map seen rows)) (sym a.rows) (IsPermutation-trans _ _ _ (IsPermutation-append_right (map seen news) _ _ held.same) seen_all);
+    }
+
+-- a row for which the table chooses the rowid
+abbrev pub bare : Row → Row
+bare r = Null ∷ r
+
+-- rows with the rowids that were chosen for them are those rows, past the rowid
+pub past_rowids : (rows all : List Row) → map (drop 1) (numbered Chosen rows (map bare all)) ≡ all
+past_rowids rows [] = refl
+past_rowids rows (r ∷ all) = ap (λ l. r ∷ l) (past_rowids (put_row (with_rowid Chosen rows (bare r)) rows) all)
 
 -- what is left where the rows that a query of one table found go
 pub gone_by : (db : Trees) (tree : ℕ) (terms more : List Term) (params : Row) (rows : List Row) → IsShaped shape.Table (db tree) → IsAnswer (one_table tree terms (col 1 0 ∷ more)) db params rows →

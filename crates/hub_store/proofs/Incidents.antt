@@ -5,16 +5,16 @@ use Rattle.std.specs.List.Sorted.{IsPermutation}
 use Rattle.std.specs.declared.cmp.Ordering.TheVariants.{Less}
 use Rattle.std.proofs.lemmas.Bool.{eqb-true}
 use Rattle.std.proofs.lemmas.List.{take-map}
-use Rattle.sqlite_value.specs.declared.value.Value.TheVariants.{Int, Text}
+use Rattle.sqlite_value.specs.declared.value.Value.TheVariants.{Int}
 use Rattle.sqlite_value.specs.declared.keys.Key.{Key}
 use Rattle.sqlite_value.specs.Order.{Row}
 use Rattle.sqlite_value.proofs.OrderLemmas.{value_cmp-Int}
 use Rattle.sqlite_trees.specs.Tree.{Trees}
-use Rattle.sqlite_trees.proofs.ListLemmas.{map-map, all_both}
+use Rattle.sqlite_trees.proofs.ListLemmas.{map-map}
 use Rattle.sqlite_sql.specs.Term.{Term, col, eval_all}
 use Rattle.sqlite_sql.specs.Query.{Query, IsAnswer, Output}
 use Rattle.sqlite.specs.declared.error.Error.{Error}
-use Rattle.sqlite.proofs.Callers.{one_permutation}
+use Rattle.iodef_tree.specs.Json.{incident_id}
 use Rattle.hub_core.specs.Documents.{Lines}
 use Rattle.hub_core.specs.Reads.{naming_of, entry_of, entries_after, its_gates, its_permissions, case_for, case_of}
 use Rattle.hub_core.specs.State as core
@@ -24,60 +24,62 @@ use Rattle.hub_core.proofs.Keeping.{found_is, found_each}
 use Rattle.hub_core.specs.declared.state.Naming.{Naming}
 use Rattle.hub_core.specs.declared.state.Incident.{Incident}
 use Rattle.policy.specs.declared.case.Case.{Case}
-use Rattle.hub_store.specs.Fit.{IsFit}
 use Rattle.hub_store.specs.Means.{Means}
-use Rattle.hub_store.specs.Rows.{incident_row, document_text}
-use Rattle.hub_store.specs.Shown.{ShowsFirst, ShowsDocument, IsCase, entry_shown, naming_shown}
+use Rattle.hub_store.specs.Rows.{named_row}
+use Rattle.hub_store.specs.Items.{line_shown}
+use Rattle.hub_store.specs.Shown.{ShowsLines, IsCase, entry_shown, naming_shown}
 use Rattle.hub_store.proofs.ByNumber.{one_with_number}
 use Rattle.hub_store.proofs.Compare.{more_than, and_true}
 use Rattle.hub_store.proofs.Forms.{one_table, is_param, is_above, by_column}
 use Rattle.hub_store.proofs.Statements.{keeps, shows}
-use Rattle.hub_store.proofs.Finding.{as_viewed, no_permutation}
+use Rattle.hub_store.proofs.Finding.{as_viewed, all_are}
 use Rattle.hub_store.proofs.Listed.{listed, int_below}
-use Rattle.hub_store.proofs.Unique.{counted, some_one, read_back, IsStored}
+use Rattle.hub_store.proofs.Items.{lines_query, its_lines, lines_listed}
+use Rattle.hub_store.proofs.Rising.{counted}
+use Rattle.hub_store.proofs.Places.{incident_place, incident_tree, held_of}
 
 -- ---- by the number
 
-pub incident_found : (db : Trees) (s : core.State) (n : ℕ) (project : List Term) (rows : List Row) → IsSound s → Means db s → IsAnswer (one_table 18 (is_param 0 0 ∷ []) project) db (Int (pos n) ∷ []) rows
-    → IsPermutation (map (λ (i : Incident). shows project (Int (pos n) ∷ []) (incident_row i)) (option_to_list (incident_of n s))) rows
-incident_found db s n project rows sound means a = one_with_number db 18 incident_row incident_number s.incidents (λ i. refl) n project rows means.1.1.1.1.1.1.1.1.1.0 a sound.incidents.numbered.0
+pub incident_found : (db : Trees) (s : core.State) (n : ℕ) (project : List Term) (rows : List Row) → IsSound s → Means db s → IsAnswer (one_table incident_tree (is_param 0 0 ∷ []) project) db (Int (pos n) ∷ []) rows
+    → IsPermutation (map (λ (i : Incident). shows project (Int (pos n) ∷ []) (named_row i)) (option_to_list (incident_of n s))) rows
+incident_found db s n project rows sound means a = one_with_number db incident_tree named_row incident_number s.incidents (λ i. refl) n project rows (held_of s incident_place _ refl means) a sound.incidents.numbered.0
 
-pub naming_found : (db : Trees) (s : core.State) (n : ℕ) (rows : List Row) → IsSound s → Means db s → IsAnswer (one_table 18 (is_param 0 0 ∷ []) (col 1 0 ∷ col 1 2 ∷ col 1 3 ∷ col 1 4 ∷ [])) db (Int (pos n) ∷ []) rows
+pub naming_found : (db : Trees) (s : core.State) (n : ℕ) (rows : List Row) → IsSound s → Means db s → IsAnswer (one_table incident_tree (is_param 0 0 ∷ []) (col 1 0 ∷ col 1 2 ∷ col 1 3 ∷ col 1 4 ∷ [])) db (Int (pos n) ∷ []) rows
     → IsPermutation (map naming_shown (option_to_list (naming_of n s))) rows
 naming_found db s n rows sound means a =
     let project = col 1 0 ∷ col 1 2 ∷ col 1 3 ∷ col 1 4 ∷ [] in
-    subst (λ l. IsPermutation l rows) (as_viewed (λ (i : Incident). shows project (Int (pos n) ∷ []) (incident_row i)) (λ (i : Incident). i.naming) naming_shown (λ i. refl) (incident_of n s))
+    subst (λ l. IsPermutation l rows) (as_viewed (λ (i : Incident). shows project (Int (pos n) ∷ []) (named_row i)) (λ (i : Incident). i.naming) naming_shown (λ i. refl) (incident_of n s))
     (incident_found db s n project rows sound means a)
 
 -- ---- documents
 
-pub is_stored : (s : core.State) (n : ℕ) (i : Incident) → IsSound s → IsFit s → incident_of n s ≡ Some i → IsStored i
-is_stored s n i sound fit is = found_each IsStored (λ (i : Incident). i.naming.number == n) s.incidents i is (all_both _ _ IsStored (λ i p q. (p, q)) s.incidents sound.incidents.documents fit.incidents)
+-- a document with an IncidentID has a line
+filled : (i : Incident) → incident_id i.document ≡ Some i.naming.ident → i.document ≡ [] → ⊥
+filled i is none = let missing = subst (λ d. incident_id d ≡ Some i.naming.ident) none is in absurd cc
 
-abbrev text_row : Incident → Row
-text_row i = Text (document_text i.document) ∷ []
-
-first_document : (o : Option Incident) (rows : List Row) (found : Option Lines) → ((i : Incident) → o ≡ Some i → IsStored i) → IsPermutation (map text_row (option_to_list o)) rows → ShowsFirst ShowsDocument rows found → found ≡ option_map (λ (i : Incident). i.document) o
-first_document None rows found stored same h = none found (subst (λ l. ShowsFirst ShowsDocument l found) (no_permutation rows same) h)
+first_lines : (o : Option Incident) (rows : List Row) (found : Option Lines) → ((i : Incident) → o ≡ Some i → i.document ≡ [] → ⊥) → rows ≡ map line_shown (its_lines o) → ShowsLines rows found → found ≡ option_map (λ (i : Incident). i.document) o
+first_lines None rows found full is h = none found (subst (λ l. ShowsLines l found) is h)
   where
-    none : (found : Option Lines) → ShowsFirst ShowsDocument [] found → found ≡ None
+    none : (found : Option Lines) → ShowsLines [] found → found ≡ None
     none None h = refl
     none (Some x) h = absurd h
-first_document (Some i) rows found stored same h = one found (subst (λ l. ShowsFirst ShowsDocument l found) (one_permutation (text_row i) rows same) h)
+first_lines (Some i) rows found full is h = one i.document refl found (subst (λ l. ShowsLines l found) is h)
   where
-    one : (found : Option Lines) → ShowsFirst ShowsDocument (text_row i ∷ []) found → found ≡ Some i.document
-    one None h = absurd h
-    one (Some x) h = let it = stored i refl in ap Some (some_one x i.document (sym (h (document_text i.document) refl) ∙ read_back i.document it.0 it.1))
+    one : (lines : Lines) → i.document ≡ lines → (found : Option Lines) → ShowsLines (map line_shown lines) found → found ≡ Some i.document
+    one [] empty found h = absurd (full i refl empty)
+    one (l ∷ ls) same None h = absurd h
+    one (l ∷ ls) same (Some x) h = ap Some (all_are line_shown (l ∷ ls) x h ∙ sym same)
 
-pub reads_document : (db : Trees) (s : core.State) (n : ℕ) (rows : List Row) (r : Result (Option Lines) Error) → IsSound s → IsFit s → Means db s → IsAnswer (one_table 18 (is_param 0 0 ∷ []) (col 1 5 ∷ [])) db (Int (pos n) ∷ []) rows
-    → IfOk r (λ found. ShowsFirst ShowsDocument rows found) → IfOk r (λ found. found ≡ option_map (λ (i : Incident). i.document) (incident_of n s))
-reads_document db s n rows (Ok found) sound fit means a h = first_document (incident_of n s) rows found (λ i is. is_stored s n i sound fit is) (incident_found db s n (col 1 5 ∷ []) rows sound means a) h
-reads_document db s n rows (Err e) sound fit means a h = tt
+pub reads_document : (db : Trees) (s : core.State) (n : ℕ) (rows : List Row) (r : Result (Option Lines) Error) → IsSound s → Means db s → IsAnswer lines_query db (Int (pos n) ∷ []) rows
+    → IfOk r (λ found. ShowsLines rows found) → IfOk r (λ found. found ≡ option_map (λ (i : Incident). i.document) (incident_of n s))
+reads_document db s n rows (Ok found) sound means a h =
+    first_lines (incident_of n s) rows found (λ i is. filled i (found_each (λ (i : Incident). incident_id i.document ≡ Some i.naming.ident) (λ (i : Incident). i.naming.number == n) s.incidents i is sound.incidents.follow)) (lines_listed db s n rows sound means a) h
+reads_document db s n rows (Err e) sound means a h = tt
 
 -- ---- the first above a number
 
 abbrev above_query : Query
-above_query = record (one_table 18 (is_above 0 0 ∷ []) (col 1 0 ∷ col 1 4 ∷ col 1 2 ∷ [])) { order = by_column 0 ∷ []; limit = col 0 1 }
+above_query = record (one_table incident_tree (is_above 0 0 ∷ []) (col 1 0 ∷ col 1 4 ∷ col 1 2 ∷ [])) { order = by_column 0 ∷ []; limit = col 0 1 }
 
 pub entries_listed : (db : Trees) (s : core.State) (number most : ℕ) (rows : List Row) → IsSound s → Means db s → IsAnswer above_query db (Int (pos number) ∷ Int (pos most) ∷ []) rows → rows ≡ map entry_shown (entries_after number most s)
 entries_listed db s number most rows sound means a =
@@ -87,10 +89,10 @@ entries_listed db s number most rows sound means a =
     let params = Int (pos number) ∷ Int (pos most) ∷ [] in
     let passes = λ (i : Incident). nat_lt number i.naming.number in
     let out : Row → Output = λ r. (eval_all (map (λ (k : Term × Key). k.0) order) (params ∷ r ∷ []), shows project params r) in
-    listed db 18 (λ r. r) incident_row s.incidents passes terms project order (col 0 1) params (keeps terms params) out rows (λ r. refl) (λ r. refl) (λ i. and_true _ ∙ more_than i.naming.number number)
+    listed db incident_tree (λ r. r) named_row s.incidents passes terms project order (col 0 1) params (keeps terms params) out rows (λ r. refl) (λ r. refl) (λ i. and_true _ ∙ more_than i.naming.number number)
     (λ (a b : Incident). nat_cmp a.naming.number b.naming.number ≡ Less) (counted incident_number 0 s.incidents sound.incidents.numbered.0)
     (λ a b _ less _. rw (value_cmp-Int (pos a.naming.number) (pos b.naming.number), int_below a.naming.number b.naming.number less) refl)
-    means.1.1.1.1.1.1.1.1.1.0 a
+    (held_of s incident_place _ refl means) a
     ∙ (sym (ap (take most) (map-map entry_shown entry_of (filter passes s.incidents))) ∙ take-map entry_shown most (map entry_of (filter passes s.incidents)))
 
 -- ---- cases

@@ -19,7 +19,7 @@ use Rattle.hub_core.specs.declared.state.Incident.{Incident}
 use Rattle.hub_core.proofs.Found.{one_name}
 use Rattle.hub_store.specs.Means.{Means}
 use Rattle.hub_store.specs.FirstShown.{number_shown}
-use Rattle.hub_store.specs.Rows.{incident_row}
+use Rattle.hub_store.specs.Rows.{named_row}
 use Rattle.hub_store.specs.Shown.{IsShownBy, ShowsFirst}
 use Rattle.hub_store.specs.ShownPairs.{ShowsNumber}
 use Rattle.hub_store.proofs.ByNumber.{found_once}
@@ -27,6 +27,7 @@ use Rattle.hub_store.proofs.Compare.{equal_numbers, equal_texts, and_true}
 use Rattle.hub_store.proofs.Forms.{one_table, is_param}
 use Rattle.hub_store.proofs.Statements.{shows}
 use Rattle.hub_store.proofs.Finding.{Once, as_viewed, reads_first}
+use Rattle.hub_store.proofs.Places.{incident_place, incident_tree, held_of}
 
 abbrev is_named : ℕ → List ℕ → Incident → Bool
 is_named source ident i = i.naming.source == source && bytes_eq i.naming.ident ident
@@ -42,14 +43,14 @@ once_named source ident (x ∷ xs) apart = (
   once_named source ident xs apart.1,
 )
 
-pub number_found : (db : Trees) (s : core.State) (source : ℕ) (ident : List ℕ) (rows : List Row) → IsSound s → Means db s → IsAnswer (one_table 18 (is_param 2 0 ∷ is_param 3 1 ∷ []) (col 1 0 ∷ [])) db (Int (pos source) ∷ Text ident ∷ []) rows
+pub number_found : (db : Trees) (s : core.State) (source : ℕ) (ident : List ℕ) (rows : List Row) → IsSound s → Means db s → IsAnswer (one_table incident_tree (is_param 2 0 ∷ is_param 3 1 ∷ []) (col 1 0 ∷ [])) db (Int (pos source) ∷ Text ident ∷ []) rows
     → IsPermutation (map number_shown (option_to_list (option_map incident_number (incident_named source ident s)))) rows
 number_found db s source ident rows sound means a =
     let project = col 1 0 ∷ [] in
     let params = Int (pos source) ∷ Text ident ∷ [] in
     let is_it = is_named source ident in
-    subst (λ l. IsPermutation l rows) (as_viewed (λ (i : Incident). shows project params (incident_row i)) incident_number number_shown (λ i. refl) (incident_named source ident s))
-    (found_once db 18 incident_row s.incidents (is_param 2 0 ∷ is_param 3 1 ∷ []) project params is_it rows (λ i. rw (equal_numbers i.naming.source source, equal_texts i.naming.ident ident) (ap (λ b. i.naming.source == source && b) (and_true (bytes_eq i.naming.ident ident)))) (once_named source ident s.incidents sound.incidents.idents) means.1.1.1.1.1.1.1.1.1.0 a)
+    subst (λ l. IsPermutation l rows) (as_viewed (λ (i : Incident). shows project params (named_row i)) incident_number number_shown (λ i. refl) (incident_named source ident s))
+    (found_once db incident_tree named_row s.incidents (is_param 2 0 ∷ is_param 3 1 ∷ []) project params is_it rows (λ i. rw (equal_numbers i.naming.source source, equal_texts i.naming.ident ident) (ap (λ b. i.naming.source == source && b) (and_true (bytes_eq i.naming.ident ident)))) (once_named source ident s.incidents sound.incidents.idents) (held_of s incident_place _ refl means) a)
 
 -- ---- what the rows are read as
 

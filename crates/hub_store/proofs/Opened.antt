@@ -11,7 +11,7 @@ use Rattle.hub_store.proofs.Runs.{kept_has}
 
 module _ (old new : State) (survives : Survives old new (λ _. ⊥)) (kept : HasCleanDisk new → KeepsCommitted old new) where
   pub is_opened : (failures : ℕ) → (HasCleanDisk new → version_of old.now ≡ Some newest) → failures ≡ 0 → IsOpened old new failures
-  is_opened failures version begun = record { version = version; content = λ clean s has. kept_has old new s (kept clean) has; begun = begun; survives = survives }
+  is_opened failures version begun = record { version = version; kept = kept; content = λ clean s has. kept_has old new s (kept clean) has; begun = begun; survives = survives }
 
   pub is_refused : (fault : OpenFault) → (HasCleanDisk new → IsOpenFault old.now fault) → (HasCleanDisk new → fault ≡ Failed → HasReason old new) → IsRefused old new fault
   is_refused fault why cause = record { why = why; cause = cause; kept = kept; content = λ clean s has. kept_has old new s (kept clean) has; survives = survives }

@@ -10,7 +10,7 @@ use Rattle.sqlite_schema.specs.declared.schema.Table.{Table}
 use Rattle.sqlite_schema.specs.declared.schema.Keys.TheVariants.{Enforced}
 use Rattle.sqlite_sql.specs.Term.{Term, col}
 use Rattle.sqlite_rules.specs.Edit.{Edit, Applies, with_rowid, numbered}
-use Rattle.sqlite.specs.Effect.{Database, value_rows}
+use Rattle.sqlite.specs.Effect.{Database, IsDatabase, value_rows}
 use Rattle.hub_store.specs.Holdings.{IsHeld}
 use Rattle.hub_store.specs.Parts.{Part, held, schema_of, HoldsParts}
 use Rattle.hub_store.proofs.Forms.{one_table, program}
@@ -25,7 +25,7 @@ use Rattle.sqlite.specs.Rows.{stamped}
 use Rattle.sqlite.specs.Listing.{understood}
 use Rattle.sqlite.specs.State.{State, Executes}
 use Rattle.sqlite.proofs.Callers.{IsPlain, command_of}
-use Rattle.hub_store.proofs.Held.{permuted, comes_in, goes_out}
+use Rattle.hub_store.proofs.Held.{permuted, comes_in, come_in, bare, goes_out}
 
 -- ---- the other parts stay
 
@@ -61,6 +61,11 @@ changes qs p rs rows old new edit is apart same schema a change has = record {
   means = one_of p.table.tree qs p (with_rows rows p) rs old.trees new.trees apart (subst (λ n. IsKept n old.trees new.trees (qs ++ p ∷ rs)) is a.tables) change has.means;
 }
 
+-- the rows of one part stand in another order
+pub exchanged_rows : (db : Trees) (qs : List Part) (p : Part) (rs : List Part) (more : List Row) → IsPermutation p.rows more → AreHeld db (qs ++ p ∷ rs) → AreHeld db (qs ++ with_rows more p ∷ rs)
+exchanged_rows db [] p rs more same are = (permuted db p.table.tree p.seen p.rows more same are.0, are.1)
+exchanged_rows db (q ∷ qs) p rs more same are = (are.0, exchanged_rows db qs p rs more same are.1)
+
 -- a part at its place among the others: of parts that are written out, each field is `refl`
 pub record Stands (qs : List Part) (p : Part) (rs : List Part) (at : ℕ) : Type 0 where
   pub listed : slice_get (schema_of (qs ++ p ∷ rs)).tables at ≡ Some p.table
@@ -72,6 +77,10 @@ pub record Stands (qs : List Part) (p : Part) (rs : List Part) (at : ℕ) : Type
 
 module _ (qs : List Part) (p : Part) (rs : List Part) (at : ℕ) (stands : Stands qs p rs at) (sql : List ℕ) (params : Row) (old new : State) (plain : IsPlain (understood (schema_of (qs ++ p ∷ rs)) sql)) (count : ℕ) (h : Executes sql params old new (Ok count))
     (has : HoldsParts (qs ++ p ∷ rs) old.now) where
+  -- the database obeys its tables
+  pub puts_whole : (terms : List Term) (width : ℕ) → command_of (understood (schema_of (qs ++ p ∷ rs)) sql) ≡ Insert at (Values terms width) → IsDatabase new.now
+  puts_whole terms width is = (inserted (schema_of (qs ++ p ∷ rs)) p.table at stands.listed stands.uncounted stands.timeless stands.alone sql params old new has.known plain count h terms width is).whole
+
   -- one row is put, which the columns take as it is
   pub puts : (terms : List Term) (width : ℕ) → command_of (understood (schema_of (qs ++ p ∷ rs)) sql) ≡ Insert at (Values terms width) → (row : Row) → value_rows (stamped p.table params) width (length terms / width) terms ≡ row ∷ [] → cast_row p.table row ≡ row
       → (shown : Row) → ((rows : List Row) → p.seen (with_rowid Chosen rows row) ≡ shown) → (more : List Row) → IsPermutation (shown ∷ p.rows) more → HoldsParts (qs ++ with_rows more p ∷ rs) new.now
@@ -83,6 +92,18 @@ module _ (qs : List Part) (p : Part) (rs : List Part) (at : ℕ) (stands : Stand
       let a = subst (λ n. Applies s Enforced old.now.trees (record { table = p.table; gone = []; news = n }) new.now.trees) news c.applies in
       changes qs p rs more old.now new.now _ refl stands.apart (stands.same more) c.schema_is a
       (λ one. permuted new.now.trees p.table.tree p.seen (shown ∷ p.rows) more same (subst (λ r. IsHeld new.now.trees (held (with_rows (r ∷ p.rows) p))) (shows before) (comes_in old.now.trees new.now.trees p.table p.seen p.rows _ a one))) has
+
+  -- several rows are put, which the columns take as they are
+  pub puts_all : (terms : List Term) (width : ℕ) → command_of (understood (schema_of (qs ++ p ∷ rs)) sql) ≡ Insert at (Values terms width) → (rows : List Row) → value_rows (stamped p.table params) width (length terms / width) terms ≡ map bare rows → map (cast_row p.table) (map bare rows) ≡ map bare rows
+      → ((before : List Row) → map p.seen (numbered Chosen before (map bare rows)) ≡ rows) → (more : List Row) → IsPermutation (rows ++ p.rows) more → HoldsParts (qs ++ with_rows more p ∷ rs) new.now
+  puts_all terms width is rows given cast shows more same =
+      let s = schema_of (qs ++ p ∷ rs) in
+      let c = inserted s p.table at stands.listed stands.uncounted stands.timeless stands.alone sql params old new has.known plain count h terms width is in
+      let before = old.now.trees p.table.tree in
+      let news = ap (λ all. numbered Chosen before (map (cast_row p.table) all)) given ∙ ap (λ all. numbered Chosen before all) cast in
+      let a = subst (λ n. Applies s Enforced old.now.trees (record { table = p.table; gone = []; news = n }) new.now.trees) news c.applies in
+      changes qs p rs more old.now new.now _ refl stands.apart (stands.same more) c.schema_is a
+      (λ one. permuted new.now.trees p.table.tree p.seen (rows ++ p.rows) more same (subst (λ l. IsHeld new.now.trees (held (with_rows (l ++ p.rows) p))) (shows before) (come_in old.now.trees new.now.trees p.table p.seen p.rows _ a one))) has
 
   -- the rows that pass the tests are taken out
   pub takes : (terms : List Term) → command_of (understood (schema_of (qs ++ p ∷ rs)) sql) ≡ Delete at (program (one_table p.table.tree terms (col 1 0 ∷ []))) → (k : Row → Bool) → ((r : Row) → keeps terms params r ≡ k (p.seen r))

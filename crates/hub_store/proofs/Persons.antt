@@ -21,12 +21,13 @@ use Rattle.hub_store.proofs.Compare.{equal_blobs, and_true}
 use Rattle.hub_store.proofs.Forms.{one_table, is_param}
 use Rattle.hub_store.proofs.Statements.{shows}
 use Rattle.hub_store.proofs.Finding.{once_keyed, as_viewed}
+use Rattle.hub_store.proofs.Places.{person_place, person_tree, held_of}
 
-pub person_found : (db : Trees) (s : core.State) (key : List ℕ) (rows : List Row) → IsSound s → Means db s → IsAnswer (one_table 3 (is_param 5 0 ∷ []) (col 1 0 ∷ col 1 2 ∷ col 1 3 ∷ col 1 4 ∷ col 1 6 ∷ col 1 7 ∷ [])) db (Blob key ∷ []) rows
+pub person_found : (db : Trees) (s : core.State) (key : List ℕ) (rows : List Row) → IsSound s → Means db s → IsAnswer (one_table person_tree (is_param 5 0 ∷ []) (col 1 0 ∷ col 1 2 ∷ col 1 3 ∷ col 1 4 ∷ col 1 6 ∷ col 1 7 ∷ [])) db (Blob key ∷ []) rows
     → IsPermutation (map person_shown (option_to_list (person_by_key key s))) rows
 person_found db s key rows sound means a =
     let project = col 1 0 ∷ col 1 2 ∷ col 1 3 ∷ col 1 4 ∷ col 1 6 ∷ col 1 7 ∷ [] in
     let params = Blob key ∷ [] in
     let accounts = s.directory.accounts in
     subst (λ l. IsPermutation l rows) (as_viewed (λ a. shows project params (account_row a)) person_in person_shown (λ a. refl) _)
-    (found_once db 3 account_row accounts (is_param 5 0 ∷ []) project params (λ (a : Account). bytes_eq a.key key) rows (λ a. and_true _ ∙ equal_blobs a.key key) (once_keyed (λ (a : Account). a.key) key accounts sound.directory.accounts.keys) means.1.1.0 a)
+    (found_once db person_tree account_row accounts (is_param 5 0 ∷ []) project params (λ (a : Account). bytes_eq a.key key) rows (λ a. and_true _ ∙ equal_blobs a.key key) (once_keyed (λ (a : Account). a.key) key accounts sound.directory.accounts.keys) (held_of s person_place _ refl means) a)

@@ -30,10 +30,11 @@ use Rattle.hub_store.proofs.Forms.{one_table, is_param, by_column, in_order}
 use Rattle.hub_store.proofs.Listed.{listed, int_below, not_less, next_decides}
 use Rattle.hub_store.proofs.Puts.{past_one}
 use Rattle.hub_store.proofs.Statements.{shows}
-use Rattle.hub_store.proofs.Unique.{rising}
+use Rattle.hub_store.proofs.Rising.{rising}
+use Rattle.hub_store.proofs.Places.{gate_place, gate_tree, permission_place, permission_tree, recipient_place, recipient_tree, held_of}
 
 abbrev gates_query : Query
-gates_query = in_order (by_column 2 ∷ []) (one_table 12 (is_param 1 0 ∷ []) (col 1 2 ∷ col 1 3 ∷ col 1 4 ∷ []))
+gates_query = in_order (by_column 2 ∷ []) (one_table gate_tree (is_param 1 0 ∷ []) (col 1 2 ∷ col 1 3 ∷ col 1 4 ∷ []))
 
 abbrev gate_out : Row → Output
 gate_out r = (column r 1 ∷ [], column r 1 ∷ column r 2 ∷ column r 3 ∷ [])
@@ -46,11 +47,11 @@ pub gates_listed : (db : Trees) (s : core.State) (n : ℕ) (rows : List Row) →
 gates_listed db s n rows sound means a =
     let params = Int (pos n) ∷ [] in
     let is_its = λ (g : Gate). g.incident == n in
-    listed db 12 (drop 1) gate_row s.gates is_its (is_param 1 0 ∷ []) (col 1 2 ∷ col 1 3 ∷ col 1 4 ∷ []) (by_column 2 ∷ []) (lit (Int (negsuc 0))) params (begins 0 params) gate_out rows
+    listed db gate_tree (drop 1) gate_row s.gates is_its (is_param 1 0 ∷ []) (col 1 2 ∷ col 1 3 ∷ col 1 4 ∷ []) (by_column 2 ∷ []) (lit (Int (negsuc 0))) params (begins 0 params) gate_out rows
     (past_one (Int (pos n))) (past_gates params) (λ g. and_true _ ∙ equal_numbers g.incident n)
     (λ a b. gate_cmp a b ≡ Less) (rising _ s.gates sound.gates.rising)
     (λ a b p less q. rw (value_cmp-Text (pointer_text a.gate.path) (pointer_text b.gate.path), next_decides a.incident b.incident n (slice_cmp nat_cmp (pointer_text a.gate.path) (pointer_text b.gate.path)) p q less) refl)
-    means.1.1.1.1.1.1.0 a
+    (held_of s gate_place _ refl means) a
     ∙ sym (map-map gate_shown (λ (g : Gate). g.gate) (filter is_its s.gates))
 
 -- ---- permissions: by path, kind and number
@@ -87,7 +88,7 @@ three_decide m n k o p q e f h = go (nat_cmp m n) refl h
     go Greater is more = absurd cc
 
 abbrev permissions_query : Query
-permissions_query = in_order (by_column 2 ∷ by_column 3 ∷ by_column 4 ∷ []) (one_table 16 (is_param 1 0 ∷ []) (col 1 2 ∷ col 1 3 ∷ col 1 4 ∷ []))
+permissions_query = in_order (by_column 2 ∷ by_column 3 ∷ by_column 4 ∷ []) (one_table permission_tree (is_param 1 0 ∷ []) (col 1 2 ∷ col 1 3 ∷ col 1 4 ∷ []))
 
 abbrev permission_out : Row → Output
 permission_out r = (column r 1 ∷ column r 2 ∷ column r 3 ∷ [], column r 1 ∷ column r 2 ∷ column r 3 ∷ [])
@@ -100,18 +101,18 @@ pub permissions_listed : (db : Trees) (s : core.State) (n : ℕ) (rows : List Ro
 permissions_listed db s n rows sound means a =
     let params = Int (pos n) ∷ [] in
     let is_its = λ (x : Permission). x.incident == n in
-    listed db 16 (drop 1) permission_row s.permissions is_its (is_param 1 0 ∷ []) (col 1 2 ∷ col 1 3 ∷ col 1 4 ∷ []) (by_column 2 ∷ by_column 3 ∷ by_column 4 ∷ []) (lit (Int (negsuc 0))) params (begins 0 params) permission_out rows
+    listed db permission_tree (drop 1) permission_row s.permissions is_its (is_param 1 0 ∷ []) (col 1 2 ∷ col 1 3 ∷ col 1 4 ∷ []) (by_column 2 ∷ by_column 3 ∷ by_column 4 ∷ []) (lit (Int (negsuc 0))) params (begins 0 params) permission_out rows
     (past_one (Int (pos n))) (past_permissions params) (λ x. and_true _ ∙ equal_numbers x.incident n)
     (λ a b. permission_cmp a b ≡ Less) (rising _ s.permissions sound.permissions.rising)
     (λ a b p less q. rw (value_cmp-Text (pointer_text a.permission.path) (pointer_text b.permission.path), value_cmp-Int (pos (grantee_key a.permission.grantee).0) (pos (grantee_key b.permission.grantee).0), value_cmp-Int (pos (grantee_key a.permission.grantee).1) (pos (grantee_key b.permission.grantee).1), int_as_nat (grantee_key a.permission.grantee).0 (grantee_key b.permission.grantee).0, int_as_nat (grantee_key a.permission.grantee).1 (grantee_key b.permission.grantee).1)
     (three_decide a.incident b.incident n (slice_cmp nat_cmp (pointer_text a.permission.path) (pointer_text b.permission.path)) (nat_cmp (grantee_key a.permission.grantee).0 (grantee_key b.permission.grantee).0) (nat_cmp (grantee_key a.permission.grantee).1 (grantee_key b.permission.grantee).1) p q less))
-    means.1.1.1.1.1.1.1.1.0 a
+    (held_of s permission_place _ refl means) a
     ∙ sym (map-map permission_shown (λ (x : Permission). x.permission) (filter is_its s.permissions))
 
 -- ---- recipients: by kind and number
 
 abbrev recipients_query : Query
-recipients_query = in_order (by_column 2 ∷ by_column 3 ∷ []) (one_table 14 (is_param 1 0 ∷ []) (col 1 2 ∷ col 1 3 ∷ []))
+recipients_query = in_order (by_column 2 ∷ by_column 3 ∷ []) (one_table recipient_tree (is_param 1 0 ∷ []) (col 1 2 ∷ col 1 3 ∷ []))
 
 abbrev recipient_out : Row → Output
 recipient_out r = (column r 1 ∷ column r 2 ∷ [], column r 1 ∷ column r 2 ∷ [])
@@ -131,11 +132,11 @@ pub recipients_listed : (db : Trees) (s : core.State) (n : ℕ) (rows : List Row
 recipients_listed db s n rows sound means a =
     let params = Int (pos n) ∷ [] in
     let is_its = λ (r : Recipient). r.incident == n in
-    listed db 14 (drop 1) recipient_row s.recipients is_its (is_param 1 0 ∷ []) (col 1 2 ∷ col 1 3 ∷ []) (by_column 2 ∷ by_column 3 ∷ []) (lit (Int (negsuc 0))) params (begins 0 params) recipient_out rows
+    listed db recipient_tree (drop 1) recipient_row s.recipients is_its (is_param 1 0 ∷ []) (col 1 2 ∷ col 1 3 ∷ []) (by_column 2 ∷ by_column 3 ∷ []) (lit (Int (negsuc 0))) params (begins 0 params) recipient_out rows
     (past_one (Int (pos n))) (past_recipients params) (λ r. and_true _ ∙ equal_numbers r.incident n)
     (λ a b. recipient_cmp a b ≡ Less) (rising _ s.recipients sound.recipients.rising)
     (λ a b p less q. rw (value_cmp-Int (pos (target_key a.target).0) (pos (target_key b.target).0), value_cmp-Int (pos (target_key a.target).1) (pos (target_key b.target).1), int_as_nat (target_key a.target).0 (target_key b.target).0, int_as_nat (target_key a.target).1 (target_key b.target).1)
     (last_two (nat_cmp (target_key a.target).0 (target_key b.target).0) (nat_cmp (target_key a.target).1 (target_key b.target).1)
     (next_decides a.incident b.incident n (ordering_then (nat_cmp (target_key a.target).0 (target_key b.target).0) (nat_cmp (target_key a.target).1 (target_key b.target).1)) p q less)))
-    means.1.1.1.1.1.1.1.0 a
+    (held_of s recipient_place _ refl means) a
     ∙ sym (map-map target_shown (λ (r : Recipient). r.target) (filter is_its s.recipients))

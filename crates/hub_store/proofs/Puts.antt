@@ -21,7 +21,7 @@ use Rattle.sqlite.specs.Rows.{stamped}
 use Rattle.sqlite.specs.Listing.{understood}
 use Rattle.sqlite.specs.State.{State, Executes}
 use Rattle.sqlite.proofs.Callers.{IsPlain, command_of}
-use Rattle.hub_store.specs.Tables.{hub_schema, hub_table, org_table, person_table, community_table, grp_table, pair_table, gate_table, recipient_table, permission_table, incident_table}
+use Rattle.hub_store.specs.Tables.{hub_schema}
 use Rattle.hub_store.specs.Values.{number_or_null, flag}
 use Rattle.hub_store.specs.Pairs.{put_pair, take_pair}
 use Rattle.hub_store.specs.Holdings.{Holding, IsHeld, by_number}
@@ -30,7 +30,9 @@ use Rattle.hub_store.proofs.Exchanged.{exchanges}
 use Rattle.hub_store.proofs.Forms.{is_param, one_table}
 use Rattle.hub_store.proofs.Held.{AreHeld, is_other, one_changes, permuted, comes_in, goes_out}
 use Rattle.hub_store.proofs.Statements.{Changed, inserted, deleted, updated, keeps, shows}
-use Rattle.hub_store.proofs.Texts.{put_version, put_version_is, put_version_plain, put_org, put_org_is, put_org_plain, put_person, put_person_is, put_person_plain, put_community, put_community_is, put_community_plain, put_group, put_group_is, put_group_plain, put_pair_is, put_pair_plain, put_gate, put_gate_is, put_gate_plain, put_recipient, put_recipient_is, put_recipient_plain, put_permission, put_permission_is, put_permission_plain, put_incident, put_incident_is, put_incident_plain, take_pair_is, take_pair_plain, take_gate, take_gate_is, take_gate_plain, take_gates, take_gates_is, take_gates_plain, take_recipient, take_recipient_is, take_recipient_plain, take_permission, take_permission_is, take_permission_plain, take_permissions, take_permissions_is, take_permissions_plain, take_incident, take_incident_is, take_incident_plain, set_active, set_active_is, set_active_plain, set_nominated, set_nominated_is, set_nominated_plain, set_group_active, set_group_active_is, set_group_active_plain}
+use Rattle.hub_store.proofs.Texts.{put_version, put_version_is, put_version_plain, put_org, put_org_is, put_org_plain, put_person, put_person_is, put_person_plain, put_community, put_community_is, put_community_plain, put_group, put_group_is, put_group_plain, put_pair_is, put_pair_plain, put_gate, put_gate_is, put_gate_plain, put_recipient, put_recipient_is, put_recipient_plain, put_permission, put_permission_is, put_permission_plain, put_naming, put_naming_is, put_naming_plain, put_line, put_line_is, put_line_plain, take_pair_is, take_pair_plain, take_gate, take_gate_is, take_gate_plain, take_gates, take_gates_is, take_gates_plain, take_recipient, take_recipient_is, take_recipient_plain, take_permission, take_permission_is, take_permission_plain, take_permissions, take_permissions_is, take_permissions_plain, take_lines, take_lines_is, take_lines_plain, take_incident, take_incident_is, take_incident_plain, set_active, set_active_is, set_active_plain, set_nominated, set_nominated_is, set_nominated_plain, set_group_active, set_group_active_is, set_group_active_plain}
+pub use Rattle.hub_store.proofs.Places.{hubs, orgs, persons, communities, groups, pairs, gates, recipients, permissions, items, incidents}
+use Rattle.hub_store.proofs.Places.{item_place, community_place, gate_place, grp_place, hub_place, incident_place, org_place, pair_place, permission_place, person_place, recipient_place}
 
 -- ---- the three kinds of change
 
@@ -100,98 +102,75 @@ pub past_four : (u v w x : Value) (r : Row) → keeps (is_param 1 0 ∷ is_param
 past_four u v w x [] = refl
 past_four u v w x (y ∷ r) = refl
 
-abbrev pub hubs : Table
-hubs = record hub_table { tree = 0 }
-
-abbrev pub orgs : Table
-orgs = record org_table { tree = 1 }
-
-abbrev pub persons : Table
-persons = record person_table { tree = 3 }
-
-abbrev pub communities : Table
-communities = record community_table { tree = 5 }
-
-abbrev pub groups : Table
-groups = record grp_table { tree = 7 }
-
-abbrev pub pairs : Table
-pairs = record pair_table { tree = 9 }
-
-abbrev pub gates : Table
-gates = record gate_table { tree = 12 }
-
-abbrev pub recipients : Table
-recipients = record recipient_table { tree = 14 }
-
-abbrev pub permissions : Table
-permissions = record permission_table { tree = 16 }
-
-abbrev pub incidents : Table
-incidents = record incident_table { tree = 18 }
-
 -- ---- rows come in
 
 pub puts_version : (old new : State) (version : ℕ) → old.now.schema ≡ hub_schema → (count : ℕ) → Executes put_version (Int (pos version) ∷ []) old new (Ok count) → Put hubs (Null ∷ Int (pos version) ∷ []) old new
-puts_version old new version has count h = put_one hubs 0 refl refl refl (λ tree olds news. refl) put_version _ old new has put_version_plain count h _ _ put_version_is _ refl (rw (cast_int version, cast_null) refl)
+puts_version old new version has count h = put_one hubs hub_place refl refl refl (λ tree olds news. refl) put_version _ old new has put_version_plain count h _ _ put_version_is _ refl (rw (cast_int version, cast_null) refl)
 
 pub puts_org : (old new : State) (number : ℕ) (name : List ℕ) → old.now.schema ≡ hub_schema → (count : ℕ) → Executes put_org (Int (pos number) ∷ Text name ∷ []) old new (Ok count) → Put orgs (Int (pos number) ∷ Null ∷ Text name ∷ []) old new
-puts_org old new number name has count h = put_one orgs 1 refl refl refl (λ tree olds news. refl) put_org _ old new has put_org_plain count h _ _ put_org_is _ refl (rw (cast_int number, cast_null) refl)
+puts_org old new number name has count h = put_one orgs org_place refl refl refl (λ tree olds news. refl) put_org _ old new has put_org_plain count h _ _ put_org_is _ refl (rw (cast_int number, cast_null) refl)
 
 pub puts_person : (old new : State) (number : ℕ) (org : ℕ) (name : List ℕ) (role : ℕ) (key : List ℕ) (active : Bool) (nominated : Bool) → old.now.schema ≡ hub_schema → (count : ℕ) → Executes put_person (Int (pos number) ∷ Int (pos org) ∷ Text name ∷ Int (pos role) ∷ Blob key ∷ flag active ∷ flag nominated ∷ []) old new (Ok count) → Put persons (Int (pos number) ∷ Null ∷ Int (pos org) ∷ Text name ∷ Int (pos role) ∷ Blob key ∷ flag active ∷ flag nominated ∷ []) old new
-puts_person old new number org name role key active nominated has count h = put_one persons 2 refl refl refl (λ tree olds news. refl) put_person _ old new has put_person_plain count h _ _ put_person_is _ refl (rw (cast_int number, cast_int org, cast_int role, cast_flag active, cast_flag nominated, cast_null) refl)
+puts_person old new number org name role key active nominated has count h = put_one persons person_place refl refl refl (λ tree olds news. refl) put_person _ old new has put_person_plain count h _ _ put_person_is _ refl (rw (cast_int number, cast_int org, cast_int role, cast_flag active, cast_flag nominated, cast_null) refl)
 
 pub puts_community : (old new : State) (number : ℕ) (name : List ℕ) → old.now.schema ≡ hub_schema → (count : ℕ) → Executes put_community (Int (pos number) ∷ Text name ∷ []) old new (Ok count) → Put communities (Int (pos number) ∷ Null ∷ Text name ∷ []) old new
-puts_community old new number name has count h = put_one communities 3 refl refl refl (λ tree olds news. refl) put_community _ old new has put_community_plain count h _ _ put_community_is _ refl (rw (cast_int number, cast_null) refl)
+puts_community old new number name has count h = put_one communities community_place refl refl refl (λ tree olds news. refl) put_community _ old new has put_community_plain count h _ _ put_community_is _ refl (rw (cast_int number, cast_null) refl)
 
 pub puts_group : (old new : State) (number : ℕ) (owner : ℕ) (name : List ℕ) (releasability : List ℕ) (active : Bool) → old.now.schema ≡ hub_schema → (count : ℕ) → Executes put_group (Int (pos number) ∷ Int (pos owner) ∷ Text name ∷ Text releasability ∷ flag active ∷ []) old new (Ok count) → Put groups (Int (pos number) ∷ Null ∷ Int (pos owner) ∷ Text name ∷ Text releasability ∷ flag active ∷ []) old new
-puts_group old new number owner name releasability active has count h = put_one groups 4 refl refl refl (λ tree olds news. refl) put_group _ old new has put_group_plain count h _ _ put_group_is _ refl (rw (cast_int number, cast_int owner, cast_flag active, cast_null) refl)
+puts_group old new number owner name releasability active has count h = put_one groups grp_place refl refl refl (λ tree olds news. refl) put_group _ old new has put_group_plain count h _ _ put_group_is _ refl (rw (cast_int number, cast_int owner, cast_flag active, cast_null) refl)
 
 pub puts_pair : (old new : State) (kind : List ℕ) (a : ℕ) (b : ℕ) (value : Option ℕ) → old.now.schema ≡ hub_schema → (count : ℕ) → Executes put_pair (Text kind ∷ Int (pos a) ∷ Int (pos b) ∷ number_or_null value ∷ []) old new (Ok count) → Put pairs (Null ∷ Text kind ∷ Int (pos a) ∷ Int (pos b) ∷ number_or_null value ∷ []) old new
-puts_pair old new kind a b value has count h = put_one pairs 5 refl refl refl (λ tree olds news. refl) put_pair _ old new has put_pair_plain count h _ _ put_pair_is _ refl (rw (cast_int a, cast_int b, cast_option value, cast_null) refl)
+puts_pair old new kind a b value has count h = put_one pairs pair_place refl refl refl (λ tree olds news. refl) put_pair _ old new has put_pair_plain count h _ _ put_pair_is _ refl (rw (cast_int a, cast_int b, cast_option value, cast_null) refl)
 
 pub puts_gate : (old new : State) (incident : ℕ) (path : List ℕ) (level : ℕ) (group : Option ℕ) → old.now.schema ≡ hub_schema → (count : ℕ) → Executes put_gate (Int (pos incident) ∷ Text path ∷ Int (pos level) ∷ number_or_null group ∷ []) old new (Ok count) → Put gates (Null ∷ Int (pos incident) ∷ Text path ∷ Int (pos level) ∷ number_or_null group ∷ []) old new
-puts_gate old new incident path level group has count h = put_one gates 6 refl refl refl (λ tree olds news. refl) put_gate _ old new has put_gate_plain count h _ _ put_gate_is _ refl (rw (cast_int incident, cast_int level, cast_option group, cast_null) refl)
+puts_gate old new incident path level group has count h = put_one gates gate_place refl refl refl (λ tree olds news. refl) put_gate _ old new has put_gate_plain count h _ _ put_gate_is _ refl (rw (cast_int incident, cast_int level, cast_option group, cast_null) refl)
 
 pub puts_recipient : (old new : State) (incident : ℕ) (kind : ℕ) (target : ℕ) → old.now.schema ≡ hub_schema → (count : ℕ) → Executes put_recipient (Int (pos incident) ∷ Int (pos kind) ∷ Int (pos target) ∷ []) old new (Ok count) → Put recipients (Null ∷ Int (pos incident) ∷ Int (pos kind) ∷ Int (pos target) ∷ []) old new
-puts_recipient old new incident kind target has count h = put_one recipients 7 refl refl refl (λ tree olds news. refl) put_recipient _ old new has put_recipient_plain count h _ _ put_recipient_is _ refl (rw (cast_int incident, cast_int kind, cast_int target, cast_null) refl)
+puts_recipient old new incident kind target has count h = put_one recipients recipient_place refl refl refl (λ tree olds news. refl) put_recipient _ old new has put_recipient_plain count h _ _ put_recipient_is _ refl (rw (cast_int incident, cast_int kind, cast_int target, cast_null) refl)
 
 pub puts_permission : (old new : State) (incident : ℕ) (path : List ℕ) (kind : ℕ) (target : ℕ) → old.now.schema ≡ hub_schema → (count : ℕ) → Executes put_permission (Int (pos incident) ∷ Text path ∷ Int (pos kind) ∷ Int (pos target) ∷ []) old new (Ok count) → Put permissions (Null ∷ Int (pos incident) ∷ Text path ∷ Int (pos kind) ∷ Int (pos target) ∷ []) old new
-puts_permission old new incident path kind target has count h = put_one permissions 8 refl refl refl (λ tree olds news. refl) put_permission _ old new has put_permission_plain count h _ _ put_permission_is _ refl (rw (cast_int incident, cast_int kind, cast_int target, cast_null) refl)
+puts_permission old new incident path kind target has count h = put_one permissions permission_place refl refl refl (λ tree olds news. refl) put_permission _ old new has put_permission_plain count h _ _ put_permission_is _ refl (rw (cast_int incident, cast_int kind, cast_int target, cast_null) refl)
 
-pub puts_incident : (old new : State) (number : ℕ) (source : ℕ) (ident : List ℕ) (revision : ℕ) (text : List ℕ) → old.now.schema ≡ hub_schema → (count : ℕ) → Executes put_incident (Int (pos number) ∷ Int (pos source) ∷ Text ident ∷ Int (pos revision) ∷ Text text ∷ []) old new (Ok count) → Put incidents (Int (pos number) ∷ Null ∷ Int (pos source) ∷ Text ident ∷ Int (pos revision) ∷ Text text ∷ []) old new
-puts_incident old new number source ident revision text has count h = put_one incidents 9 refl refl refl (λ tree olds news. refl) put_incident _ old new has put_incident_plain count h _ _ put_incident_is _ refl (rw (cast_int number, cast_int source, cast_int revision, cast_null) refl)
+pub puts_naming : (old new : State) (number : ℕ) (source : ℕ) (ident : List ℕ) (revision : ℕ) → old.now.schema ≡ hub_schema → (count : ℕ) → Executes put_naming (Int (pos number) ∷ Int (pos source) ∷ Text ident ∷ Int (pos revision) ∷ []) old new (Ok count) → Put incidents (Int (pos number) ∷ Null ∷ Int (pos source) ∷ Text ident ∷ Int (pos revision) ∷ []) old new
+puts_naming old new number source ident revision has count h = put_one incidents incident_place refl refl refl (λ tree olds news. refl) put_naming _ old new has put_naming_plain count h _ _ put_naming_is _ refl (rw (cast_int number, cast_int source, cast_int revision, cast_null) refl)
+
+pub puts_line : (old new : State) (incident place depth : ℕ) (name : List ℕ) (in_array : Bool) (kind : ℕ) (text : List ℕ) → old.now.schema ≡ hub_schema → (count : ℕ) → Executes put_line (Int (pos incident) ∷ Int (pos place) ∷ Int (pos depth) ∷ Text name ∷ flag in_array ∷ Int (pos kind) ∷ Text text ∷ []) old new (Ok count)
+    → Put items (Null ∷ Int (pos incident) ∷ Int (pos place) ∷ Int (pos depth) ∷ Text name ∷ flag in_array ∷ Int (pos kind) ∷ Text text ∷ []) old new
+puts_line old new incident place depth name in_array kind text has count h = put_one items item_place refl refl refl (λ tree olds news. refl) put_line _ old new has put_line_plain count h _ _ put_line_is _ refl (rw (cast_int incident, cast_int place, cast_int depth, cast_flag in_array, cast_int kind, cast_null) refl)
 
 -- ---- rows go out
 
 pub takes_pair : (old new : State) (params : Row) → old.now.schema ≡ hub_schema → (count : ℕ) → Executes take_pair params old new (Ok count) → Taken pairs (is_param 1 0 ∷ is_param 2 1 ∷ is_param 3 2 ∷ []) params old new
-takes_pair old new params has count h = deleted hub_schema pairs 5 refl refl refl (λ tree olds news. refl) take_pair params old new has take_pair_plain count h _ take_pair_is
+takes_pair old new params has count h = deleted hub_schema pairs pair_place refl refl refl (λ tree olds news. refl) take_pair params old new has take_pair_plain count h _ take_pair_is
 
 pub takes_gate : (old new : State) (params : Row) → old.now.schema ≡ hub_schema → (count : ℕ) → Executes take_gate params old new (Ok count) → Taken gates (is_param 1 0 ∷ is_param 2 1 ∷ []) params old new
-takes_gate old new params has count h = deleted hub_schema gates 6 refl refl refl (λ tree olds news. refl) take_gate params old new has take_gate_plain count h _ take_gate_is
+takes_gate old new params has count h = deleted hub_schema gates gate_place refl refl refl (λ tree olds news. refl) take_gate params old new has take_gate_plain count h _ take_gate_is
 
 pub takes_gates : (old new : State) (params : Row) → old.now.schema ≡ hub_schema → (count : ℕ) → Executes take_gates params old new (Ok count) → Taken gates (is_param 1 0 ∷ []) params old new
-takes_gates old new params has count h = deleted hub_schema gates 6 refl refl refl (λ tree olds news. refl) take_gates params old new has take_gates_plain count h _ take_gates_is
+takes_gates old new params has count h = deleted hub_schema gates gate_place refl refl refl (λ tree olds news. refl) take_gates params old new has take_gates_plain count h _ take_gates_is
 
 pub takes_recipient : (old new : State) (params : Row) → old.now.schema ≡ hub_schema → (count : ℕ) → Executes take_recipient params old new (Ok count) → Taken recipients (is_param 1 0 ∷ is_param 2 1 ∷ is_param 3 2 ∷ []) params old new
-takes_recipient old new params has count h = deleted hub_schema recipients 7 refl refl refl (λ tree olds news. refl) take_recipient params old new has take_recipient_plain count h _ take_recipient_is
+takes_recipient old new params has count h = deleted hub_schema recipients recipient_place refl refl refl (λ tree olds news. refl) take_recipient params old new has take_recipient_plain count h _ take_recipient_is
 
 pub takes_permission : (old new : State) (params : Row) → old.now.schema ≡ hub_schema → (count : ℕ) → Executes take_permission params old new (Ok count) → Taken permissions (is_param 1 0 ∷ is_param 2 1 ∷ is_param 3 2 ∷ is_param 4 3 ∷ []) params old new
-takes_permission old new params has count h = deleted hub_schema permissions 8 refl refl refl (λ tree olds news. refl) take_permission params old new has take_permission_plain count h _ take_permission_is
+takes_permission old new params has count h = deleted hub_schema permissions permission_place refl refl refl (λ tree olds news. refl) take_permission params old new has take_permission_plain count h _ take_permission_is
 
 pub takes_permissions : (old new : State) (params : Row) → old.now.schema ≡ hub_schema → (count : ℕ) → Executes take_permissions params old new (Ok count) → Taken permissions (is_param 1 0 ∷ []) params old new
-takes_permissions old new params has count h = deleted hub_schema permissions 8 refl refl refl (λ tree olds news. refl) take_permissions params old new has take_permissions_plain count h _ take_permissions_is
+takes_permissions old new params has count h = deleted hub_schema permissions permission_place refl refl refl (λ tree olds news. refl) take_permissions params old new has take_permissions_plain count h _ take_permissions_is
 
 pub takes_incident : (old new : State) (params : Row) → old.now.schema ≡ hub_schema → (count : ℕ) → Executes take_incident params old new (Ok count) → Taken incidents (is_param 0 0 ∷ []) params old new
-takes_incident old new params has count h = deleted hub_schema incidents 9 refl refl refl (λ tree olds news. refl) take_incident params old new has take_incident_plain count h _ take_incident_is
+takes_incident old new params has count h = deleted hub_schema incidents incident_place refl refl refl (λ tree olds news. refl) take_incident params old new has take_incident_plain count h _ take_incident_is
+
+pub takes_lines : (old new : State) (params : Row) → old.now.schema ≡ hub_schema → (count : ℕ) → Executes take_lines params old new (Ok count) → Taken items (is_param 1 0 ∷ []) params old new
+takes_lines old new params has count h = deleted hub_schema items item_place refl refl refl (λ tree olds news. refl) take_lines params old new has take_lines_plain count h _ take_lines_is
 
 -- ---- flags are exchanged
 
 pub sets_active : (old new : State) (params : Row) → old.now.schema ≡ hub_schema → (count : ℕ) → Executes set_active params old new (Ok count) → Exchanged persons (is_param 0 0 ∷ []) (col 1 0 ∷ lit Null ∷ col 1 2 ∷ col 1 3 ∷ col 1 4 ∷ col 1 5 ∷ col 0 1 ∷ col 1 7 ∷ []) params old new
-sets_active old new params has count h = updated hub_schema persons 2 refl refl refl (λ tree olds news. refl) set_active params old new has set_active_plain count h _ set_active_is
+sets_active old new params has count h = updated hub_schema persons person_place refl refl refl (λ tree olds news. refl) set_active params old new has set_active_plain count h _ set_active_is
 
 pub sets_nominated : (old new : State) (params : Row) → old.now.schema ≡ hub_schema → (count : ℕ) → Executes set_nominated params old new (Ok count) → Exchanged persons (is_param 0 0 ∷ []) (col 1 0 ∷ lit Null ∷ col 1 2 ∷ col 1 3 ∷ col 1 4 ∷ col 1 5 ∷ col 1 6 ∷ col 0 1 ∷ []) params old new
-sets_nominated old new params has count h = updated hub_schema persons 2 refl refl refl (λ tree olds news. refl) set_nominated params old new has set_nominated_plain count h _ set_nominated_is
+sets_nominated old new params has count h = updated hub_schema persons person_place refl refl refl (λ tree olds news. refl) set_nominated params old new has set_nominated_plain count h _ set_nominated_is
 
 pub sets_group_active : (old new : State) (params : Row) → old.now.schema ≡ hub_schema → (count : ℕ) → Executes set_group_active params old new (Ok count) → Exchanged groups (is_param 0 0 ∷ []) (col 1 0 ∷ lit Null ∷ col 1 2 ∷ col 1 3 ∷ col 1 4 ∷ col 0 1 ∷ []) params old new
-sets_group_active old new params has count h = updated hub_schema groups 4 refl refl refl (λ tree olds news. refl) set_group_active params old new has set_group_active_plain count h _ set_group_active_is
+sets_group_active old new params has count h = updated hub_schema groups grp_place refl refl refl (λ tree olds news. refl) set_group_active params old new has set_group_active_plain count h _ set_group_active_is

@@ -8,9 +8,9 @@ use Rattle.hub_core.specs.State as core
 use Rattle.hub_core.specs.Edits.{edited, after}
 use Rattle.hub_core.specs.declared.edit.Edit.{Edit}
 use Rattle.hub_core.proofs.Gated.{after_append}
-use Rattle.hub_store.specs.Content.{Has, CommitsState}
+use Rattle.hub_store.specs.Content.{HasAs, Has, CommitsState}
 use Rattle.hub_store.specs.Keeps.{Knows, KeepsCommitted}
-use Rattle.hub_store.specs.Means.{Holds}
+use Rattle.hub_store.specs.Means.{HoldsAs, Holds}
 
 pub after_more : (edits : List Edit) (i : ℕ) (edit : Edit) (s : core.State) → i < length edits → edit ≡ get_or edits i edit → after (take (i + 1) edits) s ≡ edited edit (after (take i edits) s)
 after_more edits i edit s low is = ap (λ l. after l s) (take_more edits i edit low) ∙ ap (λ e. after (take i edits ++ e ∷ []) s) (sym is) ∙ after_append (take i edits) (edit ∷ []) s
@@ -18,21 +18,21 @@ after_more edits i edit s low is = ap (λ l. after l s) (take_more edits i edit 
 pub committed_made : (mid last : State) (s : core.State) → Holds mid.now s → Shows mid last mid.now mid.now false → CommitsState last s
 committed_made mid last s holds shows = record { is_open = shows.is_open; holds = subst (λ d. Holds d s) (sym shows.committed_is) holds; settled = shows.now_is ∙ sym shows.committed_is }
 
-pub has_now : (old : State) (s : core.State) → Has old s → IsTrue old.is_open → Holds old.now s
-has_now old s has up = subst (λ d. Holds d s) (sym (has.settled up)) (has.holds up)
+pub has_now : {v : ℕ} (old : State) (s : core.State) → HasAs v old s → IsTrue old.is_open → HoldsAs v old.now s
+has_now {v} old s has up = subst (λ d. HoldsAs v d s) (sym (has.settled up)) (has.holds up)
 
 pub knows : (old : State) (s : core.State) → Has old s → Knows old
 knows old s has up = (has_now old s has up).known
 
 -- a transaction has begun on a store that answers
-pub ready : {S : Type 0} (g : store.Ghosts S) (old : Held S) (probed : State) (s : core.State) → Has (state g old) s
+pub ready : {S : Type 0} {v : ℕ} (g : store.Ghosts S) (old : Held S) (probed : State) (s : core.State) → HasAs v (state g old) s
     → IsTrue (state g old).is_open × IsUnchanged (state g (record old { in_transaction = true })) probed
-    → Holds probed.now s × IsTrue probed.in_transaction
-ready g old probed s has it = (subst (λ d. Holds d s) (sym it.1.0.now_is) (has_now (state g old) s has it.0), it.1.0.mode)
+    → HoldsAs v probed.now s × IsTrue probed.in_transaction
+ready {v = v} g old probed s has it = (subst (λ d. HoldsAs v d s) (sym it.1.0.now_is) (has_now (state g old) s has it.0), it.1.0.mode)
 
-pub kept_has : (old new : State) (s : core.State) → KeepsCommitted old new → Has old s → Has new s
-kept_has old new s k has = record {
+pub kept_has : {v : ℕ} (old new : State) (s : core.State) → KeepsCommitted old new → HasAs v old s → HasAs v new s
+kept_has {v} old new s k has = record {
   sound = has.sound;
-  holds = λ up. subst (λ d. Holds d s) (sym (k.committed up)) (has.holds (k.was_open up));
+  holds = λ up. subst (λ d. HoldsAs v d s) (sym (k.committed up)) (has.holds (k.was_open up));
   settled = λ up. k.now up ∙ sym (k.committed up);
 }

@@ -1,7 +1,7 @@
 -- What each text means under the schema.
-use Rattle.std.proofs.Common.{◌≡◌, List, ℕ, [], ◌∷◌, codes, false, refl}
+use Rattle.std.proofs.Common.{◌≡◌, ◌+◌, List, ℕ, [], ◌∷◌, codes, false, refl}
 use Rattle.sqlite_value.specs.declared.value.Value.TheVariants.{Null}
-use Rattle.sqlite_sql.specs.Term.{lit, col}
+use Rattle.sqlite_sql.specs.Term.{Term, lit, col}
 use Rattle.sqlite_schema.specs.declared.command.Source.TheVariants.{Values}
 use Rattle.sqlite_schema.specs.declared.command.Command.TheVariants.{Insert, Select, Delete, Update}
 use Rattle.sqlite_tied.specs.Compute.{everything}
@@ -10,13 +10,14 @@ use Rattle.sqlite.proofs.Callers.{IsPlain, command_of}
 use Rattle.hub_store.specs.Tables.{hub_schema}
 use Rattle.hub_store.specs.Pairs.{put_pair, take_pair}
 use Rattle.hub_store.proofs.Forms.{is_param, is_above, by_column, one_table, in_order, program}
+use Rattle.hub_store.proofs.Places.{community_place, community_tree, gate_place, gate_tree, grp_place, grp_tree, hub_place, incident_place, incident_tree, item_place, item_tree, org_place, org_tree, pair_place, pair_tree, permission_place, permission_tree, person_place, person_tree, recipient_place, recipient_tree}
 
 -- ---- rows come in
 
 abbrev pub put_version : List ℕ
 put_version = codes "INSERT INTO hub (version) VALUES (?1)"
 
-pub put_version_is : command_of (understood hub_schema put_version) ≡ Insert 0 (Values (lit Null ∷ col 0 0 ∷ []) 2)
+pub put_version_is : command_of (understood hub_schema put_version) ≡ Insert hub_place (Values (lit Null ∷ col 0 0 ∷ []) 2)
 unfolding understood everything
 put_version_is = refl
 
@@ -27,7 +28,7 @@ put_version_plain = (refl, refl)
 abbrev pub put_org : List ℕ
 put_org = codes "INSERT INTO org (number, name) VALUES (?1, ?2)"
 
-pub put_org_is : command_of (understood hub_schema put_org) ≡ Insert 1 (Values (col 0 0 ∷ lit Null ∷ col 0 1 ∷ []) 3)
+pub put_org_is : command_of (understood hub_schema put_org) ≡ Insert org_place (Values (col 0 0 ∷ lit Null ∷ col 0 1 ∷ []) 3)
 unfolding understood everything
 put_org_is = refl
 
@@ -38,7 +39,7 @@ put_org_plain = (refl, refl)
 abbrev pub put_person : List ℕ
 put_person = codes "INSERT INTO person (number, org, name, role, key, active, nominated) VALUES (?1, ?2, ?3, ?4, ?5, ?6, ?7)"
 
-pub put_person_is : command_of (understood hub_schema put_person) ≡ Insert 2 (Values (col 0 0 ∷ lit Null ∷ col 0 1 ∷ col 0 2 ∷ col 0 3 ∷ col 0 4 ∷ col 0 5 ∷ col 0 6 ∷ []) 8)
+pub put_person_is : command_of (understood hub_schema put_person) ≡ Insert person_place (Values (col 0 0 ∷ lit Null ∷ col 0 1 ∷ col 0 2 ∷ col 0 3 ∷ col 0 4 ∷ col 0 5 ∷ col 0 6 ∷ []) 8)
 unfolding understood everything
 put_person_is = refl
 
@@ -49,7 +50,7 @@ put_person_plain = (refl, refl)
 abbrev pub put_community : List ℕ
 put_community = codes "INSERT INTO community (number, name) VALUES (?1, ?2)"
 
-pub put_community_is : command_of (understood hub_schema put_community) ≡ Insert 3 (Values (col 0 0 ∷ lit Null ∷ col 0 1 ∷ []) 3)
+pub put_community_is : command_of (understood hub_schema put_community) ≡ Insert community_place (Values (col 0 0 ∷ lit Null ∷ col 0 1 ∷ []) 3)
 unfolding understood everything
 put_community_is = refl
 
@@ -60,7 +61,7 @@ put_community_plain = (refl, refl)
 abbrev pub put_group : List ℕ
 put_group = codes "INSERT INTO grp (number, owner, name, releasability, active) VALUES (?1, ?2, ?3, ?4, ?5)"
 
-pub put_group_is : command_of (understood hub_schema put_group) ≡ Insert 4 (Values (col 0 0 ∷ lit Null ∷ col 0 1 ∷ col 0 2 ∷ col 0 3 ∷ col 0 4 ∷ []) 6)
+pub put_group_is : command_of (understood hub_schema put_group) ≡ Insert grp_place (Values (col 0 0 ∷ lit Null ∷ col 0 1 ∷ col 0 2 ∷ col 0 3 ∷ col 0 4 ∷ []) 6)
 unfolding understood everything
 put_group_is = refl
 
@@ -68,7 +69,7 @@ pub put_group_plain : IsPlain (understood hub_schema put_group)
 unfolding understood everything
 put_group_plain = (refl, refl)
 
-pub put_pair_is : command_of (understood hub_schema put_pair) ≡ Insert 5 (Values (lit Null ∷ col 0 0 ∷ col 0 1 ∷ col 0 2 ∷ col 0 3 ∷ []) 5)
+pub put_pair_is : command_of (understood hub_schema put_pair) ≡ Insert pair_place (Values (lit Null ∷ col 0 0 ∷ col 0 1 ∷ col 0 2 ∷ col 0 3 ∷ []) 5)
 unfolding understood everything
 put_pair_is = refl
 
@@ -79,7 +80,7 @@ put_pair_plain = (refl, refl)
 abbrev pub put_gate : List ℕ
 put_gate = codes "INSERT INTO gate (incident, path, level, grp) VALUES (?1, ?2, ?3, ?4)"
 
-pub put_gate_is : command_of (understood hub_schema put_gate) ≡ Insert 6 (Values (lit Null ∷ col 0 0 ∷ col 0 1 ∷ col 0 2 ∷ col 0 3 ∷ []) 5)
+pub put_gate_is : command_of (understood hub_schema put_gate) ≡ Insert gate_place (Values (lit Null ∷ col 0 0 ∷ col 0 1 ∷ col 0 2 ∷ col 0 3 ∷ []) 5)
 unfolding understood everything
 put_gate_is = refl
 
@@ -90,7 +91,7 @@ put_gate_plain = (refl, refl)
 abbrev pub put_recipient : List ℕ
 put_recipient = codes "INSERT INTO recipient (incident, kind, target) VALUES (?1, ?2, ?3)"
 
-pub put_recipient_is : command_of (understood hub_schema put_recipient) ≡ Insert 7 (Values (lit Null ∷ col 0 0 ∷ col 0 1 ∷ col 0 2 ∷ []) 4)
+pub put_recipient_is : command_of (understood hub_schema put_recipient) ≡ Insert recipient_place (Values (lit Null ∷ col 0 0 ∷ col 0 1 ∷ col 0 2 ∷ []) 4)
 unfolding understood everything
 put_recipient_is = refl
 
@@ -101,7 +102,7 @@ put_recipient_plain = (refl, refl)
 abbrev pub put_permission : List ℕ
 put_permission = codes "INSERT INTO permission (incident, path, kind, target) VALUES (?1, ?2, ?3, ?4)"
 
-pub put_permission_is : command_of (understood hub_schema put_permission) ≡ Insert 8 (Values (lit Null ∷ col 0 0 ∷ col 0 1 ∷ col 0 2 ∷ col 0 3 ∷ []) 5)
+pub put_permission_is : command_of (understood hub_schema put_permission) ≡ Insert permission_place (Values (lit Null ∷ col 0 0 ∷ col 0 1 ∷ col 0 2 ∷ col 0 3 ∷ []) 5)
 unfolding understood everything
 put_permission_is = refl
 
@@ -109,20 +110,35 @@ pub put_permission_plain : IsPlain (understood hub_schema put_permission)
 unfolding understood everything
 put_permission_plain = (refl, refl)
 
-abbrev pub put_incident : List ℕ
-put_incident = codes "INSERT INTO incident (number, source, ident, revision, text) VALUES (?1, ?2, ?3, ?4, ?5)"
+abbrev pub put_naming : List ℕ
+put_naming = codes "INSERT INTO incident (number, source, ident, revision) VALUES (?1, ?2, ?3, ?4)"
 
-pub put_incident_is : command_of (understood hub_schema put_incident) ≡ Insert 9 (Values (col 0 0 ∷ lit Null ∷ col 0 1 ∷ col 0 2 ∷ col 0 3 ∷ col 0 4 ∷ []) 6)
+pub put_naming_is : command_of (understood hub_schema put_naming) ≡ Insert incident_place (Values (col 0 0 ∷ lit Null ∷ col 0 1 ∷ col 0 2 ∷ col 0 3 ∷ []) 5)
 unfolding understood everything
-put_incident_is = refl
+put_naming_is = refl
 
-pub put_incident_plain : IsPlain (understood hub_schema put_incident)
+pub put_naming_plain : IsPlain (understood hub_schema put_naming)
 unfolding understood everything
-put_incident_plain = (refl, refl)
+put_naming_plain = (refl, refl)
+
+-- the columns of a line are the parameters from a place on, behind the incident's
+abbrev pub line_terms : ℕ → List Term
+line_terms at = lit Null ∷ col 0 0 ∷ col 0 at ∷ col 0 (at + 1) ∷ col 0 (at + 2) ∷ col 0 (at + 3) ∷ col 0 (at + 4) ∷ col 0 (at + 5) ∷ []
+
+abbrev pub put_line : List ℕ
+put_line = codes "INSERT INTO item (incident, place, depth, name, in_array, kind, text) VALUES (?1, ?2, ?3, ?4, ?5, ?6, ?7)"
+
+pub put_line_is : command_of (understood hub_schema put_line) ≡ Insert item_place (Values (line_terms 1) 8)
+unfolding understood everything
+put_line_is = refl
+
+pub put_line_plain : IsPlain (understood hub_schema put_line)
+unfolding understood everything
+put_line_plain = (refl, refl)
 
 -- ---- rows go out
 
-pub take_pair_is : command_of (understood hub_schema take_pair) ≡ Delete 5 (program (one_table 9 (is_param 1 0 ∷ is_param 2 1 ∷ is_param 3 2 ∷ []) (col 1 0 ∷ [])))
+pub take_pair_is : command_of (understood hub_schema take_pair) ≡ Delete pair_place (program (one_table pair_tree (is_param 1 0 ∷ is_param 2 1 ∷ is_param 3 2 ∷ []) (col 1 0 ∷ [])))
 unfolding understood everything
 take_pair_is = refl
 
@@ -133,7 +149,7 @@ take_pair_plain = (refl, refl)
 abbrev pub take_gate : List ℕ
 take_gate = codes "DELETE FROM gate WHERE incident = ?1 AND path = ?2"
 
-pub take_gate_is : command_of (understood hub_schema take_gate) ≡ Delete 6 (program (one_table 12 (is_param 1 0 ∷ is_param 2 1 ∷ []) (col 1 0 ∷ [])))
+pub take_gate_is : command_of (understood hub_schema take_gate) ≡ Delete gate_place (program (one_table gate_tree (is_param 1 0 ∷ is_param 2 1 ∷ []) (col 1 0 ∷ [])))
 unfolding understood everything
 take_gate_is = refl
 
@@ -144,7 +160,7 @@ take_gate_plain = (refl, refl)
 abbrev pub take_gates : List ℕ
 take_gates = codes "DELETE FROM gate WHERE incident = ?1"
 
-pub take_gates_is : command_of (understood hub_schema take_gates) ≡ Delete 6 (program (one_table 12 (is_param 1 0 ∷ []) (col 1 0 ∷ [])))
+pub take_gates_is : command_of (understood hub_schema take_gates) ≡ Delete gate_place (program (one_table gate_tree (is_param 1 0 ∷ []) (col 1 0 ∷ [])))
 unfolding understood everything
 take_gates_is = refl
 
@@ -155,7 +171,7 @@ take_gates_plain = (refl, refl)
 abbrev pub take_recipient : List ℕ
 take_recipient = codes "DELETE FROM recipient WHERE incident = ?1 AND kind = ?2 AND target = ?3"
 
-pub take_recipient_is : command_of (understood hub_schema take_recipient) ≡ Delete 7 (program (one_table 14 (is_param 1 0 ∷ is_param 2 1 ∷ is_param 3 2 ∷ []) (col 1 0 ∷ [])))
+pub take_recipient_is : command_of (understood hub_schema take_recipient) ≡ Delete recipient_place (program (one_table recipient_tree (is_param 1 0 ∷ is_param 2 1 ∷ is_param 3 2 ∷ []) (col 1 0 ∷ [])))
 unfolding understood everything
 take_recipient_is = refl
 
@@ -166,7 +182,7 @@ take_recipient_plain = (refl, refl)
 abbrev pub take_permission : List ℕ
 take_permission = codes "DELETE FROM permission WHERE incident = ?1 AND path = ?2 AND kind = ?3 AND target = ?4"
 
-pub take_permission_is : command_of (understood hub_schema take_permission) ≡ Delete 8 (program (one_table 16 (is_param 1 0 ∷ is_param 2 1 ∷ is_param 3 2 ∷ is_param 4 3 ∷ []) (col 1 0 ∷ [])))
+pub take_permission_is : command_of (understood hub_schema take_permission) ≡ Delete permission_place (program (one_table permission_tree (is_param 1 0 ∷ is_param 2 1 ∷ is_param 3 2 ∷ is_param 4 3 ∷ []) (col 1 0 ∷ [])))
 unfolding understood everything
 take_permission_is = refl
 
@@ -177,7 +193,7 @@ take_permission_plain = (refl, refl)
 abbrev pub take_permissions : List ℕ
 take_permissions = codes "DELETE FROM permission WHERE incident = ?1"
 
-pub take_permissions_is : command_of (understood hub_schema take_permissions) ≡ Delete 8 (program (one_table 16 (is_param 1 0 ∷ []) (col 1 0 ∷ [])))
+pub take_permissions_is : command_of (understood hub_schema take_permissions) ≡ Delete permission_place (program (one_table permission_tree (is_param 1 0 ∷ []) (col 1 0 ∷ [])))
 unfolding understood everything
 take_permissions_is = refl
 
@@ -185,10 +201,21 @@ pub take_permissions_plain : IsPlain (understood hub_schema take_permissions)
 unfolding understood everything
 take_permissions_plain = (refl, refl)
 
+abbrev pub take_lines : List ℕ
+take_lines = codes "DELETE FROM item WHERE incident = ?1"
+
+pub take_lines_is : command_of (understood hub_schema take_lines) ≡ Delete item_place (program (one_table item_tree (is_param 1 0 ∷ []) (col 1 0 ∷ [])))
+unfolding understood everything
+take_lines_is = refl
+
+pub take_lines_plain : IsPlain (understood hub_schema take_lines)
+unfolding understood everything
+take_lines_plain = (refl, refl)
+
 abbrev pub take_incident : List ℕ
 take_incident = codes "DELETE FROM incident WHERE number = ?1"
 
-pub take_incident_is : command_of (understood hub_schema take_incident) ≡ Delete 9 (program (one_table 18 (is_param 0 0 ∷ []) (col 1 0 ∷ [])))
+pub take_incident_is : command_of (understood hub_schema take_incident) ≡ Delete incident_place (program (one_table incident_tree (is_param 0 0 ∷ []) (col 1 0 ∷ [])))
 unfolding understood everything
 take_incident_is = refl
 
@@ -201,7 +228,7 @@ take_incident_plain = (refl, refl)
 abbrev pub set_active : List ℕ
 set_active = codes "UPDATE person SET active = ?2 WHERE number = ?1"
 
-pub set_active_is : command_of (understood hub_schema set_active) ≡ Update 2 (program (one_table 3 (is_param 0 0 ∷ []) (col 1 0 ∷ col 1 0 ∷ lit Null ∷ col 1 2 ∷ col 1 3 ∷ col 1 4 ∷ col 1 5 ∷ col 0 1 ∷ col 1 7 ∷ [])))
+pub set_active_is : command_of (understood hub_schema set_active) ≡ Update person_place (program (one_table person_tree (is_param 0 0 ∷ []) (col 1 0 ∷ col 1 0 ∷ lit Null ∷ col 1 2 ∷ col 1 3 ∷ col 1 4 ∷ col 1 5 ∷ col 0 1 ∷ col 1 7 ∷ [])))
 unfolding understood everything
 set_active_is = refl
 
@@ -212,7 +239,7 @@ set_active_plain = (refl, refl)
 abbrev pub set_nominated : List ℕ
 set_nominated = codes "UPDATE person SET nominated = ?2 WHERE number = ?1"
 
-pub set_nominated_is : command_of (understood hub_schema set_nominated) ≡ Update 2 (program (one_table 3 (is_param 0 0 ∷ []) (col 1 0 ∷ col 1 0 ∷ lit Null ∷ col 1 2 ∷ col 1 3 ∷ col 1 4 ∷ col 1 5 ∷ col 1 6 ∷ col 0 1 ∷ [])))
+pub set_nominated_is : command_of (understood hub_schema set_nominated) ≡ Update person_place (program (one_table person_tree (is_param 0 0 ∷ []) (col 1 0 ∷ col 1 0 ∷ lit Null ∷ col 1 2 ∷ col 1 3 ∷ col 1 4 ∷ col 1 5 ∷ col 1 6 ∷ col 0 1 ∷ [])))
 unfolding understood everything
 set_nominated_is = refl
 
@@ -223,7 +250,7 @@ set_nominated_plain = (refl, refl)
 abbrev pub set_group_active : List ℕ
 set_group_active = codes "UPDATE grp SET active = ?2 WHERE number = ?1"
 
-pub set_group_active_is : command_of (understood hub_schema set_group_active) ≡ Update 4 (program (one_table 7 (is_param 0 0 ∷ []) (col 1 0 ∷ col 1 0 ∷ lit Null ∷ col 1 2 ∷ col 1 3 ∷ col 1 4 ∷ col 0 1 ∷ [])))
+pub set_group_active_is : command_of (understood hub_schema set_group_active) ≡ Update grp_place (program (one_table grp_tree (is_param 0 0 ∷ []) (col 1 0 ∷ col 1 0 ∷ lit Null ∷ col 1 2 ∷ col 1 3 ∷ col 1 4 ∷ col 0 1 ∷ [])))
 unfolding understood everything
 set_group_active_is = refl
 
@@ -236,7 +263,7 @@ set_group_active_plain = (refl, refl)
 abbrev pub person_with_key : List ℕ
 person_with_key = codes "SELECT number, org, name, role, active, nominated FROM person WHERE key = ?1"
 
-pub person_with_key_is : command_of (understood hub_schema person_with_key) ≡ Select (program (one_table 3 (is_param 5 0 ∷ []) (col 1 0 ∷ col 1 2 ∷ col 1 3 ∷ col 1 4 ∷ col 1 6 ∷ col 1 7 ∷ []))) (codes "number" ∷ codes "org" ∷ codes "name" ∷ codes "role" ∷ codes "active" ∷ codes "nominated" ∷ [])
+pub person_with_key_is : command_of (understood hub_schema person_with_key) ≡ Select (program (one_table person_tree (is_param 5 0 ∷ []) (col 1 0 ∷ col 1 2 ∷ col 1 3 ∷ col 1 4 ∷ col 1 6 ∷ col 1 7 ∷ []))) (codes "number" ∷ codes "org" ∷ codes "name" ∷ codes "role" ∷ codes "active" ∷ codes "nominated" ∷ [])
 unfolding understood everything
 person_with_key_is = refl
 
@@ -247,7 +274,7 @@ person_with_key_plain = ((refl, refl), refl)
 abbrev pub person_with_number : List ℕ
 person_with_number = codes "SELECT number, org, name, role, active, nominated FROM person WHERE number = ?1"
 
-pub person_with_number_is : command_of (understood hub_schema person_with_number) ≡ Select (program (one_table 3 (is_param 0 0 ∷ []) (col 1 0 ∷ col 1 2 ∷ col 1 3 ∷ col 1 4 ∷ col 1 6 ∷ col 1 7 ∷ []))) (codes "number" ∷ codes "org" ∷ codes "name" ∷ codes "role" ∷ codes "active" ∷ codes "nominated" ∷ [])
+pub person_with_number_is : command_of (understood hub_schema person_with_number) ≡ Select (program (one_table person_tree (is_param 0 0 ∷ []) (col 1 0 ∷ col 1 2 ∷ col 1 3 ∷ col 1 4 ∷ col 1 6 ∷ col 1 7 ∷ []))) (codes "number" ∷ codes "org" ∷ codes "name" ∷ codes "role" ∷ codes "active" ∷ codes "nominated" ∷ [])
 unfolding understood everything
 person_with_number_is = refl
 
@@ -258,7 +285,7 @@ person_with_number_plain = ((refl, refl), refl)
 abbrev pub org_with_number : List ℕ
 org_with_number = codes "SELECT number FROM org WHERE number = ?1"
 
-pub org_with_number_is : command_of (understood hub_schema org_with_number) ≡ Select (program (one_table 1 (is_param 0 0 ∷ []) (col 1 0 ∷ []))) (codes "number" ∷ [])
+pub org_with_number_is : command_of (understood hub_schema org_with_number) ≡ Select (program (one_table org_tree (is_param 0 0 ∷ []) (col 1 0 ∷ []))) (codes "number" ∷ [])
 unfolding understood everything
 org_with_number_is = refl
 
@@ -269,7 +296,7 @@ org_with_number_plain = ((refl, refl), refl)
 abbrev pub org_with_name : List ℕ
 org_with_name = codes "SELECT number FROM org WHERE name = ?1"
 
-pub org_with_name_is : command_of (understood hub_schema org_with_name) ≡ Select (program (one_table 1 (is_param 2 0 ∷ []) (col 1 0 ∷ []))) (codes "number" ∷ [])
+pub org_with_name_is : command_of (understood hub_schema org_with_name) ≡ Select (program (one_table org_tree (is_param 2 0 ∷ []) (col 1 0 ∷ []))) (codes "number" ∷ [])
 unfolding understood everything
 org_with_name_is = refl
 
@@ -280,7 +307,7 @@ org_with_name_plain = ((refl, refl), refl)
 abbrev pub community_with_number : List ℕ
 community_with_number = codes "SELECT number FROM community WHERE number = ?1"
 
-pub community_with_number_is : command_of (understood hub_schema community_with_number) ≡ Select (program (one_table 5 (is_param 0 0 ∷ []) (col 1 0 ∷ []))) (codes "number" ∷ [])
+pub community_with_number_is : command_of (understood hub_schema community_with_number) ≡ Select (program (one_table community_tree (is_param 0 0 ∷ []) (col 1 0 ∷ []))) (codes "number" ∷ [])
 unfolding understood everything
 community_with_number_is = refl
 
@@ -291,7 +318,7 @@ community_with_number_plain = ((refl, refl), refl)
 abbrev pub community_with_name : List ℕ
 community_with_name = codes "SELECT number FROM community WHERE name = ?1"
 
-pub community_with_name_is : command_of (understood hub_schema community_with_name) ≡ Select (program (one_table 5 (is_param 2 0 ∷ []) (col 1 0 ∷ []))) (codes "number" ∷ [])
+pub community_with_name_is : command_of (understood hub_schema community_with_name) ≡ Select (program (one_table community_tree (is_param 2 0 ∷ []) (col 1 0 ∷ []))) (codes "number" ∷ [])
 unfolding understood everything
 community_with_name_is = refl
 
@@ -302,7 +329,7 @@ community_with_name_plain = ((refl, refl), refl)
 abbrev pub group_with_number : List ℕ
 group_with_number = codes "SELECT number, owner, name, releasability, active FROM grp WHERE number = ?1"
 
-pub group_with_number_is : command_of (understood hub_schema group_with_number) ≡ Select (program (one_table 7 (is_param 0 0 ∷ []) (col 1 0 ∷ col 1 2 ∷ col 1 3 ∷ col 1 4 ∷ col 1 5 ∷ []))) (codes "number" ∷ codes "owner" ∷ codes "name" ∷ codes "releasability" ∷ codes "active" ∷ [])
+pub group_with_number_is : command_of (understood hub_schema group_with_number) ≡ Select (program (one_table grp_tree (is_param 0 0 ∷ []) (col 1 0 ∷ col 1 2 ∷ col 1 3 ∷ col 1 4 ∷ col 1 5 ∷ []))) (codes "number" ∷ codes "owner" ∷ codes "name" ∷ codes "releasability" ∷ codes "active" ∷ [])
 unfolding understood everything
 group_with_number_is = refl
 
@@ -313,7 +340,7 @@ group_with_number_plain = ((refl, refl), refl)
 abbrev pub group_with_name : List ℕ
 group_with_name = codes "SELECT number FROM grp WHERE owner = ?1 AND name = ?2"
 
-pub group_with_name_is : command_of (understood hub_schema group_with_name) ≡ Select (program (one_table 7 (is_param 2 0 ∷ is_param 3 1 ∷ []) (col 1 0 ∷ []))) (codes "number" ∷ [])
+pub group_with_name_is : command_of (understood hub_schema group_with_name) ≡ Select (program (one_table grp_tree (is_param 2 0 ∷ is_param 3 1 ∷ []) (col 1 0 ∷ []))) (codes "number" ∷ [])
 unfolding understood everything
 group_with_name_is = refl
 
@@ -324,7 +351,7 @@ group_with_name_plain = ((refl, refl), refl)
 abbrev pub pair_with_both : List ℕ
 pair_with_both = codes "SELECT value FROM pair WHERE kind = ?1 AND a = ?2 AND b = ?3"
 
-pub pair_with_both_is : command_of (understood hub_schema pair_with_both) ≡ Select (program (one_table 9 (is_param 1 0 ∷ is_param 2 1 ∷ is_param 3 2 ∷ []) (col 1 4 ∷ []))) (codes "value" ∷ [])
+pub pair_with_both_is : command_of (understood hub_schema pair_with_both) ≡ Select (program (one_table pair_tree (is_param 1 0 ∷ is_param 2 1 ∷ is_param 3 2 ∷ []) (col 1 4 ∷ []))) (codes "value" ∷ [])
 unfolding understood everything
 pair_with_both_is = refl
 
@@ -335,7 +362,7 @@ pair_with_both_plain = ((refl, refl), refl)
 abbrev pub pairs_with_first : List ℕ
 pairs_with_first = codes "SELECT b, value FROM pair WHERE kind = ?1 AND a = ?2 ORDER BY b"
 
-pub pairs_with_first_is : command_of (understood hub_schema pairs_with_first) ≡ Select (program (in_order (by_column 3 ∷ []) (one_table 9 (is_param 1 0 ∷ is_param 2 1 ∷ []) (col 1 3 ∷ col 1 4 ∷ [])))) (codes "b" ∷ codes "value" ∷ [])
+pub pairs_with_first_is : command_of (understood hub_schema pairs_with_first) ≡ Select (program (in_order (by_column 3 ∷ []) (one_table pair_tree (is_param 1 0 ∷ is_param 2 1 ∷ []) (col 1 3 ∷ col 1 4 ∷ [])))) (codes "b" ∷ codes "value" ∷ [])
 unfolding understood everything
 pairs_with_first_is = refl
 
@@ -346,7 +373,7 @@ pairs_with_first_plain = ((refl, refl), refl)
 abbrev pub pairs_with_second : List ℕ
 pairs_with_second = codes "SELECT a, value FROM pair WHERE kind = ?1 AND b = ?2 ORDER BY a"
 
-pub pairs_with_second_is : command_of (understood hub_schema pairs_with_second) ≡ Select (program (in_order (by_column 2 ∷ []) (one_table 9 (is_param 1 0 ∷ is_param 3 1 ∷ []) (col 1 2 ∷ col 1 4 ∷ [])))) (codes "a" ∷ codes "value" ∷ [])
+pub pairs_with_second_is : command_of (understood hub_schema pairs_with_second) ≡ Select (program (in_order (by_column 2 ∷ []) (one_table pair_tree (is_param 1 0 ∷ is_param 3 1 ∷ []) (col 1 2 ∷ col 1 4 ∷ [])))) (codes "a" ∷ codes "value" ∷ [])
 unfolding understood everything
 pairs_with_second_is = refl
 
@@ -357,7 +384,7 @@ pairs_with_second_plain = ((refl, refl), refl)
 abbrev pub gates_of_incident : List ℕ
 gates_of_incident = codes "SELECT path, level, grp FROM gate WHERE incident = ?1 ORDER BY path"
 
-pub gates_of_incident_is : command_of (understood hub_schema gates_of_incident) ≡ Select (program (in_order (by_column 2 ∷ []) (one_table 12 (is_param 1 0 ∷ []) (col 1 2 ∷ col 1 3 ∷ col 1 4 ∷ [])))) (codes "path" ∷ codes "level" ∷ codes "grp" ∷ [])
+pub gates_of_incident_is : command_of (understood hub_schema gates_of_incident) ≡ Select (program (in_order (by_column 2 ∷ []) (one_table gate_tree (is_param 1 0 ∷ []) (col 1 2 ∷ col 1 3 ∷ col 1 4 ∷ [])))) (codes "path" ∷ codes "level" ∷ codes "grp" ∷ [])
 unfolding understood everything
 gates_of_incident_is = refl
 
@@ -368,7 +395,7 @@ gates_of_incident_plain = ((refl, refl), refl)
 abbrev pub recipients_of_incident : List ℕ
 recipients_of_incident = codes "SELECT kind, target FROM recipient WHERE incident = ?1 ORDER BY kind, target"
 
-pub recipients_of_incident_is : command_of (understood hub_schema recipients_of_incident) ≡ Select (program (in_order (by_column 2 ∷ by_column 3 ∷ []) (one_table 14 (is_param 1 0 ∷ []) (col 1 2 ∷ col 1 3 ∷ [])))) (codes "kind" ∷ codes "target" ∷ [])
+pub recipients_of_incident_is : command_of (understood hub_schema recipients_of_incident) ≡ Select (program (in_order (by_column 2 ∷ by_column 3 ∷ []) (one_table recipient_tree (is_param 1 0 ∷ []) (col 1 2 ∷ col 1 3 ∷ [])))) (codes "kind" ∷ codes "target" ∷ [])
 unfolding understood everything
 recipients_of_incident_is = refl
 
@@ -379,7 +406,7 @@ recipients_of_incident_plain = ((refl, refl), refl)
 abbrev pub permissions_of_incident : List ℕ
 permissions_of_incident = codes "SELECT path, kind, target FROM permission WHERE incident = ?1 ORDER BY path, kind, target"
 
-pub permissions_of_incident_is : command_of (understood hub_schema permissions_of_incident) ≡ Select (program (in_order (by_column 2 ∷ by_column 3 ∷ by_column 4 ∷ []) (one_table 16 (is_param 1 0 ∷ []) (col 1 2 ∷ col 1 3 ∷ col 1 4 ∷ [])))) (codes "path" ∷ codes "kind" ∷ codes "target" ∷ [])
+pub permissions_of_incident_is : command_of (understood hub_schema permissions_of_incident) ≡ Select (program (in_order (by_column 2 ∷ by_column 3 ∷ by_column 4 ∷ []) (one_table permission_tree (is_param 1 0 ∷ []) (col 1 2 ∷ col 1 3 ∷ col 1 4 ∷ [])))) (codes "path" ∷ codes "kind" ∷ codes "target" ∷ [])
 unfolding understood everything
 permissions_of_incident_is = refl
 
@@ -390,7 +417,7 @@ permissions_of_incident_plain = ((refl, refl), refl)
 abbrev pub incident_with_number : List ℕ
 incident_with_number = codes "SELECT number, source, ident, revision FROM incident WHERE number = ?1"
 
-pub incident_with_number_is : command_of (understood hub_schema incident_with_number) ≡ Select (program (one_table 18 (is_param 0 0 ∷ []) (col 1 0 ∷ col 1 2 ∷ col 1 3 ∷ col 1 4 ∷ []))) (codes "number" ∷ codes "source" ∷ codes "ident" ∷ codes "revision" ∷ [])
+pub incident_with_number_is : command_of (understood hub_schema incident_with_number) ≡ Select (program (one_table incident_tree (is_param 0 0 ∷ []) (col 1 0 ∷ col 1 2 ∷ col 1 3 ∷ col 1 4 ∷ []))) (codes "number" ∷ codes "source" ∷ codes "ident" ∷ codes "revision" ∷ [])
 unfolding understood everything
 incident_with_number_is = refl
 
@@ -398,21 +425,21 @@ pub incident_with_number_plain : IsPlain (understood hub_schema incident_with_nu
 unfolding understood everything
 incident_with_number_plain = ((refl, refl), refl)
 
-abbrev pub text_with_number : List ℕ
-text_with_number = codes "SELECT text FROM incident WHERE number = ?1"
+abbrev pub lines_of_incident : List ℕ
+lines_of_incident = codes "SELECT depth, name, in_array, kind, text FROM item WHERE incident = ?1 ORDER BY place"
 
-pub text_with_number_is : command_of (understood hub_schema text_with_number) ≡ Select (program (one_table 18 (is_param 0 0 ∷ []) (col 1 5 ∷ []))) (codes "text" ∷ [])
+pub lines_of_incident_is : command_of (understood hub_schema lines_of_incident) ≡ Select (program (in_order (by_column 2 ∷ []) (one_table item_tree (is_param 1 0 ∷ []) (col 1 3 ∷ col 1 4 ∷ col 1 5 ∷ col 1 6 ∷ col 1 7 ∷ [])))) (codes "depth" ∷ codes "name" ∷ codes "in_array" ∷ codes "kind" ∷ codes "text" ∷ [])
 unfolding understood everything
-text_with_number_is = refl
+lines_of_incident_is = refl
 
-pub text_with_number_plain : IsPlain (understood hub_schema text_with_number) × (reads_listing hub_schema text_with_number ≡ false)
+pub lines_of_incident_plain : IsPlain (understood hub_schema lines_of_incident) × (reads_listing hub_schema lines_of_incident ≡ false)
 unfolding understood everything
-text_with_number_plain = ((refl, refl), refl)
+lines_of_incident_plain = ((refl, refl), refl)
 
 abbrev pub incident_with_ident : List ℕ
 incident_with_ident = codes "SELECT number FROM incident WHERE source = ?1 AND ident = ?2"
 
-pub incident_with_ident_is : command_of (understood hub_schema incident_with_ident) ≡ Select (program (one_table 18 (is_param 2 0 ∷ is_param 3 1 ∷ []) (col 1 0 ∷ []))) (codes "number" ∷ [])
+pub incident_with_ident_is : command_of (understood hub_schema incident_with_ident) ≡ Select (program (one_table incident_tree (is_param 2 0 ∷ is_param 3 1 ∷ []) (col 1 0 ∷ []))) (codes "number" ∷ [])
 unfolding understood everything
 incident_with_ident_is = refl
 
@@ -423,7 +450,7 @@ incident_with_ident_plain = ((refl, refl), refl)
 abbrev pub incidents_above : List ℕ
 incidents_above = codes "SELECT number, revision, source FROM incident WHERE number > ?1 ORDER BY number LIMIT ?2"
 
-pub incidents_above_is : command_of (understood hub_schema incidents_above) ≡ Select (program (record (one_table 18 (is_above 0 0 ∷ []) (col 1 0 ∷ col 1 4 ∷ col 1 2 ∷ [])) { order = by_column 0 ∷ []; limit = col 0 1 })) (codes "number" ∷ codes "revision" ∷ codes "source" ∷ [])
+pub incidents_above_is : command_of (understood hub_schema incidents_above) ≡ Select (program (record (one_table incident_tree (is_above 0 0 ∷ []) (col 1 0 ∷ col 1 4 ∷ col 1 2 ∷ [])) { order = by_column 0 ∷ []; limit = col 0 1 })) (codes "number" ∷ codes "revision" ∷ codes "source" ∷ [])
 unfolding understood everything
 incidents_above_is = refl
 

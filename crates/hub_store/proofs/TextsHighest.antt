@@ -12,6 +12,7 @@ use Rattle.sqlite.specs.Listing.{understood, reads_listing}
 use Rattle.sqlite.proofs.Callers.{IsPlain, command_of}
 use Rattle.hub_store.specs.Tables.{hub_schema}
 use Rattle.hub_store.proofs.Forms.{one_table, program}
+use Rattle.hub_store.proofs.Places.{community_tree, grp_tree, incident_tree, org_tree, person_tree}
 
 -- the first of the numbers above 0, from the highest down
 abbrev pub highest_query : ℕ → Query
@@ -20,7 +21,7 @@ highest_query tree = record (one_table tree (op2 (Compare Gt Binary) (col 1 0) (
 abbrev pub highest_org : List ℕ
 highest_org = codes "SELECT number FROM org WHERE number > 0 ORDER BY number DESC LIMIT 1"
 
-pub highest_org_is : command_of (understood hub_schema highest_org) ≡ Select (program (highest_query 1)) (codes "number" ∷ [])
+pub highest_org_is : command_of (understood hub_schema highest_org) ≡ Select (program (highest_query org_tree)) (codes "number" ∷ [])
 unfolding understood everything
 highest_org_is = refl
 
@@ -31,7 +32,7 @@ highest_org_plain = ((refl, refl), refl)
 abbrev pub highest_person : List ℕ
 highest_person = codes "SELECT number FROM person WHERE number > 0 ORDER BY number DESC LIMIT 1"
 
-pub highest_person_is : command_of (understood hub_schema highest_person) ≡ Select (program (highest_query 3)) (codes "number" ∷ [])
+pub highest_person_is : command_of (understood hub_schema highest_person) ≡ Select (program (highest_query person_tree)) (codes "number" ∷ [])
 unfolding understood everything
 highest_person_is = refl
 
@@ -42,7 +43,7 @@ highest_person_plain = ((refl, refl), refl)
 abbrev pub highest_community : List ℕ
 highest_community = codes "SELECT number FROM community WHERE number > 0 ORDER BY number DESC LIMIT 1"
 
-pub highest_community_is : command_of (understood hub_schema highest_community) ≡ Select (program (highest_query 5)) (codes "number" ∷ [])
+pub highest_community_is : command_of (understood hub_schema highest_community) ≡ Select (program (highest_query community_tree)) (codes "number" ∷ [])
 unfolding understood everything
 highest_community_is = refl
 
@@ -53,7 +54,7 @@ highest_community_plain = ((refl, refl), refl)
 abbrev pub highest_group : List ℕ
 highest_group = codes "SELECT number FROM grp WHERE number > 0 ORDER BY number DESC LIMIT 1"
 
-pub highest_group_is : command_of (understood hub_schema highest_group) ≡ Select (program (highest_query 7)) (codes "number" ∷ [])
+pub highest_group_is : command_of (understood hub_schema highest_group) ≡ Select (program (highest_query grp_tree)) (codes "number" ∷ [])
 unfolding understood everything
 highest_group_is = refl
 
@@ -64,7 +65,7 @@ highest_group_plain = ((refl, refl), refl)
 abbrev pub highest_incident : List ℕ
 highest_incident = codes "SELECT number FROM incident WHERE number > 0 ORDER BY number DESC LIMIT 1"
 
-pub highest_incident_is : command_of (understood hub_schema highest_incident) ≡ Select (program (highest_query 18)) (codes "number" ∷ [])
+pub highest_incident_is : command_of (understood hub_schema highest_incident) ≡ Select (program (highest_query incident_tree)) (codes "number" ∷ [])
 unfolding understood everything
 highest_incident_is = refl
 

@@ -1,28 +1,23 @@
 -- The tables stand for one state.
-use Rattle.std.proofs.Common.{◌≡◌, inl, inr, ℕ, zero, suc, ◌+◌, ◌<◌, List, [], ◌∷◌, ◌++◌, map, filter, take, drop, slice_get, Bool, true, false, Option, Some, None, Ok, Result, refl, sym, ap, subst₂, ◌∙◌, nat_cmp, codes, arith}
+use Rattle.std.proofs.Common.{◌≡◌, inl, inr, ℕ, zero, suc, ◌+◌, ◌<◌, List, [], ◌∷◌, ◌++◌, map, filter, take, drop, slice_get, find, cond, ◌==◌, pos, Bool, true, false, Option, Some, None, Ok, Result, refl, sym, ap, subst₂, ◌∙◌, codes, arith}
 use Rattle.std.specs.List.{AllByRecursion, list_all}
-use Rattle.std.specs.Str.{bytes_eq, IsUtf8}
+use Rattle.std.specs.Str.{bytes_eq}
 use Rattle.std.specs.List.Sorted.{IsPermutation}
 use Rattle.std.specs.declared.cmp.Ordering.{Ordering}
-use Rattle.std.specs.declared.cmp.Ordering.TheVariants.{Less}
 use Rattle.std.specs.Cmp.{IsTotalOrder}
 use Rattle.std.proofs.lemmas.Bool.Decides.{nat_tests}
 use Rattle.std.proofs.lemmas.Cmp.{nat_cmp_total}
-use Rattle.std.specs.Str.{is_utf8}
-use Rattle.std.proofs.lemmas.List.Elements.{All-contains, All-from_recursion}
-use Rattle.std.proofs.lemmas.Str.{is_utf8-from_IsUtf8}
 use Rattle.std.proofs.lemmas.List.Sorted.{IsPermutation-trans, IsPermutation-sym}
+use Rattle.sqlite_value.specs.declared.value.Value.TheVariants.{Int}
 use Rattle.sqlite_value.specs.Order.{Row}
-use Rattle.sqlite_trees.specs.Tree.{Trees, IsAscending}
-use Rattle.sqlite_trees.proofs.ListLemmas.{map-map, IsPermutation-filter, all_both, all_weaker}
+use Rattle.sqlite_trees.specs.Tree.{Trees}
+use Rattle.sqlite_trees.proofs.ListLemmas.{map-map, IsPermutation-filter}
 use Rattle.sqlite_rules.specs.Lists.{Has}
-use Rattle.iodef_tree.specs.Reading.{reading}
 use Rattle.iodef_tree.specs.declared.fault.ReadFault.{ReadFault}
 use Rattle.iodef_tree.specs.Pointer.{pointer_text}
-use Rattle.iodef_tree.proofs.ReadBack.{texts-read-back}
 use Rattle.policy.specs.declared.permission.Grantee.{Grantee}
 use Rattle.policy.specs.declared.permission.Grantee.TheVariants as grantee
-use Rattle.circle.specs.Sound.{Pairwise, CountsFrom}
+use Rattle.circle.specs.Sound.{CountsFrom}
 use Rattle.circle.proofs.Keeping.{pair_total}
 use Rattle.circle.specs.Directory.{Directory, org_number, account_number, community_number, group_number, client_key, membership_key, connection_key, group_member_key, arrangement_key}
 use Rattle.circle.specs.declared.directory.Role.{Role}
@@ -39,28 +34,33 @@ use Rattle.circle.specs.declared.directory.Group.{Group}
 use Rattle.circle.specs.declared.directory.GroupMember.{GroupMember}
 use Rattle.circle.specs.declared.directory.Arrangement.{Arrangement}
 use Rattle.hub_core.specs.Documents.{Lines}
-use Rattle.hub_core.specs.Sound.{IsSound, IsAccepted}
+use Rattle.hub_core.specs.Sound.{IsSound}
 use Rattle.hub_core.specs.State as core
 use Rattle.hub_core.specs.Orders.{gate_total, recipient_total, permission_total}
-use Rattle.hub_core.specs.State.{incident_number, target_key, grantee_key}
+use Rattle.hub_core.specs.State.{incident_number, incident_of, target_key, grantee_key}
 use Rattle.hub_core.specs.declared.request.Target.{Target}
 use Rattle.hub_core.specs.declared.request.Target.TheVariants as target
 use Rattle.hub_core.specs.declared.state.Incident.{Incident}
+use Rattle.hub_core.specs.declared.state.Naming.{Naming}
 use Rattle.hub_core.specs.declared.state.Gate.{Gate}
 use Rattle.hub_core.specs.declared.state.Recipient.{Recipient}
 use Rattle.hub_core.specs.declared.state.Permission.{Permission}
-use Rattle.hub_core.proofs.Keeping.{numbers_above}
 use Rattle.hub_core.proofs.Keys.{one_path}
 use Rattle.hub_store.specs.Values.{number_or_null, flag}
 use Rattle.hub_store.specs.Pairs.{Pair, PairSet, pair_row, rows_of_pairs}
 use Rattle.hub_store.specs.Holdings.{IsHeld}
-use Rattle.hub_store.specs.Rows.{role_number, handling_number, org_row, account_row, community_row, group_row, document_text, incident_row, gate_row, recipient_row, permission_row, client_pair, membership_pair, connection_pair, group_member_pair, arrangement_pair, one_if, pair_sets}
-use Rattle.hub_store.specs.Fit.{IsFit, FitIncident}
+use Rattle.hub_store.specs.Rows.{role_number, handling_number, org_row, account_row, community_row, group_row, naming_row, gate_row, recipient_row, permission_row, client_pair, membership_pair, connection_pair, group_member_pair, arrangement_pair, one_if, pair_sets}
+use Rattle.hub_store.specs.Fit.{IsFit}
+use Rattle.hub_store.specs.Items.{Item, items_from, items_of, item_row, kind_number}
 use Rattle.hub_store.specs.Means.{Means}
-use Rattle.hub_store.proofs.Found.{filter_all}
+use Rattle.hub_store.proofs.Compare.{begins, and_true, equal_numbers}
+use Rattle.hub_store.proofs.Items.{its_items, its_places_rise, items_at, one_kind}
+use Rattle.hub_store.proofs.Rising.{rising, counted}
+use Rattle.hub_store.proofs.Found.{filter_all, filter_rows}
 use Rattle.hub_store.proofs.OneKind.{kind_alone, is_of}
 use Rattle.hub_store.proofs.Lists.{Rises, has_below, same_rising, has_permuted}
 use Rattle.hub_store.proofs.PairSets.{is_other_kind}
+use Rattle.hub_store.proofs.Places.{community_place, community_tree, gate_place, gate_tree, grp_place, grp_tree, incident_place, incident_tree, item_place, item_tree, org_place, org_tree, pair_place, pair_tree, permission_place, permission_tree, person_place, person_tree, recipient_place, recipient_tree, held_of}
 
 -- ---- members by their rows
 
@@ -81,21 +81,6 @@ module _ {X : Type 0} (row : X → Row) (P : X → Type 0) (one : (a b : X) → 
   -- two lists that rise and have the same rows are one
   pub same_set : {K : Type 0} {R : K → K → Ordering} → IsTotalOrder R → (key : X → K) (xs ys : List X) → Rises R key xs → Rises R key ys → AllByRecursion P xs → AllByRecursion P ys → IsPermutation (map row xs) (map row ys) → xs ≡ ys
   same_set total key xs ys up vp all also same = same_rising total key xs ys up vp (members xs ys all also same) (members ys xs also all (IsPermutation-sym _ _ same))
-
--- ---- lists that rise
-
-pub rising : {X : Type 0} (R : X → X → Type 0) (xs : List X) → Pairwise R xs → IsAscending R xs
-rising R [] up = tt
-rising R (x ∷ xs) up = (up.0, rising R xs up.1)
-
--- numbers that count on rise
-pub counted : {X : Type 0} (number : X → ℕ) (n : ℕ) (xs : List X) → CountsFrom number n xs → Rises nat_cmp number xs
-counted number n [] counts = tt
-counted number n (x ∷ xs) counts =
-    (all_weaker (λ y. n + 1 < number y) (λ y. nat_cmp (number x) (number y) ≡ Less) (λ y h. less (number x) (number y) counts.0 h) xs (numbers_above number (n + 1) xs counts.1), counted number (n + 1) xs counts.1)
-  where
-    less : (a b : ℕ) → a ≡ n + 1 → n + 1 < b → nat_cmp a b ≡ Less
-    less a b e h = grind (arith, nat_tests)
 
 -- ---- the row of an element is of no other
 
@@ -283,25 +268,26 @@ one_arrangement a b e =
 pub some_one : (x y : Lines) → ◌≡◌ {A = Result (List Lines) ReadFault} (Ok (x ∷ [])) (Ok (y ∷ [])) → x ≡ y
 some_one x y e = cc
 
--- the text of a stored document reads as that document
-pub read_back : (doc : Lines) → IsAccepted doc → IsUtf8 (document_text doc) → reading (document_text doc) ≡ Ok (doc ∷ [])
-read_back doc accepted utf8 =
-    All-contains (λ d. is_utf8 (document_text d) ≡ true → reading (document_text d) ≡ Ok (d ∷ [])) accepted.docs doc
-    (All-from_recursion (λ d. is_utf8 (document_text d) ≡ true → reading (document_text d) ≡ Ok (d ∷ [])) accepted.docs (texts-read-back accepted.body accepted.docs accepted.read))
-    accepted.among (is_utf8-from_IsUtf8 (document_text doc) utf8)
+one_naming : (a b : Naming) → naming_row a ≡ naming_row b → a ≡ b
+one_naming a b e =
+    let number : a.number ≡ b.number = cc in
+    let source : a.source ≡ b.source = cc in
+    let ident : a.ident ≡ b.ident = cc in
+    let revision : a.revision ≡ b.revision = cc in
+    λ i. record { number = number i; source = source i; ident = ident i; revision = revision i }
 
-abbrev pub IsStored : Incident → Type 0
-IsStored i = IsAccepted i.document × FitIncident i
-
-one_incident : (a b : Incident) → IsStored a → IsStored b → incident_row a ≡ incident_row b → a ≡ b
-one_incident a b p q e =
-    let number : a.naming.number ≡ b.naming.number = cc in
-    let source : a.naming.source ≡ b.naming.source = cc in
-    let ident : a.naming.ident ≡ b.naming.ident = cc in
-    let revision : a.naming.revision ≡ b.naming.revision = cc in
-    let text : document_text a.document ≡ document_text b.document = cc in
-    let document = some_one a.document b.document (sym (read_back a.document p.0 p.1) ∙ (ap reading text ∙ read_back b.document q.0 q.1)) in
-    λ i. record { naming = record { number = number i; source = source i; ident = ident i; revision = revision i }; document = document i }
+one_item : (a b : Item) → item_row a ≡ item_row b → a ≡ b
+one_item a b e =
+    let incident : a.incident ≡ b.incident = cc in
+    let place : a.place ≡ b.place = cc in
+    let depth : a.line.depth ≡ b.line.depth = cc in
+    let name : a.line.name ≡ b.line.name = cc in
+    let array : flag a.line.in_array ≡ flag b.line.in_array = cc in
+    let code : kind_number a.line.kind ≡ kind_number b.line.kind = cc in
+    let text : a.line.text ≡ b.line.text = cc in
+    let in_array = one_flag a.line.in_array b.line.in_array array in
+    let kind = one_kind a.line.kind b.line.kind code in
+    λ i. record { incident = incident i; place = place i; line = record { depth = depth i; name = name i; in_array = in_array i; kind = kind i; text = text i } }
 
 abbrev Any : {X : Type 0} → X → Type 0
 Any x = Unit {0}
@@ -326,6 +312,57 @@ pairs_of_kind kind pair at d e xs ys is also itself others apart same =
     subst₂ IsPermutation (kind_of kind at (pair_sets d) (map pair xs) is itself others ∙ map-map (pair_row kind) pair xs) (kind_of kind at (pair_sets e) (map pair ys) also itself apart ∙ map-map (pair_row kind) pair ys)
     (IsPermutation-filter (is_of kind (λ r. true)) _ _ same)
 
+-- ---- incidents, by their rows and the rows of their lines
+
+-- an incident has the same lines in both states
+its_same : (a b : core.State) → IsSound a → IsSound b → IsPermutation (map item_row (items_of a)) (map item_row (items_of b)) → (n : ℕ) → its_items (incident_of n a) ≡ its_items (incident_of n b)
+its_same a b up vp same n =
+    let test = begins 0 (Int (pos n) ∷ []) in
+    let passing : (s : core.State) → IsSound s → filter test (map item_row (items_of s)) ≡ map item_row (its_items (incident_of n s)) =
+    λ s sound. filter_rows item_row test (λ (x : Item). x.incident == n) (λ x. and_true _ ∙ equal_numbers x.incident n) (items_of s) ∙ ap (map item_row) (items_at s n sound) in
+    same_set item_row Any (λ x y _ _ f. one_item x y f) nat_cmp_total (λ (x : Item). x.place) (its_items (incident_of n a)) (its_items (incident_of n b)) (its_places_rise (incident_of n a)) (its_places_rise (incident_of n b)) (any (its_items (incident_of n a))) (any (its_items (incident_of n b)))
+    (subst₂ IsPermutation (passing a up) (passing b vp) (IsPermutation-filter test _ _ same))
+
+abbrev namings : List Incident → List Naming
+namings = map (λ (i : Incident). i.naming)
+
+namings_count : (n : ℕ) (is : List Incident) → CountsFrom incident_number n is → CountsFrom (λ (k : Naming). k.number) n (namings is)
+namings_count n [] counts = counts
+namings_count n (i ∷ is) counts = (counts.0, namings_count (n + 1) is counts.1)
+
+-- the lines without their places
+lines_back : (n place : ℕ) (ls : Lines) → map (λ (x : Item). x.line) (items_from n place ls) ≡ ls
+lines_back n place [] = refl
+lines_back n place (l ∷ ls) = ap (λ rest. l ∷ rest) (lines_back n (suc place) ls)
+
+itself : (m n : ℕ) → m ≡ n → (m == n) ≡ true
+itself m n e = grind (arith, nat_tests)
+
+below : (m k n : ℕ) → m ≡ k + 1 → k + 1 < n → (m == n) ≡ false
+below m k n e h = grind (arith, nat_tests)
+
+deeper : (k n : ℕ) → k + 1 < n → k < n
+deeper k n h = omega (arith, h)
+
+above_itself : (k : ℕ) → k < k + 1
+above_itself k = omega arith
+
+same_incidents : (k : ℕ) (xs ys : List Incident) → CountsFrom incident_number k xs → CountsFrom incident_number k ys → namings xs ≡ namings ys
+    → ((n : ℕ) → k < n → its_items (find (λ (i : Incident). i.naming.number == n) xs) ≡ its_items (find (λ (i : Incident). i.naming.number == n) ys)) → xs ≡ ys
+same_incidents k [] [] counts also same docs = refl
+same_incidents k [] (b ∷ ys) counts also same docs = absurd cc
+same_incidents k (a ∷ xs) [] counts also same docs = absurd cc
+same_incidents k (a ∷ xs) (b ∷ ys) counts also same docs =
+    let naming : a.naming ≡ b.naming = cc in
+    let rest : namings xs ≡ namings ys = cc in
+    let at : ℕ → Incident → Bool = λ n i. i.naming.number == n in
+    let own : its_items (Some a) ≡ its_items (Some b) =
+    subst₂ (λ c d. its_items (cond c (Some a) (find (at (k + 1)) xs)) ≡ its_items (cond d (Some b) (find (at (k + 1)) ys))) (itself a.naming.number (k + 1) counts.0) (itself b.naming.number (k + 1) also.0) (docs (k + 1) (above_itself k)) in
+    let document : a.document ≡ b.document = sym (lines_back a.naming.number 1 a.document) ∙ (ap (map (λ (x : Item). x.line)) own ∙ lines_back b.naming.number 1 b.document) in
+    let tails = same_incidents (k + 1) xs ys counts.1 also.1 rest
+    (λ n h. subst₂ (λ c d. its_items (cond c (Some a) (find (at n) xs)) ≡ its_items (cond d (Some b) (find (at n) ys))) (below a.naming.number k n counts.0 h) (below b.naming.number k n also.0 h) (docs n (deeper k n h))) in
+    λ i. record { naming = naming i; document = document i } ∷ tails i
+
 -- ---- the state
 
 between : (db : Trees) (tree : ℕ) (seen : Row → Row) (xs ys : List Row) → IsHeld db (record { tree = tree; seen = seen; rows = xs }) → IsHeld db (record { tree = tree; seen = seen; rows = ys }) → IsPermutation xs ys
@@ -337,11 +374,11 @@ same_means db a b up vp fit gut m n =
     let e = b.directory in
     let s = up.directory in
     let t = vp.directory in
-    let orgs = numbered org_row one_org org_number d.orgs e.orgs s.orgs.numbered.0 t.orgs.numbered.0 (between db 1 (λ r. r) _ _ m.1.0 n.1.0) in
-    let accounts = numbered account_row one_account account_number d.accounts e.accounts s.accounts.numbered.0 t.accounts.numbered.0 (between db 3 (λ r. r) _ _ m.1.1.0 n.1.1.0) in
-    let communities = numbered community_row one_community community_number d.communities e.communities s.communities.numbered.0 t.communities.numbered.0 (between db 5 (λ r. r) _ _ m.1.1.1.0 n.1.1.1.0) in
-    let groups = numbered group_row one_group group_number d.groups e.groups s.groups.numbered.0 t.groups.numbered.0 (between db 7 (λ r. r) _ _ m.1.1.1.1.0 n.1.1.1.1.0) in
-    let pairs = between db 9 (drop 1) _ _ m.1.1.1.1.1.0 n.1.1.1.1.1.0 in
+    let orgs = numbered org_row one_org org_number d.orgs e.orgs s.orgs.numbered.0 t.orgs.numbered.0 (between db org_tree (λ r. r) _ _ (held_of a org_place _ refl m) (held_of b org_place _ refl n)) in
+    let accounts = numbered account_row one_account account_number d.accounts e.accounts s.accounts.numbered.0 t.accounts.numbered.0 (between db person_tree (λ r. r) _ _ (held_of a person_place _ refl m) (held_of b person_place _ refl n)) in
+    let communities = numbered community_row one_community community_number d.communities e.communities s.communities.numbered.0 t.communities.numbered.0 (between db community_tree (λ r. r) _ _ (held_of a community_place _ refl m) (held_of b community_place _ refl n)) in
+    let groups = numbered group_row one_group group_number d.groups e.groups s.groups.numbered.0 t.groups.numbered.0 (between db grp_tree (λ r. r) _ _ (held_of a grp_place _ refl m) (held_of b grp_place _ refl n)) in
+    let pairs = between db pair_tree (drop 1) _ _ (held_of a pair_place _ refl m) (held_of b pair_place _ refl n) in
     let clients = same_set (λ x. pair_row (codes "client") (client_pair x)) Any (λ a b _ _ f. one_client a b f) pair_total client_key d.clients e.clients (rising _ d.clients s.clients.rising) (rising _ e.clients t.clients.rising) (any d.clients) (any e.clients)
     (pairs_of_kind (codes "client") client_pair 0 d e d.clients e.clients refl refl refl refl refl pairs) in
     let memberships = same_set (λ x. pair_row (codes "member") (membership_pair x)) Any (λ a b _ _ f. one_membership a b f) pair_total membership_key d.memberships e.memberships (rising _ d.memberships s.memberships.rising) (rising _ e.memberships t.memberships.rising) (any d.memberships) (any e.memberships)
@@ -352,11 +389,14 @@ same_means db a b up vp fit gut m n =
     (pairs_of_kind (codes "grp_member") group_member_pair 3 d e d.group_members e.group_members refl refl refl refl refl pairs) in
     let arrangements = same_set (λ x. pair_row (codes "arrangement") (arrangement_pair x)) Any (λ a b _ _ f. one_arrangement a b f) pair_total arrangement_key d.arrangements e.arrangements (rising _ d.arrangements s.arrangements.rising) (rising _ e.arrangements t.arrangements.rising) (any d.arrangements) (any e.arrangements)
     (pairs_of_kind (codes "arrangement") arrangement_pair 4 d e d.arrangements e.arrangements refl refl refl refl refl pairs) in
-    let gates = same_set gate_row Any (λ a b _ _ f. one_gate a b f) gate_total (λ (g : Gate). g) a.gates b.gates (rising _ a.gates up.gates.rising) (rising _ b.gates vp.gates.rising) (any a.gates) (any b.gates) (between db 12 (drop 1) _ _ m.1.1.1.1.1.1.0 n.1.1.1.1.1.1.0) in
-    let recipients = same_set recipient_row Any (λ a b _ _ f. one_recipient a b f) recipient_total (λ (r : Recipient). r) a.recipients b.recipients (rising _ a.recipients up.recipients.rising) (rising _ b.recipients vp.recipients.rising) (any a.recipients) (any b.recipients) (between db 14 (drop 1) _ _ m.1.1.1.1.1.1.1.0 n.1.1.1.1.1.1.1.0) in
-    let permissions = same_set permission_row Any (λ a b _ _ f. one_permission a b f) permission_total (λ (x : Permission). x) a.permissions b.permissions (rising _ a.permissions up.permissions.rising) (rising _ b.permissions vp.permissions.rising) (any a.permissions) (any b.permissions) (between db 16 (drop 1) _ _ m.1.1.1.1.1.1.1.1.0 n.1.1.1.1.1.1.1.1.0) in
-    let incidents = same_set incident_row IsStored one_incident nat_cmp_total incident_number a.incidents b.incidents (counted incident_number 0 a.incidents up.incidents.numbered.0) (counted incident_number 0 b.incidents vp.incidents.numbered.0)
-    (all_both _ _ IsStored (λ i p q. (p, q)) a.incidents up.incidents.documents fit.incidents) (all_both _ _ IsStored (λ i p q. (p, q)) b.incidents vp.incidents.documents gut.incidents) (between db 18 (λ r. r) _ _ m.1.1.1.1.1.1.1.1.1.0 n.1.1.1.1.1.1.1.1.1.0) in
+    let gates = same_set gate_row Any (λ a b _ _ f. one_gate a b f) gate_total (λ (g : Gate). g) a.gates b.gates (rising _ a.gates up.gates.rising) (rising _ b.gates vp.gates.rising) (any a.gates) (any b.gates) (between db gate_tree (drop 1) _ _ (held_of a gate_place _ refl m) (held_of b gate_place _ refl n)) in
+    let recipients = same_set recipient_row Any (λ a b _ _ f. one_recipient a b f) recipient_total (λ (r : Recipient). r) a.recipients b.recipients (rising _ a.recipients up.recipients.rising) (rising _ b.recipients vp.recipients.rising) (any a.recipients) (any b.recipients) (between db recipient_tree (drop 1) _ _ (held_of a recipient_place _ refl m) (held_of b recipient_place _ refl n)) in
+    let permissions = same_set permission_row Any (λ a b _ _ f. one_permission a b f) permission_total (λ (x : Permission). x) a.permissions b.permissions (rising _ a.permissions up.permissions.rising) (rising _ b.permissions vp.permissions.rising) (any a.permissions) (any b.permissions) (between db permission_tree (drop 1) _ _ (held_of a permission_place _ refl m) (held_of b permission_place _ refl n)) in
+    let named = between db incident_tree (λ r. r) _ _ (held_of a incident_place _ refl m) (held_of b incident_place _ refl n) in
+    let names = numbered naming_row one_naming (λ (k : Naming). k.number) (namings a.incidents) (namings b.incidents) (namings_count 0 a.incidents up.incidents.numbered.0) (namings_count 0 b.incidents vp.incidents.numbered.0)
+    (subst₂ IsPermutation (sym (map-map naming_row (λ (i : Incident). i.naming) a.incidents)) (sym (map-map naming_row (λ (i : Incident). i.naming) b.incidents)) named) in
+    let lines = between db item_tree (drop 1) _ _ (held_of a item_place _ refl m) (held_of b item_place _ refl n) in
+    let incidents = same_incidents 0 a.incidents b.incidents up.incidents.numbered.0 vp.incidents.numbered.0 names (λ k _. its_same a b up vp lines k) in
     λ i. record {
       directory = record { orgs = orgs i; accounts = accounts i; clients = clients i; communities = communities i; memberships = memberships i; connections = connections i; groups = groups i; group_members = group_members i; arrangements = arrangements i };
       incidents = incidents i;

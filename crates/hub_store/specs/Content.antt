@@ -1,16 +1,36 @@
 -- What a connection has of a state of the hub.
-use Rattle.std.specs.Prelude.{◌≡◌, Option, Some, None, IsTrue}
+use Rattle.std.specs.Prelude.{◌≡◌, ℕ, Option, Some, None, IsTrue}
 use Rattle.sqlite_trees.specs.Tree.{Trees}
 use Rattle.sqlite.specs.State.{State}
 use Rattle.hub_core.specs.State as core
 use Rattle.hub_core.specs.Sound.{IsSound}
-use Rattle.hub_store.specs.Means.{TreesHold, Holds}
+use Rattle.hub_store.specs.Layout.{newest}
+use Rattle.hub_store.specs.Means.{TreesHoldAs, HoldsAs, Holds}
 
--- the last commit is this state. A store that is shut is not held to any.
-pub record Has (c : State) (s : core.State) : Type 0 where
+-- The tables are of a version, and the last commit is this state. A store that is shut is not held to any.
+pub record HasAs (v : ℕ) (c : State) (s : core.State) : Type 0 where
   pub sound : IsSound s
-  pub holds : IsTrue c.is_open → Holds c.committed s
+  pub holds : IsTrue c.is_open → HoldsAs v c.committed s
   pub settled : IsTrue c.is_open → c.now ≡ c.committed
+
+-- the trees stand for this state, which is sound
+pub record StandForAs (v : ℕ) (db : Trees) (s : core.State) : Type 0 where
+  pub sound : IsSound s
+  pub holds : TreesHoldAs v db s
+
+-- which state the trees of a version stand for; None where they stand for none
+abbrev pub IsMeaningAs : ℕ → Trees → Option core.State → Type 0
+IsMeaningAs v db (Some s) = StandForAs v db s
+IsMeaningAs v db None = (s : core.State) → ¬ StandForAs v db s
+
+-- an open after a crash at this moment may find trees of a version that stand for this state, or for none
+abbrev pub MayLeaveAs : ℕ → State → Option core.State → Type 0
+MayLeaveAs v c left = (db : Trees) × c.may_leave db × IsMeaningAs v db left
+
+-- ---- the newest version
+
+abbrev pub Has : State → core.State → Type 0
+Has c s = HasAs newest c s
 
 -- the store is open, and its last commit is this state
 pub record CommitsState (c : State) (s : core.State) : Type 0 where
@@ -18,16 +38,11 @@ pub record CommitsState (c : State) (s : core.State) : Type 0 where
   pub holds : Holds c.committed s
   pub settled : c.now ≡ c.committed
 
--- the trees stand for this state, which is sound
-pub record StandFor (db : Trees) (s : core.State) : Type 0 where
-  pub sound : IsSound s
-  pub holds : TreesHold db s
+abbrev pub StandFor : Trees → core.State → Type 0
+StandFor db s = StandForAs newest db s
 
--- which state the trees stand for; None where they stand for none
 abbrev pub IsMeaning : Trees → Option core.State → Type 0
-IsMeaning db (Some s) = StandFor db s
-IsMeaning db None = (s : core.State) → ¬ StandFor db s
+IsMeaning db left = IsMeaningAs newest db left
 
--- an open after a crash at this moment may find trees that stand for this state, or for none
 abbrev pub MayLeave : State → Option core.State → Type 0
-MayLeave c left = (db : Trees) × c.may_leave db × IsMeaning db left
+MayLeave c left = MayLeaveAs newest c left

@@ -1,8 +1,12 @@
--- Why a store fails to make its tables, or to tell its version.
-use Rattle.std.specs.Prelude.{◌≡◌, ◌⊎◌, false, IsSome}
+-- Why a store fails to make its tables, or to tell its version, and the limit on the steps of a statement.
+use Rattle.std.specs.Prelude.{◌≡◌, ◌==◌, ◌⊎◌, ℕ, false, Option, Some, None, IsSome, if◌then◌else◌}
 use Rattle.sqlite_disk.specs.Disk.{MoreFaults}
 use Rattle.sqlite.specs.State.{State}
 
 -- the disk failed or refused, the store was shut, or a limit on steps is set
 abbrev pub HasReason : State → State → Type 0
 HasReason old new = MoreFaults old.faults new.faults ⊎ ((old.is_open ≡ false) ⊎ IsSome old.step_limit)
+
+-- no more steps than these for each statement; 0 is no limit
+abbrev pub limit_of : ℕ → Option ℕ
+limit_of n = if n == 0 then None else Some n

@@ -1,5 +1,5 @@
 -- What every row that the code can make keeps beside soundness: the limits of its texts and its level.
-use Rattle.std.specs.Prelude.{◌<◌, IsTrue}
+use Rattle.std.specs.Prelude.{◌<◌, ◌==◌, ℕ, Bool, true, false, IsTrue}
 use Rattle.std.specs.List.{AllByRecursion}
 use Rattle.std.specs.Str.{IsUtf8}
 use Rattle.circle.specs.Texts.{is_name, is_releasability}
@@ -27,6 +27,7 @@ FitGroup g = IsTrue (is_name g.name) × IsTrue (is_releasability g.releasability
 abbrev pub FitGate : Gate → Type 0
 FitGate g = g.gate.level < 256
 
+-- in version 1 the document is one text
 abbrev pub FitIncident : Incident → Type 0
 FitIncident i = IsUtf8 (document_text i.document)
 
@@ -36,4 +37,12 @@ pub record IsFit (s : State) : Type 0 where
   pub communities : AllByRecursion FitCommunity s.directory.communities
   pub groups : AllByRecursion FitGroup s.directory.groups
   pub gates : AllByRecursion FitGate s.gates
-  pub incidents : AllByRecursion FitIncident s.incidents
+
+-- whether the documents are texts
+abbrev pub FitWith : Bool → State → Type 0
+FitWith true s = IsFit s × AllByRecursion FitIncident s.incidents
+FitWith false s = IsFit s
+
+-- what the rows of a version keep
+abbrev pub FitAs : ℕ → State → Type 0
+FitAs v s = FitWith (v == 1) s

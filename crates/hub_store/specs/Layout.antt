@@ -1,12 +1,13 @@
 -- Each version of the tables: which tables there are, by which trees, and what each holds of a state.
-use Rattle.std.specs.Prelude.{ℕ, pos, List, [], ◌∷◌, ◌++◌, drop, map}
+use Rattle.std.specs.Prelude.{ℕ, pos, ◌==◌, if◌then◌else◌, List, [], ◌∷◌, ◌++◌, drop, map}
 use Rattle.sqlite_value.specs.declared.value.Value.TheVariants.{Int}
 use Rattle.sqlite_value.specs.Order.{Row}
 use Rattle.sqlite_schema.specs.declared.schema.Table.{Table}
 use Rattle.hub_core.specs.State.{State}
-use Rattle.hub_store.specs.Shapes.{hub_table, org_table, person_table, community_table, grp_table, pair_table, gate_table, recipient_table, permission_table, incident_table}
+use Rattle.hub_store.specs.Shapes.{hub_table, org_table, person_table, community_table, grp_table, pair_table, gate_table, recipient_table, permission_table, incident_table, item_table, incident_table_2}
 use Rattle.hub_store.specs.Pairs.{rows_of_pairs}
-use Rattle.hub_store.specs.Rows.{org_row, account_row, community_row, group_row, pair_sets, gate_row, recipient_row, permission_row, incident_row}
+use Rattle.hub_store.specs.Rows.{org_row, account_row, community_row, group_row, pair_sets, gate_row, recipient_row, permission_row, incident_row, named_row}
+use Rattle.hub_store.specs.Items.{items_of, item_row}
 use Rattle.hub_store.specs.Parts.{Part}
 
 -- the number of each element is its rowid
@@ -36,3 +37,40 @@ incident_part s = by_number 18 incident_table incident_row s.incidents
 
 abbrev pub parts_1 : State → List Part
 parts_1 s = common 1 s ++ incident_part s ∷ []
+
+-- ---- version 2: the lines of the documents stand in a table of their own
+
+abbrev pub item_part : List Row → Part
+item_part = without_rowids 20 item_table
+
+abbrev pub incident_part_2 : List Row → Part
+incident_part_2 rows = record { table = record incident_table_2 { tree = 22 }; seen = λ r. r; rows = rows }
+
+-- With these lines and incidents, and all else as in a state. While a migration makes them the older version stands there.
+abbrev pub tables_2 : ℕ → List Row → List Row → State → List Part
+tables_2 version items incidents s = common version s ++ item_part items ∷ incident_part_2 incidents ∷ []
+
+abbrev pub parts_2 : State → List Part
+parts_2 s = tables_2 2 (map item_row (items_of s)) (map named_row s.incidents) s
+
+-- ---- between version 1 and version 2
+
+-- with these lines beside all tables of version 1
+abbrev pub with_items : List Row → State → List Part
+with_items items s = common 1 s ++ incident_part s ∷ item_part items ∷ []
+
+abbrev pub without_incidents : List Row → State → List Part
+without_incidents items s = common 1 s ++ item_part items ∷ []
+
+-- the tables of version 2, and no version
+abbrev pub unversioned_2 : List Row → List Row → State → List Part
+unversioned_2 items incidents s = without_rowids 0 hub_table [] ∷ drop 1 (tables_2 0 items incidents s)
+
+-- ---- every version: its schema, what it means and where its statements find a table follow from its parts
+
+-- the newest version of the tables
+abbrev pub newest : ℕ
+newest = 2
+
+abbrev pub parts_by : ℕ → State → List Part
+parts_by v s = if v == 1 then parts_1 s else parts_2 s

@@ -4,6 +4,7 @@ pub mod Values
 pub mod Holdings
 pub mod Pairs
 pub mod Rows
+pub mod Items
 pub mod PairKinds
 pub mod ShownPairs
 pub mod Fit
@@ -18,8 +19,11 @@ pub mod Keeps
 pub mod Queries
 pub mod Shown
 pub mod FirstShown
+pub mod FeedsRows
 pub mod Looks
 pub mod Makes
+pub mod PutsLines
+pub mod Moving
 pub mod Versions
 pub mod Failing
 pub mod Opening

@@ -1,30 +1,52 @@
 -- What the tables stand for.
-use Rattle.std.specs.Prelude.{◌≡◌, List, map}
+use Rattle.std.specs.Prelude.{◌≡◌, ℕ, List, map}
 use Rattle.std.specs.List.{AllByRecursion}
+use Rattle.sqlite_value.specs.Order.{Row}
 use Rattle.sqlite_trees.specs.Tree.{Trees}
 use Rattle.sqlite.specs.Effect.{Database, IsDatabase}
 use Rattle.hub_core.specs.State.{State}
-use Rattle.hub_store.specs.Tables.{hub_schema}
+use Rattle.hub_store.specs.Tables.{schema_by}
 use Rattle.hub_store.specs.Holdings.{Holding, IsHeld}
 use Rattle.hub_store.specs.Parts.{held}
-use Rattle.hub_store.specs.Layout.{parts_1}
-use Rattle.hub_store.specs.Fit.{IsFit}
+use Rattle.hub_store.specs.Layout.{newest, parts_by, tables_2}
+use Rattle.hub_store.specs.Fit.{IsFit, FitAs}
 
--- what each table holds
-abbrev pub holdings : State → List Holding
-holdings s = map held (parts_1 s)
+-- what each table of a version holds
+abbrev pub holdings_by : ℕ → State → List Holding
+holdings_by v s = map held (parts_by v s)
 
--- each table holds the rows of its set
-abbrev pub Means : Trees → State → Type 0
-Means db s = AllByRecursion (IsHeld db) (holdings s)
+-- each table of a version holds the rows of its set
+abbrev pub MeansAs : ℕ → Trees → State → Type 0
+MeansAs v db s = AllByRecursion (IsHeld db) (holdings_by v s)
 
--- the trees list the hub's tables and obey them, and hold this state
-pub record Holds (db : Database) (s : State) : Type 0 where
-  pub known : db.schema ≡ hub_schema
+-- the trees list the tables of a version and obey them, and hold this state
+pub record HoldsAs (v : ℕ) (db : Database) (s : State) : Type 0 where
+  pub known : db.schema ≡ schema_by v
   pub whole : IsDatabase db
-  pub means : Means db.trees s
+  pub means : MeansAs v db.trees s
+  pub fit : FitAs v s
+
+-- the same of trees alone, as a crash leaves them
+abbrev pub TreesHoldAs : ℕ → Trees → State → Type 0
+TreesHoldAs v db s = HoldsAs v (record { schema = schema_by v; trees = db }) s
+
+-- ---- the newest version
+
+-- between two statements of one edit: these lines and incidents, and all else as in a state
+pub record HoldsBetween (items incidents : List Row) (db : Database) (s : State) : Type 0 where
+  pub known : db.schema ≡ schema_by newest
+  pub whole : IsDatabase db
+  pub means : AllByRecursion (IsHeld db.trees) (map held (tables_2 newest items incidents s))
   pub fit : IsFit s
 
--- the same of trees alone
+abbrev pub holdings : State → List Holding
+holdings s = holdings_by newest s
+
+abbrev pub Means : Trees → State → Type 0
+Means db s = MeansAs newest db s
+
+abbrev pub Holds : Database → State → Type 0
+Holds db s = HoldsAs newest db s
+
 abbrev pub TreesHold : Trees → State → Type 0
-TreesHold db s = Holds (record { schema = hub_schema; trees = db }) s
+TreesHold db s = TreesHoldAs newest db s

@@ -1,18 +1,23 @@
 -- What an opening gives, and why a store is not opened.
-use Rattle.std.specs.Prelude.{◌≡◌, ◌≢◌, ℕ, Some, None}
+use Rattle.std.specs.Prelude.{◌≡◌, ◌≢◌, ◌⊎◌, ◌↔◌, ◌&&◌, nat_lt, ℕ, Bool, false, Option, Some, None, IsTrue}
+use Rattle.sqlite_trees.specs.Tree.{Trees}
 use Rattle.sqlite.specs.Effect.{Database}
 use Rattle.sqlite.specs.State.{State, HasCleanDisk, Survives}
 use Rattle.hub_core.specs.State as core
-use Rattle.hub_store.specs.Content.{Has}
+pub use Rattle.hub_store.specs.Layout.{newest}
+use Rattle.hub_store.specs.Means.{TreesHold}
+use Rattle.hub_store.specs.Content.{Has, HasAs, MayLeave}
 use Rattle.hub_store.specs.Keeps.{KeepsCommitted}
 use Rattle.hub_store.specs.Versions.{version_of}
 use Rattle.hub_store.specs.Failing.{HasReason}
+use Rattle.hub_core.specs.declared.shelf.ShelfFault.{ShelfFault}
+use Rattle.hub_core.specs.declared.shelf.ShelfFault.TheVariants as shelf
 use Rattle.hub_store.specs.declared.sql_shelf.OpenFault.{OpenFault}
 use Rattle.hub_store.specs.declared.sql_shelf.OpenFault.TheVariants.{NotOurs, WrongVersion, Failed, NoMemory}
 
--- the newest version of the tables
-abbrev pub newest : ℕ
-newest = 1
+-- versions from which a store is brought to the newest
+abbrev pub is_older : ℕ → Bool
+is_older v = nat_lt 0 v && nat_lt v newest
 
 -- NotOurs where there is no version, WrongVersion where there is another than the newest; the others say nothing of the tables
 abbrev pub IsOpenFault : Database → OpenFault → Type 0
@@ -21,9 +26,15 @@ IsOpenFault db (WrongVersion n) = (version_of db ≡ Some n) × (n ≢ newest)
 IsOpenFault db Failed = Unit {0}
 IsOpenFault db NoMemory = Unit {0}
 
--- The store is of the newest version, its content is what it was, and no failure is counted yet. Nothing was written.
+-- how a fault of the store is told of an opening
+abbrev pub opened_as : ShelfFault → OpenFault
+opened_as shelf.NoMemory = NoMemory
+opened_as shelf.Failed = Failed
+
+-- The store is of the newest version and keeps its last commit, and so its content; no failure is counted yet, and nothing was written.
 pub record IsOpened (old new : State) (failures : ℕ) : Type 0 where
   pub version : HasCleanDisk new → version_of old.now ≡ Some newest
+  pub kept : HasCleanDisk new → KeepsCommitted old new
   pub content : HasCleanDisk new → (s : core.State) → Has old s → Has new s
   pub begun : failures ≡ 0
   pub survives : Survives old new (λ _. ⊥)
@@ -35,3 +46,62 @@ pub record IsRefused (old new : State) (fault : OpenFault) : Type 0 where
   pub kept : HasCleanDisk new → KeepsCommitted old new
   pub content : HasCleanDisk new → (s : core.State) → Has old s → Has new s
   pub survives : Survives old new (λ _. ⊥)
+
+-- ---- a store brought to the newest version
+
+-- as at an opening, but an older version is no fault
+abbrev pub IsMigrationFault : Database → OpenFault → Type 0
+IsMigrationFault db (WrongVersion n) = (version_of db ≡ Some n) × (n ≢ newest) × (is_older n ≡ false)
+IsMigrationFault db fault = IsOpenFault db fault
+
+-- the store tells a version from which it is brought to the newest
+abbrev pub IsOld : Database → Type 0
+IsOld db = (v : ℕ) × IsTrue (is_older v) × (version_of db ≡ Some v)
+
+-- what was committed is the newest version with the content that there was in this one
+abbrev pub IsRenewedFrom : ℕ → State → Trees → Type 0
+IsRenewedFrom v old left = (s : core.State) → HasAs v old s → TreesHold left s
+
+-- the same of whichever version there was
+abbrev pub IsRenewed : State → Trees → Type 0
+IsRenewed old left = (v : ℕ) → IsTrue (is_older v) → IsRenewedFrom v old left
+
+-- tables of this version are brought to the newest
+pub record IsBrought (found : ℕ) (old new : State) (failures : ℕ) : Type 0 where
+  pub was_open : HasCleanDisk new → IsTrue old.is_open
+  pub content : HasCleanDisk new → (s : core.State) → HasAs found old s → Has new s
+  pub now : HasCleanDisk new → (s : core.State) → HasAs found old s → version_of new.now ≡ Some newest
+  pub durable : HasCleanDisk new → (s : core.State) → HasAs found old s → (left : Option core.State) → MayLeave new left ↔ (left ≡ Some s)
+  pub begun : failures ≡ 0
+  pub survives : Survives old new (IsRenewedFrom found old)
+
+-- they are not, and the last commit stands
+pub record IsNotBrought (found : ℕ) (old new : State) (fault : OpenFault) : Type 0 where
+  pub why : (fault ≡ Failed) ⊎ (fault ≡ NoMemory)
+  pub kept : HasCleanDisk new → KeepsCommitted old new
+  pub survives : Survives old new (IsRenewedFrom found old)
+
+-- The store was of the newest version or an older one, is of the newest now with the content as it was, and no failure is counted yet.
+pub record IsMigrated (old new : State) (failures : ℕ) : Type 0 where
+  pub version : HasCleanDisk new → (version_of old.now ≡ Some newest) ⊎ IsOld old.now
+  pub content : HasCleanDisk new → (s : core.State) → Has old s → Has new s
+  pub moved : HasCleanDisk new → (v : ℕ) → IsTrue (is_older v) → (s : core.State) → HasAs v old s → Has new s
+  pub now : HasCleanDisk new → (v : ℕ) → IsTrue (is_older v) → (s : core.State) → HasAs v old s → version_of new.now ≡ Some newest
+  -- from here on a crash leaves the newest version with that content, and nothing else
+  pub durable : HasCleanDisk new → (v : ℕ) → IsTrue (is_older v) → (s : core.State) → HasAs v old s → (left : Option core.State) → MayLeave new left ↔ (left ≡ Some s)
+  -- over the newest version nothing changes
+  pub same : HasCleanDisk new → version_of old.now ≡ Some newest → KeepsCommitted old new
+  pub begun : failures ≡ 0
+  -- a crash on the way leaves what it could have left before, or the newest version with that content
+  pub survives : Survives old new (IsRenewed old)
+  pub unwritten : HasCleanDisk new → version_of old.now ≡ Some newest → Survives old new (λ _. ⊥)
+
+-- The store isn't brought there, for this reason, and keeps its last commit, whatever store it is, and so its version and its content.
+pub record IsUnmigrated (old new : State) (fault : OpenFault) : Type 0 where
+  pub why : HasCleanDisk new → IsMigrationFault old.now fault
+  pub cause : HasCleanDisk new → fault ≡ Failed → HasReason old new ⊎ IsOld old.now
+  pub kept : HasCleanDisk new → KeepsCommitted old new
+  pub content : HasCleanDisk new → (v : ℕ) → (s : core.State) → HasAs v old s → HasAs v new s
+  -- a crash leaves what it could have left before, or, of an older version, the newest with that content
+  pub survives : Survives old new (IsRenewed old)
+  pub unwritten : HasCleanDisk new → ¬ IsOld old.now → Survives old new (λ _. ⊥)

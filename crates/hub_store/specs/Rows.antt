@@ -23,6 +23,7 @@ use Rattle.circle.specs.Directory.{Directory, client_key, membership_key, connec
 use Rattle.hub_core.specs.Documents.{Lines}
 use Rattle.hub_core.specs.State.{target_key, grantee_key}
 use Rattle.hub_core.specs.declared.state.Incident.{Incident}
+use Rattle.hub_core.specs.declared.state.Naming.{Naming}
 use Rattle.hub_core.specs.declared.state.Gate.{Gate}
 use Rattle.hub_core.specs.declared.state.Recipient.{Recipient}
 use Rattle.hub_core.specs.declared.state.Permission.{Permission}
@@ -58,10 +59,18 @@ community_row c = Int (pos c.number) ∷ Null ∷ Text c.name ∷ []
 abbrev pub group_row : Group → Row
 group_row g = Int (pos g.number) ∷ Null ∷ Int (pos g.owner) ∷ Text g.name ∷ Text g.releasability ∷ flag g.active ∷ []
 
+-- an incident without its document, as version 2 keeps it
+abbrev pub naming_row : Naming → Row
+naming_row k = Int (pos k.number) ∷ Null ∷ Int (pos k.source) ∷ Text k.ident ∷ Int (pos k.revision) ∷ []
+
+abbrev pub named_row : Incident → Row
+named_row i = naming_row i.naming
+
 -- the compact JSON of a document
 abbrev pub document_text : Lines → List ℕ
 document_text doc = compact_text (object (data_of doc))
 
+-- an incident with it, as version 1 keeps it
 abbrev pub incident_row : Incident → Row
 incident_row i = Int (pos i.naming.number) ∷ Null ∷ Int (pos i.naming.source) ∷ Text i.naming.ident ∷ Int (pos i.naming.revision) ∷ Text (document_text i.document) ∷ []
 

@@ -83,7 +83,15 @@ permission_table = unnumbered (codes "permission") (integer (codes "incident") �
 abbrev pub incident_table : Table
 incident_table = numbered (codes "incident") (integer (codes "source") ∷ text (codes "ident") ∷ integer (codes "revision") ∷ text (codes "text") ∷ []) ((2 ∷ 3 ∷ []) ∷ [])
 
--- ---- the schema after each statement
+-- ---- tables that are new or changed in version 2
+
+abbrev pub item_table : Table
+item_table = unnumbered (codes "item") (integer (codes "incident") ∷ integer (codes "place") ∷ integer (codes "depth") ∷ text (codes "name") ∷ integer (codes "in_array") ∷ integer (codes "kind") ∷ text (codes "text") ∷ []) ((1 ∷ 2 ∷ []) ∷ [])
+
+abbrev pub incident_table_2 : Table
+incident_table_2 = numbered (codes "incident") (integer (codes "source") ∷ text (codes "ident") ∷ integer (codes "revision") ∷ []) ((2 ∷ 3 ∷ []) ∷ [])
+
+-- ---- the schema after each statement of version 1
 
 abbrev pub no_schema : Schema
 no_schema = record { tables = []; indexes = []; views = [] }

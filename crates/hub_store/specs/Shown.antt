@@ -1,9 +1,8 @@
 -- What the rows of a query show.
-use Rattle.std.specs.Prelude.{◌≡◌, ℕ, pos, List, [], ◌∷◌, Option, Some, None, Ok}
+use Rattle.std.specs.Prelude.{◌≡◌, ℕ, pos, List, [], ◌∷◌, Option, Some, None}
 use Rattle.sqlite_value.specs.declared.value.Value.TheVariants.{Int, Text}
 use Rattle.sqlite_value.specs.Order.{Row}
 use Rattle.circle.specs.declared.directory.Person.{Person}
-use Rattle.iodef_tree.specs.Reading.{reading}
 use Rattle.iodef_tree.specs.Pointer.{pointer_text}
 use Rattle.policy.specs.declared.gate.Gate.{Gate}
 use Rattle.policy.specs.declared.permission.Permission.{Permission}
@@ -16,6 +15,7 @@ use Rattle.hub_core.specs.declared.state.Naming.{Naming}
 use Rattle.hub_core.specs.declared.reply.Entry.{Entry}
 use Rattle.hub_store.specs.Values.{flag, number_or_null}
 use Rattle.hub_store.specs.Rows.{role_number}
+use Rattle.hub_store.specs.Items.{line_shown}
 
 -- the row shows no other value than this
 abbrev pub IsShownBy : {X : Type 0} → (X → Row) → Row → X → Type 0
@@ -55,9 +55,12 @@ target_shown target = Int (pos (target_key target).0) ∷ Int (pos (target_key t
 abbrev pub permission_shown : Permission → Row
 permission_shown x = Text (pointer_text x.path) ∷ Int (pos (grantee_key x.grantee).0) ∷ Int (pos (grantee_key x.grantee).1) ∷ []
 
--- the document that the row's text reads as, and no other beside it
-abbrev pub ShowsDocument : Row → Lines → Type 0
-ShowsDocument row document = (text : List ℕ) → row ≡ Text text ∷ [] → reading text ≡ Ok (document ∷ [])
+-- the lines that all rows show are the document; it is none where there is no row
+abbrev pub ShowsLines : List Row → Option Lines → Type 0
+ShowsLines [] None = Unit {0}
+ShowsLines [] (Some lines) = ⊥
+ShowsLines (row ∷ rows) None = ⊥
+ShowsLines (row ∷ rows) (Some lines) = ShowsAll (IsShownBy line_shown) (row ∷ rows) lines
 
 -- the case of an incident with this source and number
 abbrev pub IsCase : ℕ → ℕ → State → Case → Type 0

@@ -1,6 +1,6 @@
 //! Whether two lists have a number in common.
 
-ghost use Rattle.std.specs.Prelude.{◌≡◌, ◌==◌};
+ghost use Rattle.std.specs.Prelude.{◌≡◌};
 ghost use Rattle.std.specs.List.{list_any};
 ghost use Rattle.hub_store.specs.ShownPairs.{AreRising, is_one_of};
 

@@ -13,13 +13,15 @@ ghost use Rattle.hub_store.specs.Failing.{HasReason};
 
 use crate::statement::run;
 use crate::tables::make_tables;
+use crate::to_version_2::make_tables_2;
+use crate::version::NEWEST;
 use sqlite::{Alter, Connection, Error, ErrorCode, Transaction, params};
 
 fn put_version<S: Alter>(tx: &mut Transaction<'_, S>) -> Result<(), Error>
     ensures same_reference { tx.new.conn.ghost_name ≡ tx.old.conn.ghost_name }
     ensures made { Creates (state S.Store tx.old.conn.now) (state S.Store tx.new.conn.now) (HasEmpty hub_schema) (λ db. Holds db empty) result }
 {
-    run(tx, "INSERT INTO hub (version) VALUES (?1)", params![1u32])
+    run(tx, "INSERT INTO hub (version) VALUES (?1)", params![NEWEST])
 }
 
 fn make_in<S: Alter>(tx: &mut Transaction<'_, S>) -> Result<(), Error>
@@ -27,6 +29,7 @@ fn make_in<S: Alter>(tx: &mut Transaction<'_, S>) -> Result<(), Error>
     ensures made { Creates (state S.Store tx.old.conn.now) (state S.Store tx.new.conn.now) (HasEmpty no_schema) (λ db. Holds db empty) result }
 {
     make_tables(tx)?;
+    make_tables_2(tx)?;
     put_version(tx)
 }
 

@@ -5,7 +5,7 @@ ghost use Rattle.sqlite.specs.Held.{state};
 ghost use Rattle.hub_core.specs.Reads.{document_of};
 ghost use Rattle.hub_store.specs.Queries.{IsReadInside, IsReadOutside};
 
-use crate::from_row::first;
+use crate::item_rows::document_in;
 use crate::query::ask;
 use iodef_tree::Document;
 use sqlite::{Alter, Connection, Error, Transaction, params};
@@ -21,10 +21,10 @@ fn read_document<S: Alter>(
 {
     let rows = ask(
         tx,
-        "SELECT text FROM incident WHERE number = ?1",
+        "SELECT depth, name, in_array, kind, text FROM item WHERE incident = ?1 ORDER BY place",
         params![incident],
     )?;
-    first(alloc, &rows)
+    document_in(alloc, &rows)
 }
 
 /// The document of an incident; none where it is missing.

@@ -19,6 +19,9 @@ pub(crate) trait FromRow: Sized {
 /// What is answered where a row isn't one of the hub's.
 pub(crate) const STRANGE: Error = Error::SqliteFailure(ErrorCode::NotADatabase);
 
+/// What is answered for want of memory.
+pub(crate) const NO_MEMORY: Error = Error::SqliteFailure(ErrorCode::OutOfMemory);
+
 /// The first row.
 pub(crate) fn first<T: FromRow>(alloc: Global, rows: &[Row]) -> Result<Option<T>, Error>
     ensures { IfOk result (λ found. ShowsFirst T.FromRow.shows rows.now found) }

@@ -1,17 +1,20 @@
-//! Edits of incidents, of their gates, recipients and permissions, each by one statement, and two for the policy of an incident.
+//! Edits of incidents and of what hangs on them; most are one statement.
 
-ghost use Rattle.std.specs.Prelude.{◌≡◌};
+ghost use Rattle.std.specs.Prelude.{◌≡◌, ◌==◌, not, map, filter};
 ghost use Rattle.sqlite.specs.Held.{state};
 ghost use Rattle.iodef_tree.specs.Pointer.{pointer_text};
 ghost use Rattle.hub_core.specs.State.{State};
 ghost use Rattle.hub_core.specs.Edits.{edited};
 ghost use Rattle.hub_core.specs.declared.edit.Edit.TheVariants.{PutIncident, TakeIncident, TakePolicy, PutGate, TakeGate, PutRecipient, TakeRecipient, PutPermission, TakePermission};
-ghost use Rattle.hub_store.specs.Rows.{document_text};
+ghost use Rattle.hub_store.specs.Items.{Item, items_of, item_row};
+ghost use Rattle.hub_store.specs.Rows.{named_row};
 ghost use Rattle.hub_store.specs.Partly.{without_gates};
-ghost use Rattle.hub_store.specs.Means.{Holds};
+ghost use Rattle.hub_store.specs.Means.{Holds, HoldsBetween};
 ghost use Rattle.hub_store.specs.Makes.{Makes};
 
 use crate::directory_edits::make_row;
+use crate::put_lines::put_lines;
+use crate::put_naming::put_naming;
 use crate::statement::run;
 use hub_core::{
     Edit, Gate, GateKey, Incident, Permission, PermissionKey, Recipient, grantee_key, target_key,
@@ -19,25 +22,12 @@ use hub_core::{
 use sqlite::{Alter, Error, Transaction, params};
 use std::alloc::Global;
 
-fn insert_incident<S: Alter>(
-    tx: &mut Transaction<'_, S>,
-    incident: &Incident,
-    text: &str,
-) -> Result<(), Error>
+/// The incident without its lines.
+fn insert_incident<S: Alter>(tx: &mut Transaction<'_, S>, incident: &Incident) -> Result<(), Error>
     ensures same_reference { tx.new.conn.ghost_name ≡ tx.old.conn.ghost_name }
-    ensures made { text.now ≡ document_text incident.now.document → (s : State) → Makes (state S.Store tx.old.conn.now) (state S.Store tx.new.conn.now) (λ db. Holds db s) (λ db. Holds db (edited (PutIncident incident.now) s)) result }
+    ensures made { (s : State) → Makes (state S.Store tx.old.conn.now) (state S.Store tx.new.conn.now) (λ db. Holds db s) (λ db. HoldsBetween (map item_row (items_of s)) (map named_row (edited (PutIncident incident.now) s).incidents) db s) result }
 {
-    run(
-        tx,
-        "INSERT INTO incident (number, source, ident, revision, text) VALUES (?1, ?2, ?3, ?4, ?5)",
-        params![
-            incident.naming.number,
-            incident.naming.source,
-            incident.naming.ident.as_str(),
-            incident.naming.revision,
-            text,
-        ],
-    )
+    put_naming(tx, &incident.naming)
 }
 
 fn put_incident<S: Alter>(
@@ -48,19 +38,40 @@ fn put_incident<S: Alter>(
     ensures same_reference { tx.new.conn.ghost_name ≡ tx.old.conn.ghost_name }
     ensures made { (s : State) → Makes (state S.Store tx.old.conn.now) (state S.Store tx.new.conn.now) (λ db. Holds db s) (λ db. Holds db (edited (PutIncident incident.now) s)) result }
 {
-    let text = incident.document.text(alloc)?;
-    insert_incident(tx, incident, &text)
+    let lines = incident.document.outline(alloc)?;
+    insert_incident(tx, incident)?;
+    put_lines(tx, alloc, incident.naming.number, &lines)
 }
 
-fn take_incident<S: Alter>(tx: &mut Transaction<'_, S>, number: u32) -> Result<(), Error>
+fn take_lines<S: Alter>(tx: &mut Transaction<'_, S>, incident: u32) -> Result<(), Error>
     ensures same_reference { tx.new.conn.ghost_name ≡ tx.old.conn.ghost_name }
-    ensures made { (s : State) → Makes (state S.Store tx.old.conn.now) (state S.Store tx.new.conn.now) (λ db. Holds db s) (λ db. Holds db (edited (TakeIncident number) s)) result }
+    ensures made { (s : State) → Makes (state S.Store tx.old.conn.now) (state S.Store tx.new.conn.now) (λ db. Holds db s) (λ db. HoldsBetween (map item_row (filter (λ (x : Item). not (x.incident == incident)) (items_of s))) (map named_row s.incidents) db s) result }
+{
+    run(
+        tx,
+        "DELETE FROM item WHERE incident = ?1",
+        params![incident],
+    )
+}
+
+/// The incident, once its lines are gone.
+fn remove_incident<S: Alter>(tx: &mut Transaction<'_, S>, number: u32) -> Result<(), Error>
+    ensures same_reference { tx.new.conn.ghost_name ≡ tx.old.conn.ghost_name }
+    ensures made { (s : State) → Makes (state S.Store tx.old.conn.now) (state S.Store tx.new.conn.now) (λ db. HoldsBetween (map item_row (filter (λ (x : Item). not (x.incident == number)) (items_of s))) (map named_row s.incidents) db s) (λ db. Holds db (edited (TakeIncident number) s)) result }
 {
     run(
         tx,
         "DELETE FROM incident WHERE number = ?1",
         params![number],
     )
+}
+
+fn take_incident<S: Alter>(tx: &mut Transaction<'_, S>, number: u32) -> Result<(), Error>
+    ensures same_reference { tx.new.conn.ghost_name ≡ tx.old.conn.ghost_name }
+    ensures made { (s : State) → Makes (state S.Store tx.old.conn.now) (state S.Store tx.new.conn.now) (λ db. Holds db s) (λ db. Holds db (edited (TakeIncident number) s)) result }
+{
+    take_lines(tx, number)?;
+    remove_incident(tx, number)
 }
 
 fn take_gates<S: Alter>(tx: &mut Transaction<'_, S>, incident: u32) -> Result<(), Error>

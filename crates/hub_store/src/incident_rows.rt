@@ -1,46 +1,20 @@
-//! Incidents, their documents, gates, recipients and permissions as rows.
+//! Incidents, their gates, recipients and permissions as rows.
 
-ghost use Rattle.std.specs.Prelude.{◌≡◌, ℕ, Option, [], ◌∷◌, Ok, IfOk};
+ghost use Rattle.std.specs.Prelude.{◌≡◌, ℕ, Option, IfOk};
 ghost use Rattle.sqlite_value.specs.Order.{column};
 ghost use Rattle.iodef_tree.specs.Pointer.{pointer_text};
 ghost use Rattle.iodef_tree.specs.Text.{Tokens};
-ghost use Rattle.iodef_tree.specs.Reading.{reading};
 ghost use Rattle.hub_core.specs.State.{target_key, grantee_key};
-ghost use Rattle.hub_store.specs.Shown.{IsShownBy, ShowsDocument, entry_shown, naming_shown, gate_shown, target_shown, permission_shown};
+ghost use Rattle.hub_store.specs.Shown.{IsShownBy, entry_shown, naming_shown, gate_shown, target_shown, permission_shown};
 ghost use Rattle.hub_store.specs.Values.{number_or_null};
 
-use crate::from_row::{FromRow, STRANGE};
+use crate::from_row::{FromRow, NO_MEMORY, STRANGE};
 use circle::text::Text;
 use hub_core::{Entry, Naming, Target};
-use iodef_tree::{Document, Path, PathFault, ReadFault};
+use iodef_tree::{Path, PathFault};
 use policy::{Gate, Grantee, Permission};
-use sqlite::{Error, ErrorCode, Row};
+use sqlite::{Error, Row};
 use std::alloc::Global;
-
-const NO_MEMORY: Error = Error::SqliteFailure(ErrorCode::OutOfMemory);
-
-/// The one document that the text reads as.
-fn only_document(alloc: Global, text: &str) -> Result<Document, Error>
-    ensures { IfOk result (λ document. reading text.now ≡ Ok (document ∷ [])) }
-{
-    match Document::read(alloc, text.as_bytes()) {
-        Ok(documents) => only_of(documents),
-        Err(ReadFault::NoMemory) => Err(NO_MEMORY),
-        Err(_) => Err(STRANGE),
-    }
-}
-
-fn only_of(mut documents: Vec<Document>) -> Result<Document, Error>
-    ensures { IfOk result (λ document. documents.items ≡ document ∷ []) }
-{
-    if documents.len() != 1 {
-        return Err(STRANGE);
-    }
-    match documents.pop() {
-        None => Err(STRANGE),
-        Some(document) => Ok(document),
-    }
-}
 
 fn path_of(alloc: Global, text: &str) -> Result<Path, Error>
     ensures { IfOk result (λ path. (p : Tokens) → text.now ≡ pointer_text p → path ≡ p) }
@@ -87,15 +61,6 @@ fn number_if_any(row: &Row, at: usize) -> Result<Option<u32>, Error>
     ensures { IfOk result (λ found. (number : Option ℕ) → column row.now at ≡ number_or_null number → found ≡ number) }
 {
     row.get(at)
-}
-
-impl FromRow for Document {
-    ghost shows = { ShowsDocument };
-
-    fn from_row(alloc: Global, row: &Row) -> Result<Document, Error> {
-        let text: String = row.get(0)?;
-        only_document(alloc, text.as_str())
-    }
 }
 
 impl FromRow for Entry {

@@ -4,22 +4,25 @@
 //! the tables stand for, and `apply` makes its edits in one transaction, all or none. What a store has, what a crash
 //! leaves of it, and why it isn't opened stand in `specs/`, in this order:
 //!
-//! 1. `Tables` and `Versions`: the schema of version 1, and the version that a store tells.
-//! 2. `Rows`, `Values`, `Pairs` and `PairKinds`: each element of a set as a row; `Fit`: the limits that every row keeps.
+//! 1. `Layout`, `Tables` and `Versions`: the parts of each version, its schema, and the version that a store tells.
+//! 2. `Rows`, `Items`, `Values`, `Pairs` and `PairKinds`: each element of a set as a row, and each line of a document; `Fit`: the limits that every row keeps.
 //! 3. `Means`: which state the tables stand for, set by set; `Content`: what a connection has, and what an open after a
 //!    crash may find; `Opening` and `Failing`: why a store isn't opened; `Laws`: what is found of what a crash left.
 //!
 //! The rooms, in the way of the data:
 //!
-//! - `tables`, `create` and `version`: a new store, and the version of one that is there;
-//! - `pair_kind`, `numbers`, `from_row`, `person_rows`, `joined_rows`, `incident_rows`: values as rows, and rows as values;
+//! - `tables`, `to_version_2`, `create` and `version`: a new store, and the version of one that is there; `migrate`: a store
+//!   of an older version, brought to the newest;
+//! - `pair_kind`, `numbers`, `from_row`, `person_rows`, `joined_rows`, `incident_rows`, `item_rows`: values as rows, and rows as values;
 //! - `statement` and `query`: a text that is prepared and run, and asked in a transaction; `any_row`, `ask_pairs`,
 //!   `read_pairs`: the queries that several of these ask;
-//! - `find_person`, `find_numbered`, `find_number`, `find_naming`, `find_document`, `find_gates`, `find_recipients`,
+//! - `find_person`, `find_numbered`, `find_number`, `find_naming`, `find_document`, `find_excerpt`, `find_gates`, `find_recipients`,
 //!   `find_permissions`, `find_case`, `find_groups`, `find_communities`, `find_arranged`, `list_entries`, `has_row`,
 //!   `has_pair`, `common_numbers`: what is looked up;
+//! - `feed_rows`: the lines of an incident, fed to the pass of an excerpt as they come;
 //! - `counts`, `count_incidents`, `directory_facts`: what the facts of a request want;
-//! - `directory_edits`, `incident_edits` and `apply`: the edits, each by its statements, in one transaction;
+//! - `directory_edits`, `put_naming`, `put_lines`, `incident_edits` and `apply`: the edits, each by its statements, in one
+//!   transaction;
 //! - `sql_shelf`: [`SqlShelf`], made, opened, brought up to date and released, its look-ups and its reads; `told`: how a
 //!   failure of the store is told; `laws`: the law of what a crash leaves.
 #![tactic(auto)]
@@ -33,10 +36,12 @@ mod counts;
 mod create;
 mod directory_edits;
 mod directory_facts;
+mod feed_rows;
 mod find_arranged;
 mod find_case;
 mod find_communities;
 mod find_document;
+mod find_excerpt;
 mod find_gates;
 mod find_groups;
 mod find_naming;
@@ -50,18 +55,25 @@ mod has_pair;
 mod has_row;
 mod incident_edits;
 mod incident_rows;
+mod item_rows;
 mod joined_rows;
 pub mod laws;
 mod list_entries;
+mod migrate;
 mod numbers;
+mod old_rows;
 mod pair_kind;
 mod person_rows;
+mod put_lines;
+mod put_naming;
 mod query;
 mod read_pairs;
 mod sql_shelf;
 mod statement;
 mod tables;
+mod to_version_2;
 mod told;
 mod version;
 
-pub use sql_shelf::{NEWEST, OpenFault, SqlShelf};
+pub use sql_shelf::{OpenFault, SqlShelf};
+pub use version::NEWEST;

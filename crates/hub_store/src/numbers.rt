@@ -2,8 +2,10 @@
 
 ghost use Rattle.std.specs.Prelude.{◌≡◌};
 ghost use Rattle.hub_store.specs.Rows.{role_number as number_of_role, handling_number as number_of_handling, one_if as number_of_flag};
+ghost use Rattle.hub_store.specs.Items.{kind_number as number_of_kind};
 
 use circle::directory::{Handling, Role};
+use iodef_tree::Kind;
 
 pub(crate) fn role_number(role: Role) -> u32
     ensures { result ≡ number_of_role role }
@@ -32,4 +34,14 @@ pub(crate) fn one_if(flag: bool) -> u32
     ensures { result ≡ number_of_flag flag }
 {
     if flag { 1 } else { 0 }
+}
+
+pub(crate) fn kind_number(kind: Kind) -> u32
+    ensures { result ≡ number_of_kind kind }
+{
+    match kind {
+        Kind::Class => 0,
+        Kind::Text => 1,
+        Kind::Value => 2,
+    }
 }

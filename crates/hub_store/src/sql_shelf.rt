@@ -3,21 +3,20 @@
 ghost use Rattle.std.specs.Prelude.{◌≡◌, ◌≢◌, ◌<◌, ◌↔◌, Option, Some, false, IfOk, IfErr, IsTrue, OnOk};
 ghost use Rattle.hub_core.specs.Shelves.{last_count};
 ghost use Rattle.hub_store.specs.Tables.{no_schema};
+ghost use Rattle.hub_store.specs.Opening.{opened_as};
 
 mod look_ups;
+mod migrated;
 mod shelf;
 
 use crate::create::make_store;
 use crate::told::fault_of;
-use crate::version::version;
+use crate::version::{NEWEST, version};
 use hub_core::ShelfFault;
 use sqlite::{Alter, Connection};
 use sqlite_schema::schema::Schema;
 use std::alloc::Global;
 use std::marker::Model;
-
-/// The newest version of the tables.
-pub const NEWEST: u32 = 1;
 
 /// Why a store was not opened.
 #[derive(Clone, Copy, Debug, PartialEq, Eq)]
@@ -53,6 +52,15 @@ impl<S: Alter> Model for SqlShelf<S> {
     ghost invariant = { λ shelf. shelf.conn.in_transaction ≡ false };
 }
 
+fn open_fault(fault: ShelfFault) -> OpenFault
+    ensures { result ≡ opened_as fault }
+{
+    match fault {
+        ShelfFault::NoMemory => OpenFault::NoMemory,
+        ShelfFault::Failed => OpenFault::Failed,
+    }
+}
+
 fn is_blank(schema: &Schema) -> bool
     ensures { IsTrue result ↔ (schema.now ≡ no_schema) }
 {
@@ -66,7 +74,7 @@ impl<S: Alter> SqlShelf<S> {
     ghost use Rattle.hub_store.specs.Content.{Has, MayLeave};
     ghost use Rattle.hub_store.specs.Means.{TreesHold};
     ghost use Rattle.hub_store.specs.Keeps.{KeepsCommitted};
-    ghost use Rattle.hub_store.specs.Failing.{HasReason};
+    ghost use Rattle.hub_store.specs.Failing.{HasReason, limit_of};
     ghost use Rattle.hub_store.specs.Opening.{IsOpened, IsRefused};
 
     fn over(alloc: Global, conn: Connection<S>) -> SqlShelf<S>
@@ -141,19 +149,16 @@ impl<S: Alter> SqlShelf<S> {
         }
     }
 
-    /// Takes a connection whose store holds the hub's tables of the newest version or an older one, and makes them the
-    /// newest, with the content as it was. No version is older than the newest yet. On a refusal the connection comes
-    /// back, with its content, whatever store it is.
-    pub fn migrate(
-        alloc: Global,
-        conn: Connection<S>,
-    ) -> Result<SqlShelf<S>, (OpenFault, Connection<S>)>
-        requires { conn.in_transaction ≡ false }
-        ensures opened { IfOk result (λ shelf. IsOpened (state S.Store conn) (state S.Store shelf.conn) shelf.failures) }
-        ensures refused { IfErr result (λ e. IsRefused (state S.Store conn) (state S.Store e.1) e.0) }
-        ensures idle { IfErr result (λ e. e.1.in_transaction ≡ false) }
+    /// Sets the connection's limit on the steps of a statement; 0 is no limit. Takes no memory. A statement that would take more
+    /// steps is a failure of the store, and changes nothing.
+    pub fn limit_steps(&mut self, steps: u64)
+        ensures limited { self.new.conn ≡ record self.old.conn { step_limit = limit_of steps } }
+        ensures content { (s : State) → Has (state S.Store self.old.conn) s → Has (state S.Store self.new.conn) s }
+        ensures crash { (left : Option State) → MayLeave (state S.Store self.new.conn) left ↔ MayLeave (state S.Store self.old.conn) left }
+        ensures failures { self.new.failures ≡ self.old.failures }
     {
-        SqlShelf::open(alloc, conn)
+        let limit = if steps == 0 { None } else { Some(steps) };
+        self.conn.set_step_limit(limit);
     }
 
     /// Gives the connection back, with the content as it was; takes no memory.

@@ -1,8 +1,8 @@
-//! The tables of version 1, made one after another.
+//! The tables of version 1, made one after another. A new store gets those of the newest version from them, as an old one does.
 
 ghost use Rattle.std.specs.Prelude.{◌≡◌};
 ghost use Rattle.sqlite.specs.Held.{state};
-ghost use Rattle.hub_store.specs.Tables.{no_schema, up_to_hub, up_to_org, up_to_person, up_to_community, up_to_grp, up_to_pair, up_to_gate, up_to_recipient, up_to_permission, hub_schema};
+ghost use Rattle.hub_store.specs.Tables.{no_schema, up_to_hub, up_to_org, up_to_person, up_to_community, up_to_grp, up_to_pair, up_to_gate, up_to_recipient, up_to_permission, schema_by};
 ghost use Rattle.hub_store.specs.Makes.{Creates, HasEmpty};
 
 use crate::statement::run;
@@ -109,7 +109,7 @@ fn make_permission<S: Alter>(tx: &mut Transaction<'_, S>) -> Result<(), Error>
 
 fn make_incident<S: Alter>(tx: &mut Transaction<'_, S>) -> Result<(), Error>
     ensures same_reference { tx.new.conn.ghost_name ≡ tx.old.conn.ghost_name }
-    ensures made { Creates (state S.Store tx.old.conn.now) (state S.Store tx.new.conn.now) (HasEmpty up_to_permission) (HasEmpty hub_schema) result }
+    ensures made { Creates (state S.Store tx.old.conn.now) (state S.Store tx.new.conn.now) (HasEmpty up_to_permission) (HasEmpty (schema_by 1)) result }
 {
     run(
         tx,
@@ -133,7 +133,7 @@ fn make_directory<S: Alter>(tx: &mut Transaction<'_, S>) -> Result<(), Error>
 /// The others: those that a later version changes stand last.
 fn make_incidents<S: Alter>(tx: &mut Transaction<'_, S>) -> Result<(), Error>
     ensures same_reference { tx.new.conn.ghost_name ≡ tx.old.conn.ghost_name }
-    ensures made { Creates (state S.Store tx.old.conn.now) (state S.Store tx.new.conn.now) (HasEmpty up_to_grp) (HasEmpty hub_schema) result }
+    ensures made { Creates (state S.Store tx.old.conn.now) (state S.Store tx.new.conn.now) (HasEmpty up_to_grp) (HasEmpty (schema_by 1)) result }
 {
     make_pair(tx)?;
     make_gate(tx)?;
@@ -142,10 +142,10 @@ fn make_incidents<S: Alter>(tx: &mut Transaction<'_, S>) -> Result<(), Error>
     make_incident(tx)
 }
 
-/// Makes all tables, with no row.
+/// Makes all tables of version 1, with no row.
 pub(crate) fn make_tables<S: Alter>(tx: &mut Transaction<'_, S>) -> Result<(), Error>
     ensures same_reference { tx.new.conn.ghost_name ≡ tx.old.conn.ghost_name }
-    ensures made { Creates (state S.Store tx.old.conn.now) (state S.Store tx.new.conn.now) (HasEmpty no_schema) (HasEmpty hub_schema) result }
+    ensures made { Creates (state S.Store tx.old.conn.now) (state S.Store tx.new.conn.now) (HasEmpty no_schema) (HasEmpty (schema_by 1)) result }
 {
     make_directory(tx)?;
     make_incidents(tx)

@@ -1,6 +1,6 @@
 //! The version of the tables.
 
-ghost use Rattle.std.specs.Prelude.{◌≡◌, ◌≢◌, ◌==◌, false, map, is_some, IfOk, IfErr};
+ghost use Rattle.std.specs.Prelude.{◌≡◌, ◌≢◌, ◌==◌, false, map, is_some, IfOk, IfErr, IfSome, IsTrue};
 ghost use Rattle.sqlite_value.specs.Order.{column};
 ghost use Rattle.sqlite.specs.State.{HasCleanDisk, IsLive, KeepsCommit, Survives};
 ghost use Rattle.sqlite.specs.Held.{state};
@@ -12,6 +12,9 @@ use crate::told::fault_of;
 use hub_core::ShelfFault;
 use sqlite::{Alter, Connection, Error, ErrorCode, Row, Transaction};
 use sqlite_schema::schema::Schema;
+
+/// The newest version of the tables.
+pub const NEWEST: u32 = 2;
 
 /// Whether just one table has this tree.
 fn has_one_table(schema: &Schema, tree: u32) -> bool
@@ -62,6 +65,7 @@ fn read_version<S: Alter>(
     ensures kept { HasCleanDisk (state S.Store tx.new.conn.now) → KeepsCommit (state S.Store tx.old.conn.now) (state S.Store tx.new.conn.now) }
     ensures survives { Survives (state S.Store tx.old.conn.now) (state S.Store tx.new.conn.now) (λ _. ⊥) }
     ensures exact { HasCleanDisk (state S.Store tx.new.conn.now) → has_column ≡ is_some (version_column (state S.Store tx.old.conn.now).now.schema) → IfOk result (λ found. found ≡ version_of (state S.Store tx.old.conn.now).now) }
+    ensures asked { HasCleanDisk (state S.Store tx.new.conn.now) → IfOk result (λ found. IfSome found (λ _. IsTrue (state S.Store tx.old.conn.now).is_open)) }
     ensures cause { HasCleanDisk (state S.Store tx.new.conn.now) → has_column ≡ is_some (version_column (state S.Store tx.old.conn.now).now.schema) → IsLive (state S.Store tx.old.conn.now) → IfErr result (λ e. e ≢ Error.SqliteFailure ErrorCode.OutOfMemory → HasReason (state S.Store tx.old.conn.now) (state S.Store tx.new.conn.now)) }
 {
     if !has_column {
@@ -81,6 +85,7 @@ fn ask_version<S: Alter>(conn: &mut Connection<S>) -> Result<Option<u32>, Error>
     ensures kept { HasCleanDisk (state S.Store conn.new) → KeepsCommitted (state S.Store conn.old) (state S.Store conn.new) }
     ensures survives { Survives (state S.Store conn.old) (state S.Store conn.new) (λ _. ⊥) }
     ensures exact { HasCleanDisk (state S.Store conn.new) → IfOk result (λ found. found ≡ version_of (state S.Store conn.old).now) }
+    ensures asked { HasCleanDisk (state S.Store conn.new) → IfOk result (λ found. IfSome found (λ _. IsTrue (state S.Store conn.old).is_open)) }
     ensures cause { HasCleanDisk (state S.Store conn.new) → IfErr result (λ e. e ≢ Error.SqliteFailure ErrorCode.OutOfMemory → HasReason (state S.Store conn.old) (state S.Store conn.new)) }
 {
     let has_column = has_version_column(conn.schema());
@@ -98,6 +103,7 @@ pub(crate) fn version<S: Alter>(conn: &mut Connection<S>) -> Result<Option<u32>,
     ensures kept { HasCleanDisk (state S.Store conn.new) → KeepsCommitted (state S.Store conn.old) (state S.Store conn.new) }
     ensures survives { Survives (state S.Store conn.old) (state S.Store conn.new) (λ _. ⊥) }
     ensures exact { HasCleanDisk (state S.Store conn.new) → IfOk result (λ found. found ≡ version_of (state S.Store conn.old).now) }
+    ensures asked { HasCleanDisk (state S.Store conn.new) → IfOk result (λ found. IfSome found (λ _. IsTrue (state S.Store conn.old).is_open)) }
     ensures cause { HasCleanDisk (state S.Store conn.new) → IfErr result (λ fault. fault ≡ ShelfFault.Failed → HasReason (state S.Store conn.old) (state S.Store conn.new)) }
 {
     match ask_version(conn) {

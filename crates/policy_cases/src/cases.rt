@@ -20,8 +20,8 @@
 //!     lists|GATES|PERMISSIONS               the gates and permissions that a case gives back
 //!     numbers|STANDING                      the groups that the reader's standing gives back
 //!
-//! `words` of `trying_policy` tells how standings, gates, permissions and grantees are written. Empty lines, and those that
-//! begin with #, are skipped.
+//! `words` of `trying_policy` tells how standings, gates, permissions and grantees are written. Lines that begin with # are
+//! headings, which are printed as they are; empty lines are skipped.
 
 use crate::alone::answer_alone;
 use crate::labels::{marked, sited};

@@ -1,5 +1,5 @@
 //! Labels, markings, verdicts and what readers are served, by the cases on standard input, one a line; each answer is a line.
-//! What a line may say stands in `cases`.
+//! A line that begins with `#` is printed as it is. What a case may say stands in `cases`.
 #![tactic(auto)]
 
 mod alone;
@@ -24,7 +24,9 @@ fn main(rt: HostRuntime) -> io::Result<()> {
 fn answer_all(rt: &HostRuntime, lines: &str) -> io::Result<()> {
     let mut report = Report::new();
     for line in lines.lines() {
-        if !line.is_empty() && !line.starts_with('#') {
+        if line.starts_with('#') {
+            println!(rt; "{line}")?;
+        } else if !line.is_empty() {
             print_answer(rt, &mut report, line)?;
         }
     }

@@ -35,15 +35,32 @@ pub fn served_by_lines(alloc: Global, document: &Document, asker: Asker) -> Resu
     finish_of(alloc, pass)
 }
 
-/// A line with an empty text, by its depth and its name: `1:version`.
+/// What a word says of a member: its name, its kind and its text.
+fn member_of(word: &str) -> (&str, Kind, &str) {
+    if let Some((name, text)) = word.split_once('=') {
+        return (name, Kind::Text, text);
+    }
+    match word.strip_suffix("{}") {
+        Some(name) => (name, Kind::Class, ""),
+        None => (word, Kind::Text, ""),
+    }
+}
+
+/// A line by its depth and its member, as `1:version`, with its text behind `=`; `{}` behind the name makes a class, and `[]` an
+/// element of an array.
 fn line_of(alloc: Global, word: &str) -> Result<Line, Unfit> {
-    let (depth, name) = word.split_once(':').ok_or(Unfit::NoCase)?;
+    let (depth, member) = word.split_once(':').ok_or(Unfit::NoCase)?;
+    let (name, kind, text) = member_of(member);
+    let (name, in_array) = match name.strip_suffix("[]") {
+        Some(name) => (name, true),
+        None => (name, false),
+    };
     Ok(Line {
         depth: number_of(depth)?,
         name: Text::new(String::from_str(alloc, name)?),
-        in_array: false,
-        kind: Kind::Text,
-        text: Text::new(String::new(alloc)),
+        in_array,
+        kind,
+        text: Text::new(String::from_str(alloc, text)?),
     })
 }
 

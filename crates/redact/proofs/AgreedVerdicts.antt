@@ -87,10 +87,10 @@ module _ (off : Tokens → Bool) (v v' : Verdicts) (ok : Agree off v v') where
       by_kind true h = ok.visible e.path h
       by_kind false h = refl
 
-  frame-same : (p : Tokens) → off p ≡ true → is_frame v p ≡ is_frame v' p
+  pub frame-same : (p : Tokens) → off p ≡ true → is_frame v p ≡ is_frame v' p
   frame-same p h = ap (λ b. not b && v.holds_visible p) (ok.visible p h) ∙ ap (λ b. not (v'.visible p) && b) (ok.holds p h)
 
-  kept-same : (e : LocatedLine) → off (class_path e) ≡ true → is_kept v e ≡ is_kept v' e
+  pub kept-same : (e : LocatedLine) → off (class_path e) ≡ true → is_kept v e ≡ is_kept v' e
   kept-same e h = by_kind (is_class e) h
     where
       by_kind : (b : Bool) → off (if b then e.path else e.parent) ≡ true →
@@ -222,10 +222,10 @@ module _ (w : Worlds) where
 
 -- ---- what is withheld, where the verdicts agree everywhere and no class line differs
 
-abbrev spots : (LocatedLine → Bool) → LocatedLine → List Tokens
+abbrev pub spots : (LocatedLine → Bool) → LocatedLine → List Tokens
 spots f e = if is_class e && f e then e.path ∷ [] else []
 
-paths-spots : (f : LocatedLine → Bool) (es : List LocatedLine) → class_paths (filter f es) ≡ flat_map (spots f) es
+pub paths-spots : (f : LocatedLine → Bool) (es : List LocatedLine) → class_paths (filter f es) ≡ flat_map (spots f) es
 paths-spots f [] = refl
 paths-spots f (e ∷ es) = by_test (f e) (is_class e) refl (paths-spots f es)
   where
@@ -236,7 +236,7 @@ paths-spots f (e ∷ es) = by_test (f e) (is_class e) refl (paths-spots f es)
     by_test false true k ih = ih
     by_test false false k ih = ih
 
-spots-class : (v : Verdicts) (e : LocatedLine) → spots (is_kept v) (by_class e) ≡ spots (is_kept v) e
+pub spots-class : (v : Verdicts) (e : LocatedLine) → spots (is_kept v) (by_class e) ≡ spots (is_kept v) e
 spots-class v e = by_kind (is_class e)
   where
     by_kind : (b : Bool) → (let q = (if b then e.path else e.parent) in if b && (if b then v.visible q || is_frame v q else is_root e.parent || v.visible e.parent) then q ∷ [] else [])

@@ -25,4 +25,18 @@ pub mod DecidedAlike
 pub mod LabelsStay
 pub mod ToldAlike
 pub mod Taking
+pub mod Refused
+pub mod SameLocated
+pub mod SameBack
+pub mod Matters
+pub mod MattersMarked
+pub mod MattersLabels
+pub mod MarkedTree
+pub mod Grown
+pub mod Reached
+pub mod Sifting
+pub mod Ends
+pub mod Stopped
+pub mod Tracking
+pub mod Finishing
 mod Computed

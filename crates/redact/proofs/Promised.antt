@@ -1,5 +1,5 @@
 -- The laws of excerpts and searches.
-use Rattle.std.proofs.Common.{◌≡◌, ◌==◌, ◌<◌, ℕ, zero, suc, Bool, true, false, not, ◌&&◌, ◌||◌, List, [], ◌∷◌, length, map, cond, if◌then◌else◌, refl, sym, ◌∙◌, ap, arith, Option, filter, count_by, inl, inr, subst, Some, None, is_some, Contains, IsSomeAnd, flat_map}
+use Rattle.std.proofs.Common.{◌≡◌, ◌==◌, ◌<◌, ℕ, suc, Bool, true, false, not, ◌&&◌, ◌||◌, List, [], ◌∷◌, length, map, cond, if◌then◌else◌, refl, sym, ◌∙◌, ap, arith, Option, filter, count_by, inl, inr, subst, Some, None, is_some, Contains, IsSomeAnd, flat_map}
 use Rattle.std.specs.List.{list_any, zip}
 use Rattle.std.proofs.lemmas.Bool.{and_parts, cond_both, cond-true, cond-false, false≢true, ne_eqb}
 use Rattle.std.proofs.lemmas.List.{length-map}

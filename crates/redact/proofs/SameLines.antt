@@ -9,7 +9,7 @@ use Rattle.redact.proofs.Filtered.{each-from}
 
 -- ---- joined lists
 
-flat-kept : {X : Type 0} (h : LocatedLine → List X) (keep : LocatedLine → Bool) (es : List LocatedLine) → AllByRecursion (λ e. keep e ≡ false → h e ≡ []) es → flat_map h (filter keep es) ≡ flat_map h es
+pub flat-kept : {X : Type 0} (h : LocatedLine → List X) (keep : LocatedLine → Bool) (es : List LocatedLine) → AllByRecursion (λ e. keep e ≡ false → h e ≡ []) es → flat_map h (filter keep es) ≡ flat_map h es
 flat-kept h keep [] n = refl
 flat-kept h keep (e ∷ es) n = by_test (keep e) refl (flat-kept h keep es n.1)
   where
@@ -17,7 +17,7 @@ flat-kept h keep (e ∷ es) n = by_test (keep e) refl (flat-kept h keep es n.1)
     by_test true k ih = ap (λ xs. h e ++ xs) ih
     by_test false k ih = ih ∙ sym (ap (λ xs. xs ++ flat_map h es) (n.0 k))
 
-flat-agree : {X : Type 0} (h h' : LocatedLine → List X) (keep : LocatedLine → Bool) (es : List LocatedLine) → AllByRecursion (λ e. keep e ≡ true → h e ≡ h' e) es → flat_map h (filter keep es) ≡ flat_map h' (filter keep es)
+pub flat-agree : {X : Type 0} (h h' : LocatedLine → List X) (keep : LocatedLine → Bool) (es : List LocatedLine) → AllByRecursion (λ e. keep e ≡ true → h e ≡ h' e) es → flat_map h (filter keep es) ≡ flat_map h' (filter keep es)
 flat-agree h h' keep [] n = refl
 flat-agree h h' keep (e ∷ es) n = by_test (keep e) refl (flat-agree h h' keep es n.1)
   where

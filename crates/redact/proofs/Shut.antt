@@ -1,8 +1,8 @@
 -- A gate at the root that refuses a reader.
-use Rattle.std.proofs.Common.{◌≡◌, Bool, true, false, List, [], ◌∷◌, refl, sym, ◌∙◌, ap, subst, Option, Some, None, is_some, Contains, ◌&&◌}
+use Rattle.std.proofs.Common.{◌≡◌, Bool, true, false, List, [], ◌∷◌, refl, sym, ◌∙◌, ap, subst, Option, Some, None, is_some, Contains}
 use Rattle.std.proofs.lemmas.Bool.{false≢true, and_right, cond-false}
 use Rattle.iodef_tree.specs.Text.{Bytes, Tokens, is_root, is_prefix}
-use Rattle.iodef_tree.specs.Paths.{LocatedLine, is_class, located}
+use Rattle.iodef_tree.specs.Paths.{is_class, located}
 use Rattle.iodef_tree.specs.declared.line.Line.{Line}
 use Rattle.policy.specs.Gates.{passage_of}
 use Rattle.policy.specs.Verdict.{is_visible}

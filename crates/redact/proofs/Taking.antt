@@ -1,10 +1,18 @@
 -- One line more, and the lines one after another.
-use Rattle.std.proofs.Common.{◌≡◌, true, ◌&&◌, List, [], ◌∷◌, ◌++◌, sym, ◌∙◌, ap}
+use Rattle.std.proofs.Common.{◌≡◌, true, false, ◌&&◌, List, [], ◌∷◌, ◌++◌, refl, sym, ◌∙◌, ap, subst}
 use Rattle.std.proofs.Math.Bool.{and-true}
 use Rattle.std.proofs.lemmas.Bool.{and_parts}
 use Rattle.iodef_tree.specs.Outline.{may_come, is_outline, is_outline_after, is_outline_back, back}
+use Rattle.iodef_tree.specs.Shown.{Shows}
 use Rattle.iodef_tree.specs.declared.line.Line.{Line}
+use Rattle.iodef_tree.specs.declared.shape.Shape.{Shape}
 use Rattle.iodef_tree.proofs.Outlines.{outline-back, back-push, outline_after-append}
+use Rattle.policy.specs.declared.standing.Standing.{Standing}
+use Rattle.policy.specs.declared.case.Case.{Case}
+use Rattle.redact.specs.Marked.{Markings, marks_of, none_noted, noted, noted_from}
+use Rattle.redact.specs.Sifted.{Sifts, Knows}
+use Rattle.redact.specs.declared.marks.Marks.{Marks}
+use Rattle.redact.specs.declared.sieve.Sieve.{Sieve}
 
 -- behind an outline a line makes one exactly where it may come
 pub more-outline : (ls : List Line) (l : Line) → is_outline_back (back ls) ≡ true → is_outline (ls ++ l ∷ []) ≡ may_come (back ls) l
@@ -16,3 +24,25 @@ pub fits-next : (ls done rest : List Line) (l : Line) → done ++ l ∷ rest ≡
 fits-next ls done rest l is h =
     let parts = and_parts (is_outline done) (may_come (back done) l && is_outline_after (l ∷ back done) rest) (sym (outline_after-append done (l ∷ rest) []) ∙ ap is_outline is ∙ h) in
     (and_parts (may_come (back done) l) (is_outline_after (l ∷ back done) rest) parts.1).0
+
+noted-push : (ls : List Line) (l : Line) (m : Markings) → noted_from m (ls ++ l ∷ []) ≡ noted (noted_from m ls) l
+noted-push [] l m = refl
+noted-push (x ∷ ls) l m = noted-push ls l (noted m x)
+
+-- what is known of the lines with one more, where each part took it
+module _ (c : Case) (s : Standing) (ls : List Line) (l : Line) (shape : Shape) (marks : Marks) (v : Sieve) (k : Knows c s ls shape marks v) where
+  pub knows-more : (shape' : Shape) (marks' : Marks) (v' : Sieve) → may_come (back ls) l ≡ true → Shows shape' (l ∷ back ls) →
+      marks_of marks' ≡ noted (marks_of marks) l → Sifts c s (ls ++ l ∷ []) v' →
+      (is_outline (ls ++ l ∷ []) ≡ true) × Knows c s (ls ++ l ∷ []) shape' marks' v'
+  knows-more shape' marks' v' fits shows marked sifts = (
+    more-outline ls l k.shows.outline ∙ fits,
+    record {
+      shows = subst (λ before. Shows shape' before) (sym (back-push ls l)) shows;
+      marked = marked ∙ ap (λ m. noted m l) k.marked ∙ sym (noted-push ls l none_noted);
+      sifts = sifts;
+    },
+  )
+
+  -- the line may not come
+  pub knows-bad : may_come (back ls) l ≡ false → is_outline (ls ++ l ∷ []) ≡ false
+  knows-bad bad = more-outline ls l k.shows.outline ∙ bad

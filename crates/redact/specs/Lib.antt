@@ -15,3 +15,6 @@ pub mod Laws
 pub mod Examples
 pub mod Alike
 pub mod Feeding
+pub mod Matters
+pub mod Marked
+pub mod Sifted

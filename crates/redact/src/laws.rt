@@ -2,6 +2,8 @@
 //! function that does nothing.
 
 ghost use Rattle.redact.specs.Alike.{AlikeIsToldAlike};
+ghost use Rattle.redact.specs.Marked.{NotedIsAccepted};
+ghost use Rattle.redact.specs.Matters.{WhatMattersIsTold};
 ghost use Rattle.redact.specs.Laws.{ListedIsServed, FoundIsListed, KeptClassesStay, WithheldIsListed, RootGateTellsNothing, VerdictsAreServed};
 
 /// An incident is listed exactly where an excerpt of it is served.
@@ -38,4 +40,15 @@ pub fn verdicts_are_served()
 /// Of two reports that a step joins in which only that differs which the reader may not see, the reader is told alike.
 pub fn alike_is_told_alike()
     ensures { AlikeIsToldAlike }
+{}
+
+/// Where a gate refuses a reader at a class, the lines below that class don't matter: of the others the reader is told what it is
+/// told of all.
+pub fn what_matters_is_told()
+    ensures { WhatMattersIsTold }
+{}
+
+/// What is noted of the lines of an outline, one at a time, tells whether every class keeps the marking rule.
+pub fn noted_is_accepted()
+    ensures { NotedIsAccepted }
 {}

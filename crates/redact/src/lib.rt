@@ -9,24 +9,31 @@
 //! - `pass`: the one pass down, for a `reader`, by its `trail`; `attributes`: a label put in;
 //! - `note`: what is withheld, as it is noted; `listed`: the same in order;
 //! - `search`: [`finds`] and [`is_listed`]; `want`: [`meets`], one or the other by a [`Want`];
-//! - `intake`: lines that come one at a time; `rows`: [`RowPass`], an excerpt by them;
+//! - `rows`: [`RowPass`], an excerpt by lines that come one at a time: `marks`, whether their markings are accepted; `sieve`,
+//!   those of them that matter, by the `way` to each and the gates that are `refusing` there; `fed`, all of them, for the
+//!   clauses alone; `building`, the document of those that are kept;
 //! - [`laws`]: what excerpts and searches promise; [`examples`], the definitions computed on small reports.
 #![tactic(auto)]
 
 mod attributes;
+mod building;
 pub mod examples;
+mod fed;
 mod given;
-mod intake;
 mod kept;
 pub mod laws;
 mod listed;
+mod marks;
 mod note;
 mod pass;
 mod reader;
+mod refusing;
 mod rows;
 mod search;
+mod sieve;
 mod trail;
 mod want;
+mod way;
 
 pub use given::excerpt;
 pub use kept::Excerpt;

@@ -1,8 +1,8 @@
 //! One pass down a document, with what is inherited from above. A class that isn't visible is looked at when what is left
 //! below it is known.
 
-ghost use Rattle.std.specs.Prelude.{◌≡◌, ◌≤◌, ◌∷◌, ◌++◌, [], IfOk, OnOk, IfSome, List, ℕ, length, take, map, option_map, is_none, ◌&&◌, ◌+◌, not, true, false, if◌then◌else◌, Some, None};
-ghost use Rattle.iodef_tree.specs.View.{forest, bodies, body, named};
+ghost use Rattle.std.specs.Prelude.{◌≡◌, ◌≤◌, ◌∷◌, ◌++◌, [], IfOk, OnOk, IfSome, length, take, map, option_map, is_none, ◌&&◌, ◌+◌, not, true, false, if◌then◌else◌, Some, None};
+ghost use Rattle.iodef_tree.specs.View.{forest, bodies, body};
 ghost use Rattle.marking.specs.Members.{spelled_in};
 ghost use Rattle.marking.specs.Label.{marking_of};
 ghost use Rattle.redact.specs.Told.{attributes_of};

@@ -1,17 +1,25 @@
 //! What a reader is served of a document whose lines come one at a time.
 
-ghost use Rattle.std.specs.Prelude.{◌≡◌, true, None, Err, is_some, option_map, IfOk, IfErr, IfSome};
+ghost use Rattle.std.specs.Prelude.{◌≡◌, ◌++◌, ◌∷◌, [], List, true, false, None, Err, is_some, option_map, IfOk, IfErr, IfSome, OnOk};
 ghost use Rattle.iodef_tree.specs.Paths.{located};
-ghost use Rattle.iodef_tree.specs.declared.fault.OutlineFault.TheVariants.{NoMemory};
+ghost use Rattle.iodef_tree.specs.Outline.{is_outline};
+ghost use Rattle.iodef_tree.specs.declared.line.Line.{Line as Row};
+ghost use Rattle.iodef_tree.specs.declared.fault.OutlineFault.TheVariants.{BadOutline, NoMemory};
 ghost use Rattle.marking.specs.Marks.{first_bad_marking};
+ghost use Rattle.policy.specs.declared.standing.Standing.{Standing as TheStanding};
+ghost use Rattle.policy.specs.declared.case.Case.{Case as TheCase};
 ghost use Rattle.redact.specs.Told.{excerpt_of};
 ghost use Rattle.redact.specs.Excerpts.{told_by, LabelsSurvive};
 ghost use Rattle.redact.specs.Feeding.{FeedsLine};
+ghost use Rattle.redact.specs.Sifted.{Knows};
 
+use crate::building::document_of;
+use crate::fed::Fed;
 use crate::given::excerpt;
-use crate::intake::Intake;
 use crate::kept::Excerpt;
-use iodef_tree::{Document, Line, OutlineFault};
+use crate::marks::Marks;
+use crate::sieve::Sieve;
+use iodef_tree::{Document, Line, OutlineFault, Shape};
 use marking::{MarkingFault, check};
 use policy::{Case, Standing};
 use std::alloc::{AllocError, Global};
@@ -36,22 +44,65 @@ pub fn excerpt_if_marked(
     }
 }
 
-/// A pass over lines that come one at a time, for a reader. Contracts see its case, its standing, the lines so far and the
-/// fault that was answered, if any.
+/// What is known of the lines that came, of which those are kept that matter to the reader.
+#[derive(Drop)]
+struct Progress {
+    shape: Shape,
+    marks: Marks,
+    sieve: Sieve,
+}
+
+impl Progress {
+    /// With no line yet.
+    fn new(alloc: Global) -> Progress
+        ensures { (c : TheCase) (s : TheStanding) → Knows c s [] result.shape result.marks result.sieve }
+    {
+        Progress {
+            shape: Shape::new(alloc),
+            marks: Marks::new(alloc),
+            sieve: Sieve::new(alloc),
+        }
+    }
+
+    /// One more line, if it may come behind the others.
+    fn take(&mut self, case: &Case, standing: &Standing, line: Line) -> Result<(), OutlineFault>
+        ensures ok { OnOk result ((ls : List Row) → Knows case.now standing.now ls self.old.shape self.old.marks self.old.sieve →
+            (is_outline (ls ++ line ∷ []) ≡ true) × Knows case.now standing.now (ls ++ line ∷ []) self.new.shape self.new.marks self.new.sieve) }
+        ensures bad { IfErr result (λ f. f ≡ BadOutline → (ls : List Row) → Knows case.now standing.now ls self.old.shape self.old.marks self.old.sieve →
+            is_outline (ls ++ line ∷ []) ≡ false) }
+    {
+        let fits = self.shape.accept(&line)?;
+        if !fits {
+            return Err(OutlineFault::BadOutline);
+        }
+        self.marks.note(&line)?;
+        self.sieve.take(case, standing, line)?;
+        Ok(())
+    }
+}
+
+/// A pass over lines that come one at a time, for a reader. It keeps those that matter to the reader. Contracts see its case,
+/// its standing, all lines so far and the fault that was answered, if any.
 #[derive(Drop)]
 pub struct RowPass {
     alloc: Global,
     case: Case,
     standing: Standing,
-    intake: Intake,
+    fed: Fed,
+    progress: Progress,
+    fault: Option<OutlineFault>,
 }
 
 impl Model for RowPass {
+    ghost use Rattle.std.specs.Prelude.{◌≡◌, None};
     ghost use Rattle.redact.specs.Feeding.{PassState};
+    ghost use Rattle.redact.specs.Sifted.{Knows};
 
     ghost Value = { PassState };
 
-    ghost view = { λ p. record { case = p.case; standing = p.standing; fed = p.intake } };
+    ghost view = { λ p. record { case = p.case; standing = p.standing; fed = record { lines = p.fed.lines; fault = p.fault } } };
+
+    ghost invariant = { λ p. p.fault ≡ None → Knows p.case p.standing p.fed.lines p.progress.shape p.progress.marks p.progress.sieve };
 }
 
 impl RowPass {
@@ -61,11 +112,14 @@ impl RowPass {
     pub fn new(alloc: Global, case: Case, standing: Standing) -> Result<RowPass, AllocError>
         ensures { IfOk result (λ p. p ≡ record { case = case; standing = standing; fed = record { lines = []; fault = None } }) }
     {
+        let progress = Progress::new(alloc);
         Ok(RowPass {
             alloc,
             case,
             standing,
-            intake: Intake::new(alloc),
+            fed: Fed::none(),
+            progress,
+            fault: None,
         })
     }
 
@@ -73,7 +127,20 @@ impl RowPass {
     pub fn feed(&mut self, line: Line) -> Result<(), OutlineFault>
         ensures { FeedsLine self.old line result self.new }
     {
-        self.intake.take(line)
+        if let Some(fault) = self.fault {
+            return Err(fault);
+        }
+        let fed = self.fed.with_line(&line);
+        match self.progress.take(&self.case, &self.standing, line) {
+            Ok(()) => {
+                self.fed = fed;
+                Ok(())
+            }
+            Err(fault) => {
+                self.fault = Some(fault);
+                Err(fault)
+            }
+        }
     }
 
     /// What the reader is served of the document with these lines; nothing of one whose markings aren't accepted.
@@ -89,9 +156,23 @@ impl RowPass {
             alloc,
             case,
             standing,
-            intake,
+            fed: _,
+            progress,
+            fault,
         } = self;
-        let document = intake.document(alloc)?;
-        Ok(excerpt_if_marked(alloc, &document, &case, &standing)?)
+        if let Some(fault) = fault {
+            return Err(fault);
+        }
+        let Progress {
+            shape: _,
+            marks,
+            sieve,
+        } = progress;
+        if !marks.are_accepted() {
+            return Ok(None);
+        }
+        let lines = sieve.into_lines();
+        let document = document_of(alloc, lines)?;
+        Ok(excerpt(alloc, &document, &case, &standing)?)
     }
 }

@@ -91,7 +91,7 @@ fn is_same(one: Token<'_>, other: Token<'_>) -> bool
 }
 
 /// Whether a name is the place in an array, as it is written.
-fn is_place(name: &str, place: usize) -> bool
+pub(crate) fn is_place(name: &str, place: usize) -> bool
     ensures { result ≡ bytes_eq name.now (decimal place) }
 {
     let mut digits = itoa::Buffer::new();

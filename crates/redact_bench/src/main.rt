@@ -5,14 +5,17 @@
 //! the pointer of an array: its first elements have so many gates for the source alone, and those behind them so many
 //! permissions for the reader. Prints how many classes are visible and how many pairs withheld; of a search `1 0` or `0 0`,
 //! whether something is found. A report that isn't accepted, or a second line that is no pointer, has status 1, and other
-//! words have status 2.
+//! words have status 2. `redact_bench fed LINES` and `redact_bench kept LINES`: a report with so many lines behind a gate, which is
+//! fed to a pass line by line, or kept and redacted; prints the same two counts.
 #![tactic(auto)]
 
 mod asked;
 mod case;
+mod lines;
 mod turns;
 
 use asked::{Asked, Call};
+use lines::{Way, told};
 use std::io::Read;
 use std::process::ExitCode;
 use std::{env, io};
@@ -20,9 +23,28 @@ use turns::{Answered, answer_in_turns};
 
 fn main(rt: HostRuntime) -> io::Result<ExitCode> {
     let words: Vec<String> = env::args(&rt)?.skip(1).collect(rt.alloc())?;
-    match Asked::of(words.as_slice()) {
-        Some(asked) => obeyed(&rt, asked),
-        None => Ok(ExitCode::from(2)),
+    match (Asked::of(words.as_slice()), lines_of(words.as_slice())) {
+        (Some(asked), _) => obeyed(&rt, asked),
+        (None, Some((way, hidden))) => print_lines(&rt, way, hidden),
+        (None, None) => Ok(ExitCode::from(2)),
+    }
+}
+
+/// Which lines these words ask for, and how they are taken.
+fn lines_of(words: &[String]) -> Option<(Way, u32)> {
+    match words {
+        [way, hidden] => Some((Way::of(way.as_str())?, hidden.parse::<u32>().ok()?)),
+        _ => None,
+    }
+}
+
+fn print_lines(rt: &HostRuntime, way: Way, hidden: u32) -> io::Result<ExitCode> {
+    match told(rt.alloc(), way, hidden)? {
+        Some((classes, withheld)) => {
+            println!(rt; "{classes} {withheld}")?;
+            Ok(ExitCode::from(0))
+        }
+        None => Ok(ExitCode::from(1)),
     }
 }
 

@@ -4,6 +4,7 @@ ghost use Rattle.std.specs.Prelude.{◌≡◌, None};
 ghost use Rattle.iodef_tree.specs.Paths.{located as entries_of};
 ghost use Rattle.marking.specs.Marks.{first_bad_marking};
 
+use crate::by_lines::agree_by_lines;
 use crate::documents::report_text;
 use crate::entry::{Entry, located};
 use crate::judged::{
@@ -50,7 +51,7 @@ fn same_line(one: &Line, other: &Line) -> bool {
         && one.text == other.text
 }
 
-fn same_lines(one: &[Line], other: &[Line]) -> bool {
+pub fn same_lines(one: &[Line], other: &[Line]) -> bool {
     one.len() == other.len()
         && one
             .iter()
@@ -281,7 +282,7 @@ fn agrees(
 }
 
 /// Any case over the classes of the document.
-fn case_over(alloc: Global, dice: &mut Dice, document: &Document) -> Result<Case, AllocError> {
+pub fn case_over(alloc: Global, dice: &mut Dice, document: &Document) -> Result<Case, AllocError> {
     let classes = document.classes(alloc)?;
     any_case(alloc, dice, &classes)
 }
@@ -335,7 +336,7 @@ fn document_of(alloc: Global, text: &str) -> Option<Document> {
 }
 
 /// The document of any report, if it is read.
-fn any_document(alloc: Global, dice: &mut Dice) -> Result<Option<Document>, AllocError> {
+pub fn any_document(alloc: Global, dice: &mut Dice) -> Result<Option<Document>, AllocError> {
     let text = report_text(alloc, dice)?;
     Ok(document_of(alloc, text.as_str()))
 }
@@ -344,5 +345,5 @@ fn any_document(alloc: Global, dice: &mut Dice) -> Result<Option<Document>, Allo
 pub fn agrees_at(alloc: Global, tally: &mut Tally, seed: u64) -> Result<bool, AllocError> {
     let mut dice = Dice::new(seed);
     let document = any_document(alloc, &mut dice)?;
-    agrees_on(alloc, tally, &mut dice, &document)
+    Ok(agrees_on(alloc, tally, &mut dice, &document)? && agree_by_lines(alloc, tally, seed)?)
 }

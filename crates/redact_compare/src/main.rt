@@ -1,8 +1,9 @@
 //! `redact_compare CASES`: compares `excerpt`, `is_listed` and `finds` with a plain, slow program, over so many generated
-//! reports, gates, permissions and readers. That program judges each path alone over the flat outline. A difference is told by its seed,
-//! with status 1.
+//! reports, gates, permissions and readers. That program judges each path alone over the flat outline. `RowPass` is compared with a
+//! pass that keeps all lines. A difference is told by its seed, with status 1.
 #![tactic(auto)]
 
+mod by_lines;
 mod compared;
 mod documents;
 mod entry;

@@ -42,6 +42,7 @@ const WANTED: &[&str] = &[
     "gates or permissions at plain members",
     "gates or permissions at nothing",
     "several at one path",
+    "excerpts by lines",
 ];
 
 const FLOOR: u32 = 50;

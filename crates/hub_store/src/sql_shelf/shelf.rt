@@ -1,11 +1,12 @@
 //! The tables as the hub's shelf.
 
-ghost use Rattle.std.specs.Prelude.{◌≡◌, ◌<◌};
+ghost use Rattle.std.specs.Prelude.{◌<◌};
 
 use super::SqlShelf;
 use crate::apply::apply;
 use crate::find_case::find_case;
 use crate::find_document::find_document;
+use crate::find_excerpt::find_excerpt;
 use crate::find_groups::find_groups;
 use crate::find_person::find_person;
 use crate::list_entries::list_entries;
@@ -16,6 +17,7 @@ use hub_core::{
 };
 use iodef_tree::Document;
 use policy::{Case, Standing};
+use redact::Excerpt;
 use sqlite::Alter;
 
 impl<S: Alter> Shelf for SqlShelf<S> {
@@ -54,6 +56,17 @@ impl<S: Alter> Shelf for SqlShelf<S> {
     fn document(&mut self, incident: u32) -> Result<Option<Document>, ShelfFault> {
         self.may_ask()?;
         let found = find_document(&mut self.conn, self.alloc, incident);
+        told(&mut self.failures, found)
+    }
+
+    fn excerpt(
+        &mut self,
+        incident: u32,
+        case: Case,
+        standing: Standing,
+    ) -> Result<Option<Excerpt>, ShelfFault> {
+        self.may_ask()?;
+        let found = find_excerpt(&mut self.conn, self.alloc, incident, case, standing);
         told(&mut self.failures, found)
     }
 

@@ -1,43 +1,41 @@
 use Rattle.std.proofs.Common.{◌≡◌, Option, Some, sym, ap, subst, ◌∙◌, arith}
 use Rattle.std.specs.Prelude.{option_map}
-use Rattle.redact.specs.Told.{excerpt_of}
 use Rattle.redact.specs.Excerpts.{told_by}
 use Rattle.redact.specs.declared.kept.Excerpt.{Excerpt}
 use Rattle.hub_core.specs.State.{incident_of}
-use Rattle.hub.proofs.Seeing.{marked, nothing_seen, is_seen}
+use Rattle.hub_core.specs.Reads.{served_of_incident}
+use Rattle.hub.proofs.Seeing.{marked_found, nothing_seen, is_seen}
 use Rattle.hub.proofs.view.view.Goals as goal
 
-pub returns-in_default-4-clause-value : goal.returns-in_default-4-clause-value
-returns-in_default-4-clause-value g c = λ clean s has sound there.
+pub returns-in_default-3-clause-value : goal.returns-in_default-3-clause-value
+returns-in_default-3-clause-value g c = λ clean s has sound there.
     let first = c.in_ok-standing.ensures in
     let next = c.in_ok-case.ensures in
-    let last = c.in_ok-document.ensures in
+    let last = c.in_ok-excerpt.ensures in
     let mid : g.Sh.Shelf.doubts c.case_of.new.shelf ≡ 0 = omega (arith, last.kept.doubt) in
     let before : g.Sh.Shelf.doubts c.standing.new.shelf ≡ 0 = omega (arith, mid, next.kept.doubt) in
     let here = first.kept.content before s has in
     let found = incident_of c.args.incident s in
-    let document = sym c.in-Some-3.is ∙ last.value clean s (next.kept.content mid s here) in
-    let P : Option Excerpt → Type 0 = λ r. option_map told_by r ≡ excerpt_of c.in-Some-3.document c.in-Some-2.case c.in-Some.standing in
-    nothing_seen s c.args.asker.now c.args.asker.person.now found c.in-Some.standing c.in-Some-2.case c.in-Some-3.document
-    (sym c.in-Some.is ∙ first.value before s has there) (sym c.in-Some-2.is ∙ next.value mid s here) document
-    (subst P c.in_default-4.is (c.in_ok-excerpt.ensures.told (marked s c.args.incident c.in-Some-3.document sound document)))
+    let P : Option Excerpt → Type 0 = λ r. option_map told_by r ≡ served_of_incident c.args.incident c.in-Some-2.case c.in-Some.standing s in
+    nothing_seen s c.args.asker.now c.args.asker.person.now found c.in-Some.standing c.in-Some-2.case (marked_found s c.args.incident sound)
+    (sym c.in-Some.is ∙ first.value before s has there) (sym c.in-Some-2.is ∙ next.value mid s here)
+    (subst P c.in_default-3.is (last.value clean s (next.kept.content mid s here)))
 
 pub returns-clause-value : goal.returns-clause-value
 returns-clause-value g c = λ clean s has sound there.
     let first = c.in_ok-standing.ensures in
     let next = c.in_ok-case.ensures in
-    let third = c.in_ok-document.ensures in
+    let third = c.in_ok-excerpt.ensures in
     let last = c.in_ok-entry.ensures in
-    let late : g.Sh.Shelf.doubts c.document_of.new.shelf ≡ 0 = omega (arith, last.kept.doubt) in
+    let late : g.Sh.Shelf.doubts c.excerpt_of.new.shelf ≡ 0 = omega (arith, last.kept.doubt) in
     let mid : g.Sh.Shelf.doubts c.case_of.new.shelf ≡ 0 = omega (arith, late, third.kept.doubt) in
     let before : g.Sh.Shelf.doubts c.standing.new.shelf ≡ 0 = omega (arith, mid, next.kept.doubt) in
     let here = first.kept.content before s has in
     let there-too = next.kept.content mid s here in
     let found = incident_of c.args.incident s in
-    let document = sym c.in-Some-3.is ∙ third.value late s there-too in
-    let P : Option Excerpt → Type 0 = λ r. option_map told_by r ≡ excerpt_of c.in-Some-3.document c.in-Some-2.case c.in-Some.standing in
+    let P : Option Excerpt → Type 0 = λ r. option_map told_by r ≡ served_of_incident c.args.incident c.in-Some-2.case c.in-Some.standing s in
     ap Some c.view_by.ensures
-    ∙ is_seen s c.args.asker.now c.args.asker.person.now found c.in-Some.standing c.in-Some-2.case c.in-Some-3.document c.in-Some-5.entry (told_by c.in-Some-4.excerpt)
-    (sym c.in-Some.is ∙ first.value before s has there) (sym c.in-Some-2.is ∙ next.value mid s here) document
-    (sym c.in-Some-5.is ∙ last.value clean s (third.kept.content late s there-too) sound)
-    (subst P c.in-Some-4.is (c.in_ok-excerpt.ensures.told (marked s c.args.incident c.in-Some-3.document sound document)))
+    ∙ is_seen s c.args.asker.now c.args.asker.person.now found c.in-Some.standing c.in-Some-2.case c.in-Some-4.entry (told_by c.in-Some-3.excerpt) (marked_found s c.args.incident sound)
+    (sym c.in-Some.is ∙ first.value before s has there) (sym c.in-Some-2.is ∙ next.value mid s here)
+    (sym c.in-Some-4.is ∙ last.value clean s (third.kept.content late s there-too) sound)
+    (subst P c.in-Some-3.is (third.value late s there-too))

@@ -1,7 +1,8 @@
 use Rattle.std.proofs.Common.{inl}
 use Rattle.sqlite.specs.Held.{state}
-use Rattle.hub_store.proofs.AnyVersion.{versions_same, told_by_rows, unread_reason}
-use Rattle.hub_store.proofs.Outcomes.{unchanged_keeps, failed_query}
+use Rattle.hub_store.specs.Versions.{version_text}
+use Rattle.hub_store.proofs.AnyVersion.{versions_same, once_told, told_by_rows, unread_reason}
+use Rattle.hub_store.proofs.Outcomes.{unchanged_keeps, failed_query, shown_up}
 use Rattle.hub_store.proofs.version.read_version.Goals as goal
 
 pub returns-in-Ok-clause-kept : goal.returns-in-Ok-clause-kept
@@ -10,6 +11,9 @@ returns-in-Ok-clause-kept g c clean = unchanged_keeps _ _ (inl (versions_same _ 
 pub returns-in-Ok-clause-exact : goal.returns-in-Ok-clause-exact
 returns-in-Ok-clause-exact g c clean is =
     told_by_rows (state g.S.Store c.args.tx.now.conn.now) (state g.S.Store c.query_all.new.self.conn.now) c.args.has_column c.in-Ok.rows.items c.only_number.result c.if-not-has_column.false is (c.in-Ok.ensures.ok clean) (rw c.deref.ensures.value at c.only_number.ensures.value)
+
+pub returns-in-Ok-clause-asked : goal.returns-in-Ok-clause-asked
+returns-in-Ok-clause-asked g c clean = once_told _ c.only_number.result (shown_up _ _ version_text _ _ (c.in-Ok.ensures.ok clean))
 
 pub returns-in-Err-clause-kept : goal.returns-in-Err-clause-kept
 returns-in-Err-clause-kept g c clean = unchanged_keeps _ _ (failed_query _ _ _ _ _ (c.in-Err.ensures.err clean))

@@ -1,6 +1,7 @@
 use Rattle.std.proofs.Common.{◌≡◌, ◌++◌, [], ◌∷◌, arith, rules}
 use Rattle.hub.proofs.Failures.{counted_on, failure_alone}
 use Rattle.hub.proofs.Runs.{goes_on, runs_sound}
+use Rattle.hub.proofs.Stopped.{stops_on}
 use Rattle.hub.proofs.hub.Hub.run.Goals as goal
 
 pub loop-one-preserved : goal.loop-one-preserved
@@ -26,4 +27,11 @@ loop-one-preserved g c =
           let step = c.step-reply.ensures.step clean mid.0 mid.2 whole in
           rw items (counted_on (shelf.failed c.args.self.now) (shelf.failed c.loop-one.self) (shelf.failed c.step-reply.new.self) earlier reply (c.loop-one.invariant.cause before s has sound) c.step-reply.ensures.later
           (λ tells. c.step-reply.ensures.cause clean mid.0 mid.2 whole (failure_alone mid.0 step.0 c.one-item.result reply step.1 tells)));
+      crash = λ clean s has sound.
+          let before : shelf.doubts c.loop-one.self ≡ 0 = omega (arith, c.step-reply.ensures.doubt) in
+          let mid = c.loop-one.invariant.told before s has sound in
+          let whole = runs_sound s mid.0 _ _ sound mid.1 in
+          let step = c.step-reply.ensures.step clean mid.0 mid.2 whole in
+          rw items (stops_on shelf.may_leave c.args.self.now c.loop-one.self c.step-reply.new.self s mid.0 step.0 c.args.asked.now c.loop-one.one-index c.one-item.result earlier reply c.one-item.is c.loop-one-test.true
+          mid.1 step.1 (c.loop-one.invariant.crash before s has sound) (c.step-reply.ensures.durable clean mid.0 mid.2 whole) (c.step-reply.ensures.crash clean mid.0 mid.2 whole));
     }

@@ -1,9 +1,11 @@
-use Rattle.std.proofs.Common.{◌≡◌, ◌≤◌, take, length, vec_len}
+use Rattle.std.proofs.Common.{◌≡◌, ◌⊎◌, ◌≤◌, false, Option, take, length, vec_len}
+use Rattle.std.specs.Option.{IsSomeAnd}
 use Rattle.std.specs.Vec.{vec_capacity}
 use Rattle.hub_core.specs.State.{State}
 use Rattle.hub_core.specs.Sound.{IsSound}
 use Rattle.hub.specs.Faults.{AreCounted, failures_told}
 use Rattle.hub.specs.Machine.{IsRun}
+use Rattle.hub.specs.Stops.{MayBeLeft, any_made}
 use Rattle.hub.proofs.hub.Hub.run.Given as goal
 
 abbrev pub invariant-loop-one : goal.invariant-loop-one
@@ -17,4 +19,6 @@ invariant-loop-one g l =
       told : shelf.doubts l.self ≡ 0 → (s : State) → shelf.has l.fn.self s → IsSound s
           → (mid : State) × IsRun s (take l.one-index l.asked) l.replies.items mid × shelf.has l.self mid;
       cause : shelf.doubts l.self ≡ 0 → (s : State) → shelf.has l.fn.self s → IsSound s → AreCounted (failures_told l.replies.items) (shelf.failed l.fn.self) (shelf.failed l.self);
+      crash : shelf.doubts l.self ≡ 0 → (s : State) → shelf.has l.fn.self s → IsSound s → (left : Option State) → shelf.may_leave l.self left
+          → (shelf.may_leave l.fn.self left × (any_made l.replies.items ≡ false)) ⊎ IsSomeAnd left (λ content. MayBeLeft s (take l.one-index l.asked) l.replies.items content);
     }

@@ -1,0 +1,81 @@
+#!/usr/bin/env python3
+"""The instructions of one post and of one view over HTTP, by the lines of the report: what a request more of the kind costs a
+running `serve`, counted by callgrind. The same for the same program and report, whatever else the machine does.
+
+usage: bench/requests.py [--program PATH] [--events 1,20,60]
+
+Wanted: Python 3 and valgrind. It takes some minutes.
+"""
+
+import argparse
+import http.client
+import importlib.util
+import pathlib
+import re
+import socket
+import subprocess
+import sys
+import tempfile
+
+HERE = pathlib.Path(__file__).resolve().parent
+MORE = 10
+
+
+def peer() -> object:
+    """bench/peer/bench.py, which makes the reports and knows the keys."""
+    spec = importlib.util.spec_from_file_location("peer_bench", HERE / "peer" / "bench.py")
+    assert spec is not None and spec.loader is not None
+    module = importlib.util.module_from_spec(spec)
+    text = (HERE / "peer" / "bench.py").read_text().replace("\nmain()\n", "\n")
+    exec(compile(text, str(HERE / "peer" / "bench.py"), "exec"), module.__dict__)
+    return module
+
+
+def ask(port: int, key: str, method: str, target: str, body: bytes = b"") -> bytes:
+    connection = http.client.HTTPConnection("127.0.0.1", port, timeout=600)
+    connection.request(method, target, body=body or None, headers={"Authorization": f"Bearer {key}"})
+    answer = connection.getresponse()
+    told = answer.read()
+    if answer.status != 200:
+        sys.exit(f"requests.py: {method} {target}: {answer.status} {told[:200]!r}")
+    return told
+
+
+def counted(program: str, made: object, events: int, posts: int, views: int) -> int:
+    """The instructions of `serve` over a new store, in which so many reports are posted and so many views are asked."""
+    with tempfile.TemporaryDirectory() as folder, socket.socket() as free:
+        store = f"{folder}/hub.db"
+        subprocess.run([program, "init", store, "Hub", made.DIGEST], check=True, stdout=subprocess.DEVNULL)
+        free.bind(("127.0.0.1", 0))
+        port = int(free.getsockname()[1])
+        free.close()
+        words = ["valgrind", "--tool=callgrind", f"--callgrind-out-file={folder}/out", program, "serve", store, str(port), str(1 + posts + views)]
+        server = subprocess.Popen(words, stdout=subprocess.PIPE, stderr=subprocess.PIPE, text=True)
+        assert server.stdout is not None and server.stderr is not None
+        server.stdout.readline()
+        ask(port, made.KEY, "POST", "/persons", ("org=1&name=poster&role=poster&key=" + made.POSTER).encode())
+        for number in range(1, posts + 1):
+            ask(port, "poster", "POST", "/incidents?level=3", made.document(number, events))
+        for number in range(1, views + 1):
+            ask(port, "poster", "GET", f"/incidents/{number % posts + 1}")
+        told = server.stderr.read()
+        server.wait()
+    return int(re.search(r"refs:\s+([\d,]+)", told)[1].replace(",", ""))
+
+
+def main() -> None:
+    words = argparse.ArgumentParser(description=(__doc__ or "").split("\n\n")[0])
+    words.add_argument("--program", default=str(HERE.parent / "out" / "iodef-hub"))
+    words.add_argument("--events", default="1,20,60")
+    said = words.parse_args()
+    made = peer()
+    print("| `EventData` classes | Bytes | A post | A view by its source |\n|---|---|---|---|")
+    for events in (int(each) for each in said.events.split(",")):
+        first = counted(said.program, made, events, 1, 0)
+        posts = counted(said.program, made, events, 1 + MORE, 0)
+        views = counted(said.program, made, events, 1, MORE)
+        print(f"| {events} | {len(made.document(1, events)):,} | {(posts - first) / MORE / 1e6:.2f} million | {(views - first) / MORE / 1e6:.2f} million |", flush=True)
+
+
+if __name__ == "__main__":
+    main()

@@ -1,0 +1,50 @@
+//! What a hub has, as its callers see it.
+
+use crate::requests::MOMENT;
+use hub::{Hub, Key};
+use hub_core::{Request, Shelf};
+use hub_http::reply_bytes;
+use std::alloc::{AllocError, Global};
+
+/// More incidents than a case has.
+const INCIDENTS: u32 = 2;
+
+fn readings(alloc: Global) -> Result<Vec<Request>, AllocError> {
+    let mut all = Vec::new(alloc);
+    all.push(Request::WhoAmI)?;
+    all.push(Request::MyGroups)?;
+    all.push(Request::List { after: 0 })?;
+    all.push(Request::Addressed { after: 0 })?;
+    for incident in 1..=INCIDENTS {
+        all.push(Request::View { incident })?;
+    }
+    Ok(all)
+}
+
+fn push_told<Sh: Shelf>(
+    all: &mut Vec<u8>,
+    alloc: Global,
+    hub: &mut Hub<Sh>,
+    key: &Key,
+    readings: &[Request],
+) -> Result<(), AllocError> {
+    for request in readings {
+        let reply = hub.answer(alloc, MOMENT, key, request);
+        all.extend_from_slice(&reply_bytes(alloc, &reply)?)?;
+    }
+    Ok(())
+}
+
+/// All that those with these keys are told of themselves, and of each incident.
+pub fn content<Sh: Shelf>(
+    alloc: Global,
+    hub: &mut Hub<Sh>,
+    keys: &[Key],
+) -> Result<Vec<u8>, AllocError> {
+    let readings = readings(alloc)?;
+    let mut all = Vec::new(alloc);
+    for key in keys {
+        push_told(&mut all, alloc, hub, key, &readings)?;
+    }
+    Ok(all)
+}

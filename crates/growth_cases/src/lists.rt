@@ -1,0 +1,233 @@
+//! Lists of requests, over both shelves.
+
+use crate::content::content;
+use crate::heap::{arm, disarm};
+use crate::requests::{Asked, keys};
+use crate::sweep::{Met, Trial};
+use crate::worlds::{in_lists, in_tables};
+use circle::refusal::{Code, Refusal};
+use hub::{Hub, Key};
+use hub_core::{Reply, Shelf};
+use hub_http::reply_bytes;
+use std::alloc::{AllocError, Global};
+
+/// What is due of a list.
+#[derive(Drop)]
+struct Due {
+    /// The bytes of each reply.
+    replies: Vec<Vec<u8>>,
+    /// What the hub has in the end.
+    content: Vec<u8>,
+}
+
+/// A list of requests, behind those of the world.
+#[derive(Drop)]
+pub struct List<'a> {
+    world: &'a [Asked],
+    own: &'a [Asked],
+    keys: Vec<Key>,
+    /// What is due where nothing is given up, and behind it where the first request is, the second, and so on.
+    due: Vec<Due>,
+    /// What is due where the list isn't run.
+    unrun: Due,
+}
+
+/// A list that is run over the shelf in memory.
+#[derive(Clone, Copy)]
+pub struct InLists<'a> {
+    pub list: &'a List<'a>,
+}
+
+/// A list that is run over tables.
+#[derive(Clone, Copy)]
+pub struct InTables<'a> {
+    pub list: &'a List<'a>,
+}
+
+/// Whether the request was given up for want of memory.
+fn is_given_up(reply: &Reply) -> bool {
+    match reply {
+        Reply::Refused(refusal) => refusal.code == Code::F2,
+        _ => false,
+    }
+}
+
+/// The bytes of each reply of a hub in memory, which isn't asked one of the requests.
+fn replies_but<Sh: Shelf>(
+    alloc: Global,
+    hub: &mut Hub<Sh>,
+    asked: &[Asked],
+    but: Option<usize>,
+) -> Result<Vec<Vec<u8>>, AllocError> {
+    let mut all = Vec::new(alloc);
+    for (i, (now, key, request)) in asked.iter().enumerate() {
+        let reply = if but == Some(i) {
+            Reply::Refused(Refusal::bare(alloc, Code::F2))
+        } else {
+            hub.answer(alloc, *now, key, request)
+        };
+        all.push(reply_bytes(alloc, &reply)?)?;
+    }
+    Ok(all)
+}
+
+/// What is due where one of the requests is given up; none where the world isn't made.
+fn due_but(
+    alloc: Global,
+    world: &[Asked],
+    own: &[Asked],
+    but: Option<usize>,
+) -> Result<Option<Due>, AllocError> {
+    let Some(mut hub) = in_lists(alloc, world)? else {
+        return Ok(None);
+    };
+    let replies = replies_but(alloc, &mut hub, own, but)?;
+    let content = content(alloc, &mut hub, &keys(alloc)?)?;
+    Ok(Some(Due { replies, content }))
+}
+
+/// What is due where nothing is given up, and where each request is.
+fn all_due(alloc: Global, world: &[Asked], own: &[Asked]) -> Result<Option<Vec<Due>>, AllocError> {
+    let mut all = Vec::new(alloc);
+    for place in 0..own.len().saturating_add(1) {
+        match due_but(alloc, world, own, place.checked_sub(1))? {
+            Some(due) => all.push(due)?,
+            None => return Ok(None),
+        }
+    }
+    Ok(Some(all))
+}
+
+/// The place of the first reply that isn't the one that is due.
+fn first_not_due(alloc: Global, replies: &[Reply], due: &Due) -> Result<Option<usize>, AllocError> {
+    if replies.len() != due.replies.len() {
+        return Ok(Some(replies.len()));
+    }
+    for (i, (reply, wanted)) in replies.iter().zip(due.replies.iter()).enumerate() {
+        if reply_bytes(alloc, reply)?.as_slice() != wanted.as_slice() {
+            return Ok(Some(i));
+        }
+    }
+    Ok(None)
+}
+
+/// What is told where nothing is wrong.
+fn right(alloc: Global, replies: &[Reply]) -> Result<String, AllocError> {
+    let count = replies.len();
+    format!(in alloc; "{count} replies")
+}
+
+impl<'a> List<'a> {
+    /// The list, and what is due; none where the world isn't made.
+    pub fn of(
+        alloc: Global,
+        world: &'a [Asked],
+        own: &'a [Asked],
+    ) -> Result<Option<List<'a>>, AllocError> {
+        let Some(unrun) = due_but(alloc, world, &[], None)? else {
+            return Ok(None);
+        };
+        let Some(due) = all_due(alloc, world, own)? else {
+            return Ok(None);
+        };
+        Ok(Some(List {
+            world,
+            own,
+            keys: keys(alloc)?,
+            due,
+            unrun,
+        }))
+    }
+
+    /// What is due behind these replies, by the first that was given up.
+    fn due_behind(&self, replies: &[Reply]) -> Option<&Due> {
+        match replies.iter().position(is_given_up) {
+            Some(place) => self.due.get(place.saturating_add(1)),
+            None => self.due.first(),
+        }
+    }
+
+    /// What is wrong with these replies and with what the hub has behind them; none where nothing is.
+    fn fault<Sh: Shelf + Drop>(
+        &self,
+        alloc: Global,
+        mut hub: Hub<Sh>,
+        replies: &[Reply],
+        due: &Due,
+    ) -> Result<Option<String>, AllocError> {
+        if let Some(i) = first_not_due(alloc, replies, due)? {
+            return Ok(Some(format!(in alloc; "reply {i}, from 0 on, isn't the one that is due")?));
+        }
+        let has = content(alloc, &mut hub, &self.keys)?;
+        if has.as_slice() != due.content.as_slice() {
+            return Ok(Some(String::from_str(alloc, "another content")?));
+        }
+        if hub.into_shelf().failures() > 0 {
+            return Ok(Some(String::from_str(alloc, "a failure of the shelf")?));
+        }
+        Ok(None)
+    }
+
+    /// Runs the list over a hub that has the world.
+    fn run_over<Sh: Shelf + Drop>(
+        &self,
+        alloc: Global,
+        mut hub: Hub<Sh>,
+        n: u32,
+    ) -> Result<Met, AllocError> {
+        arm(alloc, n);
+        let outcome = hub.run(alloc, self.own);
+        let refused = disarm(alloc);
+        let told = match outcome {
+            Ok(replies) => self.judged(alloc, hub, &replies, refused)?,
+            Err(_) => self.fault(alloc, hub, &[], &self.unrun)?,
+        };
+        Ok(Met { refused, told })
+    }
+
+    /// What is told of a list that was run; none where a request was given up and no growth refused.
+    fn judged<Sh: Shelf + Drop>(
+        &self,
+        alloc: Global,
+        hub: Hub<Sh>,
+        replies: &[Reply],
+        refused: bool,
+    ) -> Result<Option<String>, AllocError> {
+        if !refused && replies.iter().any(is_given_up) {
+            return Ok(None);
+        }
+        let Some(due) = self.due_behind(replies) else {
+            return Ok(Some(String::from_str(alloc, "more replies than requests")?));
+        };
+        match self.fault(alloc, hub, replies, due)? {
+            None => Ok(Some(right(alloc, replies)?)),
+            fault => Ok(fault),
+        }
+    }
+}
+
+/// What a run met before which the world wasn't made.
+fn no_world(alloc: Global) -> Result<Met, AllocError> {
+    Ok(Met {
+        refused: false,
+        told: Some(String::from_str(alloc, "no world")?),
+    })
+}
+
+impl Trial for InLists<'_> {
+    fn run(&self, alloc: Global, n: u32) -> Result<Met, AllocError> {
+        match in_lists(alloc, self.list.world)? {
+            Some(hub) => self.list.run_over(alloc, hub, n),
+            None => no_world(alloc),
+        }
+    }
+}
+
+impl Trial for InTables<'_> {
+    fn run(&self, alloc: Global, n: u32) -> Result<Met, AllocError> {
+        match in_tables(alloc, self.list.world)? {
+            Some(hub) => self.list.run_over(alloc, hub, n),
+            None => no_world(alloc),
+        }
+    }
+}

@@ -1,0 +1,127 @@
+//! What is asked of a report for a reader.
+
+ghost use Rattle.std.specs.Prelude.{◌≡◌, None};
+ghost use Rattle.iodef_tree.specs.Paths.{located};
+ghost use Rattle.marking.specs.Marks.{first_bad_marking};
+
+use crate::documents::met;
+use crate::heap::arm;
+use crate::sweep::{Met, Trial};
+use explain::{ExplainFault, explain};
+use iodef_tree::{Document, Path};
+use policy::{Case, Rule, Standing};
+use redact::{Excerpt, excerpt, finds, is_listed};
+use std::alloc::{AllocError, Global};
+use trying_hub::Fields;
+use trying_policy::{Report, Unfit, case_of, said, standing_of};
+
+/// The source of each case.
+const SOURCE: u32 = 2;
+
+/// Who asks of a report, and by what it is judged.
+#[derive(Drop)]
+pub struct Asker {
+    pub standing: Standing,
+    pub case: Case,
+}
+
+impl Asker {
+    /// Of the next three words: the reader, the gates and the permissions.
+    pub fn of(alloc: Global, fields: &mut Fields<'_>) -> Result<Asker, Unfit> {
+        Ok(Asker {
+            standing: standing_of(alloc, fields.word())?,
+            case: case_of(alloc, SOURCE, fields.word(), fields.word())?,
+        })
+    }
+}
+
+/// What a line asks of a report.
+#[derive(Drop)]
+pub struct Asking<'a> {
+    pub report: &'a Report,
+    pub asker: Asker,
+    /// `excerpt`, `listed`, `find` or `explain`.
+    pub kind: &'a str,
+    /// What is looked for, or the pointer of a class.
+    pub word: &'a str,
+    /// In which classes it is looked for; empty for all.
+    pub class: &'a str,
+}
+
+fn push_pair(all: &mut String, alloc: Global, place: &Path, rule: Rule) -> Result<(), AllocError> {
+    let pointer = place.print(alloc)?;
+    let rule = rule.name();
+    let pair = format!(in alloc; " {pointer}:{rule}")?;
+    all.push_str(pair.as_str())
+}
+
+/// How many classes are visible, the document, and each withheld pair.
+pub fn shown(alloc: Global, excerpt: &Excerpt) -> Result<String, Unfit> {
+    let classes = excerpt.classes;
+    let text = excerpt.document.text(alloc)?;
+    let mut all = format!(in alloc; "{classes} {text}")?;
+    for (place, rule) in &excerpt.withheld {
+        push_pair(&mut all, alloc, place, *rule)?;
+    }
+    Ok(all)
+}
+
+fn served(alloc: Global, document: &Document, asker: &Asker) -> Result<String, Unfit>
+    requires { first_bad_marking (located document.now) ≡ None }
+{
+    match excerpt(alloc, document, &asker.case, &asker.standing)? {
+        Some(excerpt) => shown(alloc, &excerpt),
+        None => said(alloc, "none"),
+    }
+}
+
+fn explained(
+    alloc: Global,
+    document: &Document,
+    asker: &Asker,
+    pointer: &str,
+) -> Result<String, Unfit>
+    requires { first_bad_marking (located document.now) ≡ None }
+{
+    let path = Path::parse(alloc, pointer)?;
+    match explain(alloc, document, &asker.case, &asker.standing, &path) {
+        Ok(trace) => Ok(trace.text(alloc)?),
+        Err(ExplainFault::NoClass) => Err(Unfit::NoClass),
+        Err(ExplainFault::NoMemory) => Err(Unfit::NoMemory),
+    }
+}
+
+fn truth(alloc: Global, holds: bool) -> Result<String, Unfit> {
+    said(alloc, if holds { "yes" } else { "no" })
+}
+
+impl Asking<'_> {
+    fn finds(&self, alloc: Global, document: &Document) -> Result<bool, AllocError> {
+        let Asker { case, standing } = &self.asker;
+        let class = if self.class.is_empty() {
+            None
+        } else {
+            Some(self.class)
+        };
+        finds(alloc, document, case, standing, self.word, class)
+    }
+
+    fn answer(&self, alloc: Global) -> Result<String, Unfit> {
+        let document = self.report.document()?;
+        let Asker { case, standing } = &self.asker;
+        match self.kind {
+            "excerpt" => served(alloc, document, &self.asker),
+            "listed" => truth(alloc, is_listed(alloc, document, case, standing)?),
+            "find" => truth(alloc, self.finds(alloc, document)?),
+            _ => explained(alloc, document, &self.asker, self.word),
+        }
+    }
+}
+
+impl Trial for Asking<'_> {
+    fn run(&self, alloc: Global, n: u32) -> Result<Met, AllocError> {
+        arm(alloc, n);
+        let answer = self.answer(alloc);
+        met(alloc, answer)
+    }
+}

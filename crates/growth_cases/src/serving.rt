@@ -1,0 +1,140 @@
+//! Connections that are served over memory.
+
+use crate::content::content;
+use crate::heap::{arm, disarm};
+use crate::requests::MOMENT;
+use crate::sweep::{Met, Trial};
+use crate::wire::{body_of, hub_behind, keys_shown, written};
+use circle::refusal::{Code, Refusal};
+use hub::{Hub, Key};
+use hub_core::{ListShelf, Reply};
+use hub_http::{ServeFault, Served, reply_bytes, serve_one};
+use std::alloc::{AllocError, Global};
+
+/// More bytes than a reply of the cases has, so that writing it takes no memory.
+const ROOM: usize = 65_536;
+
+/// A request that is served, and what is due.
+#[derive(Drop)]
+pub struct Serving<'a> {
+    before: &'a [Vec<u8>],
+    bytes: &'a [u8],
+    keys: Vec<Key>,
+    /// What is written for it.
+    first: Vec<u8>,
+    /// And where it is asked again.
+    second: Vec<u8>,
+    /// What is written where it is given up.
+    given_up: Vec<u8>,
+    /// What the hub has behind it.
+    content: Vec<u8>,
+}
+
+/// What came of a connection.
+#[derive(Clone, Copy, PartialEq, Eq)]
+enum Outcome {
+    /// The reply that is due was written.
+    Due,
+    /// The request was given up: nothing is changed.
+    GivenUp,
+    /// Nothing was written: it may be changed or not.
+    NoMemory,
+    Wrong,
+}
+
+impl<'a> Serving<'a> {
+    /// The request behind these, and what is due; none where there is no hub.
+    pub fn of(
+        alloc: Global,
+        before: &'a [Vec<u8>],
+        bytes: &'a [u8],
+    ) -> Result<Option<Serving<'a>>, AllocError> {
+        let Some(mut hub) = hub_behind(alloc, before)? else {
+            return Ok(None);
+        };
+        let keys = keys_shown(alloc)?;
+        let first = written(alloc, &mut hub, bytes)?;
+        let content = content(alloc, &mut hub, &keys)?;
+        let second = written(alloc, &mut hub, bytes)?;
+        let refused = Reply::Refused(Refusal::bare(alloc, Code::F2));
+        let given_up = reply_bytes(alloc, &refused)?;
+        Ok(Some(Serving {
+            before,
+            bytes,
+            keys,
+            first,
+            second,
+            given_up,
+            content,
+        }))
+    }
+
+    fn outcome(&self, served: Result<Served, ServeFault>, out: &[u8]) -> Outcome {
+        match served {
+            Ok(Served::Answered) if out == self.first.as_slice() => Outcome::Due,
+            Ok(Served::Answered) if out == self.given_up.as_slice() => Outcome::GivenUp,
+            Err(ServeFault::NoMemory) if out.is_empty() => Outcome::NoMemory,
+            _ => Outcome::Wrong,
+        }
+    }
+
+    /// Whether this may be written where it is asked again behind such an outcome.
+    fn may_follow(&self, outcome: Outcome, again: &[u8]) -> bool {
+        again == self.first.as_slice()
+            || outcome == Outcome::NoMemory && again == self.second.as_slice()
+    }
+
+    /// What is due: the bodies of both replies.
+    fn due(&self, alloc: Global) -> Result<String, AllocError> {
+        let (first, second) = (body_of(&self.first), body_of(&self.second));
+        format!(in alloc; "{first} and again {second}")
+    }
+
+    /// What is told behind an outcome, where it is asked again if it wasn't answered.
+    fn told(
+        &self,
+        alloc: Global,
+        hub: &mut Hub<ListShelf>,
+        outcome: Outcome,
+    ) -> Result<String, AllocError> {
+        if outcome == Outcome::Wrong {
+            return String::from_str(alloc, "another answer");
+        }
+        if outcome != Outcome::Due {
+            let again = written(alloc, hub, self.bytes)?;
+            if !self.may_follow(outcome, &again) {
+                let body = body_of(&again);
+                return format!(in alloc; "asked again {body}");
+            }
+        }
+        if content(alloc, hub, &self.keys)?.as_slice() != self.content.as_slice() {
+            return String::from_str(alloc, "another content");
+        }
+        self.due(alloc)
+    }
+}
+
+impl Trial for Serving<'_> {
+    fn run(&self, alloc: Global, n: u32) -> Result<Met, AllocError> {
+        let Some(mut hub) = hub_behind(alloc, self.before)? else {
+            return Ok(Met {
+                refused: false,
+                told: None,
+            });
+        };
+        let mut reader = self.bytes;
+        let mut out: Vec<u8> = Vec::with_capacity(alloc, ROOM)?;
+        arm(alloc, n);
+        let served = serve_one(alloc, &mut reader, &mut out, &mut hub, MOMENT);
+        let refused = disarm(alloc);
+        let outcome = self.outcome(served, &out);
+        if outcome != Outcome::Due && !refused {
+            return Ok(Met {
+                refused,
+                told: None,
+            });
+        }
+        let told = Some(self.told(alloc, &mut hub, outcome)?);
+        Ok(Met { refused, told })
+    }
+}

@@ -1,0 +1,84 @@
+//! One run for each growth of a case.
+
+use std::alloc::{AllocError, Global};
+
+/// More growths than a case has.
+const MOST_RUNS: u32 = 10_000_000;
+
+/// What came of one run of a case.
+#[derive(Drop)]
+pub struct Met {
+    /// Whether a growth was refused in it.
+    pub refused: bool,
+    /// The answer, or none where it was want of memory.
+    pub told: Option<String>,
+}
+
+/// A case, which can be run again and again.
+pub trait Trial {
+    /// Runs it with the n-th growth of its call refused, or none for 0. What is told without a refusal is due in each run.
+    fn run(&self, alloc: Global, n: u32) -> Result<Met, AllocError>;
+}
+
+/// Refuses growths of cases: of each the first, and from there on each so many further.
+#[derive(Clone, Copy)]
+pub struct Sweep {
+    pub first: u32,
+    pub step: u32,
+    /// How many growths were refused so far.
+    pub growths: u64,
+    /// And in how many runs.
+    pub runs: u64,
+}
+
+/// Want of memory is right where a growth was refused, and else the answer that is due.
+fn is_right(met: &Met, due: &str) -> bool {
+    match &met.told {
+        Some(told) => told.as_str() == due,
+        None => met.refused,
+    }
+}
+
+/// The first line of an answer.
+fn head_of(answer: &str) -> &str {
+    match answer.split_once('\n') {
+        Some((head, _)) => head,
+        None => answer,
+    }
+}
+
+fn wrong(alloc: Global, n: u32, met: &Met) -> Result<String, AllocError> {
+    let told = match &met.told {
+        Some(told) => head_of(told.as_str()),
+        None => "no memory, and no growth refused",
+    };
+    format!(in alloc; "growth {n}: {told}")
+}
+
+impl Sweep {
+    fn count(&mut self, refused: bool) {
+        self.runs = self.runs.saturating_add(1);
+        self.growths = self.growths.saturating_add(u64::from(refused));
+    }
+
+    /// What is printed of a case: whether each growth that was refused was told, or the first that wasn't.
+    pub fn told<T: Trial>(&mut self, alloc: Global, trial: &T) -> Result<String, AllocError> {
+        let Some(due) = trial.run(alloc, 0)?.told else {
+            return String::from_str(alloc, "no memory");
+        };
+        let mut n = self.first;
+        for _ in 0..MOST_RUNS {
+            let met = trial.run(alloc, n)?;
+            self.count(met.refused);
+            if !is_right(&met, due.as_str()) {
+                return wrong(alloc, n, &met);
+            }
+            if !met.refused {
+                let head = head_of(due.as_str());
+                return format!(in alloc; "every growth told: {head}");
+            }
+            n = n.saturating_add(self.step);
+        }
+        String::from_str(alloc, "more growths than expected")
+    }
+}

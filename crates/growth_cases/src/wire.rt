@@ -1,0 +1,103 @@
+//! Requests as bytes: what they ask.
+
+use crate::content::content;
+use crate::heap::{arm, disarm};
+use crate::requests::MOMENT;
+use crate::sweep::{Met, Trial};
+use hub::{Hub, Key};
+use hub_core::{ListShelf, Request};
+use hub_http::{Served, WireFault, key_of_text, reply_bytes, request_of, serve_one};
+use std::alloc::{AllocError, Global};
+use trying::written_out;
+use trying_hub::{ABC, first_shelf};
+
+/// The bytes of a line, in which `\n` stands for CR and LF.
+pub fn bytes_of(alloc: Global, line: &str) -> Result<Vec<u8>, AllocError> {
+    let line = written_out(alloc, line)?;
+    let mut all = Vec::new(alloc);
+    for piece in line.as_str().split("\\n") {
+        if !all.is_empty() {
+            all.extend_from_slice(b"\r\n")?;
+        }
+        all.extend_from_slice(piece.as_bytes())?;
+    }
+    Ok(all)
+}
+
+/// The keys of those who ask by bytes.
+pub fn keys_shown(alloc: Global) -> Result<Vec<Key>, AllocError> {
+    let mut keys = Vec::new(alloc);
+    for text in ["abc", "key-2", "key-3"] {
+        keys.push(key_of_text(text.as_bytes()))?;
+    }
+    Ok(keys)
+}
+
+/// What the hub writes for these bytes; nothing where they weren't answered.
+pub fn written(
+    alloc: Global,
+    hub: &mut Hub<ListShelf>,
+    bytes: &[u8],
+) -> Result<Vec<u8>, AllocError> {
+    let mut reader = bytes;
+    let mut out: Vec<u8> = Vec::new(alloc);
+    match serve_one(alloc, &mut reader, &mut out, hub, MOMENT) {
+        Ok(Served::Answered) => Ok(out),
+        _ => Ok(Vec::new(alloc)),
+    }
+}
+
+/// The hub in memory behind these requests.
+pub fn hub_behind(alloc: Global, before: &[Vec<u8>]) -> Result<Option<Hub<ListShelf>>, AllocError> {
+    let Some(shelf) = first_shelf(alloc, ABC)? else {
+        return Ok(None);
+    };
+    let mut hub = Hub::new(shelf);
+    for bytes in before {
+        written(alloc, &mut hub, bytes)?;
+    }
+    Ok(Some(hub))
+}
+
+/// The bytes behind the head of a reply.
+pub fn body_of(reply: &[u8]) -> &str {
+    let text = str::from_utf8(reply).unwrap_or("no text");
+    match text.split_once("\r\n\r\n") {
+        Some((_, body)) => body,
+        None => "no answer",
+    }
+}
+
+/// Bytes of which it is told what they ask, by what a hub answers and has then.
+#[derive(Clone, Copy)]
+pub struct Bytes<'a> {
+    pub before: &'a [Vec<u8>],
+    pub bytes: &'a [u8],
+}
+
+impl Bytes<'_> {
+    fn told(&self, alloc: Global, key: &Key, request: &Request) -> Result<String, AllocError> {
+        let Some(mut hub) = hub_behind(alloc, self.before)? else {
+            return String::from_str(alloc, "no hub");
+        };
+        let reply = hub.answer(alloc, MOMENT, key, request);
+        let bytes = reply_bytes(alloc, &reply)?;
+        let has = content(alloc, &mut hub, &keys_shown(alloc)?)?;
+        let (body, has) = (body_of(&bytes), str::from_utf8(&has).unwrap_or("no text"));
+        format!(in alloc; "{body}\n{has}")
+    }
+}
+
+impl Trial for Bytes<'_> {
+    fn run(&self, alloc: Global, n: u32) -> Result<Met, AllocError> {
+        arm(alloc, n);
+        let outcome = request_of(alloc, self.bytes);
+        let refused = disarm(alloc);
+        let told = match outcome {
+            Ok((key, request)) => Some(self.told(alloc, &key, &request)?),
+            Err(WireFault::NoMemory) => None,
+            Err(fault) => Some(format!(in alloc; "{fault:?}")?),
+        };
+        Ok(Met { refused, told })
+    }
+}

@@ -1,0 +1,173 @@
+//! The hub over tables whose statements may take only so many steps.
+
+use crate::tables::begun;
+use crate::told::reply;
+use crate::world::requests_of;
+use hub::{Hub, Key};
+use hub_core::{ListShelf, Request};
+use hub_store::SqlShelf;
+use sqlite::MemStore;
+use std::alloc::{AllocError, Global};
+use trying_hub::{first_shelf, key_of};
+
+/// More steps than a statement of a case takes.
+const MOST_STEPS: u64 = 100_000;
+
+/// What everybody looks at behind a request that was given up.
+const LOOKS: [&str; 8] = [
+    "p2|List|0",
+    "p2|View|1",
+    "p3|List|0",
+    "p3|View|1",
+    "p4|List|0",
+    "p4|View|1",
+    "p6|List|0",
+    "p6|View|1",
+];
+
+/// When who asks what.
+type Asked = (i64, Key, Request);
+
+/// Tables and a hub in memory that are asked the same, but for what the tables gave up.
+#[derive(Drop)]
+struct Trial {
+    tables: SqlShelf<MemStore>,
+    plain: Hub<ListShelf>,
+    /// How many requests were given up.
+    interruptions: u64,
+    /// How many answers of the tables were other ones.
+    differences: u64,
+}
+
+/// What the tables answer within so many steps a statement; 0 is no limit.
+fn answer_within(
+    alloc: Global,
+    mut tables: SqlShelf<MemStore>,
+    steps: u64,
+    asked: &Asked,
+) -> Result<(String, SqlShelf<MemStore>), AllocError> {
+    tables.limit_steps(steps);
+    let mut hub = Hub::new(tables);
+    let (now, key, request) = asked;
+    let told = reply(alloc, &hub.answer(alloc, *now, key, request))?;
+    let mut again = hub.into_shelf();
+    again.limit_steps(0);
+    Ok((told, again))
+}
+
+impl Trial {
+    /// With one more answer of the tables, which is to be that of the hub in memory.
+    fn compare(&mut self, alloc: Global, told: &str, asked: &Asked) -> Result<(), AllocError> {
+        let (now, key, request) = asked;
+        let other = reply(alloc, &self.plain.answer(alloc, *now, key, request))?;
+        if other.as_str() != told {
+            self.differences = self.differences.saturating_add(1);
+        }
+        Ok(())
+    }
+}
+
+/// Asks once; tells whether the tables gave up, which they may where the steps are limited.
+fn asked_within(
+    alloc: Global,
+    trial: Trial,
+    steps: u64,
+    asked: &Asked,
+) -> Result<(bool, Trial), AllocError> {
+    let Trial {
+        tables,
+        plain,
+        interruptions,
+        differences,
+    } = trial;
+    let (told, tables) = answer_within(alloc, tables, steps, asked)?;
+    let mut trial = Trial {
+        tables,
+        plain,
+        interruptions,
+        differences,
+    };
+    if steps > 0 && told.as_str() == "F1" {
+        trial.interruptions = trial.interruptions.saturating_add(1);
+        return Ok((true, trial));
+    }
+    trial.compare(alloc, told.as_str(), asked)?;
+    Ok((false, trial))
+}
+
+/// Asks with no limit.
+fn asked_freely(alloc: Global, trial: Trial, asked: &[Asked]) -> Result<Trial, AllocError> {
+    let mut trial = trial;
+    for one in asked {
+        trial = asked_within(alloc, trial, 0, one)?.1;
+    }
+    Ok(trial)
+}
+
+/// Asks each within the limit. Where the tables give up, everybody sees what stood before, and with no limit the same request
+/// is answered.
+fn asked_all(
+    alloc: Global,
+    trial: Trial,
+    steps: u64,
+    looks: &[Asked],
+    asked: &[Asked],
+) -> Result<Trial, AllocError> {
+    let mut trial = trial;
+    for one in asked {
+        let (is_given_up, after) = asked_within(alloc, trial, steps, one)?;
+        trial = after;
+        if is_given_up {
+            trial = asked_freely(alloc, trial, looks)?;
+            trial = asked_within(alloc, trial, 0, one)?.1;
+        }
+    }
+    Ok(trial)
+}
+
+/// What comes of the requests within so many steps a statement; none where the tables aren't made.
+fn tried(
+    alloc: Global,
+    steps: u64,
+    world: &[Asked],
+    asked: &[Asked],
+) -> Result<Option<Trial>, AllocError> {
+    let Some(tables) = begun(alloc)? else {
+        return Ok(None);
+    };
+    let Some(shelf) = first_shelf(alloc, key_of(1))? else {
+        return Ok(None);
+    };
+    let trial = Trial {
+        tables,
+        plain: Hub::new(shelf),
+        interruptions: 0,
+        differences: 0,
+    };
+    let looks = requests_of(alloc, &LOOKS, None)?;
+    let trial = asked_freely(alloc, trial, world)?;
+    Ok(Some(asked_all(alloc, trial, steps, &looks, asked)?))
+}
+
+/// Limits the steps of a statement to one, two and so on, until no request behind those of the world is given up.
+pub fn limited(alloc: Global, lines: &[&str], world: usize) -> Result<&'static str, AllocError> {
+    let requests = requests_of(alloc, lines, None)?;
+    let (first, asked) = requests.as_slice().split_at(world.min(requests.len()));
+    for steps in 1..MOST_STEPS {
+        match tried(alloc, steps, first, asked)? {
+            None => return Ok("the tables failed"),
+            Some(trial) if trial.differences > 0 => {
+                return Ok("an interrupted statement changed more than its own answer");
+            }
+            Some(trial) if trial.interruptions == 0 => {
+                return Ok(if steps > 1 {
+                    "F1 for each interrupted statement, and all else as if it hadn't been asked"
+                } else {
+                    "no statement was interrupted"
+                });
+            }
+            Some(_) => {}
+        }
+    }
+    Ok("more steps than expected")
+}

@@ -1,0 +1,132 @@
+-- The statements that lead from version 1 to version 2.
+use Rattle.std.proofs.Common.{◌≡◌, ◌+◌, ◌<◌, ℕ, pos, List, [], ◌∷◌, ◌++◌, drop, take, length, get_or, true, map, Ok, codes, refl, sym, ap, subst, ◌∙◌}
+use Rattle.std.specs.List.Sorted.{IsPermutation}
+use Rattle.std.proofs.lemmas.List.{take_more, map-append}
+use Rattle.std.proofs.lemmas.List.Sorted.{IsPermutation-refl, IsPermutation-append_comm}
+use Rattle.sqlite_value.specs.declared.value.Value.TheVariants.{Null, Int, Text}
+use Rattle.sqlite_value.specs.Order.{Row}
+use Rattle.sqlite_sql.specs.Term.{lit, col}
+use Rattle.sqlite_tied.specs.Compute.{everything}
+use Rattle.sqlite_catalog.specs.Change.{created, without_table}
+use Rattle.sqlite.specs.Listing.{understood}
+use Rattle.sqlite.specs.State as sql
+use Rattle.sqlite.specs.State.{Executes}
+use Rattle.hub_core.specs.State.{State}
+use Rattle.hub_core.specs.declared.state.Naming.{Naming}
+use Rattle.iodef_tree.specs.declared.line.Line.{Line}
+use Rattle.hub_store.specs.Items.{item_row, items_of, line_shown, kind_number}
+use Rattle.hub_store.specs.Rows.{naming_row, named_row}
+use Rattle.hub_store.specs.Fit.{IsFit}
+use Rattle.hub_store.specs.Means.{HoldsAs}
+use Rattle.hub_store.specs.Tables.{schema_by, beside_item, without_incident, up_to_permission, hub_table, incident_table, item_table, incident_table_2}
+use Rattle.hub_store.specs.Parts.{Part, schema_of, HoldsParts}
+use Rattle.hub_store.specs.Layout.{without_rowids, common, incident_part, item_part, incident_part_2, parts_1, with_items, without_incidents, tables_2, unversioned_2}
+use Rattle.hub_store.proofs.Causes.{IsCreation, naming}
+use Rattle.hub_store.proofs.Creates.{made_by}
+use Rattle.hub_store.proofs.Drops.{dropped_by}
+use Rattle.hub_store.proofs.DropCauses.{IsDropping}
+use Rattle.hub_store.proofs.Compare.{cast_int, cast_null, cast_flag}
+use Rattle.hub_store.proofs.Parts.{drops, adds}
+use Rattle.hub_store.proofs.PartRows.{Stands, puts, puts_whole, takes}
+use Rattle.hub_store.proofs.Texts.{put_line, put_naming, put_version, line_terms}
+
+-- the schema that the statements of version 1 make is that of its parts
+first_version : (s : State) → created up_to_permission incident_table ≡ schema_of (parts_1 s)
+first_version s = refl
+
+-- and so is the schema after the three statements
+second_version : (s : State) (items incidents : List Row) → created (without_table (created (schema_by 1) item_table) 18) incident_table_2 ≡ schema_of (tables_2 2 items incidents s)
+second_version s items incidents = refl
+
+abbrev pub create_item : List ℕ
+create_item = codes "CREATE TABLE item (incident INTEGER NOT NULL, place INTEGER NOT NULL, depth INTEGER NOT NULL, name TEXT NOT NULL, in_array INTEGER NOT NULL, kind INTEGER NOT NULL, text TEXT NOT NULL, UNIQUE (incident, place)) STRICT"
+
+pub item_creation : IsCreation (schema_by 1) create_item item_table
+unfolding understood everything naming
+item_creation = record { command = refl; text = refl; defined = refl; whole = (refl, refl, refl, refl); unsequenced = refl; utf8 = ((create_item, (refl, refl)), (item_table.name, (refl, refl))); new = refl }
+
+pub makes_item : (old new : sql.State) (s : State) (count : ℕ) → Executes create_item [] old new (Ok count) → HoldsParts (parts_1 s) old.now → HoldsParts (with_items [] s) new.now
+makes_item old new s count h has = adds (parts_1 s) (item_part []) item_table _ _ refl refl refl (made_by old new create_item (schema_of (parts_1 s)) item_table has.known item_creation count h) has
+
+abbrev pub drop_incident : List ℕ
+drop_incident = codes "DROP TABLE incident"
+
+pub drops_incident : (old new : sql.State) (s : State) (items : List Row) (count : ℕ) → Executes drop_incident [] old new (Ok count) → HoldsParts (with_items items s) old.now → HoldsParts (without_incidents items s) new.now
+unfolding understood everything
+drops_incident old new s items count h has =
+    let p = incident_part s in
+    drops (common 1 s) p (item_part items ∷ []) _ _ refl (dropped_by old new drop_incident (schema_of (with_items items s)) 9 p.table has.known refl refl refl refl (refl, refl) count h) has
+
+-- what is dropped where no table has a row
+pub incident_dropping : IsDropping beside_item drop_incident 9 (record incident_table { tree = 18 })
+unfolding understood everything
+incident_dropping = record { command = refl; listed = refl; quiet = refl; uncounted = refl; whole = (refl, refl, refl, refl); unreferred = (refl, (refl, (refl, (refl, (refl, (refl, (refl, (refl, (refl, (refl, (refl, tt))))))))))) }
+
+abbrev pub create_incident_2 : List ℕ
+create_incident_2 = codes "CREATE TABLE incident (number INTEGER PRIMARY KEY, source INTEGER NOT NULL, ident TEXT NOT NULL, revision INTEGER NOT NULL, UNIQUE (source, ident)) STRICT"
+
+pub incident_creation_2 : IsCreation without_incident create_incident_2 incident_table_2
+unfolding understood everything naming
+incident_creation_2 = record { command = refl; text = refl; defined = refl; whole = (refl, refl, refl, refl); unsequenced = refl; utf8 = ((create_incident_2, (refl, refl)), (incident_table_2.name, (refl, refl))); new = refl }
+
+pub makes_incident : (old new : sql.State) (s : State) (items : List Row) (count : ℕ) → Executes create_incident_2 [] old new (Ok count) → HoldsParts (without_incidents items s) old.now → HoldsParts (tables_2 1 items [] s) new.now
+makes_incident old new s items count h has =
+    adds (without_incidents items s) (incident_part_2 []) incident_table_2 _ _ refl refl refl (made_by old new create_incident_2 (schema_of (without_incidents items s)) incident_table_2 has.known incident_creation_2 count h) has
+
+-- ---- rows are moved
+
+-- the table of the lines stands last, beside the tables of version 1
+pub stands_items : (s : State) (items : List Row) → Stands (common 1 s ++ incident_part s ∷ []) (item_part items) [] 10
+stands_items s items = record { listed = refl; uncounted = refl; timeless = refl; alone = λ tree olds news. refl; apart = refl; same = λ rows. refl }
+
+pub moves_line : (old new : sql.State) (incident place : ℕ) (line : Line) (s : State) (items more : List Row) → IsPermutation (item_row (record { incident = incident; place = place; line = line }) ∷ items) more → (count : ℕ)
+    → Executes put_line (Int (pos incident) ∷ Int (pos place) ∷ line_shown line) old new (Ok count) → HoldsParts (with_items items s) old.now → HoldsParts (with_items more s) new.now
+unfolding understood everything
+moves_line old new incident place line s items more same count h has =
+    let row = item_row (record { incident = incident; place = place; line = line }) in
+    puts (common 1 s ++ incident_part s ∷ []) (item_part items) [] 10 (stands_items s items) put_line _ old new (refl, refl) count h has (line_terms 1) 8 refl (Null ∷ row) refl (rw (cast_int incident, cast_int place, cast_int line.depth, cast_flag line.in_array, cast_int (kind_number line.kind), cast_null) refl) row (λ rows. refl) more same
+
+stands_incidents : (s : State) (items incidents : List Row) → Stands (common 1 s ++ item_part items ∷ []) (incident_part_2 incidents) [] 10
+stands_incidents s items incidents = record { listed = refl; uncounted = refl; timeless = refl; alone = λ tree olds news. refl; apart = refl; same = λ rows. refl }
+
+pub moves_naming : (old new : sql.State) (naming : Naming) (s : State) (items incidents more : List Row) → IsPermutation (naming_row naming ∷ incidents) more → (count : ℕ)
+    → Executes put_naming (Int (pos naming.number) ∷ Int (pos naming.source) ∷ Text naming.ident ∷ Int (pos naming.revision) ∷ []) old new (Ok count) → HoldsParts (tables_2 1 items incidents s) old.now → HoldsParts (tables_2 1 items more s) new.now
+unfolding understood everything
+moves_naming old new naming s items incidents more same count h has =
+    puts (common 1 s ++ item_part items ∷ []) (incident_part_2 incidents) [] 10 (stands_incidents s items incidents) put_naming _ old new (refl, refl) count h has (col 0 0 ∷ lit Null ∷ col 0 1 ∷ col 0 2 ∷ col 0 3 ∷ []) 5 refl (naming_row naming) refl
+    (rw (cast_int naming.number, cast_int naming.source, cast_int naming.revision, cast_null) refl) (naming_row naming) (λ rows. refl) more same
+
+-- ---- the version is exchanged
+
+-- the parts of version 2 behind the first
+abbrev rest_2 : List Row → List Row → State → List Part
+rest_2 items incidents s = drop 1 (tables_2 0 items incidents s)
+
+stands_first : (rows items incidents : List Row) (s : State) → Stands [] (without_rowids 0 hub_table rows) (rest_2 items incidents s) 0
+stands_first rows items incidents s = record { listed = refl; uncounted = refl; timeless = refl; alone = λ tree olds news. refl; apart = refl; same = λ rows. refl }
+
+abbrev pub take_version : List ℕ
+take_version = codes "DELETE FROM hub"
+
+pub takes_version : (old new : sql.State) (version : ℕ) (s : State) (items incidents : List Row) (count : ℕ) → Executes take_version [] old new (Ok count) → HoldsParts (tables_2 version items incidents s) old.now → HoldsParts (unversioned_2 items incidents s) new.now
+unfolding understood everything
+takes_version old new version s items incidents count h has =
+    takes [] (without_rowids 0 hub_table ((Int (pos version) ∷ []) ∷ [])) (rest_2 items incidents s) 0 (stands_first _ items incidents s) take_version [] old new (refl, refl) count h has [] refl (λ r. true) (λ r. refl) [] refl
+
+pub puts_version_2 : (old new : sql.State) (s : State) (count : ℕ) → IsFit s → Executes put_version (Int (pos 2) ∷ []) old new (Ok count) → HoldsParts (unversioned_2 (map item_row (items_of s)) (map named_row s.incidents) s) old.now → HoldsAs 2 new.now s
+unfolding understood everything
+puts_version_2 old new s count fit h has =
+    let items = map item_row (items_of s) in
+    let incidents = map named_row s.incidents in
+    let first = without_rowids 0 hub_table [] in
+    let rest = rest_2 items incidents s in
+    let stands = stands_first [] items incidents s in
+    let put = puts [] first rest 0 stands put_version _ old new (refl, refl) count h has (lit Null ∷ col 0 0 ∷ []) 2 refl (Null ∷ Int (pos 2) ∷ []) refl (rw (cast_int 2, cast_null) refl) (Int (pos 2) ∷ []) (λ rows. refl) ((Int (pos 2) ∷ []) ∷ []) (IsPermutation-refl _) in
+    record { known = put.known; whole = puts_whole [] first rest 0 stands put_version _ old new (refl, refl) count h has (lit Null ∷ col 0 0 ∷ []) 2 refl; means = put.means; fit = fit }
+
+-- one more of a list, whose rows are put one after another
+pub one_more : {X : Type 0} (row : X → Row) (xs : List X) (i : ℕ) (x : X) → i < length xs → x ≡ get_or xs i x → IsPermutation (row x ∷ map row (take i xs)) (map row (take (i + 1) xs))
+one_more row xs i x low is =
+    let longer : take (i + 1) xs ≡ take i xs ++ x ∷ [] = take_more xs i x low ∙ ap (λ y. take i xs ++ y ∷ []) (sym is) in
+    subst (λ l. IsPermutation (row x ∷ map row (take i xs)) (map row l)) (sym longer)
+    (subst (IsPermutation (row x ∷ map row (take i xs))) (sym (map-append row (take i xs) (x ∷ []))) (IsPermutation-append_comm (row x ∷ []) (map row (take i xs))))

@@ -1,0 +1,30 @@
+-- What a migration has moved, document by document.
+use Rattle.std.proofs.Common.{◌≡◌, ℕ, [], ◌∷◌, ◌++◌, map, Some, None, sym, ap, subst, ◌∙◌, arith}
+use Rattle.std.proofs.lemmas.List.{map-append}
+use Rattle.std.proofs.lemmas.List.Sorted.{IsPermutation-append_comm}
+use Rattle.hub_core.specs.State.{State}
+use Rattle.hub_core.specs.Sound.{IsSound}
+use Rattle.hub_core.specs.declared.state.Incident.{Incident}
+use Rattle.hub_store.specs.Items.{items_in, item_row}
+use Rattle.hub_store.specs.Moving.{incident_above, incidents_up_to, naming_in}
+use Rattle.hub_store.specs.PutsLines.{HasMore}
+use Rattle.hub_store.proofs.Items.{items_put}
+use Rattle.hub_store.proofs.OldTexts.{none_up_to, up_to_next, up_to_all}
+
+pub none_moved : (s : State) → IsSound s → incidents_up_to 0 s ≡ []
+none_moved s sound = none_up_to 0 0 s.incidents (omega arith) sound.incidents.numbered.0
+
+-- the lines of the next document come in
+pub next_more : (s : State) (number : ℕ) (i : Incident) → IsSound s → incident_above number s ≡ Some i
+    → HasMore i.naming.number 1 i.document (map item_row (items_in (incidents_up_to number s))) (map item_row (items_in (incidents_up_to i.naming.number s)))
+next_more s number i sound is =
+    let before = incidents_up_to number s in
+    subst (λ after. HasMore i.naming.number 1 i.document (map item_row (items_in before)) (map item_row (items_in after))) (sym (up_to_next number 0 s.incidents i sound.incidents.numbered.0 is))
+    (items_put i before (before ++ i ∷ []) (IsPermutation-append_comm (i ∷ []) before))
+
+-- and what else its row holds is kept
+pub next_kept : (s : State) (number : ℕ) (i : Incident) → IsSound s → incident_above number s ≡ Some i → naming_in (incidents_up_to i.naming.number s) ≡ naming_in (incidents_up_to number s) ++ i.naming ∷ []
+next_kept s number i sound is = ap naming_in (up_to_next number 0 s.incidents i sound.incidents.numbered.0 is) ∙ map-append (λ (j : Incident). j.naming) (incidents_up_to number s) (i ∷ [])
+
+pub all_moved : (s : State) (number : ℕ) → incident_above number s ≡ None → incidents_up_to number s ≡ s.incidents
+all_moved s number none = up_to_all number s.incidents none

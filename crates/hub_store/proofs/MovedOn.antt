@@ -1,0 +1,57 @@
+-- How a migration comes from one version to the next, by what its calls make.
+use Rattle.std.proofs.Common.{◌≡◌, ℕ, List, [], ◌∷◌, ◌++◌, map, Some, None, Ok, IsTrue, sym, ap, subst, ◌∙◌}
+use Rattle.sqlite_trees.proofs.ListLemmas.{map-map}
+use Rattle.sqlite.specs.Effect.{Database}
+use Rattle.sqlite.specs.State.{State, HasCleanDisk}
+use Rattle.hub_core.specs.Sound.{IsSound}
+use Rattle.hub_core.specs.State as core
+use Rattle.hub_core.specs.State.{empty}
+use Rattle.hub_core.specs.declared.state.Incident.{Incident}
+use Rattle.hub_core.specs.declared.state.Naming.{Naming}
+use Rattle.hub_store.specs.Fit.{IsFit}
+use Rattle.hub_store.specs.Items.{items_in, items_of, item_row}
+use Rattle.hub_store.specs.Layout.{parts_1, with_items}
+use Rattle.hub_store.specs.Means.{HoldsAs}
+use Rattle.hub_store.specs.Moving.{HasTexts, HoldsMoved, HoldsNext, incident_above, naming_in}
+use Rattle.hub_store.specs.Parts.{HoldsParts}
+use Rattle.hub_store.specs.PutsLines.{PutsLines}
+use Rattle.hub_store.specs.Rows.{naming_row, named_row}
+use Rattle.hub_store.proofs.Moved.{none_moved, next_more, next_kept, all_moved}
+
+-- the lines of the next document are put, and what else its row holds is kept
+pub one_moved : {T : Type 0} {x : T} (mid new : State) (number : ℕ) (kept : List Naming) (s : core.State) (i : Incident) → HasTexts s → Some i ≡ incident_above number s → HoldsMoved number kept mid.now s
+    → PutsLines i.naming.number 1 i.document mid new (Ok x) → HasCleanDisk new → IsTrue mid.in_transaction → HoldsNext number (kept ++ i.naming ∷ []) (Some i.naming.number) new.now s
+one_moved mid new number kept s i has is before puts clean inside = record {
+  moved = (puts.moved s _ _ (next_more s number i has.sound (sym is))).made clean inside before.moved;
+  are_kept = ap (λ l. l ++ i.naming ∷ []) before.are_kept ∙ sym (next_kept s number i has.sound (sym is));
+}
+
+-- there is no next
+pub none_left : (db : Database) (number : ℕ) (kept : List Naming) (s : core.State) → None ≡ incident_above number s → HoldsMoved number kept db s → HoldsNext number kept None db s
+none_left db number kept s is before = (before, all_moved s number (sym is))
+
+-- before the first
+pub moved_none : (db : Database) (s : core.State) → HasTexts s → HoldsParts (with_items [] s) db → HoldsMoved 0 [] db s
+moved_none db s has holds = record {
+  moved = subst (λ is. HoldsParts (with_items (map item_row (items_in is)) s) db) (sym (none_moved s has.sound)) holds;
+  are_kept = sym (ap naming_in (none_moved s has.sound));
+}
+
+-- behind the last
+pub moved_all : (db : Database) (number : ℕ) (kept : List Naming) (s : core.State) → HoldsNext number kept None db s → HoldsParts (with_items (map item_row (items_of s)) s) db × (kept ≡ naming_in s.incidents)
+moved_all db number kept s h =
+    (subst (λ is. HoldsParts (with_items (map item_row (items_in is)) s) db) h.1 h.0.moved, h.0.are_kept ∙ ap naming_in h.1)
+
+-- ---- version 1
+
+pub tables_of_1 : (db : Database) (s : core.State) → HoldsAs 1 db s → HoldsParts (parts_1 s) db
+tables_of_1 db s held = record { known = held.known; means = held.means }
+
+pub texts_of_1 : (db : Database) (s : core.State) → IsSound s → HoldsAs 1 db s → HasTexts s
+texts_of_1 db s sound held = record { sound = sound; texts = held.fit.1 }
+
+pub rows_of_namings : (kept : List Naming) (is : List Incident) → kept ≡ naming_in is → map naming_row kept ≡ map named_row is
+rows_of_namings kept is same = ap (map naming_row) same ∙ map-map naming_row (λ (i : Incident). i.naming) is
+
+pub fit_empty : IsFit empty
+fit_empty = record { orgs = tt; accounts = tt; communities = tt; groups = tt; gates = tt }

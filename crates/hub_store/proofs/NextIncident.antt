@@ -1,0 +1,81 @@
+-- The query of the next incident of version 1, while the table of the lines stands beside its tables.
+use Rattle.std.proofs.Common.{◌≡◌, ℕ, pos, List, [], ◌∷◌, map, codes, false, Option, Result, IfOk, refl, sym, ap, subst, ◌∙◌}
+use Rattle.std.proofs.lemmas.Result.{IfOk-weaker}
+use Rattle.sqlite_value.specs.declared.value.Value.TheVariants.{Null, Int}
+use Rattle.sqlite_value.specs.Order.{Row}
+use Rattle.sqlite_trees.specs.declared.store.Store as store
+use Rattle.sqlite_trees.proofs.ListLemmas.{all-slice_get}
+use Rattle.sqlite_sql.specs.Query.{IsAnswer}
+use Rattle.sqlite_schema.specs.declared.command.Command.TheVariants.{Select}
+use Rattle.sqlite_tied.specs.Compute.{everything}
+use Rattle.sqlite.specs.declared.error.Error.{Error}
+use Rattle.sqlite.specs.Effect.{Database}
+use Rattle.sqlite.specs.Held.{Held, state}
+use Rattle.sqlite.specs.Listing.{understood, reads_listing}
+use Rattle.sqlite.specs.State.{HasCleanDisk, IsUnchanged, Shown, Survives}
+use Rattle.sqlite.proofs.Callers.{IsPlain, command_of, reads_as, unchanged_then}
+use Rattle.hub_core.specs.State as core
+use Rattle.hub_core.specs.declared.state.Incident.{Incident}
+use Rattle.hub_store.specs.Holdings.{IsHeld}
+use Rattle.hub_store.specs.Layout.{incident_part, with_items}
+use Rattle.hub_store.specs.Makes.{Makes}
+use Rattle.hub_store.specs.Moving.{ShowsIncident, HasTexts, incident_above}
+use Rattle.hub_store.specs.Parts.{held, HoldsParts}
+use Rattle.hub_store.specs.Queries.{HasShown}
+use Rattle.hub_store.specs.Shown.{ShowsFirst}
+use Rattle.hub_store.specs.Tables.{beside_item}
+use Rattle.hub_store.proofs.Forms.{program}
+use Rattle.hub_store.proofs.Inside.{goes_asked}
+use Rattle.hub_store.proofs.OldTexts.{next_query, next_listed, reads_next}
+use Rattle.hub_store.proofs.Outcomes.{plain_shown}
+use Rattle.hub_store.proofs.Statements.{overlaid}
+use Rattle.hub_store.proofs.Steps.{on_any}
+
+abbrev pub next_incident : List ℕ
+next_incident = codes "SELECT number, source, ident, revision, text FROM incident WHERE number > ?1 ORDER BY number LIMIT 1"
+
+abbrev heads : List (List ℕ)
+heads = codes "number" ∷ codes "source" ∷ codes "ident" ∷ codes "revision" ∷ codes "text" ∷ []
+
+next_is : command_of (understood beside_item next_incident) ≡ Select (program next_query) heads
+unfolding understood everything
+next_is = refl
+
+next_plain : IsPlain (understood beside_item next_incident) × (reads_listing beside_item next_incident ≡ false)
+unfolding understood everything
+next_plain = ((refl, refl), refl)
+
+module _ {S : Type 0} (g : store.Ghosts S) (params : Row) (old new : Held S) (rows : List Row) (known : (state g old).now.schema ≡ beside_item) (it : HasShown g next_incident params old new rows) where
+  still_known : (state g it.mid).now.schema ≡ beside_item
+  still_known = ap (λ (d : Database). d.schema) it.same.0.now_is ∙ known
+
+  -- nothing has changed
+  next_same : IsUnchanged (state g old) (state g new)
+  unfolding Shown
+  next_same =
+      let h = it.shown in
+      let is = sym h.1.is ∙ ap (λ s. understood s next_incident) still_known in
+      unchanged_then _ _ _ it.same (plain_shown (state g it.mid) (state g new) next_incident h.0 _ rows h.0.returning (subst IsPlain (sym is) next_plain.0).0 h.2)
+
+  -- the rows are an answer
+  next_answer : IsAnswer next_query (state g old).now.trees params rows
+  next_answer =
+      subst (λ (d : Database). IsAnswer next_query d.trees params rows) it.same.0.now_is
+      (subst (λ t. IsAnswer next_query t params rows) (overlaid (state g it.mid).now.trees) ((reads_as next_incident params (state g it.mid) (state g new) beside_item still_known (Select (program next_query) heads) next_is next_plain.0 next_plain.1 rows it.shown).answer Null))
+
+-- all tables are as they were
+pub next_keeps : {S : Type 0} (g : store.Ghosts S) (params : Row) (old new : Held S) (rows : List Row) {T : Type 0} (result : Result T Error) (s : core.State) (items : List Row) → Survives (state g old) (state g new) (λ _. ⊥) → (HasCleanDisk (state g new) → HasShown g next_incident params old new rows)
+    → Makes (state g old) (state g new) (HoldsParts (with_items items s)) (HoldsParts (with_items items s)) result
+next_keeps g params old new rows result s items survives shown = record {
+  goes = goes_asked g next_incident params old new rows result survives shown;
+  made = λ clean inside has. on_any result _ (subst (HoldsParts (with_items items s)) (sym (next_same g params old new rows has.known (shown clean)).0.now_is) has);
+}
+
+-- what the first row is read as is the next incident
+pub next_found : {S : Type 0} (g : store.Ghosts S) (number : ℕ) (old new : Held S) (rows : List Row) (result : Result (Option Incident) Error) (s : core.State) (items : List Row) → HasShown g next_incident (Int (pos number) ∷ []) old new rows → HasTexts s → HoldsParts (with_items items s) (state g old).now
+    → IfOk result (λ found. ShowsFirst ShowsIncident rows found) → IfOk result (λ found. found ≡ incident_above number s)
+next_found g number old new rows result s items it has holds read =
+    let answer = next_answer g (Int (pos number) ∷ []) old new rows holds.known it in
+    let incidents = all-slice_get (IsHeld (state g old).now.trees) (map held (with_items items s)) 9 (held (incident_part s)) refl holds.means in
+    let listed = next_listed (state g old).now.trees s number rows has.sound incidents answer in
+    IfOk-weaker result _ _ (λ found shows. reads_next s number rows found has listed shows) read

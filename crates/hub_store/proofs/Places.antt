@@ -1,0 +1,126 @@
+-- Where each table of the newest version stands, by its name among the parts: the meaning of a text, and what a statement changes, cite these and no number.
+use Rattle.std.proofs.Common.{◌≡◌, ℕ, zero, suc, List, [], ◌∷◌, slice_get, Some, unwrap_or, codes, subst}
+use Rattle.std.specs.List.{AllByRecursion, position_from}
+use Rattle.std.specs.Str.{bytes_eq}
+use Rattle.sqlite_trees.specs.Tree.{Trees}
+use Rattle.sqlite_schema.specs.declared.schema.Table.{Table}
+use Rattle.hub_core.specs.State.{State}
+use Rattle.hub_store.specs.Tables.{hub_schema, hub_table}
+use Rattle.hub_store.specs.Holdings.{Holding, IsHeld}
+use Rattle.hub_store.specs.Means.{holdings, Means}
+
+abbrev pub place_named : List ℕ → ℕ
+place_named name = unwrap_or (position_from (λ (t : Table). bytes_eq t.name name) 0 hub_schema.tables) 0
+
+abbrev pub table_at : ℕ → Table
+table_at at = unwrap_or (slice_get hub_schema.tables at) hub_table
+
+abbrev pub hub_place : ℕ
+hub_place = place_named (codes "hub")
+
+abbrev pub hubs : Table
+hubs = table_at hub_place
+
+abbrev pub hub_tree : ℕ
+hub_tree = hubs.tree
+
+abbrev pub org_place : ℕ
+org_place = place_named (codes "org")
+
+abbrev pub orgs : Table
+orgs = table_at org_place
+
+abbrev pub org_tree : ℕ
+org_tree = orgs.tree
+
+abbrev pub person_place : ℕ
+person_place = place_named (codes "person")
+
+abbrev pub persons : Table
+persons = table_at person_place
+
+abbrev pub person_tree : ℕ
+person_tree = persons.tree
+
+abbrev pub community_place : ℕ
+community_place = place_named (codes "community")
+
+abbrev pub communities : Table
+communities = table_at community_place
+
+abbrev pub community_tree : ℕ
+community_tree = communities.tree
+
+abbrev pub grp_place : ℕ
+grp_place = place_named (codes "grp")
+
+abbrev pub groups : Table
+groups = table_at grp_place
+
+abbrev pub grp_tree : ℕ
+grp_tree = groups.tree
+
+abbrev pub pair_place : ℕ
+pair_place = place_named (codes "pair")
+
+abbrev pub pairs : Table
+pairs = table_at pair_place
+
+abbrev pub pair_tree : ℕ
+pair_tree = pairs.tree
+
+abbrev pub gate_place : ℕ
+gate_place = place_named (codes "gate")
+
+abbrev pub gates : Table
+gates = table_at gate_place
+
+abbrev pub gate_tree : ℕ
+gate_tree = gates.tree
+
+abbrev pub recipient_place : ℕ
+recipient_place = place_named (codes "recipient")
+
+abbrev pub recipients : Table
+recipients = table_at recipient_place
+
+abbrev pub recipient_tree : ℕ
+recipient_tree = recipients.tree
+
+abbrev pub permission_place : ℕ
+permission_place = place_named (codes "permission")
+
+abbrev pub permissions : Table
+permissions = table_at permission_place
+
+abbrev pub permission_tree : ℕ
+permission_tree = permissions.tree
+
+abbrev pub item_place : ℕ
+item_place = place_named (codes "item")
+
+abbrev pub items : Table
+items = table_at item_place
+
+abbrev pub item_tree : ℕ
+item_tree = items.tree
+
+abbrev pub incident_place : ℕ
+incident_place = place_named (codes "incident")
+
+abbrev pub incidents : Table
+incidents = table_at incident_place
+
+abbrev pub incident_tree : ℕ
+incident_tree = incidents.tree
+
+-- ---- what one table holds
+
+held_among : {db : Trees} (at : ℕ) (hs : List Holding) (h : Holding) → slice_get hs at ≡ Some h → AllByRecursion (IsHeld db) hs → IsHeld db h
+held_among at [] h is all = absurd cc
+held_among {db} zero (x ∷ hs) h is all = let same : x ≡ h = cc in subst (IsHeld db) same all.0
+held_among (suc at) (x ∷ hs) h is all = held_among at hs h is all.1
+
+-- of parts that are written out, `refl` finds the premise
+pub held_of : {db : Trees} (s : State) (at : ℕ) (h : Holding) → slice_get (holdings s) at ≡ Some h → Means db s → IsHeld db h
+held_of s at h is means = held_among at (holdings s) h is means

@@ -1,0 +1,94 @@
+-- Lines that are put by one call and then by another.
+use Rattle.std.proofs.Common.{◌≡◌, ◌+◌, ◌<◌, ℕ, suc, List, [], ◌∷◌, ◌++◌, map, take, get_or, length, Result, Ok, Err, OnOk, IsErrAnd, sym, ap, subst, ◌∙◌, arith, append_assoc}
+use Rattle.std.specs.List.Sorted.{IsPermutation}
+use Rattle.std.proofs.lemmas.List.{map-append, take_more, length-take-le}
+use Rattle.std.proofs.lemmas.List.Sorted.{IsPermutation-trans, IsPermutation-refl}
+use Rattle.sqlite_value.specs.Order.{Row}
+use Rattle.sqlite.specs.declared.error.Error.{Error}
+use Rattle.sqlite.specs.State.{State}
+use Rattle.iodef_tree.specs.declared.line.Line.{Line}
+use Rattle.hub_core.specs.Documents.{Lines}
+use Rattle.hub_store.specs.Items.{items_from, item_row}
+use Rattle.hub_store.specs.Layout.{newest, common, incident_part, item_part, incident_part_2}
+use Rattle.hub_store.specs.Keeps.{Goes}
+use Rattle.hub_store.specs.Makes.{Makes}
+use Rattle.hub_store.specs.PutsLines.{PutsLines, HasMore}
+use Rattle.hub_store.proofs.Items.{past_both}
+use Rattle.hub_store.proofs.PartRows.{exchanged_rows}
+use Rattle.hub_store.proofs.Steps.{makes_then, on_any, kept_itself, survives_itself}
+
+pub as_far : (k : ℕ) → k ≡ k + 0
+as_far k = omega arith
+
+pub one_further : (k m : ℕ) → suc k + m ≡ k + suc m
+one_further k m = omega arith
+
+pub items_then : (n place : ℕ) (ls ms : Lines) → items_from n place (ls ++ ms) ≡ items_from n place ls ++ items_from n (place + length ls) ms
+items_then n place [] ms = ap (λ k. items_from n k ms) (as_far place)
+items_then n place (l ∷ ls) ms =
+    ap (λ rest. record { incident = n; place = place; line = l } ∷ rest) (items_then n (suc place) ls ms ∙ ap (λ k. items_from n (suc place) ls ++ items_from n k ms) (one_further place (length ls)))
+
+rows_then : (n place : ℕ) (ls ms : Lines) → map item_row (items_from n place (ls ++ ms)) ≡ map item_row (items_from n place ls) ++ map item_row (items_from n (place + length ls) ms)
+rows_then n place ls ms = ap (map item_row) (items_then n place ls ms) ∙ map-append item_row (items_from n place ls) (items_from n (place + length ls) ms)
+
+-- where the first are in, the others come in behind them
+pub more_then : (n place : ℕ) (ls ms : Lines) (items more : List Row) → HasMore n place (ls ++ ms) items more → HasMore n (place + length ls) ms (map item_row (items_from n place ls) ++ items) more
+more_then n place ls ms items more same =
+    let first = map item_row (items_from n place ls) in
+    let second = map item_row (items_from n (place + length ls) ms) in
+    IsPermutation-trans _ _ _ (past_both second first items) (subst (λ l. IsPermutation l more) (ap (λ l. l ++ items) (rows_then n place ls ms) ∙ append_assoc first second items) same)
+
+any_makes : {T : Type 0} {a b : State} {result : Result T Error} → Goes a b result → Makes a b (λ _. Unit {0}) (λ _. Unit {0}) result
+any_makes {result = result} goes = record { goes = goes; made = λ _ _ _. on_any result (Unit {0}) tt }
+
+pub puts_then : {T U : Type 0} (a b c : State) (x : T) (result : Result U Error) (n place : ℕ) (ls ms : Lines) → PutsLines n place ls a b (Ok x) → PutsLines n (place + length ls) ms b c result → PutsLines n place (ls ++ ms) a c result
+puts_then a b c x result n place ls ms one two = record {
+  goes = (makes_then a b c (λ _. Unit {0}) (λ _. Unit {0}) (λ _. Unit {0}) x result (any_makes one.goes) (any_makes two.goes)).goes;
+  edited = λ s incidents items more same.
+      let mid = map item_row (items_from n place ls) ++ items in
+      makes_then a b c _ _ _ x result (one.edited s incidents items mid (IsPermutation-refl mid)) (two.edited s incidents mid more (more_then n place ls ms items more same));
+  moved = λ s items more same.
+      let mid = map item_row (items_from n place ls) ++ items in
+      makes_then a b c _ _ _ x result (one.moved s items mid (IsPermutation-refl mid)) (two.moved s mid more (more_then n place ls ms items more same));
+}
+
+pub puts_then_at : {T U : Type 0} (a b c : State) (x : T) (result : Result U Error) (n place at : ℕ) (ls ms : Lines) → at ≡ place + length ls → PutsLines n place ls a b (Ok x) → PutsLines n at ms b c result → PutsLines n place (ls ++ ms) a c result
+puts_then_at a b c x result n place at ls ms is one two = puts_then a b c x result n place ls ms one (subst (λ k. PutsLines n k ms b c result) is two)
+
+-- one more of a list, whose lines are put one after another
+pub puts_more : {T U : Type 0} (a b c : State) (x : T) (result : Result U Error) (n place at i : ℕ) (ls : Lines) (l : Line) → i < length ls → l ≡ get_or ls i l → at ≡ place + i → PutsLines n place (take i ls) a b (Ok x) → PutsLines n at (l ∷ []) b c result
+    → PutsLines n place (take (i + 1) ls) a c result
+puts_more a b c x result n place at i ls l low is behind one two =
+    let longer : take (i + 1) ls ≡ take i ls ++ l ∷ [] = take_more ls i l low ∙ ap (λ y. take i ls ++ y ∷ []) (sym is) in
+    let long : length (take i ls) ≡ i = length-take-le i ls (omega (arith, low)) in
+    subst (λ all. PutsLines n place all a c result) (sym longer) (puts_then_at a b c x result n place at (take i ls) (l ∷ []) (behind ∙ ap (λ k. place + k) (sym long)) one two)
+
+-- what is passed on of a call that failed
+pub puts_not : {T U : Type 0} (a b : State) (e : Error) (result : Result U Error) (n place : ℕ) (ls : Lines) → IsErrAnd result (λ y. y ≡ e) → Goes {T = T} a b (Err e) → PutsLines n place ls a b result
+puts_not {T} {U} a b e result n place ls is goes =
+    let own : Goes a b result = record { kept = goes.kept; inside = λ _ _. only_err _ result is; survives = goes.survives } in
+    record {
+      goes = own;
+      edited = λ s incidents items more same. record { goes = own; made = λ _ _ _. only_err _ result is };
+      moved = λ s items more same. record { goes = own; made = λ _ _ _. only_err _ result is };
+    }
+  where
+    only_err : (X : Type 0) (r : Result U Error) → IsErrAnd r (λ y. y ≡ e) → OnOk r X
+    only_err X (Ok x) is = absurd is
+    only_err X (Err y) is = tt
+
+-- no line is put
+pub puts_none : (a : State) (n place : ℕ) → PutsLines {T = Unit {0}} n place [] a a (Ok tt)
+puts_none a n place =
+    let goes : Goes {T = Unit {0}} a a (Ok tt) = record { kept = λ _ _. kept_itself a; inside = λ _ inside. (inside, λ up. up); survives = survives_itself a } in
+    record {
+      goes = goes;
+      edited = λ s incidents items more same. record {
+        goes = goes;
+        made = λ _ _ between. record { known = between.known; whole = between.whole; means = exchanged_rows _ (common newest s) (item_part items) (incident_part_2 incidents ∷ []) more same between.means; fit = between.fit };
+      };
+      moved = λ s items more same. record {
+        goes = goes;
+        made = λ _ _ has. record { known = has.known; means = exchanged_rows _ (common 1 s ++ incident_part s ∷ []) (item_part items) [] more same has.means };
+      };
+    }

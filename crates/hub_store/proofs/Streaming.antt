@@ -1,0 +1,131 @@
+-- The query of an incident's lines outside a transaction, whose rows are fed to a pass one at a time.
+use Rattle.std.proofs.Common.{◌≡◌, inl, inr, ℕ, pos, List, [], ◌∷◌, ◌++◌, unwrap_or, Option, Some, None, option_map, Result, Ok, Err, OnErr, IsErrAnd, IsTrue, refl, sym, ap, subst, ◌∙◌}
+use Rattle.sqlite_value.specs.declared.value.Value.TheVariants.{Int}
+use Rattle.sqlite_value.specs.Order.{Row}
+use Rattle.sqlite_trees.specs.declared.store.Store as store
+use Rattle.sqlite_trees.specs.Tree.{Trees}
+use Rattle.sqlite_resolve.specs.declared.compiled.Compiled.{Compiled}
+use Rattle.sqlite_resolve.specs.declared.error.CompileError.{CompileError}
+use Rattle.sqlite_sql.specs.Query.{IsAnswer}
+use Rattle.sqlite.specs.declared.error.Error.{Error}
+use Rattle.sqlite.specs.Effect.{Database}
+use Rattle.sqlite.specs.Given.{HasGiven, HasBegun, IsRefused, Returns, Advances}
+use Rattle.sqlite.specs.Held.{Held, state}
+use Rattle.sqlite.specs.Listing.{understood}
+use Rattle.sqlite.specs.State.{State, HasCleanDisk, IsUnchanged, Survives, CommitsShowing, FailsToQuery}
+use Rattle.sqlite.proofs.Callers.{unchanged_then}
+use Rattle.sqlite.proofs.StateLemmas.{survives_weaker}
+use Rattle.redact.specs.Feeding.{Progress, PassState}
+use Rattle.hub_core.specs.State as core
+use Rattle.hub_core.specs.State.{incident_of}
+use Rattle.hub_core.specs.declared.state.Incident.{Incident}
+use Rattle.hub_store.specs.FeedsRows.{IsUnfed, HasTaken, TakesRow, lines_of}
+use Rattle.hub_store.specs.Items.{line_shown}
+use Rattle.hub_store.specs.Keeps.{KeepsCommitted}
+use Rattle.hub_store.specs.Queries.{IsReadOutside}
+use Rattle.hub_store.specs.Shown.{IsShownBy, ShowsAll}
+use Rattle.hub_store.proofs.Answering.{unread}
+use Rattle.hub_store.proofs.AnyLines.{bare_anywhere}
+use Rattle.hub_store.proofs.Finding.{all_are, shows_more}
+use Rattle.hub_store.proofs.Items.{its_lines, lines_query, lines_listed}
+use Rattle.hub_store.proofs.Outcomes.{answered, failed_query}
+use Rattle.hub_store.proofs.Runs.{has_now}
+use Rattle.hub_store.proofs.Steps.{clean_before, survives_on}
+use Rattle.hub_store.proofs.Texts.{lines_of_incident, lines_of_incident_is, lines_of_incident_plain}
+
+-- what is seen is what was committed, as outside a transaction
+abbrev IsSettled : State → Type 0
+IsSettled s = IsTrue s.is_open → s.now ≡ s.committed
+
+-- the rows that the query has given so far show the lines that came to the pass
+pub record IsFeeding {S : Type 0} (g : store.Ghosts S) (n : ℕ) (old now : Held S) (was pass : PassState) : Type 0 where
+  pub survives : Survives (state g old) (state g now) (λ _. ⊥)
+  pub given : List Row
+  pub has : HasCleanDisk (state g now) → HasGiven g lines_of_incident (Int (pos n) ∷ []) now given × IsUnchanged (state g old) (state g now)
+  pub shows : ShowsAll (IsShownBy line_shown) given pass.fed.lines
+  pub takes : HasTaken was pass
+
+kept_same : (old new : State) → IsSettled old → IsUnchanged old new → KeepsCommitted old new
+kept_same old new settled same = record { was_open = λ _. same.0.was_open; now = λ _. same.0.now_is ∙ settled same.0.was_open; committed = λ _. same.0.committed_is }
+
+-- ---- the query begins
+
+never_commits : (params : Row) (s : State) (db : Trees) → CommitsShowing lines_of_incident params s db → ⊥
+unfolding CommitsShowing
+never_commits params s db h =
+    let none = (bare_anywhere s.now.schema h.0 h.1.is).0 in
+    let some = h.2 in
+    cc
+
+commits_nothing : (params : Row) (old new : State) → Survives old new (CommitsShowing lines_of_incident params old) → Survives old new (λ _. ⊥)
+commits_nothing params old new = survives_weaker old new _ _ (λ _ db may. never_commits params old db may)
+
+never_returns : (r : Result Compiled CompileError) → ((c : Compiled) → r ≡ Ok c → c.returning ≡ None) → Returns r → ⊥
+never_returns (Ok c) bare some = let none = bare c refl in cc
+never_returns (Err e) bare some = some
+
+begun : {S : Type 0} (g : store.Ghosts S) (params : Row) (old new : Held S) → HasBegun g lines_of_incident params old new → HasGiven g lines_of_incident params new [] × IsUnchanged (state g old) (state g new)
+begun g params old new (inl h) = h
+begun g params old new (inr h) = absurd (never_returns (understood old.schema lines_of_incident) (λ c is. (bare_anywhere old.schema c is).0) h.0)
+
+module _ {S : Type 0} (g : store.Ghosts S) (n : ℕ) (old : Held S) (was : PassState) where
+  pub starts : (now : Held S) → IsUnfed was → (HasCleanDisk (state g now) → HasBegun g lines_of_incident (Int (pos n) ∷ []) old now) → Survives (state g old) (state g now) (CommitsShowing lines_of_incident (Int (pos n) ∷ []) (state g old)) → IsFeeding g n old now was was
+  starts now unfed begins survives = record {
+    survives = commits_nothing (Int (pos n) ∷ []) (state g old) (state g now) survives;
+    given = [];
+    has = λ clean. begun g (Int (pos n) ∷ []) old now (begins clean);
+    shows = subst (λ (p : Progress). ShowsAll (IsShownBy line_shown) [] p.lines) (sym unfed) tt;
+    takes = record { case = refl; standing = refl; unfaulted = ap (λ (p : Progress). p.fault) unfed };
+  }
+
+  -- ---- one more row
+
+  pub goes_on : (mid now : Held S) (pass more : PassState) (row : Row) → IsFeeding g n old mid was pass → Survives (state g mid) (state g now) (λ _. ⊥)
+      → (HasCleanDisk (state g now) → Advances g mid now (Some row)) → (HasCleanDisk (state g now) → IsUnchanged (state g mid) (state g now)) → TakesRow pass row more → IsFeeding g n old now was more
+  goes_on mid now pass more row it survives advances same takes = record {
+    survives = survives_on (state g old) (state g mid) (state g now) it.survives survives;
+    given = it.given ++ row ∷ [];
+    has = λ clean.
+        let before = it.has (clean_before (state g mid) (state g now) survives clean) in
+        (advances clean lines_of_incident (Int (pos n) ∷ []) it.given before.0, unchanged_then _ _ _ before.1 (same clean));
+    shows = subst (ShowsAll (IsShownBy line_shown) (it.given ++ row ∷ [])) (sym takes.lines) (shows_more (IsShownBy line_shown) it.given pass.fed.lines row takes.line it.shows takes.shown);
+    takes = record { case = takes.takes.case ∙ it.takes.case; standing = takes.takes.standing ∙ it.takes.standing; unfaulted = takes.takes.unfaulted };
+  }
+
+  -- ---- no more rows
+
+  the_lines : (o : Option Incident) → its_lines o ≡ unwrap_or (option_map (λ (i : Incident). i.document) o) []
+  the_lines None = refl
+  the_lines (Some i) = refl
+
+  pub ends : (mid now : Held S) (pass : PassState) → IsFeeding g n old mid was pass → IsSettled (state g old) → Survives (state g mid) (state g now) (λ _. ⊥)
+      → (HasCleanDisk (state g now) → Advances g mid now None) → (HasCleanDisk (state g now) → IsUnchanged (state g mid) (state g now)) → IsReadOutside (state g old) (state g now) (λ s _. pass.fed.lines ≡ lines_of n s) (Ok (tt {0}))
+  ends mid now pass it settled survives advances same = record {
+    survives = survives_on (state g old) (state g mid) (state g now) it.survives survives;
+    kept = λ clean _. kept_same (state g old) (state g now) settled (unchanged_then _ _ _ (it.has (clean_before (state g mid) (state g now) survives clean)).1 (same clean));
+    right = λ clean s has.
+        let before = it.has (clean_before (state g mid) (state g now) survives clean) in
+        let holds = has_now (state g old) s has before.1.0.was_open in
+        let seen = before.1.0.now_is in
+        let answer = answered (state g mid) (state g now) lines_of_incident (Int (pos n) ∷ []) it.given lines_query _ (ap (λ (d : Database). d.schema) seen ∙ holds.known) lines_of_incident_is lines_of_incident_plain.0 lines_of_incident_plain.1
+        (advances clean lines_of_incident (Int (pos n) ∷ []) it.given before.0) in
+        let listed = lines_listed (state g old).now.trees s n it.given has.sound holds.means (subst (λ (d : Database). IsAnswer lines_query d.trees (Int (pos n) ∷ []) it.given) seen answer) in
+        all_are line_shown (its_lines (incident_of n s)) pass.fed.lines (subst (λ l. ShowsAll (IsShownBy line_shown) l pass.fed.lines) listed it.shows) ∙ the_lines (incident_of n s);
+  }
+
+-- ---- the query doesn't begin
+
+module _ {T : Type 0} (Right : core.State → T → Type 0) (result : Result T Error) (e : Error) (is : IsErrAnd result (λ y. y ≡ e)) where
+  refused : (params : Row) (old now : State) (why : Error) → IsSettled old → (HasCleanDisk now → FailsToQuery lines_of_incident params old now why) → Survives old now (CommitsShowing lines_of_incident params old) → IsReadOutside old now Right result
+  refused params old now why settled fails survives = record {
+    survives = commits_nothing params old now survives;
+    kept = λ clean _. elim (failed_query old now lines_of_incident params why (inl (fails clean))) [
+      | inl same ↦ kept_same old now settled same
+      | inr undone ↦ record { was_open = undone.was_open; now = λ up. (undone.undone up).0; committed = λ up. (undone.undone up).1 }
+    ];
+    right = λ _ s _. unread result e (Right s) is;
+  }
+
+  pub not_begun : {S X : Type 0} (g : store.Ghosts S) (params : Row) (old now : Held S) (r : Result X Error) (why : Error) → r ≡ Err why → IsSettled (state g old) → OnErr r (IsRefused g lines_of_incident params old r now) → IsReadOutside (state g old) (state g now) Right result
+  not_begun g params old now (Ok x) why was settled held = absurd cc
+  not_begun g params old now (Err d) why was settled held = refused params (state g old) (state g now) d settled (λ clean. held.err clean) held.survives

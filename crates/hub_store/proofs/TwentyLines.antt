@@ -1,0 +1,72 @@
+-- Twenty lines, put by one statement.
+use Rattle.std.proofs.Common.{◌≡◌, ℕ, pos, List, [], ◌∷◌, ◌++◌, map, length, Ok, codes, refl, sym, subst, append-nil}
+use Rattle.sqlite_value.specs.declared.value.Value.TheVariants.{Int}
+use Rattle.sqlite_value.specs.Order.{Row}
+use Rattle.sqlite_schema.specs.declared.schema.Schema.{Schema}
+use Rattle.sqlite_schema.specs.declared.command.Source.TheVariants.{Values}
+use Rattle.sqlite_schema.specs.declared.command.Command.TheVariants.{Insert}
+use Rattle.sqlite_tied.specs.Compute.{everything}
+use Rattle.sqlite.specs.Effect.{value_rows}
+use Rattle.sqlite.specs.Rows.{stamped}
+use Rattle.sqlite.specs.Listing.{understood}
+use Rattle.sqlite.specs.State as sql
+use Rattle.sqlite.specs.State.{Executes}
+use Rattle.sqlite.proofs.Callers.{IsPlain, command_of}
+use Rattle.hub_core.specs.Documents.{Lines}
+use Rattle.hub_core.specs.State.{State, empty}
+use Rattle.hub_store.specs.Items.{items_from, item_row, placed_lines}
+use Rattle.hub_store.specs.Layout.{newest, common, incident_part, item_part, incident_part_2, tables_2, with_items}
+use Rattle.hub_store.specs.Parts.{schema_of, HoldsParts}
+use Rattle.hub_store.specs.Means.{HoldsBetween}
+use Rattle.hub_store.specs.PutsLines.{HasMore}
+use Rattle.hub_store.specs.Tables.{hub_schema}
+use Rattle.hub_store.proofs.Held.{bare, past_rowids}
+use Rattle.hub_store.proofs.LineRows.{terms_for, rows_for, cast_items, stands_between}
+use Rattle.hub_store.proofs.Migrating.{stands_items}
+use Rattle.hub_store.proofs.PartRows.{puts_all, puts_whole}
+
+abbrev pub put_twenty : List ℕ
+put_twenty = codes "INSERT INTO item (incident, place, depth, name, in_array, kind, text) VALUES (?1, ?2, ?3, ?4, ?5, ?6, ?7), (?1, ?8, ?9, ?10, ?11, ?12, ?13), (?1, ?14, ?15, ?16, ?17, ?18, ?19), (?1, ?20, ?21, ?22, ?23, ?24, ?25), (?1, ?26, ?27, ?28, ?29, ?30, ?31), (?1, ?32, ?33, ?34, ?35, ?36, ?37), (?1, ?38, ?39, ?40, ?41, ?42, ?43), (?1, ?44, ?45, ?46, ?47, ?48, ?49), (?1, ?50, ?51, ?52, ?53, ?54, ?55), (?1, ?56, ?57, ?58, ?59, ?60, ?61), (?1, ?62, ?63, ?64, ?65, ?66, ?67), (?1, ?68, ?69, ?70, ?71, ?72, ?73), (?1, ?74, ?75, ?76, ?77, ?78, ?79), (?1, ?80, ?81, ?82, ?83, ?84, ?85), (?1, ?86, ?87, ?88, ?89, ?90, ?91), (?1, ?92, ?93, ?94, ?95, ?96, ?97), (?1, ?98, ?99, ?100, ?101, ?102, ?103), (?1, ?104, ?105, ?106, ?107, ?108, ?109), (?1, ?110, ?111, ?112, ?113, ?114, ?115), (?1, ?116, ?117, ?118, ?119, ?120, ?121)"
+
+is_put : command_of (understood hub_schema put_twenty) ≡ Insert 9 (Values (terms_for 1 20) 8)
+unfolding understood everything
+is_put = refl
+
+is_plain : IsPlain (understood hub_schema put_twenty)
+unfolding understood everything
+is_plain = (refl, refl)
+
+-- the schema while version 1 is left
+abbrev beside : Schema
+beside = schema_of (with_items [] empty)
+
+is_put_beside : command_of (understood beside put_twenty) ≡ Insert 10 (Values (terms_for 1 20) 8)
+unfolding understood everything
+is_put_beside = refl
+
+is_plain_beside : IsPlain (understood beside put_twenty)
+unfolding understood everything
+is_plain_beside = (refl, refl)
+
+module _ (n place : ℕ) (ls : Lines) (long : length ls ≡ 20) (old new : sql.State) (count : ℕ) (h : Executes put_twenty (Int (pos n) ∷ placed_lines place ls) old new (Ok count)) (s : State) (items more : List Row) (same : HasMore n place ls items more) where
+  given : value_rows (stamped (item_part items).table (Int (pos n) ∷ placed_lines place ls)) 8 20 (terms_for 1 20) ≡ map bare (map item_row (items_from n place ls))
+  given =
+      let params = Int (pos n) ∷ placed_lines place ls in
+      subst (λ p. value_rows p 8 20 (terms_for 1 20) ≡ map bare (map item_row (items_from n place ls))) (sym (append-nil params)) (subst (λ k. value_rows params 8 k (terms_for 1 k) ≡ map bare (map item_row (items_from n place ls))) long (rows_for n place [] ls))
+
+  pub puts_twenty : (incidents : List Row) → HoldsBetween items incidents old.now s → HoldsBetween more incidents new.now s
+  puts_twenty incidents between =
+      let all = map item_row (items_from n place ls) in
+      let has : HoldsParts (tables_2 newest items incidents s) old.now = record { known = between.known; means = between.means } in
+      let put = puts_all (common newest s) (item_part items) (incident_part_2 incidents ∷ []) 9 (stands_between s items incidents) put_twenty _ old new is_plain count h has (terms_for 1 20) 8 is_put all given (cast_items items (items_from n place ls)) (λ before. past_rowids before all) more same in
+      record {
+        known = put.known;
+        whole = puts_whole (common newest s) (item_part items) (incident_part_2 incidents ∷ []) 9 (stands_between s items incidents) put_twenty _ old new is_plain count h has (terms_for 1 20) 8 is_put;
+        means = put.means;
+        fit = between.fit;
+      }
+
+  pub moves_twenty : HoldsParts (with_items items s) old.now → HoldsParts (with_items more s) new.now
+  moves_twenty has =
+      let all = map item_row (items_from n place ls) in
+      puts_all (common 1 s ++ incident_part s ∷ []) (item_part items) [] 10 (stands_items s items) put_twenty _ old new is_plain_beside count h has (terms_for 1 20) 8 is_put_beside all given (cast_items items (items_from n place ls)) (λ before. past_rowids before all) more same

@@ -1,0 +1,47 @@
+-- A store that holds a state as a version does tells that version.
+use Rattle.std.proofs.Common.{◌≡◌, ℕ, pos, List, [], ◌∷◌, map, drop, Some, IsTrue, sym, subst, ap, ◌∙◌, arith}
+use Rattle.std.specs.List.Sorted.{IsPermutation}
+use Rattle.std.proofs.lemmas.Bool.Decides.{nat_tests}
+use Rattle.sqlite_value.specs.declared.value.Value.TheVariants.{Int}
+use Rattle.sqlite_value.specs.Order.{Row, column}
+use Rattle.sqlite_schema.specs.Names.{same_name}
+use Rattle.sqlite.specs.Effect.{Database}
+use Rattle.sqlite.specs.State.{State}
+use Rattle.sqlite.proofs.Callers.{one_permutation}
+use Rattle.hub_core.specs.State as core
+use Rattle.hub_store.specs.Content.{HasAs, Has}
+use Rattle.hub_store.specs.Means.{HoldsAs}
+use Rattle.hub_store.specs.Opening.{newest, is_older}
+use Rattle.hub_store.specs.Versions.{hub_of, versions_by, only_u32, version_of}
+use Rattle.hub_store.proofs.Compare.{column_past}
+
+-- the one row of the table, whose rowid says nothing
+one_version : (v : ℕ) (rows : List Row) → IsPermutation ((Int (pos v) ∷ []) ∷ []) (map (drop 1) rows) → map (λ r. column r 1) rows ≡ Int (pos v) ∷ []
+one_version v rows same = go rows (one_permutation (Int (pos v) ∷ []) (map (drop 1) rows) same)
+  where
+    go : (rows : List Row) → map (drop 1) rows ≡ (Int (pos v) ∷ []) ∷ [] → map (λ r. column r 1) rows ≡ Int (pos v) ∷ []
+    go [] is = absurd cc
+    go (r ∷ []) is =
+        let first : drop 1 r ≡ Int (pos v) ∷ [] = cc in
+        ap (λ x. x ∷ []) (column_past r 0 ∙ ap (λ it. column it 0) first)
+    go (r ∷ q ∷ rows) is = absurd cc
+
+pub tells_1 : (db : Database) (s : core.State) → HoldsAs 1 db s → version_of db ≡ Some 1
+unfolding same_name
+tells_1 db s held = ap (λ schema. only_u32 (versions_by db.trees (hub_of schema))) held.known ∙ ap only_u32 (one_version 1 (db.trees 0) held.means.0.same)
+
+pub tells_2 : (db : Database) (s : core.State) → HoldsAs 2 db s → version_of db ≡ Some 2
+unfolding same_name
+tells_2 db s held = ap (λ schema. only_u32 (versions_by db.trees (hub_of schema))) held.known ∙ ap only_u32 (one_version 2 (db.trees 0) held.means.0.same)
+
+pub older_is : (v : ℕ) → IsTrue (is_older v) → v ≡ 1
+older_is v older = grind (arith, nat_tests)
+
+pub older_tells : (c : State) (v : ℕ) (s : core.State) → IsTrue (is_older v) → HasAs v c s → IsTrue c.is_open → version_of c.now ≡ Some v
+older_tells c v s older has up =
+    let is = older_is v older in
+    let held : HoldsAs 1 c.committed s = subst (λ k. HoldsAs k c.committed s) is (has.holds up) in
+    ap version_of (has.settled up) ∙ (tells_1 c.committed s held ∙ ap Some (sym is))
+
+pub newest_tells : (c : State) (s : core.State) → Has c s → IsTrue c.is_open → version_of c.now ≡ Some newest
+newest_tells c s has up = ap version_of (has.settled up) ∙ tells_2 c.committed s (has.holds up)

@@ -1,0 +1,12 @@
+use Rattle.std.proofs.Common.{map, filter, not, ◌==◌}
+use Rattle.hub_store.specs.Items.{Item, items_of, item_row}
+use Rattle.hub_store.specs.Rows.{named_row}
+use Rattle.hub_store.specs.Means.{Holds, HoldsBetween}
+use Rattle.hub_store.proofs.Changes.{takes_lines}
+use Rattle.hub_store.proofs.Steps.{made_by}
+use Rattle.hub_store.proofs.Texts.{take_lines}
+use Rattle.hub_store.proofs.incident_edits.take_lines.Goals as goal
+
+pub returns-clause-made : goal.returns-clause-made
+returns-clause-made g c s =
+    made_by g.S.Store take_lines _ _ _ (λ db. Holds db s) (λ db. HoldsBetween (map item_row (filter (λ (x : Item). not (x.incident == c.args.incident)) (items_of s))) (map named_row s.incidents) db s) _ c.run.ensures.goes (λ clean inside. rw c.params-to_sql.ensures at (c.run.ensures.ran clean inside)) (λ mid count h held. takes_lines mid _ c.args.incident count h s held)

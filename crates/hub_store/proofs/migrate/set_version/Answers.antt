@@ -1,0 +1,16 @@
+use Rattle.std.proofs.Common.{map, rules}
+use Rattle.hub_store.specs.Items.{items_of, item_row}
+use Rattle.hub_store.specs.Rows.{named_row}
+use Rattle.hub_store.specs.Parts.{HoldsParts}
+use Rattle.hub_store.specs.Layout.{unversioned_2}
+use Rattle.hub_store.proofs.Steps.{makes_then}
+use Rattle.hub_store.proofs.migrate.set_version.Goals as goal
+
+pub returns-in_err-take_version-clause-made : goal.returns-in_err-take_version-clause-made
+returns-in_err-take_version-clause-made g c s fit =
+    let one = c.in_err-take_version.ensures.made s (map item_row (items_of s)) (map named_row s.incidents) in
+    record { goes = record { kept = one.goes.kept; inside = λ _ inside. search rules; survives = one.goes.survives }; made = λ _ _ before. search rules }
+
+pub returns-clause-made : goal.returns-clause-made
+returns-clause-made g c s fit =
+    makes_then _ _ _ _ (HoldsParts (unversioned_2 (map item_row (items_of s)) (map named_row s.incidents) s)) _ _ _ (c.in_ok-take_version.ensures.made s (map item_row (items_of s)) (map named_row s.incidents)) (c.put_version_2.ensures.made s fit)

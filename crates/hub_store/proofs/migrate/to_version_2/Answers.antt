@@ -1,0 +1,49 @@
+use Rattle.std.proofs.Common.{map, rules, subst, ◌∙◌}
+use Rattle.sqlite.specs.Held.{state}
+use Rattle.hub_core.specs.State.{empty}
+use Rattle.hub_store.specs.Items.{items_of, item_row}
+use Rattle.hub_store.specs.Layout.{tables_2}
+use Rattle.hub_store.specs.Parts.{HoldsParts}
+use Rattle.hub_store.proofs.Inside.{goes_then}
+use Rattle.hub_store.proofs.MovedOn.{tables_of_1, texts_of_1, rows_of_namings, fit_empty}
+use Rattle.hub_store.proofs.Steps.{clean_before}
+use Rattle.hub_store.proofs.migrate.to_version_2.Goals as goal
+
+pub returns-in_err-kept-clause-goes : goal.returns-in_err-kept-clause-goes
+returns-in_err-kept-clause-goes g c =
+    let one = c.in_err-kept.ensures.goes in
+    record { kept = one.kept; inside = λ _ _. search rules; survives = one.survives }
+
+pub returns-in_err-kept-clause-made : goal.returns-in_err-kept-clause-made
+returns-in_err-kept-clause-made g c s sound =
+    let one = c.in_err-kept.ensures.goes in
+    record { goes = record { kept = one.kept; inside = λ _ _. search rules; survives = one.survives }; made = λ _ _ _. search rules }
+
+pub returns-in_err-move_incidents-clause-goes : goal.returns-in_err-move_incidents-clause-goes
+returns-in_err-move_incidents-clause-goes g c =
+    let whole = goes_then _ _ _ _ _ c.in_ok-kept.ensures.goes c.in_err-move_incidents.ensures.goes in
+    record { kept = whole.kept; inside = λ _ _. search rules; survives = whole.survives }
+
+pub returns-in_err-move_incidents-clause-made : goal.returns-in_err-move_incidents-clause-made
+returns-in_err-move_incidents-clause-made g c s sound =
+    let whole = goes_then _ _ _ _ _ c.in_ok-kept.ensures.goes c.in_err-move_incidents.ensures.goes in
+    record { goes = record { kept = whole.kept; inside = λ _ _. search rules; survives = whole.survives }; made = λ _ _ _. search rules }
+
+pub returns-clause-goes : goal.returns-clause-goes
+returns-clause-goes g c = goes_then _ _ _ _ _ (goes_then _ _ _ _ _ c.in_ok-kept.ensures.goes c.in_ok-move_incidents.ensures.goes) (c.set_version.ensures.made empty fit_empty).goes
+
+pub returns-clause-made : goal.returns-clause-made
+returns-clause-made g c s sound = record {
+  goes = goes_then _ _ _ _ _ (goes_then _ _ _ _ _ c.in_ok-kept.ensures.goes c.in_ok-move_incidents.ensures.goes) (c.set_version.ensures.made empty fit_empty).goes;
+  made = λ clean inside before.
+      let items = map item_row (items_of s) in
+      let move = c.in_ok-kept.ensures in
+      let put = c.in_ok-move_incidents.ensures in
+      let set = c.set_version.ensures.made s before.fit.0 in
+      let late = clean_before _ _ set.goes.survives clean in
+      let early = clean_before _ _ put.goes.survives late in
+      let moved = move.moved early inside s (texts_of_1 _ s sound before) (tables_of_1 _ s before) in
+      let mid = move.goes.inside early inside in
+      let made = (put.made s items).made late mid.0 moved.0 in
+      set.made clean (put.goes.inside late mid.0).0 (subst (λ rows. HoldsParts (tables_2 1 items rows s) (state g.S.Store c.move_incidents.new.tx.conn.now).now) (rows_of_namings _ s.incidents (c.deref.ensures.value ∙ moved.1)) made);
+}

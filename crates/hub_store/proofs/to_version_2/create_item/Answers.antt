@@ -1,0 +1,14 @@
+use Rattle.std.proofs.Common.{[]}
+use Rattle.hub_store.specs.Tables.{schema_by, item_table}
+use Rattle.hub_store.specs.Parts.{HoldsParts}
+use Rattle.hub_store.specs.Layout.{parts_1, with_items}
+use Rattle.hub_store.proofs.Creates.{creates}
+use Rattle.hub_store.proofs.Steps.{made_by}
+use Rattle.hub_store.proofs.Migrating.{create_item, item_creation, makes_item}
+use Rattle.hub_store.proofs.to_version_2.create_item.Goals as goal
+
+pub returns-clause-empty : goal.returns-clause-empty
+returns-clause-empty g c = creates g.S.Store (schema_by 1) create_item item_table item_creation _ _ _ c.run.ensures.goes c.run.ensures.ran c.run.ensures.failed
+
+pub returns-clause-made : goal.returns-clause-made
+returns-clause-made g c s = made_by g.S.Store create_item [] _ _ (HoldsParts (parts_1 s)) (HoldsParts (with_items [] s)) _ c.run.ensures.goes c.run.ensures.ran (λ mid count h. makes_item mid _ s count h)

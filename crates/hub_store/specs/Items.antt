@@ -1,0 +1,49 @@
+-- The lines of documents as rows of one table, each with the number of its incident and its place, which is 1 for the first line.
+use Rattle.std.specs.Prelude.{ℕ, pos, suc, List, [], ◌∷◌, flat_map}
+use Rattle.sqlite_value.specs.declared.value.Value.TheVariants.{Int, Text}
+use Rattle.sqlite_value.specs.Order.{Row}
+use Rattle.iodef_tree.specs.declared.line.Line.{Line}
+use Rattle.iodef_tree.specs.declared.line.Kind.{Kind}
+use Rattle.iodef_tree.specs.declared.line.Kind.TheVariants as kind
+use Rattle.hub_core.specs.Documents.{Lines}
+use Rattle.hub_core.specs.State.{State}
+use Rattle.hub_core.specs.declared.state.Incident.{Incident}
+use Rattle.hub_store.specs.Values.{flag}
+
+pub record Item : Type 0 where
+  pub incident : ℕ
+  pub place : ℕ
+  pub line : Line
+
+abbrev pub items_from : ℕ → ℕ → Lines → List Item
+items_from n place [] = []
+items_from n place (l ∷ ls) = record { incident = n; place = place; line = l } ∷ items_from n (suc place) ls
+
+abbrev pub items_in : List Incident → List Item
+items_in = flat_map (λ (i : Incident). items_from i.naming.number 1 i.document)
+
+abbrev pub items_of : State → List Item
+items_of s = items_in s.incidents
+
+-- ---- rows
+
+abbrev pub kind_number : Kind → ℕ
+kind_number kind.Class = 0
+kind_number kind.Text = 1
+kind_number kind.Value = 2
+
+-- the columns of a line, as the query of the lines names them
+abbrev pub line_shown : Line → Row
+line_shown l = Int (pos l.depth) ∷ Text l.name ∷ flag l.in_array ∷ Int (pos (kind_number l.kind)) ∷ Text l.text ∷ []
+
+-- without the rowid
+abbrev pub item_row : Item → Row
+item_row x = Int (pos x.incident) ∷ Int (pos x.place) ∷ line_shown x.line
+
+-- what a statement that puts lines is given behind the incident: each line with its place
+abbrev pub placed_lines : ℕ → Lines → Row
+placed_lines place [] = []
+placed_lines place (l ∷ ls) = Int (pos place) ∷ placed_line l (placed_lines (suc place) ls)
+  where
+    placed_line : Line → Row → Row
+    placed_line l rest = Int (pos l.depth) ∷ Text l.name ∷ flag l.in_array ∷ Int (pos (kind_number l.kind)) ∷ Text l.text ∷ rest

@@ -1,0 +1,53 @@
+//! The lines of an incident, fed to a pass as they come.
+
+ghost use Rattle.std.specs.Prelude.{◌≡◌, false, IsTrue, None, OnOk};
+ghost use Rattle.sqlite.specs.Held.{state};
+ghost use Rattle.hub_store.specs.FeedsRows.{IsUnfed, HasTaken, TakesRow, lines_of};
+ghost use Rattle.hub_store.specs.Queries.{IsReadOutside};
+
+use crate::from_row::{FromRow, STRANGE};
+use crate::item_rows::error_of;
+use iodef_tree::Line;
+use redact::RowPass;
+use sqlite::{Alter, Connection, Error, Row, params};
+use std::alloc::Global;
+
+/// A row that shows no line, and a line that may not come there, are strange.
+fn feed_row(alloc: Global, pass: &mut RowPass, row: &Row) -> Result<(), Error>
+    requires { pass.old.fed.fault ≡ None }
+    ensures { OnOk result (TakesRow pass.old row.now pass.new) }
+{
+    let line = Line::from_row(alloc, row)?;
+    match pass.feed(line) {
+        Ok(()) => Ok(()),
+        Err(fault) => Err(error_of(fault)),
+    }
+}
+
+/// Feeds a pass with the lines of an incident, by their places, one at a time. Outside a transaction, as in one nothing is known of
+/// what an error leaves.
+pub(crate) fn feed_rows<S: Alter>(
+    conn: &mut Connection<S>,
+    alloc: Global,
+    incident: u32,
+    pass: &mut RowPass,
+) -> Result<(), Error>
+    requires idle { conn.old.in_transaction ≡ false }
+    requires settled { IsTrue (state S.Store conn.old).is_open → (state S.Store conn.old).now ≡ (state S.Store conn.old).committed }
+    requires unfed { IsUnfed pass.old }
+    ensures idle { conn.new.in_transaction ≡ false }
+    ensures fed { OnOk result (HasTaken pass.old pass.new) }
+    ensures answers { IsReadOutside (state S.Store conn.old) (state S.Store conn.new) (λ s _. pass.new.fed.lines ≡ lines_of incident s) result }
+{
+    let mut rows = conn.query(
+        "SELECT depth, name, in_array, kind, text FROM item WHERE incident = ?1 ORDER BY place",
+        params![incident],
+    )?;
+    'rows: for _ in 0..u64::MAX {
+        let Some(row) = rows.next()? else {
+            return Ok(());
+        };
+        feed_row(alloc, pass, row)?;
+    }
+    Err(STRANGE)
+}

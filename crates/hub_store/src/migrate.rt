@@ -1,0 +1,198 @@
+//! A store of an older version, brought to the newest in one transaction.
+
+ghost use Rattle.std.specs.Prelude.{◌≡◌, ◌&&◌, List, [], map, false, OnOk, OnErr, IfOk, IsTrue};
+ghost use Rattle.sqlite_value.specs.Order.{Row};
+ghost use Rattle.sqlite.specs.State.{HasCleanDisk, Survives};
+ghost use Rattle.sqlite.specs.Held.{state};
+ghost use Rattle.hub_core.specs.State.{State};
+ghost use Rattle.hub_core.specs.Sound.{IsSound};
+ghost use Rattle.hub_store.specs.Fit.{IsFit};
+ghost use Rattle.hub_store.specs.Items.{items_of, item_row};
+ghost use Rattle.hub_store.specs.Layout.{parts_1, with_items, without_incidents, tables_2, unversioned_2};
+ghost use Rattle.hub_store.specs.Rows.{naming_row, named_row};
+ghost use Rattle.hub_store.specs.Parts.{HoldsParts};
+ghost use Rattle.hub_store.specs.Means.{HoldsAs, Holds, TreesHold};
+ghost use Rattle.hub_store.specs.Content.{HasAs, CommitsState};
+ghost use Rattle.hub_store.specs.Keeps.{Goes, KeepsCommitted};
+ghost use Rattle.hub_store.specs.Makes.{Makes};
+ghost use Rattle.hub_store.specs.Moving.{HasTexts, HoldsMoved, HoldsNext, incident_above, naming_in};
+ghost use Rattle.hub_store.specs.Opening.{is_older as is_older_version};
+
+use crate::from_row::{STRANGE, first};
+use crate::put_lines::put_lines;
+use crate::put_naming::put_naming;
+use crate::query::{ask, probe};
+use crate::statement::run;
+use crate::to_version_2::{create_incident, create_item, drop_incident};
+use crate::version::NEWEST;
+use hub_core::{Incident, Naming};
+use sqlite::{Alter, Connection, Error, Transaction, params};
+use std::alloc::Global;
+
+/// Whether it is a version from which a store is brought to the newest.
+pub(crate) fn is_older(version: u32) -> bool
+    ensures { result ≡ is_older_version version }
+{
+    0 < version && version < NEWEST
+}
+
+/// The first incident above a number, as version 1 keeps it.
+fn read_next<S: Alter>(
+    tx: &mut Transaction<'_, S>,
+    alloc: Global,
+    number: u32,
+) -> Result<Option<Incident>, Error>
+    ensures same_reference { tx.new.conn.ghost_name ≡ tx.old.conn.ghost_name }
+    ensures goes { Goes (state S.Store tx.old.conn.now) (state S.Store tx.new.conn.now) result }
+    ensures same { (s : State) → (items : List Row) → Makes (state S.Store tx.old.conn.now) (state S.Store tx.new.conn.now) (HoldsParts (with_items items s)) (HoldsParts (with_items items s)) result }
+    ensures read { HasCleanDisk (state S.Store tx.new.conn.now) → (s : State) → (items : List Row) → HasTexts s → HoldsParts (with_items items s) (state S.Store tx.old.conn.now).now → IfOk result (λ found. found ≡ incident_above number s) }
+{
+    let rows = ask(
+        tx,
+        "SELECT number, source, ident, revision, text FROM incident WHERE number > ?1 ORDER BY number LIMIT 1",
+        params![number],
+    )?;
+    first(alloc, &rows)
+}
+
+/// Puts the lines of the next document, if there is one, keeps what else its row holds, and tells its number. One document at a
+/// time is held in memory.
+fn move_next<S: Alter>(
+    tx: &mut Transaction<'_, S>,
+    alloc: Global,
+    number: u32,
+    kept: &mut Vec<Naming>,
+) -> Result<Option<u32>, Error>
+    ensures same_reference { tx.new.conn.ghost_name ≡ tx.old.conn.ghost_name }
+    ensures goes { Goes (state S.Store tx.old.conn.now) (state S.Store tx.new.conn.now) result }
+    ensures moved { HasCleanDisk (state S.Store tx.new.conn.now) → IsTrue (state S.Store tx.old.conn.now).in_transaction → (s : State) → HasTexts s → HoldsMoved number kept.old.items (state S.Store tx.old.conn.now).now s → IfOk result (λ found. HoldsNext number kept.new.items found (state S.Store tx.new.conn.now).now s) }
+{
+    let Some(incident) = read_next(tx, alloc, number)? else {
+        return Ok(None);
+    };
+    let lines = incident.document.outline(alloc)?;
+    let found = incident.naming.number;
+    put_lines(tx, alloc, found, &lines)?;
+    kept.push(incident.naming)?;
+    Ok(Some(found))
+}
+
+/// Puts the lines of all documents while the table of their texts stands, and hands back what else its rows hold.
+fn move_documents<S: Alter>(
+    tx: &mut Transaction<'_, S>,
+    alloc: Global,
+) -> Result<Vec<Naming>, Error>
+    ensures same_reference { tx.new.conn.ghost_name ≡ tx.old.conn.ghost_name }
+    ensures goes { Goes (state S.Store tx.old.conn.now) (state S.Store tx.new.conn.now) result }
+    ensures moved { HasCleanDisk (state S.Store tx.new.conn.now) → IsTrue (state S.Store tx.old.conn.now).in_transaction → (s : State) → HasTexts s → HoldsParts (with_items [] s) (state S.Store tx.old.conn.now).now → IfOk result (λ kept. HoldsParts (with_items (map item_row (items_of s)) s) (state S.Store tx.new.conn.now).now × (kept.items ≡ naming_in s.incidents)) }
+{
+    let mut kept = Vec::new(alloc);
+    let mut number = 0;
+    for _ in 0..u64::MAX {
+        match move_next(tx, alloc, number, &mut kept)? {
+            None => return Ok(kept),
+            Some(found) => number = found,
+        }
+    }
+    Err(STRANGE)
+}
+
+/// Moves the lines of all documents, and takes the table of their texts away.
+fn move_lines<S: Alter>(tx: &mut Transaction<'_, S>, alloc: Global) -> Result<Vec<Naming>, Error>
+    ensures same_reference { tx.new.conn.ghost_name ≡ tx.old.conn.ghost_name }
+    ensures goes { Goes (state S.Store tx.old.conn.now) (state S.Store tx.new.conn.now) result }
+    ensures moved { HasCleanDisk (state S.Store tx.new.conn.now) → IsTrue (state S.Store tx.old.conn.now).in_transaction → (s : State) → HasTexts s → HoldsParts (parts_1 s) (state S.Store tx.old.conn.now).now → IfOk result (λ kept. HoldsParts (without_incidents (map item_row (items_of s)) s) (state S.Store tx.new.conn.now).now × (kept.items ≡ naming_in s.incidents)) }
+{
+    create_item(tx)?;
+    let kept = move_documents(tx, alloc)?;
+    drop_incident(tx)?;
+    Ok(kept)
+}
+
+fn put_back<S: Alter>(tx: &mut Transaction<'_, S>, kept: &[Naming]) -> Result<(), Error>
+    ensures same_reference { tx.new.conn.ghost_name ≡ tx.old.conn.ghost_name }
+    ensures goes { Goes (state S.Store tx.old.conn.now) (state S.Store tx.new.conn.now) result }
+    ensures made { (s : State) → (items : List Row) → Makes (state S.Store tx.old.conn.now) (state S.Store tx.new.conn.now) (HoldsParts (tables_2 1 items [] s)) (HoldsParts (tables_2 1 items (map naming_row kept.now) s)) result }
+{
+    for naming in kept {
+        put_naming(tx, naming)?;
+    }
+    Ok(())
+}
+
+/// The table of the incidents without their texts.
+fn move_incidents<S: Alter>(tx: &mut Transaction<'_, S>, kept: &[Naming]) -> Result<(), Error>
+    ensures same_reference { tx.new.conn.ghost_name ≡ tx.old.conn.ghost_name }
+    ensures goes { Goes (state S.Store tx.old.conn.now) (state S.Store tx.new.conn.now) result }
+    ensures made { (s : State) → (items : List Row) → Makes (state S.Store tx.old.conn.now) (state S.Store tx.new.conn.now) (HoldsParts (without_incidents items s)) (HoldsParts (tables_2 1 items (map naming_row kept.now) s)) result }
+{
+    create_incident(tx)?;
+    put_back(tx, kept)
+}
+
+fn take_version<S: Alter>(tx: &mut Transaction<'_, S>) -> Result<(), Error>
+    ensures same_reference { tx.new.conn.ghost_name ≡ tx.old.conn.ghost_name }
+    ensures made { (s : State) → (items incidents : List Row) → Makes (state S.Store tx.old.conn.now) (state S.Store tx.new.conn.now) (HoldsParts (tables_2 1 items incidents s)) (HoldsParts (unversioned_2 items incidents s)) result }
+{
+    run(tx, "DELETE FROM hub", &[])
+}
+
+fn put_version_2<S: Alter>(tx: &mut Transaction<'_, S>) -> Result<(), Error>
+    ensures same_reference { tx.new.conn.ghost_name ≡ tx.old.conn.ghost_name }
+    ensures made { (s : State) → IsFit s → Makes (state S.Store tx.old.conn.now) (state S.Store tx.new.conn.now) (HoldsParts (unversioned_2 (map item_row (items_of s)) (map named_row s.incidents) s)) (λ db. HoldsAs 2 db s) result }
+{
+    run(tx, "INSERT INTO hub (version) VALUES (?1)", params![2u32])
+}
+
+/// The version is taken and put, as its row has no number by which it would be exchanged.
+fn set_version<S: Alter>(tx: &mut Transaction<'_, S>) -> Result<(), Error>
+    ensures same_reference { tx.new.conn.ghost_name ≡ tx.old.conn.ghost_name }
+    ensures made { (s : State) → IsFit s → Makes (state S.Store tx.old.conn.now) (state S.Store tx.new.conn.now) (HoldsParts (tables_2 1 (map item_row (items_of s)) (map named_row s.incidents) s)) (λ db. HoldsAs 2 db s) result }
+{
+    take_version(tx)?;
+    put_version_2(tx)
+}
+
+/// From version 1 to version 2.
+fn to_version_2<S: Alter>(tx: &mut Transaction<'_, S>, alloc: Global) -> Result<(), Error>
+    ensures same_reference { tx.new.conn.ghost_name ≡ tx.old.conn.ghost_name }
+    ensures goes { Goes (state S.Store tx.old.conn.now) (state S.Store tx.new.conn.now) result }
+    ensures made { (s : State) → IsSound s → Makes (state S.Store tx.old.conn.now) (state S.Store tx.new.conn.now) (λ db. HoldsAs 1 db s) (λ db. HoldsAs 2 db s) result }
+{
+    let kept = move_lines(tx, alloc)?;
+    move_incidents(tx, &kept)?;
+    set_version(tx)
+}
+
+/// Each step leads from one version to the next.
+fn go_steps<S: Alter>(tx: &mut Transaction<'_, S>, alloc: Global, version: u32) -> Result<(), Error>
+    ensures same_reference { tx.new.conn.ghost_name ≡ tx.old.conn.ghost_name }
+    ensures goes { Goes (state S.Store tx.old.conn.now) (state S.Store tx.new.conn.now) result }
+    ensures made { IsTrue (is_older_version version) → (s : State) → IsSound s → Makes (state S.Store tx.old.conn.now) (state S.Store tx.new.conn.now) (λ db. HoldsAs version db s) (λ db. Holds db s) result }
+{
+    if version < 2 {
+        to_version_2(tx, alloc)?;
+    }
+    Ok(())
+}
+
+/// Brings a store from an older version to the newest in one transaction, or leaves it. Nothing is asked of the store after the
+/// commit.
+pub(crate) fn renew<S: Alter>(
+    conn: &mut Connection<S>,
+    alloc: Global,
+    version: u32,
+) -> Result<(), Error>
+    requires { conn.old.in_transaction ≡ false }
+    ensures idle { conn.new.in_transaction ≡ false }
+    ensures asked { HasCleanDisk (state S.Store conn.new) → OnOk result (IsTrue (state S.Store conn.old).is_open) }
+    ensures made { HasCleanDisk (state S.Store conn.new) → IsTrue (is_older_version version) → (s : State) → HasAs version (state S.Store conn.old) s → OnOk result (CommitsState (state S.Store conn.new) s) }
+    ensures none { HasCleanDisk (state S.Store conn.new) → OnErr result (KeepsCommitted (state S.Store conn.old) (state S.Store conn.new)) }
+    ensures survives { IsTrue (is_older_version version) → Survives (state S.Store conn.old) (state S.Store conn.new) (λ left. (s : State) → HasAs version (state S.Store conn.old) s → TreesHold left s) }
+{
+    let mut tx = conn.transaction();
+    // a store that is shut is not asked to commit
+    probe(&mut tx)?;
+    go_steps(&mut tx, alloc, version)?;
+    tx.commit()
+}

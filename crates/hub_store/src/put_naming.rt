@@ -1,0 +1,36 @@
+//! An incident's row, without its lines.
+
+ghost use Rattle.std.specs.Prelude.{◌≡◌, ◌∷◌, List, IsPermutation};
+ghost use Rattle.sqlite_value.specs.Order.{Row};
+ghost use Rattle.sqlite.specs.Held.{state};
+ghost use Rattle.hub_core.specs.State.{State};
+ghost use Rattle.hub_store.specs.Rows.{naming_row};
+ghost use Rattle.hub_store.specs.Layout.{tables_2};
+ghost use Rattle.hub_store.specs.Parts.{HoldsParts};
+ghost use Rattle.hub_store.specs.Means.{HoldsBetween};
+ghost use Rattle.hub_store.specs.Makes.{Makes};
+
+use crate::statement::run;
+use hub_core::Naming;
+use sqlite::{Alter, Error, Transaction, params};
+
+/// Puts the row, in an edit and, while the store still tells the version before, in a migration.
+pub(crate) fn put_naming<S: Alter>(
+    tx: &mut Transaction<'_, S>,
+    naming: &Naming,
+) -> Result<(), Error>
+    ensures same_reference { tx.new.conn.ghost_name ≡ tx.old.conn.ghost_name }
+    ensures edited { (s : State) → (items incidents more : List Row) → IsPermutation (naming_row naming.now ∷ incidents) more → Makes (state S.Store tx.old.conn.now) (state S.Store tx.new.conn.now) (λ db. HoldsBetween items incidents db s) (λ db. HoldsBetween items more db s) result }
+    ensures moved { (s : State) → (items incidents more : List Row) → IsPermutation (naming_row naming.now ∷ incidents) more → Makes (state S.Store tx.old.conn.now) (state S.Store tx.new.conn.now) (HoldsParts (tables_2 1 items incidents s)) (HoldsParts (tables_2 1 items more s)) result }
+{
+    run(
+        tx,
+        "INSERT INTO incident (number, source, ident, revision) VALUES (?1, ?2, ?3, ?4)",
+        params![
+            naming.number,
+            naming.source,
+            naming.ident.as_str(),
+            naming.revision,
+        ],
+    )
+}

@@ -1,0 +1,54 @@
+//! Tables of an older version, brought to the newest.
+
+ghost use Rattle.std.specs.Prelude.{◌≡◌, false, IfOk, IfErr, IsTrue};
+
+use super::{OpenFault, SqlShelf, open_fault};
+use crate::migrate::{is_older, renew};
+use crate::told::fault_of;
+use crate::version::{NEWEST, version};
+use sqlite::{Alter, Connection};
+use std::alloc::Global;
+
+impl<S: Alter> SqlShelf<S> {
+    ghost use Rattle.sqlite.specs.Held.{state};
+    ghost use Rattle.hub_store.specs.Opening.{is_older as is_older_version, IsBrought, IsNotBrought, IsMigrated, IsUnmigrated};
+
+    /// Brings the tables of an older version to the newest.
+    fn from_version(
+        alloc: Global,
+        mut conn: Connection<S>,
+        found: u32,
+    ) -> Result<SqlShelf<S>, (OpenFault, Connection<S>)>
+        requires older { IsTrue (is_older_version found) }
+        requires waits { conn.in_transaction ≡ false }
+        ensures brought { IfOk result (λ shelf. IsBrought found (state S.Store conn) (state S.Store shelf.conn) shelf.failures) }
+        ensures refused { IfErr result (λ e. IsNotBrought found (state S.Store conn) (state S.Store e.1) e.0) }
+        ensures idle { IfErr result (λ e. e.1.in_transaction ≡ false) }
+    {
+        match renew(&mut conn, alloc, found) {
+            Ok(()) => Ok(SqlShelf::over(alloc, conn)),
+            Err(error) => Err((open_fault(fault_of(error)), conn)),
+        }
+    }
+
+    /// Takes a connection whose store holds the hub's tables of the newest version or an older one, and makes them the
+    /// newest in one transaction, with the content as it was. Over the newest nothing changes. On a refusal the
+    /// connection comes back, with its content and in its version, whatever store it is.
+    pub fn migrate(
+        alloc: Global,
+        mut conn: Connection<S>,
+    ) -> Result<SqlShelf<S>, (OpenFault, Connection<S>)>
+        requires { conn.in_transaction ≡ false }
+        ensures opened { IfOk result (λ shelf. IsMigrated (state S.Store conn) (state S.Store shelf.conn) shelf.failures) }
+        ensures refused { IfErr result (λ e. IsUnmigrated (state S.Store conn) (state S.Store e.1) e.0) }
+        ensures idle { IfErr result (λ e. e.1.in_transaction ≡ false) }
+    {
+        match version(&mut conn) {
+            Ok(Some(NEWEST)) => Ok(SqlShelf::over(alloc, conn)),
+            Ok(Some(found)) if is_older(found) => SqlShelf::from_version(alloc, conn, found),
+            Ok(Some(other)) => Err((OpenFault::WrongVersion(other), conn)),
+            Ok(None) => Err((OpenFault::NotOurs, conn)),
+            Err(fault) => Err((open_fault(fault), conn)),
+        }
+    }
+}

@@ -1,0 +1,58 @@
+//! From version 1 of the tables to version 2: the lines of the documents get a table of their own, and that of the incidents
+//! loses its text. A new table gets a tree above all others, so a store is brought here by the same statements whether it is
+//! new or old.
+
+ghost use Rattle.std.specs.Prelude.{◌≡◌, List, []};
+ghost use Rattle.sqlite_value.specs.Order.{Row};
+ghost use Rattle.sqlite.specs.Held.{state};
+ghost use Rattle.hub_core.specs.State.{State};
+ghost use Rattle.hub_store.specs.Tables.{schema_by, beside_item, without_incident, hub_schema};
+ghost use Rattle.hub_store.specs.Layout.{parts_1, with_items, without_incidents, tables_2};
+ghost use Rattle.hub_store.specs.Parts.{HoldsParts};
+ghost use Rattle.hub_store.specs.Makes.{Makes, Creates, HasEmpty};
+
+use crate::statement::run;
+use sqlite::{Alter, Error, Transaction};
+
+pub(crate) fn create_item<S: Alter>(tx: &mut Transaction<'_, S>) -> Result<(), Error>
+    ensures same_reference { tx.new.conn.ghost_name ≡ tx.old.conn.ghost_name }
+    ensures empty { Creates (state S.Store tx.old.conn.now) (state S.Store tx.new.conn.now) (HasEmpty (schema_by 1)) (HasEmpty beside_item) result }
+    ensures made { (s : State) → Makes (state S.Store tx.old.conn.now) (state S.Store tx.new.conn.now) (HoldsParts (parts_1 s)) (HoldsParts (with_items [] s)) result }
+{
+    run(
+        tx,
+        "CREATE TABLE item (incident INTEGER NOT NULL, place INTEGER NOT NULL, depth INTEGER NOT NULL, name TEXT NOT NULL, in_array INTEGER NOT NULL, kind INTEGER NOT NULL, text TEXT NOT NULL, UNIQUE (incident, place)) STRICT",
+        &[],
+    )
+}
+
+/// The rows of the other tables stay.
+pub(crate) fn drop_incident<S: Alter>(tx: &mut Transaction<'_, S>) -> Result<(), Error>
+    ensures same_reference { tx.new.conn.ghost_name ≡ tx.old.conn.ghost_name }
+    ensures empty { Creates (state S.Store tx.old.conn.now) (state S.Store tx.new.conn.now) (HasEmpty beside_item) (HasEmpty without_incident) result }
+    ensures made { (s : State) → (items : List Row) → Makes (state S.Store tx.old.conn.now) (state S.Store tx.new.conn.now) (HoldsParts (with_items items s)) (HoldsParts (without_incidents items s)) result }
+{
+    run(tx, "DROP TABLE incident", &[])
+}
+
+pub(crate) fn create_incident<S: Alter>(tx: &mut Transaction<'_, S>) -> Result<(), Error>
+    ensures same_reference { tx.new.conn.ghost_name ≡ tx.old.conn.ghost_name }
+    ensures empty { Creates (state S.Store tx.old.conn.now) (state S.Store tx.new.conn.now) (HasEmpty without_incident) (HasEmpty hub_schema) result }
+    ensures made { (s : State) → (items : List Row) → Makes (state S.Store tx.old.conn.now) (state S.Store tx.new.conn.now) (HoldsParts (without_incidents items s)) (HoldsParts (tables_2 1 items [] s)) result }
+{
+    run(
+        tx,
+        "CREATE TABLE incident (number INTEGER PRIMARY KEY, source INTEGER NOT NULL, ident TEXT NOT NULL, revision INTEGER NOT NULL, UNIQUE (source, ident)) STRICT",
+        &[],
+    )
+}
+
+/// The tables of version 2 where those of version 1 have no row.
+pub(crate) fn make_tables_2<S: Alter>(tx: &mut Transaction<'_, S>) -> Result<(), Error>
+    ensures same_reference { tx.new.conn.ghost_name ≡ tx.old.conn.ghost_name }
+    ensures made { Creates (state S.Store tx.old.conn.now) (state S.Store tx.new.conn.now) (HasEmpty (schema_by 1)) (HasEmpty hub_schema) result }
+{
+    create_item(tx)?;
+    drop_incident(tx)?;
+    create_incident(tx)
+}

@@ -1,0 +1,7 @@
+use Rattle.redact.proofs.Matters.{excerpt-same}
+use Rattle.redact.proofs.MattersMarked.{well-marked}
+use Rattle.redact.proofs.MattersLabels.{labels-of-all}
+use Rattle.redact.proofs.laws.what_matters_is_told.Goals as goal
+
+pub returns : goal.returns
+returns c = λ ls c s. record { excerpt = excerpt-same ls c s; marked = well-marked ls c s; labels = labels-of-all ls c s }

@@ -1,0 +1,11 @@
+use Rattle.std.proofs.Common.{[], None, sym, refl, subst}
+use Rattle.redact.specs.Sifted.{Tracks}
+use Rattle.redact.specs.declared.sieve.Sieve.{Sieve}
+use Rattle.redact.proofs.Sifting.{sifts-none}
+use Rattle.redact.proofs.Tracking.{tracks-none}
+use Rattle.redact.proofs.sieve.Sieve.new.Goals as goal
+
+pub returns : goal.returns
+returns c = λ k s.
+    let sieve : Sieve = record { steps = c.new.result; lines = c.new-2.result; shut = None } in
+    sifts-none k s sieve c.new-2.ensures.items refl (subst (λ ss. Tracks [] ss) (sym c.new.ensures.items) tracks-none)

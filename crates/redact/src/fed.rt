@@ -1,0 +1,43 @@
+//! The lines that were fed to a pass, which only clauses read.
+
+ghost use Rattle.std.specs.Prelude.{◌≡◌, List, [], ◌∷◌, ◌++◌};
+ghost use Rattle.iodef_tree.specs.declared.line.Line.{Line as Row};
+ghost use base.Fml.{ftrue};
+
+use iodef_tree::Line;
+use std::marker::{Model, PhantomData};
+
+/// All lines so far, also those that were let go of. It has no bytes.
+pub(crate) struct Fed {
+    marker: PhantomData<u8>,
+    pub(crate) ghost lines: { List Row },
+}
+
+impl Model for Fed {
+    ghost also_owns = { λ _. ftrue };
+}
+
+impl Fed {
+    pub(crate) fn none() -> Fed
+        ensures { result.lines ≡ [] }
+    {
+        Fed {
+            marker: PhantomData,
+        }
+    }
+
+    pub(crate) fn with_line(&self, line: &Line) -> Fed
+        ensures { result.lines ≡ self.now.lines ++ line.now ∷ [] }
+    {
+        let _ = line;
+        Fed {
+            marker: PhantomData,
+        }
+    }
+}
+
+impl Drop for Fed {
+    fn drop(self) {
+        let Self { marker: _ } = self;
+    }
+}

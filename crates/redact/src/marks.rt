@@ -1,0 +1,200 @@
+//! Whether the markings of lines that come one at a time are accepted, with none of the lines kept.
+
+ghost use Rattle.std.specs.Prelude.{◌≡◌, OnOk};
+ghost use Rattle.std.specs.List.{list_all};
+ghost use Rattle.redact.specs.Marked.{brief_text, brief, extension_brief, no_marking, restriction_with as with_restriction, extension_with as with_extension, held_with, is_fine as is_rule_kept, marks_of, none_noted, closed_to, holding, opened, noted, is_accepted};
+
+use iodef_tree::{Kind, Line};
+use marking::Label;
+use std::alloc::{AllocError, Global};
+
+/// What a class holds as `restriction`, as far as the marking rule asks.
+#[derive(Clone, Copy)]
+pub(crate) enum Restriction {
+    Absent,
+    /// A text that spells a label, whatever stands beside it.
+    Label,
+    /// A text that spells a label with another text beside it.
+    Extended,
+    Other,
+}
+
+/// What a class holds as `ext-restriction`.
+#[derive(Clone, Copy)]
+pub(crate) enum Extension {
+    Absent,
+    Text,
+    Other,
+}
+
+/// What an open class holds so far.
+#[derive(Clone, Copy)]
+pub(crate) struct Marking {
+    pub(crate) restriction: Restriction,
+    pub(crate) extension: Extension,
+}
+
+/// The open classes, the outermost first, and whether one that was closed breaks the marking rule.
+#[derive(Drop)]
+pub(crate) struct Marks {
+    pub(crate) classes: Vec<Marking>,
+    pub(crate) broken: bool,
+}
+
+/// What a text as `restriction` comes to.
+fn spelled(text: &str) -> Restriction
+    ensures { result ≡ brief_text text.now }
+{
+    if Label::of(text, None).is_some() {
+        Restriction::Label
+    } else if Label::of(text, Some("")).is_some() {
+        Restriction::Extended
+    } else {
+        Restriction::Other
+    }
+}
+
+/// What a line of this name comes to as `restriction`.
+fn restriction_by(line: &Line) -> Restriction
+    ensures { result ≡ brief line.now }
+{
+    match line.kind {
+        Kind::Text if !line.in_array => spelled(line.text.as_str()),
+        _ => Restriction::Other,
+    }
+}
+
+/// What a line of this name comes to as `ext-restriction`.
+fn extension_by(line: &Line) -> Extension
+    ensures { result ≡ extension_brief line.now }
+{
+    match line.kind {
+        Kind::Text if !line.in_array => Extension::Text,
+        _ => Extension::Other,
+    }
+}
+
+/// What is held as `restriction` with a member more: the first of the name says it.
+fn restriction_with(held: Restriction, line: &Line) -> Restriction
+    ensures { result ≡ with_restriction line.now held }
+{
+    if line.name.as_str() == "restriction" {
+        return match held {
+            Restriction::Absent => restriction_by(line),
+            Restriction::Label | Restriction::Extended | Restriction::Other => held,
+        };
+    }
+    held
+}
+
+/// What is held as `ext-restriction` with a member more.
+fn extension_with(held: Extension, line: &Line) -> Extension
+    ensures { result ≡ with_extension line.now held }
+{
+    if line.name.as_str() == "ext-restriction" {
+        return match held {
+            Extension::Absent => extension_by(line),
+            Extension::Text | Extension::Other => held,
+        };
+    }
+    held
+}
+
+impl Marking {
+    /// Of a class without members.
+    fn none() -> Marking
+        ensures { result ≡ no_marking }
+    {
+        Marking {
+            restriction: Restriction::Absent,
+            extension: Extension::Absent,
+        }
+    }
+
+    /// With a member more.
+    fn with(self, line: &Line) -> Marking
+        ensures { result ≡ held_with line.now self }
+    {
+        Marking {
+            restriction: restriction_with(self.restriction, line),
+            extension: extension_with(self.extension, line),
+        }
+    }
+
+    /// Whether the class keeps the marking rule, if nothing more comes.
+    fn is_fine(self) -> bool
+        ensures { result ≡ is_rule_kept self }
+    {
+        match (self.restriction, self.extension) {
+            (Restriction::Absent, Extension::Absent) => true,
+            (Restriction::Label, Extension::Absent | Extension::Text) => true,
+            (Restriction::Extended, Extension::Text) => true,
+            _ => false,
+        }
+    }
+}
+
+/// Whether each of these classes keeps the marking rule, if nothing more comes.
+fn are_fine(classes: &[Marking]) -> bool
+    ensures { result ≡ list_all is_rule_kept classes.now }
+{
+    classes.iter().all(|marking| marking.is_fine())
+}
+
+/// The innermost of these classes holds a line.
+fn hold(classes: &mut [Marking], line: &Line)
+    ensures { classes.new ≡ holding line.now classes.old }
+{
+    if let Some(innermost) = classes.last_mut() {
+        *innermost = innermost.with(line);
+    }
+}
+
+/// The class of a line, if it is one, is open behind these.
+fn open(classes: &mut Vec<Marking>, line: &Line) -> Result<(), AllocError>
+    ensures { OnOk result (classes.new.items ≡ opened line.now classes.old.items) }
+{
+    match line.kind {
+        Kind::Class => classes.push(Marking::none())?,
+        Kind::Text | Kind::Value => {}
+    }
+    Ok(())
+}
+
+impl Marks {
+    /// Of no lines; takes no memory.
+    pub(crate) fn new(alloc: Global) -> Marks
+        ensures { marks_of result ≡ none_noted }
+    {
+        Marks {
+            classes: Vec::new(alloc),
+            broken: false,
+        }
+    }
+
+    /// With no more than so many classes open.
+    fn close_to(&mut self, depth: usize)
+        ensures { marks_of self.new ≡ closed_to depth (marks_of self.old) }
+    {
+        if depth < self.classes.len() {
+            self.broken = self.broken || !are_fine(&self.classes[depth..]);
+            self.classes.truncate(depth);
+        }
+    }
+
+    /// With a line more.
+    pub(crate) fn note(&mut self, line: &Line) -> Result<(), AllocError>
+        ensures { OnOk result (marks_of self.new ≡ noted (marks_of self.old) line.now) }
+    {
+        self.close_to((line.depth as usize).saturating_sub(1));
+        hold(self.classes.as_mut_slice(), line);
+        open(&mut self.classes, line)
+    }
+
+    /// Whether every class keeps the marking rule, if no line comes any more.
+    pub(crate) fn are_accepted(&self) -> bool
+        ensures { result ≡ is_accepted (marks_of self.now) }
+    {
+        !self.broken && are_fine(self.classes.as_slice())
+    }
+}

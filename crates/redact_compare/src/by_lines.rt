@@ -1,0 +1,116 @@
+//! What `RowPass` answers of the lines of a case, against a pass that keeps all of them and is asked at the end.
+
+use crate::compared::{any_document, case_over, same_lines};
+use crate::readers::any_standing;
+use crate::tally::Tally;
+use iodef_tree::{Document, Line, OutlineFault, Path};
+use policy::{Case, Rule, Standing};
+use redact::{Excerpt, RowPass, excerpt_if_marked};
+use std::alloc::{AllocError, Global};
+use trying::Dice;
+
+/// A case of a seed: a report by its document, what it is judged by, and a reader.
+#[derive(Drop)]
+struct World {
+    document: Document,
+    case: Case,
+    standing: Standing,
+}
+
+/// The case of this seed, if its report is read.
+fn world_at(alloc: Global, seed: u64) -> Result<Option<World>, AllocError> {
+    let mut dice = Dice::new(seed);
+    let Some(document) = any_document(alloc, &mut dice)? else {
+        return Ok(None);
+    };
+    let case = case_over(alloc, &mut dice, &document)?;
+    let standing = any_standing(alloc, &mut dice)?;
+    Ok(Some(World {
+        document,
+        case,
+        standing,
+    }))
+}
+
+/// What the pass that keeps all lines serves: the document of them, redacted at once.
+fn plainly(alloc: Global, world: World) -> Result<Option<Excerpt>, AllocError> {
+    let lines = world.document.outline(alloc)?;
+    let document = match Document::from_outline(alloc, &lines) {
+        Ok(document) => document,
+        Err(_) => return Err(AllocError),
+    };
+    excerpt_if_marked(alloc, &document, &world.case, &world.standing)
+}
+
+/// What `RowPass` serves, and whether it took each line.
+fn by_lines(alloc: Global, world: World) -> Result<Option<Excerpt>, OutlineFault> {
+    let World {
+        document,
+        case,
+        standing,
+    } = world;
+    let mut pass = RowPass::new(alloc, case, standing)?;
+    for line in document.outline(alloc)? {
+        pass.feed(line)?;
+    }
+    pass.finish()
+}
+
+fn same_pair(alloc: Global, one: &(Path, Rule), other: &(Path, Rule)) -> Result<bool, AllocError> {
+    let place = one.0.print(alloc)?;
+    Ok(place.as_str() == other.0.print(alloc)?.as_str() && one.1.name() == other.1.name())
+}
+
+/// Whether both tell the same of what is withheld, in the same order.
+fn same_withheld(
+    alloc: Global,
+    one: &[(Path, Rule)],
+    other: &[(Path, Rule)],
+) -> Result<bool, AllocError> {
+    for (pair, second) in one.iter().zip(other.iter()) {
+        if !same_pair(alloc, pair, second)? {
+            return Ok(false);
+        }
+    }
+    Ok(one.len() == other.len())
+}
+
+fn same_excerpt(alloc: Global, one: &Excerpt, other: &Excerpt) -> Result<bool, AllocError> {
+    let lines: Vec<Line> = one.document.outline(alloc)?;
+    let others: Vec<Line> = other.document.outline(alloc)?;
+    Ok(
+        one.classes == other.classes
+            && same_lines(&lines, &others)
+            && same_withheld(alloc, &one.withheld, &other.withheld)?,
+    )
+}
+
+/// Whether both serve the same; the tally is told whether something is served.
+fn agree_on(
+    alloc: Global,
+    tally: &mut Tally,
+    plain: &Option<Excerpt>,
+    rows: &Option<Excerpt>,
+) -> Result<bool, AllocError> {
+    match (plain, rows) {
+        (None, None) => Ok(true),
+        (Some(one), Some(other)) => {
+            tally.note("excerpts by lines", true);
+            same_excerpt(alloc, one, other)
+        }
+        _ => Ok(false),
+    }
+}
+
+/// Whether both serve the same of the case of this seed.
+pub fn agree_by_lines(alloc: Global, tally: &mut Tally, seed: u64) -> Result<bool, AllocError> {
+    let (Some(first), Some(second)) = (world_at(alloc, seed)?, world_at(alloc, seed)?) else {
+        return Ok(false);
+    };
+    let plain = plainly(alloc, first)?;
+    match by_lines(alloc, second) {
+        Ok(rows) => agree_on(alloc, tally, &plain, &rows),
+        Err(OutlineFault::NoMemory) => Err(AllocError),
+        Err(OutlineFault::BadOutline) => Ok(false),
+    }
+}
