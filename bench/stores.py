@@ -1,6 +1,7 @@
 #!/usr/bin/env python3
 """How the hub's time grows with its store: a list over all incidents by a person who may see none of them (so that the page
-goes to the end of the store), and the opening of the store, each at several sizes.
+goes to the end of the store), once as a gate refuses it everywhere and once by the labels, and the opening of the store, each at
+several sizes.
 
 usage: bench/stores.py [BINARY [PORT]]        BINARY is out/iodef-hub where none is named
 """
@@ -13,26 +14,28 @@ import sys
 import tempfile
 import time
 
-LISTED = [250, 500, 1000]
+LISTED = [250, 1000, 4000]
 OPENED = [1000, 2500, 5000, 10000]
 LABELS = [None, "public", "green", "amber", "red", "need-to-know"]
+# the level of the reports, and the labels of their parts: level 0 is for the own organisation alone, level 3 for everybody
+HIDDEN = {"a gate": (0, "green", LABELS), "labels": (3, "red", ["red"])}
 
 
 def digest(key):
     return hashlib.sha256(key.encode()).hexdigest()
 
 
-def report(number, events=20):
+def report(number, whole="green", labels=LABELS, events=20):
     data = []
     for i in range(events):
         event = {"Description": ["step %d of the campaign" % i],
                  "Flow": [{"System": [{"category": "source", "Node": {"Address": [
                      {"category": "ipv4-addr", "value": "192.0.2.%d" % i}]}}]}]}
-        if LABELS[i % 6]:
-            event["restriction"] = LABELS[i % 6]
+        if labels[i % len(labels)]:
+            event["restriction"] = labels[i % len(labels)]
         data.append(event)
     return json.dumps({"version": "2.0", "lang": "en", "Incident": [{
-        "purpose": "reporting", "restriction": "green",
+        "purpose": "reporting", "restriction": whole,
         "IncidentID": {"id": str(number), "name": "csirt.example.com"}, "GenerationTime": "2026-01-01T00:00:00Z",
         "Contact": [{"type": "organization", "role": "creator", "Email": [{"EmailTo": "contact@csirt.example.com"}]}],
         "EventData": data}]}, separators=(",", ":")).encode()
@@ -91,28 +94,34 @@ def listing(hub, times=5):
     return best
 
 
+def grow(binary, port, folder, why, is_opened):
+    """Lists and openings of a store that grows by reports which the reader may not see, for this reason."""
+    level, whole, labels = HIDDEN[why]
+    store = os.path.join(folder, "hub.db")
+    subprocess.run([binary, "init", store, "Hub", digest("admin")], check=True, stdout=subprocess.DEVNULL)
+    hub = Hub(binary, store, port)
+    begin(hub)
+    for number in range(1, max(LISTED + (OPENED if is_opened else [])) + 1):
+        hub.ask("poster", "POST", "/incidents?level=%d" % level, report(number, whole, labels))
+        if number in LISTED:
+            took = listing(hub)
+            print("a list over %5d incidents, hidden by %s: %6.3f s, %5.1f us for each" % (number, why, took, took / number * 1e6), flush=True)
+        if is_opened and number in OPENED:
+            hub.close()
+            hub = Hub(binary, store, port)
+            size = os.path.getsize(store) / 1e6
+            print("opening a store of %5d:    %6.3f s, %5.1f us for each, %.1f MB" % (
+                number, hub.opening, hub.opening / number * 1e6, size), flush=True)
+    hub.close()
+
+
 def main():
     top = os.path.dirname(os.path.dirname(os.path.abspath(__file__)))
     binary = sys.argv[1] if len(sys.argv) > 1 else os.path.join(top, "out", "iodef-hub")
     port = int(sys.argv[2]) if len(sys.argv) > 2 else 18093
-    with tempfile.TemporaryDirectory() as folder:
-        store = os.path.join(folder, "hub.db")
-        subprocess.run([binary, "init", store, "Hub", digest("admin")], check=True, stdout=subprocess.DEVNULL)
-        hub = Hub(binary, store, port)
-        begin(hub)
-        for number in range(1, max(LISTED + OPENED) + 1):
-            # level 0 is for the own organisation alone
-            hub.ask("poster", "POST", "/incidents?level=0", report(number))
-            if number in LISTED:
-                took = listing(hub)
-                print("a list over %5d incidents: %6.3f s, %5.1f us for each" % (number, took, took / number * 1e6), flush=True)
-            if number in OPENED:
-                hub.close()
-                hub = Hub(binary, store, port)
-                size = os.path.getsize(store) / 1e6
-                print("opening a store of %5d:    %6.3f s, %5.1f us for each, %.1f MB" % (
-                    number, hub.opening, hub.opening / number * 1e6, size), flush=True)
-        hub.close()
+    for why in HIDDEN:
+        with tempfile.TemporaryDirectory() as folder:
+            grow(binary, port, folder, why, why == "a gate")
 
 
 main()

@@ -11,6 +11,7 @@
 //!     pass|STANDING|GATES|PERMISSIONS              the same by its lines, one at a time
 //!     listed|STANDING|GATES|PERMISSIONS            whether it is listed to the reader
 //!     find|STANDING|GATES|PERMISSIONS|NEEDLE|CLASS whether the reader finds the needle in it; in classes of a name, if any
+//!     probe|STANDING|GATES|PERMISSIONS|NEEDLE|CLASS the same by its lines, one at a time; without a needle whether it is listed
 //!     explain|STANDING|GATES|PERMISSIONS|POINTER   why the reader sees the class or doesn't
 //!     before|BYTES                                 a request that a hub is asked before those of the lines behind
 //!     asked|BYTES                                  what the bytes ask
@@ -25,6 +26,7 @@ use crate::lists::{InLists, InTables, List};
 use crate::passes::Feeding;
 use crate::readers::{Asker, Asking};
 use crate::requests::{Asked, asked_by};
+use crate::searches::Seeking;
 use crate::serving::Serving;
 use crate::sweep::Sweep;
 use crate::wire::{Bytes, body_of, bytes_of, hub_behind, written};
@@ -78,6 +80,7 @@ impl Cases {
             "read" | "made" => self.document(kind, rest)?,
             "excerpt" | "listed" | "find" | "explain" => self.asking(kind, rest)?,
             "pass" => self.feeding(rest)?,
+            "probe" => self.seeking(rest)?,
             "before" => self.before(rest)?,
             "asked" => self.bytes(rest)?,
             "served" => self.serving(rest)?,
@@ -117,6 +120,12 @@ impl Cases {
         let alloc = self.alloc;
         let report = &self.report;
         Ok(self.sweep.told(alloc, &Feeding { report, reader })?)
+    }
+
+    fn seeking(&mut self, words: &str) -> Result<String, Unfit> {
+        let alloc = self.alloc;
+        let report = &self.report;
+        Ok(self.sweep.told(alloc, &Seeking { report, words })?)
     }
 
     /// Asks a request that comes before later ones. Told is the body of its reply.

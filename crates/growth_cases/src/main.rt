@@ -21,6 +21,7 @@ mod lists;
 mod passes;
 mod readers;
 mod requests;
+mod searches;
 mod serving;
 mod sweep;
 mod wire;

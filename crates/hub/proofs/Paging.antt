@@ -1,12 +1,13 @@
 -- A page, from the entries above a number.
-use Rattle.std.proofs.Common.{◌≡◌, ℕ, zero, suc, ◌+◌, ◌-◌, ◌<◌, ◌≤◌, Bool, true, false, List, [], ◌∷◌, ◌++◌, cond, Option, Some, None, length, take, drop, map, refl, sym, ◌∙◌, ap, subst, arith, filter, slice_get, get_or, not, ◌&&◌, append_assoc}
+use Rattle.std.proofs.Common.{◌≡◌, ℕ, zero, suc, ◌+◌, ◌-◌, ◌<◌, ◌≤◌, Bool, true, false, List, [], ◌∷◌, ◌++◌, cond, Option, Some, None, length, take, drop, map, refl, sym, ◌∙◌, ap, subst, arith, filter, slice_get, get_or, not, ◌&&◌, append_assoc, Contains, string_bytes}
 use Rattle.std.specs.Prelude.{option_map}
-use Rattle.std.specs.List.{AllByRecursion}
+use Rattle.std.specs.List.{AllByRecursion, list_any}
 use Rattle.std.specs.Option.{option_map_or}
 use Rattle.std.proofs.Math.Seq.{take-length}
 use Rattle.std.proofs.lemmas.Bool.{cond-true, cond-false, true≢false}
 use Rattle.std.proofs.lemmas.List.{take-append-drop, take-append-le, length-map, map-append, take-map, append-nil, drop_more, drop_all, drop-drop, drop_min, length-take, take_all}
 use Rattle.std.proofs.lemmas.List.Elements.{filter-append}
+use Rattle.std.proofs.lemmas.List.Folds.{Any-from_list_any}
 use Rattle.std.proofs.lemmas.Option.{slice_get_within}
 use Rattle.circle.specs.Sound.{CountsFrom}
 use Rattle.hub_core.specs.State.{State, incident_number, incident_of}
@@ -14,12 +15,16 @@ use Rattle.hub_core.specs.Sound.{IsSound}
 use Rattle.hub_core.specs.Reads.{case_for, entry_of, incidents_above, entries_after}
 use Rattle.hub_core.specs.declared.state.Incident.{Incident}
 use Rattle.hub_core.specs.declared.reply.Entry.{Entry}
+use Rattle.iodef_tree.specs.Text.{is_root}
 use Rattle.policy.specs.declared.standing.Standing.{Standing}
 use Rattle.policy.specs.declared.case.Case.{Case}
-use Rattle.redact.specs.Wants.{meets}
+use Rattle.policy.specs.declared.gate.Gate.{Gate}
+use Rattle.redact.specs.Wants.{meets, meets_by}
+use Rattle.redact.specs.declared.want.Want.{Want}
+use Rattle.redact.proofs.Shut.{root-tells-nothing}
 use Rattle.hub_core.specs.Documents.{Lines}
 use Rattle.hub.specs.declared.TheConstants.{PAGE_LIMIT}
-use Rattle.hub.specs.Wanted.{admits, is_told, number_at_end}
+use Rattle.hub.specs.Wanted.{HasSameWords, admits, shuts_out, is_shut_out, is_told, number_at_end}
 use Rattle.hub.specs.declared.wanted.Wanted.{Wanted}
 use Rattle.hub.proofs.Numbered.{above-numbered, counts-drop, counts-take, all_found}
 
@@ -217,15 +222,52 @@ admitted w doc c st h = by_case (admits w st) h
     by_case true k = refl
     by_case false k = absurd (true≢false k)
 
-pub told_there : (s : State) (w : Wanted) (st : Standing) (o : Option Incident) (c : Case) (doc : Lines) → not (admits w st) ≡ false →
-    Some c ≡ option_map (case_for s) o → Some doc ≡ option_map (λ (i : Incident). i.document) o →
-    meets w.want.now doc c st ≡ option_map_or (λ (i : Incident). is_told w i.document (case_for s i) st) o false
-told_there s w st None c doc not_out judged has = cc
-told_there s w st (Some i) c doc not_out judged has =
+-- also by one of the same words
+same_met : (copy want : Want) (doc : Lines) (c : Case) (st : Standing) → HasSameWords copy want → meets copy doc c st ≡ meets want doc c st
+same_met copy want doc c st same =
+    ap (λ x. meets_by x (option_map string_bytes copy.class) doc c st) same.needle ∙ ap (λ x. meets_by (option_map string_bytes want.needle) x doc c st) same.class
+
+pub told_there : (s : State) (w : Wanted) (copy : Want) (st : Standing) (o : Option Incident) (c : Case) → not (admits w st) ≡ false → Some c ≡ option_map (case_for s) o → HasSameWords copy w.want.now →
+    option_map_or (λ (i : Incident). meets copy i.document c st) o false ≡ option_map_or (λ (i : Incident). is_told w i.document (case_for s i) st) o false
+told_there s w copy st None c not_out judged same = refl
+told_there s w copy st (Some i) c not_out judged same =
     let case : c ≡ case_for s i = cc in
-    let lines : doc ≡ i.document = cc in
-    admitted w doc c st not_out ∙ ap (λ x. is_told w x c st) lines ∙ ap (λ x. is_told w i.document x st) case
+    same_met copy w.want.now i.document c st same ∙ admitted w i.document c st not_out ∙ ap (λ x. is_told w i.document x st) case
 
 pub none_told : (test : Incident → Bool) (o : Option Incident) → ((i : Incident) → test i ≡ false) → false ≡ option_map_or test o false
 none_told test None h = refl
 none_told test (Some i) h = sym (h i)
+
+-- ---- what a gate at the root shuts out
+
+pub shut_unmet : (w : Want) (ls : Lines) (c : Case) (st : Standing) → is_shut_out c st ≡ true → meets w ls c st ≡ false
+shut_unmet w ls c st shut =
+    let foreign : st.source ≡ false = not-true st.source (and-first (not st.source) _ shut) in
+    let one = some_shuts c.gates (and-second (not st.source) _ shut) in
+    (root-tells-nothing ls c st one.0 foreign one.1 (and-first (is_root one.0.path) _ one.2) (and-second (is_root one.0.path) _ one.2)).met (option_map string_bytes w.needle) (option_map string_bytes w.class)
+  where
+    not-true : (b : Bool) → not b ≡ true → b ≡ false
+    not-true true h = absurd (true≢false (sym h))
+    not-true false h = refl
+
+    and-first : (a b : Bool) → (a && b) ≡ true → a ≡ true
+    and-first true b h = refl
+    and-first false b h = absurd (true≢false (sym h))
+
+    and-second : (a b : Bool) → (a && b) ≡ true → b ≡ true
+    and-second true b h = h
+    and-second false b h = absurd (true≢false (sym h))
+
+    some_shuts : (gs : List Gate) → list_any (shuts_out st) gs ≡ true → (g : Gate) × Contains gs g × (shuts_out st g ≡ true)
+    some_shuts gs h = let any = Any-from_list_any (shuts_out st) gs h in (any.1, (any.0, any.2, any.3), any.4)
+
+pub shut_told : (s : State) (w : Wanted) (st : Standing) (o : Option Incident) (c : Case) → is_shut_out c st ≡ true → Some c ≡ option_map (case_for s) o →
+    false ≡ option_map_or (λ (i : Incident). is_told w i.document (case_for s i) st) o false
+shut_told s w st None c shut judged = refl
+shut_told s w st (Some i) c shut judged =
+    let case : c ≡ case_for s i = cc in
+    sym (ap (λ x. is_told w i.document x st) (sym case) ∙ untold (admits w st) (shut_unmet w.want.now i.document c st shut))
+  where
+    untold : (b : Bool) {m : Bool} → m ≡ false → (b && m) ≡ false
+    untold true h = h
+    untold false h = refl

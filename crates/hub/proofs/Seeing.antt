@@ -14,11 +14,11 @@ use Rattle.circle.specs.Sound.{CountsFrom}
 use Rattle.circle.specs.declared.directory.Person.{Person}
 use Rattle.hub_core.specs.Documents.{Lines}
 use Rattle.hub_core.specs.State.{State, incident_number, incident_of}
-use Rattle.hub_core.specs.Sound.{IsSound, IsAccepted}
+use Rattle.hub_core.specs.Sound.{IsSound}
 use Rattle.hub_core.specs.Reads.{case_for, entry_of, entries_after}
 use Rattle.hub_core.specs.declared.state.Incident.{Incident}
 use Rattle.hub_core.specs.declared.reply.Entry.{Entry}
-use Rattle.hub_core.proofs.Keeping.{found_each}
+use Rattle.hub_core.proofs.Marked.{IsMarked}
 use Rattle.hub.specs.Told.{standing_at, view_with, view_of}
 use Rattle.hub.specs.Viewing.{first_being, view_made}
 
@@ -62,27 +62,6 @@ entry_found (x ∷ xs) m n h = by_case (nat_lt (n - 1) x.naming.number) refl (x.
 
 pub entry_is : (s : State) (n : ℕ) → IsSound s → first_being n (entries_after (n - 1) 1 s) ≡ option_map entry_of (incident_of n s)
 entry_is s n sound = entry_found s.incidents 0 n sound.incidents.numbered.0
-
-pub marked : (s : State) (n : ℕ) (ls : Lines) → IsSound s → Some ls ≡ option_map (λ (i : Incident). i.document) (incident_of n s) → first_bad_marking (located ls) ≡ None
-marked s n ls sound is = by_case (incident_of n s) refl is
-  where
-    by_case : (o : Option Incident) → incident_of n s ≡ o → Some ls ≡ option_map (λ (i : Incident). i.document) o → first_bad_marking (located ls) ≡ None
-    by_case None at k = cc
-    by_case (Some i) at k =
-        let same : i.document ≡ ls = cc in
-        ap (λ d. first_bad_marking (located d)) (sym same) ∙ (found_each (λ (j : Incident). IsAccepted j.document) (λ (j : Incident). j.naming.number == n) s.incidents i at sound.incidents.documents).marked
-
--- the markings of an incident that is found are accepted
-abbrev pub IsMarked : Option Incident → Type 0
-IsMarked None = Unit {0}
-IsMarked (Some i) = first_bad_marking (located i.document) ≡ None
-
-pub marked_found : (s : State) (n : ℕ) → IsSound s → IsMarked (incident_of n s)
-marked_found s n sound = by_case (incident_of n s) refl
-  where
-    by_case : (o : Option Incident) → incident_of n s ≡ o → IsMarked o
-    by_case None at = tt
-    by_case (Some i) at = (found_each (λ (j : Incident). IsAccepted j.document) (λ (j : Incident). j.naming.number == n) s.incidents i at sound.incidents.documents).marked
 
 -- ---- the view
 

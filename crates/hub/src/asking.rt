@@ -1,7 +1,10 @@
 //! Reading what a person's requests are answered by.
-ghost use Rattle.std.specs.Prelude.{◌≡◌, IfOk, IsErrOf, option_map};
+ghost use Rattle.std.specs.Prelude.{◌≡◌, false, IfOk, IsErrOf, option_map};
+ghost use Rattle.std.specs.Option.{option_map_or};
 ghost use Rattle.hub_core.specs.State.{State, incident_of};
 ghost use Rattle.redact.specs.Excerpts.{told_by};
+ghost use Rattle.redact.specs.Wants.{meets};
+ghost use Rattle.hub_core.specs.Sound.{IsSound};
 ghost use Rattle.hub_core.specs.Reads.{case_for, served_of_incident};
 ghost use Rattle.hub_core.specs.declared.state.Incident.{Incident};
 ghost use Rattle.circle.specs.Reads.{person_of};
@@ -14,9 +17,8 @@ ghost use Rattle.hub.specs.Asking.{IsThere};
 use crate::key::Key;
 use circle::directory::Person;
 use hub_core::{Shelf, ShelfFault};
-use iodef_tree::Document;
 use policy::{Case, Standing};
-use redact::Excerpt;
+use redact::{Excerpt, Want};
 
 /// Who asks, and when.
 #[derive(Clone, Copy)]
@@ -77,15 +79,6 @@ pub fn case_of<Sh: Shelf>(shelf: &mut Sh, incident: u32) -> Result<Option<Case>,
     shelf.case(incident)
 }
 
-/// The document of an incident; none where it is missing.
-pub fn document_of<Sh: Shelf>(shelf: &mut Sh, incident: u32) -> Result<Option<Document>, ShelfFault>
-    ensures value { Sh.doubts shelf.new ≡ 0 → (s : State) → Sh.has shelf.old s → IfOk result (λ found. found ≡ option_map (λ (i : Incident). i.document) (incident_of incident s)) }
-    ensures kept { IsKept Sh.has Sh.doubts Sh.failed Sh.may_leave shelf.old shelf.new }
-    ensures cause { IsErrOf result ShelfFault.Failed → HasFailed (Sh.failed shelf.old) (Sh.failed shelf.new) }
-{
-    shelf.document(incident)
-}
-
 /// What a reader of this standing is served of an incident that is judged by this case; none where it is missing, or where no
 /// class of it is visible.
 pub fn excerpt_of<Sh: Shelf>(
@@ -99,4 +92,19 @@ pub fn excerpt_of<Sh: Shelf>(
     ensures cause { IsErrOf result ShelfFault.Failed → HasFailed (Sh.failed shelf.old) (Sh.failed shelf.new) }
 {
     shelf.excerpt(incident, case, standing)
+}
+
+/// Whether an incident that is judged by this case meets a want, for a reader of this standing; not where it is missing.
+pub fn is_met<Sh: Shelf>(
+    shelf: &mut Sh,
+    incident: u32,
+    case: Case,
+    standing: Standing,
+    want: Want,
+) -> Result<bool, ShelfFault>
+    ensures value { Sh.doubts shelf.new ≡ 0 → (s : State) → Sh.has shelf.old s → IsSound s → IfOk result (λ met. met ≡ option_map_or (λ (i : Incident). meets want i.document case standing) (incident_of incident s) false) }
+    ensures kept { IsKept Sh.has Sh.doubts Sh.failed Sh.may_leave shelf.old shelf.new }
+    ensures cause { IsErrOf result ShelfFault.Failed → HasFailed (Sh.failed shelf.old) (Sh.failed shelf.new) }
+{
+    shelf.meets(incident, case, standing, want)
 }

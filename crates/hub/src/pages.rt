@@ -1,5 +1,6 @@
 //! Pages: the incidents of which something holds, by number.
-ghost use Rattle.std.specs.Prelude.{◌≡◌, ◌≤◌, ◌++◌, false, not, IfOk, OnOk, IfErr, IsErrOf, filter, take, length};
+ghost use Rattle.std.specs.Prelude.{◌≡◌, ◌≤◌, ◌++◌, false, not, IfOk, OnOk, IfErr, IsErrOf, filter, take, length, option_map, string_bytes};
+ghost use Rattle.std.specs.List.{list_any};
 ghost use Rattle.std.specs.Option.{option_map_or};
 ghost use Rattle.hub_core.specs.State.{State, incident_of};
 ghost use Rattle.hub_core.specs.Sound.{IsSound};
@@ -7,33 +8,64 @@ ghost use Rattle.hub_core.specs.Reads.{case_for};
 ghost use Rattle.hub_core.specs.declared.state.Incident.{Incident};
 ghost use Rattle.hub_core.specs.declared.reply.Entry.{Entry as Listed};
 ghost use Rattle.hub.specs.Replies.{page_of};
-ghost use Rattle.redact.specs.Wants.{meets as is_met};
-ghost use Rattle.hub.specs.Wanted.{admits, is_told, is_wanted, is_wanted_at, number_at_end};
+ghost use Rattle.hub.specs.Wanted.{HasSameWords, admits, shuts_out, is_shut_out, is_told, is_wanted, is_wanted_at, number_at_end};
 ghost use Rattle.hub_core.specs.Shelves.{HasFailed, IsKept};
 ghost use Rattle.hub.specs.Asking.{IsThere};
 
 use crate::PAGE_LIMIT;
-use crate::asking::{Asker, case_of, document_of, standing};
+use crate::asking::{Asker, case_of, is_met, standing};
 use crate::fault::ample;
 use crate::wanted::Wanted;
 use hub_core::{Entry, Shelf, ShelfFault};
-use iodef_tree::Document;
-use policy::{Case, Standing};
-use redact::{Want, meets};
+use policy::{Case, Gate, Standing, passes};
+use redact::Want;
 use std::alloc::Global;
 
-/// Whether what a person is told of an incident meets a want.
-fn meets_so(
-    alloc: Global,
-    want: &Want,
-    document: &Document,
-    case: &Case,
-    standing: &Standing,
-) -> Result<bool, ShelfFault>
-    ensures met { IfOk result (λ b. b ≡ is_met want.now document.now case.now standing.now) }
+/// Whether it is a gate at the root, and refuses the reader.
+fn shuts(standing: &Standing, gate: &Gate) -> bool
+    ensures { result ≡ shuts_out standing.now gate.now }
+{
+    gate.path.tokens().is_empty() && passes(standing, gate).is_err()
+}
+
+fn one_shuts(case: &Case, standing: &Standing) -> bool
+    ensures { result ≡ list_any (shuts_out standing.now) case.now.gates }
+{
+    case.gates
+        .as_slice()
+        .iter()
+        .any(|gate| shuts(standing, gate))
+}
+
+/// Whether a gate at the root refuses a reader who isn't of the source. Then nothing of the incident is visible.
+fn is_shut(case: &Case, standing: &Standing) -> bool
+    ensures { result ≡ is_shut_out case.now standing.now }
+{
+    !standing.source && one_shuts(case, standing)
+}
+
+fn copied_text(alloc: Global, text: &Option<String>) -> Result<Option<String>, ShelfFault>
+    ensures value { IfOk result (λ copy. option_map string_bytes copy ≡ option_map string_bytes text.now) }
     ensures fault { IfErr result (λ e. e ≡ ShelfFault.NoMemory) }
 {
-    ample(meets(alloc, document, case, standing, want))
+    match text {
+        None => Ok(None),
+        Some(text) => {
+            let copy = ample(String::from_str(alloc, text.as_str()))?;
+            Ok(Some(copy))
+        }
+    }
+}
+
+/// A want of the same words.
+fn copied(alloc: Global, want: &Want) -> Result<Want, ShelfFault>
+    ensures same { IfOk result (λ copy. HasSameWords copy want.now) }
+    ensures fault { IfErr result (λ e. e ≡ ShelfFault.NoMemory) }
+{
+    Ok(Want {
+        needle: copied_text(alloc, &want.needle)?,
+        class: copied_text(alloc, &want.class)?,
+    })
 }
 
 /// Whether a standing rules an incident out, whatever it holds.
@@ -43,28 +75,30 @@ fn is_ruled_out(wanted: Wanted<'_>, standing: &Standing) -> bool
     wanted.addressed && !(standing.person || standing.addressed)
 }
 
-/// Whether a page lists the incident, told by how the person stands to it. Where that rules it out, nothing more is read.
+/// Whether a page lists the incident, told by how the person stands to it. Where that rules it out, nothing more is read, and
+/// where a gate at the root shuts the person out, no line of it.
 fn is_wanted_by<Sh: Shelf>(
     shelf: &mut Sh,
     alloc: Global,
     wanted: Wanted<'_>,
-    standing: &Standing,
+    standing: Standing,
     incident: u32,
 ) -> Result<bool, ShelfFault>
-    ensures value { Sh.doubts shelf.new ≡ 0 → (s : State) → Sh.has shelf.old s → IfOk result (λ b. b ≡ option_map_or (λ (i : Incident). is_told wanted.entry i.document (case_for s i) standing.now) (incident_of incident s) false) }
+    ensures value { Sh.doubts shelf.new ≡ 0 → (s : State) → Sh.has shelf.old s → IsSound s → IfOk result (λ b. b ≡ option_map_or (λ (i : Incident). is_told wanted.entry i.document (case_for s i) standing) (incident_of incident s) false) }
     ensures kept { IsKept Sh.has Sh.doubts Sh.failed Sh.may_leave shelf.old shelf.new }
     ensures cause { IsErrOf result ShelfFault.Failed → HasFailed (Sh.failed shelf.old) (Sh.failed shelf.new) }
 {
-    if is_ruled_out(wanted, standing) {
+    if is_ruled_out(wanted, &standing) {
         return Ok(false);
     }
     let Some(case) = case_of(shelf, incident)? else {
         return Ok(false);
     };
-    let Some(document) = document_of(shelf, incident)? else {
+    if is_shut(&case, &standing) {
         return Ok(false);
-    };
-    meets_so(alloc, wanted.want, &document, &case, standing)
+    }
+    let want = copied(alloc, wanted.want)?;
+    is_met(shelf, incident, case, standing, want)
 }
 
 /// Whether a page lists the incident of this number for the person, at a moment.
@@ -75,13 +109,13 @@ fn lists<Sh: Shelf>(
     wanted: Wanted<'_>,
     incident: u32,
 ) -> Result<bool, ShelfFault>
-    ensures value { Sh.doubts shelf.new ≡ 0 → (s : State) → Sh.has shelf.old s → IsThere s asker.entry.person.now → IfOk result (λ b. b ≡ is_wanted_at s asker.entry.now asker.entry.person.now wanted.entry incident) }
+    ensures value { Sh.doubts shelf.new ≡ 0 → (s : State) → Sh.has shelf.old s → IsSound s → IsThere s asker.entry.person.now → IfOk result (λ b. b ≡ is_wanted_at s asker.entry.now asker.entry.person.now wanted.entry incident) }
     ensures kept { IsKept Sh.has Sh.doubts Sh.failed Sh.may_leave shelf.old shelf.new }
     ensures cause { IsErrOf result ShelfFault.Failed → HasFailed (Sh.failed shelf.old) (Sh.failed shelf.new) }
 {
     match standing(shelf, asker, incident)? {
         None => Ok(false),
-        Some(standing) => is_wanted_by(shelf, alloc, wanted, &standing, incident),
+        Some(standing) => is_wanted_by(shelf, alloc, wanted, standing, incident),
     }
 }
 
@@ -96,7 +130,7 @@ fn pick<Sh: Shelf>(
 ) -> Result<(), ShelfFault>
     requires { length listed.old.items ≤ PAGE_LIMIT }
     ensures room { OnOk result (length listed.new.items ≤ PAGE_LIMIT) }
-    ensures value { Sh.doubts shelf.new ≡ 0 → (s : State) → Sh.has shelf.old s → IsThere s asker.entry.person.now → OnOk result (listed.new.items ≡ take PAGE_LIMIT (listed.old.items ++ filter (λ (e : Listed). is_wanted_at s asker.entry.now asker.entry.person.now wanted.entry e.number) entries.now)) }
+    ensures value { Sh.doubts shelf.new ≡ 0 → (s : State) → Sh.has shelf.old s → IsSound s → IsThere s asker.entry.person.now → OnOk result (listed.new.items ≡ take PAGE_LIMIT (listed.old.items ++ filter (λ (e : Listed). is_wanted_at s asker.entry.now asker.entry.person.now wanted.entry e.number) entries.now)) }
     ensures kept { IsKept Sh.has Sh.doubts Sh.failed Sh.may_leave shelf.old shelf.new }
     ensures cause { IsErrOf result ShelfFault.Failed → HasFailed (Sh.failed shelf.old) (Sh.failed shelf.new) }
 {

@@ -13,6 +13,8 @@ pub struct Block {
     pub fails: bool,
     /// Whether the steps of statements are to be limited, to ever more.
     pub limits: bool,
+    /// Whether it is to be told for how many reports the shelf was asked for each page.
+    pub counts: bool,
 }
 
 impl Block {
@@ -22,6 +24,7 @@ impl Block {
             lines: Vec::new(alloc),
             fails: false,
             limits: false,
+            counts: false,
         }
     }
 
@@ -37,6 +40,10 @@ impl Block {
         }
         if line == "steps are limited" {
             self.limits = true;
+            return Ok(());
+        }
+        if line == "searches are counted" {
+            self.counts = true;
             return Ok(());
         }
         let (times, request) = line.split_once(" times ").unwrap_or(("1", line));

@@ -7,7 +7,7 @@ use circle::directory::Person;
 use hub_core::{Edit, Entry, Facts, JoinedGroup, Request, Shelf, ShelfFault};
 use iodef_tree::Document;
 use policy::{Case, Standing};
-use redact::Excerpt;
+use redact::{Excerpt, Want};
 
 /// A shelf whose calls are answered by another one, but for one of them: behind so many calls, one fails and does nothing.
 #[derive(Drop)]
@@ -101,6 +101,18 @@ impl<Sh: Shelf> Shelf for Failing<Sh> {
         self.ask()?;
         let found = self.shelf.excerpt(incident, case, standing);
         self.told(found)
+    }
+
+    fn meets(
+        &mut self,
+        incident: u32,
+        case: Case,
+        standing: Standing,
+        want: Want,
+    ) -> Result<bool, ShelfFault> {
+        self.ask()?;
+        let met = self.shelf.meets(incident, case, standing, want);
+        self.told(met)
     }
 
     fn incidents_after(&mut self, number: u32, most: u32) -> Result<Vec<Entry>, ShelfFault> {

@@ -10,17 +10,20 @@
 //! `150 times` before a request asks it so often; in it `<n>` is the number of the time, and `<a,b>` is a and b in turn.
 //!
 //! Behind the answers of a block stands whether tables in memory, opened anew behind each request, answer the same. Behind
-//! all blocks stands what becomes of stores that are made, opened and refused, the lines of a report as rows, and a store of
-//! an older version, brought to the newest.
+//! all blocks stands what becomes of stores that are made, opened and refused, the lines of a report as rows, what is answered
+//! where a row is missing in the middle of a report, and a store of an older version, brought to the newest.
 //!
 //! A block with a line `every call fails` is run once more for each call of the shelf, which then fails that one time: one
 //! request is answered F1, and all others as if that one hadn't been made. One with a line `steps are limited` is run once more
 //! over tables for each limit on the steps of a statement, from one on: a request is answered F1 or as with no limit, behind F1
-//! everybody sees what stood before, and the same request is then answered with no limit.
+//! everybody sees what stood before, and the same request is then answered with no limit. Behind one with a line `searches are
+//! counted` stands for each of its pages for how many reports the shelf was asked whether they meet what is wanted.
 #![tactic(auto)]
 
 mod block;
+mod counted;
 mod failing;
+mod missing_row;
 mod old_store;
 mod openings;
 mod play;
@@ -60,6 +63,9 @@ fn main(rt: HostRuntime) -> io::Result<()> {
     }
     let told = stored_lines::told(alloc, &world)?;
     println!(rt; "{told}")?;
+    for told in missing_row::all(alloc, &world)? {
+        println!(rt; "{told}")?;
+    }
     for told in old_store::all(alloc)? {
         println!(rt; "{told}")?;
     }

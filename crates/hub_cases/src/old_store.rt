@@ -31,7 +31,7 @@ const ROWS: [&str; 9] = [
     "INSERT INTO person VALUES (1, 1, 'admin', 0, X'0101010101010101010101010101010101010101010101010101010101010101', 1, 0), (2, 2, 'src', 1, X'0202020202020202020202020202020202020202020202020202020202020202', 1, 0), (3, 3, 'mem', 1, X'0303030303030303030303030303030303030303030303030303030303030303', 1, 0), (4, 4, 'far', 3, X'0404040404040404040404040404040404040404040404040404040404040404', 1, 0), (5, 5, 'cli', 1, X'0505050505050505050505050505050505050505050505050505050505050505', 1, 0), (6, 3, 'six', 3, X'0606060606060606060606060606060606060606060606060606060606060606', 1, 0)",
     "INSERT INTO community VALUES (1, 'east'), (2, 'west')",
     "INSERT INTO grp VALUES (1, 2, 'g', '', 1)",
-    "INSERT INTO pair VALUES ('member', 1, 2, NULL), ('member', 1, 3, NULL), ('member', 2, 4, NULL), ('grp_member', 1, 3, 0)",
+    "INSERT INTO pair VALUES ('member', 1, 2, NULL), ('member', 1, 3, NULL), ('member', 2, 4, NULL), ('grp_member', 1, 2, 1), ('grp_member', 1, 3, 0)",
     "INSERT INTO gate VALUES (1, '', 3, NULL)",
     "INSERT INTO permission VALUES (1, '/Incident/0/EventData/0', 1, 4)",
     "INSERT INTO incident VALUES (1, 2, '\"7\"', 1, '{\"Incident\":[{\"Contact\":[],\"EventData\":[{\"Description\":[\"x\"],\"Flow\":[{\"System\":[],\"restriction\":\"red\"}]}],\"GenerationTime\":\"g\",\"IncidentID\":\"7\",\"purpose\":\"reporting\",\"restriction\":\"private\"}],\"version\":\"2.0\"}')",

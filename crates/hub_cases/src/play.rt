@@ -1,6 +1,7 @@
 //! Runs the requests of a block.
 
 use crate::block::Block;
+use crate::counted::counts;
 use crate::failing::Failing;
 use crate::steps::limited;
 use crate::world::{lines_of, requests_of};
@@ -120,6 +121,9 @@ pub fn answers(alloc: Global, world: &Block, block: &Block) -> Result<Vec<String
     if block.limits {
         let told = limited(alloc, &lines, world.lines.len())?;
         answers.push(String::from_str(alloc, told)?)?;
+    }
+    if block.counts {
+        answers.push(counts(alloc, &lines, world.lines.len())?)?;
     }
     Ok(answers)
 }

@@ -8,14 +8,16 @@ use hub_store::SqlShelf;
 use sqlite::{Connection, MemStore};
 use std::alloc::{AllocError, Global};
 
-/// The tables, once this is posted behind the requests of the world; none where they aren't made.
-fn posted(
+/// The tables, once these are posted behind the requests of the world; none where they aren't made.
+pub fn posted(
     alloc: Global,
     world: &Block,
-    post: &str,
+    posts: &[&str],
 ) -> Result<Option<SqlShelf<MemStore>>, AllocError> {
     let mut block = Block::new(alloc);
-    block.add(post)?;
+    for post in posts {
+        block.add(post)?;
+    }
     let Some(shelf) = begun(alloc)? else {
         return Ok(None);
     };
@@ -44,7 +46,7 @@ fn names(alloc: Global, mut conn: Connection<MemStore>) -> Result<String, AllocE
 
 /// What is printed of a report of two events.
 pub fn told(alloc: Global, world: &Block) -> Result<String, AllocError> {
-    match posted(alloc, world, "p2|Post|3|-||DOC2")? {
+    match posted(alloc, world, &["p2|Post|3|-||DOC2"])? {
         Some(shelf) => names(alloc, shelf.release()),
         None => String::from_str(alloc, "not posted"),
     }

@@ -5,6 +5,7 @@ ghost use Rattle.hub_cli.specs.Faults.{told_of_shelf, told_of_opening};
 use crate::fault::{Fault, Reason};
 use hub_core::ShelfFault;
 use hub_store::{OpenFault, SqlShelf};
+use kept_documents::{KeptDocuments, MOST_LINES};
 use sqlite::{Alter, Connection, Error, ErrorCode, File, FileStore};
 use std::alloc::Global;
 use std::fs;
@@ -106,6 +107,17 @@ fn open_over<S: Alter + Drop>(alloc: Global, conn: Connection<S>) -> Result<SqlS
 /// The shelf over the file, whose tables are of the newest version.
 pub fn open_store(rt: &HostRuntime, path: &str) -> Result<FileShelf, Fault> {
     open_over(rt.alloc(), connect(rt, path)?)
+}
+
+/// The shelf over the file, which keeps the documents that are read lately.
+pub fn open_kept(rt: &HostRuntime, path: &str) -> Result<KeptDocuments<FileShelf>, Fault> {
+    match KeptDocuments::new(rt.alloc(), open_store(rt, path)?, MOST_LINES) {
+        Ok(kept) => Ok(kept),
+        Err((_, shelf)) => {
+            close(shelf);
+            Err(Fault::NoMemory)
+        }
+    }
 }
 
 /// Gives up a shelf. What was committed stands in the log beside the file already, so a fault here loses nothing: the next

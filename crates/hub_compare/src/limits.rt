@@ -4,7 +4,7 @@ use crate::asked::Asked;
 use crate::documents::{Flaw, any_body, ident_text};
 use crate::fault::{Fault, agree};
 use crate::outcomes::outcome_of;
-use crate::shelves::Both;
+use crate::shelves::Shelves;
 use crate::tally::note;
 use crate::world::{World, key_of};
 use circle::command::CircleCommand;
@@ -171,10 +171,10 @@ fn asked_by(who: u32, request: Request) -> Asked {
 }
 
 /// Compares the first page of the incidents, a hundred of them, and the rest.
-fn agree_on_pages(alloc: Global, both: &mut Both) -> Result<(), Fault> {
+fn agree_on_pages(alloc: Global, shelves: &mut Shelves) -> Result<(), Fault> {
     for (after, count) in [(0, 100), (100, 12)] {
         let asked = asked_by(COORDINATOR, Request::List { after });
-        let Reply::Incidents(entries) = both.reply(alloc, &asked)? else {
+        let Reply::Incidents(entries) = shelves.reply(alloc, &asked)? else {
             return Err(Fault::Differs("a page that is none"));
         };
         agree(
@@ -185,19 +185,35 @@ fn agree_on_pages(alloc: Global, both: &mut Both) -> Result<(), Fault> {
     Ok(())
 }
 
-/// Compares what both hubs reply to whoever asks for one more: that it is done, and from then on that there is no room.
-pub fn agree_at_limits(alloc: Global, tally: &mut Tally) -> Result<(), Fault> {
+/// The hubs over a world in which one more of each kind may be.
+fn nearly_full_hubs(alloc: Global) -> Result<Shelves, Fault> {
     let edits = nearly_full(alloc)?.into_edits()?;
-    let mut both = Both::new(alloc, edits.as_slice())?;
-    for time in 0..TIMES {
-        let wanted = if time == 0 { "done" } else { "L1" };
-        for asked in one_more(alloc, time)? {
-            let reply = both.reply(alloc, &asked)?;
-            let outcome = outcome_of(alloc, &reply)?;
-            agree(outcome.as_str() == wanted, "an outcome at a limit")?;
-            note(tally, alloc, &asked.request, &reply)?;
-        }
+    Shelves::new(alloc, edits.as_slice())
+}
+
+/// Compares what all hubs reply to whoever asks for one more.
+fn agree_on_one_more(
+    alloc: Global,
+    tally: &mut Tally,
+    shelves: &mut Shelves,
+    time: u32,
+) -> Result<(), Fault> {
+    let wanted = if time == 0 { "done" } else { "L1" };
+    for asked in one_more(alloc, time)? {
+        let reply = shelves.reply(alloc, &asked)?;
+        let outcome = outcome_of(alloc, &reply)?;
+        agree(outcome.as_str() == wanted, "an outcome at a limit")?;
+        note(tally, alloc, &asked.request, &reply)?;
     }
-    agree_on_pages(alloc, &mut both)?;
-    both.opened_anew(alloc)?.agree_on_content(alloc)
+    Ok(())
+}
+
+/// Compares what all hubs reply to whoever asks for one more: that it is done, and from then on that there is no room.
+pub fn agree_at_limits(alloc: Global, tally: &mut Tally) -> Result<(), Fault> {
+    let mut shelves = nearly_full_hubs(alloc)?;
+    for time in 0..TIMES {
+        agree_on_one_more(alloc, tally, &mut shelves, time)?;
+    }
+    agree_on_pages(alloc, &mut shelves)?;
+    shelves.opened_anew(alloc)?.agree_on_content(alloc)
 }

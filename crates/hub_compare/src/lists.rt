@@ -1,8 +1,8 @@
-//! Lists of requests by several persons, asked of both hubs.
+//! Lists of requests by several persons, asked of all hubs.
 
 use crate::asked::any_asked;
 use crate::fault::Fault;
-use crate::shelves::Both;
+use crate::shelves::Shelves;
 use crate::tally::note;
 use crate::worlds::any_world;
 use std::alloc::Global;
@@ -16,7 +16,7 @@ const ANEW: usize = 20;
 /// In how many lists one is over a world with incidents at the limits.
 const CROWDED: u64 = 5;
 
-/// Compares what both hubs reply to the list of this seed, and then all that both have.
+/// Compares what all hubs reply to the list of this seed, and then all that their shelves have.
 pub fn agree_on_list(alloc: Global, tally: &mut Tally, seed: u64) -> Result<(), Fault> {
     let mut dice = Dice::new(seed);
     let world = any_world(alloc, &mut dice, seed % CROWDED == 1)?;
@@ -25,13 +25,13 @@ pub fn agree_on_list(alloc: Global, tally: &mut Tally, seed: u64) -> Result<(), 
         list.push(any_asked(&mut dice, &world)?)?;
     }
     let edits = world.into_edits()?;
-    let mut both = Both::new(alloc, edits.as_slice())?;
+    let mut shelves = Shelves::new(alloc, edits.as_slice())?;
     for part in list.chunks(ANEW) {
         for asked in part {
-            let reply = both.reply(alloc, asked)?;
+            let reply = shelves.reply(alloc, asked)?;
             note(tally, alloc, &asked.request, &reply)?;
         }
-        both = both.opened_anew(alloc)?;
+        shelves = shelves.opened_anew(alloc)?;
     }
-    both.agree_on_content(alloc)
+    shelves.agree_on_content(alloc)
 }

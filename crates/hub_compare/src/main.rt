@@ -1,8 +1,9 @@
-//! `hub_compare LISTS`: asks the hub over the shelf in memory, and the hub over SQL tables, so many generated lists of 60
-//! requests, and then for more rows than there may be. The tables are opened anew within each list and at its end. All replies
-//! have to be equal, and so what the two shelves have in the end. A difference is told by its list, with status 1. Behind
-//! each kind of request stands how often each outcome was met; it is status 1 too where one wasn't met, or another was. Of what
-//! `stdout` has, these counts alone are what the program told, as nobody can reckon them beforehand.
+//! `hub_compare LISTS`: asks the hub over the shelf in memory, the hub over SQL tables, and the hub over a shelf in memory that
+//! keeps documents so many generated lists of 60 requests, and then for more rows than there may be. The tables are opened anew
+//! within each list and at its end. All replies have to be equal, and so what the shelves have in the end. A difference is told
+//! by its list, with status 1. Behind each kind of request stands how often each outcome was met; it is status 1 too where one
+//! wasn't met, or another was. Of what `stdout` has, these counts alone are what the program told, as nobody can reckon them
+//! beforehand.
 #![tactic(auto)]
 
 mod asked;

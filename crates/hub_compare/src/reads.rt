@@ -1,10 +1,11 @@
-//! What the two shelves have, read by each of the shelf's reads.
+//! What the shelves have, read by each of the shelf's reads.
 
 use crate::fault::{Fault, agree};
-use crate::replies::{same_document, same_groups};
+use crate::replies::{same_document, same_excerpt, same_groups};
 use crate::world::{KEYS, key_of};
 use hub_core::{ListShelf, Shelf};
 use hub_store::SqlShelf;
+use kept_documents::KeptDocuments;
 use policy::{Case, Gate, Permission, Standing};
 use sqlite::MemStore;
 use std::alloc::Global;
@@ -104,6 +105,42 @@ fn agree_on_incident(
     agree(same_document(alloc, &one, &other)?, "a document")?;
     for person in 0..PERSONS {
         agree_on_standing(lists, tables, person, incident)?;
+    }
+    Ok(())
+}
+
+/// What a person is served of the incident, if both are there.
+fn agree_on_excerpt(
+    alloc: Global,
+    lists: &mut ListShelf,
+    kept: &mut KeptDocuments<ListShelf>,
+    person: u32,
+    incident: u32,
+) -> Result<(), Fault> {
+    let (Some(case), Some(standing)) = (lists.case(incident)?, lists.standing(person, incident)?)
+    else {
+        return Ok(());
+    };
+    let one = lists.excerpt(incident, case, standing)?;
+    let (Some(case), Some(standing)) = (kept.case(incident)?, kept.standing(person, incident)?)
+    else {
+        return Err(Fault::Differs("a case or a standing that is missing"));
+    };
+    let other = kept.excerpt(incident, case, standing)?;
+    agree(same_excerpt(alloc, &one, &other)?, "an excerpt")
+}
+
+/// Compares what is served by the shelf in memory and by the one that keeps documents, which by then has some of them.
+pub fn agree_on_excerpts(
+    alloc: Global,
+    lists: &mut ListShelf,
+    kept: &mut KeptDocuments<ListShelf>,
+) -> Result<(), Fault> {
+    let entries = lists.incidents_after(0, u32::MAX)?;
+    for entry in entries.iter().take(INCIDENTS) {
+        for person in 0..PERSONS {
+            agree_on_excerpt(alloc, lists, kept, person, entry.number)?;
+        }
     }
     Ok(())
 }

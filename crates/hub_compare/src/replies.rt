@@ -3,6 +3,7 @@
 use hub_core::{JoinedGroup, Reply, View};
 use iodef_tree::{Document, Path};
 use policy::Rule;
+use redact::Excerpt;
 use std::alloc::{AllocError, Global};
 
 /// Whether they have the same compact JSON.
@@ -27,6 +28,23 @@ fn same_view(alloc: Global, one: &View, other: &View) -> Result<bool, AllocError
             && same_withheld(one.withheld.as_slice(), other.withheld.as_slice())
             && same_document(alloc, &one.document, &other.document)?,
     )
+}
+
+/// Whether both are none, or equal in each field; documents by their JSON.
+pub fn same_excerpt(
+    alloc: Global,
+    one: &Option<Excerpt>,
+    other: &Option<Excerpt>,
+) -> Result<bool, AllocError> {
+    match (one, other) {
+        (None, None) => Ok(true),
+        (Some(a), Some(b)) => Ok(
+            a.classes == b.classes
+                && same_withheld(a.withheld.as_slice(), b.withheld.as_slice())
+                && same_document(alloc, &a.document, &b.document)?,
+        ),
+        _ => Ok(false),
+    }
 }
 
 fn same_group(one: &JoinedGroup, other: &JoinedGroup) -> bool {

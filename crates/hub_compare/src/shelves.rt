@@ -1,20 +1,40 @@
-//! The hub over both shelves, which are asked the same.
+//! The hub over the shelves, which are asked the same.
 
 use crate::asked::Asked;
 use crate::fault::{Fault, agree};
-use crate::reads::agree_on_reads;
+use crate::reads::{agree_on_excerpts, agree_on_reads};
 use crate::replies::same_reply;
 use hub::Hub;
 use hub_core::{Edit, ListShelf, Reply, Shelf};
 use hub_store::SqlShelf;
+use kept_documents::KeptDocuments;
 use sqlite::{Connection, MemStore};
 use std::alloc::Global;
 
-/// The hub over the shelf in memory, and over SQL tables in memory.
+/// How many lines the third shelf keeps: so few that documents take each other's place.
+const MOST_LINES: usize = 60;
+
+/// The hub over the shelf in memory, over SQL tables in memory, and over a shelf in memory that keeps documents.
 #[derive(Drop)]
-pub struct Both {
+pub struct Shelves {
     lists: Hub<ListShelf>,
     tables: Hub<SqlShelf<MemStore>>,
+    kept: Hub<KeptDocuments<ListShelf>>,
+}
+
+/// A shelf in memory with these rows.
+fn new_lists(alloc: Global, edits: &[Edit]) -> Result<ListShelf, Fault> {
+    let mut lists = ListShelf::new(alloc);
+    lists.apply(edits)?;
+    Ok(lists)
+}
+
+/// The same, which keeps documents.
+fn new_kept(alloc: Global, edits: &[Edit]) -> Result<KeptDocuments<ListShelf>, Fault> {
+    match KeptDocuments::new(alloc, new_lists(alloc, edits)?, MOST_LINES) {
+        Ok(kept) => Ok(kept),
+        Err((refused, _)) => Err(Fault::from(refused)),
+    }
 }
 
 /// New SQL tables without rows.
@@ -42,42 +62,60 @@ fn opened_anew(alloc: Global, shelf: SqlShelf<MemStore>) -> Result<SqlShelf<MemS
     }
 }
 
-impl Both {
-    /// Both shelves with these rows.
-    pub fn new(alloc: Global, edits: &[Edit]) -> Result<Both, Fault> {
-        let mut lists = ListShelf::new(alloc);
-        lists.apply(edits)?;
+impl Shelves {
+    /// The shelves with these rows.
+    pub fn new(alloc: Global, edits: &[Edit]) -> Result<Shelves, Fault> {
         let mut tables = new_tables(alloc)?;
         tables.apply(edits)?;
-        Ok(Both {
-            lists: Hub::new(lists),
+        Ok(Shelves {
+            lists: Hub::new(new_lists(alloc, edits)?),
             tables: Hub::new(tables),
+            kept: Hub::new(new_kept(alloc, edits)?),
         })
     }
 
-    /// What both reply, which has to be equal.
+    /// What all reply, which has to be equal.
     pub fn reply(&mut self, alloc: Global, asked: &Asked) -> Result<Reply, Fault> {
         let Asked { now, key, request } = asked;
         let reply = self.lists.answer(alloc, *now, key, request);
         let other = self.tables.answer(alloc, *now, key, request);
         agree(same_reply(alloc, &reply, &other)?, "a reply")?;
+        let other = self.kept.answer(alloc, *now, key, request);
+        agree(
+            same_reply(alloc, &reply, &other)?,
+            "a reply of the shelf that keeps documents",
+        )?;
         Ok(reply)
     }
 
     /// The same with the tables released and opened anew.
-    pub fn opened_anew(self, alloc: Global) -> Result<Both, Fault> {
-        let Both { lists, tables } = self;
+    pub fn opened_anew(self, alloc: Global) -> Result<Shelves, Fault> {
+        let Shelves {
+            lists,
+            tables,
+            kept,
+        } = self;
         let tables = opened_anew(alloc, tables.into_shelf())?;
-        Ok(Both {
+        Ok(Shelves {
             lists,
             tables: Hub::new(tables),
+            kept,
         })
     }
 
-    /// Compares what both shelves have.
+    /// Compares what the shelves have.
     pub fn agree_on_content(self, alloc: Global) -> Result<(), Fault> {
-        let Both { lists, tables } = self;
-        let (mut lists, mut tables) = (lists.into_shelf(), tables.into_shelf());
-        agree_on_reads(alloc, &mut lists, &mut tables)
+        let Shelves {
+            lists,
+            tables,
+            kept,
+        } = self;
+        let (mut lists, mut tables, mut kept) = (
+            lists.into_shelf(),
+            tables.into_shelf(),
+            kept.into_shelf(),
+        );
+        agree_on_reads(alloc, &mut lists, &mut tables)?;
+        agree_on_excerpts(alloc, &mut lists, &mut kept)
     }
 }

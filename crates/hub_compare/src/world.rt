@@ -1,4 +1,4 @@
-//! The rows that a list begins with. Requests are made of them, and both shelves are given them.
+//! The rows that a list begins with. Requests are made of them, and all shelves are given them.
 
 use crate::fault::Fault;
 use circle::command::RowEdit;

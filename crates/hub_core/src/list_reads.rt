@@ -2,8 +2,9 @@
 ghost use Rattle.std.specs.Prelude.{◌≡◌, option_map, IfOk};
 ghost use Rattle.std.specs.Option.{option_copied};
 ghost use Rattle.circle.specs.Reads.{person_of};
-ghost use Rattle.hub_core.specs.Reads.{person_by_key as person_of_key, case_of, document_of, served_of_incident, groups_of as groups_joined_by, joined, naming_of};
+ghost use Rattle.hub_core.specs.Reads.{person_by_key as person_of_key, case_of, document_of, served_of_incident, met_by_incident, groups_of as groups_joined_by, joined, naming_of};
 ghost use Rattle.redact.specs.Excerpts.{told_by};
+ghost use Rattle.hub_core.specs.Sound.{IsSound};
 
 use crate::list_shelf::ListShelf;
 use crate::reply::JoinedGroup;
@@ -11,7 +12,7 @@ use crate::state::Naming;
 use circle::directory::{Group, GroupMember, Person};
 use iodef_tree::Document;
 use policy::{Case, Standing};
-use redact::{Excerpt, excerpt_if_marked};
+use redact::{Excerpt, Want, excerpt_if_marked, meets};
 use std::alloc::AllocError;
 
 impl ListShelf {
@@ -70,6 +71,23 @@ impl ListShelf {
         match self.incident(incident) {
             None => Ok(None),
             Some(incident) => excerpt_if_marked(self.alloc(), &incident.document, case, standing),
+        }
+    }
+
+    /// Of the document where it lies: nothing of it is copied.
+    #[tactic(auto, using(crate::proofs::Marked::met_found))]
+    pub(crate) fn find_met(
+        &self,
+        incident: u32,
+        case: &Case,
+        standing: &Standing,
+        want: &Want,
+    ) -> Result<bool, AllocError>
+        ensures { IsSound self.now → IfOk result (λ met. met ≡ met_by_incident incident case.now standing.now want.now self.now) }
+    {
+        match self.incident(incident) {
+            None => Ok(false),
+            Some(incident) => meets(self.alloc(), &incident.document, case, standing, want),
         }
     }
 

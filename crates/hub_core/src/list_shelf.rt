@@ -23,7 +23,7 @@ use circle::directory::Person;
 use circle_rows::DirectoryRows;
 use iodef_tree::Document;
 use policy::{Case, Gates, Permissions, Standing};
-use redact::Excerpt;
+use redact::{Excerpt, Want};
 use std::alloc::{AllocError, Global};
 use std::marker::Model;
 
@@ -175,6 +175,16 @@ impl Shelf for ListShelf {
         standing: Standing,
     ) -> Result<Option<Excerpt>, ShelfFault> {
         Ok(self.find_excerpt(incident, &case, &standing)?)
+    }
+
+    fn meets(
+        &mut self,
+        incident: u32,
+        case: Case,
+        standing: Standing,
+        want: Want,
+    ) -> Result<bool, ShelfFault> {
+        Ok(self.find_met(incident, &case, &standing, &want)?)
     }
 
     fn incidents_after(&mut self, number: u32, most: u32) -> Result<Vec<Entry>, ShelfFault> {

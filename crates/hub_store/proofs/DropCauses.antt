@@ -68,7 +68,7 @@ module _ (schema : Schema) (sql : List ℕ) (at : ℕ) (table : Table) (it : IsD
         ]
       ]
 
-  drop_fails : (old new : State) → old.now.schema ≡ schema → (e : Error) → e ≢ SqliteFailure code.OutOfMemory → ExecutesInside 0 sql [] old new (Err e) → HasReason old new
+  pub drop_fails : (old new : State) → old.now.schema ≡ schema → (e : Error) → e ≢ SqliteFailure code.OutOfMemory → ExecutesInside 0 sql [] old new (Err e) → HasReason old new
   drop_fails old new has e other h =
       elim (fails_as sql [] old new schema has (DropTable at) it.command tt it.whole e other h) [
         | inl reason ↦ reason

@@ -5,7 +5,7 @@ use Rattle.sqlite_schema.specs.declared.schema.Keys.TheVariants.{Enforced}
 use Rattle.sqlite_schema.specs.declared.schema.Table.{Table}
 use Rattle.sqlite_schema.specs.declared.schema.Schema.{Schema}
 use Rattle.sqlite_catalog.specs.Change.{without_table, KeepsRows}
-use Rattle.sqlite.specs.Effect.{Database}
+use Rattle.sqlite.specs.Effect.{Database, IsDatabase}
 use Rattle.sqlite.specs.Rows.{Task, sequence}
 use Rattle.sqlite.specs.Does.{Tally, Does, AtPlace, Drops, UncountsIn, is_acted_on}
 use Rattle.sqlite.specs.Listing.{understood}
@@ -16,6 +16,7 @@ use Rattle.hub_store.proofs.Statements.{same_ok, went, other_one}
 -- a table is gone with its indexes, and the others have their rows
 pub record Dropped (schema : Schema) (tree : ℕ) (old new : Database) : Type 0 where
   pub schema_is : new.schema ≡ without_table schema tree
+  pub whole : IsDatabase new
   pub others : KeepsRows (without_table schema tree).tables old.trees new.trees
 
 pub dropped_by : (old new : State) (sql : List ℕ) (schema : Schema) (at : ℕ) (table : Table) → old.now.schema ≡ schema → command_of (understood schema sql) ≡ DropTable at → slice_get schema.tables at ≡ Some table
@@ -35,5 +36,6 @@ dropped_by old new sql schema at table has is listed quiet uncounted plain count
     let now : new.now ≡ left.0 = ap (λ (p : Tally × Database). p.1) (same_ok left.2) in
     record {
       schema_is = ap (λ (d : Database). d.schema) now ∙ left.1.0;
+      whole = w.sound;
       others = subst (λ t. KeepsRows (without_table schema table.tree).tables t new.now.trees) (as_emptied ∙ as_before) (subst (λ (d : Database). KeepsRows (without_table schema table.tree).tables counted.0 d.trees) (sym now) left.1.1);
     }

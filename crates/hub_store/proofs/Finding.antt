@@ -106,6 +106,19 @@ module _ {X : Type 0} (shown : X → Row) where
       let tail : ys ≡ xs = all_are xs ys h.1 in
       cc
 
+  -- some rows of them, the first
+  pub first_are : (xs : List X) (rows others : List Row) (ys : List X) → rows ++ others ≡ map shown xs → ShowsAll (IsShownBy shown) rows ys → (more : List X) × (xs ≡ ys ++ more)
+  first_are xs [] others [] is h = (xs, refl)
+  first_are xs [] others (y ∷ ys) is h = absurd h
+  first_are xs (row ∷ rows) others [] is h = absurd h
+  first_are [] (row ∷ rows) others (y ∷ ys) is h = absurd cc
+  first_are (x ∷ xs) (row ∷ rows) others (y ∷ ys) is h =
+      let head : row ≡ shown x = cc in
+      let tail : rows ++ others ≡ map shown xs = cc in
+      let same : y ≡ x = h.0 x head in
+      let more = first_are xs rows others ys tail h.1 in
+      (more.0, ap (λ z. z ∷ xs) (sym same) ∙ ap (λ l. y ∷ l) more.1)
+
 pub shows_more : {X : Type 0} (shows : Row → X → Type 0) (rows : List Row) (xs : List X) (row : Row) (x : X) → ShowsAll shows rows xs → shows row x → ShowsAll shows (rows ++ row ∷ []) (xs ++ x ∷ [])
 shows_more shows [] [] row x h one = (one, tt)
 shows_more shows [] (y ∷ xs) row x h one = absurd h

@@ -26,13 +26,14 @@ use Rattle.hub_core.specs.declared.state.Incident.{Incident}
 use Rattle.policy.specs.declared.case.Case.{Case}
 use Rattle.hub_store.specs.Means.{Means}
 use Rattle.hub_store.specs.Rows.{named_row}
-use Rattle.hub_store.specs.Items.{line_shown}
+use Rattle.hub_store.specs.Items.{placed_shown, placed_from}
 use Rattle.hub_store.specs.Shown.{ShowsLines, IsCase, entry_shown, naming_shown}
 use Rattle.hub_store.proofs.ByNumber.{one_with_number}
 use Rattle.hub_store.proofs.Compare.{more_than, and_true}
 use Rattle.hub_store.proofs.Forms.{one_table, is_param, is_above, by_column}
 use Rattle.hub_store.proofs.Statements.{keeps, shows}
-use Rattle.hub_store.proofs.Finding.{as_viewed, all_are}
+use Rattle.hub_store.proofs.AtPlaces.{lines_are}
+use Rattle.hub_store.proofs.Finding.{as_viewed}
 use Rattle.hub_store.proofs.Listed.{listed, int_below}
 use Rattle.hub_store.proofs.Items.{lines_query, its_lines, lines_listed}
 use Rattle.hub_store.proofs.Rising.{counted}
@@ -57,7 +58,7 @@ naming_found db s n rows sound means a =
 filled : (i : Incident) → incident_id i.document ≡ Some i.naming.ident → i.document ≡ [] → ⊥
 filled i is none = let missing = subst (λ d. incident_id d ≡ Some i.naming.ident) none is in absurd cc
 
-first_lines : (o : Option Incident) (rows : List Row) (found : Option Lines) → ((i : Incident) → o ≡ Some i → i.document ≡ [] → ⊥) → rows ≡ map line_shown (its_lines o) → ShowsLines rows found → found ≡ option_map (λ (i : Incident). i.document) o
+first_lines : (o : Option Incident) (rows : List Row) (found : Option Lines) → ((i : Incident) → o ≡ Some i → i.document ≡ [] → ⊥) → rows ≡ map placed_shown (placed_from 1 (its_lines o)) → ShowsLines rows found → found ≡ option_map (λ (i : Incident). i.document) o
 first_lines None rows found full is h = none found (subst (λ l. ShowsLines l found) is h)
   where
     none : (found : Option Lines) → ShowsLines [] found → found ≡ None
@@ -65,10 +66,10 @@ first_lines None rows found full is h = none found (subst (λ l. ShowsLines l fo
     none (Some x) h = absurd h
 first_lines (Some i) rows found full is h = one i.document refl found (subst (λ l. ShowsLines l found) is h)
   where
-    one : (lines : Lines) → i.document ≡ lines → (found : Option Lines) → ShowsLines (map line_shown lines) found → found ≡ Some i.document
+    one : (lines : Lines) → i.document ≡ lines → (found : Option Lines) → ShowsLines (map placed_shown (placed_from 1 lines)) found → found ≡ Some i.document
     one [] empty found h = absurd (full i refl empty)
     one (l ∷ ls) same None h = absurd h
-    one (l ∷ ls) same (Some x) h = ap Some (all_are line_shown (l ∷ ls) x h ∙ sym same)
+    one (l ∷ ls) same (Some x) h = ap Some (lines_are (l ∷ ls) x h ∙ sym same)
 
 pub reads_document : (db : Trees) (s : core.State) (n : ℕ) (rows : List Row) (r : Result (Option Lines) Error) → IsSound s → Means db s → IsAnswer lines_query db (Int (pos n) ∷ []) rows
     → IfOk r (λ found. ShowsLines rows found) → IfOk r (λ found. found ≡ option_map (λ (i : Incident). i.document) (incident_of n s))

@@ -25,7 +25,7 @@ use Rattle.hub_core.specs.Sound.{IsSound}
 use Rattle.hub_core.specs.declared.state.Incident.{Incident}
 use Rattle.hub_store.specs.Holdings.{without_rowids}
 use Rattle.hub_store.specs.Means.{Means}
-use Rattle.hub_store.specs.Items.{Item, items_from, items_in, items_of, item_row, line_shown, kind_number}
+use Rattle.hub_store.specs.Items.{Item, items_from, items_in, items_of, item_row, line_shown, kind_number, placed_shown, placed_from}
 use Rattle.hub_store.proofs.Compare.{begins, equal_numbers, and_true}
 use Rattle.hub_store.proofs.Forms.{one_table, is_param, by_column, in_order}
 use Rattle.hub_store.proofs.Finding.{seen_through, of_elements, only_one, once_numbered}
@@ -120,29 +120,33 @@ pub its_places_rise : (o : Option Incident) → IsAscending (λ (a b : Item). na
 its_places_rise None = tt
 its_places_rise (Some i) = places_rise i.naming.number 1 i.document
 
-shown_lines : (n place : ℕ) (ls : Lines) → map (λ (x : Item). line_shown x.line) (items_from n place ls) ≡ map line_shown ls
-shown_lines n place [] = refl
-shown_lines n place (l ∷ ls) = ap (λ rest. line_shown l ∷ rest) (shown_lines n (suc place) ls)
+-- an item without its incident
+abbrev item_shown : Item → Row
+item_shown x = Int (pos x.place) ∷ line_shown x.line
 
-its_shown : (o : Option Incident) → map (λ (x : Item). line_shown x.line) (its_items o) ≡ map line_shown (its_lines o)
+shown_lines : (n place : ℕ) (ls : Lines) → map item_shown (items_from n place ls) ≡ map placed_shown (placed_from place ls)
+shown_lines n place [] = refl
+shown_lines n place (l ∷ ls) = ap (λ rest. (Int (pos place) ∷ line_shown l) ∷ rest) (shown_lines n (suc place) ls)
+
+its_shown : (o : Option Incident) → map item_shown (its_items o) ≡ map placed_shown (placed_from 1 (its_lines o))
 its_shown None = refl
 its_shown (Some i) = shown_lines i.naming.number 1 i.document
 
 abbrev pub lines_query : Query
-lines_query = in_order (by_column 2 ∷ []) (one_table item_tree (is_param 1 0 ∷ []) (col 1 3 ∷ col 1 4 ∷ col 1 5 ∷ col 1 6 ∷ col 1 7 ∷ []))
+lines_query = in_order (by_column 2 ∷ []) (one_table item_tree (is_param 1 0 ∷ []) (col 1 2 ∷ col 1 3 ∷ col 1 4 ∷ col 1 5 ∷ col 1 6 ∷ col 1 7 ∷ []))
 
 abbrev line_out : Row → Output
-line_out r = (column r 1 ∷ [], column r 2 ∷ column r 3 ∷ column r 4 ∷ column r 5 ∷ column r 6 ∷ [])
+line_out r = (column r 1 ∷ [], column r 1 ∷ column r 2 ∷ column r 3 ∷ column r 4 ∷ column r 5 ∷ column r 6 ∷ [])
 
-past_lines : (params r : Row) → (eval_all (map (λ (k : Term × Key). k.0) (by_column 2 ∷ [])) (params ∷ r ∷ []), shows (col 1 3 ∷ col 1 4 ∷ col 1 5 ∷ col 1 6 ∷ col 1 7 ∷ []) params r) ≡ line_out (drop 1 r)
+past_lines : (params r : Row) → (eval_all (map (λ (k : Term × Key). k.0) (by_column 2 ∷ [])) (params ∷ r ∷ []), shows (col 1 2 ∷ col 1 3 ∷ col 1 4 ∷ col 1 5 ∷ col 1 6 ∷ col 1 7 ∷ []) params r) ≡ line_out (drop 1 r)
 past_lines params [] = refl
 past_lines params (x ∷ r) = refl
 
-pub lines_listed : (db : Trees) (s : core.State) (n : ℕ) (rows : List Row) → IsSound s → Means db s → IsAnswer lines_query db (Int (pos n) ∷ []) rows → rows ≡ map line_shown (its_lines (incident_of n s))
+pub lines_listed : (db : Trees) (s : core.State) (n : ℕ) (rows : List Row) → IsSound s → Means db s → IsAnswer lines_query db (Int (pos n) ∷ []) rows → rows ≡ map placed_shown (placed_from 1 (its_lines (incident_of n s)))
 lines_listed db s n rows sound means a =
     let params = Int (pos n) ∷ [] in
     let terms = is_param 1 0 ∷ [] in
-    let project = col 1 3 ∷ col 1 4 ∷ col 1 5 ∷ col 1 6 ∷ col 1 7 ∷ [] in
+    let project = col 1 2 ∷ col 1 3 ∷ col 1 4 ∷ col 1 5 ∷ col 1 6 ∷ col 1 7 ∷ [] in
     let order = by_column 2 ∷ [] in
     let own = its_items (incident_of n s) in
     let is_its = λ (x : Item). x.incident == n in
@@ -154,7 +158,7 @@ lines_listed db s n rows sound means a =
     (of_elements item_row (begins 0 params) line_out is_its (items_of s) all (λ x. and_true _ ∙ equal_numbers x.incident n)
     (seen_through db (without_rowids item_tree (map item_row (items_of s))) (keeps terms params) out (begins 0 params) line_out all (past_one (Int (pos n))) (past_lines params) (held_of s item_place _ refl means) found)))
     a
-    ∙ (ap (map (λ (x : Item). line_shown x.line)) (filter_all own) ∙ its_shown (incident_of n s))
+    ∙ (ap (map item_shown) (filter_all own) ∙ its_shown (incident_of n s))
 
 -- ---- rows tell lines, and lines their documents
 

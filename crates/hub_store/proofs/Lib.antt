@@ -17,6 +17,14 @@ pub mod DropCauses
 pub mod Migrating
 pub mod Causes
 pub mod FirstRow
+pub mod WriteCauses
+pub mod Counting
+pub mod Standing
+pub mod LineCauses
+pub mod QueryCauses
+pub mod VersionCauses
+pub mod NamingCauses
+pub mod Movable
 pub mod Steps
 pub mod Creates
 pub mod PairSets
@@ -66,5 +74,8 @@ pub mod Inside
 pub mod NextIncident
 pub mod MovedOn
 pub mod Renewed
+pub mod Renewing
 pub mod AnyLines
+pub mod AtPlaces
 pub mod Streaming
+pub mod Probing

@@ -1,15 +1,14 @@
 -- Lines as parameters, one after another.
 use Rattle.std.proofs.Common.{◌≡◌, ◌+◌, ◌<◌, ℕ, suc, pos, List, [], ◌∷◌, ◌++◌, take, get_or, length, Result, Ok, Err, IfOk, is_ok, if◌then◌else◌, sym, ap, ◌∙◌, arith}
 use Rattle.std.proofs.lemmas.List.{map-append, take_more, length-take-le}
-use Rattle.sqlite_value.specs.declared.value.Value.TheVariants.{Int, Text}
+use Rattle.sqlite_value.specs.declared.value.Value.TheVariants.{Int}
 use Rattle.sqlite_value.specs.declared.value.ValueRef.{ValueRef}
 use Rattle.sqlite_value.specs.Value.{owned}
 use Rattle.sqlite_value.specs.Order.{Row}
 use Rattle.sqlite.specs.Values.{bound, bound_value}
 use Rattle.iodef_tree.specs.declared.line.Line.{Line}
 use Rattle.hub_core.specs.Documents.{Lines}
-use Rattle.hub_store.specs.Values.{flag}
-use Rattle.hub_store.specs.Items.{placed_lines, kind_number}
+use Rattle.hub_store.specs.Items.{line_columns, placed_lines}
 use Rattle.hub_store.proofs.PutsThen.{as_far, one_further}
 
 pub appended : {T E : Type 0} (r : Result T E) (old new more : List ValueRef) (row : Row) → new ≡ (if is_ok r then old ++ more else old) → bound more ≡ row → IfOk r (λ _. bound new ≡ bound old ++ row)
@@ -19,7 +18,7 @@ appended (Err e) old new more row is same = tt
 placed_then : (place : ℕ) (ls ms : Lines) → placed_lines place (ls ++ ms) ≡ placed_lines place ls ++ placed_lines (place + length ls) ms
 placed_then place [] ms = ap (λ k. placed_lines k ms) (as_far place)
 placed_then place (l ∷ ls) ms =
-    ap (λ rest. Int (pos place) ∷ Int (pos l.depth) ∷ Text l.name ∷ flag l.in_array ∷ Int (pos (kind_number l.kind)) ∷ Text l.text ∷ rest)
+    ap (λ rest. Int (pos place) ∷ line_columns l rest)
     (placed_then (suc place) ls ms ∙ ap (λ k. placed_lines (suc place) ls ++ placed_lines k ms) (one_further place (length ls)))
 
 -- one more of a list

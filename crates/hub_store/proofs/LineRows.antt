@@ -36,11 +36,11 @@ beyond before row k = get_or-append-add before row k Null
 -- the columns of a line stand behind what is given before it
 row_of : (n place : ℕ) (before : Row) (l : Line) (ls : Lines) → eval_all (line_terms (suc (length before))) ((Int (pos n) ∷ before ++ placed_lines place (l ∷ ls)) ∷ []) ≡ bare (item_row (record { incident = n; place = place; line = l }))
 row_of n place before l ls =
-    let row = placed_lines place (l ∷ ls) in
-    let params = Int (pos n) ∷ before ++ row in
+    let own = placed_lines place (l ∷ ls) in
+    let params = Int (pos n) ∷ before ++ own in
     let at = suc (length before) in
-    let is_column : (k : ℕ) → column params (at + k) ≡ column row k = λ k. ap (column params) (past_first (length before) k) ∙ beyond before row k in
-    let first : column params at ≡ Int (pos place) = ap (column params) (as_first (length before)) ∙ beyond before row 0 in
+    let is_column : (k : ℕ) → column params (at + k) ≡ column own k = λ k. ap (column params) (past_first (length before) k) ∙ beyond before own k in
+    let first : column params at ≡ Int (pos place) = ap (column params) (as_first (length before)) ∙ beyond before own 0 in
     rw (first, is_column 1, is_column 2, is_column 3, is_column 4, is_column 5) refl
 
 pub rows_for : (n place : ℕ) (before : Row) (ls : Lines) → value_rows (Int (pos n) ∷ before ++ placed_lines place ls) 8 (length ls) (terms_for (suc (length before)) (length ls)) ≡ map bare (map item_row (items_from n place ls))

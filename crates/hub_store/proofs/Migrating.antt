@@ -1,8 +1,8 @@
 -- The statements that lead from version 1 to version 2.
-use Rattle.std.proofs.Common.{◌≡◌, ◌+◌, ◌<◌, ℕ, pos, List, [], ◌∷◌, ◌++◌, drop, take, length, get_or, true, map, Ok, codes, refl, sym, ap, subst, ◌∙◌}
+use Rattle.std.proofs.Common.{◌≡◌, ◌≢◌, ◌+◌, ◌<◌, ℕ, pos, List, [], ◌∷◌, ◌++◌, drop, take, length, get_or, true, map, Ok, Err, codes, refl, sym, ap, subst, ◌∙◌}
 use Rattle.std.specs.List.Sorted.{IsPermutation}
 use Rattle.std.proofs.lemmas.List.{take_more, map-append}
-use Rattle.std.proofs.lemmas.List.Sorted.{IsPermutation-refl, IsPermutation-append_comm}
+use Rattle.std.proofs.lemmas.List.Sorted.{IsPermutation-refl, IsPermutation-append_comm, IsPermutation-sym}
 use Rattle.sqlite_value.specs.declared.value.Value.TheVariants.{Null, Int, Text}
 use Rattle.sqlite_value.specs.Order.{Row}
 use Rattle.sqlite_sql.specs.Term.{lit, col}
@@ -10,24 +10,33 @@ use Rattle.sqlite_tied.specs.Compute.{everything}
 use Rattle.sqlite_catalog.specs.Change.{created, without_table}
 use Rattle.sqlite.specs.Listing.{understood}
 use Rattle.sqlite.specs.State as sql
-use Rattle.sqlite.specs.State.{Executes}
+use Rattle.sqlite.specs.State.{Executes, ExecutesInside}
+use Rattle.sqlite.specs.declared.error.Error.{Error}
+use Rattle.sqlite.specs.declared.error.Error.TheVariants.{SqliteFailure}
+use Rattle.sqlite.specs.declared.error.ErrorCode.TheVariants as code
 use Rattle.hub_core.specs.State.{State}
 use Rattle.hub_core.specs.declared.state.Naming.{Naming}
 use Rattle.iodef_tree.specs.declared.line.Line.{Line}
-use Rattle.hub_store.specs.Items.{item_row, items_of, line_shown, kind_number}
+use Rattle.hub_store.specs.Items.{Item, placed_lines, item_row, items_of, line_shown, kind_number}
 use Rattle.hub_store.specs.Rows.{naming_row, named_row}
 use Rattle.hub_store.specs.Fit.{IsFit}
 use Rattle.hub_store.specs.Means.{HoldsAs}
 use Rattle.hub_store.specs.Tables.{schema_by, beside_item, without_incident, up_to_permission, hub_table, incident_table, item_table, incident_table_2}
 use Rattle.hub_store.specs.Parts.{Part, schema_of, HoldsParts}
 use Rattle.hub_store.specs.Layout.{without_rowids, common, incident_part, item_part, incident_part_2, parts_1, with_items, without_incidents, tables_2, unversioned_2}
+use Rattle.hub_store.specs.Beside.{AreNumbered, HoldsBeside, CanStand}
+use Rattle.hub_store.specs.Failing.{HasReason}
 use Rattle.hub_store.proofs.Causes.{IsCreation, naming}
 use Rattle.hub_store.proofs.Creates.{made_by}
 use Rattle.hub_store.proofs.Drops.{dropped_by}
 use Rattle.hub_store.proofs.DropCauses.{IsDropping}
 use Rattle.hub_store.proofs.Compare.{cast_int, cast_null, cast_flag}
 use Rattle.hub_store.proofs.Parts.{drops, adds}
-use Rattle.hub_store.proofs.PartRows.{Stands, puts, puts_whole, takes}
+use Rattle.hub_store.proofs.PartRows.{Stands, puts, takes}
+use Rattle.hub_store.proofs.LineRows.{cast_items}
+use Rattle.hub_store.proofs.LineCauses.{lines_count, lines_fail, terms_accepted, lines_bound}
+use Rattle.hub_store.proofs.Standing.{stand_permuted}
+use Rattle.hub_store.proofs.VersionCauses.{take_fails}
 use Rattle.hub_store.proofs.Texts.{put_line, put_naming, put_version, line_terms}
 
 -- the schema that the statements of version 1 make is that of its parts
@@ -45,17 +54,19 @@ pub item_creation : IsCreation (schema_by 1) create_item item_table
 unfolding understood everything naming
 item_creation = record { command = refl; text = refl; defined = refl; whole = (refl, refl, refl, refl); unsequenced = refl; utf8 = ((create_item, (refl, refl)), (item_table.name, (refl, refl))); new = refl }
 
-pub makes_item : (old new : sql.State) (s : State) (count : ℕ) → Executes create_item [] old new (Ok count) → HoldsParts (parts_1 s) old.now → HoldsParts (with_items [] s) new.now
-makes_item old new s count h has = adds (parts_1 s) (item_part []) item_table _ _ refl refl refl (made_by old new create_item (schema_of (parts_1 s)) item_table has.known item_creation count h) has
+pub makes_item : (old new : sql.State) (s : State) (count : ℕ) → Executes create_item [] old new (Ok count) → HoldsParts (parts_1 s) old.now → HoldsBeside [] s new.now
+makes_item old new s count h has =
+    let made = made_by old new create_item (schema_of (parts_1 s)) item_table has.known item_creation count h in
+    record { parts = adds (parts_1 s) (item_part []) item_table _ _ refl refl refl made has; numbered = subst (AreNumbered 1) (sym made.empty) tt }
 
 abbrev pub drop_incident : List ℕ
 drop_incident = codes "DROP TABLE incident"
 
-pub drops_incident : (old new : sql.State) (s : State) (items : List Row) (count : ℕ) → Executes drop_incident [] old new (Ok count) → HoldsParts (with_items items s) old.now → HoldsParts (without_incidents items s) new.now
+pub drops_incident : (old new : sql.State) (s : State) (items : List Row) (count : ℕ) → Executes drop_incident [] old new (Ok count) → HoldsBeside items s old.now → HoldsParts (without_incidents items s) new.now
 unfolding understood everything
 drops_incident old new s items count h has =
     let p = incident_part s in
-    drops (common 1 s) p (item_part items ∷ []) _ _ refl (dropped_by old new drop_incident (schema_of (with_items items s)) 9 p.table has.known refl refl refl refl (refl, refl) count h) has
+    drops (common 1 s) p (item_part items ∷ []) _ _ refl (dropped_by old new drop_incident (schema_of (with_items items s)) 9 p.table has.parts.known refl refl refl refl (refl, refl) count h) has.parts
 
 -- what is dropped where no table has a row
 pub incident_dropping : IsDropping beside_item drop_incident 9 (record incident_table { tree = 18 })
@@ -80,11 +91,24 @@ pub stands_items : (s : State) (items : List Row) → Stands (common 1 s ++ inci
 stands_items s items = record { listed = refl; uncounted = refl; timeless = refl; alone = λ tree olds news. refl; apart = refl; same = λ rows. refl }
 
 pub moves_line : (old new : sql.State) (incident place : ℕ) (line : Line) (s : State) (items more : List Row) → IsPermutation (item_row (record { incident = incident; place = place; line = line }) ∷ items) more → (count : ℕ)
-    → Executes put_line (Int (pos incident) ∷ Int (pos place) ∷ line_shown line) old new (Ok count) → HoldsParts (with_items items s) old.now → HoldsParts (with_items more s) new.now
+    → Executes put_line (Int (pos incident) ∷ Int (pos place) ∷ line_shown line) old new (Ok count) → HoldsBeside items s old.now → HoldsBeside more s new.now
 unfolding understood everything
 moves_line old new incident place line s items more same count h has =
     let row = item_row (record { incident = incident; place = place; line = line }) in
-    puts (common 1 s ++ incident_part s ∷ []) (item_part items) [] 10 (stands_items s items) put_line _ old new (refl, refl) count h has (line_terms 1) 8 refl (Null ∷ row) refl (rw (cast_int incident, cast_int place, cast_int line.depth, cast_flag line.in_array, cast_int (kind_number line.kind), cast_null) refl) row (λ rows. refl) more same
+    let x : Item = record { incident = incident; place = place; line = line } in
+    record {
+      parts = puts (common 1 s ++ incident_part s ∷ []) (item_part items) [] 10 (stands_items s items) put_line _ old new (refl, refl) count h has.parts (line_terms 1) 8 refl (Null ∷ row) refl (rw (cast_int incident, cast_int place, cast_int line.depth, cast_flag line.in_array, cast_int (kind_number line.kind), cast_null) refl) row (λ rows. refl) more same;
+      numbered = lines_count put_line _ (line_terms 1) (row ∷ []) items s refl (refl, refl) refl (cast_items items (x ∷ [])) old new count h has;
+    }
+
+-- one line fails for a reason alone
+pub line_fails : (incident place : ℕ) (line : Line) (s : State) (items more : List Row) → IsPermutation (item_row (record { incident = incident; place = place; line = line }) ∷ items) more → CanStand more
+    → (old new : sql.State) (e : Error) → ExecutesInside 0 put_line (Int (pos incident) ∷ Int (pos place) ∷ line_shown line) old new (Err e) → HoldsBeside items s old.now → e ≢ SqliteFailure code.OutOfMemory → HasReason old new
+unfolding understood everything
+line_fails incident place line s items more same can old new e h has other =
+    let x : Item = record { incident = incident; place = place; line = line } in
+    lines_fail put_line (Int (pos incident) ∷ Int (pos place) ∷ line_shown line) (line_terms 1) (item_row x ∷ []) items s refl (refl, refl, refl, refl) (terms_accepted (Int (pos incident) ∷ placed_lines place (line ∷ [])) 1 1 (refl, lines_bound place (line ∷ []))) refl (cast_items items (x ∷ []))
+    (stand_permuted more (item_row x ∷ items) (IsPermutation-sym _ _ same) can) old new e h has other
 
 stands_incidents : (s : State) (items incidents : List Row) → Stands (common 1 s ++ item_part items ∷ []) (incident_part_2 incidents) [] 10
 stands_incidents s items incidents = record { listed = refl; uncounted = refl; timeless = refl; alone = λ tree olds news. refl; apart = refl; same = λ rows. refl }
@@ -113,6 +137,11 @@ unfolding understood everything
 takes_version old new version s items incidents count h has =
     takes [] (without_rowids 0 hub_table ((Int (pos version) ∷ []) ∷ [])) (rest_2 items incidents s) 0 (stands_first _ items incidents s) take_version [] old new (refl, refl) count h has [] refl (λ r. true) (λ r. refl) [] refl
 
+-- the version is taken, or there is a reason
+pub version_kept : (items incidents : List Row) (s : State) (old new : sql.State) (e : Error) → ExecutesInside 0 take_version [] old new (Err e) → HoldsParts (tables_2 1 items incidents s) old.now → e ≢ SqliteFailure code.OutOfMemory → HasReason old new
+unfolding understood everything
+version_kept items incidents s old new e h has other = take_fails take_version items incidents s refl (refl, refl, refl, refl) old new e h has other
+
 pub puts_version_2 : (old new : sql.State) (s : State) (count : ℕ) → IsFit s → Executes put_version (Int (pos 2) ∷ []) old new (Ok count) → HoldsParts (unversioned_2 (map item_row (items_of s)) (map named_row s.incidents) s) old.now → HoldsAs 2 new.now s
 unfolding understood everything
 puts_version_2 old new s count fit h has =
@@ -122,7 +151,7 @@ puts_version_2 old new s count fit h has =
     let rest = rest_2 items incidents s in
     let stands = stands_first [] items incidents s in
     let put = puts [] first rest 0 stands put_version _ old new (refl, refl) count h has (lit Null ∷ col 0 0 ∷ []) 2 refl (Null ∷ Int (pos 2) ∷ []) refl (rw (cast_int 2, cast_null) refl) (Int (pos 2) ∷ []) (λ rows. refl) ((Int (pos 2) ∷ []) ∷ []) (IsPermutation-refl _) in
-    record { known = put.known; whole = puts_whole [] first rest 0 stands put_version _ old new (refl, refl) count h has (lit Null ∷ col 0 0 ∷ []) 2 refl; means = put.means; fit = fit }
+    record { known = put.known; whole = put.whole; means = put.means; fit = fit }
 
 -- one more of a list, whose rows are put one after another
 pub one_more : {X : Type 0} (row : X → Row) (xs : List X) (i : ℕ) (x : X) → i < length xs → x ≡ get_or xs i x → IsPermutation (row x ∷ map row (take i xs)) (map row (take (i + 1) xs))

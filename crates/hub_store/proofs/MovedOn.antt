@@ -1,5 +1,5 @@
 -- How a migration comes from one version to the next, by what its calls make.
-use Rattle.std.proofs.Common.{◌≡◌, ℕ, List, [], ◌∷◌, ◌++◌, map, Some, None, Ok, IsTrue, sym, ap, subst, ◌∙◌}
+use Rattle.std.proofs.Common.{◌≡◌, ◌<◌, ◌≤◌, nat_lt, ℕ, List, [], ◌∷◌, ◌++◌, map, Some, None, Ok, IsTrue, sym, ap, subst, ◌∙◌}
 use Rattle.sqlite_trees.proofs.ListLemmas.{map-map}
 use Rattle.sqlite.specs.Effect.{Database}
 use Rattle.sqlite.specs.State.{State, HasCleanDisk}
@@ -8,44 +8,56 @@ use Rattle.hub_core.specs.State as core
 use Rattle.hub_core.specs.State.{empty}
 use Rattle.hub_core.specs.declared.state.Incident.{Incident}
 use Rattle.hub_core.specs.declared.state.Naming.{Naming}
+use Rattle.std.proofs.lemmas.Bool.{ltb-true}
+use Rattle.hub_core.specs.declared.TheConstants.{INCIDENT_LIMIT}
+use Rattle.hub_core.proofs.Keeping.{found_is, found_each}
 use Rattle.hub_store.specs.Fit.{IsFit}
 use Rattle.hub_store.specs.Items.{items_in, items_of, item_row}
-use Rattle.hub_store.specs.Layout.{parts_1, with_items}
+use Rattle.hub_store.specs.Layout.{parts_1}
 use Rattle.hub_store.specs.Means.{HoldsAs}
 use Rattle.hub_store.specs.Moving.{HasTexts, HoldsMoved, HoldsNext, incident_above, naming_in}
 use Rattle.hub_store.specs.Parts.{HoldsParts}
 use Rattle.hub_store.specs.PutsLines.{PutsLines}
 use Rattle.hub_store.specs.Rows.{naming_row, named_row}
+use Rattle.hub_store.specs.Beside.{HoldsBeside}
+use Rattle.hub_store.proofs.Movable.{all_low}
 use Rattle.hub_store.proofs.Moved.{none_moved, next_more, next_kept, all_moved}
+
+is_above : (s : core.State) (number : ℕ) (i : Incident) → incident_above number s ≡ Some i → number < i.naming.number
+is_above s number i is = ltb-true number i.naming.number (found_is (λ (j : Incident). nat_lt number j.naming.number) s.incidents i is)
 
 -- the lines of the next document are put, and what else its row holds is kept
 pub one_moved : {T : Type 0} {x : T} (mid new : State) (number : ℕ) (kept : List Naming) (s : core.State) (i : Incident) → HasTexts s → Some i ≡ incident_above number s → HoldsMoved number kept mid.now s
     → PutsLines i.naming.number 1 i.document mid new (Ok x) → HasCleanDisk new → IsTrue mid.in_transaction → HoldsNext number (kept ++ i.naming ∷ []) (Some i.naming.number) new.now s
-one_moved mid new number kept s i has is before puts clean inside = record {
-  moved = (puts.moved s _ _ (next_more s number i has.sound (sym is))).made clean inside before.moved;
-  are_kept = ap (λ l. l ++ i.naming ∷ []) before.are_kept ∙ sym (next_kept s number i has.sound (sym is));
-}
+one_moved mid new number kept s i has is before puts clean inside = (
+  record {
+    moved = (puts.moved s _ _ (next_more s number i has.sound (sym is))).made clean inside before.moved;
+    are_kept = ap (λ l. l ++ i.naming ∷ []) before.are_kept ∙ sym (next_kept s number i has.sound (sym is));
+  },
+  is_above s number i (sym is),
+  found_each (λ (j : Incident). j.naming.number ≤ INCIDENT_LIMIT) (λ (j : Incident). nat_lt number j.naming.number) s.incidents i (sym is) (all_low s has.sound),
+)
 
 -- there is no next
 pub none_left : (db : Database) (number : ℕ) (kept : List Naming) (s : core.State) → None ≡ incident_above number s → HoldsMoved number kept db s → HoldsNext number kept None db s
 none_left db number kept s is before = (before, all_moved s number (sym is))
 
 -- before the first
-pub moved_none : (db : Database) (s : core.State) → HasTexts s → HoldsParts (with_items [] s) db → HoldsMoved 0 [] db s
+pub moved_none : (db : Database) (s : core.State) → HasTexts s → HoldsBeside [] s db → HoldsMoved 0 [] db s
 moved_none db s has holds = record {
-  moved = subst (λ is. HoldsParts (with_items (map item_row (items_in is)) s) db) (sym (none_moved s has.sound)) holds;
+  moved = subst (λ is. HoldsBeside (map item_row (items_in is)) s db) (sym (none_moved s has.sound)) holds;
   are_kept = sym (ap naming_in (none_moved s has.sound));
 }
 
 -- behind the last
-pub moved_all : (db : Database) (number : ℕ) (kept : List Naming) (s : core.State) → HoldsNext number kept None db s → HoldsParts (with_items (map item_row (items_of s)) s) db × (kept ≡ naming_in s.incidents)
+pub moved_all : (db : Database) (number : ℕ) (kept : List Naming) (s : core.State) → HoldsNext number kept None db s → HoldsBeside (map item_row (items_of s)) s db × (kept ≡ naming_in s.incidents)
 moved_all db number kept s h =
-    (subst (λ is. HoldsParts (with_items (map item_row (items_in is)) s) db) h.1 h.0.moved, h.0.are_kept ∙ ap naming_in h.1)
+    (subst (λ is. HoldsBeside (map item_row (items_in is)) s db) h.1 h.0.moved, h.0.are_kept ∙ ap naming_in h.1)
 
 -- ---- version 1
 
 pub tables_of_1 : (db : Database) (s : core.State) → HoldsAs 1 db s → HoldsParts (parts_1 s) db
-tables_of_1 db s held = record { known = held.known; means = held.means }
+tables_of_1 db s held = record { known = held.known; whole = held.whole; means = held.means }
 
 pub texts_of_1 : (db : Database) (s : core.State) → IsSound s → HoldsAs 1 db s → HasTexts s
 texts_of_1 db s sound held = record { sound = sound; texts = held.fit.1 }

@@ -1,12 +1,12 @@
 -- The incidents of version 1, as a migration reads them: the texts of their documents read back.
-use Rattle.std.proofs.Common.{◌≡◌, ◌<◌, ◌+◌, ◌≤◌, ℕ, pos, List, [], ◌∷◌, ◌++◌, map, filter, find, take, Bool, true, false, cond, nat_lt, nat_le, nat_cmp, Option, Some, None, Ok, refl, sym, ap, subst, ◌∙◌, arith}
+use Rattle.std.proofs.Common.{◌≡◌, ◌<◌, ◌+◌, ◌≤◌, ℕ, pos, List, [], ◌∷◌, ◌++◌, map, filter, find, take, slice_get, Bool, true, false, cond, nat_lt, nat_le, nat_cmp, Option, Some, None, Ok, refl, sym, ap, subst, ◌∙◌, arith}
 use Rattle.std.specs.List.{AllByRecursion}
 use Rattle.std.specs.Str.{IsUtf8, is_utf8}
 use Rattle.std.specs.declared.cmp.Ordering.TheVariants.{Less}
 use Rattle.std.proofs.lemmas.Bool.Decides.{nat_tests}
 use Rattle.std.proofs.lemmas.List.Elements.{All-contains, All-from_recursion}
 use Rattle.std.proofs.lemmas.Str.{is_utf8-from_IsUtf8}
-use Rattle.sqlite_value.specs.declared.value.Value.TheVariants.{Int, Text}
+use Rattle.sqlite_value.specs.declared.value.Value.TheVariants.{Int}
 use Rattle.sqlite_value.specs.declared.keys.Key.{Key}
 use Rattle.sqlite_value.specs.Order.{Row}
 use Rattle.sqlite_value.proofs.OrderLemmas.{value_cmp-Int}
@@ -25,11 +25,11 @@ use Rattle.hub_core.specs.declared.state.Incident.{Incident}
 use Rattle.hub_core.proofs.Keeping.{numbers_above}
 use Rattle.hub_store.specs.Rows.{document_text, incident_row}
 use Rattle.hub_store.specs.Fit.{FitIncident}
-use Rattle.hub_store.specs.Shown.{ShowsFirst, naming_shown}
+use Rattle.hub_store.specs.Shown.{ShowsFirst}
 use Rattle.hub_store.specs.Holdings.{IsHeld}
 use Rattle.hub_store.specs.Parts.{held}
 use Rattle.hub_store.specs.Layout.{incident_part}
-use Rattle.hub_store.specs.Moving.{ShowsIncident, HasTexts, incident_above}
+use Rattle.hub_store.specs.Moving.{ShowsIncident, old_shown, HasTexts, incident_above}
 use Rattle.hub_store.proofs.Compare.{more_than, and_true}
 use Rattle.hub_store.proofs.Forms.{one_table, is_above, by_column}
 use Rattle.hub_store.proofs.Listed.{listed, int_below}
@@ -51,9 +51,6 @@ IsStored i = IsAccepted i.document × FitIncident i
 
 abbrev pub next_query : Query
 next_query = record (one_table 18 (is_above 0 0 ∷ []) (col 1 0 ∷ col 1 2 ∷ col 1 3 ∷ col 1 4 ∷ col 1 5 ∷ [])) { order = by_column 0 ∷ []; limit = lit (Int (pos 1)) }
-
-abbrev pub old_shown : Incident → Row
-old_shown i = naming_shown i.naming ++ Text (document_text i.document) ∷ []
 
 pub next_listed : (db : Trees) (s : core.State) (number : ℕ) (rows : List Row) → IsSound s → IsHeld db (held (incident_part s)) → IsAnswer next_query db (Int (pos number) ∷ []) rows
     → rows ≡ take 1 (map old_shown (filter (λ (i : Incident). nat_lt number i.naming.number) s.incidents))
@@ -87,6 +84,10 @@ first_back q (x ∷ is) found stored h = go (λ later k. first_back q is later s
 pub reads_next : (s : core.State) (number : ℕ) (rows : List Row) (found : Option Incident) → HasTexts s → rows ≡ take 1 (map old_shown (filter (λ (i : Incident). nat_lt number i.naming.number) s.incidents)) → ShowsFirst ShowsIncident rows found → found ≡ incident_above number s
 reads_next s number rows found has is h =
     first_back (λ (i : Incident). nat_lt number i.naming.number) s.incidents found (all_both _ _ IsStored (λ i p q. (p, q)) s.incidents has.sound.incidents.documents has.texts) (subst (λ l. ShowsFirst ShowsIncident l found) is h)
+
+pub shows_first : (rows : List Row) (row : Row) (i : Incident) → slice_get rows 0 ≡ Some row → ShowsIncident row i → ShowsFirst ShowsIncident rows (Some i)
+shows_first [] row i is shows = absurd cc
+shows_first (r ∷ rows) row i is shows = let same : r ≡ row = cc in subst (λ x. ShowsIncident x i) (sym same) shows
 
 -- ---- those up to a number
 

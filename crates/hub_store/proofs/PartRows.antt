@@ -55,9 +55,10 @@ one_of n (q ∷ qs) p p' rs old new apart kept change are =
 
 -- the rows of one part change: of parts that are written out, `refl` finds the two premises
 pub changes : (qs : List Part) (p : Part) (rs : List Part) (rows : List Row) (old new : Database) (edit : Edit) → edit.table.tree ≡ p.table.tree → are_apart p.table.tree (qs ++ rs) ≡ true → schema_of (qs ++ p ∷ rs) ≡ schema_of (qs ++ with_rows rows p ∷ rs)
-    → new.schema ≡ schema_of (qs ++ p ∷ rs) → Applies (schema_of (qs ++ p ∷ rs)) Enforced old.trees edit new.trees → (IsHeld old.trees (held p) → IsHeld new.trees (held (with_rows rows p))) → HoldsParts (qs ++ p ∷ rs) old → HoldsParts (qs ++ with_rows rows p ∷ rs) new
-changes qs p rs rows old new edit is apart same schema a change has = record {
+    → new.schema ≡ schema_of (qs ++ p ∷ rs) → IsDatabase new → Applies (schema_of (qs ++ p ∷ rs)) Enforced old.trees edit new.trees → (IsHeld old.trees (held p) → IsHeld new.trees (held (with_rows rows p))) → HoldsParts (qs ++ p ∷ rs) old → HoldsParts (qs ++ with_rows rows p ∷ rs) new
+changes qs p rs rows old new edit is apart same schema sound a change has = record {
   known = schema ∙ same;
+  whole = sound;
   means = one_of p.table.tree qs p (with_rows rows p) rs old.trees new.trees apart (subst (λ n. IsKept n old.trees new.trees (qs ++ p ∷ rs)) is a.tables) change has.means;
 }
 
@@ -90,7 +91,7 @@ module _ (qs : List Part) (p : Part) (rs : List Part) (at : ℕ) (stands : Stand
       let before = old.now.trees p.table.tree in
       let news = ap (λ all. numbered Chosen before (map (cast_row p.table) all)) rows ∙ ap (λ r. with_rowid Chosen before r ∷ []) cast in
       let a = subst (λ n. Applies s Enforced old.now.trees (record { table = p.table; gone = []; news = n }) new.now.trees) news c.applies in
-      changes qs p rs more old.now new.now _ refl stands.apart (stands.same more) c.schema_is a
+      changes qs p rs more old.now new.now _ refl stands.apart (stands.same more) c.schema_is c.whole a
       (λ one. permuted new.now.trees p.table.tree p.seen (shown ∷ p.rows) more same (subst (λ r. IsHeld new.now.trees (held (with_rows (r ∷ p.rows) p))) (shows before) (comes_in old.now.trees new.now.trees p.table p.seen p.rows _ a one))) has
 
   -- several rows are put, which the columns take as they are
@@ -102,7 +103,7 @@ module _ (qs : List Part) (p : Part) (rs : List Part) (at : ℕ) (stands : Stand
       let before = old.now.trees p.table.tree in
       let news = ap (λ all. numbered Chosen before (map (cast_row p.table) all)) given ∙ ap (λ all. numbered Chosen before all) cast in
       let a = subst (λ n. Applies s Enforced old.now.trees (record { table = p.table; gone = []; news = n }) new.now.trees) news c.applies in
-      changes qs p rs more old.now new.now _ refl stands.apart (stands.same more) c.schema_is a
+      changes qs p rs more old.now new.now _ refl stands.apart (stands.same more) c.schema_is c.whole a
       (λ one. permuted new.now.trees p.table.tree p.seen (rows ++ p.rows) more same (subst (λ l. IsHeld new.now.trees (held (with_rows (l ++ p.rows) p))) (shows before) (come_in old.now.trees new.now.trees p.table p.seen p.rows _ a one))) has
 
   -- the rows that pass the tests are taken out
@@ -111,5 +112,5 @@ module _ (qs : List Part) (p : Part) (rs : List Part) (at : ℕ) (stands : Stand
   takes terms is k same left gone =
       let s = schema_of (qs ++ p ∷ rs) in
       let c = deleted s p.table at stands.listed stands.uncounted stands.timeless stands.alone sql params old new has.known plain count h _ is in
-      changes qs p rs left old.now new.now _ refl stands.apart (stands.same left) c.2.schema_is c.2.applies
+      changes qs p rs left old.now new.now _ refl stands.apart (stands.same left) c.2.schema_is c.2.whole c.2.applies
       (λ one. subst (λ l. IsHeld new.now.trees (held (with_rows l p))) gone (goes_out old.now.trees new.now.trees p.table p.seen p.rows terms params c.0 k c.1 c.2.applies same one)) has

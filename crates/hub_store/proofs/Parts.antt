@@ -47,6 +47,7 @@ pub drops : (qs : List Part) (p : Part) (rs : List Part) (old new : Database) �
     → Dropped (schema_of (qs ++ p ∷ rs)) p.table.tree old new → HoldsParts (qs ++ p ∷ rs) old → HoldsParts (qs ++ rs) new
 drops qs p rs old new left d has = record {
   known = d.schema_is ∙ left;
+  whole = d.whole;
   means = all_stay (qs ++ rs) old.trees new.trees (subst (λ s. KeepsRows s.tables old.trees new.trees) left d.others) (without_one qs p rs old.trees has.means);
 }
 
@@ -55,5 +56,6 @@ pub adds : (ps : List Part) (p : Part) (table : Table) (old new : Database) → 
     → Made (schema_of ps) table old new → HoldsParts ps old → HoldsParts (ps ++ p ∷ []) new
 adds ps p table old new more tree none m has = record {
   known = m.schema_is ∙ more;
+  whole = m.whole;
   means = and_one ps p new.trees (all_stay ps old.trees new.trees m.others has.means) (no_rows (held p) new.trees none (subst (λ t. new.trees t ≡ []) tree m.empty));
 }

@@ -2,7 +2,7 @@
 use Rattle.std.proofs.Common.{◌≡◌, ◌+◌, ◌<◌, ℕ, suc, List, [], ◌∷◌, ◌++◌, map, take, get_or, length, Result, Ok, Err, OnOk, IsErrAnd, sym, ap, subst, ◌∙◌, arith, append_assoc}
 use Rattle.std.specs.List.Sorted.{IsPermutation}
 use Rattle.std.proofs.lemmas.List.{map-append, take_more, length-take-le}
-use Rattle.std.proofs.lemmas.List.Sorted.{IsPermutation-trans, IsPermutation-refl}
+use Rattle.std.proofs.lemmas.List.Sorted.{IsPermutation-trans, IsPermutation-refl, IsPermutation-sym}
 use Rattle.sqlite_value.specs.Order.{Row}
 use Rattle.sqlite.specs.declared.error.Error.{Error}
 use Rattle.sqlite.specs.State.{State}
@@ -10,12 +10,14 @@ use Rattle.iodef_tree.specs.declared.line.Line.{Line}
 use Rattle.hub_core.specs.Documents.{Lines}
 use Rattle.hub_store.specs.Items.{items_from, item_row}
 use Rattle.hub_store.specs.Layout.{newest, common, incident_part, item_part, incident_part_2}
+use Rattle.hub_store.specs.Beside.{CanStand}
 use Rattle.hub_store.specs.Keeps.{Goes}
 use Rattle.hub_store.specs.Makes.{Makes}
 use Rattle.hub_store.specs.PutsLines.{PutsLines, HasMore}
 use Rattle.hub_store.proofs.Items.{past_both}
 use Rattle.hub_store.proofs.PartRows.{exchanged_rows}
-use Rattle.hub_store.proofs.Steps.{makes_then, on_any, kept_itself, survives_itself}
+use Rattle.hub_store.proofs.Standing.{stand_permuted, stand_behind}
+use Rattle.hub_store.proofs.Steps.{makes_then, fails_then, fails_passed, on_any, kept_itself, survives_itself}
 
 pub as_far : (k : ℕ) → k ≡ k + 0
 as_far k = omega arith
@@ -50,7 +52,17 @@ puts_then a b c x result n place ls ms one two = record {
   moved = λ s items more same.
       let mid = map item_row (items_from n place ls) ++ items in
       makes_then a b c _ _ _ x result (one.moved s items mid (IsPermutation-refl mid)) (two.moved s mid more (more_then n place ls ms items more same));
+  cause = λ s items more same can.
+      let mid = map item_row (items_from n place ls) ++ items in
+      fails_then (one.moved s items mid (IsPermutation-refl mid)) two.goes (two.cause s mid more (more_then n place ls ms items more same) can);
 }
+
+-- the first lines stand where all do
+first_stand : (n place : ℕ) (ls ms : Lines) (items more : List Row) → HasMore n place (ls ++ ms) items more → CanStand more → CanStand (map item_row (items_from n place ls) ++ items)
+first_stand n place ls ms items more same can =
+    let mid = map item_row (items_from n place ls) ++ items in
+    let rest = map item_row (items_from n (place + length ls) ms) in
+    stand_behind rest mid (stand_permuted more (rest ++ mid) (IsPermutation-sym _ _ (more_then n place ls ms items more same)) can)
 
 pub puts_then_at : {T U : Type 0} (a b c : State) (x : T) (result : Result U Error) (n place at : ℕ) (ls ms : Lines) → at ≡ place + length ls → PutsLines n place ls a b (Ok x) → PutsLines n at ms b c result → PutsLines n place (ls ++ ms) a c result
 puts_then_at a b c x result n place at ls ms is one two = puts_then a b c x result n place ls ms one (subst (λ k. PutsLines n k ms b c result) is two)
@@ -63,14 +75,17 @@ puts_more a b c x result n place at i ls l low is behind one two =
     let long : length (take i ls) ≡ i = length-take-le i ls (omega (arith, low)) in
     subst (λ all. PutsLines n place all a c result) (sym longer) (puts_then_at a b c x result n place at (take i ls) (l ∷ []) (behind ∙ ap (λ k. place + k) (sym long)) one two)
 
--- what is passed on of a call that failed
-pub puts_not : {T U : Type 0} (a b : State) (e : Error) (result : Result U Error) (n place : ℕ) (ls : Lines) → IsErrAnd result (λ y. y ≡ e) → Goes {T = T} a b (Err e) → PutsLines n place ls a b result
-puts_not {T} {U} a b e result n place ls is goes =
-    let own : Goes a b result = record { kept = goes.kept; inside = λ _ _. only_err _ result is; survives = goes.survives } in
+-- what is passed on of a call that failed before the last lines
+pub puts_not : {T U : Type 0} (a b : State) (e : Error) (result : Result U Error) (n place : ℕ) (ls ms : Lines) → IsErrAnd result (λ y. y ≡ e) → PutsLines {T = T} n place ls a b (Err e) → PutsLines n place (ls ++ ms) a b result
+puts_not {T} {U} a b e result n place ls ms is puts =
+    let own : Goes a b result = record { kept = puts.goes.kept; inside = λ _ _. only_err _ result is; survives = puts.goes.survives } in
     record {
       goes = own;
       edited = λ s incidents items more same. record { goes = own; made = λ _ _ _. only_err _ result is };
       moved = λ s items more same. record { goes = own; made = λ _ _ _. only_err _ result is };
+      cause = λ s items more same can.
+          let mid = map item_row (items_from n place ls) ++ items in
+          fails_passed is (puts.cause s items mid (IsPermutation-refl mid) (first_stand n place ls ms items more same can));
     }
   where
     only_err : (X : Type 0) (r : Result U Error) → IsErrAnd r (λ y. y ≡ e) → OnOk r X
@@ -89,6 +104,10 @@ puts_none a n place =
       };
       moved = λ s items more same. record {
         goes = goes;
-        made = λ _ _ has. record { known = has.known; means = exchanged_rows _ (common 1 s ++ incident_part s ∷ []) (item_part items) [] more same has.means };
+        made = λ _ _ has. record {
+          parts = record { known = has.parts.known; whole = has.parts.whole; means = exchanged_rows _ (common 1 s ++ incident_part s ∷ []) (item_part items) [] more same has.parts.means };
+          numbered = has.numbered;
+        };
       };
+      cause = λ s items more same can. record { cause = λ clean inside before. tt };
     }

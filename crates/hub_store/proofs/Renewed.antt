@@ -1,5 +1,5 @@
 -- What a migration gives, by what the version's question left and then the steps.
-use Rattle.std.proofs.Common.{◌≡◌, ◌≢◌, ◌⊎◌, inl, inr, ℕ, true, false, IsTrue, Some, refl, sym, subst, ◌∙◌, arith}
+use Rattle.std.proofs.Common.{◌≡◌, ◌≢◌, ◌≤◌, ◌⊎◌, inl, inr, ℕ, Bool, true, false, IsTrue, IsSome, Some, refl, sym, subst, ◌∙◌, arith}
 use Rattle.std.proofs.lemmas.Bool.{true≢false}
 use Rattle.sqlite_trees.specs.Tree.{Trees}
 use Rattle.sqlite.specs.Effect.{Database}
@@ -49,6 +49,16 @@ keeps_on a b c p q = record {
   committed = λ up. q.committed up ∙ p.committed (q.was_open up);
 }
 
+-- a reason that comes up after a call that wrote nothing is one of both
+reason_on : (a b c : State) → Survives a b (λ _. ⊥) → HasCleanDisk b → b.faults ≤ c.faults → HasReason b c → HasReason a c
+reason_on a b c s clean more (inl h) = inl (omega (arith, s.counts, h))
+reason_on a b c s clean more (inr (inr limited)) = inr (inr (subst IsSome s.limit limited))
+reason_on a b c s clean more (inr (inl shut)) = go a.is_open refl
+  where
+    go : (up : Bool) → a.is_open ≡ up → HasReason a c
+    go false is = inr (inl is)
+    go true is = elim (s.closes clean is) [ inl still ↦ absurd (true≢false (sym still ∙ shut)) | inr fell ↦ inl (omega (arith, fell, more)) ]
+
 -- how a fault of the store is told says nothing of the tables
 pub store_fault : (db : Database) (fault : ShelfFault) → IsMigrationFault db (opened_as fault)
 store_fault db shelf.NoMemory = tt
@@ -89,6 +99,7 @@ module _ (old mid : State) (asked : Survives old mid (λ _. ⊥)) (kept : HasCle
   not_begun fault why cause = record {
     why = why;
     cause = λ clean is. inl (cause clean is);
+    failed = λ clean is v older s has taken. cause clean is;
     kept = kept;
     content = λ clean v s has. kept_has old mid s (kept clean) has;
     survives = survives_more old mid _ _ (λ db none. absurd none) asked;
@@ -139,6 +150,7 @@ module _ (old mid : State) (asked : Survives old mid (λ _. ⊥)) (kept : HasCle
         record {
           why = λ _. told_fault old.now fault it.why;
           cause = λ clean _. inr (found, older, told (before clean));
+          failed = λ clean is v other s has taken. reason_on old mid new asked (before clean) it.survives.counts (it.cause clean is s (as_told (before clean) v other s has) taken);
           kept = keeps;
           content = λ clean v s has. kept_has old new s (keeps clean) has;
           survives = over_both it.survives;

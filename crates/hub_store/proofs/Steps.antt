@@ -11,8 +11,8 @@ use Rattle.sqlite.specs.Held.{Held, state}
 use Rattle.sqlite.specs.State.{State, HasCleanDisk, KeepsCommit, Survives, Executes, ExecutesInside}
 use Rattle.sqlite.proofs.StateLemmas.{survives_then}
 use Rattle.hub_store.specs.Keeps.{Goes, HasRun, HasFailed}
-use Rattle.hub_store.specs.Makes.{Makes, Creates}
-use Rattle.hub_store.specs.Failing.{HasReason}
+use Rattle.hub_store.specs.Makes.{Makes, FailsOnly, Creates}
+use Rattle.hub_store.specs.Failing.{HasReason, IsUnheld}
 use Rattle.hub_store.proofs.Causes.{reason_after}
 
 pub on_ok : {T E : Type 0} (r : Result T E) (P Q : Type 0) → (P → Q) → OnOk r P → OnOk r Q
@@ -48,6 +48,15 @@ made_by g text params old new Before After result goes ran does = record {
   made = λ clean inside before. on_ok result (HasRun g text params old new) _ (λ (it : HasRun g text params old new). does (state g it.mid) it.count it.executes (subst Before (sym it.same.0.now_is) before)) (ran clean inside);
 }
 
+-- a text that was refused has a reason, where what refuses it has
+pub fails_by : {S : Type 0} (g : store.Ghosts S) (text : List ℕ) (params : Row) (old new : Held S) (Before : Database → Type 0) {T : Type 0} (result : Result T Error) →
+    (HasCleanDisk (state g new) → IsTrue (state g old).in_transaction → IfErr result (HasFailed g text params old new)) →
+    ((mid : State) (e : Error) → ExecutesInside 0 text params mid (state g new) (Err e) → Before mid.now → e ≢ SqliteFailure code.OutOfMemory → HasReason mid (state g new)) → FailsOnly (state g old) (state g new) Before result
+fails_by g text params old new Before result failed why = record {
+  cause = λ clean inside before. IfErr-weaker result (HasFailed g text params old new) (λ e. e ≢ SqliteFailure code.OutOfMemory → HasReason (state g old) (state g new))
+      (λ e h other. reason_after (state g old) (state g h.mid) (state g new) _ h.survives h.is_open (why (state g h.mid) e h.executes (subst Before (sym h.now) before) other)) (failed clean inside);
+}
+
 -- the same, where each failure has a reason
 pub created_by : {S : Type 0} (g : store.Ghosts S) (text : List ℕ) (params : Row) (old new : Held S) (Before After : Database → Type 0) {T : Type 0} (result : Result T Error) → Goes (state g old) (state g new) result →
     (HasCleanDisk (state g new) → IsTrue (state g old).in_transaction → OnOk result (HasRun g text params old new)) → (HasCleanDisk (state g new) → IsTrue (state g old).in_transaction → IfErr result (HasFailed g text params old new)) →
@@ -55,8 +64,7 @@ pub created_by : {S : Type 0} (g : store.Ghosts S) (text : List ℕ) (params : R
     ((mid : State) (e : Error) → ExecutesInside 0 text params mid (state g new) (Err e) → Before mid.now → e ≢ SqliteFailure code.OutOfMemory → HasReason mid (state g new)) → Creates (state g old) (state g new) Before After result
 created_by g text params old new Before After result goes ran failed does why = record {
   makes = made_by g text params old new Before After result goes ran does;
-  cause = λ clean inside before. IfErr-weaker result (HasFailed g text params old new) (λ e. e ≢ SqliteFailure code.OutOfMemory → HasReason (state g old) (state g new))
-      (λ e h other. reason_after (state g old) (state g h.mid) (state g new) _ h.survives h.is_open (why (state g h.mid) e h.executes (subst Before (sym h.now) before) other)) (failed clean inside);
+  cause = (fails_by g text params old new Before result failed why).cause;
 }
 
 -- the second after an Ok of the first
@@ -80,14 +88,20 @@ makes_start a P x = record {
   made = λ _ _ before. before;
 }
 
+-- a failure after an Ok of the first
+pub fails_then : {T U : Type 0} {a b c : State} {P Q : Database → Type 0} {x : T} {result : Result U Error} → Makes a b P Q (Ok x) → Goes b c result → FailsOnly b c Q result → FailsOnly a c P result
+fails_then {T} {U} {a} {b} {c} {P} {Q} {x} {result} one goes two = record {
+  cause = λ clean inside before.
+      let early = clean_before b c goes.survives clean in
+      let mid = one.goes.inside early inside in
+      IfErr-weaker result (λ e. e ≢ SqliteFailure code.OutOfMemory → HasReason b c) (λ e. e ≢ SqliteFailure code.OutOfMemory → HasReason a c)
+      (λ e cause other. reason_after a b c _ one.goes.survives mid.1 (cause other)) (two.cause clean mid.0 (one.made early inside before));
+}
+
 pub creates_then : {T U : Type 0} {a b c : State} {P Q R : Database → Type 0} {x : T} {result : Result U Error} → Creates a b P Q (Ok x) → Creates b c Q R result → Creates a c P R result
 creates_then {T} {U} {a} {b} {c} {P} {Q} {R} {x} {result} one two = record {
   makes = makes_then a b c P Q R x result one.makes two.makes;
-  cause = λ clean inside before.
-      let early = clean_before b c two.makes.goes.survives clean in
-      let mid = one.makes.goes.inside early inside in
-      IfErr-weaker result (λ e. e ≢ SqliteFailure code.OutOfMemory → HasReason b c) (λ e. e ≢ SqliteFailure code.OutOfMemory → HasReason a c)
-      (λ e cause other. reason_after a b c _ one.makes.goes.survives mid.1 (cause other)) (two.cause clean mid.0 (one.makes.made early inside before));
+  cause = (fails_then {T = T} {U = U} {a = a} {b = b} {c = c} {P = P} {Q = Q} {x = x} {result = result} one.makes two.makes.goes (record { cause = two.cause })).cause;
 }
 
 -- an error that is passed on
@@ -95,13 +109,24 @@ pub err_passed : {T E : Type 0} (r : Result T E) (e : E) (P : E → Type 0) → 
 err_passed (Ok x) e P is h = tt
 err_passed (Err y) e P is h = subst P (sym is) h
 
+pub fails_passed : {T U : Type 0} {a b : State} {P : Database → Type 0} {e : Error} {r : Result U Error} → IsErrAnd r (λ y. y ≡ e) → FailsOnly {T = T} a b P (Err e) → FailsOnly a b P r
+fails_passed {e = e} {r = r} is one = record { cause = λ clean inside before. err_passed r e _ is (one.cause clean inside before) }
+
+-- want of memory is no such failure
+pub fails_unheld : {U : Type 0} {a b : State} {P : Database → Type 0} {r : Result U Error} → IsErrAnd r (λ y. y ≡ SqliteFailure code.OutOfMemory) → FailsOnly a b P r
+fails_unheld {r = r} is = record { cause = λ clean inside before. err_passed r (SqliteFailure code.OutOfMemory) _ is (λ other. absurd (other refl)) }
+
+-- nothing but want of memory is no such failure
+pub unheld_only : {U : Type 0} (X : Type 0) (r : Result U Error) → IfErr r IsUnheld → IfErr r (λ e. e ≢ SqliteFailure code.OutOfMemory → X)
+unheld_only X r unheld = IfErr-weaker r IsUnheld _ (λ e h other. absurd (h other)) unheld
+
 pub creates_not : {T U : Type 0} {a b : State} {P Q R : Database → Type 0} {e : Error} {r : Result U Error} → IsErrAnd r (λ y. y ≡ e) → Creates {T = T} a b P Q (Err e) → Creates a b P R r
 creates_not {T} {U} {a} {b} {P} {Q} {R} {e} {r} is one = record {
   makes = record {
     goes = record { kept = one.makes.goes.kept; inside = λ _ _. on_err_only r e _ is; survives = one.makes.goes.survives };
     made = λ _ _ _. on_err_only r e _ is;
   };
-  cause = λ clean inside before. err_passed r e (λ e. e ≢ SqliteFailure code.OutOfMemory → HasReason a b) is (one.cause clean inside before);
+  cause = (fails_passed {T = T} {U = U} {a = a} {b = b} {P = P} {e = e} {r = r} is (record { cause = one.cause })).cause;
 }
   where
     on_err_only : {U : Type 0} (r : Result U Error) (e : Error) (X : Type 0) → IsErrAnd r (λ y. y ≡ e) → OnOk r X

@@ -426,9 +426,9 @@ unfolding understood everything
 incident_with_number_plain = ((refl, refl), refl)
 
 abbrev pub lines_of_incident : List ℕ
-lines_of_incident = codes "SELECT depth, name, in_array, kind, text FROM item WHERE incident = ?1 ORDER BY place"
+lines_of_incident = codes "SELECT place, depth, name, in_array, kind, text FROM item WHERE incident = ?1 ORDER BY place"
 
-pub lines_of_incident_is : command_of (understood hub_schema lines_of_incident) ≡ Select (program (in_order (by_column 2 ∷ []) (one_table item_tree (is_param 1 0 ∷ []) (col 1 3 ∷ col 1 4 ∷ col 1 5 ∷ col 1 6 ∷ col 1 7 ∷ [])))) (codes "depth" ∷ codes "name" ∷ codes "in_array" ∷ codes "kind" ∷ codes "text" ∷ [])
+pub lines_of_incident_is : command_of (understood hub_schema lines_of_incident) ≡ Select (program (in_order (by_column 2 ∷ []) (one_table item_tree (is_param 1 0 ∷ []) (col 1 2 ∷ col 1 3 ∷ col 1 4 ∷ col 1 5 ∷ col 1 6 ∷ col 1 7 ∷ [])))) (codes "place" ∷ codes "depth" ∷ codes "name" ∷ codes "in_array" ∷ codes "kind" ∷ codes "text" ∷ [])
 unfolding understood everything
 lines_of_incident_is = refl
 

@@ -1,5 +1,5 @@
 -- Twenty lines, put by one statement.
-use Rattle.std.proofs.Common.{◌≡◌, ℕ, pos, List, [], ◌∷◌, ◌++◌, map, length, Ok, codes, refl, sym, subst, append-nil}
+use Rattle.std.proofs.Common.{◌≡◌, ◌≢◌, ℕ, ◌*◌, suc, pos, List, [], ◌∷◌, ◌++◌, map, length, true, is_some, Ok, Err, codes, refl, sym, ap, subst, append-nil, ◌∙◌}
 use Rattle.sqlite_value.specs.declared.value.Value.TheVariants.{Int}
 use Rattle.sqlite_value.specs.Order.{Row}
 use Rattle.sqlite_schema.specs.declared.schema.Schema.{Schema}
@@ -10,7 +10,13 @@ use Rattle.sqlite.specs.Effect.{value_rows}
 use Rattle.sqlite.specs.Rows.{stamped}
 use Rattle.sqlite.specs.Listing.{understood}
 use Rattle.sqlite.specs.State as sql
-use Rattle.sqlite.specs.State.{Executes}
+use Rattle.sqlite.specs.State.{Executes, ExecutesInside}
+use Rattle.sqlite.specs.declared.error.Error.{Error}
+use Rattle.sqlite.specs.declared.error.Error.TheVariants.{SqliteFailure}
+use Rattle.sqlite.specs.declared.error.ErrorCode.TheVariants as code
+use Rattle.sqlite_typing.specs.Types.{accepts_terms, class_of}
+use Rattle.std.specs.List.{AllByRecursion}
+use Rattle.std.proofs.lemmas.List.Sorted.{IsPermutation-sym}
 use Rattle.sqlite.proofs.Callers.{IsPlain, command_of}
 use Rattle.hub_core.specs.Documents.{Lines}
 use Rattle.hub_core.specs.State.{State, empty}
@@ -20,10 +26,15 @@ use Rattle.hub_store.specs.Parts.{schema_of, HoldsParts}
 use Rattle.hub_store.specs.Means.{HoldsBetween}
 use Rattle.hub_store.specs.PutsLines.{HasMore}
 use Rattle.hub_store.specs.Tables.{hub_schema}
+use Rattle.hub_store.specs.Beside.{HoldsBeside, CanStand}
+use Rattle.hub_store.specs.Failing.{HasReason}
+use Rattle.hub_store.proofs.Causes.{IsWhole}
 use Rattle.hub_store.proofs.Held.{bare, past_rowids}
+use Rattle.hub_store.proofs.LineCauses.{lines_count, lines_fail, terms_accepted, lines_bound, lines_long}
 use Rattle.hub_store.proofs.LineRows.{terms_for, rows_for, cast_items, stands_between}
 use Rattle.hub_store.proofs.Migrating.{stands_items}
 use Rattle.hub_store.proofs.PartRows.{puts_all, puts_whole}
+use Rattle.hub_store.proofs.Standing.{stand_permuted}
 
 abbrev pub put_twenty : List ℕ
 put_twenty = codes "INSERT INTO item (incident, place, depth, name, in_array, kind, text) VALUES (?1, ?2, ?3, ?4, ?5, ?6, ?7), (?1, ?8, ?9, ?10, ?11, ?12, ?13), (?1, ?14, ?15, ?16, ?17, ?18, ?19), (?1, ?20, ?21, ?22, ?23, ?24, ?25), (?1, ?26, ?27, ?28, ?29, ?30, ?31), (?1, ?32, ?33, ?34, ?35, ?36, ?37), (?1, ?38, ?39, ?40, ?41, ?42, ?43), (?1, ?44, ?45, ?46, ?47, ?48, ?49), (?1, ?50, ?51, ?52, ?53, ?54, ?55), (?1, ?56, ?57, ?58, ?59, ?60, ?61), (?1, ?62, ?63, ?64, ?65, ?66, ?67), (?1, ?68, ?69, ?70, ?71, ?72, ?73), (?1, ?74, ?75, ?76, ?77, ?78, ?79), (?1, ?80, ?81, ?82, ?83, ?84, ?85), (?1, ?86, ?87, ?88, ?89, ?90, ?91), (?1, ?92, ?93, ?94, ?95, ?96, ?97), (?1, ?98, ?99, ?100, ?101, ?102, ?103), (?1, ?104, ?105, ?106, ?107, ?108, ?109), (?1, ?110, ?111, ?112, ?113, ?114, ?115), (?1, ?116, ?117, ?118, ?119, ?120, ?121)"
@@ -57,7 +68,7 @@ module _ (n place : ℕ) (ls : Lines) (long : length ls ≡ 20) (old new : sql.S
   pub puts_twenty : (incidents : List Row) → HoldsBetween items incidents old.now s → HoldsBetween more incidents new.now s
   puts_twenty incidents between =
       let all = map item_row (items_from n place ls) in
-      let has : HoldsParts (tables_2 newest items incidents s) old.now = record { known = between.known; means = between.means } in
+      let has : HoldsParts (tables_2 newest items incidents s) old.now = record { known = between.known; whole = between.whole; means = between.means } in
       let put = puts_all (common newest s) (item_part items) (incident_part_2 incidents ∷ []) 9 (stands_between s items incidents) put_twenty _ old new is_plain count h has (terms_for 1 20) 8 is_put all given (cast_items items (items_from n place ls)) (λ before. past_rowids before all) more same in
       record {
         known = put.known;
@@ -66,7 +77,26 @@ module _ (n place : ℕ) (ls : Lines) (long : length ls ≡ 20) (old new : sql.S
         fit = between.fit;
       }
 
-  pub moves_twenty : HoldsParts (with_items items s) old.now → HoldsParts (with_items more s) new.now
+  pub moves_twenty : HoldsBeside items s old.now → HoldsBeside more s new.now
   moves_twenty has =
       let all = map item_row (items_from n place ls) in
-      puts_all (common 1 s ++ incident_part s ∷ []) (item_part items) [] 10 (stands_items s items) put_twenty _ old new is_plain_beside count h has (terms_for 1 20) 8 is_put_beside all given (cast_items items (items_from n place ls)) (λ before. past_rowids before all) more same
+      let cast = cast_items items (items_from n place ls) in
+      record {
+        parts = puts_all (common 1 s ++ incident_part s ∷ []) (item_part items) [] 10 (stands_items s items) put_twenty _ old new is_plain_beside count h has.parts (terms_for 1 20) 8 is_put_beside all given cast (λ before. past_rowids before all) more same;
+        numbered = lines_count put_twenty _ (terms_for 1 20) all items s is_put_beside is_plain_beside given cast old new count h has;
+      }
+
+is_whole_beside : (n place : ℕ) (ls : Lines) → length ls ≡ 20 → IsWhole put_twenty (Int (pos n) ∷ placed_lines place ls) (understood beside put_twenty)
+unfolding understood everything
+is_whole_beside n place ls long = (refl, refl, ap suc (lines_long place ls ∙ ap (λ k. 6 * k) long), refl)
+
+-- twenty lines fail for a reason alone
+pub twenty_fail : (n place : ℕ) (ls : Lines) → length ls ≡ 20 → (s : State) (items more : List Row) → HasMore n place ls items more → CanStand more
+    → (old new : sql.State) (e : Error) → ExecutesInside 0 put_twenty (Int (pos n) ∷ placed_lines place ls) old new (Err e) → HoldsBeside items s old.now → e ≢ SqliteFailure code.OutOfMemory → HasReason old new
+twenty_fail n place ls long s items more same can old new e h has other =
+    let params = Int (pos n) ∷ placed_lines place ls in
+    let all = map item_row (items_from n place ls) in
+    let bound : AllByRecursion (λ v. is_some (class_of v) ≡ true) params = (refl, lines_bound place ls) in
+    let accepted = subst (λ p. accepts_terms (terms_for 1 20) p ≡ true) (sym (append-nil params)) (terms_accepted params 1 20 bound) in
+    let given = subst (λ p. value_rows p 8 20 (terms_for 1 20) ≡ map bare all) (sym (append-nil params)) (subst (λ k. value_rows params 8 k (terms_for 1 k) ≡ map bare all) long (rows_for n place [] ls)) in
+    lines_fail put_twenty params (terms_for 1 20) all items s is_put_beside (is_whole_beside n place ls long) accepted given (cast_items items (items_from n place ls)) (stand_permuted more (all ++ items) (IsPermutation-sym _ _ same) can) old new e h has other

@@ -6,8 +6,7 @@ use Rattle.redact.specs.Feeding.{PassState}
 use Rattle.hub_core.specs.Documents.{Lines}
 use Rattle.hub_core.specs.Reads.{document_of}
 use Rattle.hub_core.specs.State.{State}
-use Rattle.hub_store.specs.Items.{line_shown}
-use Rattle.hub_store.specs.Shown.{IsShownBy}
+use Rattle.hub_store.specs.Shown.{ShowsPlaced}
 
 -- no line came yet
 abbrev pub IsUnfed : PassState → Type 0
@@ -19,11 +18,11 @@ pub record HasTaken (old new : PassState) : Type 0 where
   pub standing : new.standing ≡ old.standing
   pub unfaulted : new.fed.fault ≡ None
 
--- one more line came, which the row shows
-pub record TakesRow (old : PassState) (row : Row) (new : PassState) : Type 0 where
+-- one more line came, which the row shows at this place
+pub record TakesRow (old : PassState) (place : ℕ) (row : Row) (new : PassState) : Type 0 where
   pub takes : HasTaken old new
   pub line : Line
-  pub shown : IsShownBy line_shown row line
+  pub shown : ShowsPlaced row (record { place = place; line = line })
   pub lines : new.fed.lines ≡ old.fed.lines ++ line ∷ []
 
 -- the lines of the document; none of one that is missing

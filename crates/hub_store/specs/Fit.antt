@@ -1,7 +1,9 @@
--- What every row that the code can make keeps beside soundness: the limits of its texts and its level.
-use Rattle.std.specs.Prelude.{◌<◌, ◌==◌, ℕ, Bool, true, false, IsTrue}
+-- What every row that the code can make keeps beside soundness: the limits of its texts and its level. What a store takes as one row.
+use Rattle.std.specs.Prelude.{◌<◌, ◌≤◌, ◌+◌, ◌^◌, ◌==◌, ℕ, Bool, true, false, ◌∷◌, length, sum_by, IsTrue}
 use Rattle.std.specs.List.{AllByRecursion}
 use Rattle.std.specs.Str.{IsUtf8}
+use Rattle.sqlite_value.specs.declared.value.Value.TheVariants.{Null}
+use Rattle.sqlite_value.specs.Order.{Row, bytes}
 use Rattle.circle.specs.Texts.{is_name, is_releasability}
 use Rattle.circle.specs.declared.directory.Org.{Org}
 use Rattle.circle.specs.declared.directory.Account.{Account}
@@ -10,7 +12,8 @@ use Rattle.circle.specs.declared.directory.Group.{Group}
 use Rattle.hub_core.specs.State.{State}
 use Rattle.hub_core.specs.declared.state.Incident.{Incident}
 use Rattle.hub_core.specs.declared.state.Gate.{Gate}
-use Rattle.hub_store.specs.Rows.{document_text}
+use Rattle.hub_store.specs.Rows.{document_text, named_row}
+use Rattle.hub_store.specs.Items.{Item, items_of, item_row}
 
 abbrev pub FitOrg : Org → Type 0
 FitOrg o = IsTrue (is_name o.name)
@@ -46,3 +49,20 @@ FitWith false s = IsFit s
 -- what the rows of a version keep
 abbrev pub FitAs : ℕ → State → Type 0
 FitAs v s = FitWith (v == 1) s
+
+-- ---- what a store takes
+
+-- at most a billion bytes, with 18 for each value
+abbrev pub IsShort : Row → Type 0
+IsShort row = sum_by (λ v. 18 + length (bytes v)) row ≤ 10 ^ 9
+
+abbrev pub ShortItem : Item → Type 0
+ShortItem x = IsShort (Null ∷ item_row x)
+
+abbrev pub ShortNaming : Incident → Type 0
+ShortNaming i = IsUtf8 i.naming.ident × IsShort (named_row i)
+
+-- A store takes the rows that are new in version 2: each line of the documents, under a rowid, and each incident without them.
+pub record AreTaken (s : State) : Type 0 where
+  pub items : AllByRecursion ShortItem (items_of s)
+  pub incidents : AllByRecursion ShortNaming s.incidents

@@ -9,6 +9,7 @@ use Rattle.hub_core.specs.Documents.{Lines}
 use Rattle.hub_core.specs.State.{State}
 use Rattle.hub_core.specs.declared.state.Incident.{Incident}
 use Rattle.hub_store.specs.Values.{flag}
+use Rattle.hub_store.specs.declared.item_rows.PlacedLine.{PlacedLine}
 
 pub record Item : Type 0 where
   pub incident : ℕ
@@ -32,9 +33,12 @@ kind_number kind.Class = 0
 kind_number kind.Text = 1
 kind_number kind.Value = 2
 
--- the columns of a line, as the query of the lines names them
+-- the columns of a line, ahead of others
+abbrev pub line_columns : Line → Row → Row
+line_columns l rest = Int (pos l.depth) ∷ Text l.name ∷ flag l.in_array ∷ Int (pos (kind_number l.kind)) ∷ Text l.text ∷ rest
+
 abbrev pub line_shown : Line → Row
-line_shown l = Int (pos l.depth) ∷ Text l.name ∷ flag l.in_array ∷ Int (pos (kind_number l.kind)) ∷ Text l.text ∷ []
+line_shown l = line_columns l []
 
 -- without the rowid
 abbrev pub item_row : Item → Row
@@ -43,7 +47,14 @@ item_row x = Int (pos x.incident) ∷ Int (pos x.place) ∷ line_shown x.line
 -- what a statement that puts lines is given behind the incident: each line with its place
 abbrev pub placed_lines : ℕ → Lines → Row
 placed_lines place [] = []
-placed_lines place (l ∷ ls) = Int (pos place) ∷ placed_line l (placed_lines (suc place) ls)
-  where
-    placed_line : Line → Row → Row
-    placed_line l rest = Int (pos l.depth) ∷ Text l.name ∷ flag l.in_array ∷ Int (pos (kind_number l.kind)) ∷ Text l.text ∷ rest
+placed_lines place (l ∷ ls) = Int (pos place) ∷ line_columns l (placed_lines (suc place) ls)
+
+-- ---- the lines of an incident, as their query names the columns
+
+abbrev pub placed_shown : PlacedLine → Row
+placed_shown p = Int (pos p.place) ∷ line_shown p.line
+
+-- each line with its place, the first at this one
+abbrev pub placed_from : ℕ → Lines → List PlacedLine
+placed_from place [] = []
+placed_from place (l ∷ ls) = record { place = place; line = l } ∷ placed_from (suc place) ls

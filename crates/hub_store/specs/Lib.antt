@@ -20,8 +20,10 @@ pub mod Queries
 pub mod Shown
 pub mod FirstShown
 pub mod FeedsRows
+pub mod ProbesRows
 pub mod Looks
 pub mod Makes
+pub mod Beside
 pub mod PutsLines
 pub mod Moving
 pub mod Versions

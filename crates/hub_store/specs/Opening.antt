@@ -7,6 +7,7 @@ use Rattle.hub_core.specs.State as core
 pub use Rattle.hub_store.specs.Layout.{newest}
 use Rattle.hub_store.specs.Means.{TreesHold}
 use Rattle.hub_store.specs.Content.{Has, HasAs, MayLeave}
+use Rattle.hub_store.specs.Fit.{AreTaken}
 use Rattle.hub_store.specs.Keeps.{KeepsCommitted}
 use Rattle.hub_store.specs.Versions.{version_of}
 use Rattle.hub_store.specs.Failing.{HasReason}
@@ -78,6 +79,7 @@ pub record IsBrought (found : ℕ) (old new : State) (failures : ℕ) : Type 0 w
 -- they are not, and the last commit stands
 pub record IsNotBrought (found : ℕ) (old new : State) (fault : OpenFault) : Type 0 where
   pub why : (fault ≡ Failed) ⊎ (fault ≡ NoMemory)
+  pub cause : HasCleanDisk new → fault ≡ Failed → (s : core.State) → HasAs found old s → AreTaken s → HasReason old new
   pub kept : HasCleanDisk new → KeepsCommitted old new
   pub survives : Survives old new (IsRenewedFrom found old)
 
@@ -100,6 +102,8 @@ pub record IsMigrated (old new : State) (failures : ℕ) : Type 0 where
 pub record IsUnmigrated (old new : State) (fault : OpenFault) : Type 0 where
   pub why : HasCleanDisk new → IsMigrationFault old.now fault
   pub cause : HasCleanDisk new → fault ≡ Failed → HasReason old new ⊎ IsOld old.now
+  -- of an older version that stands for a state it is Failed only for a reason too, where a store takes the rows that are new in the newest
+  pub failed : HasCleanDisk new → fault ≡ Failed → (v : ℕ) → IsTrue (is_older v) → (s : core.State) → HasAs v old s → AreTaken s → HasReason old new
   pub kept : HasCleanDisk new → KeepsCommitted old new
   pub content : HasCleanDisk new → (v : ℕ) → (s : core.State) → HasAs v old s → HasAs v new s
   -- a crash leaves what it could have left before, or, of an older version, the newest with that content

@@ -6,7 +6,7 @@ use Rattle.sqlite_schema.specs.declared.schema.Index.{Index}
 use Rattle.sqlite_schema.specs.declared.schema.Table.{Table}
 use Rattle.sqlite_schema.specs.declared.schema.Schema.{Schema}
 use Rattle.sqlite_catalog.specs.Change.{automatics}
-use Rattle.sqlite.specs.Effect.{Database}
+use Rattle.sqlite.specs.Effect.{Database, IsDatabase}
 use Rattle.hub_store.specs.Holdings.{Holding, IsHeld}
 
 -- a table with its tree, how a row of it is seen, and the rows that are seen
@@ -29,7 +29,8 @@ schema_of ps = record {
   views = [];
 }
 
--- these are the tables, and each holds its rows
+-- these are the tables, the database obeys them, and each holds its rows
 pub record HoldsParts (ps : List Part) (db : Database) : Type 0 where
   pub known : db.schema ≡ schema_of ps
+  pub whole : IsDatabase db
   pub means : AllByRecursion (IsHeld db.trees) (map held ps)

@@ -6,11 +6,10 @@ use Rattle.sqlite.specs.State.{State}
 use Rattle.hub_core.specs.Documents.{Lines}
 use Rattle.hub_core.specs.State as core
 use Rattle.hub_store.specs.Items.{items_from, item_row}
-use Rattle.hub_store.specs.Parts.{HoldsParts}
-use Rattle.hub_store.specs.Layout.{with_items}
 use Rattle.hub_store.specs.Means.{HoldsBetween}
 use Rattle.hub_store.specs.Keeps.{Goes}
-use Rattle.hub_store.specs.Makes.{Makes}
+use Rattle.hub_store.specs.Makes.{Makes, FailsOnly}
+use Rattle.hub_store.specs.Beside.{HoldsBeside, CanStand}
 
 -- The second rows are the first and those of the lines, of which the first has this place.
 abbrev pub HasMore : ℕ → ℕ → Lines → List Row → List Row → Type 0
@@ -20,4 +19,6 @@ HasMore incident place lines items more = IsPermutation (map item_row (items_fro
 pub record PutsLines {T : Type 0} (incident place : ℕ) (lines : Lines) (old new : State) (result : Result T Error) : Type 0 where
   pub goes : Goes old new result
   pub edited : (s : core.State) → (incidents items more : List Row) → HasMore incident place lines items more → Makes old new (λ db. HoldsBetween items incidents db s) (λ db. HoldsBetween more incidents db s) result
-  pub moved : (s : core.State) → (items more : List Row) → HasMore incident place lines items more → Makes old new (HoldsParts (with_items items s)) (HoldsParts (with_items more s)) result
+  pub moved : (s : core.State) → (items more : List Row) → HasMore incident place lines items more → Makes old new (HoldsBeside items s) (HoldsBeside more s) result
+  -- lines that the table takes fail only for a reason
+  pub cause : (s : core.State) → (items more : List Row) → HasMore incident place lines items more → CanStand more → FailsOnly old new (HoldsBeside items s) result

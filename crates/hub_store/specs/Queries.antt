@@ -1,10 +1,10 @@
 -- What a query in a transaction leaves and shows.
-use Rattle.std.specs.Prelude.{List, ℕ, Result, IfOk, OnOk}
+use Rattle.std.specs.Prelude.{◌≡◌, ◌⊎◌, List, ℕ, Result, IfOk, OnOk, IsTrue}
 use Rattle.sqlite_value.specs.Order.{Row}
 use Rattle.sqlite_trees.specs.declared.store.Store as store
 use Rattle.sqlite.specs.declared.error.Error.{Error}
 use Rattle.sqlite.specs.Held.{Held, state}
-use Rattle.sqlite.specs.State.{State, HasCleanDisk, KeepsCommit, IsUnchanged, Shown, Survives}
+use Rattle.sqlite.specs.State.{State, HasCleanDisk, KeepsCommit, IsUnchanged, Shown, FailsToQuery, IsTooLate, Survives}
 use Rattle.hub_core.specs.State as core
 use Rattle.hub_core.specs.Sound.{IsSound}
 use Rattle.hub_store.specs.Content.{Has}
@@ -16,6 +16,14 @@ pub record HasShown {S : Type 0} (g : store.Ghosts S) (text : List ℕ) (params 
   pub mid : Held S
   pub same : IsUnchanged (state g old) (state g mid)
   pub shown : Shown text params (state g mid) (state g new) rows
+
+-- the text failed, as it was prepared or as it was asked
+pub record HasRefused {S : Type 0} (g : store.Ghosts S) (text : List ℕ) (params : Row) (old new : Held S) (e : Error) : Type 0 where
+  pub mid : Held S
+  pub survives : Survives (state g old) (state g mid) (λ _. ⊥)
+  pub now : (state g mid).now ≡ (state g old).now
+  pub is_open : IsTrue (state g old).is_open → IsTrue (state g mid).is_open
+  pub fails : FailsToQuery text params (state g mid) (state g new) e ⊎ IsTooLate text params (state g mid) (state g new) e
 
 -- A read in a transaction: it commits nothing, after an Ok all is as it was, and the answer is right of the state that the tables stand for.
 pub record IsReadInside {T : Type 0} (old new : State) (Right : core.State → T → Type 0) (result : Result T Error) : Type 0 where

@@ -1,7 +1,7 @@
 -- What the rows of a query show.
 use Rattle.std.specs.Prelude.{◌≡◌, ℕ, pos, List, [], ◌∷◌, Option, Some, None}
 use Rattle.sqlite_value.specs.declared.value.Value.TheVariants.{Int, Text}
-use Rattle.sqlite_value.specs.Order.{Row}
+use Rattle.sqlite_value.specs.Order.{Row, column}
 use Rattle.circle.specs.declared.directory.Person.{Person}
 use Rattle.iodef_tree.specs.Pointer.{pointer_text}
 use Rattle.policy.specs.declared.gate.Gate.{Gate}
@@ -15,7 +15,8 @@ use Rattle.hub_core.specs.declared.state.Naming.{Naming}
 use Rattle.hub_core.specs.declared.reply.Entry.{Entry}
 use Rattle.hub_store.specs.Values.{flag, number_or_null}
 use Rattle.hub_store.specs.Rows.{role_number}
-use Rattle.hub_store.specs.Items.{line_shown}
+use Rattle.hub_store.specs.Items.{placed_shown, placed_from}
+use Rattle.hub_store.specs.declared.item_rows.PlacedLine.{PlacedLine}
 
 -- the row shows no other value than this
 abbrev pub IsShownBy : {X : Type 0} → (X → Row) → Row → X → Type 0
@@ -55,12 +56,16 @@ target_shown target = Int (pos (target_key target).0) ∷ Int (pos (target_key t
 abbrev pub permission_shown : Permission → Row
 permission_shown x = Text (pointer_text x.path) ∷ Int (pos (grantee_key x.grantee).0) ∷ Int (pos (grantee_key x.grantee).1) ∷ []
 
--- the lines that all rows show are the document; it is none where there is no row
+-- the row stands at this place, whatever else it has, and shows no other line
+abbrev pub ShowsPlaced : Row → PlacedLine → Type 0
+ShowsPlaced shown placed = (column shown 0 ≡ Int (pos placed.place)) × IsShownBy placed_shown shown placed
+
+-- all rows stand at the places 1, 2, 3 and so on, and the lines that they show are the document; it is none where there is no row
 abbrev pub ShowsLines : List Row → Option Lines → Type 0
 ShowsLines [] None = Unit {0}
 ShowsLines [] (Some lines) = ⊥
 ShowsLines (row ∷ rows) None = ⊥
-ShowsLines (row ∷ rows) (Some lines) = ShowsAll (IsShownBy line_shown) (row ∷ rows) lines
+ShowsLines (row ∷ rows) (Some lines) = ShowsAll ShowsPlaced (row ∷ rows) (placed_from 1 lines)
 
 -- the case of an incident with this source and number
 abbrev pub IsCase : ℕ → ℕ → State → Case → Type 0

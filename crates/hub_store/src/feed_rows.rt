@@ -5,19 +5,18 @@ ghost use Rattle.sqlite.specs.Held.{state};
 ghost use Rattle.hub_store.specs.FeedsRows.{IsUnfed, HasTaken, TakesRow, lines_of};
 ghost use Rattle.hub_store.specs.Queries.{IsReadOutside};
 
-use crate::from_row::{FromRow, STRANGE};
-use crate::item_rows::error_of;
-use iodef_tree::Line;
+use crate::from_row::STRANGE;
+use crate::item_rows::{error_of, line_at};
 use redact::RowPass;
 use sqlite::{Alter, Connection, Error, Row, params};
 use std::alloc::Global;
 
-/// A row that shows no line, and a line that may not come there, are strange.
-fn feed_row(alloc: Global, pass: &mut RowPass, row: &Row) -> Result<(), Error>
+/// A row that shows no line or stands at another place, and a line that may not come there, are strange.
+fn feed_row(alloc: Global, pass: &mut RowPass, place: u64, row: &Row) -> Result<(), Error>
     requires { pass.old.fed.fault ≡ None }
-    ensures { OnOk result (TakesRow pass.old row.now pass.new) }
+    ensures { OnOk result (TakesRow pass.old place row.now pass.new) }
 {
-    let line = Line::from_row(alloc, row)?;
+    let line = line_at(alloc, place, row)?;
     match pass.feed(line) {
         Ok(()) => Ok(()),
         Err(fault) => Err(error_of(fault)),
@@ -40,14 +39,14 @@ pub(crate) fn feed_rows<S: Alter>(
     ensures answers { IsReadOutside (state S.Store conn.old) (state S.Store conn.new) (λ s _. pass.new.fed.lines ≡ lines_of incident s) result }
 {
     let mut rows = conn.query(
-        "SELECT depth, name, in_array, kind, text FROM item WHERE incident = ?1 ORDER BY place",
+        "SELECT place, depth, name, in_array, kind, text FROM item WHERE incident = ?1 ORDER BY place",
         params![incident],
     )?;
-    'rows: for _ in 0..u64::MAX {
+    'rows: for place in 1..u64::MAX {
         let Some(row) = rows.next()? else {
             return Ok(());
         };
-        feed_row(alloc, pass, row)?;
+        feed_row(alloc, pass, place, row)?;
     }
     Err(STRANGE)
 }

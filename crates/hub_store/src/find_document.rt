@@ -21,7 +21,7 @@ fn read_document<S: Alter>(
 {
     let rows = ask(
         tx,
-        "SELECT depth, name, in_array, kind, text FROM item WHERE incident = ?1 ORDER BY place",
+        "SELECT place, depth, name, in_array, kind, text FROM item WHERE incident = ?1 ORDER BY place",
         params![incident],
     )?;
     document_in(alloc, &rows)

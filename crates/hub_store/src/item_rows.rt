@@ -1,10 +1,10 @@
-//! Rows of the table of lines as lines, and all lines of an incident as its document.
+//! Rows of the table of lines as lines at their places, and all lines of an incident as its document.
 
 ghost use Rattle.std.specs.Prelude.{◌≡◌, ◌↔◌, IfOk};
-ghost use Rattle.hub_store.specs.Items.{kind_number, line_shown};
-ghost use Rattle.hub_store.specs.Shown.{IsShownBy, ShowsLines};
+ghost use Rattle.hub_store.specs.Items.{kind_number, placed_from};
+ghost use Rattle.hub_store.specs.Shown.{ShowsAll, ShowsPlaced, ShowsLines};
 
-use crate::from_row::{FromRow, NO_MEMORY, STRANGE, all};
+use crate::from_row::{FromRow, NO_MEMORY, STRANGE};
 use iodef_tree::{Document, Kind, Line, OutlineFault, Text};
 use sqlite::{Error, ErrorCode, Row};
 use std::alloc::Global;
@@ -20,18 +20,39 @@ fn kind_of(number: u32) -> Result<Kind, Error>
     }
 }
 
-impl FromRow for Line {
-    ghost shows = { IsShownBy line_shown };
+/// A line with its place in its document, from 1.
+#[derive(Drop)]
+pub(crate) struct PlacedLine {
+    pub(crate) place: u64,
+    pub(crate) line: Line,
+}
 
-    fn from_row(_alloc: Global, row: &Row) -> Result<Line, Error> {
-        Ok(Line {
-            depth: row.get(0)?,
-            name: Text::new(row.get(1)?),
-            in_array: row.get(2)?,
-            kind: kind_of(row.get(3)?)?,
-            text: Text::new(row.get(4)?),
+impl FromRow for PlacedLine {
+    ghost shows = { ShowsPlaced };
+
+    fn from_row(_alloc: Global, row: &Row) -> Result<PlacedLine, Error> {
+        Ok(PlacedLine {
+            place: row.get(0)?,
+            line: Line {
+                depth: row.get(1)?,
+                name: Text::new(row.get(2)?),
+                in_array: row.get(3)?,
+                kind: kind_of(row.get(4)?)?,
+                text: Text::new(row.get(5)?),
+            },
         })
     }
+}
+
+/// The line of a row that has to stand at this place: one at another place is strange, as a row before it is missing.
+pub(crate) fn line_at(alloc: Global, place: u64, row: &Row) -> Result<Line, Error>
+    ensures { IfOk result (λ line. ShowsPlaced row.now (record { place = place; line = line })) }
+{
+    let found = PlacedLine::from_row(alloc, row)?;
+    if found.place != place {
+        return Err(STRANGE);
+    }
+    Ok(found.line)
 }
 
 /// How it is told that lines are no document: want of memory apart from lines out of shape.
@@ -44,14 +65,27 @@ pub(crate) fn error_of(fault: OutlineFault) -> Error
     }
 }
 
-/// The document with the lines that the rows show; none where there is no row. Rows out of shape are no document.
+/// The lines of rows that have to stand at the places 1, 2, 3 and so on.
+fn lines_in(alloc: Global, rows: &[Row]) -> Result<Vec<Line>, Error>
+    ensures { IfOk result (λ lines. ShowsAll ShowsPlaced rows.now (placed_from 1 lines.items)) }
+{
+    let mut lines = Vec::new(alloc);
+    for row in rows {
+        let place = lines.len() as u64 + 1;
+        lines.push(line_at(alloc, place, row)?)?;
+    }
+    Ok(lines)
+}
+
+/// The document with the lines that the rows show, whose places have no gap; none where there is no row. Rows out of shape are no
+/// document.
 pub(crate) fn document_in(alloc: Global, rows: &[Row]) -> Result<Option<Document>, Error>
     ensures { IfOk result (λ found. ShowsLines rows.now found) }
 {
     if rows.is_empty() {
         return Ok(None);
     }
-    let lines: Vec<Line> = all(alloc, rows)?;
+    let lines = lines_in(alloc, rows)?;
     match Document::from_outline(alloc, &lines) {
         Ok(document) => Ok(Some(document)),
         Err(fault) => Err(error_of(fault)),

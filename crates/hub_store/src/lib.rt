@@ -16,10 +16,10 @@
 //! - `pair_kind`, `numbers`, `from_row`, `person_rows`, `joined_rows`, `incident_rows`, `item_rows`: values as rows, and rows as values;
 //! - `statement` and `query`: a text that is prepared and run, and asked in a transaction; `any_row`, `ask_pairs`,
 //!   `read_pairs`: the queries that several of these ask;
-//! - `find_person`, `find_numbered`, `find_number`, `find_naming`, `find_document`, `find_excerpt`, `find_gates`, `find_recipients`,
+//! - `find_person`, `find_numbered`, `find_number`, `find_naming`, `find_document`, `find_excerpt`, `find_met`, `find_gates`, `find_recipients`,
 //!   `find_permissions`, `find_case`, `find_groups`, `find_communities`, `find_arranged`, `list_entries`, `has_row`,
 //!   `has_pair`, `common_numbers`: what is looked up;
-//! - `feed_rows`: the lines of an incident, fed to the pass of an excerpt as they come;
+//! - `feed_rows`: the lines of an incident, fed to the pass of an excerpt as they come; `probe_rows`: to a search, until it is sure;
 //! - `counts`, `count_incidents`, `directory_facts`: what the facts of a request want;
 //! - `directory_edits`, `put_naming`, `put_lines`, `incident_edits` and `apply`: the edits, each by its statements, in one
 //!   transaction;
@@ -44,6 +44,7 @@ mod find_document;
 mod find_excerpt;
 mod find_gates;
 mod find_groups;
+mod find_met;
 mod find_naming;
 mod find_number;
 mod find_numbered;
@@ -64,6 +65,7 @@ mod numbers;
 mod old_rows;
 mod pair_kind;
 mod person_rows;
+mod probe_rows;
 mod put_lines;
 mod put_naming;
 mod query;

@@ -1,24 +1,27 @@
 //! A store of an older version, brought to the newest in one transaction.
 
-ghost use Rattle.std.specs.Prelude.{◌≡◌, ◌&&◌, List, [], map, false, OnOk, OnErr, IfOk, IsTrue};
+ghost use Rattle.std.specs.Prelude.{◌≡◌, ◌≢◌, ◌&&◌, List, [], map, false, OnOk, OnErr, IfOk, IfErr, IsTrue};
 ghost use Rattle.sqlite_value.specs.Order.{Row};
 ghost use Rattle.sqlite.specs.State.{HasCleanDisk, Survives};
 ghost use Rattle.sqlite.specs.Held.{state};
 ghost use Rattle.hub_core.specs.State.{State};
 ghost use Rattle.hub_core.specs.Sound.{IsSound};
-ghost use Rattle.hub_store.specs.Fit.{IsFit};
+ghost use Rattle.hub_store.specs.Fit.{IsFit, AreTaken};
 ghost use Rattle.hub_store.specs.Items.{items_of, item_row};
 ghost use Rattle.hub_store.specs.Layout.{parts_1, with_items, without_incidents, tables_2, unversioned_2};
 ghost use Rattle.hub_store.specs.Rows.{naming_row, named_row};
 ghost use Rattle.hub_store.specs.Parts.{HoldsParts};
+ghost use Rattle.hub_store.specs.Beside.{HoldsBeside, CanName};
 ghost use Rattle.hub_store.specs.Means.{HoldsAs, Holds, TreesHold};
 ghost use Rattle.hub_store.specs.Content.{HasAs, CommitsState};
+ghost use Rattle.hub_store.specs.Failing.{HasReason};
 ghost use Rattle.hub_store.specs.Keeps.{Goes, KeepsCommitted};
-ghost use Rattle.hub_store.specs.Makes.{Makes};
+ghost use Rattle.hub_store.specs.Makes.{Makes, FailsOnly};
 ghost use Rattle.hub_store.specs.Moving.{HasTexts, HoldsMoved, HoldsNext, incident_above, naming_in};
 ghost use Rattle.hub_store.specs.Opening.{is_older as is_older_version};
 
-use crate::from_row::{STRANGE, first};
+use crate::from_row::STRANGE;
+use crate::old_rows::first_incident;
 use crate::put_lines::put_lines;
 use crate::put_naming::put_naming;
 use crate::query::{ask, probe};
@@ -26,7 +29,7 @@ use crate::statement::run;
 use crate::to_version_2::{create_incident, create_item, drop_incident};
 use crate::version::NEWEST;
 use hub_core::{Incident, Naming};
-use sqlite::{Alter, Connection, Error, Transaction, params};
+use sqlite::{Alter, Connection, Error, ErrorCode, Transaction, params};
 use std::alloc::Global;
 
 /// Whether it is a version from which a store is brought to the newest.
@@ -44,15 +47,16 @@ fn read_next<S: Alter>(
 ) -> Result<Option<Incident>, Error>
     ensures same_reference { tx.new.conn.ghost_name ≡ tx.old.conn.ghost_name }
     ensures goes { Goes (state S.Store tx.old.conn.now) (state S.Store tx.new.conn.now) result }
-    ensures same { (s : State) → (items : List Row) → Makes (state S.Store tx.old.conn.now) (state S.Store tx.new.conn.now) (HoldsParts (with_items items s)) (HoldsParts (with_items items s)) result }
-    ensures read { HasCleanDisk (state S.Store tx.new.conn.now) → (s : State) → (items : List Row) → HasTexts s → HoldsParts (with_items items s) (state S.Store tx.old.conn.now).now → IfOk result (λ found. found ≡ incident_above number s) }
+    ensures same { (s : State) → (items : List Row) → Makes (state S.Store tx.old.conn.now) (state S.Store tx.new.conn.now) (HoldsBeside items s) (HoldsBeside items s) result }
+    ensures read { HasCleanDisk (state S.Store tx.new.conn.now) → (s : State) → (items : List Row) → HasTexts s → HoldsBeside items s (state S.Store tx.old.conn.now).now → IfOk result (λ found. found ≡ incident_above number s) }
+    ensures cause { (s : State) → (items : List Row) → HasTexts s → AreTaken s → FailsOnly (state S.Store tx.old.conn.now) (state S.Store tx.new.conn.now) (HoldsBeside items s) result }
 {
     let rows = ask(
         tx,
         "SELECT number, source, ident, revision, text FROM incident WHERE number > ?1 ORDER BY number LIMIT 1",
         params![number],
     )?;
-    first(alloc, &rows)
+    first_incident(alloc, &rows)
 }
 
 /// Puts the lines of the next document, if there is one, keeps what else its row holds, and tells its number. One document at a
@@ -66,6 +70,7 @@ fn move_next<S: Alter>(
     ensures same_reference { tx.new.conn.ghost_name ≡ tx.old.conn.ghost_name }
     ensures goes { Goes (state S.Store tx.old.conn.now) (state S.Store tx.new.conn.now) result }
     ensures moved { HasCleanDisk (state S.Store tx.new.conn.now) → IsTrue (state S.Store tx.old.conn.now).in_transaction → (s : State) → HasTexts s → HoldsMoved number kept.old.items (state S.Store tx.old.conn.now).now s → IfOk result (λ found. HoldsNext number kept.new.items found (state S.Store tx.new.conn.now).now s) }
+    ensures cause { (s : State) → HasTexts s → AreTaken s → FailsOnly (state S.Store tx.old.conn.now) (state S.Store tx.new.conn.now) (λ db. HoldsMoved number kept.old.items db s) result }
 {
     let Some(incident) = read_next(tx, alloc, number)? else {
         return Ok(None);
@@ -84,7 +89,8 @@ fn move_documents<S: Alter>(
 ) -> Result<Vec<Naming>, Error>
     ensures same_reference { tx.new.conn.ghost_name ≡ tx.old.conn.ghost_name }
     ensures goes { Goes (state S.Store tx.old.conn.now) (state S.Store tx.new.conn.now) result }
-    ensures moved { HasCleanDisk (state S.Store tx.new.conn.now) → IsTrue (state S.Store tx.old.conn.now).in_transaction → (s : State) → HasTexts s → HoldsParts (with_items [] s) (state S.Store tx.old.conn.now).now → IfOk result (λ kept. HoldsParts (with_items (map item_row (items_of s)) s) (state S.Store tx.new.conn.now).now × (kept.items ≡ naming_in s.incidents)) }
+    ensures moved { HasCleanDisk (state S.Store tx.new.conn.now) → IsTrue (state S.Store tx.old.conn.now).in_transaction → (s : State) → HasTexts s → HoldsBeside [] s (state S.Store tx.old.conn.now).now → IfOk result (λ kept. HoldsBeside (map item_row (items_of s)) s (state S.Store tx.new.conn.now).now × (kept.items ≡ naming_in s.incidents)) }
+    ensures cause { (s : State) → HasTexts s → AreTaken s → FailsOnly (state S.Store tx.old.conn.now) (state S.Store tx.new.conn.now) (HoldsBeside [] s) result }
 {
     let mut kept = Vec::new(alloc);
     let mut number = 0;
@@ -102,6 +108,7 @@ fn move_lines<S: Alter>(tx: &mut Transaction<'_, S>, alloc: Global) -> Result<Ve
     ensures same_reference { tx.new.conn.ghost_name ≡ tx.old.conn.ghost_name }
     ensures goes { Goes (state S.Store tx.old.conn.now) (state S.Store tx.new.conn.now) result }
     ensures moved { HasCleanDisk (state S.Store tx.new.conn.now) → IsTrue (state S.Store tx.old.conn.now).in_transaction → (s : State) → HasTexts s → HoldsParts (parts_1 s) (state S.Store tx.old.conn.now).now → IfOk result (λ kept. HoldsParts (without_incidents (map item_row (items_of s)) s) (state S.Store tx.new.conn.now).now × (kept.items ≡ naming_in s.incidents)) }
+    ensures cause { (s : State) → HasTexts s → AreTaken s → FailsOnly (state S.Store tx.old.conn.now) (state S.Store tx.new.conn.now) (HoldsParts (parts_1 s)) result }
 {
     create_item(tx)?;
     let kept = move_documents(tx, alloc)?;
@@ -113,6 +120,7 @@ fn put_back<S: Alter>(tx: &mut Transaction<'_, S>, kept: &[Naming]) -> Result<()
     ensures same_reference { tx.new.conn.ghost_name ≡ tx.old.conn.ghost_name }
     ensures goes { Goes (state S.Store tx.old.conn.now) (state S.Store tx.new.conn.now) result }
     ensures made { (s : State) → (items : List Row) → Makes (state S.Store tx.old.conn.now) (state S.Store tx.new.conn.now) (HoldsParts (tables_2 1 items [] s)) (HoldsParts (tables_2 1 items (map naming_row kept.now) s)) result }
+    ensures cause { (s : State) → (items : List Row) → CanName (map naming_row kept.now) → FailsOnly (state S.Store tx.old.conn.now) (state S.Store tx.new.conn.now) (HoldsParts (tables_2 1 items [] s)) result }
 {
     for naming in kept {
         put_naming(tx, naming)?;
@@ -125,6 +133,7 @@ fn move_incidents<S: Alter>(tx: &mut Transaction<'_, S>, kept: &[Naming]) -> Res
     ensures same_reference { tx.new.conn.ghost_name ≡ tx.old.conn.ghost_name }
     ensures goes { Goes (state S.Store tx.old.conn.now) (state S.Store tx.new.conn.now) result }
     ensures made { (s : State) → (items : List Row) → Makes (state S.Store tx.old.conn.now) (state S.Store tx.new.conn.now) (HoldsParts (without_incidents items s)) (HoldsParts (tables_2 1 items (map naming_row kept.now) s)) result }
+    ensures cause { (s : State) → (items : List Row) → CanName (map naming_row kept.now) → FailsOnly (state S.Store tx.old.conn.now) (state S.Store tx.new.conn.now) (HoldsParts (without_incidents items s)) result }
 {
     create_incident(tx)?;
     put_back(tx, kept)
@@ -133,6 +142,7 @@ fn move_incidents<S: Alter>(tx: &mut Transaction<'_, S>, kept: &[Naming]) -> Res
 fn take_version<S: Alter>(tx: &mut Transaction<'_, S>) -> Result<(), Error>
     ensures same_reference { tx.new.conn.ghost_name ≡ tx.old.conn.ghost_name }
     ensures made { (s : State) → (items incidents : List Row) → Makes (state S.Store tx.old.conn.now) (state S.Store tx.new.conn.now) (HoldsParts (tables_2 1 items incidents s)) (HoldsParts (unversioned_2 items incidents s)) result }
+    ensures cause { (s : State) → (items incidents : List Row) → FailsOnly (state S.Store tx.old.conn.now) (state S.Store tx.new.conn.now) (HoldsParts (tables_2 1 items incidents s)) result }
 {
     run(tx, "DELETE FROM hub", &[])
 }
@@ -140,6 +150,7 @@ fn take_version<S: Alter>(tx: &mut Transaction<'_, S>) -> Result<(), Error>
 fn put_version_2<S: Alter>(tx: &mut Transaction<'_, S>) -> Result<(), Error>
     ensures same_reference { tx.new.conn.ghost_name ≡ tx.old.conn.ghost_name }
     ensures made { (s : State) → IsFit s → Makes (state S.Store tx.old.conn.now) (state S.Store tx.new.conn.now) (HoldsParts (unversioned_2 (map item_row (items_of s)) (map named_row s.incidents) s)) (λ db. HoldsAs 2 db s) result }
+    ensures cause { (s : State) → (items incidents : List Row) → FailsOnly (state S.Store tx.old.conn.now) (state S.Store tx.new.conn.now) (HoldsParts (unversioned_2 items incidents s)) result }
 {
     run(tx, "INSERT INTO hub (version) VALUES (?1)", params![2u32])
 }
@@ -148,6 +159,7 @@ fn put_version_2<S: Alter>(tx: &mut Transaction<'_, S>) -> Result<(), Error>
 fn set_version<S: Alter>(tx: &mut Transaction<'_, S>) -> Result<(), Error>
     ensures same_reference { tx.new.conn.ghost_name ≡ tx.old.conn.ghost_name }
     ensures made { (s : State) → IsFit s → Makes (state S.Store tx.old.conn.now) (state S.Store tx.new.conn.now) (HoldsParts (tables_2 1 (map item_row (items_of s)) (map named_row s.incidents) s)) (λ db. HoldsAs 2 db s) result }
+    ensures cause { (s : State) → (items incidents : List Row) → FailsOnly (state S.Store tx.old.conn.now) (state S.Store tx.new.conn.now) (HoldsParts (tables_2 1 items incidents s)) result }
 {
     take_version(tx)?;
     put_version_2(tx)
@@ -158,6 +170,7 @@ fn to_version_2<S: Alter>(tx: &mut Transaction<'_, S>, alloc: Global) -> Result<
     ensures same_reference { tx.new.conn.ghost_name ≡ tx.old.conn.ghost_name }
     ensures goes { Goes (state S.Store tx.old.conn.now) (state S.Store tx.new.conn.now) result }
     ensures made { (s : State) → IsSound s → Makes (state S.Store tx.old.conn.now) (state S.Store tx.new.conn.now) (λ db. HoldsAs 1 db s) (λ db. HoldsAs 2 db s) result }
+    ensures cause { (s : State) → IsSound s → AreTaken s → FailsOnly (state S.Store tx.old.conn.now) (state S.Store tx.new.conn.now) (λ db. HoldsAs 1 db s) result }
 {
     let kept = move_lines(tx, alloc)?;
     move_incidents(tx, &kept)?;
@@ -169,6 +182,7 @@ fn go_steps<S: Alter>(tx: &mut Transaction<'_, S>, alloc: Global, version: u32) 
     ensures same_reference { tx.new.conn.ghost_name ≡ tx.old.conn.ghost_name }
     ensures goes { Goes (state S.Store tx.old.conn.now) (state S.Store tx.new.conn.now) result }
     ensures made { IsTrue (is_older_version version) → (s : State) → IsSound s → Makes (state S.Store tx.old.conn.now) (state S.Store tx.new.conn.now) (λ db. HoldsAs version db s) (λ db. Holds db s) result }
+    ensures cause { IsTrue (is_older_version version) → (s : State) → IsSound s → AreTaken s → FailsOnly (state S.Store tx.old.conn.now) (state S.Store tx.new.conn.now) (λ db. HoldsAs version db s) result }
 {
     if version < 2 {
         to_version_2(tx, alloc)?;
@@ -189,6 +203,7 @@ pub(crate) fn renew<S: Alter>(
     ensures made { HasCleanDisk (state S.Store conn.new) → IsTrue (is_older_version version) → (s : State) → HasAs version (state S.Store conn.old) s → OnOk result (CommitsState (state S.Store conn.new) s) }
     ensures none { HasCleanDisk (state S.Store conn.new) → OnErr result (KeepsCommitted (state S.Store conn.old) (state S.Store conn.new)) }
     ensures survives { IsTrue (is_older_version version) → Survives (state S.Store conn.old) (state S.Store conn.new) (λ left. (s : State) → HasAs version (state S.Store conn.old) s → TreesHold left s) }
+    ensures cause { HasCleanDisk (state S.Store conn.new) → IsTrue (is_older_version version) → (s : State) → HasAs version (state S.Store conn.old) s → AreTaken s → IfErr result (λ e. e ≢ Error.SqliteFailure ErrorCode.OutOfMemory → HasReason (state S.Store conn.old) (state S.Store conn.new)) }
 {
     let mut tx = conn.transaction();
     // a store that is shut is not asked to commit

@@ -5,10 +5,11 @@ ghost use Rattle.sqlite_value.specs.Order.{Row};
 ghost use Rattle.sqlite.specs.Held.{state};
 ghost use Rattle.hub_core.specs.State.{State};
 ghost use Rattle.hub_store.specs.Rows.{naming_row};
+ghost use Rattle.hub_store.specs.Beside.{CanName};
 ghost use Rattle.hub_store.specs.Layout.{tables_2};
 ghost use Rattle.hub_store.specs.Parts.{HoldsParts};
 ghost use Rattle.hub_store.specs.Means.{HoldsBetween};
-ghost use Rattle.hub_store.specs.Makes.{Makes};
+ghost use Rattle.hub_store.specs.Makes.{Makes, FailsOnly};
 
 use crate::statement::run;
 use hub_core::Naming;
@@ -22,6 +23,7 @@ pub(crate) fn put_naming<S: Alter>(
     ensures same_reference { tx.new.conn.ghost_name ≡ tx.old.conn.ghost_name }
     ensures edited { (s : State) → (items incidents more : List Row) → IsPermutation (naming_row naming.now ∷ incidents) more → Makes (state S.Store tx.old.conn.now) (state S.Store tx.new.conn.now) (λ db. HoldsBetween items incidents db s) (λ db. HoldsBetween items more db s) result }
     ensures moved { (s : State) → (items incidents more : List Row) → IsPermutation (naming_row naming.now ∷ incidents) more → Makes (state S.Store tx.old.conn.now) (state S.Store tx.new.conn.now) (HoldsParts (tables_2 1 items incidents s)) (HoldsParts (tables_2 1 items more s)) result }
+    ensures cause { (s : State) → (items incidents : List Row) → CanName (naming_row naming.now ∷ incidents) → FailsOnly (state S.Store tx.old.conn.now) (state S.Store tx.new.conn.now) (HoldsParts (tables_2 1 items incidents s)) result }
 {
     run(
         tx,

@@ -9,7 +9,8 @@ ghost use Rattle.hub_core.specs.State.{State};
 ghost use Rattle.hub_store.specs.Tables.{schema_by, beside_item, without_incident, hub_schema};
 ghost use Rattle.hub_store.specs.Layout.{parts_1, with_items, without_incidents, tables_2};
 ghost use Rattle.hub_store.specs.Parts.{HoldsParts};
-ghost use Rattle.hub_store.specs.Makes.{Makes, Creates, HasEmpty};
+ghost use Rattle.hub_store.specs.Beside.{HoldsBeside};
+ghost use Rattle.hub_store.specs.Makes.{Makes, FailsOnly, Creates, HasEmpty};
 
 use crate::statement::run;
 use sqlite::{Alter, Error, Transaction};
@@ -17,7 +18,8 @@ use sqlite::{Alter, Error, Transaction};
 pub(crate) fn create_item<S: Alter>(tx: &mut Transaction<'_, S>) -> Result<(), Error>
     ensures same_reference { tx.new.conn.ghost_name ≡ tx.old.conn.ghost_name }
     ensures empty { Creates (state S.Store tx.old.conn.now) (state S.Store tx.new.conn.now) (HasEmpty (schema_by 1)) (HasEmpty beside_item) result }
-    ensures made { (s : State) → Makes (state S.Store tx.old.conn.now) (state S.Store tx.new.conn.now) (HoldsParts (parts_1 s)) (HoldsParts (with_items [] s)) result }
+    ensures made { (s : State) → Makes (state S.Store tx.old.conn.now) (state S.Store tx.new.conn.now) (HoldsParts (parts_1 s)) (HoldsBeside [] s) result }
+    ensures cause { (s : State) → FailsOnly (state S.Store tx.old.conn.now) (state S.Store tx.new.conn.now) (HoldsParts (parts_1 s)) result }
 {
     run(
         tx,
@@ -30,7 +32,8 @@ pub(crate) fn create_item<S: Alter>(tx: &mut Transaction<'_, S>) -> Result<(), E
 pub(crate) fn drop_incident<S: Alter>(tx: &mut Transaction<'_, S>) -> Result<(), Error>
     ensures same_reference { tx.new.conn.ghost_name ≡ tx.old.conn.ghost_name }
     ensures empty { Creates (state S.Store tx.old.conn.now) (state S.Store tx.new.conn.now) (HasEmpty beside_item) (HasEmpty without_incident) result }
-    ensures made { (s : State) → (items : List Row) → Makes (state S.Store tx.old.conn.now) (state S.Store tx.new.conn.now) (HoldsParts (with_items items s)) (HoldsParts (without_incidents items s)) result }
+    ensures made { (s : State) → (items : List Row) → Makes (state S.Store tx.old.conn.now) (state S.Store tx.new.conn.now) (HoldsBeside items s) (HoldsParts (without_incidents items s)) result }
+    ensures cause { (s : State) → (items : List Row) → FailsOnly (state S.Store tx.old.conn.now) (state S.Store tx.new.conn.now) (HoldsBeside items s) result }
 {
     run(tx, "DROP TABLE incident", &[])
 }
@@ -39,6 +42,7 @@ pub(crate) fn create_incident<S: Alter>(tx: &mut Transaction<'_, S>) -> Result<(
     ensures same_reference { tx.new.conn.ghost_name ≡ tx.old.conn.ghost_name }
     ensures empty { Creates (state S.Store tx.old.conn.now) (state S.Store tx.new.conn.now) (HasEmpty without_incident) (HasEmpty hub_schema) result }
     ensures made { (s : State) → (items : List Row) → Makes (state S.Store tx.old.conn.now) (state S.Store tx.new.conn.now) (HoldsParts (without_incidents items s)) (HoldsParts (tables_2 1 items [] s)) result }
+    ensures cause { (s : State) → (items : List Row) → FailsOnly (state S.Store tx.old.conn.now) (state S.Store tx.new.conn.now) (HoldsParts (without_incidents items s)) result }
 {
     run(
         tx,

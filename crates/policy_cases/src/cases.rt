@@ -17,6 +17,11 @@
 //!     listed|STANDING|GATES|PERMISSIONS               whether it is listed to the reader
 //!     find|STANDING|GATES|PERMISSIONS|NEEDLE          whether the reader finds the needle in it
 //!     find|STANDING|GATES|PERMISSIONS|NEEDLE|CLASS    the same, in classes of this name
+//!     probe|STANDING|GATES|PERMISSIONS                at which of its lines a search is sure that it is listed, and the end
+//!     probe|STANDING|GATES|PERMISSIONS|NEEDLE         the same of the needle, if there is one
+//!     probe|STANDING|GATES|PERMISSIONS|NEEDLE|CLASS   the same, in classes of this name
+//!     seek|STANDING|GATES|PERMISSIONS|LINES           what a search answers of these lines and at the end, of no report
+//!     seek|STANDING|GATES|PERMISSIONS|LINES|NEEDLE    the same of a needle
 //!     lists|GATES|PERMISSIONS               the gates and permissions that a case gives back
 //!     numbers|STANDING                      the groups that the reader's standing gives back
 //!
@@ -26,6 +31,7 @@
 use crate::alone::answer_alone;
 use crate::labels::{marked, sited};
 use crate::line::Line;
+use crate::probing::{probe_of, probed, sought};
 use crate::rows::fed;
 use crate::served::{answer_to, asker_of};
 use iodef_tree::Path;
@@ -47,6 +53,19 @@ pub fn answer(report: &mut Report, alloc: Global, line: &str) -> Result<String, 
             answer_to(alloc, document, &asker_of(alloc, &line)?, &line)
         }
         "feed" => fed(alloc, asker_of(alloc, &line)?, line.fourth),
+        "probe" => {
+            let probe = probe_of(alloc, asker_of(alloc, &line)?, line.fourth, line.fifth)?;
+            probed(alloc, report.document()?, probe)
+        }
+        "seek" => {
+            let probe = probe_of(
+                alloc,
+                asker_of(alloc, &line)?,
+                line.fifth.unwrap_or(""),
+                None,
+            )?;
+            sought(alloc, probe, line.fourth)
+        }
         _ => answer_alone(alloc, &line),
     }
 }

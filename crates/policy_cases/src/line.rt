@@ -11,7 +11,7 @@ pub struct Line<'a> {
     /// Of a label its extended text, if there is one; of what is asked of a report the permissions.
     pub third: Option<&'a str>,
     pub fourth: &'a str,
-    /// Of a search the name of the class, if it is in one.
+    /// Of a search of the report the name of the class, if it is in one; of a search of lines the needle, if there is one.
     pub fifth: Option<&'a str>,
 }
 
@@ -24,7 +24,8 @@ fn words_of(kind: &str) -> Option<(usize, usize)> {
         "label" => Some((2, 3)),
         "excerpt" | "listed" => Some((3, 3)),
         "decide" | "kept" | "feed" => Some((4, 4)),
-        "find" => Some((4, 5)),
+        "probe" => Some((3, 5)),
+        "find" | "seek" => Some((4, 5)),
         _ => None,
     }
 }

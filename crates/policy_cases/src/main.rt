@@ -6,6 +6,7 @@ mod alone;
 mod cases;
 mod labels;
 mod line;
+mod probing;
 mod rows;
 mod served;
 mod verdicts;

@@ -48,7 +48,7 @@ fn member_of(word: &str) -> (&str, Kind, &str) {
 
 /// A line by its depth and its member, as `1:version`, with its text behind `=`; `{}` behind the name makes a class, and `[]` an
 /// element of an array.
-fn line_of(alloc: Global, word: &str) -> Result<Line, Unfit> {
+pub fn line_of(alloc: Global, word: &str) -> Result<Line, Unfit> {
     let (depth, member) = word.split_once(':').ok_or(Unfit::NoCase)?;
     let (name, kind, text) = member_of(member);
     let (name, in_array) = match name.strip_suffix("[]") {

@@ -39,4 +39,9 @@ pub mod Ends
 pub mod Stopped
 pub mod Tracking
 pub mod Finishing
+pub mod Lengthened
+pub mod Unrefused
+pub mod Settles
+pub mod Fresh
+pub mod Sure
 mod Computed

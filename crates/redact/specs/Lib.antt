@@ -18,3 +18,4 @@ pub mod Feeding
 pub mod Matters
 pub mod Marked
 pub mod Sifted
+pub mod Probed

@@ -1,7 +1,7 @@
 //! What a reader is served of a document, and a search in what it may see.
 //!
 //! To read first, in `specs/`: `Told`, all that a reader is told; `Kept`, the outline of an excerpt; `Withheld`, what is
-//! told of the rest; `Excerpts`, what [`excerpt`] answers; `Wants`, what [`meets`] does.
+//! told of the rest; `Excerpts`, what [`excerpt`] answers; `Wants`, what [`meets`] does; `Probed`, when a [`Probe`] is sure.
 //!
 //! The rooms, in the way of a document:
 //!
@@ -12,6 +12,7 @@
 //! - `rows`: [`RowPass`], an excerpt by lines that come one at a time: `marks`, whether their markings are accepted; `sieve`,
 //!   those of them that matter, by the `way` to each and the gates that are `refusing` there; `fed`, all of them, for the
 //!   clauses alone; `building`, the document of those that are kept;
+//! - `probe`: [`Probe`], a search of such lines: `seeking`, what is sure of the classes that may still get lines;
 //! - [`laws`]: what excerpts and searches promise; [`examples`], the definitions computed on small reports.
 #![tactic(auto)]
 
@@ -26,10 +27,12 @@ mod listed;
 mod marks;
 mod note;
 mod pass;
+mod probe;
 mod reader;
 mod refusing;
 mod rows;
 mod search;
+mod seeking;
 mod sieve;
 mod trail;
 mod want;
@@ -37,6 +40,7 @@ mod way;
 
 pub use given::excerpt;
 pub use kept::Excerpt;
+pub use probe::Probe;
 pub use rows::{RowPass, excerpt_if_marked};
 pub use search::{finds, is_listed};
 pub use want::{Want, meets};

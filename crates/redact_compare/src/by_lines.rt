@@ -11,14 +11,14 @@ use trying::Dice;
 
 /// A case of a seed: a report by its document, what it is judged by, and a reader.
 #[derive(Drop)]
-struct World {
-    document: Document,
-    case: Case,
-    standing: Standing,
+pub struct World {
+    pub document: Document,
+    pub case: Case,
+    pub standing: Standing,
 }
 
 /// The case of this seed, if its report is read.
-fn world_at(alloc: Global, seed: u64) -> Result<Option<World>, AllocError> {
+pub fn world_at(alloc: Global, seed: u64) -> Result<Option<World>, AllocError> {
     let mut dice = Dice::new(seed);
     let Some(document) = any_document(alloc, &mut dice)? else {
         return Ok(None);

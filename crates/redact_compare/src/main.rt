@@ -1,14 +1,17 @@
 //! `redact_compare CASES`: compares `excerpt`, `is_listed` and `finds` with a plain, slow program, over so many generated
 //! reports, gates, permissions and readers. That program judges each path alone over the flat outline. `RowPass` is compared with a
-//! pass that keeps all lines. A difference is told by its seed, with status 1.
+//! pass that keeps all lines; where `Probe` is sure, generated reports that begin with the same lines have to meet the want. A
+//! difference is told by its seed, with status 1.
 #![tactic(auto)]
 
 mod by_lines;
 mod compared;
 mod documents;
 mod entry;
+mod growing;
 mod judged;
 mod policy_tables;
+mod probing;
 mod readers;
 mod shown;
 mod stations;

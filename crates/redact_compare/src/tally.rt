@@ -43,6 +43,11 @@ const WANTED: &[&str] = &[
     "gates or permissions at nothing",
     "several at one path",
     "excerpts by lines",
+    "searches sure before the last line",
+    "searches met at the end alone",
+    "searches not met",
+    "lines at which a search is sure",
+    "reports that begin with lines that are sure",
 ];
 
 const FLOOR: u32 = 50;
@@ -67,13 +72,18 @@ impl Tally {
         Ok(Tally { counts })
     }
 
-    /// Notes that a case shows it.
-    pub fn note(&mut self, name: &str, shows: bool) {
+    /// Counts so many more of it.
+    pub fn count(&mut self, name: &str, times: u32) {
         for count in self.counts.iter_mut() {
-            if shows && count.name == name {
-                count.count = count.count.saturating_add(1);
+            if count.name == name {
+                count.count = count.count.saturating_add(times);
             }
         }
+    }
+
+    /// Notes that a case shows it.
+    pub fn note(&mut self, name: &str, shows: bool) {
+        self.count(name, u32::from(shows));
     }
 
     /// What is shown too rarely.

@@ -4,7 +4,7 @@ use crate::fault::Fault;
 use crate::listen::serve_count;
 use crate::output::print;
 use crate::status::Status;
-use crate::store::{close, open_store};
+use crate::store::{close, open_kept};
 use hub::Hub;
 use hub_core::Shelf;
 use std::io::Write;
@@ -36,8 +36,8 @@ pub fn run<W: Write, E: Write>(
     writer: &mut W,
     errors: &mut E,
 ) -> Result<Status, Fault> {
-    let mut hub = Hub::new(open_store(rt, store)?);
+    let mut hub = Hub::new(open_kept(rt, store)?);
     let outcome = serve_hub(rt, &mut hub, port, count, writer, errors);
-    close(hub.into_shelf());
+    close(hub.into_shelf().into_shelf());
     outcome
 }

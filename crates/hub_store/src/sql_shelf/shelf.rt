@@ -8,6 +8,7 @@ use crate::find_case::find_case;
 use crate::find_document::find_document;
 use crate::find_excerpt::find_excerpt;
 use crate::find_groups::find_groups;
+use crate::find_met::find_met;
 use crate::find_person::find_person;
 use crate::list_entries::list_entries;
 use crate::told::told;
@@ -17,7 +18,7 @@ use hub_core::{
 };
 use iodef_tree::Document;
 use policy::{Case, Standing};
-use redact::Excerpt;
+use redact::{Excerpt, Want};
 use sqlite::Alter;
 
 impl<S: Alter> Shelf for SqlShelf<S> {
@@ -68,6 +69,18 @@ impl<S: Alter> Shelf for SqlShelf<S> {
         self.may_ask()?;
         let found = find_excerpt(&mut self.conn, self.alloc, incident, case, standing);
         told(&mut self.failures, found)
+    }
+
+    fn meets(
+        &mut self,
+        incident: u32,
+        case: Case,
+        standing: Standing,
+        want: Want,
+    ) -> Result<bool, ShelfFault> {
+        self.may_ask()?;
+        let met = find_met(&mut self.conn, self.alloc, incident, case, standing, want);
+        told(&mut self.failures, met)
     }
 
     fn incidents_after(&mut self, number: u32, most: u32) -> Result<Vec<Entry>, ShelfFault> {

@@ -27,7 +27,7 @@ pages-preserved g c =
           let is = read.value mid s here in
           let last : number_at_end E ≡ Some c.in-Some.last = ap number_at_end (sym (c.as_slice.ensures.value ∙ is)) ∙ sym c.in-Some.ensures in
           page_on s test c.pages.above c.in-Some.last L c.pick.new.listed.items sound last
-          (pick.value clean s (read.kept.content mid s here) there ∙ ap (λ (es : List Entry). take PAGE_LIMIT (L ++ filter at es)) (c.as_slice-in-pages.ensures.value ∙ is))
+          (pick.value clean s (read.kept.content mid s here) sound there ∙ ap (λ (es : List Entry). take PAGE_LIMIT (L ++ filter at es)) (c.as_slice-in-pages.ensures.value ∙ is))
           ∙ left.told before s has sound there;
     }
 

@@ -11,17 +11,17 @@ use Rattle.hub.proofs.pages.pick.Goals as goal
 use Rattle.hub.proofs.pages.pick.Goals.{then-branch+else-is_err, else-branch}
 
 pub returns-then-len-eq-PAGE_LIMIT-clause-value : goal.returns-then-len-eq-PAGE_LIMIT-clause-value
-returns-then-len-eq-PAGE_LIMIT-clause-value g c = λ clean s has there.
+returns-then-len-eq-PAGE_LIMIT-clause-value g c = λ clean s has sound there.
     let test = λ (e : Entry). is_wanted_at s c.args.asker.now c.args.asker.person.now c.args.wanted e.number in
     let full : PAGE_LIMIT ≤ length c.loop-entry.listed.items = omega arith in
     sym (take_full PAGE_LIMIT c.loop-entry.listed.items (filter test (drop c.loop-entry.entry-index c.args.entries.now)) full c.loop-entry.invariant.room)
-    ∙ c.loop-entry.invariant.told clean s has there
+    ∙ c.loop-entry.invariant.told clean s has sound there
 
 pub returns-clause-value : goal.returns-clause-value
-returns-clause-value g c = λ clean s has there.
+returns-clause-value g c = λ clean s has sound there.
     let test = λ (e : Entry). is_wanted_at s c.args.asker.now c.args.asker.person.now c.args.wanted e.number in
     sym (no_more test c.args.entries.now c.loop-entry.entry-index c.loop-entry.listed.items (omega arith) c.loop-entry.invariant.room)
-    ∙ c.loop-entry.invariant.told clean s has there
+    ∙ c.loop-entry.invariant.told clean s has sound there
 
 pub loop-entry-preserved : goal.loop-entry-preserved
 loop-entry-preserved g c =
@@ -39,21 +39,21 @@ loop-entry-preserved g c =
           record {
             room = omega (arith, ap length grown, length-append L (get_or E i d ∷ []));
             kept = kept_on left.kept read.kept;
-            told = λ clean s has there.
+            told = λ clean s has sound there.
                 let test = λ (e : Entry). is_wanted_at s c.args.asker.now c.args.asker.person.now c.args.wanted e.number in
                 let before : g.Sh.Shelf.doubts c.loop-entry.shelf ≡ 0 = omega (arith, read.kept.doubt) in
-                picked test E i d L M (omega arith) (sym (read.value clean s (left.kept.content before s has) there) ∙ w.if-branch.true) grown
-                ∙ left.told before s has there;
+                picked test E i d L M (omega arith) (sym (read.value clean s (left.kept.content before s has) sound there) ∙ w.if-branch.true) grown
+                ∙ left.told before s has sound there;
           }
       | else-branch w ↦
           let same : M ≡ L = ap (λ v. v.items) w.listed-is in
           record {
             room = omega (arith, ap length same);
             kept = kept_on left.kept read.kept;
-            told = λ clean s has there.
+            told = λ clean s has sound there.
                 let test = λ (e : Entry). is_wanted_at s c.args.asker.now c.args.asker.person.now c.args.wanted e.number in
                 let before : g.Sh.Shelf.doubts c.loop-entry.shelf ≡ 0 = omega (arith, read.kept.doubt) in
-                passed_over test E i d L M (omega arith) (sym (read.value clean s (left.kept.content before s has) there) ∙ w.if-branch.false) same
-                ∙ left.told before s has there;
+                passed_over test E i d L M (omega arith) (sym (read.value clean s (left.kept.content before s has) sound there) ∙ w.if-branch.false) same
+                ∙ left.told before s has sound there;
           }
     ]

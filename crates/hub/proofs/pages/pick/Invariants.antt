@@ -1,5 +1,6 @@
 use Rattle.std.proofs.Common.{◌≡◌, ◌≤◌, ◌++◌, filter, take, drop, length}
 use Rattle.hub_core.specs.State.{State}
+use Rattle.hub_core.specs.Sound.{IsSound}
 use Rattle.hub_core.specs.declared.reply.Entry.{Entry}
 use Rattle.hub.specs.declared.TheConstants.{PAGE_LIMIT}
 use Rattle.hub.specs.Wanted.{is_wanted_at}
@@ -13,7 +14,7 @@ invariant-loop-entry g l =
     record {
       room : length l.listed.items ≤ PAGE_LIMIT;
       kept : IsKept shelf.has shelf.doubts shelf.failed shelf.may_leave l.initial.shelf l.shelf;
-      told : shelf.doubts l.shelf ≡ 0 → (s : State) → shelf.has l.initial.shelf s → IsThere s l.asker.person.now →
+      told : shelf.doubts l.shelf ≡ 0 → (s : State) → shelf.has l.initial.shelf s → IsSound s → IsThere s l.asker.person.now →
           take PAGE_LIMIT (l.listed.items ++ filter (λ (e : Entry). is_wanted_at s l.asker.now l.asker.person.now l.wanted e.number) (drop l.entry-index l.entries))
           ≡ take PAGE_LIMIT (l.initial.listed.items ++ filter (λ (e : Entry). is_wanted_at s l.asker.now l.asker.person.now l.wanted e.number) l.entries);
     }

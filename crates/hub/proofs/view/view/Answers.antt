@@ -4,7 +4,8 @@ use Rattle.redact.specs.Excerpts.{told_by}
 use Rattle.redact.specs.declared.kept.Excerpt.{Excerpt}
 use Rattle.hub_core.specs.State.{incident_of}
 use Rattle.hub_core.specs.Reads.{served_of_incident}
-use Rattle.hub.proofs.Seeing.{marked_found, nothing_seen, is_seen}
+use Rattle.hub_core.proofs.Marked.{marked_found}
+use Rattle.hub.proofs.Seeing.{nothing_seen, is_seen}
 use Rattle.hub.proofs.view.view.Goals as goal
 
 pub returns-in_default-3-clause-value : goal.returns-in_default-3-clause-value

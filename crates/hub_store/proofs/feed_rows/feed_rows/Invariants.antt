@@ -1,7 +1,8 @@
-use Rattle.std.proofs.Common.{◌≡◌, false}
+use Rattle.std.proofs.Common.{◌≡◌, suc, length, false}
+use Rattle.hub_store.specs.FeedsRows.{HasTaken}
 use Rattle.hub_store.proofs.Streaming.{IsFeeding}
 use Rattle.hub_store.proofs.feed_rows.feed_rows.Given as goal
 
 abbrev pub invariant-rows : goal.invariant-rows
 invariant-rows g l =
-    (l.rows.conn.ghost_name ≡ l.initial.rows.conn.ghost_name) × (l.rows.conn.now.in_transaction ≡ false) × IsFeeding g.S.Store l.incident l.fn.conn l.rows.conn.now l.fn.pass l.pass
+    (l.rows.conn.ghost_name ≡ l.initial.rows.conn.ghost_name) × (l.rows.conn.now.in_transaction ≡ false) × IsFeeding g.S.Store l.incident l.fn.conn l.rows.conn.now l.pass.fed.lines × HasTaken l.fn.pass l.pass × (l.place ≡ suc (length l.pass.fed.lines))

@@ -2,7 +2,7 @@ use Rattle.std.proofs.Common.{[], rules}
 use Rattle.hub_core.specs.State.{empty}
 use Rattle.hub_store.specs.Parts.{HoldsParts}
 use Rattle.hub_store.specs.Layout.{tables_2}
-use Rattle.hub_store.proofs.Steps.{makes_then}
+use Rattle.hub_store.proofs.Steps.{makes_then, fails_then, fails_passed}
 use Rattle.hub_store.proofs.migrate.move_incidents.Goals as goal
 
 pub returns-in_err-create_incident-clause-goes : goal.returns-in_err-create_incident-clause-goes
@@ -20,3 +20,9 @@ returns-clause-goes g c = (makes_then _ _ _ _ (HoldsParts (tables_2 1 [] [] empt
 
 pub returns-clause-made : goal.returns-clause-made
 returns-clause-made g c s items = makes_then _ _ _ _ (HoldsParts (tables_2 1 items [] s)) _ _ _ (c.in_ok-create_incident.ensures.made s items) (c.put_back.ensures.made s items)
+
+pub returns-in_err-create_incident-clause-cause : goal.returns-in_err-create_incident-clause-cause
+returns-in_err-create_incident-clause-cause g c s items can = fails_passed c.from_residual.ensures.1 (c.in_err-create_incident.ensures.cause s items)
+
+pub returns-clause-cause : goal.returns-clause-cause
+returns-clause-cause g c s items can = fails_then (c.in_ok-create_incident.ensures.made s items) c.put_back.ensures.goes (c.put_back.ensures.cause s items can)

@@ -1,10 +1,13 @@
-use Rattle.std.proofs.Common.{◌≡◌, ◌+◌, [], map, take, arith, rules}
+use Rattle.std.proofs.Common.{◌≡◌, ◌+◌, ◌++◌, [], map, take, drop, take-append-drop, sym, ap, subst, ◌∙◌, arith, rules}
+use Rattle.std.proofs.lemmas.List.{map-append}
 use Rattle.std.proofs.lemmas.Grind.{common_steps}
 use Rattle.hub_core.specs.State.{empty}
+use Rattle.hub_store.specs.Beside.{CanName}
 use Rattle.hub_store.specs.Parts.{HoldsParts}
 use Rattle.hub_store.specs.Rows.{naming_row}
 use Rattle.hub_store.specs.Layout.{tables_2}
-use Rattle.hub_store.proofs.Steps.{makes_then}
+use Rattle.hub_store.proofs.Standing.{first_names}
+use Rattle.hub_store.proofs.Steps.{makes_then, fails_then, fails_passed}
 use Rattle.hub_store.proofs.Migrating.{one_more}
 use Rattle.hub_store.proofs.migrate.put_back.Goals as goal
 
@@ -35,3 +38,16 @@ pub returns-clause-made : goal.returns-clause-made
 returns-clause-made g c s items =
     let all : take c.loop-naming.naming-index c.args.kept.now ≡ c.args.kept.now = grind (arith, common_steps) in
     rw all at (c.loop-naming.invariant.made s items)
+
+pub returns-in_err-put_naming-clause-cause : goal.returns-in_err-put_naming-clause-cause
+returns-in_err-put_naming-clause-cause g c s items can =
+    let kept = c.args.kept.now in
+    let at = c.loop-naming.naming-index in
+    let same = one_more naming_row kept at c.naming-item.result c.loop-naming-test.true c.naming-item.is in
+    let all : map naming_row (take (at + 1) kept) ++ map naming_row (drop (at + 1) kept) ≡ map naming_row kept = sym (map-append naming_row (take (at + 1) kept) (drop (at + 1) kept)) ∙ ap (map naming_row) (take-append-drop (at + 1) kept) in
+    let first = first_names (naming_row c.naming-item.result) (map naming_row (take at kept)) (map naming_row (take (at + 1) kept)) (map naming_row (drop (at + 1) kept)) same (subst CanName (sym all) can) in
+    fails_passed c.from_residual.ensures.1
+    (fails_then (c.loop-naming.invariant.made s items) (c.in_err-put_naming.ensures.moved s items _ _ same).goes (c.in_err-put_naming.ensures.cause s items (map naming_row (take at kept)) first))
+
+pub returns-clause-cause : goal.returns-clause-cause
+returns-clause-cause g c s items can = record { cause = λ clean inside before. tt }

@@ -1,15 +1,22 @@
-use Rattle.std.proofs.Common.{◌≡◌, OnOk, sym, subst, arith, rules}
+use Rattle.std.proofs.Common.{◌≡◌, ◌≢◌, OnOk, IfErr, sym, subst, arith, rules}
+use Rattle.std.proofs.lemmas.Result.{IfErr-weaker}
 use Rattle.sqlite_trees.specs.Tree.{Trees}
 use Rattle.sqlite.specs.State.{HasCleanDisk, Survives}
+use Rattle.sqlite.specs.declared.error.Error.TheVariants.{SqliteFailure}
+use Rattle.sqlite.specs.declared.error.ErrorCode.TheVariants as code
+use Rattle.sqlite.specs.Steps.{FailsToCommit}
 use Rattle.sqlite.specs.Held.{state}
 use Rattle.sqlite.proofs.StateLemmas.{survives_then}
 use Rattle.sqlite.proofs.Callers.{survives_begin}
 use Rattle.hub_core.specs.State.{State}
 use Rattle.hub_store.specs.Content.{HasAs, CommitsState}
 use Rattle.hub_store.specs.Means.{TreesHold, Holds}
+use Rattle.hub_store.specs.Failing.{HasReason}
+use Rattle.hub_store.proofs.Causes.{reason_after, commit_reason}
+use Rattle.hub_store.proofs.Renewing.{probe_fails}
 use Rattle.hub_store.proofs.Left.{trees_hold}
 use Rattle.hub_store.proofs.Runs.{committed_made, ready}
-use Rattle.hub_store.proofs.Steps.{on_ok, on_any, survives_on}
+use Rattle.hub_store.proofs.Steps.{on_ok, on_any, survives_on, err_passed}
 use Rattle.hub_store.proofs.migrate.renew.Goals as goal
 
 pub returns-clause-made : goal.returns-clause-made
@@ -57,3 +64,37 @@ returns-clause-asked g c clean =
     let before : HasCleanDisk (state g.S.Store mid) = omega (arith, c.commit.ensures.survives.clean) in
     let first : HasCleanDisk (state g.S.Store c.probe.new.tx.conn.now) = omega (arith, c.go_steps.ensures.goes.survives.clean) in
     on_any c.commit.result _ ((rw begun at c.in_ok-probe.ensures.same) first).0
+
+pub returns-in_err-probe-clause-cause : goal.returns-in_err-probe-clause-cause
+returns-in_err-probe-clause-cause g c clean older s has taken =
+    let old = c.args.conn.now in
+    let begun = c.transaction-tx.ensures.begun in
+    let probed = c.probe.new.tx.conn.now in
+    let end = c.drop-tx.new.self.0 in
+    let same : end ≡ c.conn-1.given.0 = search rules in
+    let late : HasCleanDisk (state g.S.Store end) = subst (λ h. HasCleanDisk (state g.S.Store h)) (sym same) clean in
+    let first : HasCleanDisk (state g.S.Store probed) = omega (arith, c.drop-tx.ensures.survives.clean) in
+    let cause = (rw begun at c.in_err-probe.ensures.cause) first in
+    subst (λ h. IfErr c.from_residual.result (λ e. e ≢ SqliteFailure code.OutOfMemory → HasReason (state g.S.Store old) (state g.S.Store h))) same
+    (err_passed c.from_residual.result _ (λ e. e ≢ SqliteFailure code.OutOfMemory → HasReason (state g.S.Store old) (state g.S.Store end)) c.from_residual.ensures.1
+    (λ other. probe_fails g.S.Store c.args.version old (state g.S.Store probed) (state g.S.Store end) s older has (λ there live. cause there live other) c.drop-tx.ensures.survives.counts))
+
+pub returns-clause-cause : goal.returns-clause-cause
+returns-clause-cause g c clean older s has taken =
+    let old = c.args.conn.now in
+    let begun = c.transaction-tx.ensures.begun in
+    let probed = c.probe.new.tx.conn.now in
+    let mid = c.go_steps.new.tx.conn.now in
+    let end = c.commit.new.self.0 in
+    let same : end ≡ c.conn-2-1.given.0 = search rules in
+    let late : HasCleanDisk (state g.S.Store end) = search rules in
+    let before : HasCleanDisk (state g.S.Store mid) = omega (arith, c.commit.ensures.survives.clean) in
+    let goes = c.in_ok-go_steps.ensures.goes in
+    let first : HasCleanDisk (state g.S.Store probed) = omega (arith, goes.survives.clean) in
+    let answers = (rw begun at c.in_ok-probe.ensures.same) first in
+    let at = ready g.S.Store old (state g.S.Store probed) s has answers in
+    let going = goes.inside before at.1 in
+    let inside = survives_begin g.S.Store old (state g.S.Store mid) _ (survives_on _ _ _ (rw begun at c.in_ok-probe.ensures.survives) goes.survives) in
+    subst (λ h. IfErr c.commit.result (λ e. e ≢ SqliteFailure code.OutOfMemory → HasReason (state g.S.Store old) (state g.S.Store h))) same
+    (IfErr-weaker c.commit.result (FailsToCommit (state g.S.Store mid) (state g.S.Store end)) (λ e. e ≢ SqliteFailure code.OutOfMemory → HasReason (state g.S.Store old) (state g.S.Store end))
+    (λ e failed other. reason_after (state g.S.Store old) (state g.S.Store mid) (state g.S.Store end) _ inside (λ up. going.1 answers.1.0.is_open) (commit_reason (state g.S.Store mid) (state g.S.Store end) e going.0 other failed)) (c.commit.ensures.err late))

@@ -1,12 +1,17 @@
-use Rattle.std.proofs.Common.{map, rules, subst, ◌∙◌}
+use Rattle.std.proofs.Common.{map, Ok, rules, sym, subst, ◌∙◌}
 use Rattle.sqlite.specs.Held.{state}
 use Rattle.hub_core.specs.State.{empty}
 use Rattle.hub_store.specs.Items.{items_of, item_row}
-use Rattle.hub_store.specs.Layout.{tables_2}
+use Rattle.hub_store.specs.Beside.{CanName}
+use Rattle.hub_store.specs.Layout.{tables_2, without_incidents}
+use Rattle.hub_store.specs.Makes.{Makes}
+use Rattle.hub_store.specs.Means.{HoldsAs}
+use Rattle.hub_store.specs.Rows.{named_row}
 use Rattle.hub_store.specs.Parts.{HoldsParts}
 use Rattle.hub_store.proofs.Inside.{goes_then}
+use Rattle.hub_store.proofs.Movable.{names_stand}
 use Rattle.hub_store.proofs.MovedOn.{tables_of_1, texts_of_1, rows_of_namings, fit_empty}
-use Rattle.hub_store.proofs.Steps.{clean_before}
+use Rattle.hub_store.proofs.Steps.{clean_before, fails_then, fails_passed}
 use Rattle.hub_store.proofs.migrate.to_version_2.Goals as goal
 
 pub returns-in_err-kept-clause-goes : goal.returns-in_err-kept-clause-goes
@@ -47,3 +52,39 @@ returns-clause-made g c s sound = record {
       let made = (put.made s items).made late mid.0 moved.0 in
       set.made clean (put.goes.inside late mid.0).0 (subst (λ rows. HoldsParts (tables_2 1 items rows s) (state g.S.Store c.move_incidents.new.tx.conn.now).now) (rows_of_namings _ s.incidents (c.deref.ensures.value ∙ moved.1)) made);
 }
+
+pub returns-in_err-kept-clause-cause : goal.returns-in_err-kept-clause-cause
+returns-in_err-kept-clause-cause g c s sound taken =
+    fails_passed {T = Unit {0}} {P = λ db. HoldsAs 1 db s} c.from_residual.ensures.1 (record { cause = λ clean inside before. (c.in_err-kept.ensures.cause s (texts_of_1 _ s sound before) taken).cause clean inside (tables_of_1 _ s before) })
+
+pub returns-in_err-move_incidents-clause-cause : goal.returns-in_err-move_incidents-clause-cause
+returns-in_err-move_incidents-clause-cause g c s sound taken =
+    let items = map item_row (items_of s) in
+    let move = c.in_ok-kept.ensures in
+    let put = c.in_err-move_incidents.ensures in
+    let one : Makes {T = Unit {0}} (state g.S.Store c.args.tx.now.conn.now) (state g.S.Store c.move_lines.new.tx.conn.now) (λ db. HoldsAs 1 db s) (HoldsParts (without_incidents items s)) (Ok tt) = record {
+      goes = record { kept = move.goes.kept; inside = move.goes.inside; survives = move.goes.survives };
+      made = λ clean inside before. (move.moved clean inside s (texts_of_1 _ s sound before) (tables_of_1 _ s before)).0;
+    } in
+    fails_passed {T = Unit {0}} {P = λ db. HoldsAs 1 db s} c.from_residual-in_err-move_incidents.ensures.1 (record {
+      cause = λ clean inside before.
+          let early = clean_before _ _ put.goes.survives clean in
+          let moved = move.moved early inside s (texts_of_1 _ s sound before) (tables_of_1 _ s before) in
+          let can = subst CanName (sym (rows_of_namings _ s.incidents (c.deref.ensures.value ∙ moved.1))) (names_stand s sound taken) in
+          (fails_then one put.goes (put.cause s items can)).cause clean inside before;
+    })
+
+pub returns-clause-cause : goal.returns-clause-cause
+returns-clause-cause g c s sound taken =
+    let items = map item_row (items_of s) in
+    let move = c.in_ok-kept.ensures in
+    let put = c.in_ok-move_incidents.ensures in
+    let set = c.set_version.ensures in
+    let two : Makes {T = Unit {0}} (state g.S.Store c.args.tx.now.conn.now) (state g.S.Store c.move_incidents.new.tx.conn.now) (λ db. HoldsAs 1 db s) (HoldsParts (tables_2 1 items (map named_row s.incidents) s)) (Ok tt) = record {
+      goes = goes_then {U = Unit {0}} _ _ _ _ (Ok tt) move.goes (record { kept = put.goes.kept; inside = put.goes.inside; survives = put.goes.survives });
+      made = λ clean inside before.
+          let early = clean_before _ _ put.goes.survives clean in
+          let moved = move.moved early inside s (texts_of_1 _ s sound before) (tables_of_1 _ s before) in
+          subst (λ rows. HoldsParts (tables_2 1 items rows s) (state g.S.Store c.move_incidents.new.tx.conn.now).now) (rows_of_namings _ s.incidents (c.deref.ensures.value ∙ moved.1)) ((put.made s items).made clean (move.goes.inside early inside).0 moved.0);
+    } in
+    fails_then two (set.made empty fit_empty).goes (set.cause s items (map named_row s.incidents))

@@ -1,5 +1,7 @@
-use Rattle.std.proofs.Common.{◌≡◌, take, arith, rules}
+use Rattle.std.proofs.Common.{◌≡◌, ◌+◌, take, drop, take-append-drop, subst, arith, rules}
 use Rattle.std.proofs.lemmas.Grind.{common_steps}
+use Rattle.sqlite.specs.Held.{state}
+use Rattle.hub_store.specs.PutsLines.{PutsLines}
 use Rattle.hub_store.proofs.PutsThen.{puts_none, puts_more, puts_not}
 use Rattle.hub_store.proofs.put_lines.put_each.Goals as goal
 
@@ -15,8 +17,11 @@ loop-line-preserved g c = record {
 
 pub returns-in_err-put_one-clause-puts : goal.returns-in_err-put_one-clause-puts
 returns-in_err-put_one-clause-puts g c =
-    puts_not _ _ _ c.from_residual.result c.args.incident c.args.place c.args.lines.now c.from_residual.ensures.1
-    (puts_more _ _ _ tt _ c.args.incident c.args.place c.loop-line.at c.loop-line.line-index c.args.lines.now c.line-item.result c.loop-line-test.true c.line-item.is c.loop-line.invariant.at c.loop-line.invariant.puts c.in_err-put_one.ensures.puts).goes
+    let done = take (c.loop-line.line-index + 1) c.args.lines.now in
+    let rest = drop (c.loop-line.line-index + 1) c.args.lines.now in
+    subst (λ ls. PutsLines c.args.incident c.args.place ls (state g.S.Store c.args.tx.now.conn.now) (state g.S.Store c.put_one.new.tx.conn.now) c.from_residual.result) (take-append-drop (c.loop-line.line-index + 1) c.args.lines.now)
+    (puts_not _ _ _ c.from_residual.result c.args.incident c.args.place done rest c.from_residual.ensures.1
+    (puts_more _ _ _ tt _ c.args.incident c.args.place c.loop-line.at c.loop-line.line-index c.args.lines.now c.line-item.result c.loop-line-test.true c.line-item.is c.loop-line.invariant.at c.loop-line.invariant.puts c.in_err-put_one.ensures.puts))
 
 pub returns-clause-puts : goal.returns-clause-puts
 returns-clause-puts g c =

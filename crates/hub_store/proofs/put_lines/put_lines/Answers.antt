@@ -1,6 +1,8 @@
-use Rattle.std.proofs.Common.{◌≡◌, ◌++◌, [], refl, sym, ap, ◌∙◌, arith, rules, append_assoc, append-nil}
+use Rattle.std.proofs.Common.{◌≡◌, ◌++◌, [], refl, sym, ap, subst, ◌∙◌, arith, rules, append_assoc, append-nil}
 use Rattle.std.proofs.lemmas.List.{nil_from_length, length-append}
 use Rattle.hub_core.specs.Documents.{Lines}
+use Rattle.sqlite.specs.Held.{state}
+use Rattle.hub_store.specs.PutsLines.{PutsLines}
 use Rattle.hub_store.proofs.PutsThen.{puts_none, puts_then_at, puts_not}
 use Rattle.hub_store.proofs.put_lines.put_lines.Goals as goal
 
@@ -25,8 +27,12 @@ loop-some-preserved g c =
 pub returns-in_err-put_some-clause-puts : goal.returns-in_err-put_some-clause-puts
 returns-in_err-put_some-clause-puts g c =
     let before = c.loop-some.invariant in
-    puts_not _ _ _ c.from_residual.result c.args.incident 1 c.args.lines.now c.from_residual.ensures.1
-    (puts_then_at _ _ _ tt _ c.args.incident 1 c.loop-some.place before.4 c.in-Some.some.now before.6 before.7 c.in_err-put_some.ensures.puts).goes
+    let steps = c.in-Some.ensures.steps in
+    let some = c.in-Some.some.now in
+    let all = append_assoc before.4 some _ ∙ ap (λ (l : Lines). before.4 ++ l) (sym steps.1.0) ∙ before.5 in
+    subst (λ ls. PutsLines c.args.incident 1 ls (state g.S.Store c.args.tx.now.conn.now) (state g.S.Store c.put_some.new.tx.conn.now) c.from_residual.result) all
+    (puts_not _ _ _ c.from_residual.result c.args.incident 1 (before.4 ++ some) _ c.from_residual.ensures.1
+    (puts_then_at _ _ _ tt _ c.args.incident 1 c.loop-some.place before.4 some before.6 before.7 c.in_err-put_some.ensures.puts))
 
 pub returns-clause-puts : goal.returns-clause-puts
 returns-clause-puts g c =

@@ -1,11 +1,10 @@
 use Rattle.std.proofs.Common.{w64}
 use Rattle.std.proofs.lemmas.Int.{to_z_pos}
-use Rattle.hub_store.specs.Parts.{HoldsParts}
-use Rattle.hub_store.specs.Layout.{with_items}
 use Rattle.hub_store.specs.Means.{HoldsBetween}
+use Rattle.hub_store.specs.Beside.{HoldsBeside}
 use Rattle.hub_store.proofs.Changes.{puts_line}
-use Rattle.hub_store.proofs.Migrating.{moves_line}
-use Rattle.hub_store.proofs.Steps.{made_by}
+use Rattle.hub_store.proofs.Migrating.{moves_line, line_fails}
+use Rattle.hub_store.proofs.Steps.{made_by, fails_by}
 use Rattle.hub_store.proofs.Texts.{put_line}
 use Rattle.hub_store.proofs.put_lines.put_one.Goals as goal
 
@@ -16,6 +15,9 @@ returns-clause-puts g c = record {
       made_by g.S.Store put_line _ _ _ (λ db. HoldsBetween items incidents db s) (λ db. HoldsBetween more incidents db s) _ c.run.ensures.goes (λ clean inside. rw (c.params-to_sql.ensures, c.params-to_sql-2.ensures, c.params-to_sql-3.ensures, c.params-to_sql-4.ensures, c.params-to_sql-5.ensures, c.params-to_sql-6.ensures, c.params-to_sql-7.ensures, c.as_str.ensures, c.as_str-2.ensures, c.kind_number.ensures, to_z_pos w64 c.args.place c.requires) at (c.run.ensures.ran clean inside))
       (λ mid count h held. puts_line mid _ c.args.incident c.args.place c.args.line.now count h s incidents items more same held);
   moved = λ s items more same.
-      made_by g.S.Store put_line _ _ _ (HoldsParts (with_items items s)) (HoldsParts (with_items more s)) _ c.run.ensures.goes (λ clean inside. rw (c.params-to_sql.ensures, c.params-to_sql-2.ensures, c.params-to_sql-3.ensures, c.params-to_sql-4.ensures, c.params-to_sql-5.ensures, c.params-to_sql-6.ensures, c.params-to_sql-7.ensures, c.as_str.ensures, c.as_str-2.ensures, c.kind_number.ensures, to_z_pos w64 c.args.place c.requires) at (c.run.ensures.ran clean inside))
+      made_by g.S.Store put_line _ _ _ (HoldsBeside items s) (HoldsBeside more s) _ c.run.ensures.goes (λ clean inside. rw (c.params-to_sql.ensures, c.params-to_sql-2.ensures, c.params-to_sql-3.ensures, c.params-to_sql-4.ensures, c.params-to_sql-5.ensures, c.params-to_sql-6.ensures, c.params-to_sql-7.ensures, c.as_str.ensures, c.as_str-2.ensures, c.kind_number.ensures, to_z_pos w64 c.args.place c.requires) at (c.run.ensures.ran clean inside))
       (λ mid count h held. moves_line mid _ c.args.incident c.args.place c.args.line.now s items more same count h held);
+  cause = λ s items more same can.
+      fails_by g.S.Store put_line _ _ _ (HoldsBeside items s) _ (λ clean inside. rw (c.params-to_sql.ensures, c.params-to_sql-2.ensures, c.params-to_sql-3.ensures, c.params-to_sql-4.ensures, c.params-to_sql-5.ensures, c.params-to_sql-6.ensures, c.params-to_sql-7.ensures, c.as_str.ensures, c.as_str-2.ensures, c.kind_number.ensures, to_z_pos w64 c.args.place c.requires) at (c.run.ensures.failed clean inside))
+      (λ mid e h held other. line_fails c.args.incident c.args.place c.args.line.now s items more same can mid _ e h held other);
 }

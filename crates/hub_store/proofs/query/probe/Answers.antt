@@ -1,7 +1,8 @@
-use Rattle.std.proofs.Common.{inl}
+use Rattle.std.proofs.Common.{inl, true, refl, sym}
 use Rattle.hub_store.specs.Versions.{version_text}
-use Rattle.hub_store.proofs.AnyVersion.{versions_same}
+use Rattle.hub_store.proofs.AnyVersion.{versions_same, unread_reason}
 use Rattle.hub_store.proofs.Outcomes.{unchanged_keeps, failed_query, shown_up}
+use Rattle.hub_store.proofs.Steps.{err_passed}
 use Rattle.hub_store.proofs.query.probe.Goals as goal
 
 pub returns-in_err-query_all-clause-kept : goal.returns-in_err-query_all-clause-kept
@@ -12,3 +13,7 @@ returns-clause-same g c clean = let shown = c.in_ok-query_all.ensures.ok clean i
 
 pub returns-clause-kept : goal.returns-clause-kept
 returns-clause-kept g c clean = unchanged_keeps _ _ (inl (versions_same _ _ _ (c.in_ok-query_all.ensures.ok clean)))
+
+pub returns-in_err-query_all-clause-cause : goal.returns-in_err-query_all-clause-cause
+returns-in_err-query_all-clause-cause g c clean there live =
+    err_passed c.from_residual.result _ _ c.from_residual.ensures.1 (λ other. unread_reason _ _ true _ refl (sym there) live other (c.in_err-query_all.ensures.err clean))

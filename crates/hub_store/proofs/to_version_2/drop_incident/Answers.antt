@@ -1,9 +1,10 @@
 use Rattle.std.proofs.Common.{[]}
 use Rattle.hub_store.specs.Tables.{beside_item, incident_table}
 use Rattle.hub_store.specs.Parts.{HoldsParts}
-use Rattle.hub_store.specs.Layout.{with_items, without_incidents}
-use Rattle.hub_store.proofs.DropCauses.{drops_empty}
-use Rattle.hub_store.proofs.Steps.{made_by}
+use Rattle.hub_store.specs.Layout.{without_incidents}
+use Rattle.hub_store.specs.Beside.{HoldsBeside}
+use Rattle.hub_store.proofs.DropCauses.{drop_fails, drops_empty}
+use Rattle.hub_store.proofs.Steps.{made_by, fails_by}
 use Rattle.hub_store.proofs.Migrating.{drop_incident, drops_incident, incident_dropping}
 use Rattle.hub_store.proofs.to_version_2.drop_incident.Goals as goal
 
@@ -11,4 +12,9 @@ pub returns-clause-empty : goal.returns-clause-empty
 returns-clause-empty g c = drops_empty beside_item drop_incident 9 (record incident_table { tree = 18 }) incident_dropping g.S.Store _ _ _ c.run.ensures.goes c.run.ensures.ran c.run.ensures.failed
 
 pub returns-clause-made : goal.returns-clause-made
-returns-clause-made g c s items = made_by g.S.Store drop_incident [] _ _ (HoldsParts (with_items items s)) (HoldsParts (without_incidents items s)) _ c.run.ensures.goes c.run.ensures.ran (λ mid count h. drops_incident mid _ s items count h)
+returns-clause-made g c s items = made_by g.S.Store drop_incident [] _ _ (HoldsBeside items s) (HoldsParts (without_incidents items s)) _ c.run.ensures.goes c.run.ensures.ran (λ mid count h. drops_incident mid _ s items count h)
+
+pub returns-clause-cause : goal.returns-clause-cause
+returns-clause-cause g c s items =
+    fails_by g.S.Store drop_incident [] _ _ (HoldsBeside items s) _ c.run.ensures.failed
+    (λ mid e h has other. drop_fails beside_item drop_incident 9 (record incident_table { tree = 18 }) incident_dropping mid _ has.parts.known e other h)

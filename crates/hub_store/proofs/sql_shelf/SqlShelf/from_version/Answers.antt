@@ -1,8 +1,8 @@
-use Rattle.std.proofs.Common.{sym, subst}
+use Rattle.std.proofs.Common.{sym, subst, ◌∙◌}
 use Rattle.sqlite.specs.Held.{state}
 use Rattle.hub_store.specs.Opening.{IsBrought}
 use Rattle.hub_store.proofs.Left.{left_by_commit}
-use Rattle.hub_store.proofs.Renewed.{committed_has, committed_tells, either_fault}
+use Rattle.hub_store.proofs.Renewed.{committed_has, committed_tells, either_fault, store_cause}
 use Rattle.hub_store.proofs.sql_shelf.SqlShelf.from_version.Goals as goal
 
 pub returns-in-Ok-clause-brought : goal.returns-in-Ok-clause-brought
@@ -21,6 +21,8 @@ returns-in-Ok-clause-brought g c =
 pub returns-in-Err-clause-refused : goal.returns-in-Err-clause-refused
 returns-in-Err-clause-refused g c = record {
   why = rw c.open_fault.ensures (either_fault c.fault_of.result);
+  cause = λ clean is s has taken.
+      store_cause c.fault_of.result _ (λ failed. c.in-Err.ensures.cause clean c.requires.older s has taken (λ unheld. let told = c.fault_of.ensures.1 unheld in absurd (let clash = sym told ∙ failed in cc))) (sym c.open_fault.ensures ∙ is);
   kept = c.in-Err.ensures.none;
   survives = c.renew.ensures.survives c.requires.older;
 }

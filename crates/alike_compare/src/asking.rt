@@ -1,0 +1,95 @@
+//! What a reader asks of a world, and the bytes of the replies.
+
+use crate::edits::edits_of;
+use crate::fault::Fault;
+use crate::reader::Reader;
+use crate::rows::{World, place_of};
+use circle::directory::Role;
+use hub::{Hub, Key};
+use hub_core::{ListShelf, Request, Shelf};
+use hub_http::reply_bytes;
+use std::alloc::{AllocError, Global};
+use trying_hub::{Fields, key_of, request_of};
+
+/// The moment of all requests, in seconds since 1970.
+const MOMENT: i64 = 1_700_000_000;
+
+/// What tells a reader of incidents, of its groups and of itself, with 0 before it; then what it is refused, of an incident
+/// that isn't its organisation's, with the incident's number before it.
+const LINES: [(u32, &str); 22] = [
+    (0, "View|1"),
+    (0, "View|2"),
+    (0, "View|3"),
+    (0, "View|4"),
+    (0, "View|5"),
+    (0, "List|0"),
+    (0, "List|1"),
+    (0, "Search|x|-|0"),
+    (0, "Search|needle|-|0"),
+    (0, "Search|y|-|1"),
+    (0, "Search|x|EventData|0"),
+    (0, "Search|needle|Incident|0"),
+    (0, "Search|private|-|0"),
+    (0, "Addressed|0"),
+    (0, "MyGroups"),
+    (0, "WhoAmI"),
+    (1, "Grant|1|1|/Incident/0|org 2"),
+    (2, "Withdraw|2|/Incident/0|org 2"),
+    (1, "Redistribute|1|1|/Incident/0/EventData/0|3|-"),
+    (2, "Address|2|person 2"),
+    (1, "Unaddress|1|org 2"),
+    (1, "Explain|1|1|/Incident/0"),
+];
+
+/// A request, the line that says it, and the number of the incident of which it is refused, or 0.
+#[derive(Drop)]
+pub struct Question {
+    pub line: &'static str,
+    incident: u32,
+    request: Request,
+}
+
+/// All that a reader asks.
+pub fn questions(alloc: Global) -> Result<Vec<Question>, AllocError> {
+    let mut all = Vec::new(alloc);
+    for (incident, line) in LINES {
+        let request = request_of(alloc, &mut Fields::new(line))?;
+        all.push(Question {
+            line,
+            incident,
+            request,
+        })?;
+    }
+    Ok(all)
+}
+
+/// Whether the reader asks this: not what it may change, nor what only an administrator is told.
+fn is_asked(world: &World, reader: Reader<'_>, question: &Question) -> bool {
+    let report = world.reports.get(place_of(question.incident));
+    let is_own = report.map_or(false, |report| reader.is_source(report));
+    let is_explained = matches!(question.request, Request::Explain(_));
+    !is_own && !(is_explained && reader.own.role == Role::Administrator)
+}
+
+/// The bytes of the replies to the person of this number; none where it doesn't ask.
+pub fn answers(
+    alloc: Global,
+    world: &World,
+    reader: Reader<'_>,
+    questions: &[Question],
+) -> Result<Vec<Vec<u8>>, Fault> {
+    let mut shelf = ListShelf::new(alloc);
+    shelf.apply(&edits_of(alloc, world)?)?;
+    let mut hub = Hub::new(shelf);
+    let key = Key::Digest(key_of(reader.who));
+    let mut replies = Vec::new(alloc);
+    for question in questions {
+        if is_asked(world, reader, question) {
+            let reply = hub.answer(alloc, MOMENT, &key, &question.request);
+            replies.push(reply_bytes(alloc, &reply)?)?;
+        } else {
+            replies.push(Vec::new(alloc))?;
+        }
+    }
+    Ok(replies)
+}

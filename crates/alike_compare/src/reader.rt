@@ -1,0 +1,188 @@
+//! What a reader sees, by the rules: each class is judged alone, with all that is above it. Nothing of the hub is asked.
+
+use crate::rows::{Circle, Class, Member, Reach, Report, World, place_of};
+use crate::writing::rank_of;
+use circle::directory::Handling;
+use hub_core::Target;
+use policy::Grantee;
+
+/// By what a class is hidden: how strictly it is handled, from 1 on, or the gate that refuses.
+#[derive(Clone, Copy, PartialEq, Eq)]
+pub enum Why {
+    Handled(u32),
+    Level(u8),
+    GroupAsleep,
+}
+
+/// A person of a world, active, with its number.
+#[derive(Clone, Copy)]
+pub struct Reader<'a> {
+    pub circle: &'a Circle,
+    pub who: u32,
+    pub own: Member,
+}
+
+/// What is known of a class on the way from it up to the root.
+#[derive(Clone, Copy)]
+struct Ascent {
+    depth: u32,
+    label: u32,
+    is_covered: bool,
+    refused: Option<Why>,
+}
+
+fn handling_rank(handling: Handling) -> u32 {
+    match handling {
+        Handling::Clear => 0,
+        Handling::Green => 1,
+        Handling::Amber => 2,
+        Handling::Strict => 3,
+        Handling::Red => 4,
+    }
+}
+
+impl<'a> Reader<'a> {
+    /// The person of this number in the world.
+    pub fn of(world: &'a World, who: u32) -> Option<Reader<'a>> {
+        let own = world.circle.persons.get(place_of(who))?;
+        Some(Reader {
+            circle: &world.circle,
+            who,
+            own: *own,
+        })
+    }
+
+    pub fn is_source(&self, report: &Report) -> bool {
+        report.source == self.own.org
+    }
+
+    /// Whether the person or its organisation is a recipient.
+    pub fn is_addressed(&self, report: &Report) -> bool {
+        report.recipients.contains(&Target::Person(self.who))
+            || report.recipients.contains(&Target::Org(self.own.org))
+    }
+
+    fn is_client(&self, report: &Report) -> bool {
+        self.circle.clients.iter().any(|row| row.client == self.own.org
+            && (row.org == report.source || report.recipients.contains(&Target::Org(row.org))))
+    }
+
+    /// How strictly handled the person may see what is in the report.
+    fn cleared(&self, report: &Report) -> u32 {
+        if report.recipients.contains(&Target::Person(self.who)) {
+            4
+        } else if self.own.nominated && report.recipients.contains(&Target::Org(self.own.org)) {
+            3
+        } else if self.own.nominated && self.is_client(report) {
+            2
+        } else if self.circle.share_community(self.own.org, report.source) {
+            1
+        } else {
+            0
+        }
+    }
+
+    /// How strictly the source wants handled what is marked `default`.
+    fn arranged(&self, source: u32) -> u32 {
+        let found = self
+            .circle
+            .arrangements
+            .iter()
+            .find(|row| row.source == source && row.org == self.own.org);
+        found.map_or(4, |row| handling_rank(row.handling))
+    }
+
+    pub fn is_included(&self, grantee: &Grantee) -> bool {
+        match *grantee {
+            Grantee::Person(number) => number == self.who,
+            Grantee::Org(number) => number == self.own.org,
+            Grantee::Community(number) => self.circle.is_member(number, self.own.org),
+            Grantee::Group(number) => {
+                self.circle.is_active(number) && self.circle.is_in_group(number, self.own.org)
+            }
+        }
+    }
+
+    /// Why the gate refuses the person, which isn't of the source; none where it lets pass.
+    fn refused(&self, source: u32, reach: Reach) -> Option<Why> {
+        let shares = self.circle.share_community(self.own.org, source);
+        let group = reach.group.unwrap_or(0);
+        let passes = match reach.level {
+            0 => false,
+            1 => shares,
+            2 => shares || self.circle.are_connected(self.own.org, source),
+            4 => self.circle.is_in_group(group, self.own.org),
+            _ => true,
+        };
+        if !passes {
+            Some(Why::Level(reach.level))
+        } else if reach.level == 4 && !self.circle.is_active(group) {
+            Some(Why::GroupAsleep)
+        } else {
+            None
+        }
+    }
+
+    /// Goes up to a class in front of those so far, unless it stands beside one of them.
+    fn go_up(&self, ascent: &mut Ascent, source: u32, class: &Class) {
+        if class.depth >= ascent.depth {
+            return;
+        }
+        ascent.depth = class.depth;
+        if ascent.label == 0 {
+            let is_granted = class.grants.iter().any(|grantee| self.is_included(grantee));
+            ascent.is_covered = ascent.is_covered || is_granted;
+            ascent.label = class.label;
+        }
+        if let Some(reach) = class.gate {
+            let refused = self.refused(source, reach);
+            ascent.refused = refused.or(ascent.refused);
+        }
+    }
+
+    fn ascent(&self, report: &Report, place: usize) -> Ascent {
+        let mut ascent = Ascent {
+            depth: u32::MAX,
+            label: 0,
+            is_covered: false,
+            refused: None,
+        };
+        let behind = report.classes.len().saturating_sub(place).saturating_sub(1);
+        for class in report.classes.iter().rev().skip(behind) {
+            self.go_up(&mut ascent, report.source, class);
+        }
+        ascent.refused = self.refused(report.source, report.reach).or(ascent.refused);
+        ascent
+    }
+
+    /// Why the person doesn't see the class at this place; none where it does.
+    pub fn hidden(&self, report: &Report, place: usize) -> Option<Why> {
+        if self.is_source(report) {
+            return None;
+        }
+        let ascent = self.ascent(report, place);
+        let rank = rank_of(ascent.label, self.arranged(report.source));
+        if ascent.refused.is_some() {
+            ascent.refused
+        } else if rank <= self.cleared(report) || ascent.is_covered {
+            None
+        } else {
+            Some(Why::Handled(rank))
+        }
+    }
+
+    /// The nearest label of the class, 0 where none is written.
+    pub fn label(&self, report: &Report, place: usize) -> u32 {
+        self.ascent(report, place).label
+    }
+
+    /// Whether none of the classes at these places is seen.
+    pub fn sees_none(&self, report: &Report, from: usize, to: usize) -> bool {
+        (from..to).all(|place| self.hidden(report, place).is_some())
+    }
+
+    /// Whether some class of the report is seen.
+    pub fn is_served(&self, report: &Report) -> bool {
+        !self.sees_none(report, 0, report.classes.len())
+    }
+}

@@ -1,0 +1,329 @@
+//! The steps from one world to another that is alike for a reader, as they are defined, and each with one premise left out.
+//! Whether a premise holds is asked of the rows, by the rules, and never of a hub.
+
+use crate::reader::Reader;
+use crate::rows::{Class, ORGS, Report, World, end_of};
+use crate::told::{same_withheld, withheld_of};
+use crate::worlds::{PERSONS, any_label, any_reach, any_report, any_target, push_tree};
+use crate::writing::{ALONE, BESIDE, DEEPEST, NOTE_COUNT, spelled};
+use std::alloc::{AllocError, Global};
+use trying::Dice;
+
+/// The steps.
+pub const LINES: &str = "other plain lines in a class that isn't seen";
+
+pub const CLASSES: &str = "a wholly hidden class put in, taken out or exchanged";
+
+pub const INCIDENTS: &str = "other rows of an incident of which nothing is seen";
+
+/// The premises that are left out.
+pub const CLASS_SEEN: &str = "but the class is seen";
+
+pub const LABEL: &str = "but another label is written there";
+
+pub const SEEN_WITHIN: &str = "but something of it is seen";
+
+pub const WITHHELD: &str = "but something else is withheld";
+
+pub const SERVED: &str = "but something of the incident is seen";
+
+/// How many classes a report has at most before one is put in.
+const MANY: usize = 12;
+
+/// The world behind a step, and the premise that doesn't hold, if there is one.
+#[derive(Drop)]
+pub struct Change {
+    pub world: World,
+    pub step: &'static str,
+    pub left_out: Option<&'static str>,
+}
+
+/// The lines of a class that are to be exchanged, and those that take their place.
+#[derive(Drop)]
+struct Cut {
+    from: usize,
+    to: usize,
+    put: Vec<Class>,
+}
+
+/// The place of an incident that isn't of the reader's organisation.
+pub fn any_foreign(
+    alloc: Global,
+    dice: &mut Dice,
+    world: &World,
+    reader: Reader<'_>,
+) -> Result<Option<usize>, AllocError> {
+    let mut places = Vec::new(alloc);
+    for (place, report) in world.reports.iter().enumerate() {
+        if !reader.is_source(report) {
+            places.push(place)?;
+        }
+    }
+    Ok(dice.one_of(&places).copied())
+}
+
+/// The place of a class: of one that is hidden mostly.
+fn any_place(
+    alloc: Global,
+    dice: &mut Dice,
+    reader: Reader<'_>,
+    report: &Report,
+) -> Result<usize, AllocError> {
+    let is_any = dice.once_in(4);
+    let mut places = Vec::new(alloc);
+    for place in 0..report.classes.len() {
+        if is_any || reader.hidden(report, place).is_some() {
+            places.push(place)?;
+        }
+    }
+    Ok(dice.one_of(&places).copied().unwrap_or(0))
+}
+
+/// Other plain lines for the class; once in four times another label too.
+fn rewrite(dice: &mut Dice, report: &mut Report, place: usize, ident: u32) {
+    if let Some(class) = report.classes.get_mut(place) {
+        class.note = dice.roll(NOTE_COUNT);
+        if class.label == ALONE {
+            class.label = BESIDE;
+        } else if class.label == BESIDE {
+            class.label = ALONE;
+        }
+        if dice.once_in(4) {
+            class.label = any_label(dice);
+        }
+    }
+    if place == 0 {
+        report.ident = ident;
+    }
+}
+
+fn label_at(report: &Report, place: usize) -> u32 {
+    report
+        .classes
+        .get(place)
+        .map_or(0, |class| spelled(class.label))
+}
+
+/// Other plain lines in a class.
+pub fn other_lines(
+    alloc: Global,
+    dice: &mut Dice,
+    world: &World,
+    reader: Reader<'_>,
+    at: usize,
+) -> Result<Option<Change>, AllocError> {
+    let mut after = world.clone()?;
+    let ident = after.next_ident();
+    let (Some(report), Some(other)) = (world.reports.get(at), after.reports.get_mut(at)) else {
+        return Ok(None);
+    };
+    let place = any_place(alloc, dice, reader, report)?;
+    rewrite(dice, other, place, ident);
+    let is_hidden = reader.hidden(report, place).is_some();
+    let is_kept = label_at(report, place) == label_at(other, place);
+    let left_out = match (is_hidden, is_kept) {
+        (true, true) => None,
+        (false, true) => Some(CLASS_SEEN),
+        (true, false) => Some(LABEL),
+        (false, false) => return Ok(None),
+    };
+    Ok(Some(Change {
+        world: after,
+        step: LINES,
+        left_out,
+    }))
+}
+
+/// Whether no class of the same name stands behind this one in the class that holds both.
+fn is_last(classes: &[Class], place: usize, end: usize) -> bool {
+    match (classes.get(place), classes.get(end)) {
+        (Some(class), Some(next)) => next.depth < class.depth || next.kind != class.kind,
+        _ => true,
+    }
+}
+
+/// A class that is put in as the last of its name in the class at this place, or at the root.
+fn put_in(
+    alloc: Global,
+    dice: &mut Dice,
+    report: &Report,
+    place: usize,
+) -> Result<Option<Cut>, AllocError> {
+    let classes = report.classes.as_slice();
+    let (from, depth) = match classes.get(place) {
+        Some(class) if !dice.once_in(8) => {
+            (end_of(classes, place), class.depth.saturating_add(1))
+        }
+        _ => (classes.len(), 1),
+    };
+    if depth > DEEPEST || classes.len() > MANY {
+        return Ok(None);
+    }
+    let mut put = Vec::new(alloc);
+    push_tree(alloc, dice, &mut put, depth, 1)?;
+    Ok(Some(Cut {
+        from,
+        to: from,
+        put,
+    }))
+}
+
+/// A class that is put in, taken out or exchanged so that no other one moves; none where one would.
+fn any_cut(
+    alloc: Global,
+    dice: &mut Dice,
+    report: &Report,
+    place: usize,
+) -> Result<Option<Cut>, AllocError> {
+    let classes = report.classes.as_slice();
+    let Some(class) = classes.get(place) else {
+        return Ok(None);
+    };
+    let (from, to) = (place, end_of(classes, place));
+    let mut put = Vec::new(alloc);
+    match dice.roll(3) {
+        0 => return put_in(alloc, dice, report, place),
+        1 if place == 0 || !is_last(classes, place, to) => return Ok(None),
+        1 => {}
+        _ => push_tree(alloc, dice, &mut put, class.depth, class.kind)?,
+    }
+    Ok(Some(Cut { from, to, put }))
+}
+
+/// The classes with some of them exchanged.
+fn exchanged(alloc: Global, classes: &[Class], cut: &Cut) -> Result<Vec<Class>, AllocError> {
+    let mut all = Vec::new(alloc);
+    let before = classes.iter().take(cut.from);
+    let behind = classes.iter().skip(cut.to);
+    for class in before.chain(cut.put.iter()).chain(behind) {
+        all.push(class.clone()?)?;
+    }
+    Ok(all)
+}
+
+/// Which premise doesn't hold where a class of the report was exchanged.
+fn left_out_of_cut(
+    alloc: Global,
+    reader: Reader<'_>,
+    report: &Report,
+    other: &Report,
+    cut: &Cut,
+) -> Result<Option<&'static str>, AllocError> {
+    let end = cut.from.saturating_add(cut.put.len());
+    let is_hidden = reader.sees_none(report, cut.from, cut.to)
+        && reader.sees_none(other, cut.from, end);
+    if !is_hidden {
+        return Ok(Some(SEEN_WITHIN));
+    }
+    let withheld = withheld_of(alloc, reader, report)?;
+    let now = withheld_of(alloc, reader, other)?;
+    Ok(if same_withheld(&withheld, &now) {
+        None
+    } else {
+        Some(WITHHELD)
+    })
+}
+
+/// A class with all below it put in, taken out or exchanged, with the gates and the permissions there.
+pub fn other_class(
+    alloc: Global,
+    dice: &mut Dice,
+    world: &World,
+    reader: Reader<'_>,
+    at: usize,
+) -> Result<Option<Change>, AllocError> {
+    let mut after = world.clone()?;
+    let ident = after.next_ident();
+    let (Some(report), Some(other)) = (world.reports.get(at), after.reports.get_mut(at)) else {
+        return Ok(None);
+    };
+    let place = any_place(alloc, dice, reader, report)?;
+    let Some(cut) = any_cut(alloc, dice, report, place)? else {
+        return Ok(None);
+    };
+    other.classes = exchanged(alloc, &report.classes, &cut)?;
+    if cut.from == 0 {
+        other.ident = ident;
+    }
+    let left_out = left_out_of_cut(alloc, reader, report, other, &cut)?;
+    Ok(Some(Change {
+        world: after,
+        step: CLASSES,
+        left_out,
+    }))
+}
+
+/// Another report in place of one, or the same with another root gate, recipients and revision.
+fn other_report(
+    alloc: Global,
+    dice: &mut Dice,
+    report: &Report,
+    ident: u32,
+) -> Result<Report, AllocError> {
+    if dice.once_in(2) {
+        let source = dice.one_to(ORGS);
+        return any_report(alloc, dice, source, ident);
+    }
+    let mut other = report.clone()?;
+    let target = any_target(dice, PERSONS);
+    other.reach = any_reach(dice, 5);
+    other.revision = dice.one_to(9);
+    other.recipients.retain(|row| *row != target);
+    Ok(other)
+}
+
+/// An incident put in behind the others, the last one taken out, or one exchanged. The one before, and the one behind.
+fn exchange_report(
+    alloc: Global,
+    dice: &mut Dice,
+    after: &mut World,
+    at: usize,
+) -> Result<(Option<Report>, Option<usize>), AllocError> {
+    let ident = after.next_ident();
+    let count = after.reports.len();
+    if count < 4 && dice.once_in(3) {
+        let source = dice.one_to(ORGS);
+        let report = any_report(alloc, dice, source, ident)?;
+        after.reports.push(report)?;
+        return Ok((None, Some(count)));
+    }
+    if at.saturating_add(1) == count && dice.once_in(3) {
+        return Ok((after.reports.pop(), None));
+    }
+    let Some(report) = after.reports.get_mut(at) else {
+        return Ok((None, None));
+    };
+    let mut other = other_report(alloc, dice, report, ident)?;
+    std::mem::swap(report, &mut other);
+    Ok((Some(other), Some(at)))
+}
+
+/// Anything in an incident; it may be missing before or behind.
+pub fn other_incident(
+    alloc: Global,
+    dice: &mut Dice,
+    world: &World,
+    reader: Reader<'_>,
+    at: usize,
+) -> Result<Option<Change>, AllocError> {
+    let mut after = world.clone()?;
+    let (before, place) = exchange_report(alloc, dice, &mut after, at)?;
+    let now = place.and_then(|place| after.reports.get(place));
+    if now.map_or(false, |report| reader.is_source(report)) {
+        return Ok(None);
+    }
+    let was_served = before
+        .as_ref()
+        .map_or(false, |report| reader.is_served(report));
+    let is_served = now.map_or(false, |report| reader.is_served(report));
+    let left_out = if was_served || is_served {
+        Some(SERVED)
+    } else {
+        None
+    };
+    Ok(Some(Change {
+        world: after,
+        step: INCIDENTS,
+        left_out,
+    }))
+}

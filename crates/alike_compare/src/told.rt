@@ -1,0 +1,261 @@
+//! What a reader is to be told by the rules, in numbers: where two worlds have other numbers, some answer has to differ.
+
+use crate::reader::{Reader, Why};
+use crate::rows::{GROUPS, Report, World, end_of, number_at};
+use crate::writing::{PRIVATE, spelled};
+use circle::directory::Role;
+use std::alloc::{AllocError, Global};
+
+/// What stands for a class that is kept: one that is seen, one that only holds others, and one that is wholly hidden.
+#[derive(Clone, Copy, PartialEq, Eq)]
+enum Kept {
+    Seen,
+    Frame,
+    Hidden,
+}
+
+/// A rule at a place: the number of a kept class, from 1 in their order, and 0 for the root.
+#[derive(Clone, Copy, PartialEq, Eq)]
+pub struct Withheld {
+    place: u32,
+    why: Why,
+}
+
+/// The classes of a report on the way down, and what was told of them.
+#[derive(Drop)]
+struct Telling<'a> {
+    reader: Reader<'a>,
+    report: &'a Report,
+    numbers: Vec<u32>,
+    withheld: Vec<Withheld>,
+    /// How many classes were kept.
+    kept: u32,
+    /// Of the classes above, from the root's place on, the number and whether it is seen.
+    above: Vec<(u32, Kept)>,
+}
+
+fn code(why: Why) -> u32 {
+    match why {
+        Why::Handled(rank) => rank,
+        Why::Level(level) => u32::from(level).saturating_add(10),
+        Why::GroupAsleep => 20,
+    }
+}
+
+impl<'a> Telling<'a> {
+    fn kept(&self, place: usize, why: Option<Why>) -> Kept {
+        let end = end_of(&self.report.classes, place);
+        match why {
+            None => Kept::Seen,
+            Some(_) if self.reader.sees_none(self.report, place, end) => Kept::Hidden,
+            Some(_) => Kept::Frame,
+        }
+    }
+
+    fn note(&mut self, place: u32, why: Why) -> Result<(), AllocError> {
+        let withheld = Withheld { place, why };
+        if !self.withheld.contains(&withheld) {
+            self.withheld.push(withheld)?;
+        }
+        Ok(())
+    }
+
+    /// What is told of the lines of a class that is seen.
+    fn tell_lines(&mut self, place: usize, over: Kept) -> Result<(), AllocError> {
+        let Some(class) = self.report.classes.get(place) else {
+            return Ok(());
+        };
+        let nearest = match spelled(self.reader.label(self.report, place)) {
+            0 => PRIVATE,
+            label => label,
+        };
+        let label = match (class.label, over) {
+            (0, Kept::Seen) => 0,
+            (0, _) => nearest,
+            (label, _) => label,
+        };
+        let is_incident = class.depth == 1 && class.kind == 0;
+        let ident = if is_incident { self.report.ident } else { 0 };
+        for number in [label, class.note, ident] {
+            self.numbers.push(number)?;
+        }
+        Ok(())
+    }
+
+    /// What is told of the class at a place.
+    fn tell(&mut self, place: usize) -> Result<(), AllocError> {
+        let Some(class) = self.report.classes.get(place) else {
+            return Ok(());
+        };
+        self.above.truncate(class.depth as usize);
+        let (number, over) = self.above.last().copied().unwrap_or((0, Kept::Frame));
+        let why = self.reader.hidden(self.report, place);
+        let kept = self.kept(place, why);
+        if kept == Kept::Hidden {
+            self.above.push((number, kept))?;
+            return match why {
+                Some(why) if over != Kept::Hidden => self.note(number, why),
+                _ => Ok(()),
+            };
+        }
+        self.kept = self.kept.saturating_add(1);
+        self.above.push((self.kept, kept))?;
+        for number in [class.depth, class.kind, u32::from(kept == Kept::Seen)] {
+            self.numbers.push(number)?;
+        }
+        match why {
+            Some(why) => self.note(self.kept, why),
+            None => self.tell_lines(place, over),
+        }
+    }
+}
+
+/// What is told of the classes of a report, and what is withheld.
+fn told_of(
+    alloc: Global,
+    reader: Reader<'_>,
+    report: &Report,
+) -> Result<(Vec<u32>, Vec<Withheld>), AllocError> {
+    let mut above = Vec::new(alloc);
+    above.push((0, Kept::Frame))?;
+    let mut telling = Telling {
+        reader,
+        report,
+        numbers: Vec::new(alloc),
+        withheld: Vec::new(alloc),
+        kept: 0,
+        above,
+    };
+    for place in 0..report.classes.len() {
+        telling.tell(place)?;
+    }
+    let Telling {
+        numbers,
+        withheld,
+        ..
+    } = telling;
+    Ok((numbers, withheld))
+}
+
+/// The rules that withhold something of a report, each with its place.
+pub fn withheld_of(
+    alloc: Global,
+    reader: Reader<'_>,
+    report: &Report,
+) -> Result<Vec<Withheld>, AllocError> {
+    let (_, withheld) = told_of(alloc, reader, report)?;
+    Ok(withheld)
+}
+
+/// Whether the same is withheld, in whatever order.
+pub fn same_withheld(one: &[Withheld], other: &[Withheld]) -> bool {
+    one.len() == other.len() && one.iter().all(|withheld| other.contains(withheld))
+}
+
+/// What the reader is told of the report of this number; nothing where nothing is seen.
+fn push_report(
+    alloc: Global,
+    numbers: &mut Vec<u32>,
+    reader: Reader<'_>,
+    number: u32,
+    report: &Report,
+) -> Result<(), AllocError> {
+    if !reader.is_served(report) {
+        return Ok(());
+    }
+    let (told, withheld) = told_of(alloc, reader, report)?;
+    for number in [
+        number,
+        report.source,
+        report.revision,
+        u32::from(reader.is_addressed(report)),
+    ] {
+        numbers.push(number)?;
+    }
+    numbers.extend_from_slice(&told)?;
+    push_withheld(alloc, numbers, &withheld)
+}
+
+/// What is withheld, in the order of places and rules.
+fn push_withheld(
+    alloc: Global,
+    numbers: &mut Vec<u32>,
+    withheld: &[Withheld],
+) -> Result<(), AllocError> {
+    let mut codes = Vec::new(alloc);
+    for Withheld { place, why } in withheld {
+        codes.push(place.saturating_mul(32).saturating_add(code(*why)))?;
+    }
+    codes.sort()?;
+    numbers.push(u32::MAX)?;
+    numbers.extend_from_slice(&codes)
+}
+
+fn role_number(role: Role) -> u32 {
+    match role {
+        Role::Administrator => 0,
+        Role::Coordinator => 1,
+        Role::Poster => 2,
+        Role::Reader => 3,
+    }
+}
+
+/// What the reader is told of a group: nothing, 0, where its organisation isn't a member.
+fn membership_number(reader: Reader<'_>, group: u32) -> u32 {
+    let mut members = reader.circle.members.iter();
+    let own = members.find(|row| row.group == group && row.org == reader.own.org);
+    match (own, reader.circle.is_active(group)) {
+        (None, _) => 0,
+        (Some(row), false) => u32::from(row.extend).saturating_add(1),
+        (Some(row), true) => u32::from(row.extend).saturating_add(3),
+    }
+}
+
+/// What the reader is told of itself and its groups.
+fn push_self(numbers: &mut Vec<u32>, reader: Reader<'_>) -> Result<(), AllocError> {
+    let own = reader.own;
+    for number in [own.org, role_number(own.role), u32::from(own.nominated)] {
+        numbers.push(number)?;
+    }
+    for group in 1..=GROUPS {
+        numbers.push(membership_number(reader, group))?;
+    }
+    Ok(())
+}
+
+/// All that the person of this number is told in the world.
+pub fn told_in(alloc: Global, world: &World, who: u32) -> Result<Vec<u32>, AllocError> {
+    let mut numbers = Vec::new(alloc);
+    let Some(reader) = Reader::of(world, who) else {
+        return Ok(numbers);
+    };
+    for (place, report) in world.reports.iter().enumerate() {
+        push_report(alloc, &mut numbers, reader, number_at(place), report)?;
+    }
+    push_self(&mut numbers, reader)?;
+    Ok(numbers)
+}
+
+/// The labels that are written in classes that the person sees. A search finds these, and none that a view adds.
+pub fn written_in(alloc: Global, world: &World, who: u32) -> Result<Vec<u32>, AllocError> {
+    let mut labels = Vec::new(alloc);
+    if let Some(reader) = Reader::of(world, who) {
+        for report in world.reports.iter() {
+            push_written(&mut labels, reader, report)?;
+        }
+    }
+    Ok(labels)
+}
+
+fn push_written(
+    labels: &mut Vec<u32>,
+    reader: Reader<'_>,
+    report: &Report,
+) -> Result<(), AllocError> {
+    for (place, class) in report.classes.iter().enumerate() {
+        if reader.hidden(report, place).is_none() {
+            labels.push(class.label)?;
+        }
+    }
+    Ok(())
+}

@@ -1,0 +1,4 @@
+mod Lines
+mod Going
+mod Edits
+mod Told

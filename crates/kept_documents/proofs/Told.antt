@@ -1,0 +1,34 @@
+-- What is told of a document that is kept is what is told of its incident.
+use Rattle.std.proofs.Common.{◌≡◌, ◌⊎◌, ℕ, ◌&&◌, false, if◌then◌else◌, List, Some, None, Result, Ok, Err, OnOk, OnErr, Contains, inl, inr, sym, ap, subst, ◌∙◌}
+use Rattle.std.specs.Prelude.{is_some, is_none, option_and_then}
+use Rattle.std.specs.Option.{option_map_or}
+use Rattle.iodef_tree.specs.Paths.{located}
+use Rattle.marking.specs.Marks.{first_bad_marking}
+use Rattle.policy.specs.declared.standing.Standing.{Standing}
+use Rattle.policy.specs.declared.case.Case.{Case}
+use Rattle.redact.specs.Told.{excerpt_of}
+use Rattle.redact.specs.Excerpts.{served_of}
+use Rattle.redact.specs.Wants.{meets}
+use Rattle.redact.specs.declared.want.Want.{Want}
+use Rattle.hub_core.specs.Documents.{Lines}
+use Rattle.hub_core.specs.Reads.{document_of, served_of_incident, met_by_incident, meets_marked}
+use Rattle.hub_core.specs.State.{State}
+use Rattle.kept_documents.specs.Kept.{Entry, AreAmong, AreDocuments}
+
+pub served : (n : ℕ) (doc : Lines) (c : Case) (st : Standing) (s : State) → document_of n s ≡ Some doc → first_bad_marking (located doc) ≡ None → excerpt_of doc c st ≡ served_of_incident n c st s
+served n doc c st s at marked = sym (ap (option_and_then (λ (ls : Lines). served_of ls c st)) at ∙ ap (λ bad. if is_some bad then None else excerpt_of doc c st) marked)
+
+pub met : (n : ℕ) (doc : Lines) (c : Case) (st : Standing) (w : Want) (s : State) → document_of n s ≡ Some doc → first_bad_marking (located doc) ≡ None → meets w doc c st ≡ met_by_incident n c st w s
+met n doc c st w s at marked = sym (ap (λ o. option_map_or (λ (ls : Lines). meets_marked w ls c st) o false) at ∙ ap (λ bad. is_none bad && meets w doc c st) marked)
+
+-- with one that was read
+pub kept_new : (n : ℕ) (doc : Lines) (old mid new : List Entry) (s : State) → AreAmong mid old → ((e : Entry) → Contains new e → Contains mid e ⊎ (e ≡ (n, doc))) → Some doc ≡ document_of n s → AreDocuments old s → AreDocuments new s
+kept_new n doc old mid new s among put is all e k = elim (put e k) [ inl was ↦ all e (among e was) | inr new ↦ subst (λ (x : Entry). document_of x.0 s ≡ Some x.1) (sym new) (sym is) ]
+
+pub on_ok_beside : {T E : Type 0} (P Q : Type 0) (r : Result T E) → Q → OnOk r P → OnOk r (P × Q)
+on_ok_beside P Q (Ok x) q p = (p, q)
+on_ok_beside P Q (Err e) q p = tt
+
+pub on_err_weaker : {T E : Type 0} (P Q : Type 0) (r : Result T E) → (P → Q) → OnErr r P → OnErr r Q
+on_err_weaker P Q (Ok x) go p = tt
+on_err_weaker P Q (Err e) go p = go p

@@ -1,0 +1,8 @@
+use Rattle.std.proofs.Common.{◌∙◌}
+use Rattle.kept_documents.proofs.Told.{met}
+use Rattle.kept_documents.proofs.kept_documents.KeptDocumentsShelf.meets.Goals as goal
+
+pub returns-in_ok-meets-in-Some-clause-value : goal.returns-in_ok-meets-in-Some-clause-value
+returns-in_ok-meets-in-Some-clause-value g c = λ clean s has.
+    let at = c.prepare.ensures.documents clean s has.0 has.1 (c.args.incident, c.in-Some.document.now) c.in-Some.ensures.kept in
+    c.in_ok-meets-in-Some.ensures ∙ met c.args.incident c.in-Some.document.now c.args.case c.args.standing c.args.want s at c.in-Some.ensures.marked

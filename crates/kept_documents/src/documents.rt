@@ -1,0 +1,166 @@
+//! The documents that are kept.
+ghost use Rattle.std.specs.Prelude.{◌≡◌, nat_eq, false, ◌⊎◌, ◌≤◌, [], IfSome, IfOk, Contains};
+ghost use Rattle.iodef_tree.specs.Paths.{located};
+ghost use Rattle.marking.specs.Marks.{first_bad_marking};
+ghost use Rattle.kept_documents.specs.Kept.{Entry, lines_in, AreAmong, AreSpared, is_of};
+
+use crate::kept::Kept;
+use crate::{MOST_LINES, NOTED_LIMIT, PATIENCE};
+use hub_core::Edit;
+use iodef_tree::Document;
+use lru::LruCache;
+use std::alloc::{AllocError, Global};
+use std::marker::Model;
+use std::num::NonZeroUsize;
+
+/// The documents that are kept, by their incidents' numbers; contracts see the list of the pairs.
+#[derive(Drop)]
+pub(crate) struct Documents {
+    alloc: Global,
+    kept: LruCache<u32, Kept>,
+    /// Which incidents were asked for lately.
+    noted: LruCache<u32, ()>,
+    /// How many lines the kept documents have.
+    lines: usize,
+    most: usize,
+    /// How many questions were asked since a document was kept.
+    waited: u32,
+}
+
+impl Model for Documents {
+    ghost use Rattle.std.specs.Prelude.{◌≤◌, List};
+    ghost use Rattle.kept_documents.specs.Kept.{Entry, lines_in};
+    ghost use Rattle.kept_documents.specs.declared.TheConstants.{MOST_LINES as the_most};
+
+    ghost Value = { List Entry };
+
+    ghost view = { λ d. d.kept.entries };
+
+    ghost invariant = { λ d. (lines_in d.kept.entries ≤ d.lines) × (d.lines ≤ d.most) × (d.most ≤ the_most) };
+}
+
+/// Lets those go that were read longest ago, until no more than so many lines are kept; tells how many.
+#[tactic(auto, using(crate::proofs::Lines::none_left))]
+fn shrink(kept: &mut LruCache<u32, Kept>, lines: usize, most: usize) -> usize
+    requires { lines_in kept.old.entries ≤ lines }
+    ensures counted { lines_in kept.new.entries ≤ result }
+    ensures most { result ≤ most }
+    ensures among { AreAmong kept.new.entries kept.old.entries }
+{
+    let mut left = lines;
+    while left > most {
+        match kept.pop_lru() {
+            None => return 0,
+            Some((_, gone)) => left = left - gone.lines(),
+        }
+    }
+    left
+}
+
+impl Documents {
+    /// None at first, and never more lines than `most`, nor than [`MOST_LINES`].
+    pub(crate) fn new(alloc: Global, most: usize) -> Result<Documents, AllocError>
+        ensures { IfOk result (λ d. d ≡ []) }
+    {
+        Ok(Documents {
+            alloc,
+            kept: LruCache::unbounded(alloc)?,
+            noted: LruCache::sparse(alloc, NonZeroUsize::new(NOTED_LIMIT).unwrap())?,
+            lines: 0,
+            most: most.min(MOST_LINES),
+            waited: 0,
+        })
+    }
+
+    /// How many lines may be kept at this moment.
+    pub(crate) fn lines(&self) -> usize
+        ensures counted { lines_in self.now ≤ result }
+        ensures most { result ≤ MOST_LINES }
+    {
+        self.lines
+    }
+
+    #[tactic(auto, using(crate::proofs::Going::found))]
+    pub(crate) fn find(&self, incident: u32) -> Option<&Document>
+        ensures kept { IfSome result (λ d. Contains self.now (incident, d.now)) }
+        ensures marked { IfSome result (λ d. first_bad_marking (located d.now) ≡ None) }
+    {
+        match self.kept.peek(&incident) {
+            None => None,
+            Some(kept) => Some(kept.document()),
+        }
+    }
+
+    /// Notes that an incident is asked for. Whether its document is to be read and kept: not where it is, nor at the first
+    /// question, nor where others would have to go and a document was kept a short while ago.
+    #[tactic(auto, using(crate::proofs::Lines::promoted_lines))]
+    pub(crate) fn is_wanted(&mut self, incident: u32) -> bool
+        ensures { AreAmong self.new self.old }
+    {
+        self.waited = self.waited.saturating_add(1);
+        if self.kept.promote(&incident) {
+            return false;
+        }
+        if !self.noted.promote(&incident) {
+            // Where the memory doesn't suffice the next question is the first again.
+            let _ = self.noted.put(incident, ());
+            return false;
+        }
+        self.lines <= self.most - self.most / 8 || self.waited >= PATIENCE
+    }
+
+    /// Keeps a document, if it can be: those that were read longest ago make room for it.
+    #[tactic(auto, using(crate::proofs::Lines::put_lines))]
+    pub(crate) fn keep(&mut self, incident: u32, document: Document)
+        ensures { (e : Entry) → Contains self.new e → Contains self.old e ⊎ (e ≡ (incident, document)) }
+    {
+        self.waited = 0;
+        let Some(kept) = Kept::within(self.alloc, document, self.most) else {
+            return;
+        };
+        let lines = kept.lines();
+        self.lines = shrink(&mut self.kept, self.lines, self.most - lines);
+        match self.kept.put(incident, kept) {
+            Ok(_) => self.lines += lines,
+            Err(_) => {}
+        }
+    }
+
+    #[tactic(auto, using(crate::proofs::Lines::gone))]
+    fn let_go_of(&mut self, incident: u32)
+        ensures { (e : Entry) → Contains self.new e → Contains self.old e × (nat_eq incident e.0 ≡ false) }
+    {
+        // Its contract says that no number stands there twice.
+        let _count = self.kept.len();
+        if let Some((_, gone)) = self.kept.pop_entry(&incident) {
+            self.lines -= gone.lines();
+        }
+    }
+
+    /// Lets go of what the edit puts or takes.
+    fn let_go_by(&mut self, edit: &Edit)
+        ensures { (e : Entry) → Contains self.new e → Contains self.old e × (is_of e.0 edit.now ≡ false) }
+    {
+        match edit {
+            Edit::PutIncident(incident) => self.let_go_of(incident.naming.number),
+            Edit::TakeIncident(number) => self.let_go_of(*number),
+            Edit::Directory(_)
+            | Edit::TakePolicy(_)
+            | Edit::PutGate(_)
+            | Edit::TakeGate(_)
+            | Edit::PutRecipient(_)
+            | Edit::TakeRecipient(_)
+            | Edit::PutPermission(_)
+            | Edit::TakePermission(_) => {}
+        }
+    }
+
+    /// Lets go of what the edits put or take.
+    pub(crate) fn let_go(&mut self, edits: &[Edit])
+        ensures { AreSpared edits.now self.new self.old }
+    {
+        for edit in edits {
+            self.let_go_by(edit);
+        }
+    }
+}

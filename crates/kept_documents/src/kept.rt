@@ -1,0 +1,60 @@
+//! A document as it is kept.
+ghost use Rattle.std.specs.Prelude.{◌≡◌, ◌≤◌, None, length, IfSome};
+ghost use Rattle.iodef_tree.specs.Paths.{located};
+ghost use Rattle.marking.specs.Marks.{first_bad_marking};
+
+use crate::line_count::room_left;
+use iodef_tree::Document;
+use marking::check;
+use std::alloc::Global;
+use std::marker::Model;
+
+/// A document whose markings are accepted, with the number of its lines; contracts see the document.
+#[derive(Drop)]
+pub(crate) struct Kept {
+    document: Document,
+    lines: usize,
+}
+
+impl Model for Kept {
+    ghost use Rattle.std.specs.Prelude.{◌≡◌, List, None, length};
+    ghost use Rattle.iodef_tree.specs.declared.line.Line.{Line};
+    ghost use Rattle.iodef_tree.specs.Paths.{located};
+    ghost use Rattle.marking.specs.Marks.{first_bad_marking};
+
+    ghost Value = { List Line };
+
+    ghost view = { λ k. k.document };
+
+    ghost invariant = { λ k. (k.lines ≡ length k.document) × (first_bad_marking (located k.document) ≡ None) };
+}
+
+impl Kept {
+    /// None where it has more lines than there is room for, where its markings aren't accepted, and where the memory doesn't
+    /// suffice to tell.
+    pub(crate) fn within(alloc: Global, document: Document, room: usize) -> Option<Kept>
+        ensures { IfSome result (λ k. (k ≡ document) × (length k ≤ room)) }
+    {
+        let left = room_left(document.root(), room)?;
+        match check(alloc, &document) {
+            Err(_) => None,
+            Ok(()) => Some(Kept {
+                document,
+                lines: room - left,
+            }),
+        }
+    }
+
+    pub(crate) fn lines(&self) -> usize
+        ensures { result ≡ length self.now }
+    {
+        self.lines
+    }
+
+    pub(crate) fn document(&self) -> &Document
+        ensures document { result.now ≡ self.now }
+        ensures marked { first_bad_marking (located result.now) ≡ None }
+    {
+        &self.document
+    }
+}

@@ -1,0 +1,153 @@
+//! The shelf.
+ghost use Rattle.std.specs.Prelude.{◌≡◌, ◌≤◌, [], IfOk};
+ghost use Rattle.hub_core.specs.State.{State};
+ghost use Rattle.hub_core.specs.Shelves.{IsRead};
+ghost use Rattle.kept_documents.specs.Kept.{AreDocuments, lines_in};
+
+use crate::MOST_LINES;
+use crate::documents::Documents;
+use circle::directory::Person;
+use hub_core::{Edit, Entry, Facts, JoinedGroup, Request, Shelf, ShelfFault};
+use iodef_tree::Document;
+use policy::{Case, Standing};
+use redact::{Excerpt, Want, excerpt, meets};
+use std::alloc::{AllocError, Global};
+
+/// A shelf whose calls are answered by another one, but for excerpts and searches of the documents that it keeps.
+#[derive(Drop)]
+pub struct KeptDocuments<Sh: Shelf> {
+    alloc: Global,
+    shelf: Sh,
+    documents: Documents,
+}
+
+impl<Sh: Shelf> KeptDocuments<Sh> {
+    /// Over a shelf, with no document yet, and never more lines than `most`, nor than [`MOST_LINES`].
+    pub fn new(alloc: Global, shelf: Sh, most: usize) -> Result<KeptDocuments<Sh>, (AllocError, Sh)>
+        ensures { IfOk result (λ k. (k.shelf ≡ shelf) × (k.documents ≡ [])) }
+    {
+        match Documents::new(alloc, most) {
+            Ok(documents) => Ok(KeptDocuments {
+                alloc,
+                shelf,
+                documents,
+            }),
+            Err(refused) => Err((refused, shelf)),
+        }
+    }
+
+    /// The shelf below.
+    pub fn into_shelf(self) -> Sh
+        ensures { result ≡ self.shelf }
+    {
+        let KeptDocuments { shelf, .. } = self;
+        shelf
+    }
+
+    /// How many lines the kept documents may have at this moment.
+    pub fn lines(&self) -> usize
+        ensures counted { lines_in self.now.documents ≤ result }
+        ensures most { result ≤ MOST_LINES }
+    {
+        self.documents.lines()
+    }
+
+    /// Reads and keeps the document of an incident that is asked for, where it is worth it and the memory suffices. A store that
+    /// answers no more is asked for nothing.
+    fn prepare(&mut self, incident: u32) -> Result<(), ShelfFault>
+        ensures shelf { IsRead Sh.has Sh.doubts Sh.failed Sh.may_leave self.old.shelf self.new.shelf result }
+        ensures documents { Sh.doubts self.new.shelf ≡ 0 → (s : State) → Sh.has self.old.shelf s → AreDocuments self.old.documents s → AreDocuments self.new.documents s }
+    {
+        if self.shelf.failures() == u64::MAX {
+            return Err(ShelfFault::Failed);
+        }
+        if !self.documents.is_wanted(incident) {
+            return Ok(());
+        }
+        match self.shelf.document(incident) {
+            Ok(Some(document)) => {
+                self.documents.keep(incident, document);
+                Ok(())
+            }
+            Ok(None) | Err(ShelfFault::NoMemory) => Ok(()),
+            Err(ShelfFault::Failed) => Err(ShelfFault::Failed),
+        }
+    }
+}
+
+impl<Sh: Shelf> Shelf for KeptDocuments<Sh> {
+    ghost use Rattle.kept_documents.specs.Kept.{AreDocuments};
+
+    ghost has = { λ k s. Sh.has k.shelf s × AreDocuments k.documents s };
+
+    ghost doubts = { λ k. Sh.doubts k.shelf };
+
+    ghost failed = { λ k. Sh.failed k.shelf };
+
+    ghost may_leave = { λ k left. Sh.may_leave k.shelf left };
+
+    fn failures(&self) -> u64 {
+        self.shelf.failures()
+    }
+
+    fn person_by_key(&mut self, key: &[u8; 32]) -> Result<Option<Person>, ShelfFault> {
+        self.shelf.person_by_key(key)
+    }
+
+    fn standing(&mut self, person: u32, incident: u32) -> Result<Option<Standing>, ShelfFault> {
+        self.shelf.standing(person, incident)
+    }
+
+    fn case(&mut self, incident: u32) -> Result<Option<Case>, ShelfFault> {
+        self.shelf.case(incident)
+    }
+
+    fn document(&mut self, incident: u32) -> Result<Option<Document>, ShelfFault> {
+        self.shelf.document(incident)
+    }
+
+    fn excerpt(
+        &mut self,
+        incident: u32,
+        case: Case,
+        standing: Standing,
+    ) -> Result<Option<Excerpt>, ShelfFault> {
+        self.prepare(incident)?;
+        match self.documents.find(incident) {
+            None => self.shelf.excerpt(incident, case, standing),
+            Some(document) => Ok(excerpt(self.alloc, document, &case, &standing)?),
+        }
+    }
+
+    fn meets(
+        &mut self,
+        incident: u32,
+        case: Case,
+        standing: Standing,
+        want: Want,
+    ) -> Result<bool, ShelfFault> {
+        self.prepare(incident)?;
+        match self.documents.find(incident) {
+            None => self.shelf.meets(incident, case, standing, want),
+            Some(document) => Ok(meets(self.alloc, document, &case, &standing, &want)?),
+        }
+    }
+
+    fn incidents_after(&mut self, number: u32, most: u32) -> Result<Vec<Entry>, ShelfFault> {
+        self.shelf.incidents_after(number, most)
+    }
+
+    fn groups_of(&mut self, person: &Person) -> Result<Vec<JoinedGroup>, ShelfFault> {
+        self.shelf.groups_of(person)
+    }
+
+    fn facts(&mut self, actor: &Person, request: &Request) -> Result<Facts, ShelfFault> {
+        self.shelf.facts(actor, request)
+    }
+
+    fn apply(&mut self, edits: &[Edit]) -> Result<(), ShelfFault> {
+        // Before the call, so that nothing is kept that no longer stands, whatever comes of it.
+        self.documents.let_go(edits);
+        self.shelf.apply(edits)
+    }
+}

@@ -1,0 +1,50 @@
+//! How many lines a tree has, against a limit.
+#![tactic(auto, using(iodef_tree::proofs::Counts::counting))]
+
+ghost use Rattle.std.specs.Prelude.{◌≡◌, ◌+◌, ◌<◌, IfSome, IfNone};
+ghost use Rattle.iodef_tree.specs.FitValues.{line_count, bodies_count, body_count};
+ghost use Rattle.iodef_tree.specs.View.{forest, bodies, body};
+
+use iodef_tree::{Item, Member, Object};
+
+/// What is left of the room for lines behind those of the object, or None where they are more; takes no memory.
+#[cycle(room)]
+pub(crate) fn room_left(object: &Object, room: usize) -> Option<usize>
+    ensures some { IfSome result (λ left. left + line_count (forest object.now) ≡ room) }
+    ensures none { IfNone result (room < line_count (forest object.now)) }
+{
+    let mut left = room;
+    for (_name, member) in &object.members {
+        left = member_room(member, left)?;
+    }
+    Some(left)
+}
+
+#[cycle(room)]
+fn member_room(member: &Member, room: usize) -> Option<usize>
+    ensures some { IfSome result (λ left. left + bodies_count (bodies member.now) ≡ room) }
+    ensures none { IfNone result (room < bodies_count (bodies member.now)) }
+{
+    match member {
+        Member::One(item) => item_room(item, room),
+        Member::Many(items) => {
+            let mut left = room;
+            for item in items {
+                left = item_room(item, left)?;
+            }
+            Some(left)
+        }
+    }
+}
+
+#[cycle(room)]
+fn item_room(item: &Item, room: usize) -> Option<usize>
+    ensures some { IfSome result (λ left. left + body_count (body item.now) ≡ room) }
+    ensures none { IfNone result (room < body_count (body item.now)) }
+{
+    let left = room.checked_sub(1)?;
+    match item {
+        Item::Class(object) => room_left(object, left),
+        Item::Text(_) | Item::Value(_) => Some(left),
+    }
+}

@@ -1,0 +1,82 @@
+//! A search that is fed lines one at a time.
+
+use crate::rows::line_of;
+use crate::served::Asker;
+use iodef_tree::{Document, Line, OutlineFault};
+use redact::{Probe, Want};
+use std::alloc::{AllocError, Global};
+use trying_policy::Unfit;
+
+/// The text, or none where nothing stands there.
+fn text_of(alloc: Global, word: &str) -> Result<Option<String>, AllocError> {
+    if word.is_empty() {
+        return Ok(None);
+    }
+    Ok(Some(String::from_str(alloc, word)?))
+}
+
+/// A search by what is looked for; of the needle and of the class none where nothing stands there.
+pub fn probe_of(
+    alloc: Global,
+    asker: Asker,
+    needle: &str,
+    class: Option<&str>,
+) -> Result<Probe, Unfit> {
+    let Asker { standing, case } = asker;
+    let needle = text_of(alloc, needle)?;
+    let class = text_of(alloc, class.unwrap_or(""))?;
+    Ok(Probe::new(alloc, case, standing, Want { needle, class })?)
+}
+
+/// What the search answers of one more line, or at the end.
+fn answer_of(answer: Result<bool, OutlineFault>) -> Result<&'static str, Unfit> {
+    match answer {
+        Ok(true) => Ok("sure"),
+        Ok(false) => Ok("unsure"),
+        Err(OutlineFault::BadOutline) => Ok("BadOutline"),
+        Err(OutlineFault::NoMemory) => Err(Unfit::NoMemory),
+    }
+}
+
+/// What it answers at the end.
+fn finish_of(probe: Probe) -> Result<&'static str, Unfit> {
+    match answer_of(probe.finish())? {
+        "sure" => Ok("met"),
+        "unsure" => Ok("not met"),
+        fault => Ok(fault),
+    }
+}
+
+/// The number of the first line at which the search is sure, with the first line as 1. All lines are fed.
+fn sure_at(probe: &mut Probe, lines: Vec<Line>) -> Result<Option<usize>, Unfit> {
+    let mut sure = None;
+    for (i, line) in lines.into_iter().enumerate() {
+        let answer = answer_of(probe.feed(line))?;
+        if answer == "sure" && sure.is_none() {
+            sure = Some(i.saturating_add(1));
+        }
+    }
+    Ok(sure)
+}
+
+/// At which line of a document the search is sure, and what it answers at the end.
+pub fn probed(alloc: Global, document: &Document, mut probe: Probe) -> Result<String, Unfit> {
+    let sure = sure_at(&mut probe, document.outline(alloc)?)?;
+    let finish = finish_of(probe)?;
+    match sure {
+        Some(number) => Ok(format!(in alloc; "sure at line {number}, {finish}")?),
+        None => Ok(format!(in alloc; "never sure, {finish}")?),
+    }
+}
+
+/// What the search answers of each of these lines, which spaces stand between, and at the end.
+pub fn sought(alloc: Global, mut probe: Probe, words: &str) -> Result<String, Unfit> {
+    let mut told = String::new(alloc);
+    for word in words.split_whitespace() {
+        let line = line_of(alloc, word)?;
+        told.push_str(answer_of(probe.feed(line))?)?;
+        told.push_str("; ")?;
+    }
+    let finish = finish_of(probe)?;
+    Ok(format!(in alloc; "{told}at the end {finish}")?)
+}

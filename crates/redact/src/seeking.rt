@@ -1,0 +1,357 @@
+//! What is sure of the lines that came, of a report whose lines come one at a time.
+
+ghost use Rattle.std.specs.Prelude.{◌≡◌, option_map, ◌++◌, ◌∷◌, [], List, false, OnOk, IfOk, IfErr};
+ghost use Rattle.std.specs.List.{list_any};
+ghost use Rattle.iodef_tree.specs.Outline.{is_outline};
+ghost use Rattle.iodef_tree.specs.declared.line.Line.{Line as Row};
+ghost use Rattle.iodef_tree.specs.declared.fault.OutlineFault.TheVariants.{BadOutline};
+ghost use Rattle.policy.specs.declared.case.Case.{Case as Judged};
+ghost use Rattle.redact.specs.declared.want.Want.{Want as Wanted};
+ghost use Rattle.marking.specs.Label.{marking_of};
+ghost use Rattle.policy.specs.Verdict.{is_cleared_for};
+ghost use Rattle.redact.specs.Told.{is_hit};
+ghost use Rattle.redact.specs.Probed.{wants_name as is_name_wanted, wants_line as is_line_wanted, some_refuses as some_gate_refuses, sees_all as is_all_seen, sight_of, is_everything, is_cleared_sight, plain_text as text_alone, beside_by, beside_with, is_cleared_text, is_cleared_if, is_restriction as is_named_restriction, shows, entered as with_no_member, holding as with_member, innermost_holding, opened, noted, is_settled, IsKnown, TakesTo};
+
+use crate::want::Want;
+use iodef_tree::{Kind, Line, OutlineFault, Shape};
+use marking::{Handling, Label};
+use memchr::memmem::Finder;
+use policy::{Case, Standing, clearance, passes};
+use std::alloc::{AllocError, Global};
+
+/// How much the reader surely sees, whatever lines come.
+#[derive(Clone, Copy)]
+pub(crate) enum Sight {
+    /// Every class.
+    Everything,
+    /// Each class in which a label is written for which it is cleared.
+    Cleared,
+    /// Nothing.
+    Unsure,
+}
+
+/// What a class holds as `ext-restriction`, so far.
+#[derive(Clone, Copy)]
+pub(crate) enum Beside {
+    Absent,
+    /// A text for which the reader is cleared, where it is the label.
+    Cleared,
+    Other,
+}
+
+/// A class that may still get lines: what is sure of it, whatever lines come.
+#[derive(Clone, Copy)]
+pub(crate) struct Open {
+    /// It has the name that is wanted, if one is.
+    pub(crate) fits: bool,
+    /// It directly holds a text with the needle, if one is wanted.
+    pub(crate) holds: bool,
+    /// The reader may see it.
+    pub(crate) shown: bool,
+    /// Something is held as `restriction`.
+    pub(crate) labelled: bool,
+    /// What stands beside that.
+    pub(crate) beside: Beside,
+}
+
+/// Whether a class of this name is wanted. Without a needle each is, whatever name is given.
+fn wants_name(want: &Want, name: &str) -> bool
+    ensures { result ≡ is_name_wanted want.now name.now }
+{
+    if want.needle.is_none() {
+        return true;
+    }
+    match &want.class {
+        None => true,
+        Some(class) => class.as_str() == name,
+    }
+}
+
+/// Whether the line is a text that contains the needle.
+#[tactic(auto, using(crate::proofs::Needles::finds_has))]
+fn contains(line: &Line, needle: &str) -> bool
+    ensures { result ≡ is_hit needle.now line.now }
+{
+    match line.kind {
+        Kind::Class => false,
+        Kind::Text => Finder::new(needle.as_bytes())
+            .find(line.text.as_str().as_bytes())
+            .is_some(),
+        Kind::Value => false,
+    }
+}
+
+/// Whether the line is a text with the needle that is wanted.
+fn wants_line(want: &Want, line: &Line) -> bool
+    ensures { result ≡ is_line_wanted want.now line.now }
+{
+    match &want.needle {
+        None => false,
+        Some(needle) => contains(line, needle.as_str()),
+    }
+}
+
+/// The text of a line, if it is one outside arrays.
+fn plain_text(line: &Line) -> Option<&str>
+    ensures { option_map (λ t. t.now) result ≡ text_alone line.now }
+{
+    match line.kind {
+        Kind::Text if !line.in_array => Some(line.text.as_str()),
+        _ => None,
+    }
+}
+
+/// Whether the reader is cleared for what stands under a label.
+fn is_cleared(standing: &Standing, label: Label<'_>) -> bool
+    ensures { result ≡ is_cleared_for standing.now (marking_of label.entry) }
+{
+    let most = clearance(standing).0;
+    label.handling(standing.arrangement).is_at_most(most)
+}
+
+impl Beside {
+    /// What the first line named `ext-restriction` comes to.
+    fn of(standing: &Standing, line: &Line) -> Beside
+        ensures { result ≡ beside_by standing.now (text_alone line.now) }
+    {
+        match plain_text(line) {
+            Some(text) => {
+                if is_cleared(standing, Label::Ext(text)) {
+                    Beside::Cleared
+                } else {
+                    Beside::Other
+                }
+            }
+            None => Beside::Other,
+        }
+    }
+
+    /// With a line more.
+    fn with(self, standing: &Standing, line: &Line) -> Beside
+        ensures { result ≡ beside_with standing.now line.now self }
+    {
+        if line.name.as_str() == "ext-restriction" {
+            return match self {
+                Beside::Absent => Beside::of(standing, line),
+                Beside::Cleared => Beside::Cleared,
+                Beside::Other => Beside::Other,
+            };
+        }
+        self
+    }
+
+    /// Whether a text as `restriction`, with this beside it, spells a label for which the reader is cleared.
+    fn clears(self, standing: &Standing, restriction: &str) -> bool
+        ensures { result ≡ is_cleared_text standing.now self restriction.now }
+    {
+        match Label::of(restriction, None) {
+            Some(label) => is_cleared(standing, label),
+            None => restriction == "ext-value" && matches!(self, Beside::Cleared),
+        }
+    }
+
+    /// The same of a line as `restriction`.
+    fn clears_line(self, standing: &Standing, line: &Line) -> bool
+        ensures { result ≡ is_cleared_if standing.now self (text_alone line.now) }
+    {
+        match plain_text(line) {
+            Some(text) => self.clears(standing, text),
+            None => false,
+        }
+    }
+}
+
+fn is_restriction(line: &Line) -> bool
+    ensures { result ≡ is_named_restriction line.now }
+{
+    line.name.as_str() == "restriction"
+}
+
+impl Sight {
+    fn new(case: &Case, standing: &Standing) -> Sight
+        ensures { result ≡ sight_of case.now standing.now }
+    {
+        if sees_all(case, standing) {
+            Sight::Everything
+        } else if some_refuses(case, standing) {
+            Sight::Unsure
+        } else {
+            Sight::Cleared
+        }
+    }
+
+    fn is_everything(self) -> bool
+        ensures { result ≡ is_everything self }
+    {
+        match self {
+            Sight::Everything => true,
+            Sight::Cleared | Sight::Unsure => false,
+        }
+    }
+
+    fn is_cleared(self) -> bool
+        ensures { result ≡ is_cleared_sight self }
+    {
+        match self {
+            Sight::Cleared => true,
+            Sight::Everything | Sight::Unsure => false,
+        }
+    }
+}
+
+impl Open {
+    /// The class of this line.
+    fn new(sight: Sight, want: &Want, line: &Line) -> Open
+        ensures { result ≡ with_no_member sight want.now line.now }
+    {
+        Open {
+            fits: wants_name(want, line.name.as_str()),
+            holds: want.needle.is_none(),
+            shown: sight.is_everything(),
+            labelled: false,
+            beside: Beside::Absent,
+        }
+    }
+
+    /// Whether a line that stands in it shows it: the first that is named `restriction`.
+    fn is_shown_by(self, sight: Sight, standing: &Standing, line: &Line) -> bool
+        ensures { result ≡ shows sight standing.now line.now self }
+    {
+        is_restriction(line)
+            && (!self.labelled && (sight.is_cleared() && self.beside.clears_line(standing, line)))
+    }
+
+    /// With a line more that stands in it.
+    fn with(self, sight: Sight, standing: &Standing, want: &Want, line: &Line) -> Open
+        ensures { result ≡ with_member sight standing.now want.now line.now self }
+    {
+        Open {
+            fits: self.fits,
+            holds: self.holds || wants_line(want, line),
+            shown: self.shown || self.is_shown_by(sight, standing, line),
+            labelled: self.labelled || is_restriction(line),
+            beside: self.beside.with(standing, line),
+        }
+    }
+
+    fn is_settled(self) -> bool
+        ensures { result ≡ is_settled self }
+    {
+        self.shown && (self.holds && self.fits)
+    }
+}
+
+/// The innermost of these classes holds a line.
+fn hold(classes: &mut [Open], sight: Sight, standing: &Standing, want: &Want, line: &Line)
+    ensures { classes.new ≡ innermost_holding sight standing.now want.now line.now classes.old }
+{
+    if let Some(innermost) = classes.last_mut() {
+        *innermost = innermost.with(sight, standing, want, line);
+    }
+}
+
+/// The class of a line, if it is one, is open behind these.
+fn enter(classes: &mut Vec<Open>, sight: Sight, want: &Want, line: &Line) -> Result<(), AllocError>
+    ensures { OnOk result (classes.new.items ≡ opened sight want.now line.now classes.old.items) }
+{
+    match line.kind {
+        Kind::Class => classes.push(Open::new(sight, want, line))?,
+        Kind::Text | Kind::Value => {}
+    }
+    Ok(())
+}
+
+/// The open classes, the outermost first, with a line more.
+fn note(
+    classes: &mut Vec<Open>,
+    sight: Sight,
+    standing: &Standing,
+    want: &Want,
+    line: &Line,
+) -> Result<(), AllocError>
+    ensures { OnOk result (classes.new.items ≡ noted sight standing.now want.now line.now classes.old.items) }
+{
+    classes.truncate((line.depth as usize).saturating_sub(1));
+    hold(classes.as_mut_slice(), sight, standing, want, line);
+    enter(classes, sight, want, line)
+}
+
+/// Whether one of them is surely one that is looked for.
+fn is_found(classes: &[Open]) -> bool
+    ensures { result ≡ list_any is_settled classes.now }
+{
+    classes.iter().any(|class| class.is_settled())
+}
+
+/// Whether a gate of the case refuses the reader.
+fn some_refuses(case: &Case, standing: &Standing) -> bool
+    ensures { result ≡ some_gate_refuses case.now standing.now }
+{
+    case.gates
+        .as_slice()
+        .iter()
+        .any(|gate| passes(standing, gate).is_err())
+}
+
+/// Whether the reader may see every class of every report.
+fn sees_all(case: &Case, standing: &Standing) -> bool
+    ensures { result ≡ is_all_seen case.now standing.now }
+{
+    standing.source
+        || (!some_refuses(case, standing) && Handling::Red.is_at_most(clearance(standing).0))
+}
+
+/// One more line behind these.
+fn keep(lines: &mut Vec<Line>, line: Line) -> Result<(), AllocError>
+    ensures { OnOk result (lines.new.items ≡ lines.old.items ++ line ∷ []) }
+{
+    lines.push(line)?;
+    Ok(())
+}
+
+/// What is known of the lines that came. Once it is sure that the want is met, only their shape still matters.
+#[derive(Drop)]
+pub(crate) struct Seeker {
+    pub(crate) shape: Shape,
+    pub(crate) lines: Vec<Line>,
+    pub(crate) classes: Vec<Open>,
+    pub(crate) sight: Sight,
+}
+
+impl Seeker {
+    /// With no line yet.
+    pub(crate) fn new(alloc: Global, case: &Case, standing: &Standing) -> Seeker
+        ensures { (w : Wanted) → IsKnown w case.now standing.now [] false result }
+    {
+        Seeker {
+            shape: Shape::new(alloc),
+            lines: Vec::new(alloc),
+            classes: Vec::new(alloc),
+            sight: Sight::new(case, standing),
+        }
+    }
+
+    /// One more line, if it may come behind the others: whether it is sure now that the want is met.
+    pub(crate) fn take(
+        &mut self,
+        standing: &Standing,
+        want: &Want,
+        met: bool,
+        line: Line,
+    ) -> Result<bool, OutlineFault>
+        ensures ok { IfOk result (λ b. (c : Judged) (ls : List Row) → IsKnown want.now c standing.now ls met self.old →
+            TakesTo want.now c standing.now ls met line b self.new) }
+        ensures bad { IfErr result (λ f. f ≡ BadOutline → (c : Judged) (ls : List Row) → IsKnown want.now c standing.now ls met self.old →
+            is_outline (ls ++ line ∷ []) ≡ false) }
+    {
+        if !self.shape.accept(&line)? {
+            return Err(OutlineFault::BadOutline);
+        }
+        if met {
+            return Ok(true);
+        }
+        note(&mut self.classes, self.sight, standing, want, &line)?;
+        keep(&mut self.lines, line)?;
+        Ok(is_found(self.classes.as_slice()))
+    }
+}
