@@ -391,7 +391,7 @@ class Hub:
     def replace(
         self, number: int, revision: int, report: bytes, level: int, group: int | None = None, gates: Sequence[Gate] = ()
     ) -> int:
-        """A new revision in place of the one that was seen. All permissions end. The number of the new revision."""
+        """A new revision in place of the one that was seen. All permissions are taken out. The number of the new revision."""
         query = [("revision", revision), *_spread(level, group, gates)]
         value = self._ask("PUT", f"/incidents/{number}", query, report, AGAIN_REPLACE)
         return int(self._told(lambda told: _member(told, "revision", int), value, AGAIN_REPLACE))
@@ -409,9 +409,10 @@ class Hub:
     def unaddress(self, number: int, kind: str, target: int) -> None:
         self._do(f"/incidents/{number}/unaddress", AGAIN_TAKE, (kind, target))
 
-    def grant(self, number: int, revision: int, path: str, kind: str, target: int) -> None:
-        """The permission for a `person`, an `org`, a `community` or a `group` to see a class."""
-        fields = (("revision", revision), ("path", path), (kind, target))
+    def grant(self, number: int, revision: int, path: str, kind: str, target: int, until: str | None = None) -> None:
+        """The permission for a `person`, an `org`, a `community` or a `group` to see a class, up to a moment (RFC 3339) if one is given."""
+        ended = [("until", until)] if until is not None else []
+        fields = [("revision", revision), ("path", path), (kind, target), *ended]
         self._do(f"/incidents/{number}/grant", AGAIN_PUT_REVISED, *fields)
 
     def withdraw(self, number: int, path: str, kind: str, target: int) -> None:
@@ -806,7 +807,7 @@ def words() -> tuple[argparse.ArgumentParser, dict[str, Command]]:
                 "posts a report; tells the numbers", "file", "level"),
         command("replace", told(lambda hub, given: [str(hub.replace(
             given.number, revision_of(hub, given), read_file(given.file), given.level, given.group, given.gate))]),
-                "puts a new revision in place of the stored one, which ends all permissions", "number", "file", "level"),
+                "puts a new revision in place of the stored one, which takes out all permissions", "number", "file", "level"),
     ):
         made.add_argument("--group", type=number, help="the sharing group of level 4")
         made.add_argument("--gate", type=gate, action="append", default=[], metavar="LEVEL:GROUP:POINTER")
@@ -823,11 +824,13 @@ def words() -> tuple[argparse.ArgumentParser, dict[str, Command]]:
             "adds a recipient", "number", "kind", "target")
     command("unaddress", done(lambda hub, given: hub.unaddress(given.number, given.kind, given.target)),
             "takes a recipient out", "number", "kind", "target")
-    revised(command("grant", done(lambda hub, given: hub.grant(
-        given.number, revision_of(hub, given), given.path, given.kind, given.target)),
-        "permits somebody to see a class", "number", "path", "kind", "target"))
+    grant = command("grant", done(lambda hub, given: hub.grant(
+        given.number, revision_of(hub, given), given.path, given.kind, given.target, given.until)),
+        "permits somebody to see a class", "number", "path", "kind", "target")
+    grant.add_argument("--until", help="when it ends, as 2024-06-01T00:00:00Z")
+    revised(grant)
     command("withdraw", done(lambda hub, given: hub.withdraw(given.number, given.path, given.kind, given.target)),
-            "ends a permission", "number", "path", "kind", "target")
+            "takes a permission back", "number", "path", "kind", "target")
 
     command("why", told(lambda hub, given: [shown(each) for each in hub.explain(given.person, given.number, given.path).splitlines()]),
             "why a person sees a class of an incident, or doesn't", "person", "number", "path")

@@ -3,16 +3,13 @@
 use crate::edits::edits_of;
 use crate::fault::Fault;
 use crate::reader::Reader;
-use crate::rows::{World, place_of};
+use crate::rows::{MOMENT, World, place_of};
 use circle::directory::Role;
 use hub::{Hub, Key};
 use hub_core::{ListShelf, Request, Shelf};
 use hub_http::reply_bytes;
 use std::alloc::{AllocError, Global};
 use trying_hub::{Fields, key_of, request_of};
-
-/// The moment of all requests, in seconds since 1970.
-const MOMENT: i64 = 1_700_000_000;
 
 /// What tells a reader of incidents, of its groups and of itself, with 0 before it; then what it is refused, of an incident
 /// that isn't its organisation's, with the incident's number before it.

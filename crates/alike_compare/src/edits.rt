@@ -106,11 +106,12 @@ fn push_classes(
         if let Some(reach) = class.gate {
             edits.push(gate_at(incident, path.clone()?, reach))?;
         }
-        for grantee in class.grants.iter() {
+        for given in class.grants.iter() {
             let path = path.clone()?;
             let permission = policy::Permission {
                 path,
-                grantee: *grantee,
+                grantee: given.grantee,
+                until: given.until,
             };
             edits.push(Edit::PutPermission(Permission {
                 incident,

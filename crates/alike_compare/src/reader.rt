@@ -1,6 +1,6 @@
 //! What a reader sees, by the rules: each class is judged alone, with all that is above it. Nothing of the hub is asked.
 
-use crate::rows::{Circle, Class, Member, Reach, Report, World, place_of};
+use crate::rows::{Circle, Class, Given, MOMENT, Member, Reach, Report, World, place_of};
 use crate::writing::rank_of;
 use circle::directory::Handling;
 use hub_core::Target;
@@ -103,6 +103,11 @@ impl<'a> Reader<'a> {
         }
     }
 
+    /// Whether the permission includes the person and hasn't ended.
+    fn is_granted(&self, given: &Given) -> bool {
+        self.is_included(&given.grantee) && given.until.map_or(true, |end| MOMENT < end)
+    }
+
     /// Why the gate refuses the person, which isn't of the source; none where it lets pass.
     fn refused(&self, source: u32, reach: Reach) -> Option<Why> {
         let shares = self.circle.share_community(self.own.org, source);
@@ -130,7 +135,7 @@ impl<'a> Reader<'a> {
         }
         ascent.depth = class.depth;
         if ascent.label == 0 {
-            let is_granted = class.grants.iter().any(|grantee| self.is_included(grantee));
+            let is_granted = class.grants.iter().any(|given| self.is_granted(given));
             ascent.is_covered = ascent.is_covered || is_granted;
             ascent.label = class.label;
         }

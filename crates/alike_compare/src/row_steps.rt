@@ -1,9 +1,9 @@
 //! The step that changes rows of whom a reader isn't part, and the same with rows of which it is.
 
 use crate::reader::Reader;
-use crate::rows::{COMMUNITIES, Circle, GROUPS, ORGS, World, place_of};
+use crate::rows::{COMMUNITIES, Circle, Class, GROUPS, Given, ORGS, World, place_of};
 use crate::steps::Change;
-use crate::worlds::{any_grantee, any_handling, any_member, any_target, count_of};
+use crate::worlds::{any_end, any_given, any_handling, any_member, any_target, count_of};
 use circle::directory::{Arrangement, Client, Connection, GroupMember, Membership};
 use hub_core::Target;
 use std::alloc::AllocError;
@@ -37,6 +37,28 @@ fn turn<T: PartialEq + Drop>(rows: &mut Vec<T>, row: T) -> Result<(), AllocError
     Ok(())
 }
 
+/// A permission at the class: in one of two with another end, or none, for a grantee that has one there.
+fn any_given_at(dice: &mut Dice, class: &Class, persons: u32) -> Given {
+    let is_exchanged = dice.once_in(2);
+    match dice.one_of(&class.grants) {
+        Some(there) if is_exchanged => Given {
+            grantee: there.grantee,
+            until: any_end(dice),
+        },
+        _ => any_given(dice, persons),
+    }
+}
+
+/// Puts the permission in, in place of the one of its grantee, or takes it out where it is there with this end.
+fn turn_given(grants: &mut Vec<Given>, given: Given) -> Result<(), AllocError> {
+    let is_there = grants.contains(&given);
+    grants.retain(|other| other.grantee != given.grantee);
+    if !is_there {
+        grants.push(given)?;
+    }
+    Ok(())
+}
+
 /// A permission at some class of the incident.
 fn turn_permission(
     dice: &mut Dice,
@@ -44,15 +66,17 @@ fn turn_permission(
     reader: Reader<'_>,
     at: usize,
 ) -> Result<Option<&'static str>, AllocError> {
-    let grantee = any_grantee(dice, count_of(reader.circle));
-    if let Some(report) = after.reports.get_mut(at) {
-        let place = dice.place(report.classes.len());
-        if let Some(class) = report.classes.get_mut(place) {
-            turn(&mut class.grants, grantee)?;
-            class.grants.truncate(3);
-        }
-    }
-    Ok(if reader.is_included(&grantee) {
+    let Some(report) = after.reports.get_mut(at) else {
+        return Ok(None);
+    };
+    let place = dice.place(report.classes.len());
+    let Some(class) = report.classes.get_mut(place) else {
+        return Ok(None);
+    };
+    let given = any_given_at(dice, class, count_of(reader.circle));
+    turn_given(&mut class.grants, given)?;
+    class.grants.truncate(3);
+    Ok(if reader.is_included(&given.grantee) {
         Some(PERMISSION)
     } else {
         None

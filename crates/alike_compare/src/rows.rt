@@ -12,6 +12,9 @@ pub const COMMUNITIES: u32 = 3;
 
 pub const GROUPS: u32 = 3;
 
+/// The moment of all requests, in seconds since the beginning of 1970.
+pub const MOMENT: i64 = 1_700_000_000;
+
 /// A person; its key follows its number.
 #[derive(Clone, Copy, PartialEq, Eq)]
 pub struct Member {
@@ -47,7 +50,14 @@ pub struct Circle {
     pub arrangements: Vec<Arrangement>,
 }
 
-/// A class of a report, with its gate and to whom permissions at it are given. It stands behind those that are above it, one
+/// To whom a permission is given, and when it ends, if it does.
+#[derive(Clone, Copy, PartialEq, Eq)]
+pub struct Given {
+    pub grantee: Grantee,
+    pub until: Option<i64>,
+}
+
+/// A class of a report, with its gate and the permissions at it, of which no grantee has two. It stands behind those that are above it, one
 /// deeper than the one that holds it; 1 is the depth of the Incident.
 #[derive(Clone, Drop)]
 pub struct Class {
@@ -59,7 +69,7 @@ pub struct Class {
     /// Its plain lines by number.
     pub note: u32,
     pub gate: Option<Reach>,
-    pub grants: Vec<Grantee>,
+    pub grants: Vec<Given>,
 }
 
 /// An incident. Its classes stand in the order of the report, the Incident first.

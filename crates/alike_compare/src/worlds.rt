@@ -1,7 +1,8 @@
 //! Generated worlds: five organisations, seven persons, three groups, and up to four incidents of some classes.
 
 use crate::rows::{
-    COMMUNITIES, Circle, Class, Club, GROUPS, Member, ORGS, Reach, Report, World, number_at,
+    COMMUNITIES, Circle, Class, Club, GROUPS, Given, MOMENT, Member, ORGS, Reach, Report, World,
+    number_at,
 };
 use crate::writing::{DEEPEST, LABEL_COUNT, NOTE_COUNT, PUBLIC};
 use circle::directory::{Arrangement, Client, Connection, GroupMember, Handling, Membership, Role};
@@ -50,12 +51,29 @@ pub fn any_target(dice: &mut Dice, persons: u32) -> Target {
     }
 }
 
-pub fn any_grantee(dice: &mut Dice, persons: u32) -> Grantee {
+fn any_grantee(dice: &mut Dice, persons: u32) -> Grantee {
     match dice.roll(4) {
         0 => Grantee::Person(dice.one_to(persons)),
         1 => Grantee::Org(dice.one_to(ORGS)),
         2 => Grantee::Community(dice.one_to(COMMUNITIES)),
         _ => Grantee::Group(dice.one_to(GROUPS)),
+    }
+}
+
+/// When a permission ends: a second ago, at the moment of the requests or a second later, and in one of two not at all.
+pub fn any_end(dice: &mut Dice) -> Option<i64> {
+    match dice.roll(6) {
+        0 => Some(MOMENT.saturating_sub(1)),
+        1 => Some(MOMENT),
+        2 => Some(MOMENT.saturating_add(1)),
+        _ => None,
+    }
+}
+
+pub fn any_given(dice: &mut Dice, persons: u32) -> Given {
+    Given {
+        grantee: any_grantee(dice, persons),
+        until: any_end(dice),
     }
 }
 
@@ -131,14 +149,18 @@ fn any_circle(alloc: Global, dice: &mut Dice) -> Result<Circle, AllocError> {
     Ok(circle)
 }
 
-/// Grantees, none of them twice.
-fn any_grants(alloc: Global, dice: &mut Dice) -> Result<Vec<Grantee>, AllocError> {
+fn has_grantee(grants: &[Given], given: Given) -> bool {
+    grants.iter().any(|other| other.grantee == given.grantee)
+}
+
+/// Permissions, no two of one grantee.
+fn any_grants(alloc: Global, dice: &mut Dice) -> Result<Vec<Given>, AllocError> {
     let mut grants = Vec::new(alloc);
     let count = if dice.once_in(4) { dice.roll(3) } else { 0 };
     for _ in 0..count {
-        let grantee = any_grantee(dice, PERSONS);
-        if !grants.contains(&grantee) {
-            grants.push(grantee)?;
+        let given = any_given(dice, PERSONS);
+        if !has_grantee(&grants, given) {
+            grants.push(given)?;
         }
     }
     Ok(grants)

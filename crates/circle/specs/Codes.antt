@@ -3,22 +3,22 @@ use Rattle.std.specs.Prelude.{ℕ, List, codes}
 use Rattle.circle.specs.declared.refusal.Code.{Code}
 use Rattle.circle.specs.declared.refusal.Code.TheVariants.{K1, W1, B1, N1, N2, W2, W3, N3, S1, S2, S3, L1, F1, F2}
 
--- in which turn the ground of a code is asked
-abbrev pub turn : Code → ℕ
-turn K1 = 1
-turn W1 = 2
-turn B1 = 3
-turn N1 = 4
-turn N2 = 5
-turn W2 = 6
-turn W3 = 7
-turn N3 = 8
-turn S1 = 9
-turn S2 = 10
-turn S3 = 11
-turn L1 = 12
-turn F1 = 13
-turn F2 = 14
+-- the place in the order in which the grounds of the codes are asked
+abbrev pub place_in_order : Code → ℕ
+place_in_order K1 = 1
+place_in_order W1 = 2
+place_in_order B1 = 3
+place_in_order N1 = 4
+place_in_order N2 = 5
+place_in_order W2 = 6
+place_in_order W3 = 7
+place_in_order N3 = 8
+place_in_order S1 = 9
+place_in_order S2 = 10
+place_in_order S3 = 11
+place_in_order L1 = 12
+place_in_order F1 = 13
+place_in_order F2 = 14
 
 abbrev pub name_of : Code → List ℕ
 name_of K1 = codes "K1"

@@ -9,9 +9,9 @@ pub mod Aftermath
 pub mod Sound
 pub mod Stretches
 pub mod Judgement
-pub mod Unfit
 pub mod Order
 pub mod Others
 pub mod Growth
 pub mod Laws
 pub mod Reads
+pub mod inner

@@ -44,8 +44,8 @@ abbrev pub active_groups_joined : ℕ → Directory → List ℕ
 active_groups_joined org d = filter (λ n. has_group_being n true d) (groups_joined org d)
 
 -- those whose client it is
-abbrev pub served_by : ℕ → Directory → List ℕ
-served_by client d = map (λ (c : Client). c.org) (filter (λ (c : Client). c.client == client) d.clients)
+abbrev pub orgs_whose_client : ℕ → Directory → List ℕ
+orgs_whose_client client d = map (λ (c : Client). c.org) (filter (λ (c : Client). c.client == client) d.clients)
 
 -- ---- how organisations stand to each other
 

@@ -5,7 +5,7 @@ ghost use Rattle.circle.specs.declared.command.RowEdit.TheVariants.{PutOrg, PutA
 ghost use Rattle.circle.specs.Texts.{is_name, is_releasability};
 ghost use Rattle.circle.specs.Aftermath.{edit_of, rows_of};
 ghost use Rattle.circle.specs.Judgement.{bad_field, field_if};
-ghost use Rattle.circle.specs.Unfit.{TellsUnfit};
+ghost use Rattle.circle.specs.inner.Unfit.{TellsUnfit};
 
 use crate::command::{CircleCommand, Edit, RowEdit};
 use crate::directory::{

@@ -92,7 +92,7 @@ fn parts_of(
         "communities_of" => Some(numbers(alloc, rows.communities_of(alloc, org))),
         "groups_joined" => Some(numbers(alloc, rows.groups_joined(alloc, org))),
         "active_groups_joined" => Some(numbers(alloc, rows.active_groups_joined(alloc, org))),
-        "served_by" => Some(numbers(alloc, rows.served_by(alloc, org))),
+        "orgs_whose_client" => Some(numbers(alloc, rows.orgs_whose_client(alloc, org))),
         "memberships_in_groups" => Some(memberships(alloc, rows, org)),
         _ => None,
     }

@@ -127,7 +127,7 @@ fn agree_on_related(
     let numbers = match kind {
         0 => rows.communities_of(alloc, org)?,
         2 => rows.active_groups_joined(alloc, org)?,
-        _ => rows.served_by(alloc, org)?,
+        _ => rows.orgs_whose_client(alloc, org)?,
     };
     Ok(numbers == plain.related(alloc, kind, org)?)
 }

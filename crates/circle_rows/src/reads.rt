@@ -1,7 +1,7 @@
 //! What is asked of a directory in memory beside its commands.
 ghost use Rattle.std.specs.Prelude.{◌≡◌, IfOk};
 ghost use Rattle.std.specs.Option.{option_copied};
-ghost use Rattle.circle.specs.Reads.{person_of_key, person_of, group_of, communities_of, memberships_in_groups, groups_joined, active_groups_joined, served_by, share_community, joins, are_connected, arranged};
+ghost use Rattle.circle.specs.Reads.{person_of_key, person_of, group_of, communities_of, memberships_in_groups, groups_joined, active_groups_joined, orgs_whose_client, share_community, joins, are_connected, arranged};
 
 use crate::keyed::row_of;
 use crate::rows::DirectoryRows;
@@ -96,8 +96,8 @@ impl DirectoryRows {
     }
 
     /// The organisations whose client this one is, by number.
-    pub fn served_by(&self, alloc: Global, client: u32) -> Result<Vec<u32>, AllocError>
-        ensures { IfOk result (λ found. found.items ≡ served_by client self.now) }
+    pub fn orgs_whose_client(&self, alloc: Global, client: u32) -> Result<Vec<u32>, AllocError>
+        ensures { IfOk result (λ found. found.items ≡ orgs_whose_client client self.now) }
     {
         self.sets
             .clients

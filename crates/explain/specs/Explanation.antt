@@ -7,7 +7,7 @@ use Rattle.marking.specs.Label.{text_of}
 use Rattle.marking.specs.Marks.{site_of, label_at}
 use Rattle.marking.specs.declared.label.Handling.{Handling}
 use Rattle.policy.specs.Clearance.{clearance_of}
-use Rattle.policy.specs.Gates.{passage_of}
+use Rattle.policy.specs.Gates.{refusal_of_gate}
 use Rattle.policy.specs.Permissions.{covers}
 use Rattle.policy.specs.Verdict.{handling_for, verdict_of}
 use Rattle.policy.specs.declared.rule.Rule.{Rule}
@@ -20,7 +20,7 @@ use Rattle.explain.specs.declared.trace.Trace.{Trace}
 
 -- a gate, and the rule by which it refuses the reader, if it does
 abbrev pub passage : Standing → Gate → Gate × Option Rule
-passage s g = (g, passage_of s g)
+passage s g = (g, refusal_of_gate s g)
 
 -- of each gate at this very path, in the order of the case
 abbrev pub passages_at : Case → Standing → Tokens → List (Gate × Option Rule)

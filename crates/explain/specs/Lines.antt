@@ -1,5 +1,6 @@
 -- How an explanation is written: lines, each ended by a newline, of words with a space between.
-use Rattle.std.specs.Prelude.{ℕ, List, ◌++◌, map, Option, Some, None, unwrap_or, codes, decimal}
+use Rattle.std.specs.Prelude.{ℕ, ℤ, List, [], ◌++◌, map, Option, Some, None, unwrap_or, codes, decimal}
+use Rattle.std.specs.Fmt.{signed_decimal}
 use Rattle.std.specs.List.{flat_map}
 use Rattle.json.specs.Print.{quoted}
 use Rattle.iodef_tree.specs.Text.{Bytes, Tokens}
@@ -9,6 +10,7 @@ use Rattle.marking.specs.declared.label.Handling.{Handling}
 use Rattle.policy.specs.Rule.{name_of}
 use Rattle.policy.specs.declared.rule.Rule.{Rule}
 use Rattle.policy.specs.declared.gate.Gate.{Gate}
+use Rattle.policy.specs.declared.permission.Grantee.{Grantee}
 use Rattle.policy.specs.declared.permission.Permission.{Permission}
 use Rattle.policy.specs.declared.verdict.Verdict.{Verdict}
 use Rattle.policy.specs.declared.verdict.Verdict.TheVariants.{Shown, Hidden}
@@ -59,9 +61,17 @@ site_line p label h = codes "site " ++ path_text p ++ space ++ quoted label ++ s
 abbrev pub clearance_line : Handling × Rule → Bytes
 clearance_line x = codes "clearance " ++ handling_name x.0 ++ space ++ name_of x.1 ++ newline
 
+-- to whom a permission is given
+abbrev pub grantee_text : Grantee → Bytes
+grantee_text g = kind_name g ++ space ++ decimal (number_of g)
+
+-- the moment at which a permission ends, in seconds since the beginning of 1970; nothing where it has no end
+abbrev pub end_text : Option ℤ → Bytes
+end_text None = []
+end_text (Some end) = codes " until " ++ signed_decimal end
+
 abbrev pub permission_line : PrintedPermission → Bytes
-permission_line e =
-    codes "permission " ++ quoted e.pointer ++ space ++ kind_name e.grantee ++ space ++ decimal (number_of e.grantee) ++ newline
+permission_line e = codes "permission " ++ quoted e.pointer ++ space ++ grantee_text e.grantee ++ end_text e.until ++ newline
 
 abbrev pub permission_lines : List Permission → Bytes
 permission_lines xs = flat_map permission_line (in_order (map entry_of xs))

@@ -12,7 +12,7 @@ use Rattle.explain.specs.declared.listing.PrintedPermission.{PrintedPermission}
 
 -- a permission, with its path as it is printed
 abbrev pub entry_of : Permission → PrintedPermission
-entry_of x = record { pointer = pointer_text x.path; grantee = x.grantee }
+entry_of x = record { pointer = pointer_text x.path; grantee = x.grantee; until = x.until }
 
 -- the kinds of grantee: persons, organisations, communities, groups
 abbrev pub kind_place : Grantee → ℕ
@@ -33,7 +33,7 @@ number_of (Org n) = n
 number_of (Community n) = n
 number_of (Group n) = n
 
--- by the bytes of the printed path, then by kind, then by number
+-- by the bytes of the printed path, then by kind, then by number; the end doesn't count
 abbrev pub entry_cmp : PrintedPermission → PrintedPermission → Ordering
 entry_cmp = then_cmp (on (λ e. e.pointer) (slice_cmp nat_cmp)) (then_cmp (on (λ e. kind_place e.grantee) nat_cmp) (on (λ e. number_of e.grantee) nat_cmp))
 

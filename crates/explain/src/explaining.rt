@@ -23,7 +23,7 @@ pub fn explain(
     path: &Path,
 ) -> Result<Trace, ExplainFault>
     requires { first_bad_marking (located document.now) ≡ None }
-    ensures { Explains result (located document.now) case.now standing.now path.now }
+    ensures { Explains result (located document.now) case.now standing.entry.now path.now }
 {
     let verdict = decide(alloc, document, case, standing, path)?;
     let sited = site(alloc, document, path)?;
@@ -51,7 +51,7 @@ fn passages(
     standing: &Standing,
     path: &Path,
 ) -> Result<Vec<(Gate, Option<Rule>)>, AllocError>
-    ensures { IfOk result (λ v. v.items ≡ passages_on case.now standing.now path.now) }
+    ensures { IfOk result (λ v. v.items ≡ passages_on case.now standing.entry.now path.now) }
 {
     let mut here = Path::root(alloc);
     let mut passages = Vec::new(alloc);
@@ -70,7 +70,7 @@ fn push_passages(
     standing: &Standing,
     here: &Path,
 ) -> Result<(), AllocError>
-    ensures { OnOk result (passages.new.items ≡ passages.old.items ++ passages_at case.now standing.now here.now) }
+    ensures { OnOk result (passages.new.items ≡ passages.old.items ++ passages_at case.now standing.entry.now here.now) }
 {
     for gate in case.gates.as_slice() {
         if gate.path == *here {
@@ -82,7 +82,7 @@ fn push_passages(
 
 /// A copy of the gate, with the rule by which it refuses the reader.
 fn passage(standing: &Standing, gate: &Gate) -> Result<(Gate, Option<Rule>), AllocError>
-    ensures { IfOk result (λ p. p ≡ passage_of standing.now gate.now) }
+    ensures { IfOk result (λ p. p ≡ passage_of standing.entry.now gate.now) }
 {
     let copy = Gate {
         path: gate.path.clone()?,
@@ -100,7 +100,7 @@ fn covering(
     standing: &Standing,
     path: &Path,
 ) -> Result<Vec<Permission>, AllocError>
-    ensures { IfOk result (λ v. v.items ≡ covering_of (located document.now) case.now standing.now path.now) }
+    ensures { IfOk result (λ v. v.items ≡ covering_of (located document.now) case.now standing.entry.now path.now) }
 {
     let mut covering = Vec::new(alloc);
     for permission in case.permissions.as_slice() {
@@ -114,7 +114,9 @@ fn covering(
 fn copy_of(permission: &Permission) -> Result<Permission, AllocError>
     ensures { IfOk result (λ p. p ≡ permission.now) }
 {
-    let path = permission.path.clone()?;
-    let grantee = permission.grantee;
-    Ok(Permission { path, grantee })
+    Ok(Permission {
+        path: permission.path.clone()?,
+        grantee: permission.grantee,
+        until: permission.until,
+    })
 }

@@ -4,8 +4,7 @@ ghost use Rattle.std.specs.Prelude.{◌≡◌, ◌++◌, IfOk, OnOk, decimal, st
 ghost use Rattle.std.specs.List.{flat_map};
 ghost use Rattle.json.specs.Print.{quoted as in_quotes};
 ghost use Rattle.explain.specs.Explanation.{explanation};
-ghost use Rattle.explain.specs.Listing.{number_of as number_in, kind_name as kind_of};
-ghost use Rattle.explain.specs.Lines.{space, newline, path_text, result_text, side_text, rule_in, verdict_line, path_line, gate_line, site_line, clearance_line, permission_line, permission_lines, trace_text};
+ghost use Rattle.explain.specs.Lines.{space, newline, path_text, result_text, side_text, rule_in, verdict_line, path_line, gate_line, site_line, clearance_line, grantee_text, end_text, permission_line, permission_lines, trace_text};
 
 use crate::listing::{PrintedPermission, in_order, kind_name, number_of};
 use crate::trace::Trace;
@@ -16,8 +15,8 @@ use std::alloc::{AllocError, Global};
 
 impl Trace {
     /// The trace as lines, each ended by a newline: the verdict, the path, each gate, the site with its label and handling,
-    /// the clearance, and each permission by the bytes of its path, then by kind and number. Paths, as JSON pointers, and the
-    /// label are JSON strings.
+    /// the clearance, and each permission with its end, if it has one, by the bytes of its path, then by kind and number.
+    /// Paths, as JSON pointers, and the label are JSON strings.
     pub fn text(&self, alloc: Global) -> Result<String, AllocError>
         ensures { IfOk result (λ s. string_bytes s ≡ trace_text (explanation self.now)) }
     {
@@ -173,11 +172,20 @@ fn push_clearance(out: &mut String, clearance: (Handling, Rule)) -> Result<(), A
 
 /// For whom a permission is: the kind and the number.
 fn push_grantee(out: &mut String, grantee: Grantee) -> Result<(), AllocError>
-    ensures { OnOk result (string_bytes out.new ≡ string_bytes out.old ++ (space ++ kind_of grantee ++ space ++ decimal (number_in grantee) ++ newline)) }
+    ensures { OnOk result (string_bytes out.new ≡ string_bytes out.old ++ (space ++ grantee_text grantee)) }
 {
     push_word(out, kind_name(grantee))?;
-    push_number(out, number_of(grantee))?;
-    out.push_str("\n")
+    push_number(out, number_of(grantee))
+}
+
+/// When a permission ends, where it does.
+fn push_end(out: &mut String, until: Option<i64>) -> Result<(), AllocError>
+    ensures { OnOk result (string_bytes out.new ≡ string_bytes out.old ++ end_text until) }
+{
+    match until {
+        None => Ok(()),
+        Some(end) => write!(out, " until {end}"),
+    }
 }
 
 /// What stands before a permission, and the permission.
@@ -187,10 +195,12 @@ fn push_entry(
     before: &str,
     entry: &PrintedPermission,
 ) -> Result<(), AllocError>
-    ensures { OnOk result (string_bytes out.new ≡ string_bytes out.old ++ (before.now ++ in_quotes entry.now.pointer ++ space ++ kind_of entry.now.grantee ++ space ++ decimal (number_in entry.now.grantee) ++ newline)) }
+    ensures { OnOk result (string_bytes out.new ≡ string_bytes out.old ++ (before.now ++ in_quotes entry.now.pointer ++ space ++ grantee_text entry.now.grantee ++ end_text entry.now.until ++ newline)) }
 {
     push_text(alloc, out, before, entry.pointer.as_str())?;
-    push_grantee(out, entry.grantee)
+    push_grantee(out, entry.grantee)?;
+    push_end(out, entry.until)?;
+    out.push_str("\n")
 }
 
 fn push_permission(

@@ -13,6 +13,7 @@ use std::alloc::{AllocError, Global};
 pub(crate) struct PrintedPermission {
     pub(crate) pointer: Text,
     pub(crate) grantee: Grantee,
+    pub(crate) until: Option<i64>,
 }
 
 /// Where its kind stands in the order.
@@ -88,8 +89,11 @@ fn entry_of(alloc: Global, permission: &Permission) -> Result<PrintedPermission,
     ensures { IfOk result (λ e. e ≡ entry_for permission.now) }
 {
     let pointer = Text::new(permission.path.print(alloc)?);
-    let grantee = permission.grantee;
-    Ok(PrintedPermission { pointer, grantee })
+    Ok(PrintedPermission {
+        pointer,
+        grantee: permission.grantee,
+        until: permission.until,
+    })
 }
 
 /// The permissions by the bytes of the printed path, then by kind and number; those alike in their order.

@@ -23,7 +23,7 @@ use Rattle.hub_core.specs.declared.state.Incident.{Incident}
 use Rattle.hub_core.specs.declared.request.Explain.{Explain}
 use Rattle.hub_core.specs.declared.request.Request.TheVariants as ask
 use Rattle.hub.specs.Told.{standing_at, trace_of}
-use Rattle.hub.specs.Explaining.{standing_between, text_at, text_of}
+use Rattle.hub.specs.inner.Explaining.{standing_between, text_at, text_of}
 
 -- what is there is told
 told_of : (b : Bool) (text : Bytes) → not b ≡ false → cond b (Some text) None ≡ Some text

@@ -7,8 +7,8 @@ use Rattle.hub_core.specs.Shelves.{IsRead, last_count}
 use Rattle.hub_core.specs.declared.shelf.ShelfFault.{ShelfFault}
 use Rattle.hub_core.specs.Shelves.{HasFailed, IsKept}
 
-pub kept_on : {D : Type 0} {has : D → State → Type 0} {doubts failed : D → ℕ} {may_leave : D → Option State → Type 0} {old mid new : D} →
-    IsKept has doubts failed may_leave old mid → IsKept has doubts failed may_leave mid new → IsKept has doubts failed may_leave old new
+pub kept_on : {D : Type 0} {has : D → State → Type 0} {doubts failed : D → ℕ} {may_remain : D → Option State → Type 0} {old mid new : D} →
+    IsKept has doubts failed may_remain old mid → IsKept has doubts failed may_remain mid new → IsKept has doubts failed may_remain old new
 kept_on {doubts = doubts} {old = old} {mid = mid} {new = new} first then = record {
   later = omega (arith, first.later, then.later);
   doubt = omega (arith, first.doubt, then.doubt);
@@ -17,8 +17,8 @@ kept_on {doubts = doubts} {old = old} {mid = mid} {new = new} first then = recor
 }
 
 -- one call
-pub kept_read : {D T : Type 0} {has : D → State → Type 0} {doubts failed : D → ℕ} {may_leave : D → Option State → Type 0} {old new : D} {result : Result T ShelfFault} →
-    IsRead has doubts failed may_leave old new result → IsKept has doubts failed may_leave old new
+pub kept_read : {D T : Type 0} {has : D → State → Type 0} {doubts failed : D → ℕ} {may_remain : D → Option State → Type 0} {old new : D} {result : Result T ShelfFault} →
+    IsRead has doubts failed may_remain old new result → IsKept has doubts failed may_remain old new
 kept_read read = record { later = read.cause.later; doubt = read.doubt; content = read.content; crash = read.crash }
 
 -- a failure stands whatever came before it, and whatever comes behind it

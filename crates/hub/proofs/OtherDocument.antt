@@ -16,7 +16,7 @@ use Rattle.hub.specs.Told.{standing_at, is_served, is_found, is_addressed, view_
 use Rattle.hub.specs.Replies.{page_of, view_or_nothing, viewed}
 use Rattle.redact.specs.Alike.{IsToldAlike}
 use Rattle.hub.specs.Alike.{report_of}
-use Rattle.hub.proofs.Standings.{standing_at-any}
+use Rattle.hub.proofs.Standings.{standing_at-is}
 
 -- an incident with another document
 abbrev pub redone : Lines → Incident → Incident
@@ -81,10 +81,10 @@ module _ (now : ℤ) (p : Person) (s t : State) (e : Incident → Incident) (inc
   view-same q = view-found q s.incidents each ∙ ap (λ is. viewed t now p (find (λ (i : Incident). i.naming.number == q) is)) (sym incidents)
 
 -- what the redaction tells of two reports is told of two incidents that differ in document and ident alone
-pub told-by : (now : ℤ) (p : Person) (s t : State) (i : Incident) (doc : Lines) → standing_for t p (redone doc i) ≡ standing_for s p i →
+pub told-by : (now : ℤ) (p : Person) (s t : State) (i : Incident) (doc : Lines) → standing_for t now p (redone doc i) ≡ standing_for s now p i →
     IsToldAlike (standing_at s now p i) (report_of s i i.document) (record { lines = doc; case = case_for t (redone doc i) }) → ToldOf now p s t i (redone doc i)
 told-by now p s t i doc stands h =
-    let there : standing_at t now p (redone doc i) ≡ standing_at s now p i = standing_at-any t now p (redone doc i) ∙ stands ∙ sym (standing_at-any s now p i) in
+    let there : standing_at t now p (redone doc i) ≡ standing_at s now p i = standing_at-is t now p (redone doc i) ∙ stands ∙ sym (standing_at-is s now p i) in
     let c = case_for t (redone doc i) in
     record {
       number = refl;

@@ -28,7 +28,7 @@ use Rattle.redact.proofs.Filtered.{filter-both, filter-within, filter-map}
 use Rattle.redact.proofs.ToldAlike.{alike-told}
 use Rattle.hub_core.proofs.Keeping.{not_both, turned, found_each}
 use Rattle.hub.proofs.Numbered.{all_found}
-use Rattle.hub.proofs.Standings.{standing_at-any}
+use Rattle.hub.proofs.Standings.{standing_at-is}
 use Rattle.hub.proofs.ToldSame.{TellsSame}
 use Rattle.hub.proofs.OtherUnseen.{known}
 use Rattle.hub.proofs.OtherDocument.{other_of, redone, ToldOf, page-same, view-same, told-by}
@@ -47,9 +47,9 @@ some-same : {X : Type 0} (x y : X) → Some x ≡ Some y → x ≡ y
 some-same x y h = cc
 
 -- with the same standing and case the same is told of an incident
-told-of-same : (now : ℤ) (p : Person) (s t : State) (i : Incident) → standing_for t p i ≡ standing_for s p i → case_for t i ≡ case_for s i → ToldOf now p s t i i
+told-of-same : (now : ℤ) (p : Person) (s t : State) (i : Incident) → standing_for t now p i ≡ standing_for s now p i → case_for t i ≡ case_for s i → ToldOf now p s t i i
 told-of-same now p s t i stands cases =
-    let there : standing_at s now p i ≡ standing_at t now p i = standing_at-any s now p i ∙ sym stands ∙ sym (standing_at-any t now p i) in
+    let there : standing_at s now p i ≡ standing_at t now p i = standing_at-is s now p i ∙ sym stands ∙ sym (standing_at-is t now p i) in
     record {
       number = refl;
       entry = refl;
@@ -155,7 +155,7 @@ hidden-step now a s t ss st there h =
         let su : IsSound (record s { incidents = with_document h.incident.naming.number h.document s.incidents; gates = t.gates; permissions = t.permissions }) = subst IsSound h.after st in
         let w : State = record s { incidents = with_document h.incident.naming.number h.document s.incidents; gates = t.gates; permissions = t.permissions } in
         let stands : standing_at t now a.person i ≡ standing_at s now a.person i =
-        standing_at-any t now a.person i ∙ ap (λ x. standing_for x a.person i) h.after ∙ sym (standing_at-any s now a.person i) in
+        standing_at-is t now a.person i ∙ ap (λ x. standing_for x now a.person i) h.after ∙ sym (standing_at-is s now a.person i) in
         exchanged-told now a s ss there i h.document h.there t.gates t.permissions su
         (told-by now a.person s (record s { incidents = with_document h.incident.naming.number h.document s.incidents; gates = t.gates; permissions = t.permissions }) i h.document refl
         (alike-told (standing_at s now a.person i) (report_of s i i.document) (record { lines = h.document; case = case_for t i })
@@ -184,4 +184,4 @@ hidden-step now a s t ss st there h =
         (sym (of-others (λ (y : Permission). y.incident) (λ (y : Permission). is_prefix p y.permission.path) n x.naming.number s.permissions t.permissions k h.permissions)))
       where
         same-at : (now : ℤ) (a : Account) (s t : State) (h : HasOtherHiddenClass now a s t) → standing_at t now a.person (record h.incident { document = h.document }) ≡ standing_at s now a.person h.incident
-        same-at now a s t h = standing_at-any t now a.person (record h.incident { document = h.document }) ∙ ap (λ x. standing_for x a.person h.incident) h.after ∙ sym (standing_at-any s now a.person h.incident)
+        same-at now a s t h = standing_at-is t now a.person (record h.incident { document = h.document }) ∙ ap (λ x. standing_for x now a.person h.incident) h.after ∙ sym (standing_at-is s now a.person h.incident)

@@ -4,7 +4,7 @@ use Rattle.std.specs.Prelude.{ℤ, Option, Some, None, filter, find, map, Contai
 use Rattle.std.specs.List.{AllByRecursion, list_any, filter_map}
 use Rattle.std.proofs.lemmas.List.{map-id}
 use Rattle.std.proofs.lemmas.List.Elements.{filter_agree}
-use Rattle.std.proofs.lemmas.Bool.{eqb-true, eq-eqb, false≢true, true≢false, and_parts, and_right, or_parts}
+use Rattle.std.proofs.lemmas.Bool.{eqb-true, eq-eqb, false≢true, true≢false, and_parts, and_left, and_right, or_parts}
 use Rattle.marking.specs.declared.label.Handling.{Handling}
 use Rattle.policy.specs.declared.standing.Standing.{Standing}
 use Rattle.policy.specs.declared.permission.Grantee.{Grantee}
@@ -35,7 +35,7 @@ use Rattle.hub.specs.Alike.{report_of, is_own, includes_person, is_org_or_person
 use Rattle.hub_core.proofs.Keeping.{find_left}
 use Rattle.hub.proofs.Numbered.{all_found}
 use Rattle.redact.proofs.InOrder.{In, in_contained, contains_in}
-use Rattle.hub.proofs.Standings.{standing_at-any}
+use Rattle.hub.proofs.Standings.{standing_at-is}
 use Rattle.hub.proofs.ToldSame.{TellsSame}
 use Rattle.hub.proofs.OtherUnseen.{known}
 use Rattle.hub.proofs.OtherDocument.{ToldOf, page-same, view-same}
@@ -91,6 +91,7 @@ module _ (now : ℤ) (a : Account) (s : State) (accounts : List Account) (arrang
       groups = map (λ (m : GroupMember). m.group) ms;
       active_groups = filter (λ n. has_group_being n true s.directory) (map (λ (m : GroupMember). m.group) ms);
       communities = communities_of p.org s.directory;
+      now = now;
     }
 
     abbrev has_in : List Recipient → Incident → Target → Bool
@@ -121,7 +122,7 @@ module _ (now : ℤ) (a : Account) (s : State) (accounts : List Account) (arrang
         gone : (r : Recipient) → (is_org_or_person now a r.target || is_own now a s r.incident) ≡ false → is_recipient_being i.naming.number x r ≡ false
         gone r g = and_right (r.incident == i.naming.number) (same_target r.target x) (differ r.target x k (or-false (is_org_or_person now a r.target) _ g))
 
-    standing-same : (i : Incident) → standing_for s p i ≡ standing_for w p i
+    standing-same : (i : Incident) → standing_for s now p i ≡ standing_for w now p i
     standing-same i =
         let ms = memberships_in_groups p.org s.directory in
         let person = has_in recipients i (target.Person p.number) in
@@ -140,7 +141,7 @@ module _ (now : ℤ) (a : Account) (s : State) (accounts : List Account) (arrang
 
     -- ---- permissions
 
-    includes-stands : (i : Incident) (g : Grantee) → includes (standing_for s p i) g ≡ includes_person now a s.directory g
+    includes-stands : (i : Incident) (g : Grantee) → includes (standing_for s now p i) g ≡ includes_person now a s.directory g
     includes-stands i (grantee.Person n) = refl
     includes-stands i (grantee.Org n) = refl
     includes-stands i (grantee.Community n) = refl
@@ -152,7 +153,7 @@ module _ (now : ℤ) (a : Account) (s : State) (accounts : List Account) (arrang
         blank : Incident
         blank = record { naming = record { number = 0; source = 0; ident = []; revision = 0 }; document = [] }
 
-        stands : (g : Grantee) → includes (standing_for w p blank) g ≡ includes_person now a w.directory g
+        stands : (g : Grantee) → includes (standing_for w now p blank) g ≡ includes_person now a w.directory g
         stands (grantee.Person n) = refl
         stands (grantee.Org n) = refl
         stands (grantee.Community n) = refl
@@ -170,11 +171,11 @@ module _ (now : ℤ) (a : Account) (s : State) (accounts : List Account) (arrang
         both : Permission → Bool
         both x = x.incident == i.naming.number && holds_for (standing_at s now p i) x.permission
 
-        holds-is : (x : Permission) → holds_for (standing_at s now p i) x.permission ≡ includes_person now a s.directory x.permission.grantee
-        holds-is x = ap (λ st. includes st x.permission.grantee) (standing_at-any s now p i) ∙ includes-stands i x.permission.grantee
+        includes-is : (x : Permission) → includes (standing_at s now p i) x.permission.grantee ≡ includes_person now a s.directory x.permission.grantee
+        includes-is x = ap (λ st. includes st x.permission.grantee) (standing_at-is s now p i) ∙ includes-stands i x.permission.grantee
 
         no : (x : Permission) → keeps x ≡ false → (x.incident == i.naming.number && holds_for (standing_at s now p i) x.permission) ≡ false
-        no x g = and_right (x.incident == i.naming.number) _ (holds-is x ∙ or-false (includes_person now a s.directory x.permission.grantee) _ g)
+        no x g = and_right (x.incident == i.naming.number) _ (and_left (includes (standing_at s now p i) x.permission.grantee) _ (includes-is x ∙ or-false (includes_person now a s.directory x.permission.grantee) _ g))
 
         same : filter keeps s.permissions ≡ filter keeps permissions
         same = same_permissions ∙ sym (filter_agree keeps (λ (x : Permission). includes_person now a w.directory x.permission.grantee || is_own now a s x.incident) (λ x. ap (λ b. b || is_own now a s x.incident) (includes-both x.permission.grantee)) permissions)
@@ -188,7 +189,7 @@ module _ (now : ℤ) (a : Account) (s : State) (accounts : List Account) (arrang
     told-of : IsSound s → (i : Incident) → incident_of i.naming.number s ≡ Some i → ToldOf now p s w i i
     told-of ss i at =
         let st = standing_at s now p i in
-        let there : standing_at w now p i ≡ st = standing_at-any w now p i ∙ sym (standing-same i) ∙ sym (standing_at-any s now p i) in
+        let there : standing_at w now p i ≡ st = standing_at-is w now p i ∙ sym (standing-same i) ∙ sym (standing_at-is s now p i) in
         let doc = marked-document s i ss at in
         let h : IsToldAlike st (report_of s i i.document) (report_of w i i.document) =
         alike-told st (report_of s i i.document) (report_of w i i.document) doc doc (inr (inr (record { lines = refl; source = refl; gates = refl; permissions = kept-permissions i }))) in

@@ -34,7 +34,7 @@ use Rattle.hub.specs.Alike.{HasOtherUnseenIncident}
 use Rattle.hub_core.proofs.Keeping.{not_both, turned, find_left, found_is}
 use Rattle.redact.proofs.InOrder.{In, in_contained}
 use Rattle.hub.proofs.Numbered.{all_found}
-use Rattle.hub.proofs.Standings.{standing_at-any}
+use Rattle.hub.proofs.Standings.{standing_at-is}
 use Rattle.redact.specs.Told.{is_listed, finds, told_of, excerpt_of}
 use Rattle.policy.specs.declared.case.Case.{Case}
 
@@ -79,8 +79,8 @@ pub record Addressed (n : ℕ) (rs rs' : List Recipient) : Type 0 where
   pub any : (x : Target) → list_any (is_recipient_being n x) rs ≡ list_any (is_recipient_being n x) rs'
 
 -- a standing, by the directory and by whether recipients, the person and its organisation, and clients' organisations are there
-abbrev made : Directory → Person → Incident → Bool → Bool → Bool → Standing
-made d p i person org client = record (standing_for (record { directory = d; incidents = []; gates = []; recipients = []; permissions = [] }) p i) {
+abbrev made : ℤ → Directory → Person → Incident → Bool → Bool → Bool → Standing
+made now d p i person org client = record (standing_for (record { directory = d; incidents = []; gates = []; recipients = []; permissions = [] }) now p i) {
   person = person;
   addressed = org;
   client = client;
@@ -89,21 +89,21 @@ made d p i person org client = record (standing_for (record { directory = d; inc
 abbrev client_by : Directory → (Target → Bool) → Person → Incident → Client → Bool
 client_by d has p i c = c.client == p.org && (c.org == i.naming.source || has (target.Org c.org))
 
-standing-made : (s : State) (p : Person) (i : Incident) → let has = λ (x : Target). list_any (is_recipient_being i.naming.number x) s.recipients in
-    standing_for s p i ≡ made s.directory p i (has (target.Person p.number)) (has (target.Org p.org)) (list_any (client_by s.directory has p i) s.directory.clients)
-standing-made s p i = refl
+standing-made : (s : State) (now : ℤ) (p : Person) (i : Incident) → let has = λ (x : Target). list_any (is_recipient_being i.naming.number x) s.recipients in
+    standing_for s now p i ≡ made now s.directory p i (has (target.Person p.number)) (has (target.Org p.org)) (list_any (client_by s.directory has p i) s.directory.clients)
+standing-made s now p i = refl
 
-pub standing-by : (s t : State) (p : Person) (i : Incident) → s.directory ≡ t.directory → Addressed i.naming.number s.recipients t.recipients → standing_for s p i ≡ standing_for t p i
-standing-by s t p i d h =
+pub standing-by : (s t : State) (now : ℤ) (p : Person) (i : Incident) → s.directory ≡ t.directory → Addressed i.naming.number s.recipients t.recipients → standing_for s now p i ≡ standing_for t now p i
+standing-by s t now p i d h =
     let has : Target → Bool = λ x. list_any (is_recipient_being i.naming.number x) s.recipients in
     let has' : Target → Bool = λ x. list_any (is_recipient_being i.naming.number x) t.recipients in
-    standing-made s p i
-    ∙ ap (λ e. made e p i (has (target.Person p.number)) (has (target.Org p.org)) (list_any (client_by e has p i) e.clients)) d
-    ∙ ap (λ b. made t.directory p i b (has (target.Org p.org)) (list_any (client_by t.directory has p i) t.directory.clients)) (h.any (target.Person p.number))
-    ∙ ap (λ b. made t.directory p i (has' (target.Person p.number)) b (list_any (client_by t.directory has p i) t.directory.clients)) (h.any (target.Org p.org))
-    ∙ ap (λ b. made t.directory p i (has' (target.Person p.number)) (has' (target.Org p.org)) b)
+    standing-made s now p i
+    ∙ ap (λ e. made now e p i (has (target.Person p.number)) (has (target.Org p.org)) (list_any (client_by e has p i) e.clients)) d
+    ∙ ap (λ b. made now t.directory p i b (has (target.Org p.org)) (list_any (client_by t.directory has p i) t.directory.clients)) (h.any (target.Person p.number))
+    ∙ ap (λ b. made now t.directory p i (has' (target.Person p.number)) b (list_any (client_by t.directory has p i) t.directory.clients)) (h.any (target.Org p.org))
+    ∙ ap (λ b. made now t.directory p i (has' (target.Person p.number)) (has' (target.Org p.org)) b)
     (any-each (client_by t.directory has p i) (client_by t.directory has' p i) t.directory.clients (λ c. ap (λ b. c.client == p.org && (c.org == i.naming.source || b)) (h.any (target.Org c.org))))
-    ∙ sym (standing-made t p i)
+    ∙ sym (standing-made t now p i)
 
 module _ (now : ℤ) (a : Account) (s t : State) (ss : IsSound s) (st : IsSound t) (h : HasOtherUnseenIncident now a s t) where
   abbrev n : ℕ
@@ -121,7 +121,7 @@ module _ (now : ℤ) (a : Account) (s t : State) (ss : IsSound s) (st : IsSound 
       apart x r gone = and_left (r.incident == i.naming.number) _ (not_both r.incident n i.naming.number (turned i.naming.number n (not-true (i.naming.number == n) k)) (not-false (r.incident == n) gone))
 
   standing-same : (i : Incident) → other n i ≡ true → standing_at s now a.person i ≡ standing_at t now a.person i
-  standing-same i k = standing_at-any s now a.person i ∙ standing-by s t a.person i h.others.directory (addressed i k) ∙ sym (standing_at-any t now a.person i)
+  standing-same i k = standing_at-is s now a.person i ∙ standing-by s t now a.person i h.others.directory (addressed i k) ∙ sym (standing_at-is t now a.person i)
 
   case-same : (i : Incident) → other n i ≡ true → case_for s i ≡ case_for t i
   case-same i k =

@@ -24,7 +24,7 @@ use Rattle.redact.specs.declared.want.Want.{Want}
 use Rattle.redact.proofs.Shut.{root-tells-nothing}
 use Rattle.hub_core.specs.Documents.{Lines}
 use Rattle.hub.specs.declared.TheConstants.{PAGE_LIMIT}
-use Rattle.hub.specs.Wanted.{HasSameWords, admits, shuts_out, is_shut_out, is_told, number_at_end}
+use Rattle.hub.specs.inner.Wanted.{HasSameWords, admits, shuts_out, is_shut_out, is_told, number_at_end}
 use Rattle.hub.specs.declared.wanted.Wanted.{Wanted}
 use Rattle.hub.proofs.Numbered.{above-numbered, counts-drop, counts-take, all_found}
 

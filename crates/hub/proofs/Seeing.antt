@@ -20,7 +20,7 @@ use Rattle.hub_core.specs.declared.state.Incident.{Incident}
 use Rattle.hub_core.specs.declared.reply.Entry.{Entry}
 use Rattle.hub_core.proofs.Marked.{IsMarked}
 use Rattle.hub.specs.Told.{standing_at, view_with, view_of}
-use Rattle.hub.specs.Viewing.{first_being, view_made}
+use Rattle.hub.specs.inner.Viewing.{first_being, view_made}
 
 -- ---- an incident by its number
 

@@ -71,23 +71,23 @@ left_more Before s all replies asked reply None (inr may) unmade = absurd may
 left_more Before s all replies asked reply (Some content) (inr may) unmade = inr (unmade_left s content all replies asked reply may unmade)
 
 -- what holds after i requests, and what one leaves, make what holds after i + 1
-pub stops_on : {D : Type 0} (may_leave : D → Option State → Type 0) (old before after : D) (s mid end : State) (all : List Asked) (i : ℕ) (asked : Asked) (replies : List Reply) (reply : Reply) → asked ≡ get_or all i asked → i < length all
+pub stops_on : {D : Type 0} (may_remain : D → Option State → Type 0) (old before after : D) (s mid end : State) (all : List Asked) (i : ℕ) (asked : Asked) (replies : List Reply) (reply : Reply) → asked ≡ get_or all i asked → i < length all
     → IsRun s (take i all) replies mid
     → IsStep mid asked reply end
-    → ((left : Option State) → may_leave before left → IsLeft (may_leave old) s (take i all) replies left)
-    → (IsTrue (is_made reply) → (left : Option State) → may_leave after left ↔ (left ≡ Some (state_left mid asked.1 asked.2)))
-    → ((left : Option State) → may_leave after left → may_leave before left ⊎ (left ≡ Some (state_left mid asked.1 asked.2)))
-    → (left : Option State) → may_leave after left → IsLeft (may_leave old) s (take (i + 1) all) (replies ++ reply ∷ []) left
-stops_on may_leave old before after s mid end all i asked replies reply is low run step earlier durable crash left may =
-    subst (λ q. IsLeft (may_leave old) s q (replies ++ reply ∷ []) left) (sym (take_more all i asked low))
-    (subst (λ q. IsLeft (may_leave old) s (take i all ++ q ∷ []) (replies ++ reply ∷ []) left) is (by_case (is_made reply) refl))
+    → ((left : Option State) → may_remain before left → IsLeft (may_remain old) s (take i all) replies left)
+    → (IsTrue (is_made reply) → (left : Option State) → may_remain after left ↔ (left ≡ Some (state_left mid asked.1 asked.2)))
+    → ((left : Option State) → may_remain after left → may_remain before left ⊎ (left ≡ Some (state_left mid asked.1 asked.2)))
+    → (left : Option State) → may_remain after left → IsLeft (may_remain old) s (take (i + 1) all) (replies ++ reply ∷ []) left
+stops_on may_remain old before after s mid end all i asked replies reply is low run step earlier durable crash left may =
+    subst (λ q. IsLeft (may_remain old) s q (replies ++ reply ∷ []) left) (sym (take_more all i asked low))
+    (subst (λ q. IsLeft (may_remain old) s (take i all ++ q ∷ []) (replies ++ reply ∷ []) left) is (by_case (is_made reply) refl))
   where
-    asked_for : left ≡ Some (state_left mid asked.1 asked.2) → IsLeft (may_leave old) s (take i all ++ asked ∷ []) (replies ++ reply ∷ []) left
+    asked_for : left ≡ Some (state_left mid asked.1 asked.2) → IsLeft (may_remain old) s (take i all ++ asked ∷ []) (replies ++ reply ∷ []) left
     asked_for h = inr (subst (λ o. IsSomeAnd o (λ content. MayBeLeft s (take i all ++ asked ∷ []) (replies ++ reply ∷ []) content)) (sym h) (asked_left s mid end (take i all) replies asked reply run step))
 
-    by_case : (b : Bool) → is_made reply ≡ b → IsLeft (may_leave old) s (take i all ++ asked ∷ []) (replies ++ reply ∷ []) left
+    by_case : (b : Bool) → is_made reply ≡ b → IsLeft (may_remain old) s (take i all ++ asked ∷ []) (replies ++ reply ∷ []) left
     by_case true made = asked_for ((durable made left).0 may)
     by_case false unmade = elim (crash left may) [
-      | inl there ↦ left_more (may_leave old) s (take i all) replies asked reply left (earlier left there) unmade
+      | inl there ↦ left_more (may_remain old) s (take i all) replies asked reply left (earlier left there) unmade
       | inr h ↦ asked_for h
     ]

@@ -2,11 +2,8 @@ pub mod Told
 pub mod Replies
 pub mod Machine
 pub mod Faults
-pub mod Asking
-pub mod Wanted
-pub mod Viewing
-pub mod Explaining
 pub mod Serving
 pub mod Stops
 pub mod Laws
 pub mod Alike
+pub mod inner

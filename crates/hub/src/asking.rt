@@ -9,10 +9,10 @@ ghost use Rattle.hub_core.specs.Reads.{case_for, served_of_incident};
 ghost use Rattle.hub_core.specs.declared.state.Incident.{Incident};
 ghost use Rattle.circle.specs.Reads.{person_of};
 ghost use Rattle.hub.specs.Told.{standing_at};
-ghost use Rattle.hub.specs.Explaining.{standing_between};
+ghost use Rattle.hub.specs.inner.Explaining.{standing_between};
 ghost use Rattle.hub.specs.Replies.{caller_of};
 ghost use Rattle.hub_core.specs.Shelves.{HasFailed, IsKept};
-ghost use Rattle.hub.specs.Asking.{IsThere};
+ghost use Rattle.hub.specs.inner.Asking.{IsThere};
 
 use crate::key::Key;
 use circle::directory::Person;
@@ -30,7 +30,7 @@ pub struct Asker<'a> {
 /// The active person whose key it is.
 pub fn caller_by<Sh: Shelf>(shelf: &mut Sh, key: &Key) -> Result<Option<Person>, ShelfFault>
     ensures value { Sh.doubts shelf.new ≡ 0 → (s : State) → Sh.has shelf.old s → IfOk result (λ found. found ≡ caller_of s key.now) }
-    ensures kept { IsKept Sh.has Sh.doubts Sh.failed Sh.may_leave shelf.old shelf.new }
+    ensures kept { IsKept Sh.has Sh.doubts Sh.failed Sh.may_remain shelf.old shelf.new }
     ensures cause { IsErrOf result ShelfFault.Failed → HasFailed (Sh.failed shelf.old) (Sh.failed shelf.new) }
 {
     let Key::Digest(digest) = key else {
@@ -49,10 +49,10 @@ pub fn standing<Sh: Shelf>(
     incident: u32,
 ) -> Result<Option<Standing>, ShelfFault>
     ensures value { Sh.doubts shelf.new ≡ 0 → (s : State) → Sh.has shelf.old s → IsThere s asker.entry.person.now → IfOk result (λ found. found ≡ option_map (λ (i : Incident). standing_at s asker.entry.now asker.entry.person.now i) (incident_of incident s)) }
-    ensures kept { IsKept Sh.has Sh.doubts Sh.failed Sh.may_leave shelf.old shelf.new }
+    ensures kept { IsKept Sh.has Sh.doubts Sh.failed Sh.may_remain shelf.old shelf.new }
     ensures cause { IsErrOf result ShelfFault.Failed → HasFailed (Sh.failed shelf.old) (Sh.failed shelf.new) }
 {
-    shelf.standing(asker.person.number, incident)
+    shelf.standing(asker.person.number, incident, asker.now)
 }
 
 /// How the person of a number stands to an incident at the moment of asking; none where either is missing.
@@ -63,17 +63,16 @@ pub fn standing_of_person<Sh: Shelf>(
     incident: u32,
 ) -> Result<Option<Standing>, ShelfFault>
     ensures value { Sh.doubts shelf.new ≡ 0 → (s : State) → Sh.has shelf.old s → IfOk result (λ found. found ≡ standing_between s asker.entry.now (person_of person s.directory) (incident_of incident s)) }
-    ensures kept { IsKept Sh.has Sh.doubts Sh.failed Sh.may_leave shelf.old shelf.new }
+    ensures kept { IsKept Sh.has Sh.doubts Sh.failed Sh.may_remain shelf.old shelf.new }
     ensures cause { IsErrOf result ShelfFault.Failed → HasFailed (Sh.failed shelf.old) (Sh.failed shelf.new) }
 {
-    let _ = asker;
-    shelf.standing(person, incident)
+    shelf.standing(person, incident, asker.now)
 }
 
 /// By what an incident is judged, beside its document; none where it is missing.
 pub fn case_of<Sh: Shelf>(shelf: &mut Sh, incident: u32) -> Result<Option<Case>, ShelfFault>
     ensures value { Sh.doubts shelf.new ≡ 0 → (s : State) → Sh.has shelf.old s → IfOk result (λ found. found ≡ option_map (case_for s) (incident_of incident s)) }
-    ensures kept { IsKept Sh.has Sh.doubts Sh.failed Sh.may_leave shelf.old shelf.new }
+    ensures kept { IsKept Sh.has Sh.doubts Sh.failed Sh.may_remain shelf.old shelf.new }
     ensures cause { IsErrOf result ShelfFault.Failed → HasFailed (Sh.failed shelf.old) (Sh.failed shelf.new) }
 {
     shelf.case(incident)
@@ -88,7 +87,7 @@ pub fn excerpt_of<Sh: Shelf>(
     standing: Standing,
 ) -> Result<Option<Excerpt>, ShelfFault>
     ensures value { Sh.doubts shelf.new ≡ 0 → (s : State) → Sh.has shelf.old s → IfOk result (λ found. option_map told_by found ≡ served_of_incident incident case standing s) }
-    ensures kept { IsKept Sh.has Sh.doubts Sh.failed Sh.may_leave shelf.old shelf.new }
+    ensures kept { IsKept Sh.has Sh.doubts Sh.failed Sh.may_remain shelf.old shelf.new }
     ensures cause { IsErrOf result ShelfFault.Failed → HasFailed (Sh.failed shelf.old) (Sh.failed shelf.new) }
 {
     shelf.excerpt(incident, case, standing)
@@ -103,7 +102,7 @@ pub fn is_met<Sh: Shelf>(
     want: Want,
 ) -> Result<bool, ShelfFault>
     ensures value { Sh.doubts shelf.new ≡ 0 → (s : State) → Sh.has shelf.old s → IsSound s → IfOk result (λ met. met ≡ option_map_or (λ (i : Incident). meets want i.document case standing) (incident_of incident s) false) }
-    ensures kept { IsKept Sh.has Sh.doubts Sh.failed Sh.may_leave shelf.old shelf.new }
+    ensures kept { IsKept Sh.has Sh.doubts Sh.failed Sh.may_remain shelf.old shelf.new }
     ensures cause { IsErrOf result ShelfFault.Failed → HasFailed (Sh.failed shelf.old) (Sh.failed shelf.new) }
 {
     shelf.meets(incident, case, standing, want)

@@ -97,9 +97,9 @@ pub fn change<Sh: Shelf>(
     request: &Request,
 ) -> Result<Reply, ShelfFault>
     ensures step { Sh.doubts shelf.new ≡ 0 → (s : State) → Sh.has shelf.old s → IsSound s → IsOrg s.directory.orgs asker.entry.person.now.org → is_reading request.now ≡ false →
-        IsServed Sh.has Sh.may_leave shelf.old shelf.new s (due_to s asker.entry.now asker.entry.person.now request.now) (state_after s asker.entry.person.now request.now) result }
+        IsServed Sh.has Sh.may_remain shelf.old shelf.new s (due_to s asker.entry.now asker.entry.person.now request.now) (state_after s asker.entry.person.now request.now) result }
     ensures counted { IsCounted Sh.doubts Sh.failed shelf.old shelf.new result }
-    ensures kept { is_made_by result ≡ false → KeepsContent Sh.has Sh.doubts Sh.failed Sh.may_leave shelf.old shelf.new }
+    ensures kept { is_made_by result ≡ false → KeepsContent Sh.has Sh.doubts Sh.failed Sh.may_remain shelf.old shelf.new }
 {
     // Who may not post makes the hub read no body.
     if lacks_role(asker.person, request) {

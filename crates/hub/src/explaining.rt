@@ -11,7 +11,7 @@ ghost use Rattle.hub_core.specs.Refusals.{refusal_of};
 ghost use Rattle.hub_core.specs.declared.reply.Reply.TheVariants.{Trace};
 ghost use Rattle.hub_core.specs.declared.request.Request.TheVariants as ask;
 ghost use Rattle.hub_core.specs.Shelves.{HasFailed, IsKept};
-ghost use Rattle.hub.specs.Explaining.{text_at, text_of as text_told};
+ghost use Rattle.hub.specs.inner.Explaining.{text_at, text_of as text_told};
 ghost use Rattle.hub.specs.Replies.{refused_or};
 ghost use Rattle.hub.specs.Told.{trace_of};
 
@@ -34,7 +34,7 @@ fn text_of(
     standing: &Standing,
     path: &Path,
 ) -> Result<Option<Text>, ShelfFault>
-    ensures told { first_bad_marking (located document.now) ≡ None → IfOk result (λ text. text ≡ text_at document.now case.now standing.now path.now) }
+    ensures told { first_bad_marking (located document.now) ≡ None → IfOk result (λ text. text ≡ text_at document.now case.now standing.entry.now path.now) }
     ensures fault { IfErr result (λ e. e ≡ ShelfFault.NoMemory) }
 {
     match check(alloc, document) {
@@ -52,7 +52,7 @@ fn explained(
     path: &Path,
 ) -> Result<Option<Text>, ShelfFault>
     requires { first_bad_marking (located document.now) ≡ None }
-    ensures told { IfOk result (λ text. text ≡ text_at document.now case.now standing.now path.now) }
+    ensures told { IfOk result (λ text. text ≡ text_at document.now case.now standing.entry.now path.now) }
     ensures fault { IfErr result (λ e. e ≡ ShelfFault.NoMemory) }
 {
     match explain(alloc, document, case, standing, path) {
@@ -85,7 +85,7 @@ fn find_text<Sh: Shelf>(
     asked: &Explain,
 ) -> Result<Option<Text>, ShelfFault>
     ensures value { Sh.doubts shelf.new ≡ 0 → (s : State) → Sh.has shelf.old s → IsSound s → facts.now ≡ facts_of s asker.entry.person.now (ask.Explain asked.now) → IfOk result (λ text. text ≡ text_told s asker.entry.now (person_of asked.now.person s.directory) (incident_of asked.now.incident s) (pointer_tokens asked.now.path)) }
-    ensures kept { IsKept Sh.has Sh.doubts Sh.failed Sh.may_leave shelf.old shelf.new }
+    ensures kept { IsKept Sh.has Sh.doubts Sh.failed Sh.may_remain shelf.old shelf.new }
     ensures cause { IsErrOf result ShelfFault.Failed → HasFailed (Sh.failed shelf.old) (Sh.failed shelf.new) }
 {
     let Some(standing) = standing_of_person(shelf, asker, asked.person, asked.incident)? else {
@@ -122,7 +122,7 @@ pub fn explain_to<Sh: Shelf>(
     asked: &Explain,
 ) -> Result<Reply, ShelfFault>
     ensures value { Sh.doubts shelf.new ≡ 0 → (s : State) → Sh.has shelf.old s → IsSound s → request.now ≡ ask.Explain asked.now → IfOk result (λ reply. reply ≡ refused_or (refusal_of s asker.entry.person.now request.now) (Trace (trace_of s asker.entry.now (person_of asked.now.person s.directory) (incident_of asked.now.incident s) (pointer_tokens asked.now.path)))) }
-    ensures kept { IsKept Sh.has Sh.doubts Sh.failed Sh.may_leave shelf.old shelf.new }
+    ensures kept { IsKept Sh.has Sh.doubts Sh.failed Sh.may_remain shelf.old shelf.new }
     ensures cause { IsErrOf result ShelfFault.Failed → HasFailed (Sh.failed shelf.old) (Sh.failed shelf.new) }
 {
     let facts = shelf.facts(asker.person, request)?;

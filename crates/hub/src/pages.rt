@@ -8,9 +8,9 @@ ghost use Rattle.hub_core.specs.Reads.{case_for};
 ghost use Rattle.hub_core.specs.declared.state.Incident.{Incident};
 ghost use Rattle.hub_core.specs.declared.reply.Entry.{Entry as Listed};
 ghost use Rattle.hub.specs.Replies.{page_of};
-ghost use Rattle.hub.specs.Wanted.{HasSameWords, admits, shuts_out, is_shut_out, is_told, is_wanted, is_wanted_at, number_at_end};
+ghost use Rattle.hub.specs.inner.Wanted.{HasSameWords, admits, shuts_out, is_shut_out, is_told, is_wanted, is_wanted_at, number_at_end};
 ghost use Rattle.hub_core.specs.Shelves.{HasFailed, IsKept};
-ghost use Rattle.hub.specs.Asking.{IsThere};
+ghost use Rattle.hub.specs.inner.Asking.{IsThere};
 
 use crate::PAGE_LIMIT;
 use crate::asking::{Asker, case_of, is_met, standing};
@@ -23,13 +23,13 @@ use std::alloc::Global;
 
 /// Whether it is a gate at the root, and refuses the reader.
 fn shuts(standing: &Standing, gate: &Gate) -> bool
-    ensures { result ≡ shuts_out standing.now gate.now }
+    ensures { result ≡ shuts_out standing.entry.now gate.now }
 {
     gate.path.tokens().is_empty() && passes(standing, gate).is_err()
 }
 
 fn one_shuts(case: &Case, standing: &Standing) -> bool
-    ensures { result ≡ list_any (shuts_out standing.now) case.now.gates }
+    ensures { result ≡ list_any (shuts_out standing.entry.now) case.now.gates }
 {
     case.gates
         .as_slice()
@@ -39,7 +39,7 @@ fn one_shuts(case: &Case, standing: &Standing) -> bool
 
 /// Whether a gate at the root refuses a reader who isn't of the source. Then nothing of the incident is visible.
 fn is_shut(case: &Case, standing: &Standing) -> bool
-    ensures { result ≡ is_shut_out case.now standing.now }
+    ensures { result ≡ is_shut_out case.now standing.entry.now }
 {
     !standing.source && one_shuts(case, standing)
 }
@@ -70,7 +70,7 @@ fn copied(alloc: Global, want: &Want) -> Result<Want, ShelfFault>
 
 /// Whether a standing rules an incident out, whatever it holds.
 fn is_ruled_out(wanted: Wanted<'_>, standing: &Standing) -> bool
-    ensures { result ≡ not (admits wanted.entry standing.now) }
+    ensures { result ≡ not (admits wanted.entry standing.entry.now) }
 {
     wanted.addressed && !(standing.person || standing.addressed)
 }
@@ -85,7 +85,7 @@ fn is_wanted_by<Sh: Shelf>(
     incident: u32,
 ) -> Result<bool, ShelfFault>
     ensures value { Sh.doubts shelf.new ≡ 0 → (s : State) → Sh.has shelf.old s → IsSound s → IfOk result (λ b. b ≡ option_map_or (λ (i : Incident). is_told wanted.entry i.document (case_for s i) standing) (incident_of incident s) false) }
-    ensures kept { IsKept Sh.has Sh.doubts Sh.failed Sh.may_leave shelf.old shelf.new }
+    ensures kept { IsKept Sh.has Sh.doubts Sh.failed Sh.may_remain shelf.old shelf.new }
     ensures cause { IsErrOf result ShelfFault.Failed → HasFailed (Sh.failed shelf.old) (Sh.failed shelf.new) }
 {
     if is_ruled_out(wanted, &standing) {
@@ -110,7 +110,7 @@ fn lists<Sh: Shelf>(
     incident: u32,
 ) -> Result<bool, ShelfFault>
     ensures value { Sh.doubts shelf.new ≡ 0 → (s : State) → Sh.has shelf.old s → IsSound s → IsThere s asker.entry.person.now → IfOk result (λ b. b ≡ is_wanted_at s asker.entry.now asker.entry.person.now wanted.entry incident) }
-    ensures kept { IsKept Sh.has Sh.doubts Sh.failed Sh.may_leave shelf.old shelf.new }
+    ensures kept { IsKept Sh.has Sh.doubts Sh.failed Sh.may_remain shelf.old shelf.new }
     ensures cause { IsErrOf result ShelfFault.Failed → HasFailed (Sh.failed shelf.old) (Sh.failed shelf.new) }
 {
     match standing(shelf, asker, incident)? {
@@ -131,7 +131,7 @@ fn pick<Sh: Shelf>(
     requires { length listed.old.items ≤ PAGE_LIMIT }
     ensures room { OnOk result (length listed.new.items ≤ PAGE_LIMIT) }
     ensures value { Sh.doubts shelf.new ≡ 0 → (s : State) → Sh.has shelf.old s → IsSound s → IsThere s asker.entry.person.now → OnOk result (listed.new.items ≡ take PAGE_LIMIT (listed.old.items ++ filter (λ (e : Listed). is_wanted_at s asker.entry.now asker.entry.person.now wanted.entry e.number) entries.now)) }
-    ensures kept { IsKept Sh.has Sh.doubts Sh.failed Sh.may_leave shelf.old shelf.new }
+    ensures kept { IsKept Sh.has Sh.doubts Sh.failed Sh.may_remain shelf.old shelf.new }
     ensures cause { IsErrOf result ShelfFault.Failed → HasFailed (Sh.failed shelf.old) (Sh.failed shelf.new) }
 {
     for entry in entries {
@@ -165,7 +165,7 @@ pub fn page<Sh: Shelf>(
     after: u32,
 ) -> Result<Vec<Entry>, ShelfFault>
     ensures value { Sh.doubts shelf.new ≡ 0 → (s : State) → Sh.has shelf.old s → IsSound s → IsThere s asker.entry.person.now → IfOk result (λ listed. listed.items ≡ page_of (is_wanted s asker.entry.now asker.entry.person.now wanted.entry) after s) }
-    ensures kept { IsKept Sh.has Sh.doubts Sh.failed Sh.may_leave shelf.old shelf.new }
+    ensures kept { IsKept Sh.has Sh.doubts Sh.failed Sh.may_remain shelf.old shelf.new }
     ensures cause { IsErrOf result ShelfFault.Failed → HasFailed (Sh.failed shelf.old) (Sh.failed shelf.new) }
 {
     let mut listed = Vec::new(alloc);

@@ -10,10 +10,10 @@ ghost use Rattle.hub_core.specs.State.{incident_of};
 ghost use Rattle.hub_core.specs.declared.state.Incident.{Incident};
 ghost use Rattle.hub.specs.Told.{is_served, is_addressed};
 ghost use Rattle.hub.specs.Replies.{page_of, viewed};
-ghost use Rattle.hub.specs.Wanted.{is_wanted};
+ghost use Rattle.hub.specs.inner.Wanted.{is_wanted};
 ghost use Rattle.hub.specs.Serving.{read_by, searched};
 ghost use Rattle.hub_core.specs.Shelves.{HasFailed, IsKept};
-ghost use Rattle.hub.specs.Asking.{IsThere};
+ghost use Rattle.hub.specs.inner.Asking.{IsThere};
 
 use crate::asking::Asker;
 use crate::explaining::explain_to;
@@ -37,7 +37,7 @@ fn list<Sh: Shelf>(
     after: u32,
 ) -> Result<Reply, ShelfFault>
     ensures value { Sh.doubts shelf.new ≡ 0 → (s : State) → Sh.has shelf.old s → IsSound s → IsThere s asker.entry.person.now → IfOk result (λ reply. reply ≡ Incidents (page_of (is_wanted s asker.entry.now asker.entry.person.now wanted.entry) after s)) }
-    ensures kept { IsKept Sh.has Sh.doubts Sh.failed Sh.may_leave shelf.old shelf.new }
+    ensures kept { IsKept Sh.has Sh.doubts Sh.failed Sh.may_remain shelf.old shelf.new }
     ensures cause { IsErrOf result ShelfFault.Failed → HasFailed (Sh.failed shelf.old) (Sh.failed shelf.new) }
 {
     let listed = page(shelf, alloc, asker, wanted, after)?;
@@ -54,7 +54,7 @@ fn list_shown<Sh: Shelf>(
     after: u32,
 ) -> Result<Reply, ShelfFault>
     ensures value { Sh.doubts shelf.new ≡ 0 → (s : State) → Sh.has shelf.old s → IsSound s → IsThere s asker.entry.person.now → IfOk result (λ reply. reply ≡ Incidents (page_of (λ (i : Incident). (not addressed || is_addressed s asker.entry.now asker.entry.person.now i) && is_served s asker.entry.now asker.entry.person.now i) after s)) }
-    ensures kept { IsKept Sh.has Sh.doubts Sh.failed Sh.may_leave shelf.old shelf.new }
+    ensures kept { IsKept Sh.has Sh.doubts Sh.failed Sh.may_remain shelf.old shelf.new }
     ensures cause { IsErrOf result ShelfFault.Failed → HasFailed (Sh.failed shelf.old) (Sh.failed shelf.new) }
 {
     let want = Want {
@@ -104,7 +104,7 @@ fn search<Sh: Shelf>(
     asked: &Search,
 ) -> Result<Reply, ShelfFault>
     ensures refused { Sh.doubts shelf.new ≡ 0 → (s : State) → Sh.has shelf.old s → IsSound s → IsThere s asker.entry.person.now → IfOk result (λ reply. reply ≡ searched (refusal_of s asker.entry.person.now request.now) s asker.entry.now asker.entry.person.now asked.now) }
-    ensures kept { IsKept Sh.has Sh.doubts Sh.failed Sh.may_leave shelf.old shelf.new }
+    ensures kept { IsKept Sh.has Sh.doubts Sh.failed Sh.may_remain shelf.old shelf.new }
     ensures cause { IsErrOf result ShelfFault.Failed → HasFailed (Sh.failed shelf.old) (Sh.failed shelf.new) }
 {
     let facts = shelf.facts(asker.person, request)?;
@@ -129,7 +129,7 @@ fn look<Sh: Shelf>(
     incident: u32,
 ) -> Result<Reply, ShelfFault>
     ensures value { Sh.doubts shelf.new ≡ 0 → (s : State) → Sh.has shelf.old s → IsSound s → IsThere s asker.entry.person.now → IfOk result (λ reply. reply ≡ viewed s asker.entry.now asker.entry.person.now (incident_of incident s)) }
-    ensures kept { IsKept Sh.has Sh.doubts Sh.failed Sh.may_leave shelf.old shelf.new }
+    ensures kept { IsKept Sh.has Sh.doubts Sh.failed Sh.may_remain shelf.old shelf.new }
     ensures cause { IsErrOf result ShelfFault.Failed → HasFailed (Sh.failed shelf.old) (Sh.failed shelf.new) }
 {
     match view(shelf, asker, incident)? {
@@ -140,7 +140,7 @@ fn look<Sh: Shelf>(
 
 fn groups<Sh: Shelf>(shelf: &mut Sh, asker: Asker<'_>) -> Result<Reply, ShelfFault>
     ensures value { Sh.doubts shelf.new ≡ 0 → (s : State) → Sh.has shelf.old s → IfOk result (λ reply. reply ≡ Groups (groups_joined_by asker.entry.person.now s)) }
-    ensures kept { IsKept Sh.has Sh.doubts Sh.failed Sh.may_leave shelf.old shelf.new }
+    ensures kept { IsKept Sh.has Sh.doubts Sh.failed Sh.may_remain shelf.old shelf.new }
     ensures cause { IsErrOf result ShelfFault.Failed → HasFailed (Sh.failed shelf.old) (Sh.failed shelf.new) }
 {
     let groups = shelf.groups_of(asker.person)?;
@@ -155,7 +155,7 @@ pub fn read<Sh: Shelf>(
     request: &Request,
 ) -> Result<Option<Reply>, ShelfFault>
     ensures value { Sh.doubts shelf.new ≡ 0 → (s : State) → Sh.has shelf.old s → IsSound s → IsThere s asker.entry.person.now → IfOk result (λ reply. reply ≡ read_by s asker.entry.now asker.entry.person.now request.now) }
-    ensures kept { IsKept Sh.has Sh.doubts Sh.failed Sh.may_leave shelf.old shelf.new }
+    ensures kept { IsKept Sh.has Sh.doubts Sh.failed Sh.may_remain shelf.old shelf.new }
     ensures cause { IsErrOf result ShelfFault.Failed → HasFailed (Sh.failed shelf.old) (Sh.failed shelf.new) }
 {
     let reply = match request {

@@ -5,9 +5,9 @@ ghost use Rattle.hub_core.specs.State.{State, incident_of};
 ghost use Rattle.hub_core.specs.Sound.{IsSound};
 ghost use Rattle.hub_core.specs.Reads.{entry_of};
 ghost use Rattle.hub.specs.Told.{view_of};
-ghost use Rattle.hub.specs.Viewing.{first_being, view_made};
+ghost use Rattle.hub.specs.inner.Viewing.{first_being, view_made};
 ghost use Rattle.hub_core.specs.Shelves.{HasFailed, IsKept};
-ghost use Rattle.hub.specs.Asking.{IsThere};
+ghost use Rattle.hub.specs.inner.Asking.{IsThere};
 
 use crate::asking::{Asker, case_of, excerpt_of, standing};
 use hub_core::{Entry, Shelf, ShelfFault, View, Withheld};
@@ -26,7 +26,7 @@ fn first_of(entries: &[Entry], incident: u32) -> Option<Entry>
 /// The incident as it is listed; none where it is missing.
 fn entry<Sh: Shelf>(shelf: &mut Sh, incident: u32) -> Result<Option<Entry>, ShelfFault>
     ensures value { Sh.doubts shelf.new ≡ 0 → (s : State) → Sh.has shelf.old s → IsSound s → IfOk result (λ found. found ≡ option_map entry_of (incident_of incident s)) }
-    ensures kept { IsKept Sh.has Sh.doubts Sh.failed Sh.may_leave shelf.old shelf.new }
+    ensures kept { IsKept Sh.has Sh.doubts Sh.failed Sh.may_remain shelf.old shelf.new }
     ensures cause { IsErrOf result ShelfFault.Failed → HasFailed (Sh.failed shelf.old) (Sh.failed shelf.new) }
 {
     let entries = shelf.incidents_after(incident.saturating_sub(1), 1)?;
@@ -53,7 +53,7 @@ pub fn view<Sh: Shelf>(
     incident: u32,
 ) -> Result<Option<View>, ShelfFault>
     ensures value { Sh.doubts shelf.new ≡ 0 → (s : State) → Sh.has shelf.old s → IsSound s → IsThere s asker.entry.person.now → IfOk result (λ view. view ≡ option_and_then (view_of s asker.entry.now asker.entry.person.now) (incident_of incident s)) }
-    ensures kept { IsKept Sh.has Sh.doubts Sh.failed Sh.may_leave shelf.old shelf.new }
+    ensures kept { IsKept Sh.has Sh.doubts Sh.failed Sh.may_remain shelf.old shelf.new }
     ensures cause { IsErrOf result ShelfFault.Failed → HasFailed (Sh.failed shelf.old) (Sh.failed shelf.new) }
 {
     let Some(standing) = standing(shelf, asker, incident)? else {

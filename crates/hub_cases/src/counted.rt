@@ -27,7 +27,7 @@ impl<Sh: Shelf> Shelf for Counted<Sh> {
 
     ghost failed = { λ c. Sh.failed c.shelf };
 
-    ghost may_leave = { λ c left. Sh.may_leave c.shelf left };
+    ghost may_remain = { λ c left. Sh.may_remain c.shelf left };
 
     fn failures(&self) -> u64 {
         self.shelf.failures()
@@ -37,8 +37,13 @@ impl<Sh: Shelf> Shelf for Counted<Sh> {
         self.shelf.person_by_key(key)
     }
 
-    fn standing(&mut self, person: u32, incident: u32) -> Result<Option<Standing>, ShelfFault> {
-        self.shelf.standing(person, incident)
+    fn standing(
+        &mut self,
+        person: u32,
+        incident: u32,
+        now: i64,
+    ) -> Result<Option<Standing>, ShelfFault> {
+        self.shelf.standing(person, incident, now)
     }
 
     fn case(&mut self, incident: u32) -> Result<Option<Case>, ShelfFault> {

@@ -62,7 +62,7 @@ impl<Sh: Shelf> Shelf for Failing<Sh> {
 
     ghost failed = { λ f. f.failures };
 
-    ghost may_leave = { λ f left. Sh.may_leave f.shelf left };
+    ghost may_remain = { λ f left. Sh.may_remain f.shelf left };
 
     fn failures(&self) -> u64 {
         self.failures
@@ -74,9 +74,14 @@ impl<Sh: Shelf> Shelf for Failing<Sh> {
         self.told(found)
     }
 
-    fn standing(&mut self, person: u32, incident: u32) -> Result<Option<Standing>, ShelfFault> {
+    fn standing(
+        &mut self,
+        person: u32,
+        incident: u32,
+        now: i64,
+    ) -> Result<Option<Standing>, ShelfFault> {
         self.ask()?;
-        let found = self.shelf.standing(person, incident);
+        let found = self.shelf.standing(person, incident, now);
         self.told(found)
     }
 

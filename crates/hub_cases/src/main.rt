@@ -4,14 +4,15 @@
 //! first block sets up the organisations, persons and groups, and its requests come before those of every later block.
 //! The shelf begins with organisation 1 and its administrator, person 1. A line that begins with `#` is printed as it is.
 //!
-//! A request is WHO|REQUEST|FIELD|FIELD.. with the fields in the request's order; WHO is `p4` for person 4, or `nobody`.
+//! A request is WHO|REQUEST|FIELD|FIELD.. with the fields in the request's order; WHO is `p4` for person 4, or `nobody`, and
+//! `p4 at 1717200000` asks at that moment, in seconds since 1970; the others come a second behind one another.
 //! The key of person N is 32 bytes of N. A group is `-` for none, and so is a class; gates are LEVEL:GROUP:POINTER with a
 //! space between; targets and grantees are `person 4`, `org 3`, `community 1` or `group 1`.
 //! `150 times` before a request asks it so often; in it `<n>` is the number of the time, and `<a,b>` is a and b in turn.
 //!
 //! Behind the answers of a block stands whether tables in memory, opened anew behind each request, answer the same. Behind
 //! all blocks stands what becomes of stores that are made, opened and refused, the lines of a report as rows, what is answered
-//! where a row is missing in the middle of a report, and a store of an older version, brought to the newest.
+//! where a row is missing in the middle of a report, and stores of older versions, brought to the newest.
 //!
 //! A block with a line `every call fails` is run once more for each call of the shelf, which then fails that one time: one
 //! request is answered F1, and all others as if that one hadn't been made. One with a line `steps are limited` is run once more

@@ -1,5 +1,5 @@
-//! A store of version 1, made by its SQL text, and brought to the newest version: a report that one organisation may see a
-//! class of.
+//! Stores of older versions, made by their SQL texts, and brought to the newest version: a report that one organisation may
+//! see a class of.
 
 use crate::openings::fault_told;
 use crate::tables::opened;
@@ -24,9 +24,8 @@ const TABLES: [&str; 10] = [
     "CREATE TABLE incident (number INTEGER PRIMARY KEY, source INTEGER NOT NULL, ident TEXT NOT NULL, revision INTEGER NOT NULL, text TEXT NOT NULL, UNIQUE (source, ident)) STRICT",
 ];
 
-/// Five organisations, six persons, two communities and a group; an incident with a gate and a permission.
-const ROWS: [&str; 9] = [
-    "INSERT INTO hub VALUES (1)",
+/// Five organisations, six persons, two communities and a group; a gate and a permission.
+const ROWS: [&str; 7] = [
     "INSERT INTO org VALUES (1, 'Hub'), (2, 'Src'), (3, 'Mem'), (4, 'Far'), (5, 'Cli')",
     "INSERT INTO person VALUES (1, 1, 'admin', 0, X'0101010101010101010101010101010101010101010101010101010101010101', 1, 0), (2, 2, 'src', 1, X'0202020202020202020202020202020202020202020202020202020202020202', 1, 0), (3, 3, 'mem', 1, X'0303030303030303030303030303030303030303030303030303030303030303', 1, 0), (4, 4, 'far', 3, X'0404040404040404040404040404040404040404040404040404040404040404', 1, 0), (5, 5, 'cli', 1, X'0505050505050505050505050505050505050505050505050505050505050505', 1, 0), (6, 3, 'six', 3, X'0606060606060606060606060606060606060606060606060606060606060606', 1, 0)",
     "INSERT INTO community VALUES (1, 'east'), (2, 'west')",
@@ -34,8 +33,36 @@ const ROWS: [&str; 9] = [
     "INSERT INTO pair VALUES ('member', 1, 2, NULL), ('member', 1, 3, NULL), ('member', 2, 4, NULL), ('grp_member', 1, 2, 1), ('grp_member', 1, 3, 0)",
     "INSERT INTO gate VALUES (1, '', 3, NULL)",
     "INSERT INTO permission VALUES (1, '/Incident/0/EventData/0', 1, 4)",
+];
+
+/// The incident, as version 1 keeps it.
+const ROWS_1: [&str; 2] = [
+    "INSERT INTO hub VALUES (1)",
     "INSERT INTO incident VALUES (1, 2, '\"7\"', 1, '{\"Incident\":[{\"Contact\":[],\"EventData\":[{\"Description\":[\"x\"],\"Flow\":[{\"System\":[],\"restriction\":\"red\"}]}],\"GenerationTime\":\"g\",\"IncidentID\":\"7\",\"purpose\":\"reporting\",\"restriction\":\"private\"}],\"version\":\"2.0\"}')",
 ];
+
+/// The same with a report that doesn't read back.
+const UNREAD_1: [&str; 2] = [
+    "INSERT INTO hub VALUES (1)",
+    "INSERT INTO incident VALUES (1, 2, '\"7\"', 1, '{')",
+];
+
+/// What version 2 made of the tables of version 1.
+const TABLES_2: [&str; 3] = [
+    "CREATE TABLE item (incident INTEGER NOT NULL, place INTEGER NOT NULL, depth INTEGER NOT NULL, name TEXT NOT NULL, in_array INTEGER NOT NULL, kind INTEGER NOT NULL, text TEXT NOT NULL, UNIQUE (incident, place)) STRICT",
+    "DROP TABLE incident",
+    "CREATE TABLE incident (number INTEGER PRIMARY KEY, source INTEGER NOT NULL, ident TEXT NOT NULL, revision INTEGER NOT NULL, UNIQUE (source, ident)) STRICT",
+];
+
+/// The incident, as version 2 keeps it.
+const ROWS_2: [&str; 3] = [
+    "INSERT INTO hub VALUES (2)",
+    "INSERT INTO incident VALUES (1, 2, '\"7\"', 1)",
+    "INSERT INTO item VALUES (1, 1, 1, 'Incident', 1, 0, ''), (1, 2, 2, 'Contact', 0, 2, '[]'), (1, 3, 2, 'EventData', 1, 0, ''), (1, 4, 3, 'Description', 1, 1, 'x'), (1, 5, 3, 'Flow', 1, 0, ''), (1, 6, 4, 'System', 0, 2, '[]'), (1, 7, 4, 'restriction', 0, 1, 'red'), (1, 8, 2, 'GenerationTime', 0, 1, 'g'), (1, 9, 2, 'IncidentID', 0, 1, '7'), (1, 10, 2, 'purpose', 0, 1, 'reporting'), (1, 11, 2, 'restriction', 0, 1, 'private'), (1, 12, 1, 'version', 0, 1, '2.0')",
+];
+
+/// What is asked of a store that is open.
+const MOMENTS: [&str; 2] = ["p4 at 0|View|1", "p4 at 9223372036854775807|View|1"];
 
 /// Whether the statements were all run.
 fn are_run(conn: &mut Connection<MemStore>, statements: &[&str]) -> bool {
@@ -47,15 +74,16 @@ fn are_run(conn: &mut Connection<MemStore>, statements: &[&str]) -> bool {
     true
 }
 
-/// What person 4 sees of the incident, and the shelf.
+/// What person 4 sees of the incident at the first moment and at the last, and the shelf.
 fn seen<S: Alter + Drop>(
     alloc: Global,
     shelf: SqlShelf<S>,
 ) -> Result<(String, SqlShelf<S>), AllocError> {
     let mut told = String::new(alloc);
     let mut hub = Hub::new(shelf);
-    for (now, key, request) in &requests_of(alloc, &["p4|View|1"], None)? {
+    for (now, key, request) in &requests_of(alloc, &MOMENTS, None)? {
         let answer = reply(alloc, &hub.answer(alloc, *now, key, request))?;
+        told.push_str(if told.is_empty() { "" } else { "; " })?;
         told.push_str(answer.as_str())?;
     }
     Ok((told, hub.into_shelf()))
@@ -92,32 +120,44 @@ fn in_turn(
     Ok(())
 }
 
-/// The store, changed by these statements; none where a statement is refused.
-fn store(alloc: Global, statements: &[&str]) -> Result<Option<Connection<MemStore>>, AllocError> {
+/// A store with these tables beside those of version 1, and with these rows beside those of every version; none where a
+/// statement is refused.
+fn store(
+    alloc: Global,
+    tables: &[&str],
+    rows: &[&str],
+) -> Result<Option<Connection<MemStore>>, AllocError> {
     let mut conn = Connection::open_in_memory(alloc)?;
-    if are_run(&mut conn, &TABLES) && are_run(&mut conn, &ROWS) && are_run(&mut conn, statements) {
-        return Ok(Some(conn));
-    }
-    Ok(None)
+    let made = are_run(&mut conn, &TABLES)
+        && are_run(&mut conn, tables)
+        && are_run(&mut conn, &ROWS)
+        && are_run(&mut conn, rows);
+    if made { Ok(Some(conn)) } else { Ok(None) }
 }
 
-/// What is printed of it, and of the same with a report that doesn't read back.
+/// What is printed of a store, if it was made.
+fn printed(
+    alloc: Global,
+    made: Option<Connection<MemStore>>,
+    turns: &[(&str, bool)],
+    all: &mut Vec<String>,
+) -> Result<(), AllocError> {
+    match made {
+        Some(conn) => in_turn(alloc, conn, turns, all),
+        None => Ok(all.push(String::from_str(alloc, "the statements were refused")?)?),
+    }
+}
+
+/// What is printed of each version, and of reports that don't read back.
 pub fn all(alloc: Global) -> Result<Vec<String>, AllocError> {
     let mut all = Vec::new(alloc);
-    let (Some(whole), Some(unread)) = (
-        store(alloc, &[])?,
-        store(alloc, &["UPDATE incident SET text = '{'"])?,
-    ) else {
-        all.push(String::from_str(alloc, "the statements were refused")?)?;
-        return Ok(all);
-    };
     let turns = [
         ("version 1", false),
         ("version 1, migrated", true),
         ("migrated again", true),
         ("opened", false),
     ];
-    in_turn(alloc, whole, &turns, &mut all)?;
+    printed(alloc, store(alloc, &[], &ROWS_1)?, &turns, &mut all)?;
     let turns = [
         (
             "version 1 with a report that doesn't read back, migrated",
@@ -125,6 +165,13 @@ pub fn all(alloc: Global) -> Result<Vec<String>, AllocError> {
         ),
         ("as before", false),
     ];
-    in_turn(alloc, unread, &turns, &mut all)?;
+    printed(alloc, store(alloc, &[], &UNREAD_1)?, &turns, &mut all)?;
+    let turns = [
+        ("version 2", false),
+        ("version 2, migrated", true),
+        ("migrated again", true),
+        ("opened", false),
+    ];
+    printed(alloc, store(alloc, &TABLES_2, &ROWS_2)?, &turns, &mut all)?;
     Ok(all)
 }

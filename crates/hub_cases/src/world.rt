@@ -7,7 +7,8 @@ use std::alloc::{AllocError, Global};
 use trying::number_of;
 use trying_hub::{Fields, key_of, request_of};
 
-/// The moment of the first request, in seconds since 1970; each comes a second behind the one before.
+/// The moment of the first request, in seconds since 1970; each comes a second behind the one before, but for those whose
+/// line names another.
 const FIRST_MOMENT: i64 = 1_700_000_000;
 
 fn push_lines<'a>(lines: &mut Vec<&'a str>, block: &'a Block) -> Result<(), AllocError> {
@@ -37,11 +38,19 @@ fn caller(word: &str) -> Key {
     }
 }
 
-/// Who asks what, by a line.
-fn asked_of(alloc: Global, line: &str) -> Result<(Key, Request), AllocError> {
+/// Who asks, and at which moment if it is named: `p4`, or `p4 at 1717200000`.
+fn who_and_when(words: &str) -> (Key, Option<i64>) {
+    match words.split_once(" at ") {
+        Some((who, moment)) => (caller(who), moment.parse::<i64>().ok()),
+        None => (caller(words), None),
+    }
+}
+
+/// Who asks what, by a line, and when, if the line names no moment.
+fn asked_of(alloc: Global, line: &str, now: i64) -> Result<(i64, Key, Request), AllocError> {
     let mut fields = Fields::new(line);
-    let key = caller(fields.word());
-    Ok((key, request_of(alloc, &mut fields)?))
+    let (key, moment) = who_and_when(fields.word());
+    Ok((moment.unwrap_or(now), key, request_of(alloc, &mut fields)?))
 }
 
 /// The requests of these lines, but for one.
@@ -54,8 +63,7 @@ pub fn requests_of(
     let mut now = FIRST_MOMENT;
     for (i, line) in lines.iter().enumerate() {
         if but != Some(i) {
-            let (key, request) = asked_of(alloc, line)?;
-            asked.push((now, key, request))?;
+            asked.push(asked_of(alloc, line, now)?)?;
         }
         now = now.saturating_add(1);
     }

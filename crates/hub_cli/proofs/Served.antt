@@ -18,25 +18,25 @@ use Rattle.hub_cli.specs.Serving.{HasRun}
 pub none_asked : {D : Type 0} (has : D → State → Type 0) (old new : D) (most : ℕ) → new ≡ old → HasRun has old new most
 none_asked has old new most same = λ s here sound. ([], [], s, omega arith, refl, subst (λ d. has d s) (sym same) here)
 
-one_asked : {D : Type 0} (has : D → State → Type 0) (doubts failed : D → ℕ) (may_leave : D → Option State → Type 0) (old new : D) (now : ℤ) (asked : Key × Request) (reply : Reply)
-    → Steps has doubts failed may_leave old now asked reply new → doubts new ≡ 0 → HasRun has old new 1
-one_asked has doubts failed may_leave old new now asked reply steps clean = λ s here sound.
+one_asked : {D : Type 0} (has : D → State → Type 0) (doubts failed : D → ℕ) (may_remain : D → Option State → Type 0) (old new : D) (now : ℤ) (asked : Key × Request) (reply : Reply)
+    → Steps has doubts failed may_remain old now asked reply new → doubts new ≡ 0 → HasRun has old new 1
+one_asked has doubts failed may_remain old new now asked reply steps clean = λ s here sound.
     let step = steps.step clean s here sound in
     ((now, asked.0, asked.1) ∷ [], reply ∷ [], step.0, omega arith, (step.0, step.1, refl), step.2)
 
 -- one connection asks one thing at most
-pub serves_run : {D : Type 0} (has : D → State → Type 0) (doubts failed : D → ℕ) (may_leave : D → Option State → Type 0) (old new : D) (now : ℤ)
+pub serves_run : {D : Type 0} (has : D → State → Type 0) (doubts failed : D → ℕ) (may_remain : D → Option State → Type 0) (old new : D) (now : ℤ)
     (before after written now_written : Option (List ℕ)) (result : Result Served ServeFault)
-    → Serves (λ asked reply. Steps has doubts failed may_leave old now asked reply new) (new ≡ old) before after written now_written result
+    → Serves (λ asked reply. Steps has doubts failed may_remain old now asked reply new) (new ≡ old) before after written now_written result
     → doubts new ≡ 0 → HasRun has old new 1
-serves_run has doubts failed may_leave old new now before after written now_written result served clean = by_result result served
+serves_run has doubts failed may_remain old new now before after written now_written result served clean = by_result result served
   where
-    maybe : MayHaveAnswered (λ asked reply. Steps has doubts failed may_leave old now asked reply new) (new ≡ old) before after → HasRun has old new 1
+    maybe : MayHaveAnswered (λ asked reply. Steps has doubts failed may_remain old now asked reply new) (new ≡ old) before after → HasRun has old new 1
     maybe (inl same) = none_asked has old new 1 same
-    maybe (inr told) = one_asked has doubts failed may_leave old new now told.1.0 told.0 told.1.2 clean
+    maybe (inr told) = one_asked has doubts failed may_remain old new now told.1.0 told.0 told.1.2 clean
 
-    by_result : (r : Result Served ServeFault) → Serves (λ asked reply. Steps has doubts failed may_leave old now asked reply new) (new ≡ old) before after written now_written r → HasRun has old new 1
-    by_result (Ok Answered) told = one_asked has doubts failed may_leave old new now told.1.0 told.0 told.1.2 clean
+    by_result : (r : Result Served ServeFault) → Serves (λ asked reply. Steps has doubts failed may_remain old now asked reply new) (new ≡ old) before after written now_written r → HasRun has old new 1
+    by_result (Ok Answered) told = one_asked has doubts failed may_remain old new now told.1.0 told.0 told.1.2 clean
     by_result (Ok (WireRefused e)) told = none_asked has old new 1 told.3
     by_result (Err Truncated) told = none_asked has old new 1 told.3
     by_result (Err ReadFailed) told = none_asked has old new 1 told.1

@@ -224,6 +224,34 @@ clearance CLEAR A
 permission "/Incident/0/EventData/0" org 4
 "#;
 
+/// The permission again, with an end that is far off and with one that is past.
+const FAR_END: Post = (
+    "key-2",
+    "/incidents/1/grant",
+    "revision=1&path=/Incident/0/EventData/0&org=4&until=2999-01-01T00:00:00Z",
+);
+
+const PAST_END: Post = (
+    "key-2",
+    "/incidents/1/grant",
+    "revision=1&path=/Incident/0/EventData/0&org=4&until=2024-06-01T02:00:00%2B02:00",
+);
+
+const SHOWN_UNTIL: &str = r#"verdict Shown X
+path "/Incident/0/EventData/0"
+gate "" 3 0 pass
+site "/Incident/0" "private" RED
+clearance CLEAR A
+permission "/Incident/0/EventData/0" org 4 until 32472144000
+"#;
+
+const HIDDEN_PAST_END: &str = r#"verdict Hidden H-RED
+path "/Incident/0/EventData/0"
+gate "" 3 0 pass
+site "/Incident/0" "private" RED
+clearance CLEAR A
+"#;
+
 const HIDDEN_BELOW_GRANT: &str = r#"verdict Hidden H-RED
 path "/Incident/0/EventData/0/Flow/0"
 gate "" 3 0 pass
@@ -257,6 +285,21 @@ fn a_grant_and_a_label_below_it(rt: HostRuntime) -> io::Result<()> {
     ];
     assert_eq!(rt; first_wrong(&rt, path.as_str(), &cases)?, None);
     remove(&rt, path.as_str())
+}
+
+/// The moment is the clock's.
+#[test]
+fn a_grant_with_an_end(rt: HostRuntime) -> io::Result<()> {
+    let path = store_with(&rt, "ends", &GRANTED)?;
+    let path = path.as_str();
+    let asked = &["explain", STORE, "4", "1", EVENT];
+    post_all(&rt, path, &[FAR_END])?;
+    let far = [prints(asked, KEY, SHOWN_UNTIL)];
+    assert_eq!(rt; first_wrong(&rt, path, &far)?, None);
+    post_all(&rt, path, &[PAST_END])?;
+    let past = [prints(asked, KEY, HIDDEN_PAST_END)];
+    assert_eq!(rt; first_wrong(&rt, path, &past)?, None);
+    remove(&rt, path)
 }
 
 /// Each refusal comes before those behind it.

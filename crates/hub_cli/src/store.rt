@@ -110,8 +110,11 @@ pub fn open_store(rt: &HostRuntime, path: &str) -> Result<FileShelf, Fault> {
 }
 
 /// The shelf over the file, which keeps the documents that are read lately.
-pub fn open_kept(rt: &HostRuntime, path: &str) -> Result<KeptDocuments<FileShelf>, Fault> {
-    match KeptDocuments::new(rt.alloc(), open_store(rt, path)?, MOST_LINES) {
+pub fn open_kept(
+    rt: &HostRuntime,
+    path: &str,
+) -> Result<KeptDocuments<FileShelf, MOST_LINES>, Fault> {
+    match KeptDocuments::new(rt.alloc(), open_store(rt, path)?) {
         Ok(kept) => Ok(kept),
         Err((_, shelf)) => {
             close(shelf);

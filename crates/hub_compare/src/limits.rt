@@ -69,7 +69,7 @@ fn fill_first(world: &mut World) -> Result<(), AllocError> {
             target: Target::Org(org),
         })?;
         if let Some(path) = classes.first() {
-            world.add_permission(incident, path.clone()?, Grantee::Org(org))?;
+            world.add_permission(incident, path.clone()?, Grantee::Org(org), None)?;
         }
     }
     Ok(())
@@ -130,6 +130,7 @@ fn changes(alloc: Global, time: u32) -> Result<[Request; 4], AllocError> {
         revision,
         path: Text::of(alloc, "/Incident/0")?,
         grantee: Grantee::Org(org),
+        until: None,
     };
     let distribution = Distribution {
         level: 3,

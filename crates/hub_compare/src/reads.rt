@@ -2,6 +2,7 @@
 
 use crate::fault::{Fault, agree};
 use crate::replies::{same_document, same_excerpt, same_groups};
+use crate::shelves::MOST_LINES;
 use crate::world::{KEYS, key_of};
 use hub_core::{ListShelf, Shelf};
 use hub_store::SqlShelf;
@@ -26,10 +27,9 @@ fn same_gates(one: &[Gate], other: &[Gate]) -> bool {
 
 fn same_permissions(one: &[Permission], other: &[Permission]) -> bool {
     one.len() == other.len()
-        && one
-            .iter()
-            .zip(other.iter())
-            .all(|(a, b)| a.path == b.path && a.grantee == b.grantee)
+        && one.iter().zip(other.iter()).all(|(a, b)| a.path == b.path
+            && a.grantee == b.grantee
+            && a.until == b.until)
 }
 
 fn same_case(one: &Case, other: &Case) -> bool {
@@ -52,6 +52,7 @@ fn same_standing(one: &Standing, other: &Standing) -> bool {
         && one.groups.as_slice() == other.groups.as_slice()
         && one.active_groups.as_slice() == other.active_groups.as_slice()
         && one.communities.as_slice() == other.communities.as_slice()
+        && one.now == other.now
 }
 
 /// The person of this key, and its groups.
@@ -70,6 +71,9 @@ fn agree_on_key(lists: &mut ListShelf, tables: &mut Tables, key: &[u8; 32]) -> R
     Ok(())
 }
 
+/// The moment at which standings are asked for.
+const NOW: i64 = 1_000;
+
 /// How the person stands to the incident, if it is there.
 fn agree_on_standing(
     lists: &mut ListShelf,
@@ -78,8 +82,8 @@ fn agree_on_standing(
     incident: u32,
 ) -> Result<(), Fault> {
     let alike = match (
-        lists.standing(person, incident)?,
-        tables.standing(person, incident)?,
+        lists.standing(person, incident, NOW)?,
+        tables.standing(person, incident, NOW)?,
     ) {
         (Some(one), Some(other)) => same_standing(&one, &other),
         (None, None) => true,
@@ -113,16 +117,18 @@ fn agree_on_incident(
 fn agree_on_excerpt(
     alloc: Global,
     lists: &mut ListShelf,
-    kept: &mut KeptDocuments<ListShelf>,
+    kept: &mut KeptDocuments<ListShelf, MOST_LINES>,
     person: u32,
     incident: u32,
 ) -> Result<(), Fault> {
-    let (Some(case), Some(standing)) = (lists.case(incident)?, lists.standing(person, incident)?)
-    else {
+    let (Some(case), Some(standing)) = (
+        lists.case(incident)?,
+        lists.standing(person, incident, NOW)?,
+    ) else {
         return Ok(());
     };
     let one = lists.excerpt(incident, case, standing)?;
-    let (Some(case), Some(standing)) = (kept.case(incident)?, kept.standing(person, incident)?)
+    let (Some(case), Some(standing)) = (kept.case(incident)?, kept.standing(person, incident, NOW)?)
     else {
         return Err(Fault::Differs("a case or a standing that is missing"));
     };
@@ -134,7 +140,7 @@ fn agree_on_excerpt(
 pub fn agree_on_excerpts(
     alloc: Global,
     lists: &mut ListShelf,
-    kept: &mut KeptDocuments<ListShelf>,
+    kept: &mut KeptDocuments<ListShelf, MOST_LINES>,
 ) -> Result<(), Fault> {
     let entries = lists.incidents_after(0, u32::MAX)?;
     for entry in entries.iter().take(INCIDENTS) {

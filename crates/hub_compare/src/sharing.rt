@@ -97,6 +97,16 @@ fn any_grantee(dice: &mut Dice, world: &World, own: u32) -> Result<Grantee, Allo
     })
 }
 
+/// No end in half of the cases, else one of a few.
+pub fn any_end(dice: &mut Dice) -> Option<i64> {
+    match dice.roll(6) {
+        0 => Some(0),
+        1 => Some(1_000),
+        2 => Some(1_717_200_000),
+        _ => None,
+    }
+}
+
 /// A place and whom it is shown, in one of three those of a permission that stands.
 pub fn any_permission(
     dice: &mut Dice,
@@ -135,6 +145,7 @@ pub fn any_sharing(dice: &mut Dice, world: &World, asker: Asker) -> Result<Reque
             revision: any_revision(dice, world, incident),
             path,
             grantee,
+            until: any_end(dice),
         }),
         _ => Request::Withdraw(Withdraw {
             incident,

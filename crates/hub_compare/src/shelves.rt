@@ -12,14 +12,14 @@ use sqlite::{Connection, MemStore};
 use std::alloc::Global;
 
 /// How many lines the third shelf keeps: so few that documents take each other's place.
-const MOST_LINES: usize = 60;
+pub const MOST_LINES: usize = 60;
 
 /// The hub over the shelf in memory, over SQL tables in memory, and over a shelf in memory that keeps documents.
 #[derive(Drop)]
 pub struct Shelves {
     lists: Hub<ListShelf>,
     tables: Hub<SqlShelf<MemStore>>,
-    kept: Hub<KeptDocuments<ListShelf>>,
+    kept: Hub<KeptDocuments<ListShelf, MOST_LINES>>,
 }
 
 /// A shelf in memory with these rows.
@@ -30,8 +30,8 @@ fn new_lists(alloc: Global, edits: &[Edit]) -> Result<ListShelf, Fault> {
 }
 
 /// The same, which keeps documents.
-fn new_kept(alloc: Global, edits: &[Edit]) -> Result<KeptDocuments<ListShelf>, Fault> {
-    match KeptDocuments::new(alloc, new_lists(alloc, edits)?, MOST_LINES) {
+fn new_kept(alloc: Global, edits: &[Edit]) -> Result<KeptDocuments<ListShelf, MOST_LINES>, Fault> {
+    match KeptDocuments::new(alloc, new_lists(alloc, edits)?) {
         Ok(kept) => Ok(kept),
         Err((refused, _)) => Err(Fault::from(refused)),
     }

@@ -271,8 +271,13 @@ impl World {
         incident: u32,
         path: Path,
         grantee: Grantee,
+        until: Option<i64>,
     ) -> Result<(), AllocError> {
-        let permission = policy::Permission { path, grantee };
+        let permission = policy::Permission {
+            path,
+            grantee,
+            until,
+        };
         self.permissions.push(Permission {
             incident,
             permission,

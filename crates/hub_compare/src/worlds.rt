@@ -3,6 +3,7 @@
 use crate::commands::any_role;
 use crate::documents::{Flaw, any_body, ident_text};
 use crate::fault::Fault;
+use crate::sharing::any_end;
 use crate::world::{Pair, Relation, World, count_of};
 use circle::directory::Role;
 use hub_core::{Gate, Recipient, Target};
@@ -160,7 +161,8 @@ fn add_permissions(
         let grantee = any_grantee(dice, world);
         if let Some(path) = dice.one_of(classes) {
             if left > 0 && !world.has_permission(incident, path, grantee) {
-                world.add_permission(incident, path.clone()?, grantee)?;
+                let until = any_end(dice);
+                world.add_permission(incident, path.clone()?, grantee, until)?;
                 left = left.saturating_sub(1);
             }
         }

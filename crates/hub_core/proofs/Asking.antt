@@ -2,7 +2,7 @@
 use Rattle.std.proofs.Common.{◌≡◌, List, [], ◌∷◌, ◌++◌, Bool, true, false, if◌then◌else◌, Option, Some, None, Result, Ok, Err, refl, ◌∙◌}
 use Rattle.circle.specs.Refusals.{Ground, first_answer}
 use Rattle.circle.specs.declared.refusal.Refusal.{Refusal}
-use Rattle.hub_core.specs.Asked.{Asks}
+use Rattle.hub_core.specs.inner.Asked.{Asks}
 use Rattle.hub_core.specs.declared.judging.stop.Stop.{Stop}
 use Rattle.hub_core.specs.declared.judging.stop.Stop.TheVariants.{Refused, NoMemory}
 

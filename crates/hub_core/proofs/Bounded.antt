@@ -1,7 +1,7 @@
 -- In a sound state no incident has more rows than a u32 counts.
 use Rattle.std.proofs.Common.{◌≡◌, ℕ, ◌+◌, ◌-◌, ◌^◌, ◌≤◌, ◌==◌, ◌&&◌, ◌||◌, Bool, true, false, not, List, filter, length, Option, refl, ap, ◌∙◌, subst, arith}
 use Rattle.std.proofs.lemmas.Bool.{and_left, eqb-true, eq-eqb, false_from_ne_true}
-use Rattle.std.specs.Prelude.{min, IsTrue}
+use Rattle.std.specs.Prelude.{ℤ, min, IsTrue}
 use Rattle.std.specs.List.{list_any}
 use Rattle.iodef_tree.specs.Text.{Tokens, is_root}
 use Rattle.policy.specs.declared.gate.Gate.{Gate as CaseGate}
@@ -12,7 +12,7 @@ use Rattle.circle.proofs.Keeping.{each_weaker, found_then}
 use Rattle.hub_core.specs.declared.TheConstants.{GATE_LIMIT, RECIPIENT_LIMIT, PERMISSION_LIMIT}
 use Rattle.hub_core.specs.Documents.{is_class_in}
 use Rattle.hub_core.specs.Edits.{edited}
-use Rattle.hub_core.specs.Questions.{class_gates_among, class_gates_with, targets_beside, permissions_beside}
+use Rattle.hub_core.specs.inner.Questions.{class_gates_among, class_gates_with, targets_beside, permissions_beside}
 use Rattle.hub_core.specs.Reads.{its_gates, its_permissions, its_recipients}
 use Rattle.hub_core.specs.Sound.{IsSound, IsIncident}
 use Rattle.hub_core.specs.State.{State, gate_cmp, recipient_cmp, permission_cmp, gate_with, permission_with, incident_in, of_incident, is_gate_at, is_recipient_being, is_permission_being, class_gates, recipients_of, permissions_of}
@@ -56,7 +56,7 @@ few_recipients : (s : State) (n : ℕ) → IsSound s → recipients_of n s.recip
 few_recipients s n sound = few (λ m. recipients_of m s.recipients) RECIPIENT_LIMIT n s.incidents sound.recipients.limit (λ none.
     count_none (λ (r : Recipient). r.incident == n) s.recipients (each_weaker _ _ s.recipients (λ r there. apart s.incidents r.incident n there none) sound.recipients.ends))
 
-few_permissions : (s : State) (n : ℕ) → IsSound s → permissions_of n s.permissions ≤ PERMISSION_LIMIT
+pub few_permissions : (s : State) (n : ℕ) → IsSound s → permissions_of n s.permissions ≤ PERMISSION_LIMIT
 few_permissions s n sound = few (λ m. permissions_of m s.permissions) PERMISSION_LIMIT n s.incidents sound.permissions.limit (λ none.
     count_none (λ (x : Permission). x.incident == n) s.permissions (each_weaker _ _ s.permissions (λ x there.
     apart s.incidents x.incident n (owner s.incidents (λ (i : Incident). is_class_in i.document x.permission.path) x.incident there) none) sound.permissions.places))
@@ -119,11 +119,11 @@ permissions_told_left s key permissions sound is =
     let few = at_most _ _ PERMISSION_LIMIT (count_left (λ (x : Permission). x.incident == key.incident) other s.permissions) (few_permissions s key.incident sound) in
     omega arith
 
-pub permissions_told_with : (s : State) (key : PermissionKey) (permissions : List CasePermission) (k : ℕ) → IsSound s → permissions ≡ its_permissions key.incident s.permissions → k ≡ min (min (permissions_beside key.path key.grantee permissions) 4294967295 + 1) (2 ^ 32 - 1) →
-    k ≡ permissions_of key.incident (edited (edit.PutPermission (permission_with key)) (edited (edit.TakePermission key) s)).permissions
-permissions_told_with s key permissions k sound is more =
+pub permissions_told_with : (s : State) (key : PermissionKey) (until : Option ℤ) (permissions : List CasePermission) (k : ℕ) → IsSound s → permissions ≡ its_permissions key.incident s.permissions → k ≡ min (min (permissions_beside key.path key.grantee permissions) 4294967295 + 1) (2 ^ 32 - 1) →
+    k ≡ permissions_of key.incident (edited (edit.PutPermission (permission_with key until)) (edited (edit.TakePermission key) s)).permissions
+permissions_told_with s key until permissions k sound is more =
     let other : Permission → Bool = λ (x : Permission). not (is_permission_being key x) in
     let left = permissions_told_left s key permissions sound is in
     let few = at_most _ _ PERMISSION_LIMIT (count_left (λ (x : Permission). x.incident == key.incident) other s.permissions) (few_permissions s key.incident sound) in
-    let next = count_more (λ (x : Permission). x.incident == key.incident) permission_cmp (permission_with key) (filter other s.permissions) (eq-eqb key.incident key.incident refl) in
+    let next = count_more (λ (x : Permission). x.incident == key.incident) permission_cmp (permission_with key until) (filter other s.permissions) (eq-eqb key.incident key.incident refl) in
     omega arith

@@ -1,6 +1,6 @@
 -- What is asked of the gates, recipients and permissions of an incident is asked of those rows among all.
 use Rattle.std.proofs.Common.{◌≡◌, ℕ, ◌+◌, ◌==◌, ◌&&◌, ◌||◌, Bool, true, false, not, List, [], ◌∷◌, filter, map, length, if◌then◌else◌, Option, Some, None, refl, sym, ap, ◌∙◌, arith}
-use Rattle.std.specs.Prelude.{count_by}
+use Rattle.std.specs.Prelude.{ℤ, count_by}
 use Rattle.std.specs.List.{list_any}
 use Rattle.std.proofs.lemmas.Bool.{eq-eqb}
 use Rattle.std.proofs.lemmas.List.{length-map}
@@ -16,12 +16,14 @@ use Rattle.circle.specs.Ordered.{put_by}
 use Rattle.circle.proofs.Lookup.{any_having}
 use Rattle.hub_core.specs.Documents.{at_pointer}
 use Rattle.hub_core.specs.Facts.{stands_in}
-use Rattle.hub_core.specs.Questions.{is_gate_among, is_target_among, is_permission_among, is_permission_of, class_gates_among, class_gates_with, targets_beside, permissions_beside}
+use Rattle.hub_core.specs.inner.Questions.{is_gate_among, is_target_among, is_permission_among, is_permission_among_until, is_permission_of, class_gates_among, class_gates_with, targets_beside, permissions_beside}
 use Rattle.hub_core.specs.Reads.{its_gates, its_permissions, its_recipients}
-use Rattle.hub_core.specs.State.{State, gate_cmp, gate_with, is_gate_at, is_permission_being, is_recipient_being, same_group, same_target, has_gate, has_recipient, has_permission, class_gates, recipients_of, permissions_of}
+use Rattle.hub_core.specs.State.{State, gate_cmp, gate_with, is_gate_at, is_permission_being, is_recipient_being, same_end, same_group, same_target, has_gate, has_recipient, has_permission, has_permission_until, class_gates, recipients_of, permissions_of}
+use Rattle.hub_core.specs.declared.request.Grant.{Grant}
 use Rattle.hub_core.specs.declared.request.Redistribute.{Redistribute}
 use Rattle.hub_core.specs.declared.request.Request.TheVariants as ask
 use Rattle.hub_core.specs.declared.request.Target.{Target}
+use Rattle.hub_core.specs.declared.request.Withdraw.{Withdraw}
 use Rattle.hub_core.specs.declared.state.Gate.{Gate}
 use Rattle.hub_core.specs.declared.state.Permission.{Permission}
 use Rattle.hub_core.specs.declared.state.Recipient.{Recipient}
@@ -92,6 +94,14 @@ target_among n target s = any_among (λ (r : Recipient). r.incident == n) (λ (r
 pub permission_among : (n : ℕ) (p : Tokens) (grantee : Grantee) (s : State) → is_permission_among p grantee (its_permissions n s.permissions) ≡ has_permission (record { incident = n; path = p; grantee = grantee }) s
 permission_among n p grantee s = any_among (λ (x : Permission). x.incident == n) (λ (x : Permission). x.permission) (is_permission_of p grantee) s.permissions
 
+pub permission_among_until : (n : ℕ) (p : Tokens) (grantee : Grantee) (until : Option ℤ) (s : State) →
+    is_permission_among_until p grantee until (its_permissions n s.permissions) ≡ has_permission_until (record { incident = n; path = p; grantee = grantee }) until s
+permission_among_until n p grantee until s =
+    any_among (λ (x : Permission). x.incident == n) (λ (x : Permission). x.permission) (λ (x : CasePermission). is_permission_of p grantee x && same_end x.until until) s.permissions
+    ∙ any_same (λ (x : Permission). x.incident == n && (is_permission_of p grantee x.permission && same_end x.permission.until until))
+    (λ (x : Permission). is_permission_being (record { incident = n; path = p; grantee = grantee }) x && same_end x.permission.until until) s.permissions
+    (λ x. sym (and_and (x.incident == n) (is_permission_of p grantee x.permission) (same_end x.permission.until until)))
+
 -- at the path that a text is the pointer of
 at_same : (f g : Tokens → Bool) (path : Bytes) → ((p : Tokens) → f p ≡ g p) → at_pointer f path ≡ at_pointer g path
 at_same f g path same = split (pointer_tokens path)
@@ -103,9 +113,14 @@ at_same f g path same = split (pointer_tokens path)
 pub gate_stands : (s : State) (r : Redistribute) (gates : List CaseGate) → gates ≡ its_gates r.incident s.gates → at_pointer (λ p. is_gate_among p r.level r.group gates) r.path ≡ stands_in s (ask.Redistribute r)
 gate_stands s r gates is = at_same (λ p. is_gate_among p r.level r.group gates) (λ p. has_gate (record { incident = r.incident; path = p }) r.level r.group s) r.path (λ p. ap (is_gate_among p r.level r.group) is ∙ gate_among r.incident p r.level r.group s)
 
-pub permission_stands : (s : State) (n : ℕ) (path : Bytes) (grantee : Grantee) (permissions : List CasePermission) → permissions ≡ its_permissions n s.permissions →
-    at_pointer (λ p. is_permission_among p grantee permissions) path ≡ at_pointer (λ p. has_permission (record { incident = n; path = p; grantee = grantee }) s) path
-permission_stands s n path grantee permissions is = at_same (λ p. is_permission_among p grantee permissions) (λ p. has_permission (record { incident = n; path = p; grantee = grantee }) s) path (λ p. ap (is_permission_among p grantee) is ∙ permission_among n p grantee s)
+pub permission_stands : (s : State) (r : Withdraw) (permissions : List CasePermission) → permissions ≡ its_permissions r.incident s.permissions →
+    at_pointer (λ p. is_permission_among p r.grantee permissions) r.path ≡ stands_in s (ask.Withdraw r)
+permission_stands s r permissions is = at_same (λ p. is_permission_among p r.grantee permissions) (λ p. has_permission (record { incident = r.incident; path = p; grantee = r.grantee }) s) r.path (λ p. ap (is_permission_among p r.grantee) is ∙ permission_among r.incident p r.grantee s)
+
+pub granted_stands : (s : State) (r : Grant) (permissions : List CasePermission) → permissions ≡ its_permissions r.incident s.permissions →
+    at_pointer (λ p. is_permission_among_until p r.grantee r.until permissions) r.path ≡ stands_in s (ask.Grant r)
+granted_stands s r permissions is = at_same (λ p. is_permission_among_until p r.grantee r.until permissions) (λ p. has_permission_until (record { incident = r.incident; path = p; grantee = r.grantee }) r.until s) r.path
+    (λ p. ap (is_permission_among_until p r.grantee r.until) is ∙ permission_among_until r.incident p r.grantee r.until s)
 
 -- ---- how many are there?
 

@@ -11,7 +11,7 @@ use Rattle.hub_core.specs.Facts.{facts_of}
 use Rattle.hub_core.specs.Refusals.{refusal_of, state_after, grounds_by, refusal_by}
 use Rattle.hub_core.specs.Aftermath.{edits_by}
 use Rattle.hub_core.specs.Sound.{IsSound}
-use Rattle.hub_core.specs.Asked.{Asks}
+use Rattle.hub_core.specs.inner.Asked.{Asks}
 use Rattle.hub_core.specs.declared.edit.Edit.{Edit}
 use Rattle.hub_core.specs.declared.facts.Facts.{Facts}
 use Rattle.hub_core.specs.declared.judging.stop.Stop.{Stop}

@@ -1,6 +1,6 @@
 -- Rows put in and taken out: what is found, filtered and counted then.
 use Rattle.std.proofs.Common.{◌≡◌, ℕ, ◌+◌, ◌≤◌, ◌<◌, ◌==◌, ◌||◌, not, Bool, true, false, if◌then◌else◌, List, [], ◌∷◌, filter, Option, Some, None, refl, sym, ap, ◌∙◌, subst, arith}
-use Rattle.std.proofs.lemmas.Bool.{both_ways, false_from_ne_true}
+use Rattle.std.proofs.lemmas.Bool.{both_ways, false_from_ne_true, false≢true}
 use Rattle.std.specs.Prelude.{count_by, find, is_some}
 use Rattle.std.specs.List.{list_any, list_all}
 use Rattle.std.specs.Option.{option_map_or}
@@ -202,6 +202,18 @@ count_left p q (x ∷ xs) = split (q x) refl (count_left p q xs)
     split : (b : Bool) → q x ≡ b → count_by p (filter q xs) ≤ count_by p xs → count_by p (filter q (x ∷ xs)) ≤ count_by p (x ∷ xs)
     split true is rest = subst (λ b. count_by p (if b then x ∷ filter q xs else filter q xs) ≤ count_by p (x ∷ xs)) (sym is) (let a = count_by-cons p x (filter q xs) in let b = count_by-cons p x xs in omega (arith, a, b, rest))
     split false is rest = subst (λ b. count_by p (if b then x ∷ filter q xs else filter q xs) ≤ count_by p (x ∷ xs)) (sym is) (let b = count_by-cons p x xs in omega (arith, b, rest))
+
+-- fewer, where one that counts is taken out
+pub count_fewer : {X : Type 0} (p out : X → Bool) (xs : List X) → list_any out xs ≡ true → ((x : X) → out x ≡ true → p x ≡ true) → 1 + count_by p (filter (λ x. not (out x)) xs) ≤ count_by p xs
+count_fewer p out [] some counts = absurd (false≢true some)
+count_fewer {X = X} p out (x ∷ xs) some counts = split (out x) refl (count_fewer p out xs)
+  where
+    split : (b : Bool) → out x ≡ b → (list_any out xs ≡ true → ((y : X) → out y ≡ true → p y ≡ true) → 1 + count_by p (filter (λ y. not (out y)) xs) ≤ count_by p xs) →
+        1 + count_by p (filter (λ y. not (out y)) (x ∷ xs)) ≤ count_by p (x ∷ xs)
+    split true is rest = subst (λ b. 1 + count_by p (if not b then x ∷ filter (λ y. not (out y)) xs else filter (λ y. not (out y)) xs) ≤ count_by p (x ∷ xs)) (sym is)
+        (let here = count_here p x xs (counts x is) in let left = count_left p (λ y. not (out y)) xs in omega (arith, here, left))
+    split false is rest = subst (λ b. 1 + count_by p (if not b then x ∷ filter (λ y. not (out y)) xs else filter (λ y. not (out y)) xs) ≤ count_by p (x ∷ xs)) (sym is)
+        (let later = rest (sym (ap (λ b. b || list_any out xs) is) ∙ some) counts in let a = count_by-cons p x (filter (λ y. not (out y)) xs) in let b = count_by-cons p x xs in omega (arith, later, a, b))
 
 -- as many, where none that counts is taken out
 pub count_kept : {X : Type 0} (p q : X → Bool) (xs : List X) → ((x : X) → p x ≡ true → q x ≡ true) → count_by p (filter q xs) ≡ count_by p xs

@@ -4,7 +4,7 @@ use Rattle.circle.specs.Directory.{Directory}
 use Rattle.circle.specs.Aftermath.{edited_row, edited_rows}
 use Rattle.hub_core.specs.State.{State}
 use Rattle.hub_core.specs.Edits.{edited, after}
-use Rattle.hub_core.specs.Changes.{directory_edits, row_edits}
+use Rattle.hub_core.specs.inner.Changes.{directory_edits, row_edits}
 use Rattle.hub_core.specs.declared.edit.Edit.{Edit}
 use Rattle.hub_core.specs.declared.edit.Edit.TheVariants as edit
 

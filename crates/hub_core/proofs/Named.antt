@@ -23,7 +23,7 @@ use Rattle.hub_core.specs.declared.request.Target.{Target}
 use Rattle.hub_core.specs.declared.request.Target.TheVariants as target
 use Rattle.hub_core.specs.declared.request.WantedGate.{WantedGate}
 use Rattle.hub_core.specs.declared.state.Incident.{Incident}
-use Rattle.hub_core.specs.declared.facts.Known.{Known}
+use Rattle.hub_core.specs.declared.facts.IncidentFacts.{IncidentFacts}
 use Rattle.hub_core.proofs.Keeping.{all_each, found_any, found_is, found_passing}
 
 -- ---- what is known of an incident
@@ -48,7 +48,7 @@ pub record Own (s : State) (a : Person) (n : ℕ) : Type 0 where
 
 pub own : (s : State) (a : Person) (n : ℕ) → not (is_own (option_map known (incident_of n s)) a) ≡ false → Own s a n
 own s a n h =
-    let theirs = λ (k : Known). k.source == a.org in
+    let theirs = λ (k : IncidentFacts). k.source == a.org in
     let f = found_passing (λ (i : Incident). i.naming.source == a.org) (incident_of n s) (sym (map_or_map theirs known (incident_of n s) false) ∙ not-false (is_own (option_map known (incident_of n s)) a) h) in
     record { incident = f.0; found = f.1; source = eqb-true f.0.naming.source a.org f.2; number = eqb-true f.0.naming.number n (found_is (λ (i : Incident). i.naming.number == n) s.incidents f.0 f.1) }
 

@@ -1,7 +1,7 @@
 -- What a request leaves of the incidents that it doesn't name.
 use Rattle.std.proofs.Common.{◌≡◌, ◌≢◌, ℕ, ◌+◌, ◌≤◌, ◌==◌, ◌&&◌, Bool, true, false, not, List, [], ◌∷◌, ◌++◌, length, map, filter, Option, Some, None, refl, sym, ap, ◌∙◌, subst, arith}
 use Rattle.std.specs.Prelude.{option_map}
-use Rattle.hub_core.specs.declared.facts.Known.{Known}
+use Rattle.hub_core.specs.declared.facts.IncidentFacts.{IncidentFacts}
 use Rattle.hub_core.specs.Requests.{known}
 use Rattle.std.proofs.lemmas.Bool.{and_left, eqb-true, false_from_ne_true, ne_eqb, not-true, not_from_false}
 use Rattle.std.specs.List.{flat_map}
@@ -18,7 +18,7 @@ use Rattle.circle.specs.declared.refusal.Refusal.{Refusal}
 use Rattle.circle.proofs.Judged.{passed, next_number}
 use Rattle.circle.proofs.Keeping.{names_within}
 use Rattle.hub_core.specs.declared.TheConstants.{INCIDENT_LIMIT}
-use Rattle.hub_core.specs.Aftermath.{changed, edits_of, next_incident, put_gate, put_gates, put_incident, put_incidents, put_next}
+use Rattle.hub_core.specs.Aftermath.{changed, edits_of, next_incident, put_gate, put_gates, put_incident, put_incidents, put_next, put_permission}
 use Rattle.hub_core.specs.Documents.{Lines, documents_in, made_at}
 use Rattle.hub_core.specs.Edits.{after, edited}
 use Rattle.hub_core.specs.Laws.{OthersStay, ExchangesEndPermissions}
@@ -108,7 +108,7 @@ module _ (P : Edit → Type 0) where
 gates_spare : (n m : ℕ) (d : Distribution) → (m == n) ≡ false → Each (Spares n) (put_gates m d)
 gates_spare n m d h = (h, each_wanted (Spares n) m d.gates (λ g p. (h, tt)))
 
-next_spares : (n m : ℕ) (k : Option Known) (docs : List Lines) → (m == n) ≡ false → Each (Spares n) (put_next m k docs)
+next_spares : (n m : ℕ) (k : Option IncidentFacts) (docs : List Lines) → (m == n) ≡ false → Each (Spares n) (put_next m k docs)
 next_spares n m None docs h = tt
 next_spares n m (Some k) [] h = tt
 next_spares n m (Some k) (doc ∷ docs) h = (h, (h, tt))
@@ -161,7 +161,7 @@ all_spared s a (ask.Unaddress r) i h found other fine =
 all_spared s a (ask.Grant r) i h found other fine =
     let p = passed (grounds s a (ask.Grant r)) fine in
     let apart : (r.incident == i.naming.number) ≡ false = not_theirs s a r.incident i found other p.1.1.0 in
-    each_made (Spares i.naming.number) (λ p. PutPermission (record { incident = r.incident; permission = record { path = p; grantee = r.grantee } }) ∷ []) (pointer_tokens r.path) (λ q. (apart, tt))
+    each_made (Spares i.naming.number) (λ p. put_permission (record { incident = r.incident; path = p; grantee = r.grantee }) r.until) (pointer_tokens r.path) (λ q. (apart, (apart, tt)))
 all_spared s a (ask.Withdraw r) i h found other fine =
     let p = passed (grounds s a (ask.Withdraw r)) fine in
     let apart : (r.incident == i.naming.number) ≡ false = not_theirs s a r.incident i found other p.1.1.0 in
@@ -213,12 +213,12 @@ keeps (edit ∷ edits) s h =
     let rest = keeps edits (edited edit s) h.1 in
     record { recipients = rest.recipients ∙ first.recipients; permissions = rest.permissions ∙ first.permissions }
 
-next_plain : (n : ℕ) (k : Option Known) (docs : List Lines) → Each IsPlain (put_next n k docs)
+next_plain : (n : ℕ) (k : Option IncidentFacts) (docs : List Lines) → Each IsPlain (put_next n k docs)
 next_plain n None docs = tt
 next_plain n (Some k) [] = tt
 next_plain n (Some k) (doc ∷ docs) = (tt, (tt, tt))
 
-replaced : (s : State) (n : ℕ) (d : Distribution) (k : Option Known) (docs : List Lines) → EndsPermissions n s (after (put_next n k docs ++ TakePolicy n ∷ put_gates n d) s)
+replaced : (s : State) (n : ℕ) (d : Distribution) (k : Option IncidentFacts) (docs : List Lines) → EndsPermissions n s (after (put_next n k docs ++ TakePolicy n ∷ put_gates n d) s)
 replaced s n d k docs =
     let first = put_next n k docs in
     let t : State = after first s in

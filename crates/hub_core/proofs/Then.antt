@@ -12,7 +12,7 @@ use Rattle.hub_core.specs.Aftermath.{next_row, put_gate, put_gates, put_next}
 use Rattle.hub_core.specs.declared.counts_then.Counts.{Counts}
 use Rattle.hub_core.specs.declared.request.Distribution.{Distribution}
 use Rattle.hub_core.specs.declared.request.WantedGate.{WantedGate}
-use Rattle.hub_core.specs.declared.facts.Known.{Known}
+use Rattle.hub_core.specs.declared.facts.IncidentFacts.{IncidentFacts}
 use Rattle.hub_core.specs.declared.state.Incident.{Incident}
 use Rattle.hub_core.specs.declared.state.Gate.{Gate}
 use Rattle.hub_core.specs.declared.state.Recipient.{Recipient}
@@ -41,12 +41,12 @@ gates_leave get same n (g ∷ gates) s =
 
 -- an incident that is exchanged
 next_leaves : {X : Type 0} (get : State → X) → ((n : ℕ) (s : State) → get (edited (edit.TakeIncident n) s) ≡ get s) → ((i : Incident) (s : State) → get (edited (edit.PutIncident i) s) ≡ get s) →
-    (n : ℕ) (k : Option Known) (docs : List Lines) (s : State) → get (after (put_next n k docs) s) ≡ get s
+    (n : ℕ) (k : Option IncidentFacts) (docs : List Lines) (s : State) → get (after (put_next n k docs) s) ≡ get s
 next_leaves get taken put n None docs s = refl
 next_leaves get taken put n (Some k) [] s = refl
 next_leaves get taken put n (Some k) (doc ∷ docs) s = put (next_row n k doc) (edited (edit.TakeIncident n) s) ∙ taken n s
 
-pub exchanged_recipients : (k : Option Known) (docs : List Lines) (n : ℕ) (d : Distribution) (s : State) →
+pub exchanged_recipients : (k : Option IncidentFacts) (docs : List Lines) (n : ℕ) (d : Distribution) (s : State) →
     (let t : State = after (put_next n k docs ++ edit.TakePolicy n ∷ put_gates n d) s in t.recipients) ≡ s.recipients
 exchanged_recipients k docs n d s =
     let get : State → List Recipient = λ s. s.recipients in
@@ -55,7 +55,7 @@ exchanged_recipients k docs n d s =
     ∙ (gates_leave get (λ g u. refl) n d.gates (edited (edit.PutGate (record { incident = n; gate = record { path = []; level = d.level; group = d.group } })) (edited (edit.TakePolicy n) t))
     ∙ next_leaves get (λ m u. refl) (λ i u. refl) n k docs s)
 
-pub exchanged_permissions : (k : Option Known) (docs : List Lines) (n : ℕ) (d : Distribution) (s : State) →
+pub exchanged_permissions : (k : Option IncidentFacts) (docs : List Lines) (n : ℕ) (d : Distribution) (s : State) →
     (let t : State = after (put_next n k docs ++ edit.TakePolicy n ∷ put_gates n d) s in t.permissions) ≡ filter (λ (x : Permission). not (x.incident == n)) s.permissions
 exchanged_permissions k docs n d s =
     let get : State → List Permission = λ s. s.permissions in

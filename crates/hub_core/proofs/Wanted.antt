@@ -6,7 +6,7 @@ use Rattle.policy.specs.declared.gate.Gate.{Gate}
 use Rattle.hub_core.specs.Documents.{Lines, is_class_in, at_pointer, made_at}
 use Rattle.hub_core.specs.Aftermath.{put_gate, put_gates}
 use Rattle.hub_core.specs.Refusals.{stand_at_classes}
-use Rattle.hub_core.specs.Wanted.{asked_as, put_at}
+use Rattle.hub_core.specs.inner.Wanted.{asked_as, put_at}
 use Rattle.hub_core.specs.declared.edit.Edit.{Edit}
 use Rattle.hub_core.specs.declared.request.WantedGate.{WantedGate}
 

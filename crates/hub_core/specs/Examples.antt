@@ -1,5 +1,5 @@
 -- A small circle by hand, and what is answered in it: to be computed by the definitions alone.
-use Rattle.std.specs.Prelude.{◌≡◌, ℕ, List, [], ◌∷◌, map, Bool, true, false, Option, Some, None, codes}
+use Rattle.std.specs.Prelude.{◌≡◌, ℕ, ℤ, pos, List, [], ◌∷◌, map, Bool, true, false, Option, Some, None, codes}
 use Rattle.iodef_tree.specs.Text.{Bytes, Tokens}
 use Rattle.marking.specs.Examples.{class_line, text_line, value_line}
 use Rattle.marking.specs.declared.label.Handling.TheVariants.{Amber}
@@ -18,7 +18,7 @@ use Rattle.circle.specs.declared.directory.Role.TheVariants.{Coordinator, Poster
 use Rattle.circle.specs.declared.directory.Person.{Person}
 use Rattle.circle.specs.declared.directory.Account.{Account}
 use Rattle.hub_core.specs.Documents.{Lines}
-use Rattle.hub_core.specs.State.{State}
+use Rattle.hub_core.specs.State.{State, permission_with}
 use Rattle.hub_core.specs.Refusals.{refusal_of, state_after}
 use Rattle.hub_core.specs.Reads.{standing_of}
 use Rattle.hub_core.specs.declared.request.Target.TheVariants as target
@@ -27,6 +27,7 @@ use Rattle.hub_core.specs.declared.request.Request.{Request}
 use Rattle.hub_core.specs.declared.request.Request.TheVariants as ask
 use Rattle.hub_core.specs.declared.state.Incident.{Incident}
 use Rattle.hub_core.specs.declared.state.Gate.{Gate}
+use Rattle.hub_core.specs.declared.state.Permission.{Permission}
 
 -- ---- who is in it
 
@@ -101,15 +102,23 @@ incident n source revision ident = record { naming = record { number = n; source
 abbrev pub gate : ℕ → Tokens → ℕ → Option ℕ → Gate
 gate n path level group = record { incident = n; gate = record { path = path; level = level; group = group } }
 
--- The bank posted one incident and the university one. The bank's is addressed to the insurer, and a permission at its
--- EventData is the university's.
+-- the beginning of June 2024
+abbrev pub june : ℤ
+june = pos 1717200000
+
+-- a permission at the EventData of the bank's incident, for the university
+abbrev pub permission : Option ℤ → Permission
+permission until = permission_with (record { incident = 1; path = event_path; grantee = grantee.Org 3 }) until
+
+-- The bank posted one incident and the university one. The bank's is addressed to the insurer, and the university has a
+-- permission that ends in June.
 abbrev pub posted : State
 posted = record {
   directory = circle;
   incidents = incident 1 1 1 (codes "\"7\"") ∷ incident 2 3 1 (codes "\"7\"") ∷ [];
   gates = gate 1 [] 3 None ∷ gate 1 event_path 4 (Some 1) ∷ gate 2 [] 1 None ∷ [];
   recipients = record { incident = 1; target = target.Org 2 } ∷ [];
-  permissions = record { incident = 1; permission = record { path = event_path; grantee = grantee.Org 3 } } ∷ [];
+  permissions = permission (Some june) ∷ [];
 }
 
 -- ---- requests
@@ -126,8 +135,8 @@ replace n revision = ask.Replace (record { incident = n; revision = revision; di
 abbrev pub redistribute : ℕ → Bytes → ℕ → Option ℕ → Request
 redistribute n path level group = ask.Redistribute (record { incident = n; revision = 1; path = path; level = level; group = group })
 
-abbrev pub grant : ℕ → Bytes → Grantee → Request
-grant revision path grantee = ask.Grant (record { incident = 1; revision = revision; path = path; grantee = grantee })
+abbrev pub grant : ℕ → Bytes → Grantee → Option ℤ → Request
+grant revision path grantee until = ask.Grant (record { incident = 1; revision = revision; path = path; grantee = grantee; until = until })
 
 abbrev pub withdraw : ℕ → Grantee → Request
 withdraw n grantee = ask.Withdraw (record { incident = n; path = event_pointer; grantee = grantee })
@@ -145,19 +154,19 @@ answered r = (refusal_of posted banker r, state_after posted banker r)
 
 -- ---- what is answered
 
--- what the clerk and the professor are to the bank's incident; to one that isn't there nobody is anything
+-- what the clerk and the professor are to the bank's incident in June; to one that isn't there nobody is anything
 abbrev pub StandingsAreFound : Type 0
 StandingsAreFound =
-    standing_of 2 1 posted ∷ standing_of 3 1 posted ∷ standing_of 2 9 posted ∷ []
-    ≡ Some (record (stranger 2 2) { addressed = true; community = true; groups = 1 ∷ []; active_groups = 1 ∷ []; communities = 1 ∷ [] })
-    ∷ Some (record (stranger 3 3) { nominated = true; client = true; connected = true; arrangement = Some Amber; communities = 2 ∷ [] })
+    standing_of 2 1 june posted ∷ standing_of 3 1 june posted ∷ standing_of 2 9 june posted ∷ []
+    ≡ Some (record (stranger 2 2) { addressed = true; community = true; groups = 1 ∷ []; active_groups = 1 ∷ []; communities = 1 ∷ []; now = june })
+    ∷ Some (record (stranger 3 3) { nominated = true; client = true; connected = true; arrangement = Some Amber; communities = 2 ∷ []; now = june })
     ∷ None
     ∷ []
 
 -- A reader posts nothing and grants nothing, whatever it sends.
 abbrev pub ReaderPostsNothing : Type 0
 ReaderPostsNothing = (sent : Bytes) →
-    map (refusal_of at_first clerk) (post sent ∷ grant 1 sent (grantee.Org 2) ∷ [])
+    map (refusal_of at_first clerk) (post sent ∷ grant 1 sent (grantee.Org 2) None ∷ [])
     ≡ Some (bare W1) ∷ Some (bare W1) ∷ []
 
 -- The first incident that is posted has number 1 and revision 1, and one gate, at its root.
@@ -177,18 +186,24 @@ PostsAreRefused =
     ∷ Some (told (codes "BadMarking 0 /Incident/0") (bare B1))
     ∷ []
 
--- A permission that stands isn't granted again. None is granted where there is no class, to an organisation that isn't there, or
--- for a revision that isn't present.
+-- A permission that stands isn't granted again with the end that it has. None is granted where there is no class, to an
+-- organisation that isn't there, or for a revision that isn't present.
 abbrev pub GrantsAreRefused : Type 0
 GrantsAreRefused =
     refusals
-    (grant 1 event_pointer (grantee.Org 3)
-    ∷ grant 1 (codes "/Incident/0/EventData/9") (grantee.Org 3)
-    ∷ grant 1 event_pointer (grantee.Org 9)
-    ∷ grant 2 event_pointer (grantee.Org 2)
-    ∷ grant 1 event_pointer (grantee.Org 2)
+    (grant 1 event_pointer (grantee.Org 3) (Some june)
+    ∷ grant 1 (codes "/Incident/0/EventData/9") (grantee.Org 3) None
+    ∷ grant 1 event_pointer (grantee.Org 9) None
+    ∷ grant 2 event_pointer (grantee.Org 2) None
+    ∷ grant 1 event_pointer (grantee.Org 2) None
     ∷ [])
     ≡ Some (bare S1) ∷ Some (bare N3) ∷ Some (bare N2) ∷ Some (told (codes "1") (bare S3)) ∷ None ∷ []
+
+-- With another end, to come or past, or with none, a permission takes the place of the one that stands.
+abbrev pub PermissionsAreExchanged : Type 0
+PermissionsAreExchanged =
+    map answered (grant 1 event_pointer (grantee.Org 3) None ∷ grant 1 event_pointer (grantee.Org 3) (Some (pos 0)) ∷ [])
+    ≡ (None, record posted { permissions = permission None ∷ [] }) ∷ (None, record posted { permissions = permission (Some (pos 0)) ∷ [] }) ∷ []
 
 -- Gates stand at the root and at classes. The root has no level 5, level 4 wants a group, and a gate that stands isn't put
 -- again.
@@ -216,7 +231,7 @@ OthersAreNotThere =
     refusals (redistribute 2 [] 3 None ∷ redistribute 9 [] 3 None ∷ withdraw 2 (grantee.Org 3) ∷ withdraw 9 (grantee.Org 3) ∷ [])
     ≡ Some (bare N1) ∷ Some (bare N1) ∷ Some (bare N1) ∷ Some (bare N1) ∷ []
 
--- A permission that stands is taken back, and no other.
+-- A permission that stands is taken back whatever its end, and no other.
 abbrev pub PermissionsAreWithdrawn : Type 0
 PermissionsAreWithdrawn =
     map answered (withdraw 1 (grantee.Org 3) ∷ withdraw 1 (grantee.Org 2) ∷ [])

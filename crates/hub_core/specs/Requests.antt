@@ -8,7 +8,7 @@ use Rattle.circle.specs.Directory.{Directory, has_org, has_person, has_community
 use Rattle.circle.specs.Reads.{person_of}
 use Rattle.circle.specs.declared.directory.Person.{Person}
 use Rattle.hub_core.specs.State.{State, incident_of}
-use Rattle.hub_core.specs.declared.facts.Known.{Known}
+use Rattle.hub_core.specs.declared.facts.IncidentFacts.{IncidentFacts}
 use Rattle.hub_core.specs.declared.state.Incident.{Incident}
 use Rattle.hub_core.specs.declared.request.Target.{Target}
 use Rattle.hub_core.specs.declared.request.Target.TheVariants as target
@@ -36,10 +36,10 @@ looked_up s None = None
 looked_up s (Some n) = incident_of n s
 
 -- what is known of it, its document apart
-abbrev pub known : Incident → Known
+abbrev pub known : Incident → IncidentFacts
 known i = record { source = i.naming.source; revision = i.naming.revision; ident = i.naming.ident }
 
-abbrev pub known_of : State → Request → Option Known
+abbrev pub known_of : State → Request → Option IncidentFacts
 known_of s request = option_map known (looked_up s (incident_asked request))
 
 -- ---- groups, organisations, persons

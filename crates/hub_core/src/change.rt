@@ -1,6 +1,6 @@
 //! Edits for which memory is taken already.
 ghost use Rattle.std.specs.Prelude.{◌≡◌, IfOk, map};
-ghost use Rattle.hub_core.specs.Changes.{edit_in, row_edit, directory_edits, row_edits};
+ghost use Rattle.hub_core.specs.inner.Changes.{edit_in, row_edit, directory_edits, row_edits};
 ghost use Rattle.hub_core.specs.State.{gate_key, permission_key};
 
 use crate::copies::{copy_of_gate, copy_of_permission};
@@ -123,13 +123,14 @@ fn copy_permission(alloc: Global, permission: &Permission) -> Result<PlacedPermi
     PlacedPermission::new(alloc, copy)
 }
 
-/// The permission with this key.
+/// Some permission with this key.
 fn permission_at(alloc: Global, key: &PermissionKey) -> Result<PlacedPermission, AllocError>
     ensures { IfOk result (λ x. permission_key x ≡ key.now) }
 {
     let permission = policy::Permission {
         path: key.path.clone()?,
         grantee: key.grantee,
+        until: None,
     };
     let row = Permission {
         incident: key.incident,

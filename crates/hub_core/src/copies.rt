@@ -20,5 +20,6 @@ pub(crate) fn copy_of_permission(permission: &Permission) -> Result<Permission, 
     Ok(Permission {
         path: permission.path.clone()?,
         grantee: permission.grantee,
+        until: permission.until,
     })
 }

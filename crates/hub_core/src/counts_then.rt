@@ -1,12 +1,12 @@
 //! How many class gates, recipients and permissions of an incident would stand after a request.
 ghost use Rattle.std.specs.Prelude.{◌≡◌, ◌∷◌, [], true, false, ℕ, is_some, IfOk};
 ghost use Rattle.circle.specs.declared.directory.Person.{Person as Actor};
-ghost use Rattle.hub_core.specs.Aftermath.{put_gate};
+ghost use Rattle.hub_core.specs.Aftermath.{put_gate, put_permission};
 ghost use Rattle.hub_core.specs.Documents.{made_at};
 ghost use Rattle.hub_core.specs.Edits.{after};
 ghost use Rattle.hub_core.specs.Reads.{its_gates, its_permissions};
 ghost use Rattle.hub_core.specs.Requests.{looked_up, incident_asked};
-ghost use Rattle.hub_core.specs.Shared.{counts_in, counts_of, sharing_asked, sharing_of};
+ghost use Rattle.hub_core.specs.inner.Shared.{counts_in, counts_of, sharing_asked, sharing_of};
 ghost use Rattle.hub_core.specs.Sound.{IsSound};
 ghost use Rattle.hub_core.specs.State.{State, class_gates, permissions_of};
 ghost use Rattle.hub_core.specs.declared.edit.Edit.TheVariants as edit;
@@ -45,7 +45,7 @@ fn permissions_with(
     asked: &Grant,
     permissions: &[Permission],
 ) -> Result<u32, AllocError>
-    ensures { (s : State) → IsSound s → permissions.now ≡ its_permissions asked.now.incident s.permissions → IfOk result (λ k. k ≡ permissions_of asked.now.incident (after (made_at (λ p. edit.TakePermission (record { incident = asked.now.incident; path = p; grantee = asked.now.grantee }) ∷ edit.PutPermission (record { incident = asked.now.incident; permission = record { path = p; grantee = asked.now.grantee } }) ∷ []) asked.now.path) s).permissions) }
+    ensures { (s : State) → IsSound s → permissions.now ≡ its_permissions asked.now.incident s.permissions → IfOk result (λ k. k ≡ permissions_of asked.now.incident (after (made_at (λ p. put_permission (record { incident = asked.now.incident; path = p; grantee = asked.now.grantee }) asked.now.until) asked.now.path) s).permissions) }
 {
     match path_of(alloc, &asked.path)? {
         None => Ok(capped(permissions.len())),

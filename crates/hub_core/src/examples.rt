@@ -2,7 +2,7 @@
 //! here, with no program between. Each is the contract of a function that does nothing.
 #![tactic(auto, unfolding(crate::proofs::Computed::computed))]
 
-ghost use Rattle.hub_core.specs.Examples.{StandingsAreFound, ReaderPostsNothing, FirstPostIsFirst, PostsAreRefused, GrantsAreRefused, GatesAreRefused, OthersAreNotThere, PermissionsAreWithdrawn, ReplaceEndsPermissions, CoordinatorsKeepToTheirs};
+ghost use Rattle.hub_core.specs.Examples.{StandingsAreFound, ReaderPostsNothing, FirstPostIsFirst, PostsAreRefused, GrantsAreRefused, PermissionsAreExchanged, GatesAreRefused, OthersAreNotThere, PermissionsAreWithdrawn, ReplaceEndsPermissions, CoordinatorsKeepToTheirs};
 
 /// How persons stand to an incident, by the rows of the circle.
 pub fn standings_are_found()
@@ -29,6 +29,11 @@ pub fn grants_are_refused()
     ensures { GrantsAreRefused }
 {}
 
+/// A permission in place of one with another end.
+pub fn permissions_are_exchanged()
+    ensures { PermissionsAreExchanged }
+{}
+
 /// Why a gate is refused, and one that is not.
 pub fn gates_are_refused()
     ensures { GatesAreRefused }
@@ -39,7 +44,7 @@ pub fn others_are_not_there()
     ensures { OthersAreNotThere }
 {}
 
-/// A permission that stands is taken back, and no other.
+/// A permission that stands is taken back whatever its end, and no other.
 pub fn permissions_are_withdrawn()
     ensures { PermissionsAreWithdrawn }
 {}

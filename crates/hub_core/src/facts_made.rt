@@ -2,13 +2,13 @@
 ghost use Rattle.std.specs.Prelude.{◌≡◌, IfOk, IsErrOf, option_map};
 ghost use Rattle.hub_core.specs.Facts.{plain_facts, exists_in, stands_in, count_in, circle_facts_of, facts_of};
 ghost use Rattle.hub_core.specs.Requests.{known, looked_up, incident_asked as incident_named_by};
-ghost use Rattle.hub_core.specs.Shared.{sharing_asked};
+ghost use Rattle.hub_core.specs.inner.Shared.{sharing_asked};
 ghost use Rattle.hub_core.specs.Shelves.{HasFailed, IsKept, IsRead};
 ghost use Rattle.hub_core.specs.State.{State};
 ghost use Rattle.hub_core.specs.declared.state.Incident.{Incident};
 
 use crate::counts_then::counts_then;
-use crate::facts::{Facts, Known};
+use crate::facts::{Facts, IncidentFacts};
 use crate::look_ups::LookUps;
 use crate::named_there::{are_own_groups, is_active, is_grantee, is_own_group, is_target};
 use crate::posted_earlier::find_posted;
@@ -61,7 +61,7 @@ fn find_exists<L: LookUps>(
     request: &Request,
 ) -> Result<bool, ShelfFault>
     ensures value { L.doubts shelf.new ≡ 0 → (s : State) → L.has shelf.old s → IfOk result (λ b. b ≡ exists_in s actor.now request.now) }
-    ensures kept { IsKept L.has L.doubts L.failed L.may_leave shelf.old shelf.new }
+    ensures kept { IsKept L.has L.doubts L.failed L.may_remain shelf.old shelf.new }
     ensures cause { IsErrOf result ShelfFault.Failed → HasFailed (L.failed shelf.old) (L.failed shelf.new) }
 {
     match request {
@@ -78,7 +78,7 @@ fn find_exists<L: LookUps>(
 /// How many incidents there are, where more are to be posted.
 fn find_count<L: LookUps>(shelf: &mut L, request: &Request) -> Result<u32, ShelfFault>
     ensures value { L.doubts shelf.new ≡ 0 → (s : State) → L.has shelf.old s → IfOk result (λ n. n ≡ count_in s request.now) }
-    ensures kept { IsKept L.has L.doubts L.failed L.may_leave shelf.old shelf.new }
+    ensures kept { IsKept L.has L.doubts L.failed L.may_remain shelf.old shelf.new }
     ensures cause { IsErrOf result ShelfFault.Failed → HasFailed (L.failed shelf.old) (L.failed shelf.new) }
 {
     match request {
@@ -96,7 +96,7 @@ fn find_plain_facts<L: LookUps>(
     sharing: &Sharing,
 ) -> Result<CircleFacts, ShelfFault>
     ensures value { L.doubts shelf.new ≡ 0 → (s : State) → L.has shelf.old s → sharing.now ≡ sharing_asked (incident_named_by request.now) s → IfOk result (λ facts. facts ≡ plain_facts (exists_in s actor.now request.now) (stands_in s request.now) (count_in s request.now)) }
-    ensures kept { IsKept L.has L.doubts L.failed L.may_leave shelf.old shelf.new }
+    ensures kept { IsKept L.has L.doubts L.failed L.may_remain shelf.old shelf.new }
     ensures cause { IsErrOf result ShelfFault.Failed → HasFailed (L.failed shelf.old) (L.failed shelf.new) }
 {
     let stands = stands(alloc, request, sharing)?;
@@ -114,7 +114,7 @@ fn find_circle_facts<L: LookUps>(
     sharing: &Sharing,
 ) -> Result<CircleFacts, ShelfFault>
     ensures value { L.doubts shelf.new ≡ 0 → (s : State) → L.has shelf.old s → sharing.now ≡ sharing_asked (incident_named_by request.now) s → IfOk result (λ facts. facts ≡ circle_facts_of s actor.now request.now) }
-    ensures kept { IsKept L.has L.doubts L.failed L.may_leave shelf.old shelf.new }
+    ensures kept { IsKept L.has L.doubts L.failed L.may_remain shelf.old shelf.new }
     ensures cause { IsErrOf result ShelfFault.Failed → HasFailed (L.failed shelf.old) (L.failed shelf.new) }
 {
     match request {
@@ -123,10 +123,10 @@ fn find_circle_facts<L: LookUps>(
     }
 }
 
-fn known_by_naming(naming: Naming) -> Known
+fn known_by_naming(naming: Naming) -> IncidentFacts
     ensures { result ≡ record { source = naming.source; revision = naming.revision; ident = naming.ident } }
 {
-    Known {
+    IncidentFacts {
         source: naming.source,
         revision: naming.revision,
         ident: naming.ident,
@@ -136,9 +136,9 @@ fn known_by_naming(naming: Naming) -> Known
 fn known_asked<L: LookUps>(
     shelf: &mut L,
     incident: Option<u32>,
-) -> Result<Option<Known>, ShelfFault>
+) -> Result<Option<IncidentFacts>, ShelfFault>
     ensures value { L.doubts shelf.new ≡ 0 → (s : State) → L.has shelf.old s → IfOk result (λ found. found ≡ option_map known (looked_up s incident)) }
-    ensures kept { IsKept L.has L.doubts L.failed L.may_leave shelf.old shelf.new }
+    ensures kept { IsKept L.has L.doubts L.failed L.may_remain shelf.old shelf.new }
     ensures cause { IsErrOf result ShelfFault.Failed → HasFailed (L.failed shelf.old) (L.failed shelf.new) }
 {
     let Some(number) = incident else {
@@ -155,7 +155,7 @@ fn document_asked<L: LookUps>(
     incident: Option<u32>,
 ) -> Result<Option<Document>, ShelfFault>
     ensures value { L.doubts shelf.new ≡ 0 → (s : State) → L.has shelf.old s → IfOk result (λ found. found ≡ option_map (λ (i : Incident). i.document) (looked_up s incident)) }
-    ensures kept { IsKept L.has L.doubts L.failed L.may_leave shelf.old shelf.new }
+    ensures kept { IsKept L.has L.doubts L.failed L.may_remain shelf.old shelf.new }
     ensures cause { IsErrOf result ShelfFault.Failed → HasFailed (L.failed shelf.old) (L.failed shelf.new) }
 {
     match incident {
@@ -173,7 +173,7 @@ fn find_facts<L: LookUps>(
     sharing: &Sharing,
 ) -> Result<Facts, ShelfFault>
     ensures value { L.doubts shelf.new ≡ 0 → (s : State) → L.has shelf.old s → sharing.now ≡ sharing_asked (incident_named_by request.now) s → IfOk result (λ facts. facts ≡ facts_of s actor.now request.now) }
-    ensures kept { IsKept L.has L.doubts L.failed L.may_leave shelf.old shelf.new }
+    ensures kept { IsKept L.has L.doubts L.failed L.may_remain shelf.old shelf.new }
     ensures cause { IsErrOf result ShelfFault.Failed → HasFailed (L.failed shelf.old) (L.failed shelf.new) }
 {
     let asked = incident_asked(request);
@@ -200,7 +200,7 @@ fn find_facts_asked<L: LookUps>(
     request: &Request,
 ) -> Result<Facts, ShelfFault>
     ensures value { L.doubts shelf.new ≡ 0 → (s : State) → L.has shelf.old s → IfOk result (λ facts. facts ≡ facts_of s actor.now request.now) }
-    ensures kept { IsKept L.has L.doubts L.failed L.may_leave shelf.old shelf.new }
+    ensures kept { IsKept L.has L.doubts L.failed L.may_remain shelf.old shelf.new }
     ensures cause { IsErrOf result ShelfFault.Failed → HasFailed (L.failed shelf.old) (L.failed shelf.new) }
 {
     let sharing = find_sharing(shelf, alloc, incident_asked(request))?;
@@ -215,7 +215,7 @@ pub fn facts_by<L: LookUps>(
     request: &Request,
 ) -> Result<Facts, ShelfFault>
     ensures value { L.doubts shelf.new ≡ 0 → (s : State) → L.has shelf.old s → IfOk result (λ facts. facts ≡ facts_of s actor.now request.now) }
-    ensures kept { IsRead L.has L.doubts L.failed L.may_leave shelf.old shelf.new result }
+    ensures kept { IsRead L.has L.doubts L.failed L.may_remain shelf.old shelf.new result }
 {
     if shelf.has_ended() {
         return Err(ShelfFault::Failed);

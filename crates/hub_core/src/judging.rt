@@ -8,7 +8,7 @@ ghost use Rattle.hub_core.specs.Sound.{IsSound};
 ghost use Rattle.hub_core.specs.Facts.{facts_of};
 ghost use Rattle.hub_core.specs.Refusals.{refusal_of, state_after};
 ghost use Rattle.hub_core.specs.Aftermath.{edits_by};
-ghost use Rattle.hub_core.specs.Asked.{Asks};
+ghost use Rattle.hub_core.specs.inner.Asked.{Asks};
 
 mod body;
 mod change;

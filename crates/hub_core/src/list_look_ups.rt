@@ -21,7 +21,7 @@ impl LookUps for ListShelf {
 
     ghost failed = { λ _. 0 };
 
-    ghost may_leave = { λ shelf left. left ≡ Some shelf };
+    ghost may_remain = { λ shelf left. left ≡ Some shelf };
 
     ghost sound = { λ shelf s has. has.1 };
 
@@ -88,9 +88,9 @@ impl LookUps for ListShelf {
         Ok(self.directory().arranged(source, org))
     }
 
-    fn served_by(&mut self, client: u32) -> Result<Vec<u32>, ShelfFault> {
+    fn orgs_whose_client(&mut self, client: u32) -> Result<Vec<u32>, ShelfFault> {
         let alloc = self.alloc();
-        Ok(self.directory().served_by(alloc, client)?)
+        Ok(self.directory().orgs_whose_client(alloc, client)?)
     }
 
     fn incident_count(&mut self) -> Result<u32, ShelfFault> {

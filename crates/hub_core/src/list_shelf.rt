@@ -146,7 +146,7 @@ impl Shelf for ListShelf {
 
     ghost failed = { λ _. 0 };
 
-    ghost may_leave = { λ shelf left. left ≡ Some shelf };
+    ghost may_remain = { λ shelf left. left ≡ Some shelf };
 
     fn failures(&self) -> u64 {
         0
@@ -156,8 +156,13 @@ impl Shelf for ListShelf {
         Ok(self.find_person(key)?)
     }
 
-    fn standing(&mut self, person: u32, incident: u32) -> Result<Option<Standing>, ShelfFault> {
-        standing_by(self, person, incident)
+    fn standing(
+        &mut self,
+        person: u32,
+        incident: u32,
+        now: i64,
+    ) -> Result<Option<Standing>, ShelfFault> {
+        standing_by(self, person, incident, now)
     }
 
     fn case(&mut self, incident: u32) -> Result<Option<Case>, ShelfFault> {

@@ -3,7 +3,7 @@ ghost use Rattle.std.specs.Prelude.{◌≡◌, length, map, OnOk};
 ghost use Rattle.circle.specs.Directory.{Directory};
 ghost use Rattle.hub_core.specs.State.{empty, gate_key, permission_key};
 ghost use Rattle.hub_core.specs.Edits.{after};
-ghost use Rattle.hub_core.specs.Changes.{row_edit};
+ghost use Rattle.hub_core.specs.inner.Changes.{row_edit};
 ghost use Rattle.hub_core.specs.Lists.{AreInOrder, HasRoom, IsMade, with_directory};
 ghost use Rattle.hub_core.specs.declared.edit.Edit.TheVariants as edit;
 

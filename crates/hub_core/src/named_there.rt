@@ -32,7 +32,7 @@ pub(crate) fn is_own_group<L: LookUps>(
     group: Option<u32>,
 ) -> Result<bool, ShelfFault>
     ensures value { L.doubts shelf.new ≡ 0 → (s : State) → L.has shelf.old s → IfOk result (λ b. b ≡ is_own_group s actor.now group) }
-    ensures kept { IsKept L.has L.doubts L.failed L.may_leave shelf.old shelf.new }
+    ensures kept { IsKept L.has L.doubts L.failed L.may_remain shelf.old shelf.new }
     ensures cause { IsErrOf result ShelfFault.Failed → HasFailed (L.failed shelf.old) (L.failed shelf.new) }
 {
     match group {
@@ -47,7 +47,7 @@ fn are_all_own<L: LookUps>(
     gates: &[WantedGate],
 ) -> Result<bool, ShelfFault>
     ensures value { L.doubts shelf.new ≡ 0 → (s : State) → L.has shelf.old s → IfOk result (λ b. b ≡ list_all (λ g. is_own_group s actor.now g.group) gates.now) }
-    ensures kept { IsKept L.has L.doubts L.failed L.may_leave shelf.old shelf.new }
+    ensures kept { IsKept L.has L.doubts L.failed L.may_remain shelf.old shelf.new }
     ensures cause { IsErrOf result ShelfFault.Failed → HasFailed (L.failed shelf.old) (L.failed shelf.new) }
 {
     for gate in gates {
@@ -64,7 +64,7 @@ pub(crate) fn are_own_groups<L: LookUps>(
     distribution: &Distribution,
 ) -> Result<bool, ShelfFault>
     ensures value { L.doubts shelf.new ≡ 0 → (s : State) → L.has shelf.old s → IfOk result (λ b. b ≡ are_own_groups s actor.now distribution.now) }
-    ensures kept { IsKept L.has L.doubts L.failed L.may_leave shelf.old shelf.new }
+    ensures kept { IsKept L.has L.doubts L.failed L.may_remain shelf.old shelf.new }
     ensures cause { IsErrOf result ShelfFault.Failed → HasFailed (L.failed shelf.old) (L.failed shelf.new) }
 {
     if is_own_group(shelf, actor, distribution.group)? {
@@ -76,7 +76,7 @@ pub(crate) fn are_own_groups<L: LookUps>(
 
 pub(crate) fn is_target<L: LookUps>(shelf: &mut L, target: Target) -> Result<bool, ShelfFault>
     ensures value { L.doubts shelf.new ≡ 0 → (s : State) → L.has shelf.old s → IfOk result (λ b. b ≡ is_target s.directory target) }
-    ensures kept { IsKept L.has L.doubts L.failed L.may_leave shelf.old shelf.new }
+    ensures kept { IsKept L.has L.doubts L.failed L.may_remain shelf.old shelf.new }
     ensures cause { IsErrOf result ShelfFault.Failed → HasFailed (L.failed shelf.old) (L.failed shelf.new) }
 {
     match target {
@@ -91,7 +91,7 @@ pub(crate) fn is_grantee<L: LookUps>(
     grantee: Grantee,
 ) -> Result<bool, ShelfFault>
     ensures value { L.doubts shelf.new ≡ 0 → (s : State) → L.has shelf.old s → IfOk result (λ b. b ≡ is_grantee s.directory org grantee) }
-    ensures kept { IsKept L.has L.doubts L.failed L.may_leave shelf.old shelf.new }
+    ensures kept { IsKept L.has L.doubts L.failed L.may_remain shelf.old shelf.new }
     ensures cause { IsErrOf result ShelfFault.Failed → HasFailed (L.failed shelf.old) (L.failed shelf.new) }
 {
     match grantee {
@@ -105,7 +105,7 @@ pub(crate) fn is_grantee<L: LookUps>(
 /// Whether the person is there, and active.
 pub(crate) fn is_active<L: LookUps>(shelf: &mut L, person: u32) -> Result<bool, ShelfFault>
     ensures value { L.doubts shelf.new ≡ 0 → (s : State) → L.has shelf.old s → IfOk result (λ b. b ≡ is_active s.directory person) }
-    ensures kept { IsKept L.has L.doubts L.failed L.may_leave shelf.old shelf.new }
+    ensures kept { IsKept L.has L.doubts L.failed L.may_remain shelf.old shelf.new }
     ensures cause { IsErrOf result ShelfFault.Failed → HasFailed (L.failed shelf.old) (L.failed shelf.new) }
 {
     match shelf.person_of(person)? {

@@ -31,7 +31,7 @@ fn posted_as<L: LookUps>(
     document: &Document,
 ) -> Result<Option<u32>, ShelfFault>
     ensures value { L.doubts shelf.new ≡ 0 → (s : State) → L.has shelf.old s → IfOk result (λ number. number ≡ option_map incident_number (incident_named source (ident_of document.now) s)) }
-    ensures kept { IsKept L.has L.doubts L.failed L.may_leave shelf.old shelf.new }
+    ensures kept { IsKept L.has L.doubts L.failed L.may_remain shelf.old shelf.new }
     ensures cause { IsErrOf result ShelfFault.Failed → HasFailed (L.failed shelf.old) (L.failed shelf.new) }
 {
     let ident = ident_in(alloc, document)?;
@@ -46,7 +46,7 @@ fn posted_among<L: LookUps>(
     documents: &[Document],
 ) -> Result<Option<u32>, ShelfFault>
     ensures value { L.doubts shelf.new ≡ 0 → (s : State) → L.has shelf.old s → IfOk result (λ number. number ≡ posted_in s source documents.now) }
-    ensures kept { IsKept L.has L.doubts L.failed L.may_leave shelf.old shelf.new }
+    ensures kept { IsKept L.has L.doubts L.failed L.may_remain shelf.old shelf.new }
     ensures cause { IsErrOf result ShelfFault.Failed → HasFailed (L.failed shelf.old) (L.failed shelf.new) }
 {
     for document in documents {
@@ -66,7 +66,7 @@ fn posted_in<L: LookUps>(
     body: &Bytes,
 ) -> Result<Option<u32>, ShelfFault>
     ensures value { L.doubts shelf.new ≡ 0 → (s : State) → L.has shelf.old s → IfOk result (λ number. number ≡ posted_in s source (documents_in body.now)) }
-    ensures kept { IsKept L.has L.doubts L.failed L.may_leave shelf.old shelf.new }
+    ensures kept { IsKept L.has L.doubts L.failed L.may_remain shelf.old shelf.new }
     ensures cause { IsErrOf result ShelfFault.Failed → HasFailed (L.failed shelf.old) (L.failed shelf.new) }
 {
     match Document::read(alloc, body.as_slice()) {
@@ -84,7 +84,7 @@ pub(crate) fn find_posted<L: LookUps>(
     request: &Request,
 ) -> Result<Option<u32>, ShelfFault>
     ensures value { L.doubts shelf.new ≡ 0 → (s : State) → L.has shelf.old s → IfOk result (λ number. number ≡ posted_of s actor.now request.now) }
-    ensures kept { IsKept L.has L.doubts L.failed L.may_leave shelf.old shelf.new }
+    ensures kept { IsKept L.has L.doubts L.failed L.may_remain shelf.old shelf.new }
     ensures cause { IsErrOf result ShelfFault.Failed → HasFailed (L.failed shelf.old) (L.failed shelf.new) }
 {
     match request {

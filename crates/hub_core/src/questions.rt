@@ -1,10 +1,10 @@
 //! What is asked of the gates, recipients and permissions of one incident.
 ghost use Rattle.std.specs.Prelude.{◌≡◌, ◌≤◌, ◌&&◌, not, length, count_by};
 ghost use Rattle.iodef_tree.specs.Text.{is_root, same_path};
-ghost use Rattle.hub_core.specs.Questions as spec;
+ghost use Rattle.hub_core.specs.inner.Questions as spec;
 
 use crate::request::Target;
-use crate::row_keys::{are_same_groups, is_same_grantee, is_same_target};
+use crate::row_keys::{are_same_ends, are_same_groups, is_same_grantee, is_same_target};
 use iodef_tree::Path;
 use policy::{Gate, Grantee, Permission};
 
@@ -29,13 +29,27 @@ fn is_permission_of(permission: &Permission, path: &Path, grantee: Grantee) -> b
     permission.path == *path && is_same_grantee(permission.grantee, grantee)
 }
 
-/// Whether a permission of this path and grantee is among them.
+/// Whether a permission of this path and grantee is among them, whatever its end.
 pub(crate) fn is_permission_among(permissions: &[Permission], path: &Path, grantee: Grantee) -> bool
     ensures { result ≡ spec.is_permission_among path.now grantee permissions.now }
 {
     permissions
         .iter()
         .any(|permission| is_permission_of(permission, path, grantee))
+}
+
+/// Whether a permission of this path, grantee and end is among them.
+pub(crate) fn is_permission_among_until(
+    permissions: &[Permission],
+    path: &Path,
+    grantee: Grantee,
+    until: Option<i64>,
+) -> bool
+    ensures { result ≡ spec.is_permission_among_until path.now grantee until permissions.now }
+{
+    permissions.iter().any(|permission| {
+        is_permission_of(permission, path, grantee) && are_same_ends(permission.until, until)
+    })
 }
 
 fn is_at_class(gate: &Gate) -> bool

@@ -1,7 +1,7 @@
-//! What recipients, permissions and gates are told apart by: the keys of targets and grantees, and when two of them, or
-//! the groups of two gates, are the same.
+//! What recipients, permissions and gates are told apart by: the keys of targets and grantees, and when two of them, the
+//! groups of two gates, or the ends of two permissions are the same.
 ghost use Rattle.std.specs.Prelude.{◌≡◌};
-ghost use Rattle.hub_core.specs.State.{target_key as key_of_target, grantee_key as key_of_grantee, same_group, same_target, same_grantee};
+ghost use Rattle.hub_core.specs.State.{target_key as key_of_target, grantee_key as key_of_grantee, same_end, same_group, same_target, same_grantee};
 
 use crate::request::Target;
 use policy::Grantee;
@@ -55,6 +55,17 @@ pub fn is_same_grantee(one: Grantee, other: Grantee) -> bool
 /// Whether both name one group, or neither names any.
 pub fn are_same_groups(one: Option<u32>, other: Option<u32>) -> bool
     ensures { result ≡ same_group one other }
+{
+    match (one, other) {
+        (None, None) => true,
+        (Some(one), Some(other)) => one == other,
+        (Some(_), None) | (None, Some(_)) => false,
+    }
+}
+
+/// Whether both are one moment, or neither is any.
+pub fn are_same_ends(one: Option<i64>, other: Option<i64>) -> bool
+    ensures { result ≡ same_end one other }
 {
     match (one, other) {
         (None, None) => true,

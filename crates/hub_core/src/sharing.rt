@@ -2,20 +2,21 @@
 ghost use Rattle.std.specs.Prelude.{◌≡◌, [], IfOk, IsErrOf};
 ghost use Rattle.hub_core.specs.Documents.{at_pointer};
 ghost use Rattle.hub_core.specs.Facts.{stands_in};
-ghost use Rattle.hub_core.specs.Questions as spec;
+ghost use Rattle.hub_core.specs.inner.Questions as spec;
 ghost use Rattle.hub_core.specs.Requests.{incident_asked};
-ghost use Rattle.hub_core.specs.Shared.{sharing_asked, sharing_of};
+ghost use Rattle.hub_core.specs.inner.Shared.{sharing_asked, sharing_of};
 ghost use Rattle.hub_core.specs.Shelves.{HasFailed, IsKept};
 ghost use Rattle.hub_core.specs.State.{State};
 
 use crate::look_ups::LookUps;
 use crate::named_there::path_of;
-use crate::questions::{is_gate_among, is_permission_among, is_target_among};
+use crate::questions::{
+    is_gate_among, is_permission_among, is_permission_among_until, is_target_among,
+};
 use crate::recipients::Recipients;
-use crate::request::{Redistribute, Request};
+use crate::request::{Grant, Redistribute, Request, Withdraw};
 use crate::shelf::ShelfFault;
-use circle::text::Text;
-use policy::{Gate, Gates, Grantee, Permission, Permissions};
+use policy::{Gate, Gates, Permission, Permissions};
 use std::alloc::{AllocError, Global};
 
 /// The gates, recipients and permissions of an incident.
@@ -38,7 +39,7 @@ fn nothing_shared(alloc: Global) -> Sharing
 
 fn find_sharing_of<L: LookUps>(shelf: &mut L, incident: u32) -> Result<Sharing, ShelfFault>
     ensures value { L.doubts shelf.new ≡ 0 → (s : State) → L.has shelf.old s → IfOk result (λ found. found ≡ sharing_of incident s) }
-    ensures kept { IsKept L.has L.doubts L.failed L.may_leave shelf.old shelf.new }
+    ensures kept { IsKept L.has L.doubts L.failed L.may_remain shelf.old shelf.new }
     ensures cause { IsErrOf result ShelfFault.Failed → HasFailed (L.failed shelf.old) (L.failed shelf.new) }
 {
     let gates = shelf.gates_of(incident)?;
@@ -58,7 +59,7 @@ pub(crate) fn find_sharing<L: LookUps>(
     incident: Option<u32>,
 ) -> Result<Sharing, ShelfFault>
     ensures value { L.doubts shelf.new ≡ 0 → (s : State) → L.has shelf.old s → IfOk result (λ found. found ≡ sharing_asked incident s) }
-    ensures kept { IsKept L.has L.doubts L.failed L.may_leave shelf.old shelf.new }
+    ensures kept { IsKept L.has L.doubts L.failed L.may_remain shelf.old shelf.new }
     ensures cause { IsErrOf result ShelfFault.Failed → HasFailed (L.failed shelf.old) (L.failed shelf.new) }
 {
     match incident {
@@ -76,17 +77,31 @@ fn stands_gate(alloc: Global, asked: &Redistribute, gates: &[Gate]) -> Result<bo
     }
 }
 
-fn stands_permission(
+/// Whether the permission asked for stands with the end asked for.
+fn stands_granted(
     alloc: Global,
-    path: &Text,
-    grantee: Grantee,
+    asked: &Grant,
     permissions: &[Permission],
 ) -> Result<bool, AllocError>
-    ensures { IfOk result (λ b. b ≡ at_pointer (λ p. spec.is_permission_among p grantee permissions.now) path.now) }
+    ensures { IfOk result (λ b. b ≡ at_pointer (λ p. spec.is_permission_among_until p asked.now.grantee asked.now.until permissions.now) asked.now.path) }
 {
-    match path_of(alloc, path)? {
+    match path_of(alloc, &asked.path)? {
         None => Ok(false),
-        Some(path) => Ok(is_permission_among(permissions, &path, grantee)),
+        Some(path) => Ok(is_permission_among_until(permissions, &path, asked.grantee, asked.until)),
+    }
+}
+
+/// Whether the permission named stands, ended or not.
+fn stands_permission(
+    alloc: Global,
+    asked: &Withdraw,
+    permissions: &[Permission],
+) -> Result<bool, AllocError>
+    ensures { IfOk result (λ b. b ≡ at_pointer (λ p. spec.is_permission_among p asked.now.grantee permissions.now) asked.now.path) }
+{
+    match path_of(alloc, &asked.path)? {
+        None => Ok(false),
+        Some(path) => Ok(is_permission_among(permissions, &path, asked.grantee)),
     }
 }
 
@@ -104,10 +119,8 @@ pub(crate) fn stands(
         Request::Redistribute(asked) => stands_gate(alloc, asked, sharing.gates.as_slice()),
         Request::Address(asked) => Ok(is_target_among(targets, asked.target)),
         Request::Unaddress(asked) => Ok(is_target_among(targets, asked.target)),
-        Request::Grant(asked) => stands_permission(alloc, &asked.path, asked.grantee, permissions),
-        Request::Withdraw(asked) => {
-            stands_permission(alloc, &asked.path, asked.grantee, permissions)
-        }
+        Request::Grant(asked) => stands_granted(alloc, asked, permissions),
+        Request::Withdraw(asked) => stands_permission(alloc, asked, permissions),
         _ => Ok(false),
     }
 }

@@ -2,7 +2,7 @@
 ghost use Rattle.std.specs.Prelude.{◌≡◌, ◌==◌, ◌||◌, IfOk, IsErrOf};
 ghost use Rattle.std.specs.List.{list_any};
 ghost use Rattle.circle.specs.Reads.{communities_of, groups_joined, active_groups_joined, share_community, are_connected};
-ghost use Rattle.hub_core.specs.Questions as spec;
+ghost use Rattle.hub_core.specs.inner.Questions as spec;
 ghost use Rattle.hub_core.specs.Reads.{standing_of, standing_for, is_client_for, arranged as arranged_with};
 ghost use Rattle.hub_core.specs.Shelves.{HasFailed, IsKept, IsRead};
 ghost use Rattle.hub_core.specs.State.{State, has_recipient};
@@ -36,7 +36,7 @@ struct Ties {
 
 fn find_joined<L: LookUps>(shelf: &mut L, org: u32) -> Result<Joined, ShelfFault>
     ensures value { L.doubts shelf.new ≡ 0 → (s : State) → L.has shelf.old s → IfOk result (λ found. found ≡ record { groups = groups_joined org s.directory; active_groups = active_groups_joined org s.directory; communities = communities_of org s.directory }) }
-    ensures kept { IsKept L.has L.doubts L.failed L.may_leave shelf.old shelf.new }
+    ensures kept { IsKept L.has L.doubts L.failed L.may_remain shelf.old shelf.new }
     ensures cause { IsErrOf result ShelfFault.Failed → HasFailed (L.failed shelf.old) (L.failed shelf.new) }
 {
     let groups = shelf.groups_joined(org)?;
@@ -54,7 +54,7 @@ fn find_arranged<L: LookUps>(
     org: u32,
 ) -> Result<Option<Handling>, ShelfFault>
     ensures value { L.doubts shelf.new ≡ 0 → (s : State) → L.has shelf.old s → IfOk result (λ found. found ≡ arranged_with source org s.directory) }
-    ensures kept { IsKept L.has L.doubts L.failed L.may_leave shelf.old shelf.new }
+    ensures kept { IsKept L.has L.doubts L.failed L.may_remain shelf.old shelf.new }
     ensures cause { IsErrOf result ShelfFault.Failed → HasFailed (L.failed shelf.old) (L.failed shelf.new) }
 {
     match shelf.arranged(source, org)? {
@@ -65,7 +65,7 @@ fn find_arranged<L: LookUps>(
 
 fn find_ties<L: LookUps>(shelf: &mut L, org: u32, source: u32) -> Result<Ties, ShelfFault>
     ensures value { L.doubts shelf.new ≡ 0 → (s : State) → L.has shelf.old s → IfOk result (λ found. found ≡ record { community = share_community org source s.directory; connected = are_connected org source s.directory; arrangement = arranged_with source org s.directory }) }
-    ensures kept { IsKept L.has L.doubts L.failed L.may_leave shelf.old shelf.new }
+    ensures kept { IsKept L.has L.doubts L.failed L.may_remain shelf.old shelf.new }
     ensures cause { IsErrOf result ShelfFault.Failed → HasFailed (L.failed shelf.old) (L.failed shelf.new) }
 {
     let community = shelf.share_community(org, source)?;
@@ -109,10 +109,10 @@ fn find_addressed<L: LookUps>(
     source: u32,
 ) -> Result<Addressed, ShelfFault>
     ensures value { L.doubts shelf.new ≡ 0 → (s : State) → L.has shelf.old s → (i : Incident) → i.naming.number ≡ incident → i.naming.source ≡ source → IfOk result (λ found. found ≡ record { person = has_recipient incident (target.Person reader.now.number) s; org = has_recipient incident (target.Org reader.now.org) s; client = is_client_for s i reader.now.org }) }
-    ensures kept { IsKept L.has L.doubts L.failed L.may_leave shelf.old shelf.new }
+    ensures kept { IsKept L.has L.doubts L.failed L.may_remain shelf.old shelf.new }
     ensures cause { IsErrOf result ShelfFault.Failed → HasFailed (L.failed shelf.old) (L.failed shelf.new) }
 {
-    let served = shelf.served_by(reader.org)?;
+    let served = shelf.orgs_whose_client(reader.org)?;
     let recipients = shelf.recipients_of(incident)?;
     let targets = recipients.as_slice();
     Ok(Addressed {
@@ -127,9 +127,10 @@ fn standing_to<L: LookUps>(
     reader: &Person,
     incident: u32,
     source: u32,
+    now: i64,
 ) -> Result<Standing, ShelfFault>
-    ensures value { L.doubts shelf.new ≡ 0 → (s : State) → L.has shelf.old s → (i : Incident) → i.naming.number ≡ incident → i.naming.source ≡ source → IfOk result (λ found. found ≡ standing_for s reader.now i) }
-    ensures kept { IsKept L.has L.doubts L.failed L.may_leave shelf.old shelf.new }
+    ensures value { L.doubts shelf.new ≡ 0 → (s : State) → L.has shelf.old s → (i : Incident) → i.naming.number ≡ incident → i.naming.source ≡ source → IfOk result (λ found. found ≡ standing_for s now reader.now i) }
+    ensures kept { IsKept L.has L.doubts L.failed L.may_remain shelf.old shelf.new }
     ensures cause { IsErrOf result ShelfFault.Failed → HasFailed (L.failed shelf.old) (L.failed shelf.new) }
 {
     let addressed = find_addressed(shelf, reader, incident, source)?;
@@ -149,17 +150,19 @@ fn standing_to<L: LookUps>(
         groups: joined.groups,
         active_groups: joined.active_groups,
         communities: joined.communities,
+        now,
     })
 }
 
-/// How a person stands to an incident; none where either is missing.
+/// How a person stands to an incident at a moment; none where either is missing.
 fn find_standing<L: LookUps>(
     shelf: &mut L,
     person: u32,
     incident: u32,
+    now: i64,
 ) -> Result<Option<Standing>, ShelfFault>
-    ensures value { L.doubts shelf.new ≡ 0 → (s : State) → L.has shelf.old s → IfOk result (λ found. found ≡ standing_of person incident s) }
-    ensures kept { IsKept L.has L.doubts L.failed L.may_leave shelf.old shelf.new }
+    ensures value { L.doubts shelf.new ≡ 0 → (s : State) → L.has shelf.old s → IfOk result (λ found. found ≡ standing_of person incident now s) }
+    ensures kept { IsKept L.has L.doubts L.failed L.may_remain shelf.old shelf.new }
     ensures cause { IsErrOf result ShelfFault.Failed → HasFailed (L.failed shelf.old) (L.failed shelf.new) }
 {
     let Some(reader) = shelf.person_of(person)? else {
@@ -168,20 +171,23 @@ fn find_standing<L: LookUps>(
     let Some(naming) = shelf.naming(incident)? else {
         return Ok(None);
     };
-    Ok(Some(standing_to(shelf, &reader, incident, naming.source)?))
+    let standing = standing_to(shelf, &reader, incident, naming.source, now)?;
+    Ok(Some(standing))
 }
 
-/// How a person stands to an incident, by a shelf's look-ups; none where either is missing.
+/// How a person stands to an incident at a moment, in seconds since the beginning of 1970 (UTC), by a shelf's look-ups;
+/// none where either is missing.
 pub fn standing_by<L: LookUps>(
     shelf: &mut L,
     person: u32,
     incident: u32,
+    now: i64,
 ) -> Result<Option<Standing>, ShelfFault>
-    ensures value { L.doubts shelf.new ≡ 0 → (s : State) → L.has shelf.old s → IfOk result (λ found. found ≡ standing_of person incident s) }
-    ensures kept { IsRead L.has L.doubts L.failed L.may_leave shelf.old shelf.new result }
+    ensures value { L.doubts shelf.new ≡ 0 → (s : State) → L.has shelf.old s → IfOk result (λ found. found ≡ standing_of person incident now s) }
+    ensures kept { IsRead L.has L.doubts L.failed L.may_remain shelf.old shelf.new result }
 {
     if shelf.has_ended() {
         return Err(ShelfFault::Failed);
     }
-    find_standing(shelf, person, incident)
+    find_standing(shelf, person, incident, now)
 }

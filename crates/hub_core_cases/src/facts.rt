@@ -2,7 +2,7 @@
 
 use circle::command::CircleFacts;
 use circle::text::Text;
-use hub_core::{Facts, Known};
+use hub_core::{Facts, IncidentFacts};
 use iodef_tree::Document;
 use std::alloc::{AllocError, Global};
 use trying::number_of;
@@ -26,13 +26,13 @@ fn number(words: &str, name: &str) -> u32 {
     value(words, name).map_or(0, number_of)
 }
 
-fn known_of(alloc: Global, words: &str) -> Result<Option<Known>, AllocError> {
+fn known_of(alloc: Global, words: &str) -> Result<Option<IncidentFacts>, AllocError> {
     let Some(known) = value(words, "known") else {
         return Ok(None);
     };
     let (source, rest) = known.split_once(',').unwrap_or((known, ""));
     let (revision, ident) = rest.split_once(',').unwrap_or((rest, ""));
-    Ok(Some(Known {
+    Ok(Some(IncidentFacts {
         source: number_of(source),
         revision: number_of(revision),
         ident: Text::of(alloc, ident)?,

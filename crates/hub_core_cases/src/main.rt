@@ -17,7 +17,7 @@
 //! - PERSON REQUEST|FIELD..: a request by the person who has the key of this number, `key-7` in a request. The answer is the refusal, or
 //!   `nothing` of a request that only reads, the numbers of new incidents, the revision, or `done`; `nobody` where no person has the key.
 //! - `facts` before it: what the shelf finds out about it, in the words above.
-//! - `case 1`, `standing 4 1` (a person, an incident), `document 1`, `entries 0 100` (above a number, at most so many), `groups 4`
+//! - `case 1`, `standing 4 1` (a person, an incident; then a moment other than 0), `document 1`, `entries 0 100` (above a number, at most so many), `groups 4`
 //!   and `person 4` (persons by their keys), `failures`: what stands there.
 #![tactic(auto)]
 

@@ -1,6 +1,6 @@
 //! What a shelf tells, as text.
 
-use crate::told::grantee_text;
+use crate::told::permitted_text;
 use circle::directory::Person;
 use hub_core::{Entry, JoinedGroup};
 use iodef_tree::Document;
@@ -23,7 +23,7 @@ fn gate(alloc: Global, gate: &Gate) -> Result<String, AllocError> {
 
 fn permission(alloc: Global, permission: &Permission) -> Result<String, AllocError> {
     let path = permission.path.print(alloc)?;
-    let to = grantee_text(alloc, permission.grantee)?;
+    let to = permitted_text(alloc, permission)?;
     format!(in alloc; " permission '{path}' {to}")
 }
 
@@ -93,6 +93,10 @@ fn standing_found(alloc: Global, standing: &Standing) -> Result<String, AllocErr
         ", communities",
         standing.communities.as_slice(),
     )?;
+    if standing.now != 0 {
+        let now = standing.now;
+        all.push_str(format!(in alloc; ", now {now}")?.as_str())?;
+    }
     Ok(all)
 }
 

@@ -85,7 +85,11 @@ fn read<S: Shelf>(
     let (number, other) = (number_of(first), number_of(second));
     Ok(Some(match what {
         "case" => seen::case(alloc, shelf.case(number)?)?,
-        "standing" => seen::standing(alloc, shelf.standing(number, other)?)?,
+        "standing" => {
+            let (incident, now) = second.split_once(' ').unwrap_or((second, ""));
+            let now = now.parse::<i64>().unwrap_or(0);
+            seen::standing(alloc, shelf.standing(number, number_of(incident), now)?)?
+        }
         "document" => seen::document(alloc, shelf.document(number)?)?,
         "entries" => seen::entries(alloc, &shelf.incidents_after(number, other)?)?,
         "groups" => joined_groups(alloc, shelf, number)?,

@@ -9,6 +9,18 @@ use iodef_tree::Path;
 use policy::Grantee;
 use std::alloc::{AllocError, Global};
 
+/// Whom a permission is for, and its end if it has one.
+pub fn permitted_text(
+    alloc: Global,
+    permission: &policy::Permission,
+) -> Result<String, AllocError> {
+    let to = grantee_text(alloc, permission.grantee)?;
+    match permission.until {
+        None => Ok(to),
+        Some(end) => format!(in alloc; "{to} until {end}"),
+    }
+}
+
 pub fn grantee_text(alloc: Global, grantee: Grantee) -> Result<String, AllocError> {
     match grantee {
         Grantee::Person(n) => format!(in alloc; "person {n}"),
@@ -48,20 +60,20 @@ fn permission(
     verb: &str,
     incident: u32,
     path: &Path,
-    to: Grantee,
+    to: &str,
 ) -> Result<String, AllocError> {
     let path = path.print(alloc)?;
-    let to = grantee_text(alloc, to)?;
     format!(in alloc; "{verb} permission {incident} '{path}' {to}")
 }
 
 fn put_permission(alloc: Global, row: &Permission) -> Result<String, AllocError> {
-    let (path, grantee) = (&row.permission.path, row.permission.grantee);
-    permission(alloc, "put", row.incident, path, grantee)
+    let to = permitted_text(alloc, &row.permission)?;
+    permission(alloc, "put", row.incident, &row.permission.path, &to)
 }
 
 fn take_permission(alloc: Global, key: &PermissionKey) -> Result<String, AllocError> {
-    permission(alloc, "take", key.incident, &key.path, key.grantee)
+    let to = grantee_text(alloc, key.grantee)?;
+    permission(alloc, "take", key.incident, &key.path, &to)
 }
 
 fn take_gate(alloc: Global, key: &GateKey) -> Result<String, AllocError> {

@@ -12,7 +12,7 @@ use Rattle.hub_http.specs.declared.wire_fault.WireFault.TheVariants as fault
 use Rattle.hub_http.specs.declared.wire.Arrival.{Arrival}
 use Rattle.hub_http.specs.declared.wire.Arrival.TheVariants.{Wants, Asks, Refused}
 use Rattle.hub_http.specs.Wire.{Asked, Wire, AsksByHead, asked_by, window, fields_of}
-use Rattle.hub_http.specs.Arrivals.{Stands, Arrives}
+use Rattle.hub_http.specs.inner.Arrivals.{Stands, Arrives}
 
 -- what the parts that the parser holds ask is what the head asks
 asks_same : (bytes : List ℕ) (len : ℕ) (r : Request) (h : RequestHead) (method target : Bor (List ℕ))

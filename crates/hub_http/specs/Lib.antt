@@ -1,14 +1,13 @@
 pub mod Outcome
-pub mod Texts
 pub mod Spelling
 pub mod Parameters
 pub mod Fields
 pub mod Routes
 pub mod Requests
 pub mod Wire
-pub mod Arrivals
 pub mod Laws
 pub mod Bodies
 pub mod Replies
 pub mod Serving
 pub mod Alike
+pub mod inner

@@ -1,5 +1,5 @@
 -- Parameters of a request: names and values, and how many there are of each name.
-use Rattle.std.specs.Prelude.{ℕ, List, [], ◌∷◌, map, if◌then◌else◌, Bool, Option, Some, None, Ok, Err, codes}
+use Rattle.std.specs.Prelude.{ℕ, ℤ, List, [], ◌∷◌, map, if◌then◌else◌, Bool, Option, Some, None, Ok, Err, codes}
 use Rattle.std.specs.List.{list_all, list_any}
 use Rattle.std.specs.Str.{bytes_eq}
 use Rattle.std.specs.Str.Lossy.{utf8_lossy}
@@ -10,7 +10,7 @@ use Rattle.hub_core.specs.declared.request.Target.{Target}
 use Rattle.hub_core.specs.declared.request.Target.TheVariants as target
 use Rattle.hub_http.specs.declared.request_fault.RequestFault.TheVariants.{BadBody}
 use Rattle.hub_http.specs.Outcome.{Read, ◌>>=◌, or_fault, when}
-use Rattle.hub_http.specs.Spelling.{number}
+use Rattle.hub_http.specs.Spelling.{moment, number}
 
 -- a name and a value
 abbrev pub Pair : Type 0
@@ -71,6 +71,9 @@ optional_read read (Some text) = read text >>= λ x. Ok (Some x)
 
 unfoldable pub optional_number : List ℕ → List Pair → Read (Option ℕ)
 optional_number name pairs = optional name pairs >>= optional_read number
+
+unfoldable pub optional_moment : List ℕ → List Pair → Read (Option ℤ)
+optional_moment name pairs = optional name pairs >>= optional_read moment
 
 -- one number, and nothing beside it
 unfoldable pub number_alone : List ℕ → List Pair → Read ℕ

@@ -17,7 +17,7 @@ use Rattle.hub_http.specs.declared.requests.Place.{Place}
 use Rattle.hub_http.specs.declared.requests.Place.TheVariants as place
 use Rattle.hub_http.specs.Outcome.{Read, ◌>>=◌}
 use Rattle.hub_http.specs.Spelling.{flag, role_named, handling_named, digest, gates}
-use Rattle.hub_http.specs.Parameters.{Pair, pairs_of, values, only, needed, optional, needed_number, number_or_zero, optional_number, number_alone, grantee_in, target_alone}
+use Rattle.hub_http.specs.Parameters.{Pair, pairs_of, values, only, needed, optional, needed_number, number_or_zero, optional_moment, optional_number, number_alone, grantee_in, target_alone}
 use Rattle.hub_http.specs.Routes.{verb_of, path_of, query_of, resource_at, route_at}
 
 -- ---- where the parameters stand
@@ -92,11 +92,12 @@ redistribute_in n pairs = do
 
 unfoldable pub grant_in : ℕ → List Pair → Read Request
 grant_in n pairs = do
-  _ ← only (codes "revision" ∷ codes "path" ∷ codes "person" ∷ codes "org" ∷ codes "community" ∷ codes "group" ∷ []) pairs
+  _ ← only (codes "revision" ∷ codes "path" ∷ codes "person" ∷ codes "org" ∷ codes "community" ∷ codes "group" ∷ codes "until" ∷ []) pairs
   revision ← needed_number (codes "revision") pairs
   path ← needed (codes "path") pairs
   to ← grantee_in pairs
-  Ok (request.Grant (record { incident = n; revision = revision; path = path; grantee = to }))
+  until ← optional_moment (codes "until") pairs
+  Ok (request.Grant (record { incident = n; revision = revision; path = path; grantee = to; until = until }))
 
 unfoldable pub withdraw_in : ℕ → List Pair → Read Request
 withdraw_in n pairs = do

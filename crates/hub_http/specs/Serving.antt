@@ -48,15 +48,15 @@ Gathers before after (Err gather.NoMemory) = Unit {0}
 
 -- What the hub did with what is asked at this moment, where its store has returned what was written: from whatever sound state
 -- it had, one step.
-pub record Steps {D : Type 0} (has : D → State → Type 0) (doubts failed : D → ℕ) (may_leave : D → Option State → Type 0)
+pub record Steps {D : Type 0} (has : D → State → Type 0) (doubts failed : D → ℕ) (may_remain : D → Option State → Type 0)
     (old : D) (now : ℤ) (asked : Key × Request) (reply : Reply) (new : D) : Type 0 where
   pub step : doubts new ≡ 0 → (s : State) → has old s → IsSound s → (left : State) × IsStep s (now, asked.0, asked.1) reply left × has new left
   -- that the store failed is told only where it did
   pub cause : doubts new ≡ 0 → (s : State) → has old s → IsSound s → reply ≡ Refused (bare F1) → HasFailed (failed old) (failed new)
   -- after a change that is answered as made a crash may leave what the request leaves, and nothing else
-  pub durable : doubts new ≡ 0 → (s : State) → has old s → IsSound s → IsTrue (is_made reply) → (left : Option State) → may_leave new left ↔ (left ≡ Some (state_left s asked.0 asked.1))
+  pub durable : doubts new ≡ 0 → (s : State) → has old s → IsSound s → IsTrue (is_made reply) → (left : Option State) → may_remain new left ↔ (left ≡ Some (state_left s asked.0 asked.1))
   -- a crash leaves what it could have left before, or what the request leaves
-  pub crash : doubts new ≡ 0 → (s : State) → has old s → IsSound s → (left : Option State) → may_leave new left → may_leave old left ⊎ (left ≡ Some (state_left s asked.0 asked.1))
+  pub crash : doubts new ≡ 0 → (s : State) → has old s → IsSound s → (left : Option State) → may_remain new left → may_remain old left ⊎ (left ≡ Some (state_left s asked.0 asked.1))
 
 -- what was asked was answered with a reply, which is written or not; Does reply says that the hub answered so
 abbrev pub Replies : (Reply → Type 0) → Option (List ℕ) → Option (List ℕ) → Result Served ServeFault → Type 0

@@ -1,10 +1,12 @@
 -- What the text of a parameter spells.
-use Rattle.std.specs.Prelude.{ℕ, ◌^◌, List, [], ◌∷◌, length, slice_index, Bool, true, false, ◌&&◌, ◌==◌, nat_lt, if◌then◌else◌, Option, Some, None, Result, Ok, Err, codes}
+use Rattle.std.specs.Prelude.{ℕ, ℤ, ◌^◌, List, [], ◌∷◌, length, slice_index, Bool, true, false, ◌&&◌, ◌==◌, nat_lt, if◌then◌else◌, Option, Some, None, Result, Ok, Err, codes}
 use Rattle.std.specs.List.{list_all, before_first, after_first, position_or_len}
 use Rattle.std.specs.Str.{bytes_eq}
 use Rattle.std.specs.Char.{is_ascii_digit}
 use Rattle.std.specs.Str.Parse.{digits_value}
 use Rattle.hex.specs.Hex.{decode_sized}
+use Rattle.policy.specs.Moment.{moment_in}
+use Rattle.policy.specs.declared.fault.MomentFault.{MomentFault}
 use Rattle.circle.specs.declared.directory.Role.{Role}
 use Rattle.circle.specs.declared.directory.Role.TheVariants as role
 use Rattle.circle.specs.declared.directory.Handling.{Handling}
@@ -23,6 +25,14 @@ is_numeral text =
 unfoldable pub number : List ℕ → Read ℕ
 number text =
     if is_numeral text && nat_lt (digits_value 10 text) (2 ^ 32) then Ok (digits_value 10 text) else Err BadBody
+
+-- the moment that a text says
+abbrev pub moment_or_fault : Result ℤ MomentFault → Read ℤ
+moment_or_fault (Ok moment) = Ok moment
+moment_or_fault (Err e) = Err BadBody
+
+unfoldable pub moment : List ℕ → Read ℤ
+moment text = moment_or_fault (moment_in text)
 
 -- 0 or 1
 unfoldable pub flag : List ℕ → Read Bool

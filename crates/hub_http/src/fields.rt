@@ -5,9 +5,9 @@ ghost use Rattle.std.specs.Option.{ForSome};
 ghost use Rattle.std.specs.Char.{is_ascii_digit, to_ascii_lowercase};
 ghost use Rattle.std.specs.Str.Parse.{digits_value};
 ghost use Rattle.httparse.specs.Borrowed.{header_parts};
-ghost use Rattle.hub_http.specs.Texts.{IsText};
+ghost use Rattle.hub_http.specs.inner.Texts.{IsText};
 ghost use Rattle.hub_http.specs.Fields.{same_name, field_values, is_digits, length_text, wanted_length, body_length, is_visible, is_bearer, key_in, key_of, key_shown, lacks};
-ghost use Rattle.hub_http.specs.Texts.{IsSole};
+ghost use Rattle.hub_http.specs.inner.Texts.{IsSole};
 
 use crate::spelling::has_digits_alone;
 use crate::wire_fault::WireFault;

@@ -3,10 +3,10 @@ ghost use Rattle.std.specs.Prelude.{◌≡◌, ◌++◌, ◌<◌, ℕ, List, len
 ghost use Rattle.hub_http.specs.Outcome.{Yields, YieldsAs};
 ghost use Rattle.hub_http.specs.Spelling.{gates};
 ghost use Rattle.hub_http.specs.Parameters as spec;
-ghost use Rattle.hub_http.specs.Texts.{texts};
+ghost use Rattle.hub_http.specs.inner.Texts.{texts};
 
 use crate::request_fault::RequestFault;
-use crate::spelling::{read_gates, read_number, text_of};
+use crate::spelling::{read_gates, read_moment, read_number, text_of};
 use circle::text::Text;
 use hub_core::{Target, WantedGates};
 use policy::Grantee;
@@ -21,7 +21,7 @@ pub(crate) struct Parameters<'a> {
 }
 
 impl<'a> Model for Parameters<'a> {
-    ghost use Rattle.hub_http.specs.Texts.{pair_views};
+    ghost use Rattle.hub_http.specs.inner.Texts.{pair_views};
     ghost use Rattle.hub_http.specs.Parameters.{Pair};
     ghost use Rattle.std.specs.Prelude.{List};
 
@@ -129,6 +129,17 @@ impl<'a> Parameters<'a> {
     {
         match self.optional(name)? {
             Some(text) => Ok(Some(read_number(text)?)),
+            None => Ok(None),
+        }
+    }
+
+    /// The one moment under a name, if there is any.
+    #[tactic(auto, unfolding(crate::specs::Parameters::optional_moment))]
+    pub(crate) fn optional_moment(&self, name: &str) -> Result<Option<i64>, RequestFault>
+        ensures { Yields result (spec.optional_moment name.now self.now) }
+    {
+        match self.optional(name)? {
+            Some(text) => Ok(Some(read_moment(text)?)),
             None => Ok(None),
         }
     }

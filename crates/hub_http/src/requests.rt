@@ -181,15 +181,25 @@ fn read_redistribute(
 fn read_grant(alloc: Global, incident: u32, pairs: &Parameters<'_>) -> Result<Request, RequestFault>
     ensures { Yields result (spec.grant_in incident pairs.now) }
 {
-    pairs.only(&["revision", "path", "person", "org", "community", "group"])?;
+    pairs.only(&[
+        "revision",
+        "path",
+        "person",
+        "org",
+        "community",
+        "group",
+        "until",
+    ])?;
     let revision = pairs.needed_number("revision")?;
     let path = pairs.needed_text(alloc, "path")?;
     let grantee = pairs.grantee()?;
+    let until = pairs.optional_moment("until")?;
     Ok(Request::Grant(Grant {
         incident,
         revision,
         path,
         grantee,
+        until,
     }))
 }
 

@@ -4,7 +4,7 @@ ghost use Rattle.std.specs.List.{before_first, after_first};
 ghost use Rattle.matchit.specs.Route.{parse_route};
 ghost use Rattle.matchit.specs.declared.error.InsertError.TheVariants.{OutOfMemory};
 ghost use Rattle.hub_http.specs.Outcome.{Yields, YieldsAs};
-ghost use Rattle.hub_http.specs.Texts.{entry_view};
+ghost use Rattle.hub_http.specs.inner.Texts.{entry_view};
 ghost use Rattle.hub_http.specs.Routes as spec;
 
 use crate::request_fault::RequestFault;

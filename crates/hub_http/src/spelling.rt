@@ -4,12 +4,13 @@ ghost use Rattle.std.specs.List.{list_all};
 ghost use Rattle.std.specs.Char.{is_ascii_digit};
 ghost use Rattle.hub_http.specs.Outcome.{Yields, YieldsAs};
 ghost use Rattle.hub_http.specs.Spelling as spec;
-ghost use Rattle.hub_http.specs.Texts.{texts};
+ghost use Rattle.hub_http.specs.inner.Texts.{texts};
 
 use crate::request_fault::RequestFault;
 use circle::directory::{Handling, Role};
 use circle::text::Text;
 use hub_core::{WantedGate, WantedGates};
+use policy::MomentFault;
 use std::alloc::Global;
 
 pub(crate) fn has_digits_alone(text: &[u8]) -> bool
@@ -42,6 +43,18 @@ pub(crate) fn read_number(text: &str) -> Result<u32, RequestFault>
     match text.parse::<u32>() {
         Ok(n) => Ok(n),
         Err(_) => Err(RequestFault::BadBody),
+    }
+}
+
+/// The moment that a text says.
+#[tactic(auto, unfolding(crate::specs::Spelling::moment))]
+pub(crate) fn read_moment(text: &str) -> Result<i64, RequestFault>
+    ensures { Yields result (spec.moment text.now) }
+{
+    match policy::read_moment(text) {
+        Ok(moment) => Ok(moment),
+        Err(MomentFault::BadMoment) => Err(RequestFault::BadBody),
+        Err(MomentFault::NoMemory) => Err(RequestFault::NoMemory),
     }
 }
 

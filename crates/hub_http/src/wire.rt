@@ -4,7 +4,7 @@ ghost use Rattle.httparse.specs.Borrowed.{header_parts};
 ghost use Rattle.httparse.specs.Spans.{RequestOverflows};
 ghost use Rattle.httparse.specs.Grammar.{HasNoRequest, MayBecomeRequest};
 ghost use Rattle.hub_http.specs.Wire.{Wire, Answers, asked_by, window};
-ghost use Rattle.hub_http.specs.Arrivals.{Stands, Arrives};
+ghost use Rattle.hub_http.specs.inner.Arrivals.{Stands, Arrives};
 
 use crate::fields::{read_body_length, read_key};
 use crate::request_fault::RequestFault;

@@ -88,6 +88,14 @@ fn reading(alloc: Global, request: &Request) -> Result<Option<String>, AllocErro
     Ok(Some(told))
 }
 
+/// What stands behind a grant with an end.
+fn end_text(alloc: Global, until: Option<i64>) -> Result<String, AllocError> {
+    match until {
+        None => Ok(String::new(alloc)),
+        Some(end) => format!(in alloc; " until {end}"),
+    }
+}
+
 fn distribution(alloc: Global, wanted: &Distribution) -> Result<String, AllocError> {
     let level = wanted.level;
     let group = group(alloc, wanted.group)?;
@@ -158,11 +166,13 @@ fn widening(alloc: Global, request: &Request) -> Result<Option<String>, AllocErr
                 revision,
                 path,
                 grantee: to,
+                until,
             },
         ) => {
             let path = path.as_str();
             let (kind, number) = kind_of(*to);
-            format!(in alloc; "Grant {incident} revision {revision} {path:?} {kind} {number}")?
+            let end = end_text(alloc, *until)?;
+            format!(in alloc; "Grant {incident} revision {revision} {path:?} {kind} {number}{end}")?
         }
         Request::Withdraw(
             Withdraw {

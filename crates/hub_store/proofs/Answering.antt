@@ -13,7 +13,7 @@ use Rattle.hub_core.specs.State as core
 use Rattle.hub_core.specs.Sound.{IsSound}
 use Rattle.hub_store.specs.Tables.{hub_schema}
 use Rattle.hub_store.specs.Means.{Holds}
-use Rattle.hub_store.specs.Queries.{HasShown, IsReadInside, IsReadOutside}
+use Rattle.hub_store.specs.inner.Queries.{HasShown, IsReadInside, IsReadOutside}
 use Rattle.hub_store.proofs.Forms.{program}
 use Rattle.hub_store.proofs.Outcomes.{unchanged_keeps}
 use Rattle.hub_store.proofs.Asking.{asked_same, asked_rows}

@@ -21,7 +21,7 @@ use Rattle.hub_core.specs.Sound.{IsSound}
 use Rattle.hub_store.specs.Holdings.{without_rowids}
 use Rattle.hub_store.specs.Means.{Means}
 use Rattle.hub_store.specs.Pairs.{Pair, pair_row, rows_of_pairs}
-use Rattle.hub_store.specs.PairKinds.{kind_name, pairs_of, is_between, pair_between, pairs_from, pairs_to, value_shown, first_shown, second_shown}
+use Rattle.hub_store.specs.inner.PairKinds.{kind_name, pairs_of, is_between, pair_between, pairs_from, pairs_to, value_shown, first_shown, second_shown}
 use Rattle.hub_store.specs.Rows.{pair_sets, client_pair, membership_pair, connection_pair, group_member_pair, arrangement_pair}
 use Rattle.hub_store.specs.declared.pair_kind.PairKind.{PairKind}
 use Rattle.hub_store.specs.declared.pair_kind.PairKind.TheVariants as kind

@@ -11,7 +11,7 @@ use Rattle.sqlite.specs.State.{IsUnchanged}
 use Rattle.sqlite.proofs.Callers.{IsPlain, command_of, unchanged_then}
 use Rattle.hub_store.specs.Tables.{hub_schema}
 use Rattle.hub_store.specs.Keeps.{Knows}
-use Rattle.hub_store.specs.Queries.{HasShown}
+use Rattle.hub_store.specs.inner.Queries.{HasShown}
 use Rattle.hub_store.proofs.Forms.{program}
 use Rattle.hub_store.proofs.Outcomes.{shown_same, answered}
 

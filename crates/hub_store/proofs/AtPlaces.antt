@@ -5,7 +5,7 @@ use Rattle.sqlite_value.specs.Order.{Row}
 use Rattle.iodef_tree.specs.declared.line.Line.{Line}
 use Rattle.hub_core.specs.Documents.{Lines}
 use Rattle.hub_store.specs.Items.{placed_shown, placed_from}
-use Rattle.hub_store.specs.Shown.{IsShownBy, ShowsAll, ShowsPlaced}
+use Rattle.hub_store.specs.inner.Shown.{IsShownBy, ShowsAll, ShowsPlaced}
 use Rattle.hub_store.specs.declared.item_rows.PlacedLine.{PlacedLine}
 use Rattle.hub_store.proofs.Finding.{all_are, first_are, shows_more}
 use Rattle.hub_store.proofs.PutsThen.{as_far, one_further}

@@ -6,7 +6,7 @@ use Rattle.sqlite.specs.State.{State}
 use Rattle.hub_core.specs.State as core
 use Rattle.hub_store.specs.Items.{items_of, item_row}
 use Rattle.hub_store.specs.Rows.{named_row}
-use Rattle.hub_store.specs.Makes.{Makes}
+use Rattle.hub_store.specs.inner.Makes.{Makes}
 use Rattle.hub_store.specs.Means.{Holds, HoldsBetween}
 use Rattle.hub_store.proofs.Steps.{on_ok}
 

@@ -16,7 +16,7 @@ use Rattle.hub_core.specs.Sound.{IsSound}
 use Rattle.hub_store.specs.Holdings.{IsHeld, by_number}
 use Rattle.hub_store.specs.Means.{Means}
 use Rattle.hub_store.specs.Rows.{org_row, account_row, community_row}
-use Rattle.hub_store.specs.Shown.{person_shown}
+use Rattle.hub_store.specs.inner.Shown.{person_shown}
 use Rattle.hub_store.proofs.Compare.{is_same, equal_numbers, and_true}
 use Rattle.hub_store.proofs.Forms.{one_table, is_param}
 use Rattle.hub_store.proofs.Statements.{keeps, shows, selected}

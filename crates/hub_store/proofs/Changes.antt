@@ -44,11 +44,11 @@ use Rattle.hub_store.specs.Values.{flag}
 use Rattle.hub_store.specs.Pairs.{Pair, pair_row, rows_of_pairs, put_pair, take_pair}
 use Rattle.hub_store.specs.Rows.{role_number, org_row, account_row, community_row, group_row, naming_row, named_row, gate_row, recipient_row, permission_row, client_pair, membership_pair, connection_pair, group_member_pair, arrangement_pair, pair_sets}
 use Rattle.hub_store.specs.Fit.{FitOrg, FitAccount, FitCommunity, FitGroup, FitGate}
-use Rattle.hub_store.specs.Partly.{without_gates}
+use Rattle.hub_store.specs.inner.Partly.{without_gates}
 use Rattle.hub_store.specs.Means.{holdings, Holds, HoldsBetween}
 use Rattle.hub_store.specs.Holdings.{Holding, IsHeld}
 use Rattle.hub_store.specs.Parts.{held}
-use Rattle.hub_store.specs.Layout.{newest, tables_2}
+use Rattle.hub_store.specs.Layout.{tables_3}
 use Rattle.hub_store.specs.Items.{Item, items_in, items_of, item_row, line_shown, kind_number}
 use Rattle.hub_store.proofs.Compare.{begins, and_true, equal_numbers, equal_texts, cast_int, cast_null, cast_flag}
 use Rattle.hub_store.proofs.Forms.{is_param}
@@ -87,7 +87,7 @@ permission_test key x =
 
 -- what the tables hold between two statements
 abbrev held_rows : List Row → List Row → core.State → List Holding
-held_rows items incidents s = map held (tables_2 newest items incidents s)
+held_rows items incidents s = map held (tables_3 items incidents (map permission_row s.permissions) s)
 
 -- ---- edits
 
@@ -202,7 +202,7 @@ puts_recipient old new recipient count h s held =
 
 pub puts_permission : (old new : State) (permission : Permission) (count : ℕ) → Executes put_permission (permission_row permission) old new (Ok count) → (s : core.State) → Holds old.now s → Holds new.now (edited (PutPermission permission) s)
 puts_permission old new permission count h s held =
-    let put = puts.puts_permission old new permission.incident (pointer_text permission.permission.path) (grantee_key permission.permission.grantee).0 (grantee_key permission.permission.grantee).1 held.known count h in
+    let put = puts.puts_permission old new permission.incident (pointer_text permission.permission.path) (grantee_key permission.permission.grantee).0 (grantee_key permission.permission.grantee).1 permission.permission.until held.known count h in
     record {
       known = put.0;
       whole = put.2;

@@ -1,5 +1,5 @@
 -- Comparisons of SQL, and casts that change nothing.
-use Rattle.std.proofs.Common.{◌≡◌, ℕ, suc, pos, List, [], ◌∷◌, drop, Bool, true, false, cond, ◌&&◌, ◌==◌, nat_lt, Some, None, Option, refl, ap, ◌∙◌, arith}
+use Rattle.std.proofs.Common.{◌≡◌, ℕ, ℤ, suc, pos, List, [], ◌∷◌, drop, Bool, true, false, cond, ◌&&◌, ◌==◌, nat_lt, Some, None, Option, refl, ap, ◌∙◌, arith}
 use Rattle.std.specs.Str.{bytes_eq}
 use Rattle.std.specs.Ordering.{int_cmp, is_eq, is_gt}
 use Rattle.std.proofs.lemmas.Bool.Decides.{nat_tests}
@@ -15,7 +15,7 @@ use Rattle.sqlite_sql.specs.declared.ops.CompareOp.TheVariants.{Eq, Gt}
 use Rattle.sqlite_schema.specs.declared.schema.Kind.TheVariants as kind
 use Rattle.sqlite_rules.specs.Cast.{cast}
 use Rattle.sqlite.specs.Values.{bound_value, or_null}
-use Rattle.hub_store.specs.Values.{number_or_null, flag}
+use Rattle.hub_store.specs.Values.{number_or_null, moment_or_null, flag}
 
 -- ---- casts
 
@@ -35,9 +35,19 @@ pub cast_option : (o : Option ℕ) → cast kind.Integer (number_or_null o) ≡ 
 cast_option None = cast_null
 cast_option (Some n) = cast_int n
 
+pub cast_moment : (o : Option ℤ) → cast kind.Integer (moment_or_null o) ≡ moment_or_null o
+unfolding unary
+cast_moment None = cast_null
+cast_moment (Some n) = either _ (Int n)
+
 pub cast_flag : (b : Bool) → cast kind.Integer (flag b) ≡ flag b
 cast_flag true = cast_int 1
 cast_flag false = cast_int 0
+
+-- a moment that may be missing, as it is bound
+pub bound_moment : (o : Option ℤ) → bound_value (or_null Int o) ≡ moment_or_null o
+bound_moment None = refl
+bound_moment (Some n) = refl
 
 -- a number that may be missing, as it is bound
 pub bound_option : (o : Option ℕ) → bound_value (or_null (λ n. Int (pos n)) o) ≡ number_or_null o

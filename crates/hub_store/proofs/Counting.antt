@@ -12,7 +12,7 @@ use Rattle.sqlite_value.proofs.OrderLemmas.{value_cmp-Int}
 use Rattle.sqlite_trees.specs.Tree.{rowid, put_row}
 use Rattle.sqlite_rules.specs.declared.error.Rowids.TheVariants.{Chosen}
 use Rattle.sqlite_rules.specs.Edit.{id_in, next_rowid, with_rowid, numbered, put_all, is_taken, are_fresh}
-use Rattle.hub_store.specs.Beside.{AreNumbered}
+use Rattle.hub_store.specs.inner.Beside.{AreNumbered}
 use Rattle.hub_store.proofs.Held.{bare}
 use Rattle.hub_store.proofs.Listed.{int_below}
 

@@ -17,7 +17,7 @@ use Rattle.sqlite.specs.State.{State, HasCleanDisk, Writes, Executes}
 use Rattle.sqlite.proofs.Callers.{runs_as}
 use Rattle.hub_store.specs.Tables.{no_schema, up_to_hub, up_to_org, up_to_person, up_to_community, up_to_grp, up_to_pair, up_to_gate, up_to_recipient, up_to_permission, hub_table, org_table, person_table, community_table, grp_table, pair_table, gate_table, recipient_table, permission_table, incident_table}
 use Rattle.hub_store.specs.Keeps.{Goes, HasRun, HasFailed}
-use Rattle.hub_store.specs.Makes.{HasEmpty, Creates}
+use Rattle.hub_store.specs.inner.Makes.{HasEmpty, Creates}
 use Rattle.hub_store.proofs.Causes.{IsCreation, naming, plain_of, fails_for_reason}
 use Rattle.hub_store.proofs.Statements.{same_ok, went}
 use Rattle.hub_store.proofs.Steps.{created_by}

@@ -20,9 +20,9 @@ use Rattle.circle.proofs.Lookup.{any_having}
 use Rattle.hub_core.proofs.Counted.{any_same}
 use Rattle.hub_core.proofs.Twins.{any_map}
 use Rattle.hub_store.specs.Pairs.{Pair}
-use Rattle.hub_store.specs.PairKinds.{pairs_of, pair_between, is_between, pairs_from, pairs_to, value_shown, first_shown}
+use Rattle.hub_store.specs.inner.PairKinds.{pairs_of, pair_between, is_between, pairs_from, pairs_to, value_shown, first_shown}
 use Rattle.hub_store.specs.Rows.{one_if, membership_pair, connection_pair, group_member_pair, arrangement_pair}
-use Rattle.hub_store.specs.ShownPairs.{handling_shown, joined_shown, joined_of, AreRising, is_one_of, linked_with}
+use Rattle.hub_store.specs.inner.ShownPairs.{handling_shown, joined_shown, joined_of, AreRising, is_one_of, linked_with}
 use Rattle.hub_store.specs.Values.{flag}
 use Rattle.hub_store.specs.declared.pair_kind.PairKind.TheVariants as kind
 use Rattle.hub_store.specs.declared.pair_kind.PairKind.{PairKind}

@@ -22,7 +22,7 @@ use Rattle.sqlite.specs.State.{State, HasCleanDisk, ExecutesInside, mode_of}
 use Rattle.sqlite.proofs.Callers.{command_of, statement_of}
 use Rattle.hub_store.specs.Failing.{HasReason}
 use Rattle.hub_store.specs.Keeps.{Goes, HasRun, HasFailed}
-use Rattle.hub_store.specs.Makes.{HasEmpty, Creates}
+use Rattle.hub_store.specs.inner.Makes.{HasEmpty, Creates}
 use Rattle.hub_store.proofs.Causes.{IsWhole, plain_of, fails_as, stops}
 use Rattle.hub_store.proofs.Drops.{Dropped, dropped_by}
 use Rattle.hub_store.proofs.FirstRow.{none_refer}

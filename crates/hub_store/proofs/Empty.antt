@@ -15,7 +15,7 @@ use Rattle.hub_store.specs.Content.{Has, CommitsState}
 use Rattle.hub_store.specs.Tables.{hub_schema}
 use Rattle.hub_store.specs.Layout.{newest}
 use Rattle.hub_store.specs.Holdings.{Holding, IsHeld, without_rowids}
-use Rattle.hub_store.specs.Makes.{HasEmpty}
+use Rattle.hub_store.specs.inner.Makes.{HasEmpty}
 use Rattle.hub_store.specs.Means.{holdings, Holds}
 use Rattle.hub_store.proofs.Held.{AreHeld}
 use Rattle.hub_store.proofs.Places.{hub_place}
@@ -47,7 +47,7 @@ all_bare db has =
               bare db 7 _ e.1.1.1.1.0,
               (
                 bare db 9 _ e.1.1.1.1.1.0,
-                (bare db 12 _ e.1.1.1.1.1.1.0, (bare db 14 _ e.1.1.1.1.1.1.1.0, (bare db 16 _ e.1.1.1.1.1.1.1.1.0, (bare db 20 _ e.1.1.1.1.1.1.1.1.1.0, (bare db 22 _ e.1.1.1.1.1.1.1.1.1.1.0, tt))))),
+                (bare db 12 _ e.1.1.1.1.1.1.0, (bare db 14 _ e.1.1.1.1.1.1.1.0, (bare db 20 _ e.1.1.1.1.1.1.1.1.0, (bare db 22 _ e.1.1.1.1.1.1.1.1.1.0, (bare db 24 _ e.1.1.1.1.1.1.1.1.1.1.0, tt))))),
               ),
             ),
           ),

@@ -8,8 +8,8 @@ use Rattle.sqlite.specs.declared.error.Error.{Error}
 use Rattle.circle.specs.declared.directory.GroupMember.{GroupMember}
 use Rattle.circle.specs.Directory.{Directory, has_extender}
 use Rattle.circle.specs.Sound as circle
-use Rattle.hub_store.specs.FirstShown.{ShowsFlagOrFalse}
-use Rattle.hub_store.specs.PairKinds.{is_between, pair_between, value_shown}
+use Rattle.hub_store.specs.inner.FirstShown.{ShowsFlagOrFalse}
+use Rattle.hub_store.specs.inner.PairKinds.{is_between, pair_between, value_shown}
 use Rattle.hub_store.specs.Pairs.{Pair}
 use Rattle.hub_store.specs.Rows.{group_member_pair}
 use Rattle.hub_store.specs.declared.pair_kind.PairKind.TheVariants as kind

@@ -15,7 +15,7 @@ use Rattle.sqlite.proofs.Callers.{one_permutation}
 use Rattle.iodef_tree.proofs.Order.{bytes_eq-true}
 use Rattle.circle.specs.Sound.{Pairwise, CountsFrom, Differ}
 use Rattle.hub_store.specs.Holdings.{Holding, IsHeld}
-use Rattle.hub_store.specs.Shown.{IsShownBy, ShowsFirst, ShowsAll}
+use Rattle.hub_store.specs.inner.Shown.{IsShownBy, ShowsFirst, ShowsAll}
 use Rattle.hub_store.proofs.Found.{always, filter_rows, map_each}
 use Rattle.hub_store.proofs.Lists.{Rises}
 use Rattle.hub_store.proofs.Rising.{counted}

@@ -39,7 +39,7 @@ use Rattle.sqlite.specs.Does.{Does, Concludes, Tested}
 use Rattle.sqlite.specs.State.{State, ExecutesInside, mode_of}
 use Rattle.hub_store.specs.Tables.{hub_schema, hub_table}
 use Rattle.hub_store.specs.Layout.{newest}
-use Rattle.hub_store.specs.Makes.{HasEmpty}
+use Rattle.hub_store.specs.inner.Makes.{HasEmpty}
 use Rattle.hub_store.proofs.Compare.{cast_int, cast_null}
 use Rattle.hub_store.specs.Failing.{HasReason}
 use Rattle.hub_store.proofs.Causes.{stops, fails_as}

@@ -23,7 +23,7 @@ use Rattle.hub_core.specs.Reads.{joined}
 use Rattle.hub_core.specs.declared.reply.JoinedGroup.{JoinedGroup}
 use Rattle.hub_store.specs.Means.{Means}
 use Rattle.hub_store.specs.Rows.{group_row}
-use Rattle.hub_store.specs.ShownPairs.{group_shown, joined_of, group_if_any, groups_in}
+use Rattle.hub_store.specs.inner.ShownPairs.{group_shown, joined_of, group_if_any, groups_in}
 use Rattle.hub_store.proofs.ByNumber.{one_with_number, some_passes}
 use Rattle.hub_store.proofs.Finding.{only_one, once_numbered}
 use Rattle.hub_store.proofs.Forms.{one_table, is_param}

@@ -5,7 +5,7 @@ use Rattle.std.proofs.lemmas.Bool.{cases_lt, eq-eqb, ne_eqb}
 use Rattle.std.proofs.lemmas.List.Folds.{list_any_at}
 use Rattle.std.proofs.lemmas.List.Sorted.{searched}
 use Rattle.sqlite_trees.proofs.ListLemmas.{ascending-get_or}
-use Rattle.hub_store.specs.ShownPairs.{AreRising, is_one_of}
+use Rattle.hub_store.specs.inner.ShownPairs.{AreRising, is_one_of}
 
 not_falling : (xs : List ℕ) → AreRising xs → (i j : ℕ) → i ≤ j → j < length xs → get_or xs i 0 ≤ get_or xs j 0
 not_falling xs up i j le low = go (cases_lt i j)

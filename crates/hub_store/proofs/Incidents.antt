@@ -27,7 +27,7 @@ use Rattle.policy.specs.declared.case.Case.{Case}
 use Rattle.hub_store.specs.Means.{Means}
 use Rattle.hub_store.specs.Rows.{named_row}
 use Rattle.hub_store.specs.Items.{placed_shown, placed_from}
-use Rattle.hub_store.specs.Shown.{ShowsLines, IsCase, entry_shown, naming_shown}
+use Rattle.hub_store.specs.inner.Shown.{ShowsLines, IsCase, entry_shown, naming_shown}
 use Rattle.hub_store.proofs.ByNumber.{one_with_number}
 use Rattle.hub_store.proofs.Compare.{more_than, and_true}
 use Rattle.hub_store.proofs.Forms.{one_table, is_param, is_above, by_column}

@@ -8,8 +8,8 @@ use Rattle.sqlite.specs.declared.error.Error.{Error}
 use Rattle.sqlite.specs.Held.{Held, state}
 use Rattle.sqlite.specs.State.{State, HasCleanDisk, Survives, Shows, Shown, ShowsRows}
 use Rattle.hub_store.specs.Keeps.{Goes}
-use Rattle.hub_store.specs.Makes.{Makes}
-use Rattle.hub_store.specs.Queries.{HasShown}
+use Rattle.hub_store.specs.inner.Makes.{Makes}
+use Rattle.hub_store.specs.inner.Queries.{HasShown}
 use Rattle.hub_store.proofs.Steps.{makes_then, on_any}
 
 rows_inside : (old new : State) (sql : List ℕ) (c : Compiled) (params : Row) (rows : List Row) (r : Option Returning) → IsTrue old.in_transaction → ShowsRows old new sql c params rows r → Shows old new new.now old.committed true

@@ -14,6 +14,11 @@ pub mod Puts
 pub mod Items
 pub mod PutsThen
 pub mod DropCauses
+pub mod GrantCauses
+pub mod Granting
+pub mod GrantRows
+pub mod Grantable
+pub mod Granted
 pub mod Migrating
 pub mod Causes
 pub mod FirstRow

@@ -54,7 +54,7 @@ use Rattle.hub_store.specs.Fit.{ShortItem}
 use Rattle.hub_store.specs.Tables.{beside_item}
 use Rattle.hub_store.specs.Values.{flag}
 use Rattle.hub_store.specs.Layout.{item_part}
-use Rattle.hub_store.specs.Beside.{AreNumbered, HoldsBeside, begin_alike, IsShortLine, CanStand}
+use Rattle.hub_store.specs.inner.Beside.{AreNumbered, HoldsBeside, begin_alike, IsShortLine, CanStand}
 use Rattle.hub_store.proofs.Causes.{IsWhole, fails_as}
 use Rattle.hub_store.proofs.Compare.{column_past, and_true}
 use Rattle.hub_store.proofs.Counting.{labelled, PutBehind, put_behind, past_labels}

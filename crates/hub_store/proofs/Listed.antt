@@ -17,7 +17,7 @@ use Rattle.sqlite_sql.specs.Query.{Query, IsAnswer, Output, output_cmp, limited,
 use Rattle.sqlite_sql.proofs.QueryLemmas.{output_cmp_total}
 use Rattle.sqlite.specs.declared.error.Error.{Error}
 use Rattle.hub_store.specs.Holdings.{IsHeld}
-use Rattle.hub_store.specs.Shown.{IsShownBy, ShowsAll}
+use Rattle.hub_store.specs.inner.Shown.{IsShownBy, ShowsAll}
 use Rattle.hub_store.proofs.Forms.{one_table}
 use Rattle.hub_store.proofs.Lists.{Rises}
 use Rattle.hub_store.proofs.Orders.{sorted_as}

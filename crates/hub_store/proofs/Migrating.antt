@@ -17,14 +17,12 @@ use Rattle.sqlite.specs.declared.error.ErrorCode.TheVariants as code
 use Rattle.hub_core.specs.State.{State}
 use Rattle.hub_core.specs.declared.state.Naming.{Naming}
 use Rattle.iodef_tree.specs.declared.line.Line.{Line}
-use Rattle.hub_store.specs.Items.{Item, placed_lines, item_row, items_of, line_shown, kind_number}
-use Rattle.hub_store.specs.Rows.{naming_row, named_row}
-use Rattle.hub_store.specs.Fit.{IsFit}
-use Rattle.hub_store.specs.Means.{HoldsAs}
+use Rattle.hub_store.specs.Items.{Item, placed_lines, item_row, line_shown, kind_number}
+use Rattle.hub_store.specs.Rows.{naming_row}
 use Rattle.hub_store.specs.Tables.{schema_by, beside_item, without_incident, up_to_permission, hub_table, incident_table, item_table, incident_table_2}
 use Rattle.hub_store.specs.Parts.{Part, schema_of, HoldsParts}
 use Rattle.hub_store.specs.Layout.{without_rowids, common, incident_part, item_part, incident_part_2, parts_1, with_items, without_incidents, tables_2, unversioned_2}
-use Rattle.hub_store.specs.Beside.{AreNumbered, HoldsBeside, CanStand}
+use Rattle.hub_store.specs.inner.Beside.{AreNumbered, HoldsBeside, CanStand}
 use Rattle.hub_store.specs.Failing.{HasReason}
 use Rattle.hub_store.proofs.Causes.{IsCreation, naming}
 use Rattle.hub_store.proofs.Creates.{made_by}
@@ -138,20 +136,16 @@ takes_version old new version s items incidents count h has =
     takes [] (without_rowids 0 hub_table ((Int (pos version) ∷ []) ∷ [])) (rest_2 items incidents s) 0 (stands_first _ items incidents s) take_version [] old new (refl, refl) count h has [] refl (λ r. true) (λ r. refl) [] refl
 
 -- the version is taken, or there is a reason
-pub version_kept : (items incidents : List Row) (s : State) (old new : sql.State) (e : Error) → ExecutesInside 0 take_version [] old new (Err e) → HoldsParts (tables_2 1 items incidents s) old.now → e ≢ SqliteFailure code.OutOfMemory → HasReason old new
+pub version_kept : (version : ℕ) (items incidents : List Row) (s : State) (old new : sql.State) (e : Error) → ExecutesInside 0 take_version [] old new (Err e) → HoldsParts (tables_2 version items incidents s) old.now → e ≢ SqliteFailure code.OutOfMemory → HasReason old new
 unfolding understood everything
-version_kept items incidents s old new e h has other = take_fails take_version items incidents s refl (refl, refl, refl, refl) old new e h has other
+version_kept version items incidents s old new e h has other = take_fails take_version version items incidents s refl (refl, refl, refl, refl) old new e h has other
 
-pub puts_version_2 : (old new : sql.State) (s : State) (count : ℕ) → IsFit s → Executes put_version (Int (pos 2) ∷ []) old new (Ok count) → HoldsParts (unversioned_2 (map item_row (items_of s)) (map named_row s.incidents) s) old.now → HoldsAs 2 new.now s
+pub puts_version : (old new : sql.State) (version : ℕ) (s : State) (items incidents : List Row) (count : ℕ) → Executes put_version (Int (pos version) ∷ []) old new (Ok count) → HoldsParts (unversioned_2 items incidents s) old.now → HoldsParts (tables_2 version items incidents s) new.now
 unfolding understood everything
-puts_version_2 old new s count fit h has =
-    let items = map item_row (items_of s) in
-    let incidents = map named_row s.incidents in
-    let first = without_rowids 0 hub_table [] in
-    let rest = rest_2 items incidents s in
-    let stands = stands_first [] items incidents s in
-    let put = puts [] first rest 0 stands put_version _ old new (refl, refl) count h has (lit Null ∷ col 0 0 ∷ []) 2 refl (Null ∷ Int (pos 2) ∷ []) refl (rw (cast_int 2, cast_null) refl) (Int (pos 2) ∷ []) (λ rows. refl) ((Int (pos 2) ∷ []) ∷ []) (IsPermutation-refl _) in
-    record { known = put.known; whole = put.whole; means = put.means; fit = fit }
+puts_version old new version s items incidents count h has =
+    let row = Int (pos version) ∷ [] in
+    let put = puts [] (without_rowids 0 hub_table []) (rest_2 items incidents s) 0 (stands_first [] items incidents s) put_version _ old new (refl, refl) count h has (lit Null ∷ col 0 0 ∷ []) 2 refl (Null ∷ row) refl (rw (cast_int version, cast_null) refl) row (λ rows. refl) (row ∷ []) (IsPermutation-refl _) in
+    record { known = put.known; whole = put.whole; means = put.means }
 
 -- one more of a list, whose rows are put one after another
 pub one_more : {X : Type 0} (row : X → Row) (xs : List X) (i : ℕ) (x : X) → i < length xs → x ≡ get_or xs i x → IsPermutation (row x ∷ map row (take i xs)) (map row (take (i + 1) xs))

@@ -31,10 +31,10 @@ use Rattle.hub_core.specs.declared.TheConstants.{INCIDENT_LIMIT, REVISION_LIMIT}
 use Rattle.hub_core.specs.declared.state.Incident.{Incident}
 use Rattle.hub_core.specs.declared.state.Naming.{Naming}
 use Rattle.hub_core.proofs.Keeping.{numbers_above}
-use Rattle.hub_store.specs.Beside.{begin_alike, Apart, IsShortLine, CanStand, NumbersApart, IdentsApart, IsShortNaming, CanName}
+use Rattle.hub_store.specs.inner.Beside.{begin_alike, Apart, IsShortLine, CanStand, NumbersApart, IdentsApart, IsShortNaming, CanName}
 use Rattle.hub_store.specs.Fit.{AreTaken, ShortItem, ShortNaming, FitIncident}
 use Rattle.hub_store.specs.Items.{Item, items_from, items_in, item_row}
-use Rattle.hub_store.specs.Moving.{HasTexts, IsReadable, ReadsFirst, old_shown, incidents_up_to}
+use Rattle.hub_store.specs.inner.Moving.{HasTexts, IsReadable, ReadsFirst, old_shown, incidents_up_to}
 use Rattle.hub_store.specs.Rows.{named_row, naming_row}
 use Rattle.hub_store.proofs.Compare.{equal_numbers, equal_texts}
 use Rattle.hub_store.proofs.OldTexts.{read_back}

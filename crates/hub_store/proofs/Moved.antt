@@ -6,8 +6,8 @@ use Rattle.hub_core.specs.State.{State}
 use Rattle.hub_core.specs.Sound.{IsSound}
 use Rattle.hub_core.specs.declared.state.Incident.{Incident}
 use Rattle.hub_store.specs.Items.{items_in, item_row}
-use Rattle.hub_store.specs.Moving.{incident_above, incidents_up_to, naming_in}
-use Rattle.hub_store.specs.PutsLines.{HasMore}
+use Rattle.hub_store.specs.inner.Moving.{incident_above, incidents_up_to, naming_in}
+use Rattle.hub_store.specs.inner.PutsLines.{HasMore}
 use Rattle.hub_store.proofs.Items.{items_put}
 use Rattle.hub_store.proofs.OldTexts.{none_up_to, up_to_next, up_to_all}
 

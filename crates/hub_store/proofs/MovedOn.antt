@@ -1,25 +1,26 @@
 -- How a migration comes from one version to the next, by what its calls make.
-use Rattle.std.proofs.Common.{◌≡◌, ◌<◌, ◌≤◌, nat_lt, ℕ, List, [], ◌∷◌, ◌++◌, map, Some, None, Ok, IsTrue, sym, ap, subst, ◌∙◌}
+use Rattle.std.proofs.Common.{◌≡◌, ◌<◌, ◌≤◌, nat_lt, ℕ, List, [], ◌∷◌, ◌++◌, map, Some, None, Ok, IsTrue, sym, ap, subst, ◌∙◌, arith}
 use Rattle.sqlite_trees.proofs.ListLemmas.{map-map}
 use Rattle.sqlite.specs.Effect.{Database}
 use Rattle.sqlite.specs.State.{State, HasCleanDisk}
 use Rattle.hub_core.specs.Sound.{IsSound}
 use Rattle.hub_core.specs.State as core
-use Rattle.hub_core.specs.State.{empty}
 use Rattle.hub_core.specs.declared.state.Incident.{Incident}
 use Rattle.hub_core.specs.declared.state.Naming.{Naming}
 use Rattle.std.proofs.lemmas.Bool.{ltb-true}
+use Rattle.std.proofs.lemmas.Bool.Decides.{nat_tests}
+use Rattle.hub_store.specs.Opening.{is_older}
 use Rattle.hub_core.specs.declared.TheConstants.{INCIDENT_LIMIT}
 use Rattle.hub_core.proofs.Keeping.{found_is, found_each}
-use Rattle.hub_store.specs.Fit.{IsFit}
+use Rattle.hub_store.specs.Fit.{FitAs}
 use Rattle.hub_store.specs.Items.{items_in, items_of, item_row}
-use Rattle.hub_store.specs.Layout.{parts_1}
+use Rattle.hub_store.specs.Layout.{parts_1, parts_2}
 use Rattle.hub_store.specs.Means.{HoldsAs}
-use Rattle.hub_store.specs.Moving.{HasTexts, HoldsMoved, HoldsNext, incident_above, naming_in}
+use Rattle.hub_store.specs.inner.Moving.{HasTexts, HoldsMoved, HoldsNext, incident_above, naming_in}
 use Rattle.hub_store.specs.Parts.{HoldsParts}
-use Rattle.hub_store.specs.PutsLines.{PutsLines}
+use Rattle.hub_store.specs.inner.PutsLines.{PutsLines}
 use Rattle.hub_store.specs.Rows.{naming_row, named_row}
-use Rattle.hub_store.specs.Beside.{HoldsBeside}
+use Rattle.hub_store.specs.inner.Beside.{HoldsBeside}
 use Rattle.hub_store.proofs.Movable.{all_low}
 use Rattle.hub_store.proofs.Moved.{none_moved, next_more, next_kept, all_moved}
 
@@ -62,8 +63,18 @@ tables_of_1 db s held = record { known = held.known; whole = held.whole; means =
 pub texts_of_1 : (db : Database) (s : core.State) → IsSound s → HoldsAs 1 db s → HasTexts s
 texts_of_1 db s sound held = record { sound = sound; texts = held.fit.1 }
 
+-- ---- which version it is
+
+pub only_1 : (v : ℕ) → IsTrue (is_older v) → v < 2 → v ≡ 1
+only_1 v older low = grind (arith, nat_tests)
+
+pub only_2 : (v : ℕ) → IsTrue (is_older v) → 2 ≤ v → v ≡ 2
+only_2 v older high = grind (arith, nat_tests)
+
+-- ---- version 2
+
+pub held_as_2 : (db : Database) (s : core.State) → FitAs 2 s → HoldsParts (parts_2 s) db → HoldsAs 2 db s
+held_as_2 db s fit has = record { known = has.known; whole = has.whole; means = has.means; fit = fit }
+
 pub rows_of_namings : (kept : List Naming) (is : List Incident) → kept ≡ naming_in is → map naming_row kept ≡ map named_row is
 rows_of_namings kept is same = ap (map naming_row) same ∙ map-map naming_row (λ (i : Incident). i.naming) is
-
-pub fit_empty : IsFit empty
-fit_empty = record { orgs = tt; accounts = tt; communities = tt; groups = tt; gates = tt }

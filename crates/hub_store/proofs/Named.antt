@@ -18,10 +18,10 @@ use Rattle.hub_core.specs.Sound.{IsSound}
 use Rattle.hub_core.specs.declared.state.Incident.{Incident}
 use Rattle.hub_core.proofs.Found.{one_name}
 use Rattle.hub_store.specs.Means.{Means}
-use Rattle.hub_store.specs.FirstShown.{number_shown}
+use Rattle.hub_store.specs.inner.FirstShown.{number_shown}
 use Rattle.hub_store.specs.Rows.{named_row}
-use Rattle.hub_store.specs.Shown.{IsShownBy, ShowsFirst}
-use Rattle.hub_store.specs.ShownPairs.{ShowsNumber}
+use Rattle.hub_store.specs.inner.Shown.{IsShownBy, ShowsFirst}
+use Rattle.hub_store.specs.inner.ShownPairs.{ShowsNumber}
 use Rattle.hub_store.proofs.ByNumber.{found_once}
 use Rattle.hub_store.proofs.Compare.{equal_numbers, equal_texts, and_true}
 use Rattle.hub_store.proofs.Forms.{one_table, is_param}

@@ -22,6 +22,7 @@ use Rattle.sqlite_schema.specs.declared.command.Source.TheVariants.{Values}
 use Rattle.sqlite_schema.specs.declared.command.Command.TheVariants.{Insert}
 use Rattle.sqlite_schema.specs.declared.schema.Constraint.TheVariants.{Datatype, NotNull, Check, PrimaryKey, Unique, ForeignKey}
 use Rattle.sqlite_schema.specs.declared.schema.Index.{Index}
+use Rattle.sqlite_schema.specs.declared.schema.Schema.{Schema}
 use Rattle.sqlite_schema.specs.declared.schema.Keys.TheVariants.{Enforced}
 use Rattle.sqlite_schema.specs.declared.schema.Table.{Table}
 use Rattle.sqlite_schema.specs.Rules.{Keeps, table_reals, index_reals, guards, clashes, equal, agree}
@@ -44,24 +45,27 @@ use Rattle.iodef_tree.proofs.Order.{bytes_eq-true}
 use Rattle.circle.specs.Sound.{Pairwise}
 use Rattle.hub_core.specs.State as core
 use Rattle.hub_core.specs.declared.state.Naming.{Naming}
-use Rattle.hub_store.specs.Beside.{begin_alike, IdentsApart, NumbersApart, CanName}
+use Rattle.hub_store.specs.inner.Beside.{begin_alike, IdentsApart, NumbersApart, CanName}
 use Rattle.hub_store.specs.Failing.{HasReason}
 use Rattle.hub_store.specs.Fit.{IsShort}
 use Rattle.hub_store.specs.Layout.{incident_part_2, tables_2}
 use Rattle.hub_store.specs.Parts.{HoldsParts}
 use Rattle.hub_store.specs.Rows.{naming_row}
-use Rattle.hub_store.specs.Tables.{hub_schema}
+use Rattle.hub_store.specs.Tables.{schema_by}
 use Rattle.hub_store.proofs.Causes.{fails_as}
 use Rattle.hub_store.proofs.Compare.{cast_int, cast_null, and_true}
 use Rattle.hub_store.proofs.Lists.{came_in, has_permuted}
 use Rattle.hub_store.proofs.Standing.{OneApart, pairs_permuted, no_clash}
-use Rattle.hub_store.proofs.Texts.{put_naming, put_naming_is}
+use Rattle.hub_store.proofs.Texts.{put_naming}
 use Rattle.hub_store.proofs.WriteCauses.{Breaks, IsWritable, insert_stops}
+
+abbrev schema_2 : Schema
+schema_2 = schema_by 2
 
 abbrev incident : Table
 incident = (incident_part_2 []).table
 
-pub stands_incident : IsWritable hub_schema incident 10
+pub stands_incident : IsWritable schema_2 incident 10
 stands_incident = record { listed = refl; uncounted = refl; alone = λ tree olds news. refl; unreferred = (refl, (refl, (refl, (refl, (refl, (refl, (refl, (refl, (refl, (refl, (refl, tt))))))))))) }
 
 storable : (k : Naming) → IsShort (naming_row k) → IsStorableRow (table_reals incident) (naming_row k)
@@ -85,12 +89,12 @@ entry_storable k short = record {
   short = omega (arith, short);
 }
 
-own_columns : (i : Index) → Has hub_schema.indexes i → i.table ≡ incident.tree → i.columns ≡ 2 ∷ 3 ∷ []
+own_columns : (i : Index) → Has schema_2.indexes i → i.table ≡ incident.tree → i.columns ≡ 2 ∷ 3 ∷ []
 own_columns i h is =
-    let own : (not (i.table == incident.tree) || bytes_eq i.columns (2 ∷ 3 ∷ [])) ≡ true = test_has (λ (i : Index). not (i.table == incident.tree) || bytes_eq i.columns (2 ∷ 3 ∷ [])) hub_schema.indexes i refl h in
+    let own : (not (i.table == incident.tree) || bytes_eq i.columns (2 ∷ 3 ∷ [])) ≡ true = test_has (λ (i : Index). not (i.table == incident.tree) || bytes_eq i.columns (2 ∷ 3 ∷ [])) schema_2.indexes i refl h in
     bytes_eq-true i.columns (2 ∷ 3 ∷ []) (subst (λ t. (not (t == incident.tree) || bytes_eq i.columns (2 ∷ 3 ∷ [])) ≡ true) is own)
 
-sized : (k : Naming) → IsShort (naming_row k) → ¬ IsOversized hub_schema incident (naming_row k)
+sized : (k : Naming) → IsShort (naming_row k) → ¬ IsOversized schema_2 incident (naming_row k)
 sized k short (inl big) = big (storable k short)
 sized k short (inr index) = index.3 (subst (λ (cs : List ℕ). IsStorable (index_reals (table_reals incident) cs) (entry_of cs (naming_row k))) (sym (own_columns index.0 index.1 index.2)) (entry_storable k short))
 
@@ -109,7 +113,7 @@ apart_agrees (r ∷ rows) p = (each rows p.0, apart_agrees rows p.1)
     each [] all = tt
     each (x ∷ rs) all = ((as_begun r x ∙ all.0.0, as_begun x r ∙ all.0.1), each rs all.1)
 
-unique_rows : (rows : List Row) → Pairwise IdentsApart rows → AllByRecursion (λ row. list_all (λ i. not (guards i incident && clashes i.order i.columns rows row)) hub_schema.indexes ≡ true) rows
+unique_rows : (rows : List Row) → Pairwise IdentsApart rows → AllByRecursion (λ row. list_all (λ i. not (guards i incident && clashes i.order i.columns rows row)) schema_2.indexes ≡ true) rows
 unfolding agrees
 unique_rows rows apart = all_from _ rows (λ row h. and_true _ ∙ ap not (no_clash agrees rows (apart_agrees rows apart) row h))
 
@@ -117,7 +121,7 @@ not_taken : (new : Row) (rows : List Row) → AllByRecursion (NumbersApart new) 
 not_taken new [] all = refl
 not_taken new (r ∷ rows) all = ap (λ b. b || is_taken rows new) all.0.1 ∙ not_taken new rows all.1
 
-module _ (db : Trees) (whole : IsDatabase (record { schema = hub_schema; trees = db })) (k : Naming) (incidents : List Row) (held : IsPermutation incidents (map (λ (r : Row). r) (db incident.tree))) (can : CanName (naming_row k ∷ incidents)) (low : k.number < 2 ^ 63) (short : IsShort (naming_row k)) where
+module _ (db : Trees) (whole : IsDatabase (record { schema = schema_2; trees = db })) (k : Naming) (incidents : List Row) (held : IsPermutation incidents (map (λ (r : Row). r) (db incident.tree))) (can : CanName (naming_row k ∷ incidents)) (low : k.number < 2 ^ 63) (short : IsShort (naming_row k)) where
   edit : Edit
   edit = record { table = incident; gone = []; news = naming_row k ∷ [] }
 
@@ -127,14 +131,14 @@ module _ (db : Trees) (whole : IsDatabase (record { schema = hub_schema; trees =
   free : is_taken (db incident.tree) (naming_row k) ≡ false
   free = not_taken (naming_row k) (db incident.tree) (all_from (NumbersApart (naming_row k)) (db incident.tree) (λ y h. all_has (NumbersApart (naming_row k)) incidents y can.numbers.0 (has_permuted (db incident.tree) incidents (IsPermutation-sym _ _ are) y h)))
 
-  unique : Keeps Unique hub_schema (with_tree db incident.tree (put_row (naming_row k) (db incident.tree)))
+  unique : Keeps Unique schema_2 (with_tree db incident.tree (put_row (naming_row k) (db incident.tree)))
   unique =
       let u = whole.obeys.rules Unique in
       let rows = put_row (naming_row k) (db incident.tree) in
       let apart = pairs_permuted (begin_alike 2) (naming_row k ∷ incidents) rows (IsPermutation-trans _ _ _ (IsPermutation-cons (naming_row k) _ _ are) (came_in (naming_row k) (db incident.tree) free)) can.idents in
       (u.0, (u.1.0, (u.1.1.0, (u.1.1.1.0, (u.1.1.1.1.0, (u.1.1.1.1.1.0, (u.1.1.1.1.1.1.0, (u.1.1.1.1.1.1.1.0, (u.1.1.1.1.1.1.1.1.0, (u.1.1.1.1.1.1.1.1.1.0, (unique_rows rows apart, tt)))))))))))
 
-  unrefused : (why : Refusal) → ¬ IsRefused hub_schema Enforced db edit why
+  unrefused : (why : Refusal) → ¬ IsRefused schema_2 Enforced db edit why
   unfolding edit
   unrefused (Violates Datatype) h = true≢false h
   unrefused (Violates NotNull) h = true≢false h
@@ -147,10 +151,10 @@ module _ (db : Trees) (whole : IsDatabase (record { schema = hub_schema; trees =
   unrefused BadReference h = true≢false h
   unrefused TooDeep h = h
 
-  unbroken : ¬ Breaks hub_schema db edit
+  unbroken : ¬ Breaks schema_2 db edit
   unfolding edit
   unbroken (inl refused) = unrefused refused.0 refused.1
-  unbroken (inr (row, inl same, big)) = sized k short (subst (IsOversized hub_schema incident) same big)
+  unbroken (inr (row, inl same, big)) = sized k short (subst (IsOversized schema_2 incident) same big)
   unbroken (inr (row, inr none, big)) = none
 
 cast_naming : (k : Naming) → cast_row incident (naming_row k) ≡ naming_row k
@@ -167,15 +171,15 @@ pub naming_fails : (k : Naming) (s : core.State) (items incidents : List Row) �
 unfolding understood everything edit
 naming_fails k s items incidents can old new e h has other =
     let db = old.now.trees in
-    let sound : IsDatabase (record { schema = hub_schema; trees = db }) = subst (λ t. IsDatabase (record { schema = t; trees = db })) has.known has.whole in
+    let sound : IsDatabase (record { schema = schema_2; trees = db }) = subst (λ t. IsDatabase (record { schema = t; trees = db })) has.known has.whole in
     let own = can.namings.0 in
     let low : k.number < 2 ^ 63 = subst (λ n. n < 2 ^ 63) (sym (number_of k own.0 own.1)) own.3 in
     let params = Int (pos k.number) ∷ Int (pos k.source) ∷ Text k.ident ∷ Int (pos k.revision) ∷ [] in
     let news = ap (λ r. numbered Chosen (db incident.tree) (r ∷ [])) (cast_naming k) in
-    elim (fails_as put_naming params old new hub_schema has.known (Insert 10 (Values terms 5)) put_naming_is tt (refl, refl, refl, refl) e other h) [
+    elim (fails_as put_naming params old new schema_2 has.known (Insert 10 (Values terms 5)) refl tt (refl, refl, refl, refl) e other h) [
       | inl reason ↦ reason
-      | inr refused ↦ elim (insert_stops hub_schema incident 10 stands_incident old (statement_of put_naming (understood hub_schema put_naming)) params terms 5 has.known refl refused.0 refused.1) [
+      | inr refused ↦ elim (insert_stops schema_2 incident 10 stands_incident old (statement_of put_naming (understood schema_2 put_naming)) params terms 5 has.known refl refused.0 refused.1) [
         | inl limited ↦ inr (inr limited)
-        | inr broken ↦ absurd (unbroken db sound k incidents has.means.1.1.1.1.1.1.1.1.1.1.0.same can low own.2 (subst (λ l. Breaks hub_schema db (record { table = incident; gone = []; news = l })) news broken))
+        | inr broken ↦ absurd (unbroken db sound k incidents has.means.1.1.1.1.1.1.1.1.1.1.0.same can low own.2 (subst (λ l. Breaks schema_2 db (record { table = incident; gone = []; news = l })) news broken))
       ]
     ]

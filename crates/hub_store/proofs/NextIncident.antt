@@ -22,15 +22,15 @@ use Rattle.hub_core.specs.State as core
 use Rattle.hub_core.specs.declared.state.Incident.{Incident}
 use Rattle.hub_store.specs.Holdings.{IsHeld}
 use Rattle.hub_store.specs.Layout.{incident_part, with_items}
-use Rattle.hub_store.specs.Makes.{Makes}
-use Rattle.hub_store.specs.Moving.{ShowsIncident, HasTexts, ReadsFirst, incident_above}
+use Rattle.hub_store.specs.inner.Makes.{Makes}
+use Rattle.hub_store.specs.inner.Moving.{ShowsIncident, HasTexts, ReadsFirst, incident_above}
 use Rattle.hub_store.specs.Failing.{HasReason}
 use Rattle.hub_store.specs.Fit.{AreTaken}
 use Rattle.hub_store.specs.Parts.{held}
-use Rattle.hub_store.specs.Queries.{HasShown, HasRefused}
-use Rattle.hub_store.specs.Shown.{ShowsFirst}
+use Rattle.hub_store.specs.inner.Queries.{HasShown, HasRefused}
+use Rattle.hub_store.specs.inner.Shown.{ShowsFirst}
 use Rattle.hub_store.specs.Tables.{beside_item}
-use Rattle.hub_store.specs.Beside.{HoldsBeside}
+use Rattle.hub_store.specs.inner.Beside.{HoldsBeside}
 use Rattle.hub_store.proofs.Causes.{IsWhole, reason_after}
 use Rattle.hub_store.proofs.Forms.{program}
 use Rattle.hub_store.proofs.Movable.{all_readable, first_readable}

@@ -25,11 +25,11 @@ use Rattle.hub_core.specs.declared.state.Incident.{Incident}
 use Rattle.hub_core.proofs.Keeping.{numbers_above}
 use Rattle.hub_store.specs.Rows.{document_text, incident_row}
 use Rattle.hub_store.specs.Fit.{FitIncident}
-use Rattle.hub_store.specs.Shown.{ShowsFirst}
+use Rattle.hub_store.specs.inner.Shown.{ShowsFirst}
 use Rattle.hub_store.specs.Holdings.{IsHeld}
 use Rattle.hub_store.specs.Parts.{held}
 use Rattle.hub_store.specs.Layout.{incident_part}
-use Rattle.hub_store.specs.Moving.{ShowsIncident, old_shown, HasTexts, incident_above}
+use Rattle.hub_store.specs.inner.Moving.{ShowsIncident, old_shown, HasTexts, incident_above}
 use Rattle.hub_store.proofs.Compare.{more_than, and_true}
 use Rattle.hub_store.proofs.Forms.{one_table, is_above, by_column}
 use Rattle.hub_store.proofs.Listed.{listed, int_below}

@@ -8,8 +8,8 @@ use Rattle.sqlite_value.specs.declared.value.Value.TheVariants.{Int}
 use Rattle.sqlite_value.specs.Order.{Row, column}
 use Rattle.sqlite_trees.proofs.ListLemmas.{map-map, filter-map}
 use Rattle.sqlite.specs.declared.error.Error.{Error}
-use Rattle.hub_store.specs.Shown.{ShowsAll, ShowsFirst, IsShownBy}
-use Rattle.hub_store.specs.ShownPairs.{ShowsNumber}
+use Rattle.hub_store.specs.inner.Shown.{ShowsAll, ShowsFirst, IsShownBy}
+use Rattle.hub_store.specs.inner.ShownPairs.{ShowsNumber}
 use Rattle.hub_store.specs.Pairs.{Pair}
 use Rattle.hub_store.proofs.Finding.{reads_first}
 

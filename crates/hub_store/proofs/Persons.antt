@@ -15,7 +15,7 @@ use Rattle.circle.specs.Reads.{person_in}
 use Rattle.hub_core.specs.Reads.{person_by_key}
 use Rattle.hub_store.specs.Means.{Means}
 use Rattle.hub_store.specs.Rows.{account_row}
-use Rattle.hub_store.specs.Shown.{person_shown}
+use Rattle.hub_store.specs.inner.Shown.{person_shown}
 use Rattle.hub_store.proofs.ByNumber.{found_once}
 use Rattle.hub_store.proofs.Compare.{equal_blobs, and_true}
 use Rattle.hub_store.proofs.Forms.{one_table, is_param}

@@ -24,7 +24,7 @@ use Rattle.hub_core.specs.declared.state.Recipient.{Recipient}
 use Rattle.hub_core.specs.declared.state.Permission.{Permission}
 use Rattle.hub_store.specs.Means.{Means}
 use Rattle.hub_store.specs.Rows.{gate_row, recipient_row, permission_row}
-use Rattle.hub_store.specs.Shown.{gate_shown, target_shown, permission_shown}
+use Rattle.hub_store.specs.inner.Shown.{gate_shown, target_shown, permission_shown}
 use Rattle.hub_store.proofs.Compare.{begins, equal_numbers, and_true}
 use Rattle.hub_store.proofs.Forms.{one_table, is_param, by_column, in_order}
 use Rattle.hub_store.proofs.Listed.{listed, int_below, not_less, next_decides}
@@ -88,12 +88,12 @@ three_decide m n k o p q e f h = go (nat_cmp m n) refl h
     go Greater is more = absurd cc
 
 abbrev permissions_query : Query
-permissions_query = in_order (by_column 2 ∷ by_column 3 ∷ by_column 4 ∷ []) (one_table permission_tree (is_param 1 0 ∷ []) (col 1 2 ∷ col 1 3 ∷ col 1 4 ∷ []))
+permissions_query = in_order (by_column 2 ∷ by_column 3 ∷ by_column 4 ∷ []) (one_table permission_tree (is_param 1 0 ∷ []) (col 1 2 ∷ col 1 3 ∷ col 1 4 ∷ col 1 5 ∷ []))
 
 abbrev permission_out : Row → Output
-permission_out r = (column r 1 ∷ column r 2 ∷ column r 3 ∷ [], column r 1 ∷ column r 2 ∷ column r 3 ∷ [])
+permission_out r = (column r 1 ∷ column r 2 ∷ column r 3 ∷ [], column r 1 ∷ column r 2 ∷ column r 3 ∷ column r 4 ∷ [])
 
-past_permissions : (params r : Row) → (eval_all (map (λ (k : Term × Key). k.0) (by_column 2 ∷ by_column 3 ∷ by_column 4 ∷ [])) (params ∷ r ∷ []), shows (col 1 2 ∷ col 1 3 ∷ col 1 4 ∷ []) params r) ≡ permission_out (drop 1 r)
+past_permissions : (params r : Row) → (eval_all (map (λ (k : Term × Key). k.0) (by_column 2 ∷ by_column 3 ∷ by_column 4 ∷ [])) (params ∷ r ∷ []), shows (col 1 2 ∷ col 1 3 ∷ col 1 4 ∷ col 1 5 ∷ []) params r) ≡ permission_out (drop 1 r)
 past_permissions params [] = refl
 past_permissions params (x ∷ r) = refl
 
@@ -101,7 +101,7 @@ pub permissions_listed : (db : Trees) (s : core.State) (n : ℕ) (rows : List Ro
 permissions_listed db s n rows sound means a =
     let params = Int (pos n) ∷ [] in
     let is_its = λ (x : Permission). x.incident == n in
-    listed db permission_tree (drop 1) permission_row s.permissions is_its (is_param 1 0 ∷ []) (col 1 2 ∷ col 1 3 ∷ col 1 4 ∷ []) (by_column 2 ∷ by_column 3 ∷ by_column 4 ∷ []) (lit (Int (negsuc 0))) params (begins 0 params) permission_out rows
+    listed db permission_tree (drop 1) permission_row s.permissions is_its (is_param 1 0 ∷ []) (col 1 2 ∷ col 1 3 ∷ col 1 4 ∷ col 1 5 ∷ []) (by_column 2 ∷ by_column 3 ∷ by_column 4 ∷ []) (lit (Int (negsuc 0))) params (begins 0 params) permission_out rows
     (past_one (Int (pos n))) (past_permissions params) (λ x. and_true _ ∙ equal_numbers x.incident n)
     (λ a b. permission_cmp a b ≡ Less) (rising _ s.permissions sound.permissions.rising)
     (λ a b p less q. rw (value_cmp-Text (pointer_text a.permission.path) (pointer_text b.permission.path), value_cmp-Int (pos (grantee_key a.permission.grantee).0) (pos (grantee_key b.permission.grantee).0), value_cmp-Int (pos (grantee_key a.permission.grantee).1) (pos (grantee_key b.permission.grantee).1), int_as_nat (grantee_key a.permission.grantee).0 (grantee_key b.permission.grantee).0, int_as_nat (grantee_key a.permission.grantee).1 (grantee_key b.permission.grantee).1)

@@ -23,9 +23,9 @@ use Rattle.hub_core.specs.State.{incident_of}
 use Rattle.hub_core.specs.declared.state.Incident.{Incident}
 use Rattle.hub_core.proofs.Keeping.{found_each}
 use Rattle.hub_core.proofs.Marked.{met_found}
-use Rattle.hub_store.specs.FeedsRows.{lines_of}
-use Rattle.hub_store.specs.ProbesRows.{HasProbed, AreFirst}
-use Rattle.hub_store.specs.Queries.{IsReadOutside}
+use Rattle.hub_store.specs.inner.FeedsRows.{lines_of}
+use Rattle.hub_store.specs.inner.ProbesRows.{HasProbed, AreFirst}
+use Rattle.hub_store.specs.inner.Queries.{IsReadOutside}
 
 pub probed_on : (old mid new : ProbeState) → HasProbed old mid → HasProbed mid new → HasProbed old new
 probed_on old mid new first then = record {

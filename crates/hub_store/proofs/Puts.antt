@@ -1,5 +1,5 @@
 -- What each INSERT, DELETE and UPDATE does under the schema of the hub, as rows.
-use Rattle.std.proofs.Common.{◌≡◌, ℕ, suc, pos, ◌/◌, List, [], ◌∷◌, ◌++◌, map, take, drop, filter, not, length, slice_get, Bool, true, false, if◌then◌else◌, Option, Some, Ok, refl, sym, ap, subst, ◌∙◌}
+use Rattle.std.proofs.Common.{◌≡◌, ℕ, ℤ, suc, pos, ◌/◌, List, [], ◌∷◌, ◌++◌, map, take, drop, filter, not, length, slice_get, Bool, true, false, if◌then◌else◌, Option, Some, Ok, refl, sym, ap, subst, ◌∙◌}
 use Rattle.std.specs.List.{list_all}
 use Rattle.std.specs.List.Sorted.{IsPermutation}
 use Rattle.sqlite_value.specs.declared.value.Value.{Value}
@@ -22,10 +22,10 @@ use Rattle.sqlite.specs.Listing.{understood}
 use Rattle.sqlite.specs.State.{State, Executes}
 use Rattle.sqlite.proofs.Callers.{IsPlain, command_of}
 use Rattle.hub_store.specs.Tables.{hub_schema}
-use Rattle.hub_store.specs.Values.{number_or_null, flag}
+use Rattle.hub_store.specs.Values.{number_or_null, moment_or_null, flag}
 use Rattle.hub_store.specs.Pairs.{put_pair, take_pair}
 use Rattle.hub_store.specs.Holdings.{Holding, IsHeld, by_number}
-use Rattle.hub_store.proofs.Compare.{begins, cast_int, cast_null, cast_option, cast_flag}
+use Rattle.hub_store.proofs.Compare.{begins, cast_int, cast_null, cast_option, cast_moment, cast_flag}
 use Rattle.hub_store.proofs.Exchanged.{exchanges}
 use Rattle.hub_store.proofs.Forms.{is_param, one_table}
 use Rattle.hub_store.proofs.Held.{AreHeld, is_other, one_changes, permuted, comes_in, goes_out}
@@ -128,8 +128,9 @@ puts_gate old new incident path level group has count h = put_one gates gate_pla
 pub puts_recipient : (old new : State) (incident : ℕ) (kind : ℕ) (target : ℕ) → old.now.schema ≡ hub_schema → (count : ℕ) → Executes put_recipient (Int (pos incident) ∷ Int (pos kind) ∷ Int (pos target) ∷ []) old new (Ok count) → Put recipients (Null ∷ Int (pos incident) ∷ Int (pos kind) ∷ Int (pos target) ∷ []) old new
 puts_recipient old new incident kind target has count h = put_one recipients recipient_place refl refl refl (λ tree olds news. refl) put_recipient _ old new has put_recipient_plain count h _ _ put_recipient_is _ refl (rw (cast_int incident, cast_int kind, cast_int target, cast_null) refl)
 
-pub puts_permission : (old new : State) (incident : ℕ) (path : List ℕ) (kind : ℕ) (target : ℕ) → old.now.schema ≡ hub_schema → (count : ℕ) → Executes put_permission (Int (pos incident) ∷ Text path ∷ Int (pos kind) ∷ Int (pos target) ∷ []) old new (Ok count) → Put permissions (Null ∷ Int (pos incident) ∷ Text path ∷ Int (pos kind) ∷ Int (pos target) ∷ []) old new
-puts_permission old new incident path kind target has count h = put_one permissions permission_place refl refl refl (λ tree olds news. refl) put_permission _ old new has put_permission_plain count h _ _ put_permission_is _ refl (rw (cast_int incident, cast_int kind, cast_int target, cast_null) refl)
+pub puts_permission : (old new : State) (incident : ℕ) (path : List ℕ) (kind : ℕ) (target : ℕ) (until : Option ℤ) → old.now.schema ≡ hub_schema → (count : ℕ) → Executes put_permission (Int (pos incident) ∷ Text path ∷ Int (pos kind) ∷ Int (pos target) ∷ moment_or_null until ∷ []) old new (Ok count)
+    → Put permissions (Null ∷ Int (pos incident) ∷ Text path ∷ Int (pos kind) ∷ Int (pos target) ∷ moment_or_null until ∷ []) old new
+puts_permission old new incident path kind target until has count h = put_one permissions permission_place refl refl refl (λ tree olds news. refl) put_permission _ old new has put_permission_plain count h _ _ put_permission_is _ refl (rw (cast_int incident, cast_int kind, cast_int target, cast_moment until, cast_null) refl)
 
 pub puts_naming : (old new : State) (number : ℕ) (source : ℕ) (ident : List ℕ) (revision : ℕ) → old.now.schema ≡ hub_schema → (count : ℕ) → Executes put_naming (Int (pos number) ∷ Int (pos source) ∷ Text ident ∷ Int (pos revision) ∷ []) old new (Ok count) → Put incidents (Int (pos number) ∷ Null ∷ Int (pos source) ∷ Text ident ∷ Int (pos revision) ∷ []) old new
 puts_naming old new number source ident revision has count h = put_one incidents incident_place refl refl refl (λ tree olds news. refl) put_naming _ old new has put_naming_plain count h _ _ put_naming_is _ refl (rw (cast_int number, cast_int source, cast_int revision, cast_null) refl)

@@ -9,11 +9,12 @@ use Rattle.sqlite.specs.State.{State}
 use Rattle.iodef_tree.specs.declared.line.Line.{Line}
 use Rattle.hub_core.specs.Documents.{Lines}
 use Rattle.hub_store.specs.Items.{items_from, item_row}
-use Rattle.hub_store.specs.Layout.{newest, common, incident_part, item_part, incident_part_2}
-use Rattle.hub_store.specs.Beside.{CanStand}
+use Rattle.hub_store.specs.Rows.{permission_row}
+use Rattle.hub_store.specs.Layout.{newest, alike, common, incident_part, item_part, incident_part_2, permission_part_3}
+use Rattle.hub_store.specs.inner.Beside.{CanStand}
 use Rattle.hub_store.specs.Keeps.{Goes}
-use Rattle.hub_store.specs.Makes.{Makes}
-use Rattle.hub_store.specs.PutsLines.{PutsLines, HasMore}
+use Rattle.hub_store.specs.inner.Makes.{Makes}
+use Rattle.hub_store.specs.inner.PutsLines.{PutsLines, HasMore}
 use Rattle.hub_store.proofs.Items.{past_both}
 use Rattle.hub_store.proofs.PartRows.{exchanged_rows}
 use Rattle.hub_store.proofs.Standing.{stand_permuted, stand_behind}
@@ -100,7 +101,7 @@ puts_none a n place =
       goes = goes;
       edited = λ s incidents items more same. record {
         goes = goes;
-        made = λ _ _ between. record { known = between.known; whole = between.whole; means = exchanged_rows _ (common newest s) (item_part items) (incident_part_2 incidents ∷ []) more same between.means; fit = between.fit };
+        made = λ _ _ between. record { known = between.known; whole = between.whole; means = exchanged_rows _ (alike newest s) (item_part items) (incident_part_2 incidents ∷ permission_part_3 (map permission_row s.permissions) ∷ []) more same between.means; fit = between.fit };
       };
       moved = λ s items more same. record {
         goes = goes;

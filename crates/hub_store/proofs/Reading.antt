@@ -8,7 +8,7 @@ use Rattle.hub_core.specs.State as core
 use Rattle.hub_core.specs.Sound.{IsSound}
 use Rattle.hub_store.specs.Keeps.{Knows}
 use Rattle.hub_store.specs.Means.{Holds}
-use Rattle.hub_store.specs.Queries.{IsReadInside}
+use Rattle.hub_store.specs.inner.Queries.{IsReadInside}
 use Rattle.hub_store.proofs.Outcomes.{unchanged_keeps}
 use Rattle.hub_store.proofs.Steps.{on_any, on_ok, clean_before, survives_on, kept_then}
 

@@ -8,8 +8,8 @@ use Rattle.circle.specs.Directory.{Directory}
 use Rattle.circle.specs.Reads.{group_of}
 use Rattle.hub_core.specs.declared.reply.JoinedGroup.{JoinedGroup}
 use Rattle.hub_store.specs.Pairs.{Pair}
-use Rattle.hub_store.specs.PairKinds.{pairs_from, pairs_to}
-use Rattle.hub_store.specs.ShownPairs.{joined_group, group_if_any, is_one_of, linked_with}
+use Rattle.hub_store.specs.inner.PairKinds.{pairs_from, pairs_to}
+use Rattle.hub_store.specs.inner.ShownPairs.{joined_group, group_if_any, is_one_of, linked_with}
 use Rattle.hub_store.specs.declared.joined_rows.Joined.{Joined}
 use Rattle.hub_store.specs.declared.pair_kind.PairKind.TheVariants as kind
 

@@ -11,7 +11,7 @@ use Rattle.sqlite.specs.Held.{Held, state}
 use Rattle.sqlite.specs.State.{State, HasCleanDisk, KeepsCommit, Survives, Executes, ExecutesInside}
 use Rattle.sqlite.proofs.StateLemmas.{survives_then}
 use Rattle.hub_store.specs.Keeps.{Goes, HasRun, HasFailed}
-use Rattle.hub_store.specs.Makes.{Makes, FailsOnly, Creates}
+use Rattle.hub_store.specs.inner.Makes.{Makes, FailsOnly, Creates}
 use Rattle.hub_store.specs.Failing.{HasReason, IsUnheld}
 use Rattle.hub_store.proofs.Causes.{reason_after}
 

@@ -23,11 +23,11 @@ use Rattle.hub_core.specs.State as core
 use Rattle.hub_core.specs.State.{incident_of}
 use Rattle.hub_core.specs.declared.state.Incident.{Incident}
 use Rattle.hub_store.specs.Content.{Has}
-use Rattle.hub_store.specs.FeedsRows.{lines_of}
+use Rattle.hub_store.specs.inner.FeedsRows.{lines_of}
 use Rattle.hub_store.specs.Items.{placed_shown, placed_from}
 use Rattle.hub_store.specs.Keeps.{KeepsCommitted}
-use Rattle.hub_store.specs.Queries.{IsReadOutside}
-use Rattle.hub_store.specs.Shown.{ShowsAll, ShowsPlaced}
+use Rattle.hub_store.specs.inner.Queries.{IsReadOutside}
+use Rattle.hub_store.specs.inner.Shown.{ShowsAll, ShowsPlaced}
 use Rattle.hub_store.specs.Tables.{hub_schema}
 use Rattle.hub_store.proofs.Answering.{unread}
 use Rattle.hub_store.proofs.AnyLines.{bare_anywhere}

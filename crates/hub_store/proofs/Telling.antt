@@ -8,7 +8,7 @@ use Rattle.sqlite.specs.State.{State, HasCleanDisk, Survives}
 use Rattle.hub_core.specs.State as core
 use Rattle.hub_core.specs.Shelves.{HasCause, IsRead}
 use Rattle.hub_core.specs.declared.shelf.ShelfFault.{ShelfFault}
-use Rattle.hub_store.specs.Queries.{IsReadOutside}
+use Rattle.hub_store.specs.inner.Queries.{IsReadOutside}
 use Rattle.hub_store.specs.Content.{Has, MayLeave}
 use Rattle.hub_store.specs.Shelved.{Shelved}
 use Rattle.hub_store.proofs.Runs.{knows, kept_has}

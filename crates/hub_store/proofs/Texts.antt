@@ -100,9 +100,9 @@ unfolding understood everything
 put_recipient_plain = (refl, refl)
 
 abbrev pub put_permission : List ℕ
-put_permission = codes "INSERT INTO permission (incident, path, kind, target) VALUES (?1, ?2, ?3, ?4)"
+put_permission = codes "INSERT INTO permission (incident, path, kind, target, until) VALUES (?1, ?2, ?3, ?4, ?5)"
 
-pub put_permission_is : command_of (understood hub_schema put_permission) ≡ Insert permission_place (Values (lit Null ∷ col 0 0 ∷ col 0 1 ∷ col 0 2 ∷ col 0 3 ∷ []) 5)
+pub put_permission_is : command_of (understood hub_schema put_permission) ≡ Insert permission_place (Values (lit Null ∷ col 0 0 ∷ col 0 1 ∷ col 0 2 ∷ col 0 3 ∷ col 0 4 ∷ []) 6)
 unfolding understood everything
 put_permission_is = refl
 
@@ -404,9 +404,9 @@ unfolding understood everything
 recipients_of_incident_plain = ((refl, refl), refl)
 
 abbrev pub permissions_of_incident : List ℕ
-permissions_of_incident = codes "SELECT path, kind, target FROM permission WHERE incident = ?1 ORDER BY path, kind, target"
+permissions_of_incident = codes "SELECT path, kind, target, until FROM permission WHERE incident = ?1 ORDER BY path, kind, target"
 
-pub permissions_of_incident_is : command_of (understood hub_schema permissions_of_incident) ≡ Select (program (in_order (by_column 2 ∷ by_column 3 ∷ by_column 4 ∷ []) (one_table permission_tree (is_param 1 0 ∷ []) (col 1 2 ∷ col 1 3 ∷ col 1 4 ∷ [])))) (codes "path" ∷ codes "kind" ∷ codes "target" ∷ [])
+pub permissions_of_incident_is : command_of (understood hub_schema permissions_of_incident) ≡ Select (program (in_order (by_column 2 ∷ by_column 3 ∷ by_column 4 ∷ []) (one_table permission_tree (is_param 1 0 ∷ []) (col 1 2 ∷ col 1 3 ∷ col 1 4 ∷ col 1 5 ∷ [])))) (codes "path" ∷ codes "kind" ∷ codes "target" ∷ codes "until" ∷ [])
 unfolding understood everything
 permissions_of_incident_is = refl
 

@@ -21,12 +21,13 @@ use Rattle.sqlite.proofs.Callers.{IsPlain, command_of}
 use Rattle.hub_core.specs.Documents.{Lines}
 use Rattle.hub_core.specs.State.{State, empty}
 use Rattle.hub_store.specs.Items.{items_from, item_row, placed_lines}
-use Rattle.hub_store.specs.Layout.{newest, common, incident_part, item_part, incident_part_2, tables_2, with_items}
+use Rattle.hub_store.specs.Rows.{permission_row}
+use Rattle.hub_store.specs.Layout.{newest, alike, common, incident_part, item_part, incident_part_2, permission_part_3, tables_3, with_items}
 use Rattle.hub_store.specs.Parts.{schema_of, HoldsParts}
 use Rattle.hub_store.specs.Means.{HoldsBetween}
-use Rattle.hub_store.specs.PutsLines.{HasMore}
+use Rattle.hub_store.specs.inner.PutsLines.{HasMore}
 use Rattle.hub_store.specs.Tables.{hub_schema}
-use Rattle.hub_store.specs.Beside.{HoldsBeside, CanStand}
+use Rattle.hub_store.specs.inner.Beside.{HoldsBeside, CanStand}
 use Rattle.hub_store.specs.Failing.{HasReason}
 use Rattle.hub_store.proofs.Causes.{IsWhole}
 use Rattle.hub_store.proofs.Held.{bare, past_rowids}
@@ -34,12 +35,13 @@ use Rattle.hub_store.proofs.LineCauses.{lines_count, lines_fail, terms_accepted,
 use Rattle.hub_store.proofs.LineRows.{terms_for, rows_for, cast_items, stands_between}
 use Rattle.hub_store.proofs.Migrating.{stands_items}
 use Rattle.hub_store.proofs.PartRows.{puts_all, puts_whole}
+use Rattle.hub_store.proofs.Places.{item_place}
 use Rattle.hub_store.proofs.Standing.{stand_permuted}
 
 abbrev pub put_twenty : List ℕ
 put_twenty = codes "INSERT INTO item (incident, place, depth, name, in_array, kind, text) VALUES (?1, ?2, ?3, ?4, ?5, ?6, ?7), (?1, ?8, ?9, ?10, ?11, ?12, ?13), (?1, ?14, ?15, ?16, ?17, ?18, ?19), (?1, ?20, ?21, ?22, ?23, ?24, ?25), (?1, ?26, ?27, ?28, ?29, ?30, ?31), (?1, ?32, ?33, ?34, ?35, ?36, ?37), (?1, ?38, ?39, ?40, ?41, ?42, ?43), (?1, ?44, ?45, ?46, ?47, ?48, ?49), (?1, ?50, ?51, ?52, ?53, ?54, ?55), (?1, ?56, ?57, ?58, ?59, ?60, ?61), (?1, ?62, ?63, ?64, ?65, ?66, ?67), (?1, ?68, ?69, ?70, ?71, ?72, ?73), (?1, ?74, ?75, ?76, ?77, ?78, ?79), (?1, ?80, ?81, ?82, ?83, ?84, ?85), (?1, ?86, ?87, ?88, ?89, ?90, ?91), (?1, ?92, ?93, ?94, ?95, ?96, ?97), (?1, ?98, ?99, ?100, ?101, ?102, ?103), (?1, ?104, ?105, ?106, ?107, ?108, ?109), (?1, ?110, ?111, ?112, ?113, ?114, ?115), (?1, ?116, ?117, ?118, ?119, ?120, ?121)"
 
-is_put : command_of (understood hub_schema put_twenty) ≡ Insert 9 (Values (terms_for 1 20) 8)
+is_put : command_of (understood hub_schema put_twenty) ≡ Insert item_place (Values (terms_for 1 20) 8)
 unfolding understood everything
 is_put = refl
 
@@ -68,11 +70,11 @@ module _ (n place : ℕ) (ls : Lines) (long : length ls ≡ 20) (old new : sql.S
   pub puts_twenty : (incidents : List Row) → HoldsBetween items incidents old.now s → HoldsBetween more incidents new.now s
   puts_twenty incidents between =
       let all = map item_row (items_from n place ls) in
-      let has : HoldsParts (tables_2 newest items incidents s) old.now = record { known = between.known; whole = between.whole; means = between.means } in
-      let put = puts_all (common newest s) (item_part items) (incident_part_2 incidents ∷ []) 9 (stands_between s items incidents) put_twenty _ old new is_plain count h has (terms_for 1 20) 8 is_put all given (cast_items items (items_from n place ls)) (λ before. past_rowids before all) more same in
+      let has : HoldsParts (tables_3 items incidents (map permission_row s.permissions) s) old.now = record { known = between.known; whole = between.whole; means = between.means } in
+      let put = puts_all (alike newest s) (item_part items) (incident_part_2 incidents ∷ permission_part_3 (map permission_row s.permissions) ∷ []) item_place (stands_between s items incidents) put_twenty _ old new is_plain count h has (terms_for 1 20) 8 is_put all given (cast_items items (items_from n place ls)) (λ before. past_rowids before all) more same in
       record {
         known = put.known;
-        whole = puts_whole (common newest s) (item_part items) (incident_part_2 incidents ∷ []) 9 (stands_between s items incidents) put_twenty _ old new is_plain count h has (terms_for 1 20) 8 is_put;
+        whole = puts_whole (alike newest s) (item_part items) (incident_part_2 incidents ∷ permission_part_3 (map permission_row s.permissions) ∷ []) item_place (stands_between s items incidents) put_twenty _ old new is_plain count h has (terms_for 1 20) 8 is_put;
         means = put.means;
         fit = between.fit;
       }

@@ -1,5 +1,5 @@
 -- The tables stand for one state.
-use Rattle.std.proofs.Common.{◌≡◌, inl, inr, ℕ, zero, suc, ◌+◌, ◌<◌, List, [], ◌∷◌, ◌++◌, map, filter, take, drop, slice_get, find, cond, ◌==◌, pos, Bool, true, false, Option, Some, None, Ok, Result, refl, sym, ap, subst₂, ◌∙◌, codes, arith}
+use Rattle.std.proofs.Common.{◌≡◌, inl, inr, ℕ, zero, suc, ◌+◌, ◌<◌, List, [], ◌∷◌, ◌++◌, map, filter, take, drop, slice_get, find, cond, ◌==◌, ℤ, pos, Bool, true, false, Option, Some, None, Ok, Result, refl, sym, ap, subst₂, ◌∙◌, codes, arith}
 use Rattle.std.specs.List.{AllByRecursion, list_all}
 use Rattle.std.specs.Str.{bytes_eq}
 use Rattle.std.specs.List.Sorted.{IsPermutation}
@@ -46,7 +46,7 @@ use Rattle.hub_core.specs.declared.state.Gate.{Gate}
 use Rattle.hub_core.specs.declared.state.Recipient.{Recipient}
 use Rattle.hub_core.specs.declared.state.Permission.{Permission}
 use Rattle.hub_core.proofs.Keys.{one_path}
-use Rattle.hub_store.specs.Values.{number_or_null, flag}
+use Rattle.hub_store.specs.Values.{number_or_null, moment_or_null, flag}
 use Rattle.hub_store.specs.Pairs.{Pair, PairSet, pair_row, rows_of_pairs}
 use Rattle.hub_store.specs.Holdings.{IsHeld}
 use Rattle.hub_store.specs.Rows.{role_number, handling_number, org_row, account_row, community_row, group_row, naming_row, gate_row, recipient_row, permission_row, client_pair, membership_pair, connection_pair, group_member_pair, arrangement_pair, one_if, pair_sets}
@@ -164,6 +164,12 @@ one_bit false false e = refl
 one_bit true false e = absurd cc
 one_bit false true e = absurd cc
 
+one_moment : (a b : Option ℤ) → moment_or_null a ≡ moment_or_null b → a ≡ b
+one_moment None None e = refl
+one_moment None (Some n) e = absurd cc
+one_moment (Some n) None e = absurd cc
+one_moment (Some m) (Some n) e = let same : m ≡ n = cc in ap Some same
+
 pub one_number : (a b : Option ℕ) → number_or_null a ≡ number_or_null b → a ≡ b
 one_number None None e = refl
 one_number None (Some n) e = absurd cc
@@ -231,8 +237,10 @@ one_permission a b e =
     let kind : (grantee_key a.permission.grantee).0 ≡ (grantee_key b.permission.grantee).0 = cc in
     let number : (grantee_key a.permission.grantee).1 ≡ (grantee_key b.permission.grantee).1 = cc in
     let path = one_path a.permission.path b.permission.path text in
+    let end : moment_or_null a.permission.until ≡ moment_or_null b.permission.until = cc in
     let it = one_grantee a.permission.grantee b.permission.grantee kind number in
-    λ i. record { incident = incident i; permission = record { path = path i; grantee = it i } }
+    let until = one_moment a.permission.until b.permission.until end in
+    λ i. record { incident = incident i; permission = record { path = path i; grantee = it i; until = until i } }
 
 one_pair : (kind : List ℕ) (p q : Pair) → pair_row kind p ≡ pair_row kind q → (p.0.0 ≡ q.0.0) × (p.0.1 ≡ q.0.1) × (p.1 ≡ q.1)
 one_pair kind p q e =

@@ -1,5 +1,5 @@
 -- A store that holds a state as a version does tells that version.
-use Rattle.std.proofs.Common.{◌≡◌, ℕ, pos, List, [], ◌∷◌, map, drop, Some, IsTrue, sym, subst, ap, ◌∙◌, arith}
+use Rattle.std.proofs.Common.{◌≡◌, ◌==◌, ◌⊎◌, inl, inr, ℕ, pos, List, [], ◌∷◌, map, drop, Bool, true, false, eqb-true, Some, IsTrue, refl, sym, subst, ap, ◌∙◌, arith}
 use Rattle.std.specs.List.Sorted.{IsPermutation}
 use Rattle.std.proofs.lemmas.Bool.Decides.{nat_tests}
 use Rattle.sqlite_value.specs.declared.value.Value.TheVariants.{Int}
@@ -34,14 +34,23 @@ pub tells_2 : (db : Database) (s : core.State) → HoldsAs 2 db s → version_of
 unfolding same_name
 tells_2 db s held = ap (λ schema. only_u32 (versions_by db.trees (hub_of schema))) held.known ∙ ap only_u32 (one_version 2 (db.trees 0) held.means.0.same)
 
-pub older_is : (v : ℕ) → IsTrue (is_older v) → v ≡ 1
-older_is v older = grind (arith, nat_tests)
+pub tells_3 : (db : Database) (s : core.State) → HoldsAs 3 db s → version_of db ≡ Some 3
+unfolding same_name
+tells_3 db s held = ap (λ schema. only_u32 (versions_by db.trees (hub_of schema))) held.known ∙ ap only_u32 (one_version 3 (db.trees 0) held.means.0.same)
+
+pub older_is : (v : ℕ) → IsTrue (is_older v) → (v ≡ 1) ⊎ (v ≡ 2)
+older_is v older = go (v == 1) refl
+  where
+    go : (b : Bool) → (v == 1) ≡ b → (v ≡ 1) ⊎ (v ≡ 2)
+    go true is = inl (eqb-true v 1 is)
+    go false is = let left : v ≡ 2 = grind (arith, nat_tests) in inr left
+
+older_held : (db : Database) (v : ℕ) (s : core.State) → (v ≡ 1) ⊎ (v ≡ 2) → HoldsAs v db s → version_of db ≡ Some v
+older_held db v s (inl is) held = tells_1 db s (subst (λ k. HoldsAs k db s) is held) ∙ ap Some (sym is)
+older_held db v s (inr is) held = tells_2 db s (subst (λ k. HoldsAs k db s) is held) ∙ ap Some (sym is)
 
 pub older_tells : (c : State) (v : ℕ) (s : core.State) → IsTrue (is_older v) → HasAs v c s → IsTrue c.is_open → version_of c.now ≡ Some v
-older_tells c v s older has up =
-    let is = older_is v older in
-    let held : HoldsAs 1 c.committed s = subst (λ k. HoldsAs k c.committed s) is (has.holds up) in
-    ap version_of (has.settled up) ∙ (tells_1 c.committed s held ∙ ap Some (sym is))
+older_tells c v s older has up = ap version_of (has.settled up) ∙ older_held c.committed v s (older_is v older) (has.holds up)
 
 pub newest_tells : (c : State) (s : core.State) → Has c s → IsTrue c.is_open → version_of c.now ≡ Some newest
-newest_tells c s has up = ap version_of (has.settled up) ∙ tells_2 c.committed s (has.holds up)
+newest_tells c s has up = ap version_of (has.settled up) ∙ tells_3 c.committed s (has.holds up)

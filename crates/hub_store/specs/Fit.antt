@@ -1,5 +1,5 @@
 -- What every row that the code can make keeps beside soundness: the limits of its texts and its level. What a store takes as one row.
-use Rattle.std.specs.Prelude.{◌<◌, ◌≤◌, ◌+◌, ◌^◌, ◌==◌, ℕ, Bool, true, false, ◌∷◌, length, sum_by, IsTrue}
+use Rattle.std.specs.Prelude.{◌<◌, ◌≤◌, ◌+◌, ◌^◌, ◌≡◌, ◌==◌, ℕ, Bool, true, false, ◌∷◌, length, sum_by, None, IsTrue}
 use Rattle.std.specs.List.{AllByRecursion}
 use Rattle.std.specs.Str.{IsUtf8}
 use Rattle.sqlite_value.specs.declared.value.Value.TheVariants.{Null}
@@ -12,7 +12,8 @@ use Rattle.circle.specs.declared.directory.Group.{Group}
 use Rattle.hub_core.specs.State.{State}
 use Rattle.hub_core.specs.declared.state.Incident.{Incident}
 use Rattle.hub_core.specs.declared.state.Gate.{Gate}
-use Rattle.hub_store.specs.Rows.{document_text, named_row}
+use Rattle.hub_core.specs.declared.state.Permission.{Permission}
+use Rattle.hub_store.specs.Rows.{document_text, named_row, permission_row}
 use Rattle.hub_store.specs.Items.{Item, items_of, item_row}
 
 abbrev pub FitOrg : Org → Type 0
@@ -41,14 +42,22 @@ pub record IsFit (s : State) : Type 0 where
   pub groups : AllByRecursion FitGroup s.directory.groups
   pub gates : AllByRecursion FitGate s.gates
 
--- whether the documents are texts
-abbrev pub FitWith : Bool → State → Type 0
-FitWith true s = IsFit s × AllByRecursion FitIncident s.incidents
-FitWith false s = IsFit s
+-- in versions 1 and 2 no permission has an end
+abbrev pub IsEndless : Permission → Type 0
+IsEndless x = x.permission.until ≡ None
+
+abbrev pub AreEndless : State → Type 0
+AreEndless s = AllByRecursion IsEndless s.permissions
+
+-- whether the version is 1, and whether it is 2
+abbrev pub FitWith : Bool → Bool → State → Type 0
+FitWith true _ s = IsFit s × AllByRecursion FitIncident s.incidents × AreEndless s
+FitWith false true s = IsFit s × AreEndless s
+FitWith false false s = IsFit s
 
 -- what the rows of a version keep
 abbrev pub FitAs : ℕ → State → Type 0
-FitAs v s = FitWith (v == 1) s
+FitAs v s = FitWith (v == 1) (v == 2) s
 
 -- ---- what a store takes
 
@@ -62,7 +71,12 @@ ShortItem x = IsShort (Null ∷ item_row x)
 abbrev pub ShortNaming : Incident → Type 0
 ShortNaming i = IsUtf8 i.naming.ident × IsShort (named_row i)
 
--- A store takes the rows that are new in version 2: each line of the documents, under a rowid, and each incident without them.
+abbrev pub ShortPermission : Permission → Type 0
+ShortPermission x = IsShort (Null ∷ permission_row x)
+
+-- A store takes the rows that are new in version 2: each line of the documents, under a rowid, and each incident without them;
+-- and those that are new in version 3: each permission, under a rowid.
 pub record AreTaken (s : State) : Type 0 where
   pub items : AllByRecursion ShortItem (items_of s)
   pub incidents : AllByRecursion ShortNaming s.incidents
+  pub permissions : AllByRecursion ShortPermission s.permissions

@@ -4,9 +4,9 @@ use Rattle.sqlite_value.specs.declared.value.Value.TheVariants.{Int}
 use Rattle.sqlite_value.specs.Order.{Row}
 use Rattle.sqlite_schema.specs.declared.schema.Table.{Table}
 use Rattle.hub_core.specs.State.{State}
-use Rattle.hub_store.specs.Shapes.{hub_table, org_table, person_table, community_table, grp_table, pair_table, gate_table, recipient_table, permission_table, incident_table, item_table, incident_table_2}
+use Rattle.hub_store.specs.Shapes.{hub_table, org_table, person_table, community_table, grp_table, pair_table, gate_table, recipient_table, permission_table, incident_table, item_table, incident_table_2, permission_table_3}
 use Rattle.hub_store.specs.Pairs.{rows_of_pairs}
-use Rattle.hub_store.specs.Rows.{org_row, account_row, community_row, group_row, pair_sets, gate_row, recipient_row, permission_row, incident_row, named_row}
+use Rattle.hub_store.specs.Rows.{org_row, account_row, community_row, group_row, pair_sets, gate_row, recipient_row, endless_row, permission_row, incident_row, named_row}
 use Rattle.hub_store.specs.Items.{items_of, item_row}
 use Rattle.hub_store.specs.Parts.{Part}
 
@@ -18,9 +18,9 @@ by_number tree table row xs = record { table = record table { tree = tree }; see
 abbrev pub without_rowids : ℕ → Table → List Row → Part
 without_rowids tree table rows = record { table = record table { tree = tree }; seen = drop 1; rows = rows }
 
--- The trees between are those of the indexes. The first table holds the version.
-abbrev pub common : ℕ → State → List Part
-common version s =
+-- The tables that all versions have alike. The trees between are those of the indexes. The first table holds the version.
+abbrev pub alike : ℕ → State → List Part
+alike version s =
     without_rowids 0 hub_table ((Int (pos version) ∷ []) ∷ [])
     ∷ by_number 1 org_table org_row s.directory.orgs
     ∷ by_number 3 person_table account_row s.directory.accounts
@@ -29,8 +29,15 @@ common version s =
     ∷ without_rowids 9 pair_table (rows_of_pairs (pair_sets s.directory))
     ∷ without_rowids 12 gate_table (map gate_row s.gates)
     ∷ without_rowids 14 recipient_table (map recipient_row s.recipients)
-    ∷ without_rowids 16 permission_table (map permission_row s.permissions)
     ∷ []
+
+-- permissions without their ends
+abbrev pub permission_part : State → Part
+permission_part s = without_rowids 16 permission_table (map endless_row s.permissions)
+
+-- what versions 1 and 2 have alike
+abbrev pub common : ℕ → State → List Part
+common version s = alike version s ++ permission_part s ∷ []
 
 abbrev pub incident_part : State → Part
 incident_part s = by_number 18 incident_table incident_row s.incidents
@@ -46,7 +53,7 @@ item_part = without_rowids 20 item_table
 abbrev pub incident_part_2 : List Row → Part
 incident_part_2 rows = record { table = record incident_table_2 { tree = 22 }; seen = λ r. r; rows = rows }
 
--- With these lines and incidents, and all else as in a state. While a migration makes them the older version stands there.
+-- With these lines and incidents, and all else as in a state. While a migration makes them another version may stand there.
 abbrev pub tables_2 : ℕ → List Row → List Row → State → List Part
 tables_2 version items incidents s = common version s ++ item_part items ∷ incident_part_2 incidents ∷ []
 
@@ -66,11 +73,36 @@ without_incidents items s = common 1 s ++ item_part items ∷ []
 abbrev pub unversioned_2 : List Row → List Row → State → List Part
 unversioned_2 items incidents s = without_rowids 0 hub_table [] ∷ drop 1 (tables_2 0 items incidents s)
 
+-- ---- version 3: a permission may have an end
+
+abbrev pub permission_part_3 : List Row → Part
+permission_part_3 = without_rowids 24 permission_table_3
+
+-- with these lines, incidents and permissions, and all else as in a state
+abbrev pub tables_3 : List Row → List Row → List Row → State → List Part
+tables_3 items incidents permissions s = alike 3 s ++ item_part items ∷ incident_part_2 incidents ∷ permission_part_3 permissions ∷ []
+
+abbrev pub parts_3 : State → List Part
+parts_3 s = tables_3 (map item_row (items_of s)) (map named_row s.incidents) (map permission_row s.permissions) s
+
+-- ---- between version 2 and version 3
+
+-- the tables of version 2 under the version that is to come
+abbrev pub renamed_2 : State → List Part
+renamed_2 s = tables_2 3 (map item_row (items_of s)) (map named_row s.incidents) s
+
+abbrev pub without_permissions : State → List Part
+without_permissions s = alike 3 s ++ item_part (map item_row (items_of s)) ∷ incident_part_2 (map named_row s.incidents) ∷ []
+
+-- with these permissions
+abbrev pub with_permissions : List Row → State → List Part
+with_permissions permissions s = tables_3 (map item_row (items_of s)) (map named_row s.incidents) permissions s
+
 -- ---- every version: its schema, what it means and where its statements find a table follow from its parts
 
 -- the newest version of the tables
 abbrev pub newest : ℕ
-newest = 2
+newest = 3
 
 abbrev pub parts_by : ℕ → State → List Part
-parts_by v s = if v == 1 then parts_1 s else parts_2 s
+parts_by v s = if v == 1 then parts_1 s else if v == 2 then parts_2 s else parts_3 s

@@ -1,5 +1,5 @@
 -- Each element of a set as a row of its table. The row of what has a number begins with it and NULL, as the number is the rowid.
-use Rattle.std.specs.Prelude.{ℕ, pos, Bool, if◌then◌else◌, List, [], ◌∷◌, map, Some, None, codes}
+use Rattle.std.specs.Prelude.{ℕ, pos, Bool, if◌then◌else◌, List, [], ◌∷◌, ◌++◌, map, Some, None, codes}
 use Rattle.serde_json.specs.Data.{object}
 use Rattle.serde_json.specs.Written.{compact_text}
 use Rattle.sqlite_value.specs.declared.value.Value.TheVariants.{Null, Int, Text, Blob}
@@ -27,7 +27,7 @@ use Rattle.hub_core.specs.declared.state.Naming.{Naming}
 use Rattle.hub_core.specs.declared.state.Gate.{Gate}
 use Rattle.hub_core.specs.declared.state.Recipient.{Recipient}
 use Rattle.hub_core.specs.declared.state.Permission.{Permission}
-use Rattle.hub_store.specs.Values.{number_or_null, flag}
+use Rattle.hub_store.specs.Values.{number_or_null, moment_or_null, flag}
 use Rattle.hub_store.specs.Pairs.{Pair, PairSet}
 
 -- ---- numbers that stand for names
@@ -82,8 +82,13 @@ gate_row g = Int (pos g.incident) ∷ Text (pointer_text g.gate.path) ∷ Int (p
 abbrev pub recipient_row : Recipient → Row
 recipient_row r = Int (pos r.incident) ∷ Int (pos (target_key r.target).0) ∷ Int (pos (target_key r.target).1) ∷ []
 
+-- a permission without its end, as versions 1 and 2 keep it
+abbrev pub endless_row : Permission → Row
+endless_row x = Int (pos x.incident) ∷ Text (pointer_text x.permission.path) ∷ Int (pos (grantee_key x.permission.grantee).0) ∷ Int (pos (grantee_key x.permission.grantee).1) ∷ []
+
+-- with its end, as version 3 keeps it
 abbrev pub permission_row : Permission → Row
-permission_row x = Int (pos x.incident) ∷ Text (pointer_text x.permission.path) ∷ Int (pos (grantee_key x.permission.grantee).0) ∷ Int (pos (grantee_key x.permission.grantee).1) ∷ []
+permission_row x = endless_row x ++ moment_or_null x.permission.until ∷ []
 
 -- ---- five sets in one table, each under its name: two numbers, and a third if there is one
 

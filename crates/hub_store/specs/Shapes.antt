@@ -91,6 +91,11 @@ item_table = unnumbered (codes "item") (integer (codes "incident") ∷ integer (
 abbrev pub incident_table_2 : Table
 incident_table_2 = numbered (codes "incident") (integer (codes "source") ∷ text (codes "ident") ∷ integer (codes "revision") ∷ []) ((2 ∷ 3 ∷ []) ∷ [])
 
+-- ---- a table that is changed in version 3
+
+abbrev pub permission_table_3 : Table
+permission_table_3 = unnumbered (codes "permission") (integer (codes "incident") ∷ text (codes "path") ∷ integer (codes "kind") ∷ integer (codes "target") ∷ integer_or_null (codes "until") ∷ []) ((1 ∷ 2 ∷ 3 ∷ 4 ∷ []) ∷ [])
+
 -- ---- the schema after each statement of version 1
 
 abbrev pub no_schema : Schema

@@ -7,7 +7,7 @@ ghost use Rattle.hub_core.specs.State.{State};
 ghost use Rattle.hub_core.specs.Edits.{after};
 ghost use Rattle.hub_store.specs.Content.{Has, CommitsState};
 ghost use Rattle.hub_store.specs.Keeps.{Goes, KeepsCommitted};
-ghost use Rattle.hub_store.specs.Makes.{Makes};
+ghost use Rattle.hub_store.specs.inner.Makes.{Makes};
 ghost use Rattle.hub_store.specs.Means.{Holds, TreesHold};
 
 use crate::incident_edits::make_edit;

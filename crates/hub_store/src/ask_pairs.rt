@@ -3,8 +3,8 @@
 ghost use Rattle.std.specs.Prelude.{◌≡◌, map};
 ghost use Rattle.std.specs.Option.{option_to_list};
 ghost use Rattle.sqlite.specs.Held.{state};
-ghost use Rattle.hub_store.specs.Queries.{IsReadInside};
-ghost use Rattle.hub_store.specs.PairKinds.{pair_between, pairs_from, pairs_to, value_shown, first_shown, second_shown};
+ghost use Rattle.hub_store.specs.inner.Queries.{IsReadInside};
+ghost use Rattle.hub_store.specs.inner.PairKinds.{pair_between, pairs_from, pairs_to, value_shown, first_shown, second_shown};
 
 use crate::pair_kind::PairKind;
 use crate::query::ask;

@@ -2,7 +2,7 @@
 
 ghost use Rattle.std.specs.Prelude.{◌≡◌};
 ghost use Rattle.std.specs.List.{list_any};
-ghost use Rattle.hub_store.specs.ShownPairs.{AreRising, is_one_of};
+ghost use Rattle.hub_store.specs.inner.ShownPairs.{AreRising, is_one_of};
 
 /// Whether the number is one of these, which rise; it is found by halving.
 fn is_among(number: u32, numbers: &[u32]) -> bool

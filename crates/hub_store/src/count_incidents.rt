@@ -2,7 +2,7 @@
 
 ghost use Rattle.std.specs.Prelude.{◌≡◌, false, length};
 ghost use Rattle.sqlite.specs.Held.{state};
-ghost use Rattle.hub_store.specs.Queries.{IsReadInside, IsReadOutside};
+ghost use Rattle.hub_store.specs.inner.Queries.{IsReadInside, IsReadOutside};
 
 use crate::counts::number_in;
 use crate::query::ask;

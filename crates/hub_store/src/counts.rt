@@ -2,8 +2,8 @@
 
 ghost use Rattle.std.specs.Prelude.{◌≡◌, length, IfOk};
 ghost use Rattle.sqlite.specs.Held.{state};
-ghost use Rattle.hub_store.specs.Queries.{IsReadInside};
-ghost use Rattle.hub_store.specs.FirstShown.{ShowsNumberOrZero};
+ghost use Rattle.hub_store.specs.inner.Queries.{IsReadInside};
+ghost use Rattle.hub_store.specs.inner.FirstShown.{ShowsNumberOrZero};
 
 use crate::query::ask;
 use sqlite::{Alter, Error, Row, Transaction};

@@ -5,7 +5,7 @@ ghost use Rattle.sqlite.specs.State.{HasCleanDisk, Survives};
 ghost use Rattle.sqlite.specs.Held.{state};
 ghost use Rattle.hub_core.specs.State.{empty};
 ghost use Rattle.hub_store.specs.Tables.{no_schema, hub_schema};
-ghost use Rattle.hub_store.specs.Makes.{Creates, HasEmpty};
+ghost use Rattle.hub_store.specs.inner.Makes.{Creates, HasEmpty};
 ghost use Rattle.hub_store.specs.Means.{Holds, TreesHold};
 ghost use Rattle.hub_store.specs.Content.{CommitsState};
 ghost use Rattle.hub_store.specs.Keeps.{KeepsCommitted};
@@ -14,6 +14,7 @@ ghost use Rattle.hub_store.specs.Failing.{HasReason};
 use crate::statement::run;
 use crate::tables::make_tables;
 use crate::to_version_2::make_tables_2;
+use crate::to_version_3::make_tables_3;
 use crate::version::NEWEST;
 use sqlite::{Alter, Connection, Error, ErrorCode, Transaction, params};
 
@@ -30,6 +31,7 @@ fn make_in<S: Alter>(tx: &mut Transaction<'_, S>) -> Result<(), Error>
 {
     make_tables(tx)?;
     make_tables_2(tx)?;
+    make_tables_3(tx)?;
     put_version(tx)
 }
 

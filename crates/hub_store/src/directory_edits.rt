@@ -9,10 +9,10 @@ ghost use Rattle.hub_core.specs.State.{State};
 ghost use Rattle.hub_core.specs.Edits.{edited};
 ghost use Rattle.hub_core.specs.declared.edit.Edit.TheVariants.{Directory};
 ghost use Rattle.hub_store.specs.Pairs.{pair_row, put_pair, take_pair};
-ghost use Rattle.hub_store.specs.PairKinds.{kind_name};
+ghost use Rattle.hub_store.specs.inner.PairKinds.{kind_name};
 ghost use Rattle.hub_store.specs.Means.{Holds};
 ghost use Rattle.hub_store.specs.Keeps.{Goes, HasRun};
-ghost use Rattle.hub_store.specs.Makes.{Makes};
+ghost use Rattle.hub_store.specs.inner.Makes.{Makes};
 
 use crate::numbers::{handling_number, one_if, role_number};
 use crate::pair_kind::PairKind;

@@ -4,8 +4,8 @@ ghost use Rattle.std.specs.Prelude.{◌≡◌, ◌&&◌, false};
 ghost use Rattle.sqlite.specs.Held.{state};
 ghost use Rattle.circle.specs.Directory.{has_org, has_community, has_group_member};
 ghost use Rattle.circle.specs.Facts.{exists_in, may_extend_in, owns_in, target_owns_in, is_own_person, stands_in, count_in, facts_of};
-ghost use Rattle.hub_store.specs.Queries.{IsReadInside, IsReadOutside};
-ghost use Rattle.hub_store.specs.Looks.{IsLook};
+ghost use Rattle.hub_store.specs.inner.Queries.{IsReadInside, IsReadOutside};
+ghost use Rattle.hub_store.specs.inner.Looks.{IsLook};
 
 use crate::counts::{count_communities, count_groups, count_orgs, count_persons};
 use crate::find_groups::read_has_group_member;

@@ -2,8 +2,8 @@
 
 ghost use Rattle.std.specs.Prelude.{◌≡◌, false, IsTrue, None, OnOk};
 ghost use Rattle.sqlite.specs.Held.{state};
-ghost use Rattle.hub_store.specs.FeedsRows.{IsUnfed, HasTaken, TakesRow, lines_of};
-ghost use Rattle.hub_store.specs.Queries.{IsReadOutside};
+ghost use Rattle.hub_store.specs.inner.FeedsRows.{IsUnfed, HasTaken, TakesRow, lines_of};
+ghost use Rattle.hub_store.specs.inner.Queries.{IsReadOutside};
 
 use crate::from_row::STRANGE;
 use crate::item_rows::{error_of, line_at};

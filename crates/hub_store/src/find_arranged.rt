@@ -2,8 +2,8 @@
 
 ghost use Rattle.std.specs.Prelude.{◌≡◌, false};
 ghost use Rattle.sqlite.specs.Held.{state};
-ghost use Rattle.circle.specs.Reads.{arranged as arranged_with, served_by as organisations_served_by};
-ghost use Rattle.hub_store.specs.Queries.{IsReadInside, IsReadOutside};
+ghost use Rattle.circle.specs.Reads.{arranged as arranged_with, orgs_whose_client as organisations_whose_client};
+ghost use Rattle.hub_store.specs.inner.Queries.{IsReadInside, IsReadOutside};
 
 use crate::ask_pairs::ask_between;
 use crate::from_row::first;
@@ -26,13 +26,13 @@ fn read_arranged<S: Alter>(
     first(alloc, &rows)
 }
 
-fn read_served_by<S: Alter>(
+fn read_orgs_whose_client<S: Alter>(
     tx: &mut Transaction<'_, S>,
     alloc: Global,
     client: u32,
 ) -> Result<Vec<u32>, Error>
     ensures same_reference { tx.new.conn.ghost_name ≡ tx.old.conn.ghost_name }
-    ensures read { IsReadInside (state S.Store tx.old.conn.now) (state S.Store tx.new.conn.now) (λ s found. found.items ≡ organisations_served_by client s.directory) result }
+    ensures read { IsReadInside (state S.Store tx.old.conn.now) (state S.Store tx.new.conn.now) (λ s found. found.items ≡ organisations_whose_client client s.directory) result }
 {
     read_firsts(tx, alloc, PairKind::Client, client)
 }
@@ -55,17 +55,17 @@ pub(crate) fn arranged<S: Alter>(
 }
 
 /// The organisations whose client this one is, by number.
-pub(crate) fn served_by<S: Alter>(
+pub(crate) fn orgs_whose_client<S: Alter>(
     conn: &mut Connection<S>,
     alloc: Global,
     client: u32,
 ) -> Result<Vec<u32>, Error>
     requires { conn.old.in_transaction ≡ false }
     ensures idle { conn.new.in_transaction ≡ false }
-    ensures answers { IsReadOutside (state S.Store conn.old) (state S.Store conn.new) (λ s found. found.items ≡ organisations_served_by client s.directory) result }
+    ensures answers { IsReadOutside (state S.Store conn.old) (state S.Store conn.new) (λ s found. found.items ≡ organisations_whose_client client s.directory) result }
 {
     let mut tx = conn.transaction();
-    let found = read_served_by(&mut tx, alloc, client);
+    let found = read_orgs_whose_client(&mut tx, alloc, client);
     tx.rollback();
     found
 }

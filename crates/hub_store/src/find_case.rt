@@ -3,8 +3,8 @@
 ghost use Rattle.std.specs.Prelude.{◌≡◌, false};
 ghost use Rattle.sqlite.specs.Held.{state};
 ghost use Rattle.hub_core.specs.Reads.{case_of};
-ghost use Rattle.hub_store.specs.Queries.{IsReadInside, IsReadOutside};
-ghost use Rattle.hub_store.specs.Shown.{IsCase};
+ghost use Rattle.hub_store.specs.inner.Queries.{IsReadInside, IsReadOutside};
+ghost use Rattle.hub_store.specs.inner.Shown.{IsCase};
 
 use crate::find_gates::read_gates;
 use crate::find_naming::read_naming;

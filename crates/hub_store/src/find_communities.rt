@@ -5,8 +5,8 @@ ghost use Rattle.std.specs.List.{list_any};
 ghost use Rattle.sqlite.specs.Held.{state};
 ghost use Rattle.circle.specs.Directory.{has_membership as is_membership};
 ghost use Rattle.circle.specs.Reads.{communities_of as communities_joined, share_community as are_in_one_community, are_connected as are_in_connected};
-ghost use Rattle.hub_store.specs.Queries.{IsReadInside, IsReadOutside};
-ghost use Rattle.hub_store.specs.ShownPairs.{AreRising, is_one_of, linked_with};
+ghost use Rattle.hub_store.specs.inner.Queries.{IsReadInside, IsReadOutside};
+ghost use Rattle.hub_store.specs.inner.ShownPairs.{AreRising, is_one_of, linked_with};
 
 use crate::common_numbers::have_common;
 use crate::has_pair::read_has_membership;

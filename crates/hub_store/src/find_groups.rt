@@ -6,8 +6,8 @@ ghost use Rattle.sqlite.specs.Held.{state};
 ghost use Rattle.circle.specs.Directory.{has_group_member as is_group_member};
 ghost use Rattle.circle.specs.Reads.{group_of, memberships_in_groups, groups_joined as groups_joined_by, active_groups_joined as active_groups_joined_by};
 ghost use Rattle.hub_core.specs.Reads.{groups_of};
-ghost use Rattle.hub_store.specs.Queries.{IsReadInside, IsReadOutside};
-ghost use Rattle.hub_store.specs.ShownPairs.{joined_of, joined_group as joined_with, groups_in};
+ghost use Rattle.hub_store.specs.inner.Queries.{IsReadInside, IsReadOutside};
+ghost use Rattle.hub_store.specs.inner.ShownPairs.{joined_of, joined_group as joined_with, groups_in};
 
 use crate::ask_pairs::ask_to;
 use crate::from_row::{all, first};

@@ -6,8 +6,8 @@ ghost use Rattle.redact.specs.Probed.{IsSure};
 ghost use Rattle.hub_core.specs.State.{State};
 ghost use Rattle.hub_core.specs.Sound.{IsSound};
 ghost use Rattle.hub_core.specs.Reads.{met_by_incident};
-ghost use Rattle.hub_store.specs.ProbesRows.{AreFirst};
-ghost use Rattle.hub_store.specs.Queries.{IsReadOutside};
+ghost use Rattle.hub_store.specs.inner.ProbesRows.{AreFirst};
+ghost use Rattle.hub_store.specs.inner.Queries.{IsReadOutside};
 
 use crate::item_rows::error_of;
 use crate::probe_rows::probe_rows;

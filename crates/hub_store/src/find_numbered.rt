@@ -4,7 +4,7 @@ ghost use Rattle.std.specs.Prelude.{◌≡◌, false};
 ghost use Rattle.sqlite.specs.Held.{state};
 ghost use Rattle.circle.specs.Directory.{has_org as is_org, has_person as is_person, has_community as is_community};
 ghost use Rattle.circle.specs.Reads.{person_of as person_numbered};
-ghost use Rattle.hub_store.specs.Queries.{IsReadInside, IsReadOutside};
+ghost use Rattle.hub_store.specs.inner.Queries.{IsReadInside, IsReadOutside};
 
 use crate::any_row::is_any;
 use crate::from_row::first;

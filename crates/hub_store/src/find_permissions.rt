@@ -3,7 +3,7 @@
 ghost use Rattle.std.specs.Prelude.{◌≡◌, false};
 ghost use Rattle.sqlite.specs.Held.{state};
 ghost use Rattle.hub_core.specs.Reads.{its_permissions};
-ghost use Rattle.hub_store.specs.Queries.{IsReadInside, IsReadOutside};
+ghost use Rattle.hub_store.specs.inner.Queries.{IsReadInside, IsReadOutside};
 
 use crate::from_row::all;
 use crate::query::ask;
@@ -22,7 +22,7 @@ pub(crate) fn read_permissions<S: Alter>(
 {
     let rows = ask(
         tx,
-        "SELECT path, kind, target FROM permission WHERE incident = ?1 ORDER BY path, kind, target",
+        "SELECT path, kind, target, until FROM permission WHERE incident = ?1 ORDER BY path, kind, target",
         params![incident],
     )?;
     let permissions = all(alloc, &rows)?;

@@ -2,7 +2,7 @@
 
 ghost use Rattle.std.specs.Prelude.{IfOk};
 ghost use Rattle.sqlite_value.specs.Order.{Row as Columns};
-ghost use Rattle.hub_store.specs.Shown.{ShowsFirst, ShowsAll};
+ghost use Rattle.hub_store.specs.inner.Shown.{ShowsFirst, ShowsAll};
 
 use sqlite::{Error, ErrorCode, Row};
 use std::alloc::Global;

@@ -3,8 +3,8 @@
 ghost use Rattle.std.specs.Prelude.{◌≡◌, IfOk};
 ghost use Rattle.sqlite.specs.Held.{state};
 ghost use Rattle.circle.specs.Directory.{has_client, has_membership, has_connection, has_arrangement, has_extender};
-ghost use Rattle.hub_store.specs.Queries.{IsReadInside};
-ghost use Rattle.hub_store.specs.FirstShown.{ShowsFlagOrFalse};
+ghost use Rattle.hub_store.specs.inner.Queries.{IsReadInside};
+ghost use Rattle.hub_store.specs.inner.FirstShown.{ShowsFlagOrFalse};
 
 use crate::ask_pairs::ask_between;
 use crate::pair_kind::PairKind;

@@ -8,9 +8,9 @@ ghost use Rattle.hub_core.specs.Edits.{edited};
 ghost use Rattle.hub_core.specs.declared.edit.Edit.TheVariants.{PutIncident, TakeIncident, TakePolicy, PutGate, TakeGate, PutRecipient, TakeRecipient, PutPermission, TakePermission};
 ghost use Rattle.hub_store.specs.Items.{Item, items_of, item_row};
 ghost use Rattle.hub_store.specs.Rows.{named_row};
-ghost use Rattle.hub_store.specs.Partly.{without_gates};
+ghost use Rattle.hub_store.specs.inner.Partly.{without_gates};
 ghost use Rattle.hub_store.specs.Means.{Holds, HoldsBetween};
-ghost use Rattle.hub_store.specs.Makes.{Makes};
+ghost use Rattle.hub_store.specs.inner.Makes.{Makes};
 
 use crate::directory_edits::make_row;
 use crate::put_lines::put_lines;
@@ -190,8 +190,14 @@ fn insert_permission<S: Alter>(
     let (kind, target) = grantee_key(permission.permission.grantee);
     run(
         tx,
-        "INSERT INTO permission (incident, path, kind, target) VALUES (?1, ?2, ?3, ?4)",
-        params![permission.incident, path, kind, target],
+        "INSERT INTO permission (incident, path, kind, target, until) VALUES (?1, ?2, ?3, ?4, ?5)",
+        params![
+            permission.incident,
+            path,
+            kind,
+            target,
+            permission.permission.until,
+        ],
     )
 }
 

@@ -1,12 +1,12 @@
 //! Incidents, their gates, recipients and permissions as rows.
 
-ghost use Rattle.std.specs.Prelude.{◌≡◌, ℕ, Option, IfOk};
+ghost use Rattle.std.specs.Prelude.{◌≡◌, ℕ, ℤ, Option, IfOk};
 ghost use Rattle.sqlite_value.specs.Order.{column};
 ghost use Rattle.iodef_tree.specs.Pointer.{pointer_text};
 ghost use Rattle.iodef_tree.specs.Text.{Tokens};
 ghost use Rattle.hub_core.specs.State.{target_key, grantee_key};
-ghost use Rattle.hub_store.specs.Shown.{IsShownBy, entry_shown, naming_shown, gate_shown, target_shown, permission_shown};
-ghost use Rattle.hub_store.specs.Values.{number_or_null};
+ghost use Rattle.hub_store.specs.inner.Shown.{IsShownBy, entry_shown, naming_shown, gate_shown, target_shown, permission_shown};
+ghost use Rattle.hub_store.specs.Values.{number_or_null, moment_or_null};
 
 use crate::from_row::{FromRow, NO_MEMORY, STRANGE};
 use circle::text::Text;
@@ -59,6 +59,12 @@ fn level_of(number: u32) -> Result<u8, Error>
 
 fn number_if_any(row: &Row, at: usize) -> Result<Option<u32>, Error>
     ensures { IfOk result (λ found. (number : Option ℕ) → column row.now at ≡ number_or_null number → found ≡ number) }
+{
+    row.get(at)
+}
+
+fn moment_if_any(row: &Row, at: usize) -> Result<Option<i64>, Error>
+    ensures { IfOk result (λ found. (moment : Option ℤ) → column row.now at ≡ moment_or_null moment → found ≡ moment) }
 {
     row.get(at)
 }
@@ -119,6 +125,7 @@ impl FromRow for Permission {
         Ok(Permission {
             path: path_of(alloc, path.as_str())?,
             grantee: grantee_of(kind, row.get(2)?)?,
+            until: moment_if_any(row, 3)?,
         })
     }
 }

@@ -2,7 +2,7 @@
 
 ghost use Rattle.std.specs.Prelude.{◌≡◌, ◌↔◌, IfOk};
 ghost use Rattle.hub_store.specs.Items.{kind_number, placed_from};
-ghost use Rattle.hub_store.specs.Shown.{ShowsAll, ShowsPlaced, ShowsLines};
+ghost use Rattle.hub_store.specs.inner.Shown.{ShowsAll, ShowsPlaced, ShowsLines};
 
 use crate::from_row::{FromRow, NO_MEMORY, STRANGE};
 use iodef_tree::{Document, Kind, Line, OutlineFault, Text};

@@ -2,8 +2,8 @@
 
 ghost use Rattle.std.specs.Prelude.{◌≡◌, IfOk};
 ghost use Rattle.hub_store.specs.Rows.{handling_number as number_of_handling};
-ghost use Rattle.hub_store.specs.Shown.{IsShownBy};
-ghost use Rattle.hub_store.specs.ShownPairs.{ShowsNumber, handling_shown, joined_shown, group_shown};
+ghost use Rattle.hub_store.specs.inner.Shown.{IsShownBy};
+ghost use Rattle.hub_store.specs.inner.ShownPairs.{ShowsNumber, handling_shown, joined_shown, group_shown};
 
 use crate::from_row::{FromRow, STRANGE};
 use crate::person_rows::name_of;

@@ -5,14 +5,16 @@
 //! leaves of it, and why it isn't opened stand in `specs/`, in this order:
 //!
 //! 1. `Layout`, `Tables` and `Versions`: the parts of each version, its schema, and the version that a store tells.
-//! 2. `Rows`, `Items`, `Values`, `Pairs` and `PairKinds`: each element of a set as a row, and each line of a document; `Fit`: the limits that every row keeps.
+//! 2. `Rows`, `Items`, `Values` and `Pairs`: each element of a set as a row, and each line of a document; `Fit`: the limits
+//!    that every row keeps.
 //! 3. `Means`: which state the tables stand for, set by set; `Content`: what a connection has, and what an open after a
 //!    crash may find; `Opening` and `Failing`: why a store isn't opened; `Laws`: what is found of what a crash left.
 //!
 //! The rooms, in the way of the data:
 //!
-//! - `tables`, `to_version_2`, `create` and `version`: a new store, and the version of one that is there; `migrate`: a store
-//!   of an older version, brought to the newest;
+//! - `tables`, `to_version_2`, `to_version_3`, `set_version`, `create` and `version`: a new store, and the version of one
+//!   that is there;
+//!   `migrate` and `set_version`: a store of an older version, brought to the newest;
 //! - `pair_kind`, `numbers`, `from_row`, `person_rows`, `joined_rows`, `incident_rows`, `item_rows`: values as rows, and rows as values;
 //! - `statement` and `query`: a text that is prepared and run, and asked in a transaction; `any_row`, `ask_pairs`,
 //!   `read_pairs`: the queries that several of these ask;
@@ -70,10 +72,12 @@ mod put_lines;
 mod put_naming;
 mod query;
 mod read_pairs;
+mod set_version;
 mod sql_shelf;
 mod statement;
 mod tables;
 mod to_version_2;
+mod to_version_3;
 mod told;
 mod version;
 

@@ -6,18 +6,18 @@ ghost use Rattle.sqlite.specs.State.{HasCleanDisk, Survives};
 ghost use Rattle.sqlite.specs.Held.{state};
 ghost use Rattle.hub_core.specs.State.{State};
 ghost use Rattle.hub_core.specs.Sound.{IsSound};
-ghost use Rattle.hub_store.specs.Fit.{IsFit, AreTaken};
+ghost use Rattle.hub_store.specs.Fit.{AreTaken};
 ghost use Rattle.hub_store.specs.Items.{items_of, item_row};
-ghost use Rattle.hub_store.specs.Layout.{parts_1, with_items, without_incidents, tables_2, unversioned_2};
-ghost use Rattle.hub_store.specs.Rows.{naming_row, named_row};
+ghost use Rattle.hub_store.specs.Layout.{parts_1, with_items, without_incidents, tables_2};
+ghost use Rattle.hub_store.specs.Rows.{naming_row};
 ghost use Rattle.hub_store.specs.Parts.{HoldsParts};
-ghost use Rattle.hub_store.specs.Beside.{HoldsBeside, CanName};
+ghost use Rattle.hub_store.specs.inner.Beside.{HoldsBeside, CanName};
 ghost use Rattle.hub_store.specs.Means.{HoldsAs, Holds, TreesHold};
 ghost use Rattle.hub_store.specs.Content.{HasAs, CommitsState};
 ghost use Rattle.hub_store.specs.Failing.{HasReason};
 ghost use Rattle.hub_store.specs.Keeps.{Goes, KeepsCommitted};
-ghost use Rattle.hub_store.specs.Makes.{Makes, FailsOnly};
-ghost use Rattle.hub_store.specs.Moving.{HasTexts, HoldsMoved, HoldsNext, incident_above, naming_in};
+ghost use Rattle.hub_store.specs.inner.Makes.{Makes, FailsOnly};
+ghost use Rattle.hub_store.specs.inner.Moving.{HasTexts, HoldsMoved, HoldsNext, incident_above, naming_in};
 ghost use Rattle.hub_store.specs.Opening.{is_older as is_older_version};
 
 use crate::from_row::STRANGE;
@@ -25,8 +25,9 @@ use crate::old_rows::first_incident;
 use crate::put_lines::put_lines;
 use crate::put_naming::put_naming;
 use crate::query::{ask, probe};
-use crate::statement::run;
+use crate::set_version::set_version;
 use crate::to_version_2::{create_incident, create_item, drop_incident};
+use crate::to_version_3::to_version_3;
 use crate::version::NEWEST;
 use hub_core::{Incident, Naming};
 use sqlite::{Alter, Connection, Error, ErrorCode, Transaction, params};
@@ -139,32 +140,6 @@ fn move_incidents<S: Alter>(tx: &mut Transaction<'_, S>, kept: &[Naming]) -> Res
     put_back(tx, kept)
 }
 
-fn take_version<S: Alter>(tx: &mut Transaction<'_, S>) -> Result<(), Error>
-    ensures same_reference { tx.new.conn.ghost_name ≡ tx.old.conn.ghost_name }
-    ensures made { (s : State) → (items incidents : List Row) → Makes (state S.Store tx.old.conn.now) (state S.Store tx.new.conn.now) (HoldsParts (tables_2 1 items incidents s)) (HoldsParts (unversioned_2 items incidents s)) result }
-    ensures cause { (s : State) → (items incidents : List Row) → FailsOnly (state S.Store tx.old.conn.now) (state S.Store tx.new.conn.now) (HoldsParts (tables_2 1 items incidents s)) result }
-{
-    run(tx, "DELETE FROM hub", &[])
-}
-
-fn put_version_2<S: Alter>(tx: &mut Transaction<'_, S>) -> Result<(), Error>
-    ensures same_reference { tx.new.conn.ghost_name ≡ tx.old.conn.ghost_name }
-    ensures made { (s : State) → IsFit s → Makes (state S.Store tx.old.conn.now) (state S.Store tx.new.conn.now) (HoldsParts (unversioned_2 (map item_row (items_of s)) (map named_row s.incidents) s)) (λ db. HoldsAs 2 db s) result }
-    ensures cause { (s : State) → (items incidents : List Row) → FailsOnly (state S.Store tx.old.conn.now) (state S.Store tx.new.conn.now) (HoldsParts (unversioned_2 items incidents s)) result }
-{
-    run(tx, "INSERT INTO hub (version) VALUES (?1)", params![2u32])
-}
-
-/// The version is taken and put, as its row has no number by which it would be exchanged.
-fn set_version<S: Alter>(tx: &mut Transaction<'_, S>) -> Result<(), Error>
-    ensures same_reference { tx.new.conn.ghost_name ≡ tx.old.conn.ghost_name }
-    ensures made { (s : State) → IsFit s → Makes (state S.Store tx.old.conn.now) (state S.Store tx.new.conn.now) (HoldsParts (tables_2 1 (map item_row (items_of s)) (map named_row s.incidents) s)) (λ db. HoldsAs 2 db s) result }
-    ensures cause { (s : State) → (items incidents : List Row) → FailsOnly (state S.Store tx.old.conn.now) (state S.Store tx.new.conn.now) (HoldsParts (tables_2 1 items incidents s)) result }
-{
-    take_version(tx)?;
-    put_version_2(tx)
-}
-
 /// From version 1 to version 2.
 fn to_version_2<S: Alter>(tx: &mut Transaction<'_, S>, alloc: Global) -> Result<(), Error>
     ensures same_reference { tx.new.conn.ghost_name ≡ tx.old.conn.ghost_name }
@@ -174,7 +149,7 @@ fn to_version_2<S: Alter>(tx: &mut Transaction<'_, S>, alloc: Global) -> Result<
 {
     let kept = move_lines(tx, alloc)?;
     move_incidents(tx, &kept)?;
-    set_version(tx)
+    set_version(tx, 2)
 }
 
 /// Each step leads from one version to the next.
@@ -186,6 +161,9 @@ fn go_steps<S: Alter>(tx: &mut Transaction<'_, S>, alloc: Global, version: u32) 
 {
     if version < 2 {
         to_version_2(tx, alloc)?;
+    }
+    if version < 3 {
+        to_version_3(tx)?;
     }
     Ok(())
 }

@@ -3,9 +3,9 @@
 ghost use Rattle.std.specs.Prelude.{◌≡◌, [], ◌∷◌, Ok, IfOk, IfErr};
 ghost use Rattle.iodef_tree.specs.Reading.{reading};
 ghost use Rattle.hub_core.specs.declared.state.Incident.{Incident as OldIncident};
-ghost use Rattle.hub_store.specs.Shown.{ShowsFirst};
+ghost use Rattle.hub_store.specs.inner.Shown.{ShowsFirst};
 ghost use Rattle.hub_store.specs.Failing.{IsUnheld};
-ghost use Rattle.hub_store.specs.Moving.{ShowsIncident, ShowsNaming, ShowsDocument, old_shown, IsReadable, ReadsFirst};
+ghost use Rattle.hub_store.specs.inner.Moving.{ShowsIncident, ShowsNaming, ShowsDocument, old_shown, IsReadable, ReadsFirst};
 
 use crate::from_row::{NO_MEMORY, STRANGE};
 use circle::text::Text;

@@ -1,7 +1,7 @@
 //! The sets in the table of pairs.
 
 ghost use Rattle.std.specs.Prelude.{◌≡◌};
-ghost use Rattle.hub_store.specs.PairKinds.{kind_name};
+ghost use Rattle.hub_store.specs.inner.PairKinds.{kind_name};
 
 /// A set in the table of pairs: its rows bear its name.
 #[derive(Clone, Copy, Debug, PartialEq, Eq)]

@@ -2,7 +2,7 @@
 
 ghost use Rattle.std.specs.Prelude.{◌≡◌, IfOk};
 ghost use Rattle.hub_store.specs.Rows.{role_number as number_of_role};
-ghost use Rattle.hub_store.specs.Shown.{IsShownBy, person_shown};
+ghost use Rattle.hub_store.specs.inner.Shown.{IsShownBy, person_shown};
 
 use crate::from_row::{FromRow, STRANGE};
 use circle::directory::{Person, Role};

@@ -2,8 +2,8 @@
 
 ghost use Rattle.std.specs.Prelude.{◌≡◌, false, IsTrue, None, IfOk, OnOk};
 ghost use Rattle.sqlite.specs.Held.{state};
-ghost use Rattle.hub_store.specs.ProbesRows.{IsUnprobed, HasProbed, ProbesRow, AreFirst};
-ghost use Rattle.hub_store.specs.Queries.{IsReadOutside};
+ghost use Rattle.hub_store.specs.inner.ProbesRows.{IsUnprobed, HasProbed, ProbesRow, AreFirst};
+ghost use Rattle.hub_store.specs.inner.Queries.{IsReadOutside};
 
 use crate::from_row::STRANGE;
 use crate::item_rows::{error_of, line_at};

@@ -5,7 +5,7 @@ ghost use Rattle.sqlite_value.specs.declared.value.Value.TheVariants.{Int};
 ghost use Rattle.sqlite.specs.Held.{state};
 ghost use Rattle.sqlite.specs.Values.{bound};
 ghost use Rattle.hub_store.specs.Items.{placed_lines};
-ghost use Rattle.hub_store.specs.PutsLines.{PutsLines};
+ghost use Rattle.hub_store.specs.inner.PutsLines.{PutsLines};
 
 use crate::numbers::kind_number;
 use crate::statement::run;

@@ -5,11 +5,11 @@ ghost use Rattle.sqlite_value.specs.Order.{Row};
 ghost use Rattle.sqlite.specs.Held.{state};
 ghost use Rattle.hub_core.specs.State.{State};
 ghost use Rattle.hub_store.specs.Rows.{naming_row};
-ghost use Rattle.hub_store.specs.Beside.{CanName};
+ghost use Rattle.hub_store.specs.inner.Beside.{CanName};
 ghost use Rattle.hub_store.specs.Layout.{tables_2};
 ghost use Rattle.hub_store.specs.Parts.{HoldsParts};
 ghost use Rattle.hub_store.specs.Means.{HoldsBetween};
-ghost use Rattle.hub_store.specs.Makes.{Makes, FailsOnly};
+ghost use Rattle.hub_store.specs.inner.Makes.{Makes, FailsOnly};
 
 use crate::statement::run;
 use hub_core::Naming;

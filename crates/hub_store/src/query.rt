@@ -4,7 +4,7 @@ ghost use Rattle.std.specs.Prelude.{◌≡◌, ◌≢◌, is_some, IfOk, IfErr, 
 ghost use Rattle.sqlite.specs.State.{HasCleanDisk, IsLive, KeepsCommit, IsUnchanged, Survives};
 ghost use Rattle.sqlite.specs.Held.{state};
 ghost use Rattle.sqlite.specs.Values.{bound};
-ghost use Rattle.hub_store.specs.Queries.{HasShown, HasRefused};
+ghost use Rattle.hub_store.specs.inner.Queries.{HasShown, HasRefused};
 ghost use Rattle.hub_store.specs.Versions.{version_column};
 ghost use Rattle.hub_store.specs.Failing.{HasReason};
 

@@ -2,8 +2,8 @@
 
 ghost use Rattle.std.specs.Prelude.{◌≡◌, map, is_some};
 ghost use Rattle.sqlite.specs.Held.{state};
-ghost use Rattle.hub_store.specs.Queries.{IsReadInside};
-ghost use Rattle.hub_store.specs.PairKinds.{pair_between, pairs_from, pairs_to};
+ghost use Rattle.hub_store.specs.inner.Queries.{IsReadInside};
+ghost use Rattle.hub_store.specs.inner.PairKinds.{pair_between, pairs_from, pairs_to};
 
 use crate::any_row::is_any;
 use crate::ask_pairs::{ask_between, ask_from, ask_to};

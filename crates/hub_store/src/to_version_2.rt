@@ -6,11 +6,11 @@ ghost use Rattle.std.specs.Prelude.{◌≡◌, List, []};
 ghost use Rattle.sqlite_value.specs.Order.{Row};
 ghost use Rattle.sqlite.specs.Held.{state};
 ghost use Rattle.hub_core.specs.State.{State};
-ghost use Rattle.hub_store.specs.Tables.{schema_by, beside_item, without_incident, hub_schema};
+ghost use Rattle.hub_store.specs.Tables.{schema_by, beside_item, without_incident};
 ghost use Rattle.hub_store.specs.Layout.{parts_1, with_items, without_incidents, tables_2};
 ghost use Rattle.hub_store.specs.Parts.{HoldsParts};
-ghost use Rattle.hub_store.specs.Beside.{HoldsBeside};
-ghost use Rattle.hub_store.specs.Makes.{Makes, FailsOnly, Creates, HasEmpty};
+ghost use Rattle.hub_store.specs.inner.Beside.{HoldsBeside};
+ghost use Rattle.hub_store.specs.inner.Makes.{Makes, FailsOnly, Creates, HasEmpty};
 
 use crate::statement::run;
 use sqlite::{Alter, Error, Transaction};
@@ -40,7 +40,7 @@ pub(crate) fn drop_incident<S: Alter>(tx: &mut Transaction<'_, S>) -> Result<(),
 
 pub(crate) fn create_incident<S: Alter>(tx: &mut Transaction<'_, S>) -> Result<(), Error>
     ensures same_reference { tx.new.conn.ghost_name ≡ tx.old.conn.ghost_name }
-    ensures empty { Creates (state S.Store tx.old.conn.now) (state S.Store tx.new.conn.now) (HasEmpty without_incident) (HasEmpty hub_schema) result }
+    ensures empty { Creates (state S.Store tx.old.conn.now) (state S.Store tx.new.conn.now) (HasEmpty without_incident) (HasEmpty (schema_by 2)) result }
     ensures made { (s : State) → (items : List Row) → Makes (state S.Store tx.old.conn.now) (state S.Store tx.new.conn.now) (HoldsParts (without_incidents items s)) (HoldsParts (tables_2 1 items [] s)) result }
     ensures cause { (s : State) → (items : List Row) → FailsOnly (state S.Store tx.old.conn.now) (state S.Store tx.new.conn.now) (HoldsParts (without_incidents items s)) result }
 {
@@ -54,7 +54,7 @@ pub(crate) fn create_incident<S: Alter>(tx: &mut Transaction<'_, S>) -> Result<(
 /// The tables of version 2 where those of version 1 have no row.
 pub(crate) fn make_tables_2<S: Alter>(tx: &mut Transaction<'_, S>) -> Result<(), Error>
     ensures same_reference { tx.new.conn.ghost_name ≡ tx.old.conn.ghost_name }
-    ensures made { Creates (state S.Store tx.old.conn.now) (state S.Store tx.new.conn.now) (HasEmpty (schema_by 1)) (HasEmpty hub_schema) result }
+    ensures made { Creates (state S.Store tx.old.conn.now) (state S.Store tx.new.conn.now) (HasEmpty (schema_by 1)) (HasEmpty (schema_by 2)) result }
 {
     create_item(tx)?;
     drop_incident(tx)?;

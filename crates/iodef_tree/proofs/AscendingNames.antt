@@ -7,7 +7,7 @@ use Rattle.std.proofs.lemmas.Bool.Decides.{nat_tests}
 use Rattle.json_pointer.specs.Text.{Bytes, bytes_lt}
 use Rattle.iodef_tree.specs.Tree.{Forest, Body, holds, says, Bodies, one, many, in_front, elements}
 use Rattle.iodef_tree.specs.Sound.{SiblingPlace, may_stand, IsOrderedBehind}
-use Rattle.iodef_tree.specs.FitValues.{IsBodyOrdered, AreBodiesOrdered}
+use Rattle.iodef_tree.specs.inner.FitValues.{IsBodyOrdered, AreBodiesOrdered}
 use Rattle.iodef_tree.specs.View.{forest_of_members}
 use Rattle.iodef_tree.proofs.FromValues.{MapEntry, given_members}
 use Rattle.iodef_tree.proofs.Order.{bytes_eq-refl}

@@ -6,7 +6,7 @@ use Rattle.serde_json.specs.Data as json
 use Rattle.serde_json.specs.Data.{Data, put}
 use Rattle.serde_json.specs.Find.{get_member, as_array, as_object}
 use Rattle.serde_json.specs.Written.{has_float, items_have_float, members_have_float}
-use Rattle.iodef_tree.specs.FitValues.{AreFit, taken, is_element_flat, are_flat, are_members_flat}
+use Rattle.iodef_tree.specs.inner.FitValues.{AreFit, taken, is_element_flat, are_flat, are_members_flat}
 use Rattle.iodef_tree.specs.Reading.{◌>>=◌, or_fault, if_incidents, incidents_of, documents, parsed, all_complete, all_fit, reading}
 use Rattle.iodef_tree.specs.Tree.{height}
 use Rattle.iodef_tree.specs.Values.{items_of_data, forest_of_data, body_of_data}

@@ -9,7 +9,7 @@ use Rattle.iodef_tree.specs.Tree.{Content, Forest, end, leaf, branch, Body, Bodi
 use Rattle.iodef_tree.specs.Paths.{LocatedLine, is_class_kind, is_class, placed, located_after, located, has_class}
 use Rattle.iodef_tree.specs.Walk.{walk}
 use Rattle.iodef_tree.specs.Laws.{AllSiblings, AreApart, HasApart}
-use Rattle.iodef_tree.specs.Lookup.{past, class_at, object_in, element_at, part_at}
+use Rattle.iodef_tree.specs.inner.Lookup.{past, class_at, object_in, element_at, part_at}
 use Rattle.iodef_tree.specs.declared.line.Line.{Line}
 use Rattle.iodef_tree.proofs.Distinct.{apart-differ}
 use Rattle.iodef_tree.proofs.Order.{is_false, bytes_eq-refl, bytes_eq-true, decimals_differ, same_path-refl, same_path-true, same_path-common, same_path-is_prefix, same_path-longer, is_prefix-append}

@@ -7,9 +7,9 @@ use Rattle.serde_json.specs.Data as json
 use Rattle.serde_json.specs.View.{items_view, members_view}
 use Rattle.serde_json.specs.declared.value.Value.{Value}
 use Rattle.json_pointer.specs.declared.text.Text.{Text as Bytes}
-use Rattle.iodef_tree.specs.Converted.{IsObjectOf, IsMemberOf, IsItemOf, AreItemsOf}
+use Rattle.iodef_tree.specs.inner.Converted.{IsObjectOf, IsMemberOf, IsItemOf, AreItemsOf}
 use Rattle.iodef_tree.specs.Filled.{IsMemberFilled}
-use Rattle.iodef_tree.specs.FitValues.{IsBodyOrdered, AreBodiesOrdered, HasBodyTexts, HaveTexts}
+use Rattle.iodef_tree.specs.inner.FitValues.{IsBodyOrdered, AreBodiesOrdered, HasBodyTexts, HaveTexts}
 use Rattle.iodef_tree.specs.Sound.{IsOrdered}
 use Rattle.iodef_tree.specs.Texts.{HasTexts}
 use Rattle.iodef_tree.specs.Tree.{one, holds}

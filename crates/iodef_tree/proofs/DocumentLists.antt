@@ -1,6 +1,6 @@
 -- A list of documents, with those already made in front.
 use Rattle.std.proofs.Common.{◌≡◌, ◌+◌, ◌≤◌, ◌<◌, ℕ, List, [], ◌∷◌, ◌++◌, Bool, true, false, not, Option, Result, Ok, Err, refl, sym, subst, ◌∙◌, append_assoc, arith, IfSome, IfNone, is_some, IsErrAnd}
-use Rattle.iodef_tree.specs.FitValues.{line_count, IsFit, AreFit}
+use Rattle.iodef_tree.specs.inner.FitValues.{line_count, IsFit, AreFit}
 use Rattle.serde_json.specs.Data as json
 use Rattle.serde_json.specs.View.{view, items_view}
 use Rattle.serde_json.specs.declared.value.Value.{Value}

@@ -12,7 +12,7 @@ use Rattle.serde_json.specs.Find.{as_array, get_member}
 use Rattle.serde_json.specs.View.{view, members_view}
 use Rattle.serde_json.specs.declared.value.Value.{Value, Null, Array, Object, the_lemmas}
 use Rattle.serde_json.proofs.Views.{view-Array, view-Object, view-lookup, members_view-insert_entry}
-use Rattle.iodef_tree.specs.FitValues.{taken}
+use Rattle.iodef_tree.specs.inner.FitValues.{taken}
 use Rattle.iodef_tree.specs.Reading.{with_incident}
 use Rattle.iodef_tree.proofs.FromValues.{MapEntry}
 

@@ -4,7 +4,7 @@ use Rattle.std.proofs.lemmas.Bool.{or_from, or_parts}
 use Rattle.serde_json.specs.Data as json
 use Rattle.serde_json.specs.Data.{Data}
 use Rattle.serde_json.specs.Written.{has_float, items_have_float, members_have_float}
-use Rattle.iodef_tree.specs.FitValues.{any_at, is_refused}
+use Rattle.iodef_tree.specs.inner.FitValues.{any_at, is_refused}
 use Rattle.json_pointer.specs.Text.{Bytes}
 use Rattle.iodef_tree.specs.Values.{Surrounded, Node, node, beneath, nodes, item_nodes, member_nodes, first_at, is_not_whole, is_nested_class, is_too_deep}
 use Rattle.iodef_tree.specs.Reading.{unless, ◌>>=◌, all_fit}

@@ -5,7 +5,7 @@ use Rattle.std.proofs.lemmas.Bool.Decides.{nat_tests}
 use Rattle.serde_json.specs.Data as json
 use Rattle.serde_json.specs.Data.{Data}
 use Rattle.serde_json.specs.Find.{is_float}
-use Rattle.iodef_tree.specs.FitValues.{is_flat, is_element_flat, are_flat, are_members_flat}
+use Rattle.iodef_tree.specs.inner.FitValues.{is_flat, is_element_flat, are_flat, are_members_flat}
 use Rattle.iodef_tree.specs.Texts.{is_plain, are_plain}
 use Rattle.iodef_tree.specs.Values.{node, nodes, item_nodes, member_nodes}
 use Rattle.iodef_tree.specs.declared.TheConstants.{DEPTH_LIMIT}

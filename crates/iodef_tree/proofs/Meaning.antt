@@ -13,7 +13,7 @@ use Rattle.iodef_tree.specs.Tree.{Content, Forest, end, leaf, branch, kind_of, t
 use Rattle.iodef_tree.specs.Sound.{SiblingPlace, may_stand, IsOrderedBehind, IsSound}
 use Rattle.iodef_tree.specs.Outline.{sibling}
 use Rattle.iodef_tree.specs.Json.{continues, datum, members_from, items_from, data_of}
-use Rattle.iodef_tree.specs.Written.{content_text, front_text, is_later_place, goes_on, close_text, written, content_data, placed_member, placed_item, members_of, items_of}
+use Rattle.iodef_tree.specs.inner.Written.{content_text, front_text, is_later_place, goes_on, close_text, written, content_data, placed_member, placed_item, members_of, items_of}
 use Rattle.iodef_tree.specs.declared.line.Line.{Line}
 use Rattle.iodef_tree.specs.declared.shape.Sibling.{Sibling}
 use Rattle.iodef_tree.proofs.Order.{bytes_lt-ne}

@@ -5,7 +5,7 @@ use Rattle.std.proofs.lemmas.List.{at_drop_more}
 use Rattle.std.proofs.lemmas.Grind.{common_steps}
 use Rattle.json_pointer.specs.Text.{Bytes, Tokens}
 use Rattle.iodef_tree.specs.Tree.{Forest, Body, Bodies, member_front}
-use Rattle.iodef_tree.specs.Lookup.{class_at, object_in, part_at}
+use Rattle.iodef_tree.specs.inner.Lookup.{class_at, object_in, part_at}
 use Rattle.iodef_tree.specs.View.{body, bodies, members_forest}
 use Rattle.json_pointer.specs.declared.text.Text.{Text}
 use Rattle.iodef_tree.specs.declared.object.Item.{Item}

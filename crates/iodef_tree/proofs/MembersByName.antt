@@ -9,15 +9,15 @@ use Rattle.serde_json.specs.Data as json
 use Rattle.serde_json.specs.Data.{Data}
 use Rattle.serde_json.specs.Find.{get_member, as_object}
 use Rattle.serde_json.specs.Written.{compact_text}
-use Rattle.iodef_tree.specs.FitValues.{IsBodyOrdered, AreBodiesOrdered}
+use Rattle.iodef_tree.specs.inner.FitValues.{IsBodyOrdered, AreBodiesOrdered}
 use Rattle.iodef_tree.specs.Json.{zeroth, id_in, incident_id}
-use Rattle.iodef_tree.specs.SoundParts.{IsKept, IsBodyKept, AreKept}
+use Rattle.iodef_tree.specs.inner.SoundParts.{IsKept, IsBodyKept, AreKept}
 use Rattle.iodef_tree.specs.Sound.{SiblingPlace, IsOrderedBehind, IsSound}
 use Rattle.json_pointer.specs.Text.{Bytes}
 use Rattle.iodef_tree.specs.Texts.{HasTexts}
 use Rattle.iodef_tree.specs.Tree.{Forest, Body, Bodies, one, many, in_front, lines}
 use Rattle.iodef_tree.specs.View.{forest, bodies, named, members_forest}
-use Rattle.iodef_tree.specs.Written.{members_of, bodies_data}
+use Rattle.iodef_tree.specs.inner.Written.{members_of, bodies_data}
 use Rattle.iodef_tree.specs.declared.line.Line.{Line}
 use Rattle.json_pointer.specs.declared.text.Text.{Text}
 use Rattle.iodef_tree.specs.declared.object.Member.{Member}

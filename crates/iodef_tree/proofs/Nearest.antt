@@ -6,7 +6,7 @@ use Rattle.std.proofs.lemmas.List.Folds.{list_any-append}
 use Rattle.json_pointer.specs.Text.{Bytes, Tokens, same_path, is_root, is_prefix, is_under}
 use Rattle.iodef_tree.specs.Tree.{Forest, end, leaf, branch, steps, lines}
 use Rattle.iodef_tree.specs.Paths.{LocatedLine, is_class, located, has_class, below}
-use Rattle.iodef_tree.specs.Lookup.{past, class_at}
+use Rattle.iodef_tree.specs.inner.Lookup.{past, class_at}
 use Rattle.iodef_tree.specs.Sound.{IsSound}
 use Rattle.iodef_tree.specs.Walk.{walk, AreBlocks, leaf_entry}
 use Rattle.iodef_tree.specs.Laws.{AllSiblings, AreApart, HasApart, IsNearestClass}

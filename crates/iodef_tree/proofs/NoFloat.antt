@@ -8,11 +8,11 @@ use Rattle.serde_json.specs.Data.{Data}
 use Rattle.serde_json.specs.Read.{read}
 use Rattle.serde_json.specs.View.{items_of as listed}
 use Rattle.serde_json.specs.Written.{compact_text, has_float, items_have_float, members_have_float}
-use Rattle.iodef_tree.specs.SoundParts.{IsBodyKept, AreKept}
+use Rattle.iodef_tree.specs.inner.SoundParts.{IsBodyKept, AreKept}
 use Rattle.json_pointer.specs.Text.{Bytes}
 use Rattle.iodef_tree.specs.Texts.{may_be_value, may_be_text, HasTexts, is_plain, are_plain, is_empty}
 use Rattle.iodef_tree.specs.Tree.{Content, text, value, Forest, end, leaf, branch, Body, holds, says, Bodies, one, many, kind_of, text_of}
-use Rattle.iodef_tree.specs.Written.{content_data, placed_member, placed_item, members_of, items_of, body_data, bodies_data}
+use Rattle.iodef_tree.specs.inner.Written.{content_data, placed_member, placed_item, members_of, items_of, body_data, bodies_data}
 use Rattle.serde_json.specs.Find.{is_float}
 use Rattle.iodef_tree.specs.declared.TheConstants.{DEPTH_LIMIT}
 

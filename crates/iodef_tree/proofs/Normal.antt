@@ -21,7 +21,7 @@ use Rattle.serde_json.specs.Written.{number_text, outline, items_outline, member
 use Rattle.serde_json.proofs.Numbers.{number_of-decimal, number_of-negative}
 use Rattle.serde_json.proofs.Texts.{print-outline}
 use Rattle.json_pointer.specs.Text.{Bytes, bytes_lt}
-use Rattle.iodef_tree.specs.Written.{put_all}
+use Rattle.iodef_tree.specs.inner.Written.{put_all}
 use Rattle.iodef_tree.proofs.Data.{AreAfter, Ascend, after-trans, put-ascending}
 use Rattle.iodef_tree.proofs.Each.{IsEach, put-each}
 

@@ -9,7 +9,7 @@ use Rattle.iodef_tree.specs.Sound.{IsSound}
 use Rattle.iodef_tree.specs.View.{forest}
 use Rattle.iodef_tree.specs.Walk.{AreBlocks}
 use Rattle.iodef_tree.specs.Laws.{HasApart, StandsAt}
-use Rattle.iodef_tree.specs.Lookup.{past, class_at, object_at}
+use Rattle.iodef_tree.specs.inner.Lookup.{past, class_at, object_at}
 use Rattle.iodef_tree.specs.declared.object.Object.{Object}
 use Rattle.iodef_tree.proofs.Apart.{sound-apart}
 use Rattle.iodef_tree.proofs.Blocks.{below-weaker, blocks-in, root-block}

@@ -12,7 +12,7 @@ use Rattle.serde_json.specs.View.{items_of as listed}
 use Rattle.serde_json.specs.Written.{has_float, items_have_float, members_have_float, compact_text}
 use Rattle.serde_json.proofs.Nesting.{depth-read}
 use Rattle.serde_json.proofs.Views.{get_member-put}
-use Rattle.iodef_tree.specs.FitValues.{IsBodyOrdered, AreBodiesOrdered, IsFit, AreFit}
+use Rattle.iodef_tree.specs.inner.FitValues.{IsBodyOrdered, AreBodiesOrdered, IsFit, AreFit}
 use Rattle.iodef_tree.specs.Json.{data_of}
 use Rattle.iodef_tree.specs.Reading.{◌>>=◌, or_fault, unless, parsed, all_objects, are_incidents, if_incidents, incidents_of, lacking, all_complete, all_fit, incident_at, with_incident, document_of, if_short, documents, reading}
 use Rattle.iodef_tree.specs.Sound.{IsOrdered}
@@ -20,7 +20,7 @@ use Rattle.json_pointer.specs.Text.{Bytes}
 use Rattle.iodef_tree.specs.Tree.{Body, Bodies, member_front, lines}
 use Rattle.iodef_tree.specs.Values.{nodes, item_nodes, member_nodes, one_or_many, forest_of_data, body_of_data, elements_of_data, items_of_data, bodies_of_data}
 use Rattle.iodef_tree.specs.View.{forest_of_members}
-use Rattle.iodef_tree.specs.Written.{members_of, items_of, body_data, bodies_data}
+use Rattle.iodef_tree.specs.inner.Written.{members_of, items_of, body_data, bodies_data}
 use Rattle.iodef_tree.specs.declared.line.Line.{Line}
 use Rattle.iodef_tree.specs.declared.fault.ReadFault.TheVariants.{NotJson, Missing}
 use Rattle.iodef_tree.specs.declared.TheConstants.{INCIDENT_LIMIT}

@@ -8,7 +8,7 @@ use Rattle.serde_json.specs.Data.{Data, depth, items_depth, members_depth}
 use Rattle.serde_json.specs.Read.{max_depth}
 use Rattle.serde_json.specs.Written.{has_float, items_have_float, members_have_float, compact_text}
 use Rattle.json_pointer.specs.Text.{Bytes}
-use Rattle.iodef_tree.specs.FitValues.{HasBodyTexts, HaveTexts, is_flat, is_element_flat, are_flat, are_members_flat}
+use Rattle.iodef_tree.specs.inner.FitValues.{HasBodyTexts, HaveTexts, is_flat, is_element_flat, are_flat, are_members_flat}
 use Rattle.iodef_tree.specs.Laws.{IsDocument}
 use Rattle.iodef_tree.specs.Reading.{with_incident, document_of, reading}
 use Rattle.iodef_tree.specs.Texts.{is_plain, may_be_value, may_be_text, HasTexts}

@@ -1,7 +1,7 @@
 -- The first of some values that passes a test, those of one value in front of the others.
 use Rattle.std.proofs.Common.{◌≡◌, List, [], ◌∷◌, ◌++◌, Bool, ◌||◌, Some, None, refl, arith}
 use Rattle.std.proofs.lemmas.Grind.{common_steps}
-use Rattle.iodef_tree.specs.FitValues.{any_at}
+use Rattle.iodef_tree.specs.inner.FitValues.{any_at}
 use Rattle.json_pointer.specs.Text.{Bytes, Tokens}
 use Rattle.iodef_tree.specs.Values.{Surrounded, Node, beneath, first_at}
 

@@ -10,7 +10,7 @@ use Rattle.serde_json.specs.Read.{max_depth, read}
 use Rattle.serde_json.specs.View.{view}
 use Rattle.serde_json.specs.Written.{compact_text}
 use Rattle.serde_json.specs.declared.value.Value.{Value}
-use Rattle.iodef_tree.specs.FitValues.{HasBodyTexts, HaveTexts}
+use Rattle.iodef_tree.specs.inner.FitValues.{HasBodyTexts, HaveTexts}
 use Rattle.json_pointer.specs.Text.{Bytes}
 use Rattle.iodef_tree.specs.Texts.{is_plain, are_plain, is_empty, may_be_value, may_be_text, HasTexts}
 use Rattle.iodef_tree.specs.Tree.{Forest, Body, says, value, Bodies, one, many, in_front, elements}

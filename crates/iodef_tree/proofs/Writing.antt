@@ -9,7 +9,7 @@ use Rattle.iodef_tree.specs.View.{forest_of_members, bodies, members_forest}
 use Rattle.json_pointer.specs.declared.text.Text.{Text}
 use Rattle.iodef_tree.specs.declared.object.Member.{Member}
 use Rattle.iodef_tree.proofs.Filled.{has_elements}
-use Rattle.iodef_tree.specs.Written.{goes_on, close_text, written, array_text, member_text}
+use Rattle.iodef_tree.specs.inner.Written.{goes_on, close_text, written, array_text, member_text}
 use Rattle.iodef_tree.proofs.Members.{members-next}
 
 -- an array from its second element on

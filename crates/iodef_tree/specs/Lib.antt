@@ -8,15 +8,11 @@ pub mod Outline
 pub mod Shown
 pub mod Built
 pub mod Json
-pub mod Written
 pub mod View
 pub mod Walk
-pub mod Lookup
 pub mod Values
 pub mod Reading
 pub mod Filled
-pub mod FitValues
-pub mod Converted
 pub mod Laws
 pub mod Examples
-pub mod SoundParts
+pub mod inner

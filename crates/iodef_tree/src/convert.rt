@@ -6,8 +6,8 @@ ghost use Rattle.serde_json.specs.Written.{compact_text, has_float, items_have_f
 ghost use Rattle.serde_json.specs.Data.{array, depth as nesting};
 ghost use Rattle.serde_json.specs.Read.{max_depth, read as read_text};
 ghost use Rattle.iodef_tree.specs.Texts.{may_be_value};
-ghost use Rattle.iodef_tree.specs.FitValues.{is_flat, is_element_flat, are_flat, are_members_flat};
-ghost use Rattle.iodef_tree.specs.Converted.{IsObjectOf, IsMemberOf, IsItemOf, AreItemsOf};
+ghost use Rattle.iodef_tree.specs.inner.FitValues.{is_flat, is_element_flat, are_flat, are_members_flat};
+ghost use Rattle.iodef_tree.specs.inner.Converted.{IsObjectOf, IsMemberOf, IsItemOf, AreItemsOf};
 
 use crate::object::{Item, Member, Object};
 use json_pointer::Text;

@@ -4,7 +4,7 @@ ghost use Rattle.std.specs.Prelude.{◌≡◌, ◌++◌, string_bytes, OnOk, OnE
 ghost use Rattle.std.specs.List.{list_any};
 ghost use Rattle.json.specs.Print.{quoted};
 ghost use Rattle.json_pointer.specs.Text.{BeginsWith};
-ghost use Rattle.iodef_tree.specs.Written.{needs_escape};
+ghost use Rattle.iodef_tree.specs.inner.Written.{needs_escape};
 
 use serde_json::Value;
 use std::alloc::{AllocError, Global};

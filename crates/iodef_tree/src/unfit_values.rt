@@ -5,7 +5,7 @@ ghost use Rattle.std.specs.Prelude.{◌≡◌, ◌+◌, ◌<◌, ◌^◌, ◌∷
 ghost use Rattle.serde_json.specs.Data.{depth as nesting, items_depth, members_depth};
 ghost use Rattle.serde_json.specs.View.{view, items_view, members_view};
 ghost use Rattle.iodef_tree.specs.Values.{node, nodes, item_nodes, member_nodes, first_at};
-ghost use Rattle.iodef_tree.specs.FitValues.{any_at, is_refused, is_sought};
+ghost use Rattle.iodef_tree.specs.inner.FitValues.{any_at, is_refused, is_sought};
 
 use crate::DEPTH_LIMIT;
 use json_pointer::Text;

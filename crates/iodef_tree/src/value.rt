@@ -8,12 +8,12 @@ ghost use Rattle.serde_json.specs.Read.{read as read_text};
 ghost use Rattle.serde_json.specs.View.{view, members_view};
 ghost use Rattle.serde_json.specs.Written.{compact_text};
 ghost use Rattle.iodef_tree.specs.Filled.{IsFilled, IsMemberFilled, IsItemFilled};
-ghost use Rattle.iodef_tree.specs.FitValues.{IsBodyOrdered, AreBodiesOrdered};
+ghost use Rattle.iodef_tree.specs.inner.FitValues.{IsBodyOrdered, AreBodiesOrdered};
 ghost use Rattle.iodef_tree.specs.Json.{zeroth as zeroth_of, id_in as id_of};
-ghost use Rattle.iodef_tree.specs.SoundParts.{IsKept, AreKept, kids_of};
+ghost use Rattle.iodef_tree.specs.inner.SoundParts.{IsKept, AreKept, kids_of};
 ghost use Rattle.iodef_tree.specs.Sound.{IsOrdered};
 ghost use Rattle.iodef_tree.specs.View.{forest, bodies, body};
-ghost use Rattle.iodef_tree.specs.Written.{members_of, body_data, bodies_data};
+ghost use Rattle.iodef_tree.specs.inner.Written.{members_of, body_data, bodies_data};
 
 use crate::object::{Item, Member, Object};
 use json_pointer::Text;

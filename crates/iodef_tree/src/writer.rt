@@ -6,7 +6,7 @@ ghost use Rattle.json.specs.Print.{quoted};
 ghost use Rattle.serde_json.specs.Written.{comma_if};
 ghost use Rattle.iodef_tree.specs.View.{forest, bodies, body};
 ghost use Rattle.iodef_tree.specs.Filled.{IsFilled, IsMemberFilled, IsItemFilled};
-ghost use Rattle.iodef_tree.specs.Written.{written, body_text, array_text, bodies_text, member_text};
+ghost use Rattle.iodef_tree.specs.inner.Written.{written, body_text, array_text, bodies_text, member_text};
 
 use crate::object::{Item, Member, Object};
 use crate::string::push_quoted;

@@ -5,7 +5,7 @@ ghost use Rattle.marking.specs.Marks.{first_bad_marking};
 ghost use Rattle.kept_documents.specs.Kept.{Entry, lines_in, AreAmong, AreSpared, is_of};
 
 use crate::kept::Kept;
-use crate::{MOST_LINES, NOTED_LIMIT, PATIENCE};
+use crate::{NOTED_LIMIT, PATIENCE};
 use hub_core::Edit;
 use iodef_tree::Document;
 use lru::LruCache;
@@ -13,30 +13,28 @@ use std::alloc::{AllocError, Global};
 use std::marker::Model;
 use std::num::NonZeroUsize;
 
-/// The documents that are kept, by their incidents' numbers; contracts see the list of the pairs.
+/// The documents that are kept, by their incidents' numbers, of at most so many lines; contracts see the list of the pairs.
 #[derive(Drop)]
-pub(crate) struct Documents {
+pub(crate) struct Documents<const MOST: usize> {
     alloc: Global,
     kept: LruCache<u32, Kept>,
     /// Which incidents were asked for lately.
     noted: LruCache<u32, ()>,
     /// How many lines the kept documents have.
     lines: usize,
-    most: usize,
     /// How many questions were asked since a document was kept.
     waited: u32,
 }
 
-impl Model for Documents {
+impl<const MOST: usize> Model for Documents<MOST> {
     ghost use Rattle.std.specs.Prelude.{◌≤◌, List};
     ghost use Rattle.kept_documents.specs.Kept.{Entry, lines_in};
-    ghost use Rattle.kept_documents.specs.declared.TheConstants.{MOST_LINES as the_most};
 
     ghost Value = { List Entry };
 
     ghost view = { λ d. d.kept.entries };
 
-    ghost invariant = { λ d. (lines_in d.kept.entries ≤ d.lines) × (d.lines ≤ d.most) × (d.most ≤ the_most) };
+    ghost invariant = { λ d. (lines_in d.kept.entries ≤ d.lines) × (d.lines ≤ MOST) };
 }
 
 /// Lets those go that were read longest ago, until no more than so many lines are kept; tells how many.
@@ -57,9 +55,9 @@ fn shrink(kept: &mut LruCache<u32, Kept>, lines: usize, most: usize) -> usize
     left
 }
 
-impl Documents {
-    /// None at first, and never more lines than `most`, nor than [`MOST_LINES`].
-    pub(crate) fn new(alloc: Global, most: usize) -> Result<Documents, AllocError>
+impl<const MOST: usize> Documents<MOST> {
+    /// None at first.
+    pub(crate) fn new(alloc: Global) -> Result<Documents<MOST>, AllocError>
         ensures { IfOk result (λ d. d ≡ []) }
     {
         Ok(Documents {
@@ -67,7 +65,6 @@ impl Documents {
             kept: LruCache::unbounded(alloc)?,
             noted: LruCache::sparse(alloc, NonZeroUsize::new(NOTED_LIMIT).unwrap())?,
             lines: 0,
-            most: most.min(MOST_LINES),
             waited: 0,
         })
     }
@@ -75,7 +72,7 @@ impl Documents {
     /// How many lines may be kept at this moment.
     pub(crate) fn lines(&self) -> usize
         ensures counted { lines_in self.now ≤ result }
-        ensures most { result ≤ MOST_LINES }
+        ensures most { result ≤ MOST }
     {
         self.lines
     }
@@ -106,7 +103,7 @@ impl Documents {
             let _ = self.noted.put(incident, ());
             return false;
         }
-        self.lines <= self.most - self.most / 8 || self.waited >= PATIENCE
+        self.lines <= MOST - MOST / 8 || self.waited >= PATIENCE
     }
 
     /// Keeps a document, if it can be: those that were read longest ago make room for it.
@@ -115,11 +112,11 @@ impl Documents {
         ensures { (e : Entry) → Contains self.new e → Contains self.old e ⊎ (e ≡ (incident, document)) }
     {
         self.waited = 0;
-        let Some(kept) = Kept::within(self.alloc, document, self.most) else {
+        let Some(kept) = Kept::within(self.alloc, document, MOST) else {
             return;
         };
         let lines = kept.lines();
-        self.lines = shrink(&mut self.kept, self.lines, self.most - lines);
+        self.lines = shrink(&mut self.kept, self.lines, MOST - lines);
         match self.kept.put(incident, kept) {
             Ok(_) => self.lines += lines,
             Err(_) => {}

@@ -4,7 +4,6 @@ ghost use Rattle.hub_core.specs.State.{State};
 ghost use Rattle.hub_core.specs.Shelves.{IsRead};
 ghost use Rattle.kept_documents.specs.Kept.{AreDocuments, lines_in};
 
-use crate::MOST_LINES;
 use crate::documents::Documents;
 use circle::directory::Person;
 use hub_core::{Edit, Entry, Facts, JoinedGroup, Request, Shelf, ShelfFault};
@@ -13,20 +12,21 @@ use policy::{Case, Standing};
 use redact::{Excerpt, Want, excerpt, meets};
 use std::alloc::{AllocError, Global};
 
-/// A shelf whose calls are answered by another one, but for excerpts and searches of the documents that it keeps.
+/// A shelf whose calls are answered by another one, but for excerpts and searches of the documents that it keeps. These never
+/// have more lines than `MOST` together.
 #[derive(Drop)]
-pub struct KeptDocuments<Sh: Shelf> {
+pub struct KeptDocuments<Sh: Shelf, const MOST: usize> {
     alloc: Global,
     shelf: Sh,
-    documents: Documents,
+    documents: Documents<MOST>,
 }
 
-impl<Sh: Shelf> KeptDocuments<Sh> {
-    /// Over a shelf, with no document yet, and never more lines than `most`, nor than [`MOST_LINES`].
-    pub fn new(alloc: Global, shelf: Sh, most: usize) -> Result<KeptDocuments<Sh>, (AllocError, Sh)>
+impl<Sh: Shelf, const MOST: usize> KeptDocuments<Sh, MOST> {
+    /// Over a shelf, with no document yet.
+    pub fn new(alloc: Global, shelf: Sh) -> Result<KeptDocuments<Sh, MOST>, (AllocError, Sh)>
         ensures { IfOk result (λ k. (k.shelf ≡ shelf) × (k.documents ≡ [])) }
     {
-        match Documents::new(alloc, most) {
+        match Documents::new(alloc) {
             Ok(documents) => Ok(KeptDocuments {
                 alloc,
                 shelf,
@@ -47,7 +47,7 @@ impl<Sh: Shelf> KeptDocuments<Sh> {
     /// How many lines the kept documents may have at this moment.
     pub fn lines(&self) -> usize
         ensures counted { lines_in self.now.documents ≤ result }
-        ensures most { result ≤ MOST_LINES }
+        ensures most { result ≤ MOST }
     {
         self.documents.lines()
     }
@@ -55,7 +55,7 @@ impl<Sh: Shelf> KeptDocuments<Sh> {
     /// Reads and keeps the document of an incident that is asked for, where it is worth it and the memory suffices. A store that
     /// answers no more is asked for nothing.
     fn prepare(&mut self, incident: u32) -> Result<(), ShelfFault>
-        ensures shelf { IsRead Sh.has Sh.doubts Sh.failed Sh.may_leave self.old.shelf self.new.shelf result }
+        ensures shelf { IsRead Sh.has Sh.doubts Sh.failed Sh.may_remain self.old.shelf self.new.shelf result }
         ensures documents { Sh.doubts self.new.shelf ≡ 0 → (s : State) → Sh.has self.old.shelf s → AreDocuments self.old.documents s → AreDocuments self.new.documents s }
     {
         if self.shelf.failures() == u64::MAX {
@@ -75,7 +75,7 @@ impl<Sh: Shelf> KeptDocuments<Sh> {
     }
 }
 
-impl<Sh: Shelf> Shelf for KeptDocuments<Sh> {
+impl<Sh: Shelf, const MOST: usize> Shelf for KeptDocuments<Sh, MOST> {
     ghost use Rattle.kept_documents.specs.Kept.{AreDocuments};
 
     ghost has = { λ k s. Sh.has k.shelf s × AreDocuments k.documents s };
@@ -84,7 +84,7 @@ impl<Sh: Shelf> Shelf for KeptDocuments<Sh> {
 
     ghost failed = { λ k. Sh.failed k.shelf };
 
-    ghost may_leave = { λ k left. Sh.may_leave k.shelf left };
+    ghost may_remain = { λ k left. Sh.may_remain k.shelf left };
 
     fn failures(&self) -> u64 {
         self.shelf.failures()
@@ -94,8 +94,13 @@ impl<Sh: Shelf> Shelf for KeptDocuments<Sh> {
         self.shelf.person_by_key(key)
     }
 
-    fn standing(&mut self, person: u32, incident: u32) -> Result<Option<Standing>, ShelfFault> {
-        self.shelf.standing(person, incident)
+    fn standing(
+        &mut self,
+        person: u32,
+        incident: u32,
+        now: i64,
+    ) -> Result<Option<Standing>, ShelfFault> {
+        self.shelf.standing(person, incident, now)
     }
 
     fn case(&mut self, incident: u32) -> Result<Option<Case>, ShelfFault> {

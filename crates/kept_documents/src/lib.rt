@@ -18,7 +18,7 @@ mod line_count;
 
 pub use kept_documents::KeptDocuments;
 
-/// How many lines all kept documents may have together: about 30 MB of memory.
+/// How many lines the kept documents of a hub that serves may have together: about 30 MB of memory.
 pub const MOST_LINES: usize = 200_000;
 
 /// Of how many incidents it is noted that they were asked for.

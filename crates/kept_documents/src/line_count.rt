@@ -2,7 +2,7 @@
 #![tactic(auto, using(iodef_tree::proofs::Counts::counting))]
 
 ghost use Rattle.std.specs.Prelude.{◌≡◌, ◌+◌, ◌<◌, IfSome, IfNone};
-ghost use Rattle.iodef_tree.specs.FitValues.{line_count, bodies_count, body_count};
+ghost use Rattle.iodef_tree.specs.inner.FitValues.{line_count, bodies_count, body_count};
 ghost use Rattle.iodef_tree.specs.View.{forest, bodies, body};
 
 use iodef_tree::{Item, Member, Object};

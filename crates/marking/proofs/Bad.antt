@@ -15,7 +15,7 @@ use Rattle.iodef_tree.proofs.Located.{located-lines}
 use Rattle.iodef_tree.proofs.Blocks.{blocks-located, below-parents}
 use Rattle.marking.specs.Marks.{is_well_marked, first_bad_marking}
 use Rattle.marking.specs.Members.{is_rule_kept_in}
-use Rattle.marking.specs.Pass.{bad_below}
+use Rattle.marking.specs.inner.Pass.{bad_below}
 use Rattle.marking.proofs.Written.{AreUnderParents, well_marked-block}
 
 pub no_class-kind : (c : Content) → is_class_kind (kind_of c) ≡ false

@@ -11,7 +11,7 @@ use Rattle.iodef_tree.specs.Text.{Bytes, Tokens}
 use Rattle.iodef_tree.specs.Tree.{Forest, end, Body, holds, says, Bodies, one, many, text, value, in_front, elements, member_front, steps}
 use Rattle.marking.specs.Marks.{other, Marked}
 use Rattle.marking.specs.Members.{held_by_bodies, held_in}
-use Rattle.marking.specs.Pass.{bad_below, bad_in_body, enter, marked_below}
+use Rattle.marking.specs.inner.Pass.{bad_below, bad_in_body, enter, marked_below}
 
 -- ---- what is held under a name
 

@@ -21,7 +21,7 @@ use Rattle.iodef_tree.proofs.Order.{bytes_eq-true, same_path-refl, same_path-tru
 use Rattle.marking.specs.Label.{private}
 use Rattle.marking.specs.Marks.{incident_path, has_default, written_label, own_label, has_own_label, site_of, label_at, Marked, marked_at}
 use Rattle.marking.specs.Members.{spelled_in}
-use Rattle.marking.specs.Pass.{own_below, marked_step, enter, marked_below}
+use Rattle.marking.specs.inner.Pass.{own_below, marked_step, enter, marked_below}
 use Rattle.marking.proofs.Bad.{class_paths-leaf, class_paths-append, no_class-kind}
 use Rattle.marking.proofs.Placed.{ArePlaced, placed, no_class}
 use Rattle.marking.proofs.Sites.{site-steps, label-steps}

@@ -7,7 +7,7 @@ use Rattle.std.proofs.lemmas.List.{map-append, reverse-append}
 use Rattle.iodef_tree.specs.Text.{Bytes, Tokens, prefixes}
 use Rattle.iodef_tree.specs.Tree.{steps}
 use Rattle.iodef_tree.specs.Paths.{LocatedLine}
-use Rattle.marking.specs.Label.{Marking, private}
+use Rattle.marking.specs.Label.{LabelValue, private}
 use Rattle.marking.specs.Marks.{own_label, has_own_label, written_label, site_of, label_at}
 
 pub prefixes-push : (p : Tokens) (x : Bytes) → prefixes (p ++ x ∷ []) ≡ prefixes p ++ (p ++ x ∷ []) ∷ []
@@ -26,11 +26,11 @@ found-passes {X} test (x ∷ xs) d h = by_test (test x) refl (found-passes test 
     by_test true e ih = ap (λ b. test (unwrap_or (cond b (Some x) (find test xs)) d)) e ∙ e
     by_test false e ih = ap (λ b. test (unwrap_or (cond b (Some x) (find test xs)) d)) e ∙ ih
 
-some-or : (o : Option Marking) → is_some (option_or o (Some private)) ≡ true
+some-or : (o : Option LabelValue) → is_some (option_or o (Some private)) ≡ true
 some-or None = refl
 some-or (Some l) = refl
 
-unwrapped : (o : Option Marking) → is_some o ≡ true → o ≡ Some (unwrap_or o private)
+unwrapped : (o : Option LabelValue) → is_some o ≡ true → o ≡ Some (unwrap_or o private)
 unwrapped None h = absurd (false≢true h)
 unwrapped (Some l) h = refl
 
@@ -70,7 +70,7 @@ site-steps es p n (Some k) array =
     (site-push es p n ∙ cond-false (has_own_label es r) r (site_of es p) (ap is_some (array refl)))
     ∙ ap (λ z. cond (has_own_label es z) z (site_of es p)) same
 
-label-choose : (es : List LocatedLine) (p q : Tokens) (own : Option Marking) → own_label es q ≡ own → site_of es q ≡ cond (has_own_label es q) q (site_of es p) →
+label-choose : (es : List LocatedLine) (p q : Tokens) (own : Option LabelValue) → own_label es q ≡ own → site_of es q ≡ cond (has_own_label es q) q (site_of es p) →
     label_at es q ≡ unwrap_or own (label_at es p)
 label-choose es p q None e s =
     ap (λ r. unwrap_or (own_label es r) private) (s ∙ cond-false (has_own_label es q) q (site_of es p) (ap is_some e))

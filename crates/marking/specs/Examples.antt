@@ -4,7 +4,7 @@ use Rattle.iodef_tree.specs.Text.{Bytes}
 use Rattle.iodef_tree.specs.Paths.{located, class_paths}
 use Rattle.iodef_tree.specs.declared.line.Line.{Line}
 use Rattle.iodef_tree.specs.declared.line.Kind.TheVariants as kind
-use Rattle.marking.specs.Label.{Marking, public, amber, private, extended}
+use Rattle.marking.specs.Label.{LabelValue, public, amber, private, extended}
 use Rattle.marking.specs.Marks.{Marked, marked_at}
 
 abbrev pub class_line : ℕ → Bytes → Bool → Line
@@ -16,7 +16,7 @@ text_line d name in_array text = record { depth = d; name = name; in_array = in_
 abbrev pub value_line : ℕ → Bytes → Bool → Bytes → Line
 value_line d name in_array text = record { depth = d; name = name; in_array = in_array; kind = kind.Value; text = text }
 
-abbrev pub marked : Bytes → Marking → Bytes → Marked
+abbrev pub marked : Bytes → LabelValue → Bytes → Marked
 marked path label site = record { path = path; label = label; site = site }
 
 -- how each class of an outline is marked

@@ -9,19 +9,19 @@ use Rattle.marking.specs.declared.label.Handling.{Handling}
 use Rattle.marking.specs.declared.label.Handling.TheVariants.{Clear, Green, Amber, Strict, Red}
 
 -- a label, apart from where its text lies in memory
-pub data Marking : Type 0 where
-  public : Marking
-  white : Marking
-  partner : Marking
-  green : Marking
-  need_to_know : Marking
-  amber : Marking
-  private : Marking
-  red : Marking
-  by_arrangement : Marking
-  extended : Bytes → Marking
+pub data LabelValue : Type 0 where
+  public : LabelValue
+  white : LabelValue
+  partner : LabelValue
+  green : LabelValue
+  need_to_know : LabelValue
+  amber : LabelValue
+  private : LabelValue
+  red : LabelValue
+  by_arrangement : LabelValue
+  extended : Bytes → LabelValue
 
-abbrev pub marking_of : Label → Marking
+abbrev pub marking_of : Label → LabelValue
 marking_of label.Public = public
 marking_of label.White = white
 marking_of label.Partner = partner
@@ -35,7 +35,7 @@ marking_of (label.Ext text) = extended text.now
 
 -- What a text in `restriction` spells (RFC 7970 section 3.3.1). `ext-value` takes the text beside it, in
 -- `ext-restriction` (section 5.1.1); beside another value that text says nothing.
-abbrev pub spelled : Bytes → Option Bytes → Option Marking
+abbrev pub spelled : Bytes → Option Bytes → Option LabelValue
 spelled restriction ext =
     if bytes_eq restriction (codes "public") then Some public
     else if bytes_eq restriction (codes "white") then Some white
@@ -67,7 +67,7 @@ handling_of_text text =
 -- How a label is handled, by this hub's choice, with what the source arranged with the reader's organisation: `default`
 -- follows that (RFC 7970 section 3.3.1), and is handled as the strictest where nothing was arranged. The colours mean the
 -- same as the words beside them; `need-to-know` and `amber` keep clients out, as TLP:AMBER+STRICT does.
-abbrev pub handling_of : Marking → Option Handling → Handling
+abbrev pub handling_of : LabelValue → Option Handling → Handling
 handling_of public arranged = Clear
 handling_of white arranged = Clear
 handling_of partner arranged = Green
@@ -80,7 +80,7 @@ handling_of by_arrangement arranged = unwrap_or arranged Red
 handling_of (extended text) arranged = handling_of_text text
 
 -- the value of `restriction`
-abbrev pub restriction_of : Marking → Bytes
+abbrev pub restriction_of : LabelValue → Bytes
 restriction_of public = codes "public"
 restriction_of white = codes "white"
 restriction_of partner = codes "partner"
@@ -93,7 +93,7 @@ restriction_of by_arrangement = codes "default"
 restriction_of (extended text) = codes "ext-value"
 
 -- the same, and for an extended one its text behind a space
-abbrev pub text_of : Marking → Bytes
+abbrev pub text_of : LabelValue → Bytes
 text_of (extended text) = codes "ext-value " ++ text
 text_of m = restriction_of m
 

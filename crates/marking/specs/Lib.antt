@@ -1,7 +1,7 @@
 pub mod Label
 pub mod Marks
 pub mod Members
-pub mod Pass
 pub mod Checked
 pub mod Sited
 pub mod Examples
+pub mod inner

@@ -9,7 +9,7 @@ use Rattle.iodef_tree.specs.Pointer.{pointer_text}
 use Rattle.iodef_tree.specs.declared.line.Line.{Line}
 use Rattle.iodef_tree.specs.declared.line.Kind.{Kind}
 use Rattle.iodef_tree.specs.declared.line.Kind.TheVariants as kind
-use Rattle.marking.specs.Label.{Marking, private, spelled, marking_of}
+use Rattle.marking.specs.Label.{LabelValue, private, spelled, marking_of}
 use Rattle.marking.specs.declared.pass.Mark.{Mark}
 
 -- What a class holds under a name: nothing, a text, or something else. An array is something else, also one of a single text.
@@ -40,7 +40,7 @@ abbrev pub ext_restriction_at : List LocatedLine → Tokens → Held
 ext_restriction_at es p = held_at es p (codes "ext-restriction")
 
 -- the label that what is held as `restriction` and as `ext-restriction` spells, both being texts where they are there
-abbrev pub spelled_by : Held → Held → Option Marking
+abbrev pub spelled_by : Held → Held → Option LabelValue
 spelled_by (one_text restriction) absent = spelled restriction None
 spelled_by (one_text restriction) (one_text ext) = spelled restriction (Some ext)
 spelled_by (one_text restriction) other = None
@@ -67,7 +67,7 @@ abbrev pub first_bad_marking : List LocatedLine → Option Tokens
 first_bad_marking es = find (λ p. not (is_well_marked es p)) (class_paths es)
 
 -- The label written in the class at the path. The root is no class, and nothing is written in it.
-abbrev pub written_label : List LocatedLine → Tokens → Option Marking
+abbrev pub written_label : List LocatedLine → Tokens → Option LabelValue
 written_label es p = if has_class es p then spelled_by (restriction_at es p) (ext_restriction_at es p) else None
 
 abbrev pub incident_path : Tokens
@@ -79,7 +79,7 @@ abbrev pub has_default : List LocatedLine → Tokens → Bool
 has_default es p = is_root p || (same_path p incident_path && has_class es p)
 
 -- the written label, or the default of the Incident and of the root
-abbrev pub own_label : List LocatedLine → Tokens → Option Marking
+abbrev pub own_label : List LocatedLine → Tokens → Option LabelValue
 own_label es p = option_or (written_label es p) (if has_default es p then Some private else None)
 
 abbrev pub has_own_label : List LocatedLine → Tokens → Bool
@@ -91,13 +91,13 @@ abbrev pub site_of : List LocatedLine → Tokens → Tokens
 site_of es p = unwrap_or (find (has_own_label es) (reverse (prefixes p))) []
 
 -- the label that holds at the path: the own label of its site
-abbrev pub label_at : List LocatedLine → Tokens → Marking
+abbrev pub label_at : List LocatedLine → Tokens → LabelValue
 label_at es p = unwrap_or (own_label es (site_of es p)) private
 
 -- how a class is marked: its path, the label that holds at it, and that label's site, the paths as JSON pointers
 pub record Marked : Type 0 where
   pub path : Bytes
-  pub label : Marking
+  pub label : LabelValue
   pub site : Bytes
 
 abbrev pub marked_at : List LocatedLine → Tokens → Marked

@@ -3,7 +3,7 @@ use Rattle.std.specs.Prelude.{if◌then◌else◌, Bool, Option, codes}
 use Rattle.std.specs.Str.{bytes_eq}
 use Rattle.iodef_tree.specs.Text.{Bytes}
 use Rattle.iodef_tree.specs.Tree.{Leaf, Forest, end, leaf, branch, holds, says, Bodies, one, many, text, value, leaf_line}
-use Rattle.marking.specs.Label.{Marking}
+use Rattle.marking.specs.Label.{LabelValue}
 use Rattle.marking.specs.Marks.{Held, absent, one_text, other, held_by_line, spelled_by, is_rule_kept}
 use Rattle.marking.specs.declared.class.Found.{Found}
 use Rattle.marking.specs.declared.class.Found.TheVariants as found
@@ -28,7 +28,7 @@ held_in name end = absent
 held_in name (leaf i rest) = if bytes_eq i.name name then held_by_leaf i else held_in name rest
 held_in name (branch n place kids rest) = if bytes_eq n name then other else held_in name rest
 
-abbrev pub spelled_in : Forest → Option Marking
+abbrev pub spelled_in : Forest → Option LabelValue
 spelled_in f = spelled_by (held_in (codes "restriction") f) (held_in (codes "ext-restriction") f)
 
 abbrev pub is_rule_kept_in : Forest → Bool

@@ -5,7 +5,7 @@ use Rattle.iodef_tree.specs.Text.{Tokens, same_path, is_root}
 use Rattle.iodef_tree.specs.Tree.{Forest}
 use Rattle.iodef_tree.specs.Paths.{LocatedLine, has_class}
 use Rattle.iodef_tree.specs.declared.Path.{Path}
-use Rattle.marking.specs.Label.{Marking, private, marking_of}
+use Rattle.marking.specs.Label.{LabelValue, private, marking_of}
 use Rattle.marking.specs.Marks.{incident_path, site_of, label_at}
 use Rattle.marking.specs.Members.{spelled_in}
 use Rattle.marking.specs.declared.fault.SiteFault.{SiteFault}
@@ -20,7 +20,7 @@ Sites (Err NoClass) es p = (is_root p || has_class es p) ≡ false
 Sites (Err NoMemory) es p = Unit {0}
 
 -- the own label of the class at the path, or of the root, with these members
-abbrev pub own_in : Tokens → Forest → Option Marking
+abbrev pub own_in : Tokens → Forest → Option LabelValue
 own_in p kids =
     if is_root p then Some private
     else option_or (spelled_in kids) (if same_path p incident_path then Some private else None)

@@ -10,7 +10,7 @@ ghost use Rattle.iodef_tree.specs.Paths.{located, class_paths};
 ghost use Rattle.iodef_tree.specs.Pointer.{pointer_text};
 ghost use Rattle.marking.specs.Label.{marking_of};
 ghost use Rattle.marking.specs.Marks.{Marked, first_bad_marking, marked_at, marked_by};
-ghost use Rattle.marking.specs.Pass.{own_below as own_label_below, marked_step, marked_below};
+ghost use Rattle.marking.specs.inner.Pass.{own_below as own_label_below, marked_step, marked_below};
 
 use crate::class::written;
 use crate::label::Label;

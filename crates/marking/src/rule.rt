@@ -6,7 +6,7 @@ ghost use Rattle.iodef_tree.specs.Tree.{end, holds, in_front, member_front, step
 ghost use Rattle.iodef_tree.specs.View.{forest, bodies, body};
 ghost use Rattle.iodef_tree.specs.Paths.{located};
 ghost use Rattle.marking.specs.Marks.{first_bad_marking};
-ghost use Rattle.marking.specs.Pass.{bad_below, bad_in_body, tokens_of};
+ghost use Rattle.marking.specs.inner.Pass.{bad_below, bad_in_body, tokens_of};
 ghost use Rattle.marking.specs.Checked.{Checks};
 
 use crate::class::is_well_marked;

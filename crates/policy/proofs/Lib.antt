@@ -5,4 +5,5 @@ pub mod Sight
 mod Onwards
 pub mod Descents
 mod Reaches
+mod Moments
 mod Computed

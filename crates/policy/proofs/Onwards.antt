@@ -7,7 +7,7 @@ use Rattle.std.proofs.lemmas.Option.{none-some}
 use Rattle.iodef_tree.specs.Text.{Tokens, same_path}
 use Rattle.iodef_tree.proofs.Order.{same_path-refl}
 use Rattle.policy.specs.Ahead.{refused_with, granted_with}
-use Rattle.policy.specs.Gates.{passage_of}
+use Rattle.policy.specs.Gates.{refusal_of_gate}
 use Rattle.policy.specs.Permissions.{holds_for}
 use Rattle.policy.specs.Verdict.{first_of}
 use Rattle.policy.specs.declared.standing.Standing.{Standing}
@@ -19,7 +19,7 @@ use Rattle.policy.specs.declared.onward.Granting.{Granting}
 
 -- the refusals at a path of some gates of a case
 abbrev pub refusals_among : Standing → List Gate → Tokens → List Rule
-refusals_among s gs z = filter_map (passage_of s) (filter (λ g. same_path g.path z) gs)
+refusals_among s gs z = filter_map (refusal_of_gate s) (filter (λ g. same_path g.path z) gs)
 
 -- some of these permissions stands at this path and holds
 abbrev pub granted_among : Standing → List Permission → Tokens → Bool

@@ -1,6 +1,6 @@
 -- How far down a permission reaches, token by token.
 use Rattle.std.proofs.Common.{◌≡◌, [], ◌∷◌, ◌++◌, List, ◌&&◌, ◌||◌}
-use Rattle.std.specs.Prelude.{is_none}
+use Rattle.std.specs.Prelude.{None, is_none}
 use Rattle.iodef_tree.specs.Text.{Bytes, Tokens, same_path}
 use Rattle.iodef_tree.specs.Paths.{LocatedLine}
 use Rattle.marking.specs.Marks.{written_label}
@@ -10,9 +10,9 @@ use Rattle.policy.specs.declared.permission.Permission.{Permission}
 use Rattle.policy.specs.declared.permission.Grantee.TheVariants.{Person}
 use Rattle.policy.proofs.Steps.{covers-push, covers-root}
 
--- a permission at the path, of a reader whom it includes
+-- a permission at the path, of a reader whom it includes, with no end
 abbrev at_path : Tokens → Permission
-at_path q = record { path = q; grantee = Person 0 }
+at_path q = record { path = q; grantee = Person 0; until = None }
 
 pub reaches-push : (es : List LocatedLine) (q p : Tokens) (x : Bytes) →
     reaches es q (p ++ x ∷ []) ≡ ((reaches es q p && is_none (written_label es (p ++ x ∷ []))) || same_path q (p ++ x ∷ []))

@@ -9,7 +9,7 @@ use Rattle.std.proofs.lemmas.List.{append-nil}
 use Rattle.std.proofs.lemmas.List.Sums.{AllPass-from_list_all}
 use Rattle.iodef_tree.specs.Text.{Bytes, Tokens, same_path, is_prefix, prefixes}
 use Rattle.iodef_tree.proofs.Order.{bytes_eq-refl, bytes_eq-true, same_path-true, same_path-refl}
-use Rattle.policy.specs.Gates.{passage_of}
+use Rattle.policy.specs.Gates.{refusal_of_gate}
 use Rattle.policy.specs.Verdict.{first_of, refusals_at, refusal_at}
 use Rattle.policy.specs.Laws.{refuses_on, IsNearestRefusal}
 use Rattle.policy.proofs.Steps.{first_of-append, any_same}
@@ -91,9 +91,9 @@ any-prefix (x ∷ r) (y ∷ p) =
 pub refused-any : (c : Case) (s : Standing) (p : Tokens) → is_some (refusal_at c s p) ≡ list_any (refuses_on s p) c.gates
 refused-any c s p =
     first-flat_map (refusals_at c s) (prefixes p)
-    ∙ any_same _ (λ q. list_any (λ g. same_path g.path q && is_some (passage_of s g)) c.gates) (λ q. first-filter_map (passage_of s) (λ g. same_path g.path q) c.gates) (prefixes p)
-    ∙ any-swap (λ g q. same_path g.path q) (λ g. is_some (passage_of s g)) (prefixes p) c.gates
-    ∙ any_same _ (refuses_on s p) (λ g. ap (λ b. b && is_some (passage_of s g)) (any-prefix g.path p)) c.gates
+    ∙ any_same _ (λ q. list_any (λ g. same_path g.path q && is_some (refusal_of_gate s g)) c.gates) (λ q. first-filter_map (refusal_of_gate s) (λ g. same_path g.path q) c.gates) (prefixes p)
+    ∙ any-swap (λ g q. same_path g.path q) (λ g. is_some (refusal_of_gate s g)) (prefixes p) c.gates
+    ∙ any_same _ (refuses_on s p) (λ g. ap (λ b. b && is_some (refusal_of_gate s g)) (any-prefix g.path p)) c.gates
 
 all-not : {X : Type 0} (f : X → Bool) (xs : List X) → list_any f xs ≡ false → list_all (λ x. not (f x)) xs ≡ true
 all-not f [] h = refl
@@ -117,11 +117,11 @@ none-is (Some a) h = absurd (true≢false h)
 
 -- no gate on the path refuses where nothing is refused there
 pub passes-all : (c : Case) (s : Standing) (p : Tokens) → is_some (refusal_at c s p) ≡ false →
-    All (λ g. is_prefix g.path p ≡ true → passage_of s g ≡ None) c.gates
+    All (λ g. is_prefix g.path p ≡ true → refusal_of_gate s g ≡ None) c.gates
 passes-all c s p h k d below on_path =
     let g = slice_index_or c.gates k d in
-    none-is (passage_of s g)
-    (ap (λ b. b && is_some (passage_of s g)) (sym on_path) ∙ none-at (refuses_on s p) c.gates (sym (refused-any c s p) ∙ h) k d below)
+    none-is (refusal_of_gate s g)
+    (ap (λ b. b && is_some (refusal_of_gate s g)) (sym on_path) ∙ none-at (refuses_on s p) c.gates (sym (refused-any c s p) ∙ h) k d below)
 
 -- what comes first over the prefixes comes of one prefix, and of no shorter one
 pub record IsShortest {A : Type 0} (f : Tokens → List A) (p : Tokens) (r : A) (q : Tokens) : Type 0 where
@@ -202,23 +202,23 @@ first-found {X} {A} h T (x ∷ xs) r is = step (T x) (h x) refl refl (first-foun
 
 -- no refusal is told at the path of a gate that refuses
 refused-there : (c : Case) (s : Standing) (k : ℕ) (d : Gate) → k < length c.gates →
-    first_of (refusals_at c s (slice_index_or c.gates k d).path) ≡ None → is_some (passage_of s (slice_index_or c.gates k d)) ≡ false
+    first_of (refusals_at c s (slice_index_or c.gates k d).path) ≡ None → is_some (refusal_of_gate s (slice_index_or c.gates k d)) ≡ false
 refused-there c s k d below none =
     let h = slice_index_or c.gates k d in
     let T : Gate → Bool = λ g. same_path g.path h.path in
-    ap (λ b. b && is_some (passage_of s h)) (sym (same_path-refl h.path))
-    ∙ none-at (λ g. T g && is_some (passage_of s g)) c.gates (sym (first-filter_map (passage_of s) T c.gates) ∙ ap is_some none) k d below
+    ap (λ b. b && is_some (refusal_of_gate s h)) (sym (same_path-refl h.path))
+    ∙ none-at (λ g. T g && is_some (refusal_of_gate s g)) c.gates (sym (first-filter_map (refusal_of_gate s) T c.gates) ∙ ap is_some none) k d below
 
 -- a number is at most another, or that one is less
 at_most_or_less : (m n : ℕ) → (m ≤ n) ⊎ (n < m)
 at_most_or_less m n = grind arith
 
 pub refusal-nearest : (c : Case) (s : Standing) (p : Tokens) (r : Rule) → refusal_at c s p ≡ Some r →
-    (g : Gate) × IsNearestRefusal c s p g × (passage_of s g ≡ Some r)
+    (g : Gate) × IsNearestRefusal c s p g × (refusal_of_gate s g ≡ Some r)
 refusal-nearest c s p r is =
     let at = shortest (refusals_at c s) p r is in
     let q = at.0 in
-    let one = first-found (passage_of s) (λ g. same_path g.path q) c.gates r at.1.here in
+    let one = first-found (refusal_of_gate s) (λ g. same_path g.path q) c.gates r at.1.here in
     let g = one.0 in
     let stands : g.path ≡ q = same_path-true g.path q one.1.fits in (
       g,
@@ -226,11 +226,11 @@ refusal-nearest c s p r is =
         on_path = ap (λ z. is_prefix z p) stands ∙ at.1.prefix;
         shortest = λ k d below refuses.
             let h = slice_index_or c.gates k d in
-            let parts = and_parts (is_prefix h.path p) (is_some (passage_of s h)) refuses in
+            let parts = and_parts (is_prefix h.path p) (is_some (refusal_of_gate s h)) refuses in
             let size : length g.path ≡ length q = ap length stands in
             no_shorter (length g.path) (length h.path) (at_most_or_less (length g.path) (length h.path))
             (λ less. false≢true (sym (refused-there c s k d below (at.1.shorter h.path parts.0 (omega (arith, less, size)))) ∙ parts.1));
-        first = ap (λ z. find (λ (h : Gate). same_path h.path z && is_some (passage_of s h)) c.gates) stands ∙ one.1.found;
+        first = ap (λ z. find (λ (h : Gate). same_path h.path z && is_some (refusal_of_gate s h)) c.gates) stands ∙ one.1.found;
       },
       one.1.gives,
     )

@@ -10,8 +10,8 @@ use Rattle.marking.specs.Label.{handling_of, is_at_most}
 use Rattle.marking.specs.Marks.{label_at}
 use Rattle.policy.specs.Clearance.{clearance_of}
 use Rattle.policy.specs.Numbers.{is_among}
-use Rattle.policy.specs.Gates.{refused_unless, group_passage, passage_of}
-use Rattle.policy.specs.Permissions.{includes, reaches, covers}
+use Rattle.policy.specs.Gates.{refused_unless, group_passage, refusal_of_gate}
+use Rattle.policy.specs.Permissions.{includes, is_before, reaches, covers}
 use Rattle.policy.specs.Verdict.{first_of, refusal_at, handling_for, is_cleared_for, is_covered, is_visible, showing_rule, hiding_rule, hidden_by, verdict_of}
 use Rattle.policy.specs.Laws.{HasMorePermissions, refuses_on, IsRaised}
 use Rattle.policy.proofs.Steps.{any_same}
@@ -39,7 +39,7 @@ any-within f xs ys within h =
     list_any-from_Any f ys (there.0, x, there.1, there.2, found.4)
 
 -- a class stays visible where its gates stay passed and it is cleared or covered as before
-stays : (a b r r' k k' v v' : Bool) → a ≡ b → (r ≡ true → r' ≡ true) → (k ≡ true → k' ≡ true) → (v ≡ true → v' ≡ true) →
+pub stays : (a b r r' k k' v v' : Bool) → a ≡ b → (r ≡ true → r' ≡ true) → (k ≡ true → k' ≡ true) → (v ≡ true → v' ≡ true) →
     (a || (r && (k || v))) ≡ true → (b || (r' && (k' || v'))) ≡ true
 stays a b r r' k k' v v' same gates cleared covered h = grind arith
 
@@ -48,7 +48,7 @@ pub permission-hides : (es : List LocatedLine) (c d : Case) (s : Standing) (p : 
 permission-hides es c d s p more h =
     stays s.source s.source (is_none (refusal_at c s p)) (is_none (refusal_at d s p)) (is_cleared_for s (label_at es p)) (is_cleared_for s (label_at es p)) (is_covered es c s p) (is_covered es d s p)
     refl
-    (λ r. ap (λ gs. is_none (first_of (flat_map (λ q. filter_map (passage_of s) (filter (λ g. same_path g.path q) gs)) (prefixes p)))) (sym more.gates) ∙ r)
+    (λ r. ap (λ gs. is_none (first_of (flat_map (λ q. filter_map (refusal_of_gate s) (filter (λ g. same_path g.path q) gs)) (prefixes p)))) (sym more.gates) ∙ r)
     (λ k. k)
     (any-within (covers es s p) c.permissions d.permissions more.permissions) h
 
@@ -56,7 +56,7 @@ pub permission-opens : (es : List LocatedLine) (c d : Case) (s : Standing) (p : 
     s.source ≡ false → refusal_at c s p ≡ Some r → verdict_of es d s p ≡ Hidden r
 permission-opens es c d s p r more other is =
     let same : refusal_at d s p ≡ Some r =
-    ap (λ gs. first_of (flat_map (λ q. filter_map (passage_of s) (filter (λ g. same_path g.path q) gs)) (prefixes p))) (sym more.gates) ∙ is in
+    ap (λ gs. first_of (flat_map (λ q. filter_map (refusal_of_gate s) (filter (λ g. same_path g.path q) gs)) (prefixes p))) (sym more.gates) ∙ is in
     let k = is_cleared_for s (label_at es p) || is_covered es d s p in
     let h = handling_for s (label_at es p) in
     ap (λ b. if b || (is_none (refusal_at d s p) && k) then Shown (showing_rule s (label_at es p)) else Hidden (hiding_rule es d s p)) other
@@ -79,7 +79,7 @@ group-same s t up (Some n) =
     ap (λ a. if not (is_among n a) then Some G4 else if not (is_among n t.active_groups) then Some G4X else None) (sym up.groups)
     ∙ ap (λ a. if not (is_among n s.groups) then Some G4 else if not (is_among n a) then Some G4X else None) (sym up.active_groups)
 
-passage-raised : (s t : Standing) → IsRaised s t → (g : Gate) → is_some (passage_of t g) ≡ true → is_some (passage_of s g) ≡ true
+passage-raised : (s t : Standing) → IsRaised s t → (g : Gate) → is_some (refusal_of_gate t g) ≡ true → is_some (refusal_of_gate s g) ≡ true
 passage-raised s t up g =
     choose (g.level == 1) (refused_unless G1 s.community) _ (refused_unless G1 t.community) _
     (unless-raised G1 s.community t.community up.community)
@@ -94,7 +94,7 @@ passage-raised s t up g =
     either : (a b a' b' : Bool) → (a ≡ true → a' ≡ true) → (b ≡ true → b' ≡ true) → (a || b) ≡ true → (a' || b') ≡ true
     either a b a' b' f g h = grind arith
 
-any-weaker : {X : Type 0} (f g : X → Bool) → ((x : X) → f x ≡ true → g x ≡ true) → (xs : List X) → list_any f xs ≡ true → list_any g xs ≡ true
+pub any-weaker : {X : Type 0} (f g : X → Bool) → ((x : X) → f x ≡ true → g x ≡ true) → (xs : List X) → list_any f xs ≡ true → list_any g xs ≡ true
 any-weaker f g weaker xs h =
     let found = Any-from_list_any f xs h in
     list_any-from_Any g xs (found.0, found.1, found.2, found.3, weaker found.1 found.4)
@@ -102,8 +102,8 @@ any-weaker f g weaker xs h =
 refusal-raised : (c : Case) (s t : Standing) (p : Tokens) → IsRaised s t → is_none (refusal_at c s p) ≡ true → is_none (refusal_at c t p) ≡ true
 refusal-raised c s t p up none =
     turn (refusal_at c s p) (refusal_at c t p) (λ h. refused-any c s p ∙ any-weaker (refuses_on t p) (refuses_on s p)
-    (λ g k. let parts = and_parts (is_prefix g.path p) (is_some (passage_of t g)) k in
-    and_from (is_prefix g.path p) (is_some (passage_of s g)) parts.0 (passage-raised s t up g parts.1))
+    (λ g k. let parts = and_parts (is_prefix g.path p) (is_some (refusal_of_gate t g)) k in
+    and_from (is_prefix g.path p) (is_some (refusal_of_gate s g)) parts.0 (passage-raised s t up g parts.1))
     c.gates (sym (refused-any c t p) ∙ h)) none
   where
     turn : (a b : Option Rule) → (is_some b ≡ true → is_some a ≡ true) → is_none a ≡ true → is_none b ≡ true
@@ -125,11 +125,13 @@ visible-raised es c s t p up h =
     up.source
     (refusal-raised c s t p up)
     (λ k. at_most-trans (handling_for t l) (clearance_of s).0 (clearance_of t).0 (ap (λ a. is_at_most (handling_of l a) (clearance_of s).0) (sym up.arrangement) ∙ k) (clearance-raised s t up))
-    (λ v. any_same (covers es t p) (covers es s p) (λ x. ap (λ b. b && reaches es x.path p) (sym (includes-raised s t up x.grantee))) c.permissions ∙ v)
+    (λ v. any_same (covers es t p) (covers es s p)
+    (λ x. ap (λ b. (b && is_before t.now x.until) && reaches es x.path p) (sym (includes-raised s t up x.grantee))
+    ∙ ap (λ m. (includes s x.grantee && is_before m x.until) && reaches es x.path p) (sym up.now)) c.permissions ∙ v)
     h
 
 pub visible-passes : (es : List LocatedLine) (c : Case) (s : Standing) (p : Tokens) → s.source ≡ false → is_visible es c s p ≡ true →
-    All (λ g. is_prefix g.path p ≡ true → passage_of s g ≡ None) c.gates
+    All (λ g. is_prefix g.path p ≡ true → refusal_of_gate s g ≡ None) c.gates
 visible-passes es c s p other h =
     passes-all c s p (unrefused (refusal_at c s p) (is_cleared_for s (label_at es p) || is_covered es c s p)
     (ap (λ b. b || (is_none (refusal_at c s p) && (is_cleared_for s (label_at es p) || is_covered es c s p))) (sym other) ∙ h))

@@ -11,7 +11,7 @@ use Rattle.std.proofs.lemmas.List.Folds.{list_all-append, list_all-map}
 use Rattle.iodef_tree.specs.Text.{Bytes, Tokens, same_path, is_root, is_prefix, prefixes}
 use Rattle.iodef_tree.specs.Paths.{LocatedLine, has_class}
 use Rattle.iodef_tree.proofs.Order.{same_path-true}
-use Rattle.marking.specs.Label.{Marking, private}
+use Rattle.marking.specs.Label.{LabelValue, private}
 use Rattle.marking.specs.Marks.{written_label, incident_path, has_default, own_label, has_own_label, label_at}
 use Rattle.policy.specs.Permissions.{holds_for, is_unmarked_below, covers}
 use Rattle.policy.specs.Verdict.{first_of, refusals_at, refusal_at, is_covered}
@@ -39,7 +39,7 @@ refusal_at-push c s p x =
     ∙ ap (λ ys. flat_map (refusals_at c s) (prefixes p) ++ ys) (append-nil (refusals_at c s (p ++ x ∷ []))))
     ∙ first_of-append (flat_map (refusals_at c s) (prefixes p)) (refusals_at c s (p ++ x ∷ []))
 
-by_own : (es : List LocatedLine) (p q : Tokens) (o : Option Marking) → own_label es q ≡ o →
+by_own : (es : List LocatedLine) (p q : Tokens) (o : Option LabelValue) → own_label es q ≡ o →
     unwrap_or (own_label es (unwrap_or (find (has_own_label es) (q ∷ reverse (prefixes p))) [])) private ≡ unwrap_or o (label_at es p)
 by_own es p q None e =
     ap (λ o. unwrap_or (own_label es (unwrap_or (if is_some o then Some q else find (has_own_label es) (reverse (prefixes p))) [])) private) e
@@ -61,7 +61,7 @@ is_root-push [] x = refl
 is_root-push (y ∷ p) x = refl
 
 -- the own label of a class below the root
-own_label-class : (es : List LocatedLine) (p : Tokens) (x : Bytes) (w : Option Marking) →
+own_label-class : (es : List LocatedLine) (p : Tokens) (x : Bytes) (w : Option LabelValue) →
     has_class es (p ++ x ∷ []) ≡ true → written_label es (p ++ x ∷ []) ≡ w →
     own_label es (p ++ x ∷ []) ≡ option_or w (if same_path (p ++ x ∷ []) incident_path then Some private else None)
 own_label-class es p x w here is =
@@ -113,7 +113,7 @@ combine : (i pre eq L f w : Bool) → (eq ≡ true → pre ≡ false) → (eq �
     (eq ≡ false → pre ≡ true → f ≡ not w) → (i && ((pre || eq) && (L && (f && true)))) ≡ (((i && (pre && L)) && not w) || (i && eq))
 combine i pre eq L f w h1 h2 h3 h4 = grind arith
 
-not_some : (o : Option Marking) → is_none o ≡ not (is_some o)
+not_some : (o : Option LabelValue) → is_none o ≡ not (is_some o)
 not_some None = refl
 not_some (Some l) = refl
 
@@ -161,7 +161,7 @@ pub approach_below-at : (c : Case) (s : Standing) (p : Tokens) (x : Bytes) →
 approach_below-at c s p x = λ i. record { path = p ++ x ∷ []; refusal = sym (refusal_at-push c s p x) i }
 
 -- into a class
-pub enter_class-at : (es : List LocatedLine) (c : Case) (s : Standing) (p : Tokens) (x : Bytes) (w : Option Marking) →
+pub enter_class-at : (es : List LocatedLine) (c : Case) (s : Standing) (p : Tokens) (x : Bytes) (w : Option LabelValue) →
     has_class es (p ++ x ∷ []) ≡ true → written_label es (p ++ x ∷ []) ≡ w →
     enter_class c s (inherited_at es c s p) x w ≡ inherited_at es c s (p ++ x ∷ [])
 enter_class-at es c s p x w here is =
@@ -190,7 +190,7 @@ enter_array-at es c s p x none =
     and_with false = refl
 
 -- one token further down, by the longer path
-pub class-below : (es : List LocatedLine) (c : Case) (s : Standing) (p : Tokens) (x : Bytes) (q : Tokens) (h : Inherited) (w : Option Marking) →
+pub class-below : (es : List LocatedLine) (c : Case) (s : Standing) (p : Tokens) (x : Bytes) (q : Tokens) (h : Inherited) (w : Option LabelValue) →
     q ≡ p ++ x ∷ [] → h ≡ inherited_at es c s p → has_class es q ≡ true → w ≡ written_label es q → class_step c s h q w ≡ inherited_at es c s q
 class-below es c s p x q h w is said here written =
     ap (λ k. class_step c s k q w) said ∙ ap (λ z. class_step c s (inherited_at es c s p) z w) is

@@ -1,6 +1,6 @@
 -- Readers, gates and small reports by hand, and what the policy says of them: to be computed by the definitions alone.
 -- The source is organisation 2. The readers are of organisation 3, and have the number 7.
-use Rattle.std.specs.Prelude.{◌≡◌, ℕ, List, [], ◌∷◌, ◌++◌, map, Bool, true, false, Option, Some, None, codes}
+use Rattle.std.specs.Prelude.{◌≡◌, ℕ, ℤ, pos, neg_ℤ, List, [], ◌∷◌, ◌++◌, map, Bool, true, false, Option, Some, None, Ok, Err, codes}
 use Rattle.iodef_tree.specs.Text.{Bytes, Tokens}
 use Rattle.iodef_tree.specs.Paths.{located, class_paths}
 use Rattle.iodef_tree.specs.declared.line.Line.{Line}
@@ -10,9 +10,11 @@ use Rattle.marking.specs.declared.label.Handling.{Handling}
 use Rattle.marking.specs.declared.label.Handling.TheVariants.{Clear, Green, Amber, Strict, Red}
 use Rattle.policy.specs.Standing.{stranger}
 use Rattle.policy.specs.Clearance.{clearance_of}
-use Rattle.policy.specs.Gates.{passage_of}
+use Rattle.policy.specs.Gates.{refusal_of_gate}
+use Rattle.policy.specs.Moment.{moment_in}
 use Rattle.policy.specs.Permissions.{includes}
 use Rattle.policy.specs.Verdict.{verdict_of}
+use Rattle.policy.specs.declared.fault.MomentFault.TheVariants.{BadMoment}
 use Rattle.policy.specs.declared.rule.Rule.TheVariants.{Src, P, O, C, M, A, X, G0, G1, G2, G4, G4X, HGreen, HAmber, HStrict, HRed}
 use Rattle.policy.specs.declared.standing.Standing.{Standing}
 use Rattle.policy.specs.declared.gate.Gate.{Gate}
@@ -85,11 +87,15 @@ behind gates = case_of (gate_at [] 3 None ∷ gates) []
 
 -- a permission at the EventData for an organisation
 abbrev pub for_organisation : ℕ → List Permission
-for_organisation n = record { path = event_path; grantee = Org n } ∷ []
+for_organisation n = record { path = event_path; grantee = Org n; until = None } ∷ []
 
 -- open to all at the root, with such a permission
 abbrev pub shared_with : ℕ → Case
 shared_with n = case_of (gate_at [] 3 None ∷ []) (for_organisation n)
+
+-- open to all at the root, with a permission at the EventData for the readers' organisation, up to a moment or for ever
+abbrev pub shared_until : Option ℤ → Case
+shared_until end = case_of (gate_at [] 3 None ∷ []) (record { path = event_path; grantee = Org 3; until = end } ∷ [])
 
 -- the verdicts of the classes of a report, in stored order
 abbrev pub verdicts : List Line → Case → Standing → List Verdict
@@ -152,7 +158,7 @@ StandingsAreCleared =
 -- who passes a gate of each level that names no group: the source alone, its communities, those linked to them too, and all
 abbrev pub LevelsLetPass : Type 0
 LevelsLetPass =
-    map (λ s. map (λ level. passage_of s (gate_at event_path level None)) (0 ∷ 1 ∷ 2 ∷ 3 ∷ 5 ∷ [])) (colleague ∷ neighbour ∷ acquaintance ∷ anybody ∷ [])
+    map (λ s. map (λ level. refusal_of_gate s (gate_at event_path level None)) (0 ∷ 1 ∷ 2 ∷ 3 ∷ 5 ∷ [])) (colleague ∷ neighbour ∷ acquaintance ∷ anybody ∷ [])
     ≡ (None ∷ None ∷ None ∷ None ∷ None ∷ [])
     ∷ (Some G0 ∷ None ∷ None ∷ None ∷ None ∷ [])
     ∷ (Some G0 ∷ Some G1 ∷ None ∷ None ∷ None ∷ [])
@@ -162,7 +168,7 @@ LevelsLetPass =
 -- A gate of level 4 lets the members of its group pass, while that is active.
 abbrev pub GroupsLetPass : Type 0
 GroupsLetPass =
-    map (λ s. passage_of s (gate_at event_path 4 (Some 1))) (group_member true ∷ group_member false ∷ neighbour ∷ recipient ∷ [])
+    map (λ s. refusal_of_gate s (gate_at event_path 4 (Some 1))) (group_member true ∷ group_member false ∷ neighbour ∷ recipient ∷ [])
     ≡ None ∷ Some G4X ∷ Some G4 ∷ Some G4 ∷ []
 
 -- to whom a permission is given: the person, its organisation, a community of that, or a group while it is active
@@ -210,6 +216,40 @@ abbrev pub PermissionReachesDown : Type 0
 PermissionReachesDown =
     map (λ n. verdicts red_below (shared_with n) anybody) (3 ∷ 4 ∷ [])
     ≡ (Hidden HRed ∷ Shown X ∷ Shown X ∷ Hidden HRed ∷ []) ∷ (Hidden HRed ∷ Hidden HRed ∷ Hidden HRed ∷ Hidden HRed ∷ []) ∷ []
+
+-- A permission up to a moment covers before it, and neither at it nor later; one without an end always covers.
+abbrev pub PermissionEnds : Type 0
+PermissionEnds =
+    let covered = Hidden HRed ∷ Shown X ∷ Shown X ∷ [] in
+    let ended = Hidden HRed ∷ Hidden HRed ∷ Hidden HRed ∷ [] in
+    map (λ end. map (λ now. verdicts (nested (codes "private")) (shared_until end) (record anybody { now = now })) (pos 999 ∷ pos 1000 ∷ pos 1001 ∷ []))
+    (Some (pos 1000) ∷ None ∷ [])
+    ≡ (covered ∷ ended ∷ ended ∷ []) ∷ (covered ∷ covered ∷ covered ∷ []) ∷ []
+
+-- Of the examples of RFC 3339 section 5.8 those with no fraction of a second say a moment, whatever the offset; a second that
+-- was put in is counted as the one before it. A fraction of nothing is none. A date alone says no moment, nor does a time of day
+-- with no offset.
+abbrev pub MomentsAreRead : Type 0
+MomentsAreRead =
+    map moment_in
+    (codes "1996-12-19T16:39:57-08:00"
+    ∷ codes "1996-12-20T00:39:57Z"
+    ∷ codes "1990-12-31T23:59:60Z"
+    ∷ codes "1985-04-12T23:20:50.52Z"
+    ∷ codes "1937-01-01T12:00:27.87+00:20"
+    ∷ codes "1969-12-31T23:59:59.0Z"
+    ∷ codes "1996-12-19"
+    ∷ codes "1996-12-19T16:39:57"
+    ∷ [])
+    ≡ Ok (pos 851_042_397)
+    ∷ Ok (pos 851_042_397)
+    ∷ Ok (pos 662_687_999)
+    ∷ Err BadMoment
+    ∷ Err BadMoment
+    ∷ Ok (neg_ℤ (pos 1))
+    ∷ Err BadMoment
+    ∷ Err BadMoment
+    ∷ []
 
 -- A permission stops at a gate: at one below it, and at that of the root.
 abbrev pub PermissionStopsAtGate : Type 0

@@ -21,8 +21,8 @@ group_passage s (Some n) =
 
 -- The rule by which a gate refuses the reader, if it does: 1 the source's communities, 2 those linked to them too,
 -- 3 everybody, 4 a group, 5 as inherited from above, 0 and any other level the source alone.
-abbrev pub passage_of : Standing → Gate → Option Rule
-passage_of s g =
+abbrev pub refusal_of_gate : Standing → Gate → Option Rule
+refusal_of_gate s g =
     if g.level == 1 then refused_unless G1 s.community
     else if g.level == 2 then refused_unless G2 (s.community || s.connected)
     else if g.level == 3 then None

@@ -5,7 +5,7 @@ use Rattle.std.specs.Option.{option_or}
 use Rattle.std.specs.List.{list_any}
 use Rattle.iodef_tree.specs.Text.{Bytes, Tokens, same_path}
 use Rattle.iodef_tree.specs.Paths.{LocatedLine}
-use Rattle.marking.specs.Label.{Marking, private, marking_of}
+use Rattle.marking.specs.Label.{LabelValue, private, marking_of}
 use Rattle.marking.specs.Marks.{label_at, incident_path}
 use Rattle.policy.specs.Permissions.{holds_for}
 use Rattle.policy.specs.Verdict.{first_of, refusals_at, refusal_at, handling_for, is_cleared_for, is_covered, showing_rule, hidden_by}
@@ -24,7 +24,7 @@ pub record Approach : Type 0 where
 -- beside that, the nearest label, and whether a permission covers the path
 pub record Inherited : Type 0 where
   pub approach : Approach
-  pub label : Marking
+  pub label : LabelValue
   pub covered : Bool
 
 abbrev pub approach_at : Case → Standing → Tokens → Approach
@@ -43,7 +43,7 @@ abbrev pub approach_step : Case → Standing → Approach → Tokens → Approac
 approach_step c s a p = record { path = p; refusal = option_or a.refusal (first_of (refusals_at c s p)) }
 
 -- the label of a class: what is written in it, else the default of the Incident, else the label above
-abbrev pub label_step : Marking → Tokens → Option Marking → Marking
+abbrev pub label_step : LabelValue → Tokens → Option LabelValue → LabelValue
 label_step above p written = unwrap_or (option_or written (if same_path p incident_path then Some private else None)) above
 
 -- in an array, at whose own path no label is written and no default holds
@@ -55,7 +55,7 @@ array_step c s h p = record {
 }
 
 -- in a class, with the label that is written in it, which ends what permissions above it cover
-abbrev pub class_step : Case → Standing → Inherited → Tokens → Option Marking → Inherited
+abbrev pub class_step : Case → Standing → Inherited → Tokens → Option LabelValue → Inherited
 class_step c s h p written = record {
   approach = approach_step c s h.approach p;
   label = label_step h.label p written;
@@ -69,7 +69,7 @@ approach_below c s a token = approach_step c s a (a.path ++ token ∷ [])
 abbrev pub enter_array : Case → Standing → Inherited → Bytes → Inherited
 enter_array c s h token = array_step c s h (h.approach.path ++ token ∷ [])
 
-abbrev pub enter_class : Case → Standing → Inherited → Bytes → Option Marking → Inherited
+abbrev pub enter_class : Case → Standing → Inherited → Bytes → Option LabelValue → Inherited
 enter_class c s h token written = class_step c s h (h.approach.path ++ token ∷ []) written
 
 -- at the root

@@ -1,12 +1,13 @@
 -- The laws of the policy, in its own words.
-use Rattle.std.specs.Prelude.{◌≡◌, ◌≤◌, Bool, true, false, ◌&&◌, List, [], ◌∷◌, ◌++◌, length, find, Some, None, is_some, All, Contains}
+use Rattle.std.specs.Prelude.{◌≡◌, ◌≤◌, ℤ, ◌≤ℤ◌, Bool, true, false, ◌&&◌, List, [], ◌∷◌, ◌++◌, length, find, filter, Some, None, is_some, All, Contains}
 use Rattle.iodef_tree.specs.Text.{Bytes, Tokens, is_prefix, same_path}
 use Rattle.iodef_tree.specs.Paths.{LocatedLine, has_class}
 use Rattle.marking.specs.Label.{is_at_most}
 use Rattle.marking.specs.Marks.{written_label, label_at}
 use Rattle.marking.specs.declared.label.Handling.TheVariants.{Clear}
 use Rattle.policy.specs.Clearance.{clearance_rows, clearance_of}
-use Rattle.policy.specs.Gates.{passage_of}
+use Rattle.policy.specs.Gates.{refusal_of_gate}
+use Rattle.policy.specs.Permissions.{is_before}
 use Rattle.policy.specs.Verdict.{refusal_at, handling_for, is_visible, verdict_of}
 use Rattle.policy.specs.Inherited.{inherited_at, at_root, enter_array, enter_class}
 use Rattle.policy.specs.declared.rule.Rule.{Rule}
@@ -23,34 +24,34 @@ SourceSeesAll = (es : List LocatedLine) (c : Case) (s : Standing) (p : Tokens) �
 -- where no gate refuses on a path, the reader passes every gate on it
 abbrev pub UnrefusedPassesGates : Type 0
 UnrefusedPassesGates = (c : Case) (s : Standing) (p : Tokens) → refusal_at c s p ≡ None →
-    All (λ g. is_prefix g.path p ≡ true → passage_of s g ≡ None) c.gates
+    All (λ g. is_prefix g.path p ≡ true → refusal_of_gate s g ≡ None) c.gates
 
 -- whoever else sees a class passes every gate on its path
 abbrev pub VisiblePassesGates : Type 0
 VisiblePassesGates = (es : List LocatedLine) (c : Case) (s : Standing) (p : Tokens) → s.source ≡ false → is_visible es c s p ≡ true →
-    All (λ g. is_prefix g.path p ≡ true → passage_of s g ≡ None) c.gates
+    All (λ g. is_prefix g.path p ≡ true → refusal_of_gate s g ≡ None) c.gates
 
 -- a gate of the case refuses the reader on the path
 abbrev pub refuses_on : Standing → Tokens → Gate → Bool
-refuses_on s p g = is_prefix g.path p && is_some (passage_of s g)
+refuses_on s p g = is_prefix g.path p && is_some (refusal_of_gate s g)
 
 -- a refusing gate of the shortest path among those on the way to p, and of those at its path the first
 pub record IsNearestRefusal (c : Case) (s : Standing) (p : Tokens) (g : Gate) : Type 0 where
   pub on_path : is_prefix g.path p ≡ true
   pub shortest : All (λ h. refuses_on s p h ≡ true → length g.path ≤ length h.path) c.gates
-  pub first : find (λ h. same_path h.path g.path && is_some (passage_of s h)) c.gates ≡ Some g
+  pub first : find (λ h. same_path h.path g.path && is_some (refusal_of_gate s h)) c.gates ≡ Some g
 
 -- the rule told is that of the refusing gate with the shortest path, of equal paths the first in the list
 abbrev pub RefusalIsNearest : Type 0
 RefusalIsNearest = (c : Case) (s : Standing) (p : Tokens) (r : Rule) → refusal_at c s p ≡ Some r →
-    (g : Gate) × IsNearestRefusal c s p g × (passage_of s g ≡ Some r)
+    (g : Gate) × IsNearestRefusal c s p g × (refusal_of_gate s g ≡ Some r)
 
 -- the second case has the gates of the first, and its permissions and perhaps more
 pub record HasMorePermissions (c d : Case) : Type 0 where
   pub gates : c.gates ≡ d.gates
   pub permissions : All (λ x. Contains d.permissions x) c.permissions
 
--- adding a permission never hides a class
+-- at one moment, adding a permission never hides a class
 abbrev pub PermissionHidesNothing : Type 0
 PermissionHidesNothing = (es : List LocatedLine) (c d : Case) (s : Standing) (p : Tokens) → HasMorePermissions c d →
     is_visible es c s p ≡ true → is_visible es d s p ≡ true
@@ -60,8 +61,23 @@ abbrev pub PermissionOpensNoGate : Type 0
 PermissionOpensNoGate = (es : List LocatedLine) (c d : Case) (s : Standing) (p : Tokens) (r : Rule) → HasMorePermissions c d →
     s.source ≡ false → refusal_at c s p ≡ Some r → verdict_of es d s p ≡ Hidden r
 
+-- a permission that has ended counts for nothing: the verdict is that of the case without it
+abbrev pub EndedCountsForNothing : Type 0
+EndedCountsForNothing = (es : List LocatedLine) (c : Case) (s : Standing) (p : Tokens) →
+    verdict_of es c s p ≡ verdict_of es (record c { permissions = filter (λ x. is_before s.now x.until) c.permissions }) s p
+
+-- where no permission ends, the verdict is the same at any moment
+abbrev pub EndlessAtAnyMoment : Type 0
+EndlessAtAnyMoment = (es : List LocatedLine) (c : Case) (s : Standing) (p : Tokens) (m : ℤ) → All (λ x. x.until ≡ None) c.permissions →
+    verdict_of es c (record s { now = m }) p ≡ verdict_of es c s p
+
+-- as time goes on, no class comes into view
+abbrev pub LaterSeesNoMore : Type 0
+LaterSeesNoMore = (es : List LocatedLine) (c : Case) (s : Standing) (p : Tokens) (m : ℤ) → s.now ≤ℤ m →
+    is_visible es c (record s { now = m }) p ≡ true → is_visible es c s p ≡ true
+
 -- The second standing is the first, raised: perhaps a recipient, nominated, of an organisation that is addressed, a client
--- or in the source's communities, where the first wasn't.
+-- or in the source's communities, where the first wasn't; the moment is the same.
 pub record IsRaised (s t : Standing) : Type 0 where
   pub source : s.source ≡ t.source
   pub person : s.person ≡ true → t.person ≡ true
@@ -76,6 +92,7 @@ pub record IsRaised (s t : Standing) : Type 0 where
   pub groups : s.groups ≡ t.groups
   pub active_groups : s.active_groups ≡ t.active_groups
   pub communities : s.communities ≡ t.communities
+  pub now : s.now ≡ t.now
 
 abbrev pub RaisedIsClearedForMore : Type 0
 RaisedIsClearedForMore = (s t : Standing) → IsRaised s t → is_at_most (clearance_of s).0 (clearance_of t).0 ≡ true

@@ -3,6 +3,7 @@ pub mod Rule
 pub mod Standing
 pub mod Clearance
 pub mod Gates
+pub mod Moment
 pub mod Permissions
 pub mod Verdict
 pub mod Inherited
@@ -10,4 +11,4 @@ pub mod Decided
 pub mod Laws
 pub mod Examples
 pub mod Ahead
-pub mod Descent
+pub mod inner

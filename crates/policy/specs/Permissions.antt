@@ -1,6 +1,7 @@
 -- What a permission covers. It widens the audience of a marking, as the source may (FIRST TLP 2.0: wider sharing needs the
--- explicit permission of the source), and like a marking it holds down to the next label (RFC 7970 section 3.3.1).
-use Rattle.std.specs.Prelude.{Bool, not, ◌&&◌, ◌==◌, List, length, nat_lt, is_some}
+-- explicit permission of the source), for as long as the source says; like a marking it holds down to the next label
+-- (RFC 7970 section 3.3.1).
+use Rattle.std.specs.Prelude.{Bool, true, not, ◌&&◌, ◌==◌, List, length, nat_lt, ℤ, int_lt, Option, Some, None, is_some}
 use Rattle.std.specs.List.{list_all}
 use Rattle.iodef_tree.specs.Text.{Tokens, is_prefix, prefixes}
 use Rattle.iodef_tree.specs.Paths.{LocatedLine}
@@ -18,9 +19,14 @@ includes s (Org n) = s.org == n
 includes s (Community n) = is_among n s.communities
 includes s (Group n) = is_among n s.groups && is_among n s.active_groups
 
--- the permission holds for the reader, wherever it stands
+-- the end is still to come at this moment, or there is none: at its end a permission has ended
+abbrev pub is_before : ℤ → Option ℤ → Bool
+is_before now None = true
+is_before now (Some end) = int_lt now end
+
+-- the permission holds for the reader, wherever it stands: it includes the reader and hasn't ended
 abbrev pub holds_for : Standing → Permission → Bool
-holds_for s x = includes s x.grantee
+holds_for s x = includes s x.grantee && is_before s.now x.until
 
 -- no label is written in the class at r, or r isn't below q
 abbrev pub is_unmarked_below : List LocatedLine → Tokens → Tokens → Bool

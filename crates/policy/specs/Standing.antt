@@ -1,8 +1,8 @@
 -- How a reader stands of whom nothing holds.
-use Rattle.std.specs.Prelude.{ℕ, [], false, None}
+use Rattle.std.specs.Prelude.{ℕ, pos, [], false, None}
 use Rattle.policy.specs.declared.standing.Standing.{Standing}
 
--- the person and its organisation, by their numbers
+-- the person and its organisation, by their numbers, at the beginning of 1970
 abbrev pub stranger : ℕ → ℕ → Standing
 stranger who org = record {
   source = false;
@@ -18,4 +18,5 @@ stranger who org = record {
   groups = [];
   active_groups = [];
   communities = [];
+  now = pos 0;
 }

@@ -4,12 +4,12 @@ use Rattle.std.specs.Prelude.{Bool, ◌&&◌, ◌||◌, List, [], ◌∷◌, fil
 use Rattle.std.specs.List.{filter_map, flat_map, list_any}
 use Rattle.iodef_tree.specs.Text.{Tokens, same_path, prefixes}
 use Rattle.iodef_tree.specs.Paths.{LocatedLine}
-use Rattle.marking.specs.Label.{Marking, handling_of, is_at_most}
+use Rattle.marking.specs.Label.{LabelValue, handling_of, is_at_most}
 use Rattle.marking.specs.Marks.{label_at}
 use Rattle.marking.specs.declared.label.Handling.{Handling}
 use Rattle.marking.specs.declared.label.Handling.TheVariants.{Clear, Green, Amber, Strict, Red}
 use Rattle.policy.specs.Clearance.{clearance_of}
-use Rattle.policy.specs.Gates.{passage_of}
+use Rattle.policy.specs.Gates.{refusal_of_gate}
 use Rattle.policy.specs.Permissions.{covers}
 use Rattle.policy.specs.declared.rule.Rule.{Rule}
 use Rattle.policy.specs.declared.rule.Rule.TheVariants.{Src, X, HGreen, HAmber, HStrict, HRed}
@@ -24,18 +24,18 @@ first_of (x ∷ xs) = Some x
 
 -- the refusals of the gates at a path, in the order of the case
 abbrev pub refusals_at : Case → Standing → Tokens → List Rule
-refusals_at c s q = filter_map (passage_of s) (filter (λ g. same_path g.path q) c.gates)
+refusals_at c s q = filter_map (refusal_of_gate s) (filter (λ g. same_path g.path q) c.gates)
 
 -- of the gates at the prefixes of a path, the refusal of the one with the shortest path; of equal paths the first's
 abbrev pub refusal_at : Case → Standing → Tokens → Option Rule
 refusal_at c s p = first_of (flat_map (refusals_at c s) (prefixes p))
 
 -- how what stands under a label is to be handled, with what the source arranged with the reader's organisation
-abbrev pub handling_for : Standing → Marking → Handling
+abbrev pub handling_for : Standing → LabelValue → Handling
 handling_for s l = handling_of l s.arrangement
 
 -- the reader is cleared for what stands under a label
-abbrev pub is_cleared_for : Standing → Marking → Bool
+abbrev pub is_cleared_for : Standing → LabelValue → Bool
 is_cleared_for s l = is_at_most (handling_for s l) (clearance_of s).0
 
 -- some permission covers the class at p for the reader
@@ -47,7 +47,7 @@ is_covered es c s p = list_any (covers es s p) c.permissions
 abbrev pub is_visible : List LocatedLine → Case → Standing → Tokens → Bool
 is_visible es c s p = s.source || (is_none (refusal_at c s p) && (is_cleared_for s (label_at es p) || is_covered es c s p))
 
-abbrev pub showing_rule : Standing → Marking → Rule
+abbrev pub showing_rule : Standing → LabelValue → Rule
 showing_rule s l = if s.source then Src else if is_cleared_for s l then (clearance_of s).1 else X
 
 -- CLEAR hides nothing, as everybody is cleared for it

@@ -34,7 +34,7 @@ impl<'a> Ahead<'a> {
         case: &'a Case,
         standing: &Standing,
     ) -> Result<Ahead<'a>, AllocError>
-        ensures { IfOk result (λ a. met_by a ≡ ahead_of case.now standing.now []) }
+        ensures { IfOk result (λ a. met_by a ≡ ahead_of case.now standing.entry.now []) }
     {
         let refusing = refusing(alloc, case, standing)?;
         let granting = granting(alloc, case, standing)?;
@@ -106,7 +106,7 @@ fn refusing<'a>(
     case: &'a Case,
     standing: &Standing,
 ) -> Result<Vec<Refusing<'a>>, AllocError>
-    ensures { IfOk result (λ v. (z : Tokens) → refused_with v.items z ≡ refusals_at case.now standing.now z) }
+    ensures { IfOk result (λ v. (z : Tokens) → refused_with v.items z ≡ refusals_at case.now standing.entry.now z) }
 {
     let mut refusing = Vec::new(alloc);
     for gate in case.gates.as_slice() {
@@ -123,7 +123,7 @@ fn granting<'a>(
     case: &'a Case,
     standing: &Standing,
 ) -> Result<Vec<Granting<'a>>, AllocError>
-    ensures { IfOk result (λ v. (z : Tokens) → granted_with v.items z ≡ is_granted case.now standing.now z) }
+    ensures { IfOk result (λ v. (z : Tokens) → granted_with v.items z ≡ is_granted case.now standing.entry.now z) }
 {
     let mut granting = Vec::new(alloc);
     for permission in case.permissions.as_slice() {

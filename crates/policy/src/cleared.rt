@@ -8,7 +8,7 @@ use marking::Handling;
 
 /// The strictest handling that the reader is cleared for, and the rule by which it is. Takes no memory.
 pub fn clearance(standing: &Standing) -> (Handling, Rule)
-    ensures { result ≡ clearance_of standing.now }
+    ensures { result ≡ clearance_of standing.entry.now }
 {
     if standing.person {
         return (Handling::Red, Rule::P);

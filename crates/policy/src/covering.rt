@@ -12,8 +12,8 @@ use iodef_tree::{Document, Path, Text};
 use marking::written_at;
 use std::alloc::{AllocError, Global};
 
-/// Whether the permission covers the class at the path for the reader: it includes the reader, stands at the path or
-/// above, and below it down to the path no label is written (RFC 7970 section 3.3.1).
+/// Whether the permission covers the class at the path for the reader: it includes the reader, hasn't ended, stands at
+/// the path or above, and below it down to the path no label is written (RFC 7970 section 3.3.1).
 pub fn covers(
     alloc: Global,
     document: &Document,
@@ -21,7 +21,7 @@ pub fn covers(
     path: &Path,
     permission: &Permission,
 ) -> Result<bool, AllocError>
-    ensures { IfOk result (λ b. b ≡ is_covering (located document.now) standing.now path.now permission.now) }
+    ensures { IfOk result (λ b. b ≡ is_covering (located document.now) standing.entry.now path.now permission.now) }
 {
     if !holds_for(standing, permission) {
         return Ok(false);

@@ -26,7 +26,7 @@ pub fn decide(
     path: &Path,
 ) -> Result<Verdict, DecideFault>
     requires { first_bad_marking (located document.now) ≡ None }
-    ensures { Decides result (located document.now) case.now standing.now path.now }
+    ensures { Decides result (located document.now) case.now standing.entry.now path.now }
 {
     if !document.has_class(path) {
         return Err(DecideFault::NoClass);
@@ -43,7 +43,7 @@ fn said_at<'a>(
     standing: &Standing,
     path: &Path,
 ) -> Result<Carried<'a>, AllocError>
-    ensures { IfOk result (λ h. carried path.now h ≡ inherited_at (located document.now) case.now standing.now path.now) }
+    ensures { IfOk result (λ h. carried path.now h ≡ inherited_at (located document.now) case.now standing.entry.now path.now) }
 {
     let tokens = path.tokens();
     let mut ahead = Ahead::at_root(alloc, case, standing)?;

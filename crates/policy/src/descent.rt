@@ -7,7 +7,7 @@ ghost use Rattle.iodef_tree.specs.Text.{Bytes, Tokens, same_path};
 ghost use Rattle.iodef_tree.specs.declared.line.Line.{Line};
 ghost use Rattle.marking.specs.Marks.{incident_path};
 ghost use Rattle.policy.specs.Ahead.{ahead_of, met_by};
-ghost use Rattle.policy.specs.Descent.{Reaches};
+ghost use Rattle.policy.specs.inner.Descent.{Reaches};
 ghost use Rattle.policy.specs.declared.standing.Standing.{Standing as TheStanding};
 ghost use Rattle.policy.specs.declared.case.Case.{Case as TheCase};
 

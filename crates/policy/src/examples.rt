@@ -2,7 +2,7 @@
 //! here, with no program between. Each is the contract of a function that does nothing.
 #![tactic(auto, unfolding(crate::proofs::Computed::computed))]
 
-ghost use Rattle.policy.specs.Examples.{StandingsAreCleared, LevelsLetPass, GroupsLetPass, GranteesInclude, ColoursAreForTheCleared, ArrangementsHandleDefault, DeeperGateRefuses, RootGateRefuses, PermissionReachesDown, PermissionStopsAtGate};
+ghost use Rattle.policy.specs.Examples.{StandingsAreCleared, LevelsLetPass, GroupsLetPass, GranteesInclude, ColoursAreForTheCleared, ArrangementsHandleDefault, DeeperGateRefuses, RootGateRefuses, PermissionReachesDown, PermissionEnds, MomentsAreRead, PermissionStopsAtGate};
 
 /// Each way of standing has its clearance, and the strictest of several holds.
 pub fn standings_are_cleared()
@@ -47,6 +47,16 @@ pub fn root_gate_refuses()
 /// A permission reaches down to the next written label, and not up.
 pub fn permission_reaches_down()
     ensures { PermissionReachesDown }
+{}
+
+/// A permission up to a moment covers before it alone.
+pub fn permission_ends()
+    ensures { PermissionEnds }
+{}
+
+/// The examples of RFC 3339 section 5.8, and what else says a moment or none.
+pub fn moments_are_read()
+    ensures { MomentsAreRead }
 {}
 
 /// A permission opens no gate.

@@ -1,4 +1,4 @@
-//! Why a path has no verdict.
+//! Why a path has no verdict, and a text no moment.
 use std::alloc::AllocError;
 use thiserror::Error;
 
@@ -8,6 +8,16 @@ pub enum DecideFault {
     /// There is no class at the path; the root is none.
     #[error("there is no class at the path")]
     NoClass,
+    #[error("no memory")]
+    NoMemory,
+}
+
+/// Why a text has no moment.
+#[derive(Clone, Copy, Debug, Error)]
+pub enum MomentFault {
+    /// It says none, or one that is no whole second.
+    #[error("bad moment")]
+    BadMoment,
     #[error("no memory")]
     NoMemory,
 }

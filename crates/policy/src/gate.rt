@@ -2,7 +2,7 @@
 
 ghost use Rattle.std.specs.Prelude.{◌≡◌};
 ghost use Rattle.std.specs.Result.{result_err};
-ghost use Rattle.policy.specs.Gates.{passage_of, group_passage, refused_unless};
+ghost use Rattle.policy.specs.Gates.{refusal_of_gate, group_passage, refused_unless};
 
 use crate::rule::Rule;
 use crate::standing::Standing;
@@ -60,7 +60,7 @@ impl Gates {
 /// membership first and then whether the group is active; without a group it is refused as one of whose group the reader's
 /// organisation is no member. A level above 5 counts as 0. Takes no memory.
 pub fn passes(standing: &Standing, gate: &Gate) -> Result<(), Rule>
-    ensures { result_err result ≡ passage_of standing.now gate.now }
+    ensures { result_err result ≡ refusal_of_gate standing.entry.now gate.now }
 {
     match gate.level {
         1 => unless(Rule::G1, standing.community),
@@ -78,7 +78,7 @@ fn unless(rule: Rule, may_pass: bool) -> Result<(), Rule>
 }
 
 fn passes_group(standing: &Standing, group: Option<u32>) -> Result<(), Rule>
-    ensures { result_err result ≡ group_passage standing.now group }
+    ensures { result_err result ≡ group_passage standing.entry.now group }
 {
     match group {
         None => Err(Rule::G4),

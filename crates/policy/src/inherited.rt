@@ -72,7 +72,7 @@ impl<'a> Carried<'a> {
 
     /// Whether the reader sees the class here.
     pub fn is_seen(self, standing: &Standing) -> bool
-        ensures { result ≡ is_seen_by standing.now (carried [] self.entry) }
+        ensures { result ≡ is_seen_by standing.entry.now (carried [] self.entry) }
     {
         standing.source
             || (self.refusal.is_none() && (is_cleared(standing, self.label) || self.covered))
@@ -80,7 +80,7 @@ impl<'a> Carried<'a> {
 
     /// The verdict of the class here.
     pub fn verdict(self, standing: &Standing) -> Verdict
-        ensures { result ≡ verdict_by standing.now (carried [] self.entry) }
+        ensures { result ≡ verdict_by standing.entry.now (carried [] self.entry) }
     {
         if self.is_seen(standing) {
             Verdict::Shown(shown_by(standing, self.label))
@@ -91,7 +91,7 @@ impl<'a> Carried<'a> {
 
     /// The rule that hides the class here, where it isn't seen.
     pub fn hiding_rule(self, standing: &Standing) -> Rule
-        ensures { result ≡ hides_at standing.now (carried [] self.entry) }
+        ensures { result ≡ hides_at standing.entry.now (carried [] self.entry) }
     {
         match self.refusal {
             Some(rule) => rule,
@@ -101,19 +101,19 @@ impl<'a> Carried<'a> {
 }
 
 fn handling(standing: &Standing, label: Label) -> Handling
-    ensures { result ≡ handling_for standing.now (marking_of label.entry) }
+    ensures { result ≡ handling_for standing.entry.now (marking_of label.entry) }
 {
     label.handling(standing.arrangement)
 }
 
 fn is_cleared(standing: &Standing, label: Label) -> bool
-    ensures { result ≡ is_cleared_for standing.now (marking_of label.entry) }
+    ensures { result ≡ is_cleared_for standing.entry.now (marking_of label.entry) }
 {
     handling(standing, label).is_at_most(clearance(standing).0)
 }
 
 fn shown_by(standing: &Standing, label: Label) -> Rule
-    ensures { result ≡ showing_rule standing.now (marking_of label.entry) }
+    ensures { result ≡ showing_rule standing.entry.now (marking_of label.entry) }
 {
     if standing.source {
         Rule::Src

@@ -1,7 +1,7 @@
 //! What the policy promises whatever the document, the case and the reader are. Each law is the contract of a function
 //! that does nothing.
 
-ghost use Rattle.policy.specs.Laws.{SourceSeesAll, UnrefusedPassesGates, VisiblePassesGates, RefusalIsNearest, PermissionHidesNothing, PermissionOpensNoGate, RaisedIsClearedForMore, RaisedSeesNoLess, ClearIsNeverHidden, ClearanceIsStrictest, RootIsAsSaid, ClassIsAsSaid, ArrayIsAsSaid};
+ghost use Rattle.policy.specs.Laws.{SourceSeesAll, UnrefusedPassesGates, VisiblePassesGates, RefusalIsNearest, PermissionHidesNothing, PermissionOpensNoGate, EndedCountsForNothing, EndlessAtAnyMoment, LaterSeesNoMore, RaisedIsClearedForMore, RaisedSeesNoLess, ClearIsNeverHidden, ClearanceIsStrictest, RootIsAsSaid, ClassIsAsSaid, ArrayIsAsSaid};
 
 /// A reader of the source sees every class.
 pub fn source_sees_all()
@@ -23,7 +23,7 @@ pub fn refusal_is_nearest()
     ensures { RefusalIsNearest }
 {}
 
-/// Adding a permission never hides a class.
+/// At one moment, adding a permission never hides a class.
 pub fn permission_hides_nothing()
     ensures { PermissionHidesNothing }
 {}
@@ -31,6 +31,21 @@ pub fn permission_hides_nothing()
 /// Adding a permission opens no gate: whom a gate keeps out, it keeps out by the same rule.
 pub fn permission_opens_no_gate()
     ensures { PermissionOpensNoGate }
+{}
+
+/// A permission that has ended counts for nothing: the verdict is that of the case without it.
+pub fn ended_counts_for_nothing()
+    ensures { EndedCountsForNothing }
+{}
+
+/// Where no permission ends, the verdict is the same at any moment.
+pub fn endless_at_any_moment()
+    ensures { EndlessAtAnyMoment }
+{}
+
+/// As time goes on, no class comes into view.
+pub fn later_sees_no_more()
+    ensures { LaterSeesNoMore }
 {}
 
 /// A reader that is addressed, nominated, a client's or in the community as well is cleared for no less.

@@ -12,6 +12,7 @@
 //! - `covering`: [`covers`], whether one permission covers one class;
 //! - `deciding`: [`decide`], the [`Verdict`] of one class (`verdict`), by a walk from the root (`descent`); `fault`: why
 //!   there is none;
+//! - `moment`: [`read_moment`], when a permission ends, of a text;
 //! - for passes over a whole document: `inherited`, [`Carried`], what is handed down; `ahead`, [`Ahead`], the gates and
 //!   permissions that can still be met (`onward`); `spot`, where a pass is;
 //! - [`laws`]: what the policy promises of every document, case and reader; [`examples`], the definitions computed on small
@@ -29,6 +30,7 @@ mod fault;
 mod gate;
 mod inherited;
 pub mod laws;
+mod moment;
 mod numbers;
 mod onward;
 mod permission;
@@ -42,11 +44,12 @@ pub use case::Case;
 pub use cleared::clearance;
 pub use covering::covers;
 pub use deciding::decide;
-pub use fault::DecideFault;
+pub use fault::{DecideFault, MomentFault};
 pub use gate::{Gate, Gates, passes};
 pub use inherited::Carried;
+pub use moment::read_moment;
 pub use numbers::Numbers;
-pub use permission::{Grantee, Permission, Permissions, includes};
+pub use permission::{Grantee, Permission, Permissions, holds_for, includes};
 pub use rule::Rule;
 pub use spot::Spot;
 pub use standing::Standing;

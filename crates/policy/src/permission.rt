@@ -1,7 +1,8 @@
-//! Permissions: the source lets more readers see a class, and what is below it down to the next written label.
+//! Permissions: the source lets more readers see a class, and what is below it down to the next written label, for ever or
+//! up to a moment.
 
 ghost use Rattle.std.specs.Prelude.{◌≡◌};
-ghost use Rattle.policy.specs.Permissions.{includes as is_included, holds_for as holds_for_reader};
+ghost use Rattle.policy.specs.Permissions.{includes as is_included, is_before as is_before_end, holds_for as holds_for_reader};
 
 use crate::standing::Standing;
 use iodef_tree::Path;
@@ -21,6 +22,9 @@ pub enum Grantee {
 pub struct Permission {
     pub path: Path,
     pub grantee: Grantee,
+    /// When it ends, in seconds since the beginning of 1970 (UTC): from this moment on it covers nothing. None: it has no
+    /// end.
+    pub until: Option<i64>,
 }
 
 /// The permissions of an incident, which contracts see as a list.
@@ -63,7 +67,7 @@ impl Permissions {
 /// Whether the grantee includes the reader: it is the reader, its organisation, a community of its organisation, or a group
 /// of which its organisation is a member and which is active. Takes no memory.
 pub fn includes(standing: &Standing, grantee: &Grantee) -> bool
-    ensures { result ≡ is_included standing.now grantee.now }
+    ensures { result ≡ is_included standing.entry.now grantee.now }
 {
     match grantee {
         Grantee::Person(number) => standing.who == *number,
@@ -75,9 +79,19 @@ pub fn includes(standing: &Standing, grantee: &Grantee) -> bool
     }
 }
 
-/// Whether the permission holds for the reader, wherever it stands.
-pub(crate) fn holds_for(standing: &Standing, permission: &Permission) -> bool
-    ensures { result ≡ holds_for_reader standing.now permission.now }
+/// Whether the permission holds for the reader, wherever it stands: it includes the reader, and hasn't ended. Takes no memory.
+pub fn holds_for(standing: &Standing, permission: &Permission) -> bool
+    ensures { result ≡ holds_for_reader standing.entry.now permission.now }
 {
-    includes(standing, &permission.grantee)
+    includes(standing, &permission.grantee) && is_before(standing.now, permission.until)
+}
+
+/// Whether the end is still to come at this moment, or there is none.
+fn is_before(now: i64, until: Option<i64>) -> bool
+    ensures { result ≡ is_before_end now until }
+{
+    match until {
+        None => true,
+        Some(end) => now < end,
+    }
 }

@@ -35,10 +35,13 @@ pub struct Standing {
     pub active_groups: Numbers,
     /// The communities of which the reader's organisation is a member.
     pub communities: Numbers,
+    /// The moment, in seconds since the beginning of 1970 (UTC).
+    pub now: i64,
 }
 
 impl Standing {
-    /// The reader of this number and of the organisation of that number, of whom nothing else holds. Takes no memory.
+    /// The reader of this number and of the organisation of that number, of whom nothing else holds, at the beginning of
+    /// 1970. Takes no memory.
     pub fn stranger(alloc: Global, who: u32, org: u32) -> Standing
         ensures { result ≡ stranger who org }
     {
@@ -56,6 +59,7 @@ impl Standing {
             groups: Numbers::new(Vec::new(alloc)),
             active_groups: Numbers::new(Vec::new(alloc)),
             communities: Numbers::new(Vec::new(alloc)),
+            now: 0,
         }
     }
 }

@@ -6,7 +6,7 @@ use crate::served::SOURCE;
 use crate::verdicts::{cleared, given_back, groups_given_back, passed};
 use iodef_tree::Path;
 use marking::is_incident;
-use policy::{Gate, Standing, includes};
+use policy::{Gate, MomentFault, Standing, includes, read_moment};
 use std::alloc::Global;
 use trying_policy::{
     Unfit, arranged_of, case_of, grantee_of, handling_of, passage_of, said, standing_of,
@@ -54,6 +54,15 @@ fn numbers(alloc: Global, standing: &str) -> Result<String, Unfit> {
     Ok(groups_given_back(alloc, standing)?)
 }
 
+/// The moment that the text says.
+fn moment(alloc: Global, text: &str) -> Result<String, Unfit> {
+    match read_moment(text) {
+        Ok(seconds) => Ok(format!(in alloc; "{seconds}")?),
+        Err(MomentFault::BadMoment) => said(alloc, "BadMoment"),
+        Err(MomentFault::NoMemory) => Err(Unfit::NoMemory),
+    }
+}
+
 /// The answer of a line that asks of a reader.
 fn answer_of_reader(alloc: Global, line: &Line<'_>) -> Result<String, Unfit> {
     let standing = standing_of(alloc, line.first)?;
@@ -73,6 +82,7 @@ pub fn answer_alone(alloc: Global, line: &Line<'_>) -> Result<String, Unfit> {
         "incident" => truth(alloc, is_incident(line.first, line.second)),
         "lists" => lists(alloc, line.first, line.second),
         "numbers" => numbers(alloc, line.first),
+        "moment" => moment(alloc, line.first),
         _ => answer_of_reader(alloc, line),
     }
 }

@@ -24,6 +24,7 @@
 //!     seek|STANDING|GATES|PERMISSIONS|LINES|NEEDLE    the same of a needle
 //!     lists|GATES|PERMISSIONS               the gates and permissions that a case gives back
 //!     numbers|STANDING                      the groups that the reader's standing gives back
+//!     moment|TEXT                           the moment that the text says
 //!
 //! `words` of `trying_policy` tells how standings, gates, permissions and grantees are written. Lines that begin with # are
 //! headings, which are printed as they are; empty lines are skipped.

@@ -19,7 +19,7 @@ pub struct Line<'a> {
 fn words_of(kind: &str) -> Option<(usize, usize)> {
     match kind {
         "marks" => Some((0, 0)),
-        "report" | "site" | "clearance" | "numbers" => Some((1, 1)),
+        "report" | "site" | "clearance" | "numbers" | "moment" => Some((1, 1)),
         "order" | "incident" | "gate" | "grantee" | "lists" => Some((2, 2)),
         "label" => Some((2, 3)),
         "excerpt" | "listed" => Some((3, 3)),

@@ -9,7 +9,7 @@ use Rattle.iodef_tree.specs.declared.line.Line.{Line}
 use Rattle.iodef_tree.specs.declared.line.Kind.{Kind}
 use Rattle.iodef_tree.specs.declared.line.Kind.TheVariants as kind
 use Rattle.iodef_tree.proofs.Order.{same_path-true}
-use Rattle.redact.specs.Kept.{Verdicts, is_frame, is_wholly_hidden, is_visible_class, is_kept, put_all, attribute_lines, added, labelled, kept}
+use Rattle.redact.specs.Kept.{Verdicts, is_frame, is_wholly_hidden, is_visible_class, is_kept, put_all, attribute_lines, added_label_lines, with_added_labels, kept_lines}
 use Rattle.redact.specs.Withheld.{class_places, place_by, told_at_place, withheld_at, withheld_pairs}
 use Rattle.redact.specs.Told.{is_text_kind, has_needle, is_named, is_hit}
 use Rattle.redact.specs.Alike.{class_path, by_class}
@@ -35,15 +35,15 @@ put_up [] = []
 put_up (x ∷ xs) = x.0 ∷ put_all x.1 (put_up xs)
 
 abbrev part : Verdicts → LocatedLine → List (Line × List Line)
-part v e = if is_kept v e then (e.line, added v e) ∷ [] else []
+part v e = if is_kept v e then (e.line, added_label_lines v e) ∷ [] else []
 
-kept-parts : (v : Verdicts) (es : List LocatedLine) → kept v es ≡ put_up (flat_map (part v) es)
+kept-parts : (v : Verdicts) (es : List LocatedLine) → kept_lines v es ≡ put_up (flat_map (part v) es)
 kept-parts v [] = refl
 kept-parts v (e ∷ es) = by_test (is_kept v e) (kept-parts v es)
   where
-    by_test : (b : Bool) → kept v es ≡ put_up (flat_map (part v) es) →
-        labelled v (if b then e ∷ filter (is_kept v) es else filter (is_kept v) es) ≡ put_up ((if b then (e.line, added v e) ∷ [] else []) ++ flat_map (part v) es)
-    by_test true ih = ap (λ xs. e.line ∷ put_all (added v e) xs) ih
+    by_test : (b : Bool) → kept_lines v es ≡ put_up (flat_map (part v) es) →
+        with_added_labels v (if b then e ∷ filter (is_kept v) es else filter (is_kept v) es) ≡ put_up ((if b then (e.line, added_label_lines v e) ∷ [] else []) ++ flat_map (part v) es)
+    by_test true ih = ap (λ xs. e.line ∷ put_all (added_label_lines v e) xs) ih
     by_test false ih = ih
 
 -- a visible class
@@ -60,7 +60,7 @@ module _ (v : Verdicts) where
       by_kind true = refl
       by_kind false = refl
 
-  added-class : (e : LocatedLine) → added v (by_class e) ≡ added v e
+  added-class : (e : LocatedLine) → added_label_lines v (by_class e) ≡ added_label_lines v e
   added-class e = by_kind (is_class e)
     where
       by_kind : (b : Bool) →
@@ -70,7 +70,7 @@ module _ (v : Verdicts) where
       by_kind false = refl
 
   part-class : (e : LocatedLine) → part v (by_class e) ≡ part v e
-  part-class e = ap (λ b. if b then (e.line, added v (by_class e)) ∷ [] else []) (is_kept-class e) ∙ ap (λ xs. if is_kept v e then (e.line, xs) ∷ [] else []) (added-class e)
+  part-class e = ap (λ b. if b then (e.line, added_label_lines v (by_class e)) ∷ [] else []) (is_kept-class e) ∙ ap (λ xs. if is_kept v e then (e.line, xs) ∷ [] else []) (added-class e)
 
   pub seen-class : (e : LocatedLine) → seen v (by_class e) ≡ seen v e
   seen-class e = by_kind (is_class e)
@@ -99,7 +99,7 @@ module _ (off : Tokens → Bool) (v v' : Verdicts) (ok : Agree off v v') where
       by_kind true h = ap (λ b. b || is_frame v e.path) (ok.visible e.path h) ∙ ap (λ b. v'.visible e.path || b) (frame-same e.path h)
       by_kind false h = ap (λ b. is_root e.parent || b) (ok.visible e.parent h)
 
-  added-same : (e : LocatedLine) → off (class_path e) ≡ true → off e.parent ≡ true → added v e ≡ added v' e
+  added-same : (e : LocatedLine) → off (class_path e) ≡ true → off e.parent ≡ true → added_label_lines v e ≡ added_label_lines v' e
   added-same e h k = by_kind (is_class e) h
     where
       by_kind : (b : Bool) → off (if b then e.path else e.parent) ≡ true →
@@ -113,7 +113,7 @@ module _ (off : Tokens → Bool) (v v' : Verdicts) (ok : Agree off v v') where
       by_kind false h = refl
 
   part-same : (e : LocatedLine) → off (class_path e) ≡ true → off e.parent ≡ true → part v e ≡ part v' e
-  part-same e h k = ap (λ b. if b then (e.line, added v e) ∷ [] else []) (kept-same e h) ∙ ap (λ xs. if is_kept v' e then (e.line, xs) ∷ [] else []) (added-same e h k)
+  part-same e h k = ap (λ b. if b then (e.line, added_label_lines v e) ∷ [] else []) (kept-same e h) ∙ ap (λ xs. if is_kept v' e then (e.line, xs) ∷ [] else []) (added-same e h k)
 
 -- a text of a visible class is kept
 abbrev text_of : Bytes → Tokens → LocatedLine → Bool
@@ -157,7 +157,7 @@ abbrev pub searched : Verdicts → List LocatedLine → Bytes → Option Bytes �
 searched v es needle name e = seen v e && (is_named name e.line.name && list_any (λ x. same_path x.parent e.path && is_hit needle x.line) es)
 
 module _ (w : Worlds) where
-  pub outline-same : kept w.v w.es ≡ kept w.v' w.es'
+  pub outline-same : kept_lines w.v w.es ≡ kept_lines w.v' w.es'
   outline-same =
       kept-parts w.v w.es
       ∙ ap put_up (same_flat (part w.v) (part w.v') w.keep w.es w.es' w.lines
@@ -256,7 +256,7 @@ withheld-class v at e = by_kind (is_class e)
 module _ (w : Worlds) (all : (p : Tokens) → w.off p ≡ true) (plain : (e : LocatedLine) → w.keep e ≡ false → is_class e ≡ false) where
   places-same : class_places w.v w.es ≡ class_places w.v' w.es'
   places-same =
-      ap (λ xs. zip xs (classes_of (kept w.v w.es)))
+      ap (λ xs. zip xs (classes_of (kept_lines w.v w.es)))
       (paths-spots (is_kept w.v) w.es
       ∙ same_flat (spots (is_kept w.v)) (spots (is_kept w.v')) w.keep w.es w.es' w.lines
       (each (λ e. w.keep e ≡ false → spots (is_kept w.v) e ≡ []) (λ e k. cond-false (is_class e && is_kept w.v e) _ _ (and_left (is_class e) (is_kept w.v e) (plain e k))) w.es)

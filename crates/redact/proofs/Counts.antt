@@ -11,7 +11,7 @@ use Rattle.iodef_tree.specs.Texts.{HasTexts, may_be_text}
 use Rattle.iodef_tree.specs.declared.line.Line.{Line}
 use Rattle.marking.proofs.Bad.{no_class-kind}
 use Rattle.redact.specs.Kept.{Verdicts, Attribute}
-use Rattle.redact.specs.Judged.{judge, visible_classes, judgment_at, Home, inside, keeps_plain, shows_label, left_before, new_place, left_with, moved, is_end, put_leaf, attribute_leaf, put_attributes, with_label, cut}
+use Rattle.redact.specs.inner.Judged.{judge, visible_classes, judgment_at, Surrounding, inside, keeps_plain, shows_label, left_before, new_place, left_with, moved, is_end, put_leaf, attribute_leaf, put_attributes, with_label, cut}
 use Rattle.redact.proofs.Keeping.{is_seen, leaf_line-moved, class_line-moved}
 use Rattle.redact.proofs.Fates.{by_fate, put-keeps}
 
@@ -139,7 +139,7 @@ within-label true (a ∷ label) f names =
 
 -- ---- the pass
 
-pub within-cut : (v : Verdicts) → ((p : Tokens) → AreLabelNames (v.label p)) → (f : Forest) (h : Home) (p : Tokens) (n : ℕ) → IsWithin f (cut h n (judge v p f))
+pub within-cut : (v : Verdicts) → ((p : Tokens) → AreLabelNames (v.label p)) → (f : Forest) (h : Surrounding) (p : Tokens) (n : ℕ) → IsWithin f (cut h n (judge v p f))
 within-cut v names end h p n = within-self end
 within-cut v names (leaf i rest) h p n =
     cond_both (keeps_plain h) _ _ (IsWithin (leaf i rest))

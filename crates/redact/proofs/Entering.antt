@@ -8,18 +8,18 @@ use Rattle.iodef_tree.specs.Text.{Bytes, Tokens}
 use Rattle.iodef_tree.specs.Tree.{Forest, Body, holds}
 use Rattle.iodef_tree.specs.View.{forest, body}
 use Rattle.iodef_tree.proofs.Views.{body-Class}
-use Rattle.marking.specs.Label.{Marking}
+use Rattle.marking.specs.Label.{LabelValue}
 use Rattle.marking.specs.Members.{spelled_in}
 use Rattle.policy.specs.Inherited.{class_step, enter_class}
 use Rattle.policy.specs.declared.case.Case.{Case}
 use Rattle.policy.specs.declared.inherited.Carried.{Carried}
 use Rattle.policy.specs.declared.standing.Standing.{Standing}
-use Rattle.redact.specs.Here.{carries}
-use Rattle.redact.specs.Judged.{Home}
-use Rattle.redact.specs.Left.{Goes, class_left, class_told, class_count, left_at, told_at, count_at}
-use Rattle.redact.specs.Pass.{pass, judgment_by}
-use Rattle.redact.specs.Search.{class_hits, found, found_at}
-use Rattle.redact.specs.Tokens.{token_of, path_of}
+use Rattle.redact.specs.inner.Here.{carries}
+use Rattle.redact.specs.inner.Judged.{Surrounding}
+use Rattle.redact.specs.inner.Left.{Goes, class_left, class_told, class_count, left_at, told_at, count_at}
+use Rattle.redact.specs.inner.Pass.{pass, judgment_by}
+use Rattle.redact.specs.inner.Search.{class_hits, found, found_at}
+use Rattle.redact.specs.inner.Tokens.{token_of, path_of}
 use Rattle.redact.specs.declared.pass.State.{State}
 use Rattle.redact.specs.declared.trail.Token.{Token}
 
@@ -32,7 +32,7 @@ popped : (ks : List Token) (k : Token) (n : ℕ) (old new : List Token) → old 
 popped ks k n old new e l rest = rest ∙ ap (λ m. take m old) (omega (arith, l, ap length e, length-append ks (k ∷ []))) ∙ ap (take (length ks)) e ∙ take-append_seam ks (k ∷ [])
 
 -- a pass steps from p, where it carries h, to the class o at p1, its trail, and carries this there
-module _ (C : Case) (S : Standing) (p p1 trail : List Token) (h at : Carried) (k : Token) (it : Item) (o : Object) (written : Option Marking)
+module _ (C : Case) (S : Standing) (p p1 trail : List Token) (h at : Carried) (k : Token) (it : Item) (o : Object) (written : Option LabelValue)
     (is : it ≡ Class o) (further : p1 ≡ p ++ k ∷ []) (said : written ≡ spelled_in (forest o))
     (there : trail ≡ p1) (asked : carries trail at ≡ class_step C S (carries trail h) (path_of trail) written) where
   entered : enter_class C S (carries p h) (token_of k) (spelled_in (forest o)) ≡ carries p1 at
@@ -47,7 +47,7 @@ module _ (C : Case) (S : Standing) (p p1 trail : List Token) (h at : Carried) (k
       class_hits C S asked (carries p1 at) name (forest o) || found C S asked (carries p1 at) (forest o) ≡ found_at C S asked (carries p h) (token_of k) name (body it)
   class-found asked name = sym (by_body (found_at C S asked (carries p h) (token_of k) name) ∙ ap (λ i. class_hits C S asked i name (forest o) || found C S asked i (forest o)) entered)
 
-  pub class-left : (H : Home) (left : Option Object) (r : Option Item) → r ≡ option_map Class left →
+  pub class-left : (H : Surrounding) (left : Option Object) (r : Option Item) → r ≡ option_map Class left →
       option_map forest left ≡ class_left C S H (judgment_by C S (carries p1 at) (spelled_in (forest o))) (pass C S (carries p1 at) (forest o)) →
       option_map body r ≡ left_at C S H (carries p h) (token_of k) (body it)
   class-left H left r made e = ap (option_map body) made ∙ bodies-of left ∙ ap (option_map holds) e

@@ -2,7 +2,7 @@
 use Rattle.std.proofs.Common.{◌≡◌, ℕ, zero, suc, Some, Bool, true, false, not, refl, sym, subst, if◌then◌else◌, Option}
 use Rattle.iodef_tree.specs.Text.{Bytes, bytes_lt}
 use Rattle.iodef_tree.specs.Tree.{Leaf, Forest, end, leaf, branch}
-use Rattle.redact.specs.Judged.{left_before, new_place, put_leaf}
+use Rattle.redact.specs.inner.Judged.{left_before, new_place, put_leaf}
 
 -- ---- one sibling
 

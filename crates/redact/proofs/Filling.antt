@@ -7,10 +7,10 @@ use Rattle.iodef_tree.specs.Tree.{Leaf, Forest, leaf, Body, holds, says, Bodies,
 use Rattle.iodef_tree.specs.View.{forest, bodies, named, members_forest, forest_of_members}
 use Rattle.iodef_tree.specs.declared.object.Member.{Member}
 use Rattle.iodef_tree.specs.declared.object.Object.{Object}
-use Rattle.redact.specs.Judged.{put_leaf, attribute_leaf, is_end}
+use Rattle.redact.specs.inner.Judged.{put_leaf, attribute_leaf, is_end}
 use Rattle.iodef_tree.proofs.Filled.{has_elements, member-elements, members-filled}
 use Rattle.iodef_tree.proofs.Views.{forest-members}
-use Rattle.redact.specs.Saying.{saying}
+use Rattle.redact.specs.inner.Saying.{saying}
 
 put-front : (x : Leaf) (n : Bytes) (p : Option ℕ) (b : Body) (rest : Forest) →
     put_leaf x (in_front n p b rest) ≡ (if bytes_lt x.name n then leaf x (in_front n p b rest) else in_front n p b (put_leaf x rest))

@@ -8,17 +8,17 @@ use Rattle.iodef_tree.specs.declared.Text.{Text}
 use Rattle.iodef_tree.specs.declared.object.Object.{Object}
 use Rattle.iodef_tree.specs.declared.object.Member.{Member}
 use Rattle.iodef_tree.proofs.Views.{forest-members}
-use Rattle.marking.specs.Label.{Marking}
+use Rattle.marking.specs.Label.{LabelValue}
 use Rattle.marking.specs.Members.{spelled_in}
 use Rattle.policy.specs.Inherited.{Inherited, enter_array, enter_class, is_seen, hides}
 use Rattle.policy.specs.declared.rule.Rule.{Rule}
 use Rattle.policy.specs.declared.standing.Standing.{Standing}
 use Rattle.policy.specs.declared.case.Case.{Case}
 use Rattle.redact.specs.Withheld.{Withheld}
-use Rattle.redact.specs.Judged.{Home, inside, keeps_plain, left_before, new_place, left_with, moved, is_end, with_label, cut, visible_classes, told}
-use Rattle.redact.specs.Pass.{enter, judgment_by, pass}
+use Rattle.redact.specs.inner.Judged.{Surrounding, inside, keeps_plain, left_before, new_place, left_with, moved, is_end, with_label, cut, visible_classes, told}
+use Rattle.redact.specs.inner.Pass.{enter, judgment_by, pass}
 use Rattle.redact.proofs.Fates.{new_place-before}
-use Rattle.redact.specs.Left.{left_at, told_at, count_at, left_items, told_items, count_items, many_or_none, left_members, told_members, count_members}
+use Rattle.redact.specs.inner.Left.{left_at, told_at, count_at, left_items, told_items, count_items, many_or_none, left_members, told_members, count_members}
 
 -- what is left of some members, what is told of them, and how many classes they count
 pub record Outcome : Type 0 where
@@ -35,7 +35,7 @@ or_front (Some b) name place behind = in_front name place b behind
 abbrev joined : Option Body → Bytes → Option ℕ → List Withheld → ℕ → Outcome → Outcome
 joined o name place ts m behind = record { left = or_front o name place behind.left; pairs = ts ++ behind.pairs; classes = m + behind.classes }
 
-module _ (c : Case) (s : Standing) (h : Home) (a : Inherited) (q : Tokens) where
+module _ (c : Case) (s : Standing) (h : Surrounding) (a : Inherited) (q : Tokens) where
   -- what the pass makes of members
   abbrev pub made : ℕ → Forest → Outcome
   made n f = record { left = cut h n (pass c s a f); pairs = told h q n (pass c s a f); classes = visible_classes (pass c s a f) }
@@ -45,7 +45,7 @@ module _ (c : Case) (s : Standing) (h : Home) (a : Inherited) (q : Tokens) where
   passed n place o = if is_some o then left_with n place else left_before n place
 
   -- a sibling that is entered from the class or array at d by the token t
-  front : (d : Inherited) (t name : Bytes) (place : Option ℕ) → ((w : Option Marking) → enter c s a name place w ≡ enter_class c s d t w) → (n : ℕ) (b : Body) (rest : Forest) →
+  front : (d : Inherited) (t name : Bytes) (place : Option ℕ) → ((w : Option LabelValue) → enter c s a name place w ≡ enter_class c s d t w) → (n : ℕ) (b : Body) (rest : Forest) →
       let o = left_at c s h d t b in
       made n (in_front name place b rest)
       ≡ joined o name (new_place n place) (told_at c s d q (q ++ steps name (new_place n place)) t b) (count_at c s d t b) (made (passed n place o) rest)

@@ -7,8 +7,8 @@ use Rattle.iodef_tree.specs.Text.{Tokens}
 use Rattle.iodef_tree.proofs.Siblings.{all-append}
 use Rattle.policy.specs.declared.rule.Rule.{Rule}
 use Rattle.redact.specs.Withheld.{Withheld, same_withheld, is_among, with_rule, at_rule, at_place}
-use Rattle.redact.specs.Left.{tells, Goes, Leaves}
-use Rattle.redact.specs.Tokens.{path_of}
+use Rattle.redact.specs.inner.Left.{tells, Goes, Leaves}
+use Rattle.redact.specs.inner.Tokens.{path_of}
 use Rattle.redact.specs.declared.pass.State.{State}
 use Rattle.redact.proofs.Listing.{any-with}
 use Rattle.redact.proofs.Searching.{any_map}
@@ -39,38 +39,38 @@ dropped A G e = grind arith
 
 -- a class of which nothing is left tells its rule at the place of its parent
 told-gone : (q : Tokens) (a d : State) (rule : Rule) → d.withheld.items ≡ a.withheld.items →
-    ((test : Rule → Bool) → list_any test d.gone.items ≡ (list_any test a.gone.items || test rule)) →
+    ((test : Rule → Bool) → list_any test d.rules_met.items ≡ (list_any test a.rules_met.items || test rule)) →
     is_among (tells q d ++ []) ≡ is_among (tells q a ++ at_rule q rule ∷ [])
 told-gone q a d rule noted added = alike (tells q d ++ []) (tells q a ++ at_rule q rule ∷ []) (λ x.
     simp (append-nil, list_any-append, noted, any_map, added)
-    (dropped (is_among a.withheld.items x) (list_any (λ l. same_withheld x (at_rule q l)) a.gone.items) (same_withheld x (at_rule q rule))))
+    (dropped (is_among a.withheld.items x) (list_any (λ l. same_withheld x (at_rule q l)) a.rules_met.items) (same_withheld x (at_rule q rule))))
 
 -- b is a as its members begin, with none of them gone; k is where they are done; d is a with what they told
 module _ (q r : Tokens) (a b k d : State) (T : List Withheld)
-    (begins : b.withheld.items ≡ a.withheld.items) (bare : b.gone.items ≡ [])
+    (begins : b.withheld.items ≡ a.withheld.items) (bare : b.rules_met.items ≡ [])
     (below : is_among (tells r k ++ []) ≡ is_among (tells r b ++ T)) where
   -- a visible class
-  pub told-seen : d.withheld.items ≡ tells r k → d.gone.items ≡ a.gone.items → is_among (tells q d ++ []) ≡ is_among (tells q a ++ T)
+  pub told-seen : d.withheld.items ≡ tells r k → d.rules_met.items ≡ a.rules_met.items → is_among (tells q d ++ []) ≡ is_among (tells q a ++ T)
   told-seen noted kept = alike (tells q d ++ []) (tells q a ++ T) (λ x.
       let told = simp (append-nil, list_any-append, begins, bare) at (ap (λ (f : Withheld → Bool). f x) below) in
       simp (append-nil, list_any-append, noted, kept) (grind (arith, told)))
 
   -- a frame, which tells its own rule too
-  told-frame : (rule : Rule) (gs : List Rule) → ((test : Rule → Bool) → list_any test gs ≡ (list_any test k.gone.items || test rule)) →
-      d.withheld.items ≡ k.withheld.items ++ at_place r gs → d.gone.items ≡ a.gone.items →
+  told-frame : (rule : Rule) (gs : List Rule) → ((test : Rule → Bool) → list_any test gs ≡ (list_any test k.rules_met.items || test rule)) →
+      d.withheld.items ≡ k.withheld.items ++ at_place r gs → d.rules_met.items ≡ a.rules_met.items →
       is_among (tells q d ++ []) ≡ is_among (tells q a ++ at_rule r rule ∷ T)
   told-frame rule gs added noted kept = alike (tells q d ++ []) (tells q a ++ at_rule r rule ∷ T) (λ x.
       let told = simp (append-nil, list_any-append, begins, bare, any_map) at (ap (λ (f : Withheld → Bool). f x) below) in
-      simp (append-nil, list_any-append, noted, kept, any_map, added) (framed (is_among k.withheld.items x) (list_any (λ l. same_withheld x (at_rule r l)) k.gone.items)
-      (is_among a.withheld.items x) (list_any (λ l. same_withheld x (at_rule q l)) a.gone.items) (is_among T x) (same_withheld x (at_rule r rule)) told))
+      simp (append-nil, list_any-append, noted, kept, any_map, added) (framed (is_among k.withheld.items x) (list_any (λ l. same_withheld x (at_rule r l)) k.rules_met.items)
+      (is_among a.withheld.items x) (list_any (λ l. same_withheld x (at_rule q l)) a.rules_met.items) (is_among T x) (same_withheld x (at_rule r rule)) told))
 
   -- a class that isn't visible
-  pub told-hidden : (rule : Rule) (empty : Bool) → path_of k.place.items ≡ r → Leaves k d a.gone.items rule empty → (empty ≡ true → k.withheld.items ≡ a.withheld.items) →
+  pub told-hidden : (rule : Rule) (empty : Bool) → path_of k.place.items ≡ r → Leaves k d a.rules_met.items rule empty → (empty ≡ true → k.withheld.items ≡ a.withheld.items) →
       is_among (tells q d ++ []) ≡ is_among (tells q a ++ (if empty then at_rule q rule ∷ [] else at_rule r rule ∷ T))
-  told-hidden rule true here leaves quiet = told-gone q a d rule (leaves.withheld ∙ quiet refl) (λ test. ap (list_any test) leaves.gone ∙ any-with test a.gone.items rule)
+  told-hidden rule true here leaves quiet = told-gone q a d rule (leaves.withheld ∙ quiet refl) (λ test. ap (list_any test) leaves.gone ∙ any-with test a.rules_met.items rule)
   told-hidden rule false here leaves quiet =
-      told-frame rule (with_rule k.gone.items rule) (λ test. any-with test k.gone.items rule)
-      (leaves.withheld ∙ ap (λ p. k.withheld.items ++ at_place p (with_rule k.gone.items rule)) here) leaves.gone
+      told-frame rule (with_rule k.rules_met.items rule) (λ test. any-with test k.rules_met.items rule)
+      (leaves.withheld ∙ ap (λ p. k.withheld.items ++ at_place p (with_rule k.rules_met.items rule)) here) leaves.gone
 
 -- ---- a loop that pushes what is left, if something is
 

@@ -7,8 +7,8 @@ use Rattle.std.specs.Cmp.{IsTotalOrder}
 use Rattle.std.specs.Ordering.{ordering_reverse, is_eq}
 use Rattle.std.specs.declared.cmp.Ordering.{Ordering}
 use Rattle.std.specs.declared.cmp.Ordering.TheVariants.{Less, Equal, Greater}
-use Rattle.redact.specs.Ties.{withheld-ties}
-use Rattle.redact.specs.Withheld.{Withheld, withheld_cmp, is_among, noted_by, noted, in_order, Lists}
+use Rattle.redact.specs.inner.Ties.{withheld-ties}
+use Rattle.redact.specs.Withheld.{Withheld, withheld_cmp, is_among, insert_withheld_by, insert_withheld, in_order, Lists}
 use Rattle.redact.proofs.Listing.{withheld-total, withheld-same, among-contains}
 
 abbrev pub In : {X : Type 0} → List X → X → Type 0
@@ -64,25 +64,25 @@ module _ {X : Type 0} (R : X → X → Ordering) (o : IsTotalOrder R) where
 
 -- ---- putting in order
 
-all_noted_by : (P : Withheld → Type 0) (o : Ordering) (x y : Withheld) (ys rest : List Withheld) → P x → P y → AllByRecursion P ys → AllByRecursion P rest → AllByRecursion P (noted_by o x y ys rest)
+all_noted_by : (P : Withheld → Type 0) (o : Ordering) (x y : Withheld) (ys rest : List Withheld) → P x → P y → AllByRecursion P ys → AllByRecursion P rest → AllByRecursion P (insert_withheld_by o x y ys rest)
 all_noted_by P Less x y ys rest px py pys prest = (px, (py, pys))
 all_noted_by P Equal x y ys rest px py pys prest = (py, pys)
 all_noted_by P Greater x y ys rest px py pys prest = (py, prest)
 
-all_noted : (P : Withheld → Type 0) (x : Withheld) (ys : List Withheld) → P x → AllByRecursion P ys → AllByRecursion P (noted x ys)
+all_noted : (P : Withheld → Type 0) (x : Withheld) (ys : List Withheld) → P x → AllByRecursion P ys → AllByRecursion P (insert_withheld x ys)
 all_noted P x [] px h = (px, tt)
-all_noted P x (y ∷ ys) px h = all_noted_by P (withheld_cmp x y) x y ys (noted x ys) px h.0 h.1 (all_noted P x ys px h.1)
+all_noted P x (y ∷ ys) px h = all_noted_by P (withheld_cmp x y) x y ys (insert_withheld x ys) px h.0 h.1 (all_noted P x ys px h.1)
 
 above_all : (x y : Withheld) (ys : List Withheld) → withheld_cmp x y ≡ Less → AllByRecursion (λ z. withheld_cmp y z ≡ Less) ys → AllByRecursion (λ z. withheld_cmp x z ≡ Less) ys
 above_all x y [] up h = tt
 above_all x y (z ∷ zs) up h = (withheld-total.trans x y z up h.0, above_all x y zs up h.1)
 
-noted_sorted : (x : Withheld) (ys : List Withheld) → IsStrictlySortedBy withheld_cmp ys → IsStrictlySortedBy withheld_cmp (noted x ys)
+noted_sorted : (x : Withheld) (ys : List Withheld) → IsStrictlySortedBy withheld_cmp ys → IsStrictlySortedBy withheld_cmp (insert_withheld x ys)
 unfolding IsStrictlySortedBy
 noted_sorted x [] h = (tt, tt)
 noted_sorted x (y ∷ ys) h = by_case (withheld_cmp x y) refl (noted_sorted x ys h.1)
   where
-    by_case : (o : Ordering) → withheld_cmp x y ≡ o → IsStrictlySortedBy withheld_cmp (noted x ys) → IsStrictlySortedBy withheld_cmp (noted_by o x y ys (noted x ys))
+    by_case : (o : Ordering) → withheld_cmp x y ≡ o → IsStrictlySortedBy withheld_cmp (insert_withheld x ys) → IsStrictlySortedBy withheld_cmp (insert_withheld_by o x y ys (insert_withheld x ys))
     by_case Less is later = ((is, above_all x y ys is h.0), h)
     by_case Equal is later = h
     by_case Greater is later =
@@ -95,11 +95,11 @@ in_order_sorted [] = tt
 in_order_sorted (x ∷ xs) = noted_sorted x (in_order xs) (in_order_sorted xs)
 
 -- what is noted is the pair or was there
-noted_from : (x z : Withheld) (ys : List Withheld) → In (noted x ys) z → In (x ∷ ys) z
+noted_from : (x z : Withheld) (ys : List Withheld) → In (insert_withheld x ys) z → In (x ∷ ys) z
 noted_from x z [] h = h
 noted_from x z (y ∷ ys) h = by_case (withheld_cmp x y) h (noted_from x z ys)
   where
-    by_case : (o : Ordering) → In (noted_by o x y ys (noted x ys)) z → (In (noted x ys) z → In (x ∷ ys) z) → In (x ∷ y ∷ ys) z
+    by_case : (o : Ordering) → In (insert_withheld_by o x y ys (insert_withheld x ys)) z → (In (insert_withheld x ys) z → In (x ∷ ys) z) → In (x ∷ y ∷ ys) z
     by_case Less h later = h
     by_case Equal h later = inr h
     by_case Greater (inl h) later = inr (inl h)
@@ -109,11 +109,11 @@ tied : (x y : Withheld) → withheld_cmp x y ≡ Equal → x ≡ y
 tied x y h = withheld-same x y (withheld-ties x y ∙ ap is_eq h)
 
 -- the pair and what was there are noted
-noted_to : (x z : Withheld) (ys : List Withheld) → In (x ∷ ys) z → In (noted x ys) z
+noted_to : (x z : Withheld) (ys : List Withheld) → In (x ∷ ys) z → In (insert_withheld x ys) z
 noted_to x z [] h = h
 noted_to x z (y ∷ ys) h = by_case (withheld_cmp x y) refl h (noted_to x z ys)
   where
-    by_case : (o : Ordering) → withheld_cmp x y ≡ o → In (x ∷ y ∷ ys) z → (In (x ∷ ys) z → In (noted x ys) z) → In (noted_by o x y ys (noted x ys)) z
+    by_case : (o : Ordering) → withheld_cmp x y ≡ o → In (x ∷ y ∷ ys) z → (In (x ∷ ys) z → In (insert_withheld x ys) z) → In (insert_withheld_by o x y ys (insert_withheld x ys)) z
     by_case Less is h later = h
     by_case Equal is (inl h) later = inl (sym (tied x y is) ∙ h)
     by_case Equal is (inr h) later = h

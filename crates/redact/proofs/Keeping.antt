@@ -10,8 +10,8 @@ use Rattle.iodef_tree.specs.Paths.{LocatedLine, is_class}
 use Rattle.iodef_tree.specs.Walk.{walk, leaf_entry, class_entry}
 use Rattle.marking.proofs.Bad.{no_class-kind}
 use Rattle.marking.proofs.Marked.{not_root}
-use Rattle.redact.specs.Kept.{Attribute, comes_after, put, put_all, attribute_line, attribute_lines, Verdicts, is_visible_class, is_kept, added, labelled, kept}
-use Rattle.redact.specs.Judged.{put_leaf, attribute_leaf, put_attributes, judge, inside, keeps_plain, shows_label, home_at, left_before, new_place, left_with, moved, is_end, cut}
+use Rattle.redact.specs.Kept.{Attribute, comes_after, put, put_all, attribute_line, attribute_lines, Verdicts, is_visible_class, is_kept, added_label_lines, with_added_labels, kept_lines}
+use Rattle.redact.specs.inner.Judged.{put_leaf, attribute_leaf, put_attributes, judge, inside, keeps_plain, shows_label, home_at, left_before, new_place, left_with, moved, is_end, cut}
 use Rattle.redact.proofs.Fates.{by_verdict}
 
 -- ---- attributes put in among lines
@@ -129,21 +129,21 @@ end-lines d end h = refl
 end-lines d _ h = absurd (false≢true h)
 
 module _ (v : Verdicts) where
-  kept-next : (e : LocatedLine) (es : List LocatedLine) → kept v (e ∷ es) ≡ (if is_kept v e then e.line ∷ put_all (added v e) (kept v es) else kept v es)
+  kept-next : (e : LocatedLine) (es : List LocatedLine) → kept_lines v (e ∷ es) ≡ (if is_kept v e then e.line ∷ put_all (added_label_lines v e) (kept_lines v es) else kept_lines v es)
   kept-next e es =
-      elim (is_kept v e) as (λ b. labelled v (if b then e ∷ filter (is_kept v) es else filter (is_kept v) es)
-      ≡ (if b then e.line ∷ put_all (added v e) (kept v es) else kept v es)) [ true ↦ refl | false ↦ refl ]
+      elim (is_kept v e) as (λ b. with_added_labels v (if b then e ∷ filter (is_kept v) es else filter (is_kept v) es)
+      ≡ (if b then e.line ∷ put_all (added_label_lines v e) (kept_lines v es) else kept_lines v es)) [ true ↦ refl | false ↦ refl ]
 
-  pub kept-cut : (f : Forest) (d : ℕ) (p : Tokens) (n : ℕ) (es : List LocatedLine) → SaysBelow v d p f → IsShallow d (kept v es) →
-      kept v (walk d p f ++ es) ≡ lines d (cut (home_at v p) n (judge v p f)) ++ kept v es
+  pub kept-cut : (f : Forest) (d : ℕ) (p : Tokens) (n : ℕ) (es : List LocatedLine) → SaysBelow v d p f → IsShallow d (kept_lines v es) →
+      kept_lines v (walk d p f ++ es) ≡ lines d (cut (home_at v p) n (judge v p f)) ++ kept_lines v es
   kept-cut end d p n es says shallow = refl
   kept-cut (leaf i rest) d p n es says shallow =
       let h = home_at v p in
-      let W = kept v (walk d p rest ++ es) in
+      let W = kept_lines v (walk d p rest ++ es) in
       let J = judge v p rest in
       kept-next (leaf_entry d p i) (walk d p rest ++ es)
       ∙ rw (no_class-kind i.content, keeps-home v p)
-      (elim (keeps_plain h) as (λ b. (if b then leaf_line d i ∷ W else W) ≡ lines d (if b then leaf (moved n i) (cut h (left_with n i.place) J) else cut h (left_before n i.place) J) ++ kept v es) [
+      (elim (keeps_plain h) as (λ b. (if b then leaf_line d i ∷ W else W) ≡ lines d (if b then leaf (moved n i) (cut h (left_with n i.place) J) else cut h (left_before n i.place) J) ++ kept_lines v es) [
         | true ↦ rw (leaf_line-moved d n i, kept-cut rest d p (left_with n i.place) es says shallow)
         | false ↦ kept-cut rest d p (left_before n i.place) es says shallow
       ])
@@ -152,14 +152,14 @@ module _ (v : Verdicts) where
       let h = home_at v p in
       let K = walk (suc d) q kids in
       let R = walk d p rest in
-      let E = kept v es in
-      let X = kept v ((K ++ R) ++ es) in
+      let E = kept_lines v es in
+      let X = kept_lines v ((K ++ R) ++ es) in
       let inner = λ (b : Bool). cut (inside b) 0 (judge v q kids) in
       let behind = λ (m : ℕ). cut h m (judge v p rest) in
       let own = v.unmarked q && not (shows_label h) in
       let line = class_line d name place in
       let all : (m : ℕ) → X ≡ lines (suc d) (inner (v.visible q)) ++ (lines d (behind m) ++ E) = λ m.
-      let after : kept v (R ++ es) ≡ lines d (behind m) ++ E = kept-cut rest d p m es says.2 shallow in
+      let after : kept_lines v (R ++ es) ≡ lines d (behind m) ++ E = kept-cut rest d p m es says.2 shallow in
       rw (append_assoc K R es, kept-cut kids (suc d) q 0 (R ++ es) says.1 (subst (IsShallow (suc d)) (sym after) (lines-shallow (behind m) d E shallow)), after, home-class v p name place) in
       kept-next (class_entry d p name place) ((K ++ R) ++ es)
       ∙ rw (shows-home v p)

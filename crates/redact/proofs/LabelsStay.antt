@@ -19,7 +19,7 @@ use Rattle.iodef_tree.proofs.Siblings.{all-append}
 use Rattle.iodef_tree.proofs.ByPath.{has_class-root}
 use Rattle.marking.specs.Marks.{Held, absent, one_text, other, held_by_line, is_member, restriction_at, ext_restriction_at, spelled_by, is_rule_kept, written_label, first_bad_marking}
 use Rattle.marking.specs.Members.{held_by_leaf, held_in, is_rule_kept_in}
-use Rattle.marking.specs.Pass.{bad_below}
+use Rattle.marking.specs.inner.Pass.{bad_below}
 use Rattle.marking.proofs.Bad.{no_class-kind, first_bad}
 use Rattle.redact.specs.Alike.{is_within, lines_but}
 use Rattle.iodef_tree.specs.Laws.{IsDocument}

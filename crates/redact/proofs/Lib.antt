@@ -43,5 +43,6 @@ pub mod Lengthened
 pub mod Unrefused
 pub mod Settles
 pub mod Fresh
+pub mod Permitted
 pub mod Sure
 mod Computed

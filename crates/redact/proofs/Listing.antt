@@ -16,7 +16,7 @@ use Rattle.policy.specs.Rule.{name_of}
 use Rattle.policy.specs.declared.rule.Rule.{Rule}
 use Rattle.policy.specs.declared.rule.Rule.TheVariants.{Src, P, O, C, M, A, X, G0, G1, G2, G4, G4X, HGreen, HAmber, HStrict, HRed}
 use Rattle.redact.specs.Withheld.{Withheld, withheld_cmp, same_withheld, is_among, has_rule, with_rule, Lists}
-use Rattle.redact.specs.Ties.{withheld-ties}
+use Rattle.redact.specs.inner.Ties.{withheld-ties}
 
 pub withheld-equiv : IsEquivalence same_withheld
 withheld-equiv = search (comparing, rules)

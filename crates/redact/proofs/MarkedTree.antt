@@ -12,7 +12,7 @@ use Rattle.iodef_tree.specs.declared.line.Line.{Line}
 use Rattle.marking.specs.Label.{public, white, partner, green, need_to_know, amber, private, red, by_arrangement, extended, spelled}
 use Rattle.marking.specs.Marks.{Held, absent, one_text, other, is_rule_kept, first_bad_marking}
 use Rattle.marking.specs.Members.{held_by_leaf, held_in, is_rule_kept_in}
-use Rattle.marking.specs.Pass.{bad_below}
+use Rattle.marking.specs.inner.Pass.{bad_below}
 use Rattle.marking.proofs.Bad.{first_bad, no_class-kind}
 use Rattle.iodef_tree.specs.Outline.{is_outline}
 use Rattle.redact.proofs.Grown.{outline-document}

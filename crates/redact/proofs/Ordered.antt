@@ -12,7 +12,7 @@ use Rattle.iodef_tree.specs.Sound.{SiblingPlace, may_stand, IsOrderedBehind, IsO
 use Rattle.iodef_tree.specs.Laws.{AllSiblings}
 use Rattle.iodef_tree.proofs.Order.{bytes_eq-true, bytes_lt-less, bytes_lt-trans}
 use Rattle.redact.specs.Kept.{Attribute, Verdicts}
-use Rattle.redact.specs.Judged.{judge, judgment_at, Home, inside, keeps_plain, shows_label, left_before, new_place, left_with, is_end, put_leaf, attribute_leaf, put_attributes, with_label, cut}
+use Rattle.redact.specs.inner.Judged.{judge, judgment_at, Surrounding, inside, keeps_plain, shows_label, left_before, new_place, left_with, is_end, put_leaf, attribute_leaf, put_attributes, with_label, cut}
 use Rattle.redact.proofs.Fates.{new_place-before, by_fate, put-keeps}
 
 -- ---- the order of names
@@ -123,7 +123,7 @@ module _ (v : Verdicts) where
   LabelsFit p (branch name place kids rest) =
       let q = p ++ steps name place in (v.unmarked q ≡ true → Fits (v.label q) kids) × LabelsFit q kids × LabelsFit p rest
 
-  pub lacks-cut : (x : Bytes) (f : Forest) (h : Home) (p : Tokens) (n : ℕ) → Lacks x f → Lacks x (cut h n (judge v p f))
+  pub lacks-cut : (x : Bytes) (f : Forest) (h : Surrounding) (p : Tokens) (n : ℕ) → Lacks x f → Lacks x (cut h n (judge v p f))
   lacks-cut x end h p n all = tt
   lacks-cut x (leaf i rest) h p n all =
       cond_both (keeps_plain h) _ _ (Lacks x) (λ _. (all.0, lacks-cut x rest h p (left_with n i.place) all.1)) (λ _. lacks-cut x rest h p (left_before n i.place) all.1)
@@ -131,15 +131,15 @@ module _ (v : Verdicts) where
       let after : (bytes_eq name x ≡ false) × Lacks x (cut h (left_with n place) (judge v p rest)) = (all.0, lacks-cut x rest h p (left_with n place) all.1) in
       by_fate (Lacks x) (v.visible (p ++ steps name place)) (is_end (cut (inside false) 0 (judge v (p ++ steps name place) kids))) _ _ _ after after (lacks-cut x rest h p (left_before n place) all.1)
 
-  fits-cut : (label : List Attribute) (f : Forest) (h : Home) (p : Tokens) (n : ℕ) → Fits label f → Fits label (cut h n (judge v p f))
+  fits-cut : (label : List Attribute) (f : Forest) (h : Surrounding) (p : Tokens) (n : ℕ) → Fits label f → Fits label (cut h n (judge v p f))
   fits-cut [] f h p n fits = tt
   fits-cut (a ∷ rest) f h p n fits = (lacks-cut a.0 f h p n fits.0, fits.1, fits-cut rest f h p n fits.2)
 
-  label-ordered : (h : Home) (p : Tokens) (f : Forest) → IsOrdered f → (v.unmarked p ≡ true → Fits (v.label p) f) → IsOrdered (with_label h (judgment_at v p) f)
+  label-ordered : (h : Surrounding) (p : Tokens) (f : Forest) → IsOrdered f → (v.unmarked p ≡ true → Fits (v.label p) f) → IsOrdered (with_label h (judgment_at v p) f)
   label-ordered h p f order fits =
       cond_both (v.unmarked p && not (shows_label h)) _ _ IsOrdered (λ says. attributes-ordered (v.label p) f order (fits (and_parts (v.unmarked p) _ says).0)) (λ _. order)
 
-  pub ordered-cut : (f : Forest) (h : Home) (p : Tokens) (n : ℕ) (before before' : Option SiblingPlace) → IsOrderedBehind before f → LabelsFit p f → Trails before before' n →
+  pub ordered-cut : (f : Forest) (h : Surrounding) (p : Tokens) (n : ℕ) (before before' : Option SiblingPlace) → IsOrderedBehind before f → LabelsFit p f → Trails before before' n →
       IsOrderedBehind before' (cut h n (judge v p f))
   ordered-cut end h p n before before' order fit t = tt
   ordered-cut (leaf i rest) h p n before before' order fit t =

@@ -14,9 +14,9 @@ use Rattle.iodef_tree.proofs.Order.{same_path-refl}
 use Rattle.iodef_tree.proofs.Siblings.{all-append}
 use Rattle.iodef_tree.proofs.Located.{located-lines}
 use Rattle.iodef_tree.proofs.Distinct.{paths-distinct, distinct-filter}
-use Rattle.redact.specs.Kept.{Attribute, Verdicts, is_kept, kept}
+use Rattle.redact.specs.Kept.{Attribute, Verdicts, is_kept, kept_lines}
 use Rattle.redact.specs.Withheld.{beside, class_places, place_by}
-use Rattle.redact.specs.Judged.{Judged, none, plain, class, judge, Home, root, inside, keeps_plain, shows_label, home_at, left_before, new_place, left_with, moved, is_end, put_leaf, attribute_leaf, put_attributes, with_label, cut, places}
+use Rattle.redact.specs.inner.Judged.{Judged, none, plain, class, judge, Surrounding, root, inside, keeps_plain, shows_label, home_at, left_before, new_place, left_with, moved, is_end, put_leaf, attribute_leaf, put_attributes, with_label, cut, places}
 use Rattle.marking.proofs.Bad.{no_class-kind, class_paths-leaf, class_paths-append}
 use Rattle.marking.proofs.Marked.{not_root}
 use Rattle.redact.proofs.Fates.{by_fate, by_fates, by_verdict, put-keeps}
@@ -41,7 +41,7 @@ paths-label true [] f q = refl
 paths-label true (a ∷ label) f q = paths-put (attribute_leaf a) q (put_attributes label f) ∙ paths-label true label f q
 
 -- the classes of the excerpt stand at the places
-pub paths-cut : (J : Judged) (h : Home) (p q : Tokens) (n : ℕ) → classes_below q (cut h n J) ≡ map there (places h p q n J)
+pub paths-cut : (J : Judged) (h : Surrounding) (p q : Tokens) (n : ℕ) → classes_below q (cut h n J) ≡ map there (places h p q n J)
 paths-cut none h p q n = refl
 paths-cut (plain i rest) h p q n =
     elim (keeps_plain h) as (λ b. classes_below q (if b then leaf (moved n i) (cut h (left_with n i.place) rest) else cut h (left_before n i.place) rest)
@@ -74,7 +74,7 @@ places-end (class name place j kids rest) p q n h =
     (λ _ e. absurd (false≢true e)) (λ _ e. absurd (false≢true e)) (λ _ _. places-end rest p q (left_before n place)) h
 
 -- no class stands at the root's path
-places-deep : (J : Judged) (h : Home) (p q : Tokens) (n : ℕ) → AllByRecursion (λ x. is_root (here x) ≡ false) (places h p q n J)
+places-deep : (J : Judged) (h : Surrounding) (p q : Tokens) (n : ℕ) → AllByRecursion (λ x. is_root (here x) ≡ false) (places h p q n J)
 places-deep none h p q n = tt
 places-deep (plain i rest) h p q n = places-deep rest h p q (if keeps_plain h then left_with n i.place else left_before n i.place)
 places-deep (class name place j kids rest) h p q n =
@@ -147,9 +147,9 @@ module _ (v : Verdicts) (f : Forest) (sound : IsSound f) (says : SaysBelow v 1 [
   abbrev all_places : List (Tokens × Tokens)
   all_places = places root [] [] 0 (judge v [] f)
 
-  pub kept-lines : kept v (walk 1 [] f) ≡ lines 1 (cut root 0 (judge v [] f))
+  pub kept-lines : kept_lines v (walk 1 [] f) ≡ lines 1 (cut root 0 (judge v [] f))
   kept-lines =
-      ap (kept v) (sym (append-nil (walk 1 [] f))) ∙ kept-cut v f 1 [] 0 [] says tt ∙ append-nil (lines 1 (cut root 0 (judge v [] f)))
+      ap (kept_lines v) (sym (append-nil (walk 1 [] f))) ∙ kept-cut v f 1 [] 0 [] says tt ∙ append-nil (lines 1 (cut root 0 (judge v [] f)))
 
   -- the places by the pass are those by the kept outline
   pub class_places-pass : class_places v (walk 1 [] f) ≡ all_places

@@ -11,7 +11,7 @@ use Rattle.iodef_tree.specs.declared.line.Line.{Line}
 use Rattle.policy.specs.declared.standing.Standing.{Standing}
 use Rattle.policy.specs.declared.case.Case.{Case}
 use Rattle.redact.proofs.Counts.{count_by-cons}
-use Rattle.redact.specs.Kept.{Attribute, Verdicts, comes_after, put, put_all, attribute_line, attribute_lines, is_kept, says_label, added, labelled, kept, is_frame}
+use Rattle.redact.specs.Kept.{Attribute, Verdicts, comes_after, put, put_all, attribute_line, attribute_lines, is_kept, says_label, added_label_lines, with_added_labels, kept_lines, is_frame}
 use Rattle.redact.specs.Told.{Told, is_seen_class, is_named, holds_needle, kept_outline, visible_count, is_listed, told_of, excerpt_of, finds, verdicts_of, excerpt_place, withheld_of, some_seen}
 use Rattle.std.proofs.lemmas.List.Concat.{flat_map-cons}
 use Rattle.std.proofs.lemmas.List.Elements.{Contains-append_left, Contains-append_right, Contains-append_cases, Contains-push_cases}
@@ -79,18 +79,18 @@ attributes-plain d [] ls = refl
 attributes-plain d (x ∷ xs) ls = put-plain (attribute_line d x) (put_all (attribute_lines d xs) ls) refl ∙ attributes-plain d xs ls
 
 module _ (v : Verdicts) where
-  added-plain : (e : LocatedLine) (ls : List Line) → class_lines (put_all (added v e) ls) ≡ class_lines ls
+  added-plain : (e : LocatedLine) (ls : List Line) → class_lines (put_all (added_label_lines v e) ls) ≡ class_lines ls
   added-plain e ls =
       cond_both (says_label v e) _ _ (λ xs. class_lines (put_all xs ls) ≡ class_lines ls) (λ _. attributes-plain (suc e.line.depth) (v.label e.path) ls) (λ _. refl)
 
-  labelled-classes : (es : List LocatedLine) → class_lines (labelled v es) ≡ map (λ e. e.line) (filter is_class es)
+  labelled-classes : (es : List LocatedLine) → class_lines (with_added_labels v es) ≡ map (λ e. e.line) (filter is_class es)
   labelled-classes [] = refl
   labelled-classes (e ∷ es) =
-      rw (added-plain e (labelled v es), labelled-classes es)
+      rw (added-plain e (with_added_labels v es), labelled-classes es)
       (cond_both (is_class e) _ _ (λ xs. (if is_class e then e.line ∷ map (λ e. e.line) (filter is_class es) else map (λ e. e.line) (filter is_class es)) ≡ map (λ e. e.line) xs)
       (λ k. rw k) (λ k. rw k))
 
-pub classes-stay : (v : Verdicts) (es : List LocatedLine) → class_lines (kept v es) ≡ map (λ e. e.line) (filter is_class (filter (is_kept v) es))
+pub classes-stay : (v : Verdicts) (es : List LocatedLine) → class_lines (kept_lines v es) ≡ map (λ e. e.line) (filter is_class (filter (is_kept v) es))
 classes-stay v es = labelled-classes v (filter (is_kept v) es)
 
 -- ---- each kept class has its place
@@ -142,17 +142,17 @@ place-some false ps p h = h
 kept-placed : (v : Verdicts) (es : List LocatedLine) (e : LocatedLine) → Contains es e → is_class e ≡ true → is_kept v e ≡ true → is_some (place_by (class_places v es) e.path) ≡ true
 kept-placed v es e here class keeps =
     let F : List LocatedLine = filter is_class (filter (is_kept v) es) in
-    let L : List LocatedLine = filter is_class (located (kept v es)) in
-    let size : length (class_paths (filter (is_kept v) es)) ≡ length (classes_of (kept v es)) =
+    let L : List LocatedLine = filter is_class (located (kept_lines v es)) in
+    let size : length (class_paths (filter (is_kept v) es)) ≡ length (classes_of (kept_lines v es)) =
     length-map F (λ (x : LocatedLine). x.path)
     ∙ sym (length-map F (λ (x : LocatedLine). x.line))
     ∙ ap length (sym (classes-stay v es))
-    ∙ sym (count-located [] (kept v es))
+    ∙ sym (count-located [] (kept_lines v es))
     ∙ sym (length-map L (λ (x : LocatedLine). x.path)) in
     let own : is_kept_at v e.path e ≡ true = rw (keeps, class, same_path-refl e.path) refl in
     let found : list_any (is_kept_at v e.path) es ≡ true = list_any_at (is_kept_at v e.path) es here.0 e here.1 (ap (is_kept_at v e.path) here.2 ∙ own) in
     place-some (is_root e.path) (class_places v es) e.path
-    (beside-some (class_paths (filter (is_kept v) es)) (classes_of (kept v es)) e.path size (kept-among v e.path es found))
+    (beside-some (class_paths (filter (is_kept v) es)) (classes_of (kept_lines v es)) e.path size (kept-among v e.path es found))
 
 -- ---- a verdict tells what is served
 

@@ -17,7 +17,7 @@ use Rattle.iodef_tree.proofs.Blocks.{blocks-located, below-parents}
 use Rattle.iodef_tree.proofs.Located.{located-lines}
 use Rattle.iodef_tree.proofs.Order.{same_path-refl, same_path-true, same_path-longer, is_false}
 use Rattle.iodef_tree.specs.declared.line.Line.{Line}
-use Rattle.marking.specs.Label.{Marking}
+use Rattle.marking.specs.Label.{LabelValue}
 use Rattle.marking.specs.Members.{spelled_in}
 use Rattle.marking.specs.Marks.{written_label}
 use Rattle.marking.proofs.Written.{AreUnderParents, written-block}
@@ -28,8 +28,8 @@ use Rattle.policy.specs.declared.standing.Standing.{Standing}
 use Rattle.policy.specs.declared.case.Case.{Case}
 use Rattle.policy.specs.Verdict.{is_visible}
 use Rattle.policy.proofs.Steps.{at_root-is}
-use Rattle.redact.specs.Pass.{enter}
-use Rattle.redact.specs.Search.{body_hits, bodies_hit, members_hit, found, found_at, found_items, found_member, content_hits, holds_text, any_class}
+use Rattle.redact.specs.inner.Pass.{enter}
+use Rattle.redact.specs.inner.Search.{body_hits, bodies_hit, members_hit, found, found_at, found_items, found_member, content_hits, holds_text, any_class}
 use Rattle.redact.specs.Told.{is_named, is_hit, holds_needle, finds, is_listed}
 use Rattle.redact.proofs.Whole.{enter-at, root-bare}
 
@@ -62,7 +62,7 @@ module _ (needle : Bytes) where
 
 module _ (c : Case) (s : Standing) (asked : Bytes → Forest → Bool) (a : Inherited) where
   -- a sibling that is entered from the class or array at d by the token t
-  found-sibling : (d : Inherited) (t name : Bytes) (place : Option ℕ) → ((w : Option Marking) → enter c s a name place w ≡ enter_class c s d t w) → (b : Body) (rest : Forest) →
+  found-sibling : (d : Inherited) (t name : Bytes) (place : Option ℕ) → ((w : Option LabelValue) → enter c s a name place w ≡ enter_class c s d t w) → (b : Body) (rest : Forest) →
       found c s asked a (in_front name place b rest) ≡ (found_at c s asked d t name b || found c s asked a rest)
   found-sibling d t name place enters (says content) rest = refl
   found-sibling d t name place enters (holds kids) rest = rw (enters (spelled_in kids), or_assoc)

@@ -12,7 +12,7 @@ use Rattle.iodef_tree.specs.declared.line.Kind.{Kind}
 use Rattle.iodef_tree.specs.declared.line.Kind.TheVariants as kind
 use Rattle.iodef_tree.specs.declared.line.Line.{Line}
 use Rattle.iodef_tree.proofs.Order.{bytes_eq-true, same_path-true}
-use Rattle.marking.specs.Label.{Marking, public, white, partner, green, need_to_know, amber, private, red, by_arrangement, extended, spelled}
+use Rattle.marking.specs.Label.{LabelValue, public, white, partner, green, need_to_know, amber, private, red, by_arrangement, extended, spelled}
 use Rattle.marking.specs.Marks.{Held, absent, one_text, other, held_by_kind, held_by_line, is_member, held_at, restriction_at, ext_restriction_at, spelled_by, is_rule_kept, is_well_marked, first_bad_marking, written_label, has_default, own_label, site_of, label_at}
 use Rattle.marking.proofs.Owned.{site-self}
 use Rattle.policy.specs.Verdict.{refusal_at, is_cleared_for, is_covered, is_visible}
@@ -58,7 +58,7 @@ well-marked es p marked class = none-bad (is_well_marked es) (class_paths es) ma
 -- ---- what a text spells
 
 -- a text that spells a label by itself spells it beside any other text
-abbrev chain : Bool → Bool → Bool → Bool → Bool → Bool → Bool → Bool → Bool → Bool → Option Bytes → Option Marking
+abbrev chain : Bool → Bool → Bool → Bool → Bool → Bool → Bool → Bool → Bool → Bool → Option Bytes → Option LabelValue
 chain b0 b1 b2 b3 b4 b5 b6 b7 b8 b9 ext =
     if b0 then Some public
     else if b1 then Some white
@@ -72,7 +72,7 @@ chain b0 b1 b2 b3 b4 b5 b6 b7 b8 b9 ext =
     else if b9 then option_map extended ext
     else None
 
-chain-alone : (b0 b1 b2 b3 b4 b5 b6 b7 b8 b9 : Bool) (t : Bytes) (m : Marking) → chain b0 b1 b2 b3 b4 b5 b6 b7 b8 b9 None ≡ Some m → chain b0 b1 b2 b3 b4 b5 b6 b7 b8 b9 (Some t) ≡ Some m
+chain-alone : (b0 b1 b2 b3 b4 b5 b6 b7 b8 b9 : Bool) (t : Bytes) (m : LabelValue) → chain b0 b1 b2 b3 b4 b5 b6 b7 b8 b9 None ≡ Some m → chain b0 b1 b2 b3 b4 b5 b6 b7 b8 b9 (Some t) ≡ Some m
 chain-alone true b1 b2 b3 b4 b5 b6 b7 b8 b9 t m h = h
 chain-alone false true b2 b3 b4 b5 b6 b7 b8 b9 t m h = h
 chain-alone false false true b3 b4 b5 b6 b7 b8 b9 t m h = h
@@ -85,20 +85,20 @@ chain-alone false false false false false false false false true b9 t m h = h
 chain-alone false false false false false false false false false true t m h = absurd (true≢false (sym (ap is_some h)))
 chain-alone false false false false false false false false false false t m h = h
 
-spelled-alone : (r t : Bytes) (m : Marking) → spelled r None ≡ Some m → spelled r (Some t) ≡ Some m
+spelled-alone : (r t : Bytes) (m : LabelValue) → spelled r None ≡ Some m → spelled r (Some t) ≡ Some m
 spelled-alone r t m h =
     chain-alone (bytes_eq r (codes "public")) (bytes_eq r (codes "white")) (bytes_eq r (codes "partner")) (bytes_eq r (codes "green")) (bytes_eq r (codes "need-to-know"))
     (bytes_eq r (codes "amber")) (bytes_eq r (codes "private")) (bytes_eq r (codes "red")) (bytes_eq r (codes "default")) (bytes_eq r (codes "ext-value")) t m h
 
 -- it spells that label whatever is held beside it, where the rule is kept
-kept-alone : (r : Bytes) (x : Held) (m : Marking) → spelled r None ≡ Some m → is_rule_kept (one_text r) x ≡ true → spelled_by (one_text r) x ≡ Some m
+kept-alone : (r : Bytes) (x : Held) (m : LabelValue) → spelled r None ≡ Some m → is_rule_kept (one_text r) x ≡ true → spelled_by (one_text r) x ≡ Some m
 kept-alone r absent m h k = h
 kept-alone r (one_text t) m h k = spelled-alone r t m h
 kept-alone r other m h k = absurd (false≢true k)
 
 -- ---- the label of a class
 
-label-here : (es : List LocatedLine) (p : Tokens) (m : Marking) → has_class es p ≡ true → spelled_by (restriction_at es p) (ext_restriction_at es p) ≡ Some m → label_at es p ≡ m
+label-here : (es : List LocatedLine) (p : Tokens) (m : LabelValue) → has_class es p ≡ true → spelled_by (restriction_at es p) (ext_restriction_at es p) ≡ Some m → label_at es p ≡ m
 label-here es p m class spells =
     let written : written_label es p ≡ Some m = ap (λ b. if b then spelled_by (restriction_at es p) (ext_restriction_at es p) else None) class ∙ spells in
     let own : own_label es p ≡ Some m = ap (λ o. option_or o (if has_default es p then Some private else None)) written in
@@ -168,7 +168,7 @@ module _ (ls : List Line) (l : Line) (p : Tokens) (name : Bytes) where
 
 module _ (c : Case) (s : Standing) (ls : List Line) (p : Tokens) (unrefusing : some_refuses c s ≡ false) (class : has_class (located ls) p ≡ true) where
   -- a class is seen whose label is one for which the reader is cleared
-  seen-by : (m : Marking) → is_cleared_for s m ≡ true →
+  seen-by : (m : LabelValue) → is_cleared_for s m ≡ true →
       ((more : List Line) → let es = located (ls ++ more) in is_well_marked es p ≡ true → spelled_by (restriction_at es p) (ext_restriction_at es p) ≡ Some m) →
       InEach ls (λ all. is_visible (located all) c s p ≡ true)
   seen-by m cleared spells more outline marked =
@@ -193,7 +193,7 @@ module _ (c : Case) (s : Standing) (ls : List Line) (p : Tokens) (unrefusing : s
           ∙ ap (λ h. spelled_by (one_text r) h) (text-stays ls more p (codes "ext-restriction") b.0 b.1)
           ∙ ap (λ q. spelled q (Some b.0)) (bytes_eq-true r (codes "ext-value") same))
 
-      by_alone : (o : Option Marking) → spelled r None ≡ o → is_cleared_by s x r o ≡ true → InEach ls (λ all. is_visible (located all) c s p ≡ true)
+      by_alone : (o : Option LabelValue) → spelled r None ≡ o → is_cleared_by s x r o ≡ true → InEach ls (λ all. is_visible (located all) c s p ≡ true)
       by_alone None none k =
           let parts = and_parts (bytes_eq r (codes "ext-value")) (is_cleared_beside x) k in
           by_beside x there parts.0 parts.1

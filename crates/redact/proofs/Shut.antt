@@ -4,7 +4,7 @@ use Rattle.std.proofs.lemmas.Bool.{false≢true, and_right, cond-false}
 use Rattle.iodef_tree.specs.Text.{Bytes, Tokens, is_root, is_prefix}
 use Rattle.iodef_tree.specs.Paths.{is_class, located}
 use Rattle.iodef_tree.specs.declared.line.Line.{Line}
-use Rattle.policy.specs.Gates.{passage_of}
+use Rattle.policy.specs.Gates.{refusal_of_gate}
 use Rattle.policy.specs.Verdict.{is_visible}
 use Rattle.policy.specs.declared.rule.Rule.{Rule}
 use Rattle.policy.specs.declared.standing.Standing.{Standing}
@@ -24,7 +24,7 @@ root-is-prefix (x ∷ q) p h = absurd (false≢true h)
 not-refused : (o : Option Rule) → o ≡ None → is_some o ≡ true → ⊥
 not-refused o none some = false≢true (sym (ap is_some none) ∙ some)
 
-module _ (ls : List Line) (c : Case) (s : Standing) (g : Gate) (foreign : s.source ≡ false) (there : Contains c.gates g) (root : is_root g.path ≡ true) (refuses : is_some (passage_of s g) ≡ true) where
+module _ (ls : List Line) (c : Case) (s : Standing) (g : Gate) (foreign : s.source ≡ false) (there : Contains c.gates g) (root : is_root g.path ≡ true) (refuses : is_some (refusal_of_gate s g) ≡ true) where
   -- no class is visible
   hidden : (p : Tokens) → is_visible (located ls) c s p ≡ false
   hidden p = by_sight (is_visible (located ls) c s p) refl
@@ -33,8 +33,8 @@ module _ (ls : List Line) (c : Case) (s : Standing) (g : Gate) (foreign : s.sour
       by_sight false k = refl
       by_sight true k =
           let passes = visible-passes (located ls) c s p foreign k there.0 g there.1 in
-          let at_g : is_prefix g.path p ≡ true → passage_of s g ≡ None = subst (λ (x : Gate). is_prefix x.path p ≡ true → passage_of s x ≡ None) there.2 passes in
-          absurd (not-refused (passage_of s g) (at_g (root-is-prefix g.path p root)) refuses)
+          let at_g : is_prefix g.path p ≡ true → refusal_of_gate s g ≡ None = subst (λ (x : Gate). is_prefix x.path p ≡ true → refusal_of_gate s x ≡ None) there.2 passes in
+          absurd (not-refused (refusal_of_gate s g) (at_g (root-is-prefix g.path p root)) refuses)
 
   unlisted : is_listed ls c s ≡ false
   unlisted = any-none (is_seen_class ls c s) (located ls)

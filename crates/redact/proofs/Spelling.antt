@@ -10,17 +10,17 @@ use Rattle.iodef_tree.specs.Walk.{AreBlocks}
 use Rattle.iodef_tree.specs.Laws.{AreApart, HasApart}
 use Rattle.iodef_tree.proofs.Order.{bytes_eq-refl, bytes_eq-true, is_false}
 use Rattle.iodef_tree.proofs.Siblings.{siblings-map}
-use Rattle.marking.specs.Label.{Marking, restriction_of, public, spelled}
+use Rattle.marking.specs.Label.{LabelValue, restriction_of, public, spelled}
 use Rattle.marking.specs.Marks.{Held, absent, other, held_by_kind, spelled_by, is_rule_kept, one_text, held_by_line}
 use Rattle.marking.specs.Members.{held_in, is_rule_kept_in, held_by_leaf, spelled_in}
-use Rattle.marking.specs.Pass.{bad_below}
+use Rattle.marking.specs.inner.Pass.{bad_below}
 use Rattle.marking.proofs.Written.{AreUnderParents, written-block}
 use Rattle.marking.proofs.Placed.{ArePlaced}
 use Rattle.policy.specs.declared.standing.Standing.{Standing}
 use Rattle.policy.specs.declared.case.Case.{Case}
 use Rattle.redact.specs.Told.{ext_restriction_of, attributes_by, attributes_of, verdicts_of}
 use Rattle.redact.specs.Kept.{Attribute, Verdicts}
-use Rattle.redact.specs.Judged.{judge, judgment_at, Home, inside, shows_label, left_before, left_with, is_end, put_leaf, attribute_leaf, put_attributes, with_label, cut}
+use Rattle.redact.specs.inner.Judged.{judge, judgment_at, Surrounding, inside, shows_label, left_before, left_with, is_end, put_leaf, attribute_leaf, put_attributes, with_label, cut}
 use Rattle.redact.proofs.Ordered.{Lacks, Fits, LabelsFit, lacks-put, lacks-cut}
 use Rattle.redact.proofs.Counts.{AreLabelNames}
 use Rattle.redact.proofs.Fates.{by_fate, put-keeps}
@@ -51,7 +51,7 @@ names-by : (restriction : Bytes) (ext : Option Bytes) → AreLabelNames (attribu
 names-by restriction None = (refl, tt)
 names-by restriction (Some ext) = (refl, (refl, tt))
 
-pub label-names : (l : Marking) → AreLabelNames (attributes_of l)
+pub label-names : (l : LabelValue) → AreLabelNames (attributes_of l)
 label-names l = names-by (restriction_of l) (ext_restriction_of l)
 
 -- what the marking rule says of a class, of those below it and of those behind it
@@ -108,7 +108,7 @@ spelled-attributes restriction (Some ext) f r e =
     rw (held-put (codes "restriction") beside g (λ h. absurd (false≢true h)), held-put (codes "ext-restriction") beside g (λ _. lacks-put (codes "ext-restriction") (attribute_leaf own) refl f e))
     (rw (held-put (codes "restriction") own f (λ _. r)))
 
-spelled-again : (l : Marking) → spelled (restriction_of l) (ext_restriction_of l) ≡ Some l
+spelled-again : (l : LabelValue) → spelled (restriction_of l) (ext_restriction_of l) ≡ Some l
 spelled-again public = refl
 spelled-again _ = refl
 
@@ -173,7 +173,7 @@ module _ (v : Verdicts) where
       ∙ ap (is_rule_kept absent) (lacks-absent (codes "ext-restriction") F (lacks-framed (codes "ext-restriction") f p 0 apart held.1))
 
   -- a visible class keeps it, and spells the label that it has to say, or else what was spelled in it
-  pub seen-spells : (f : Forest) (h : Home) (p : Tokens) (l : Marking) → is_rule_kept_in f ≡ true → v.unmarked p ≡ is_none (spelled_in f) → v.label p ≡ attributes_of l →
+  pub seen-spells : (f : Forest) (h : Surrounding) (p : Tokens) (l : LabelValue) → is_rule_kept_in f ≡ true → v.unmarked p ≡ is_none (spelled_in f) → v.label p ≡ attributes_of l →
       let S = with_label h (judgment_at v p) (cut (inside true) 0 (judge v p f)) in
       (is_rule_kept_in S ≡ true) × (spelled_in S ≡ (if v.unmarked p && not (shows_label h) then Some l else spelled_in f))
   seen-spells f h p l rule unmarked label =

@@ -6,7 +6,7 @@ use Rattle.std.specs.List.{AllByRecursion, filter_map, cons_option, flat_map, li
 use Rattle.std.specs.Str.{bytes_eq}
 use Rattle.std.proofs.lemmas.Bool.{false≢true, true≢false, and_right}
 use Rattle.iodef_tree.specs.Text.{Tokens, is_root, same_path, is_prefix, prefixes}
-use Rattle.policy.specs.Gates.{passage_of}
+use Rattle.policy.specs.Gates.{refusal_of_gate}
 use Rattle.policy.specs.Verdict.{first_of, refusals_at, refusal_at}
 use Rattle.policy.specs.Laws.{refuses_on}
 use Rattle.policy.proofs.Steps.{first_of-append, any_same}
@@ -89,12 +89,12 @@ any-prefix (x ∷ r) (y ∷ p) =
     ∙ ap (λ b. bytes_eq x y && b) (any-prefix r p)
 
 -- a path is refused exactly where some gate on it refuses
-refused-any : (c : Case) (s : Standing) (p : Tokens) → is_some (refusal_at c s p) ≡ list_any (refuses_on s p) c.gates
+pub refused-any : (c : Case) (s : Standing) (p : Tokens) → is_some (refusal_at c s p) ≡ list_any (refuses_on s p) c.gates
 refused-any c s p =
     first-flat_map (refusals_at c s) (prefixes p)
-    ∙ any_same _ (λ q. list_any (λ g. same_path g.path q && is_some (passage_of s g)) c.gates) (λ q. first-filter_map (passage_of s) (λ g. same_path g.path q) c.gates) (prefixes p)
-    ∙ any-swap (λ g q. same_path g.path q) (λ g. is_some (passage_of s g)) (prefixes p) c.gates
-    ∙ any_same _ (refuses_on s p) (λ g. ap (λ b. b && is_some (passage_of s g)) (any-prefix g.path p)) c.gates
+    ∙ any_same _ (λ q. list_any (λ g. same_path g.path q && is_some (refusal_of_gate s g)) c.gates) (λ q. first-filter_map (refusal_of_gate s) (λ g. same_path g.path q) c.gates) (prefixes p)
+    ∙ any-swap (λ g q. same_path g.path q) (λ g. is_some (refusal_of_gate s g)) (prefixes p) c.gates
+    ∙ any_same _ (refuses_on s p) (λ g. ap (λ b. b && is_some (refusal_of_gate s g)) (any-prefix g.path p)) c.gates
 
 -- ---- where none refuses above
 
@@ -119,7 +119,7 @@ module _ (c : Case) (r : Standing) (p : Tokens) (s : Step) where
   w = p ++ step_tokens s
 
   one-stops : (g : Gate) → refuses_on r p g ≡ false → stops r p s g ≡ refuses_on r w g
-  one-stops g h = by_passage (is_some (passage_of r g)) h
+  one-stops g h = by_passage (is_some (refusal_of_gate r g)) h
     where
       q : Tokens
       q = g.path
@@ -142,7 +142,7 @@ module _ (c : Case) (r : Standing) (p : Tokens) (s : Step) where
     where
       by_root : (t : Bool) → is_root p ≡ t → (not t && is_some (refusal_at c r p)) ≡ false → list_any (stops r p s) c.gates ≡ list_any (refuses_on r w) c.gates
       by_root true i k =
-          any_same (stops r p s) (refuses_on r w) (λ g. ap (λ b. b && is_some (passage_of r g))
+          any_same (stops r p s) (refuses_on r w) (λ g. ap (λ b. b && is_some (refusal_of_gate r g))
           (ap (λ b. b || (same_path g.path (p ++ s.name ∷ []) || same_path g.path w)) (sym (ap (is_prefix g.path) (root-nil p i) ∙ root-prefix g.path)) ∙ sym (prefix-step g.path p s))) c.gates
       by_root false i k =
           any-where (stops r p s) (refuses_on r w) c.gates

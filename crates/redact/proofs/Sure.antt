@@ -1,5 +1,5 @@
 -- What is sure stays sure while lines come, and what is noted of the open classes settles that a want is met.
-use Rattle.std.proofs.Common.{◌≡◌, ℕ, zero, suc, ◌+◌, ◌-◌, ◌≤◌, ◌<◌, Bool, true, false, not, ◌&&◌, ◌||◌, ◌⊎◌, inl, inr, List, [], ◌∷◌, ◌++◌, length, take, append_assoc, append-nil, refl, sym, ◌∙◌, ap, subst, arith, if◌then◌else◌}
+use Rattle.std.proofs.Common.{◌≡◌, ℕ, zero, suc, ◌+◌, ◌-◌, ◌^◌, ◌≤◌, ◌<◌, Bool, true, false, not, ◌&&◌, ◌||◌, ◌⊎◌, inl, inr, List, [], ◌∷◌, ◌++◌, length, take, append_assoc, append-nil, refl, sym, ◌∙◌, ap, subst, arith, if◌then◌else◌}
 use Rattle.std.specs.Prelude.{Option, Some, None, Ok, is_none, option_map, string_bytes, codes}
 use Rattle.std.specs.List.{list_any}
 use Rattle.std.specs.Str.{bytes_eq}
@@ -24,8 +24,8 @@ use Rattle.policy.specs.declared.standing.Standing.{Standing}
 use Rattle.policy.specs.declared.case.Case.{Case}
 use Rattle.redact.specs.Told.{is_seen_class, is_named, is_hit, holds_needle}
 use Rattle.redact.specs.Wants.{meets, meets_by}
-use Rattle.redact.specs.Sifted.{located_back}
-use Rattle.redact.specs.Probed.{InEach, IsSure, wants_name_by, wants_name, wants_line_by, wants_line, holds_wanted_by, holds_wanted, is_wanted_at, some_refuses, sees_all, sight_of, is_everything, is_cleared_sight, text_by_kind, plain_text, beside_by, first_beside, beside_with, is_cleared_if, is_restriction, shows, entered, holding, innermost_holding, opened, noted, is_settled, IsBeside, IsSeen, IsOpen, AreOpen, Follows, IsKnown, TakesTo, ProbeState, ProbesLine}
+use Rattle.redact.specs.Sifted.{way, IsCounted, went_on, located_back, Tracks}
+use Rattle.redact.specs.Probed.{InEach, IsSure, wants_name_by, wants_name, wants_line_by, wants_line, holds_wanted_by, holds_wanted, is_wanted_at, some_refuses, sees_all, sight_of, is_everything, is_cleared_sight, text_by_kind, plain_text, beside_by, first_beside, beside_with, is_cleared_if, is_restriction, shows, entered, holding, innermost_holding, is_opened, opened, noted, is_settled, IsBeside, IsSeen, IsOpen, AreOpen, Follows, IsKnown, TakesTo, ProbeState, ProbesLine}
 use Rattle.redact.specs.declared.seeking.Sight.{Sight}
 use Rattle.redact.specs.declared.seeking.Sight.TheVariants as sight
 use Rattle.redact.specs.declared.seeking.Beside.{Beside}
@@ -37,6 +37,8 @@ use Rattle.redact.proofs.Taking.{more-outline}
 use Rattle.redact.proofs.Lengthened.{located-append, onto-push, any-stays, any-implied, parent-old, parent-new}
 use Rattle.redact.proofs.Unrefused.{all-seen}
 use Rattle.redact.proofs.Fresh.{holds-nothing}
+use Rattle.redact.proofs.Permitted.{follow-seen}
+use Rattle.redact.proofs.Tracking.{tracks-none, is-counted, tracks-more}
 use Rattle.redact.proofs.Settles.{text-stays, held-same, held-first, label-seen}
 
 -- ---- one line more
@@ -219,7 +221,7 @@ module _ (w : Want) (c : Case) (s : Standing) (ls : List Line) (l : Line) where
   no-needle None p h = refl
   no-needle (Some needle) p h = absurd (false≢true h)
 
-  module _ (k : Sight) (sees : k ≡ sight_of c s) (fit : Came (back ls) l) (rising : (j d : ℕ) → 1 ≤ j → j < d → d ≤ deepest (back ls) → length (parent_path (located_back ls) j) < length (parent_path (located_back ls) d))
+  module _ (k : Sight) (sees : k ≡ sight_of c s) (g : Bool) (gives : g ≡ true → IsSeen w c s longer e.path) (fit : Came (back ls) l) (rising : (j d : ℕ) → 1 ≤ j → j < d → d ≤ deepest (back ls) → length (parent_path (located_back ls) j) < length (parent_path (located_back ls) d))
       (outline : is_outline (ls ++ l ∷ []) ≡ true) where
     abbrev before : List LocatedLine
     before = located_back ls
@@ -275,16 +277,23 @@ module _ (w : Want) (c : Case) (s : Standing) (ls : List Line) (l : Line) where
     -- ---- the classes
 
     -- the class of the line, if it is one
-    open-entered : is_class_kind l.kind ≡ true → IsOpen w c s longer e.path (entered k w l)
+    open-entered : is_class_kind l.kind ≡ true → IsOpen w c s longer e.path (entered k w l g)
     open-entered class = record {
       fits = λ t. here (is_wanted_at w e.path) (and_from (is_class e) _ class (and_from (same_path e.path e.path) (wants_name w l.name) (same_path-refl e.path) t));
       holds = λ t. no-needle (option_map string_bytes w.needle) e.path (needle-none string_bytes w.needle t);
-      shown = λ t more outline marked. all-seen c s (sight-all c s (sym (ap is_everything sees) ∙ t)) (located (longer ++ more)) e.path;
+      shown = shown-at;
       class = here (λ x. is_class x && same_path x.path e.path) (and_from (is_class e) (same_path e.path e.path) class (same_path-refl e.path));
       bare = λ t. none-yet (codes "restriction");
       beside = none-yet (codes "ext-restriction");
     }
       where
+        shown-at : (is_everything k || g) ≡ true → IsSeen w c s longer e.path
+        shown-at t = by_sight (is_everything k) refl t
+          where
+            by_sight : (b : Bool) → is_everything k ≡ b → (b || g) ≡ true → IsSeen w c s longer e.path
+            by_sight true is t = λ more outline marked. all-seen c s (sight-all c s (sym (ap is_everything sees) ∙ is)) (located (longer ++ more)) e.path
+            by_sight false is t = gives t
+
         none-yet : (name : Bytes) → held_at (located longer) e.path name ≡ absent
         none-yet name =
             let on = path-longer in
@@ -339,17 +348,17 @@ module _ (w : Want) (c : Case) (s : Standing) (ls : List Line) (l : Line) where
         (rising-more j d one less (subst (λ ys. d ≤ deepest ys) (back-push ls l) deep))
 
     -- the class of the line is the innermost
-    follows-opened : (os : List Open) → AreOpen w c s longer 2 os → suc (length os) ≡ l.depth → Follows w c s longer (opened k w l os)
+    follows-opened : (os : List Open) → AreOpen w c s longer 2 os → suc (length os) ≡ l.depth → Follows w c s longer (opened k w l g os)
     follows-opened os h deep = by_class (is_class_kind l.kind) refl
       where
         at : suc (length os) ≡ l.depth → 2 + length os ≡ suc l.depth
         at q = omega (arith, q)
 
-        by_class : (b : Bool) → is_class_kind l.kind ≡ b → Follows w c s longer (if b then os ++ entered k w l ∷ [] else os)
+        by_class : (b : Bool) → is_class_kind l.kind ≡ b → Follows w c s longer (if b then os ++ entered k w l g ∷ [] else os)
         by_class true class = record {
-          classes = behind 2 os (entered k w l) h
-              (subst (λ p. IsOpen w c s longer p (entered k w l)) (sym (ap (λ b. parent_path b (2 + length os)) back-is ∙ parent-new e before (2 + length os) (at deep))) (open-entered class));
-          deep = ap suc (length-push os (entered k w l)) ∙ ap suc deep ∙ sym (ap (λ b. if b then suc l.depth else l.depth) class) ∙ sym (ap deepest (back-push ls l));
+          classes = behind 2 os (entered k w l g) h
+              (subst (λ p. IsOpen w c s longer p (entered k w l g)) (sym (ap (λ b. parent_path b (2 + length os)) back-is ∙ parent-new e before (2 + length os) (at deep))) (open-entered class));
+          deep = ap suc (length-push os (entered k w l g)) ∙ ap suc deep ∙ sym (ap (λ b. if b then suc l.depth else l.depth) class) ∙ sym (ap deepest (back-push ls l));
           rising = rising-longer;
         }
         by_class false class = record {
@@ -358,17 +367,18 @@ module _ (w : Want) (c : Case) (s : Standing) (ls : List Line) (l : Line) where
           rising = rising-longer;
         }
 
-  pub follows-more : (k : Sight) → k ≡ sight_of c s → (os : List Open) → Follows w c s ls os → may_come (back ls) l ≡ true → is_outline longer ≡ true → Follows w c s longer (noted k s w l os)
-  follows-more k sees os h fits outline =
+  pub follows-more : (k : Sight) → k ≡ sight_of c s → (g : Bool) → (g ≡ true → IsSeen w c s longer e.path) → (os : List Open) → Follows w c s ls os →
+      may_come (back ls) l ≡ true → is_outline longer ≡ true → Follows w c s longer (noted k s w l g os)
+  follows-more k sees g gives os h fits outline =
       let q = came (back ls) l fits in
       let n = l.depth - 1 in
       let positive = q.positive in
       let reached = q.reached in
       let deep = h.deep in
       let low : n ≤ length os = omega (arith, positive, reached, deep) in
-      follows-opened k sees q h.rising outline (innermost_holding k s w l (take n os))
-      (inside k sees q h.rising outline n 2 os (omega arith) (omega (arith, positive)) low h.classes)
-      (ap suc (inside-length k sees q h.rising outline (take n os) ∙ length-take-le n os low) ∙ omega (arith, positive))
+      follows-opened k sees g gives q h.rising outline (innermost_holding k s w l (take n os))
+      (inside k sees g gives q h.rising outline n 2 os (omega arith) (omega (arith, positive)) low h.classes)
+      (ap suc (inside-length k sees g gives q h.rising outline (take n os) ∙ length-take-le n os low) ∙ omega (arith, positive))
 
 -- with no line yet
 pub follows-none : (w : Want) (c : Case) (s : Standing) → Follows w c s [] []
@@ -422,12 +432,13 @@ module _ (w : Want) (c : Case) (s : Standing) (ls : List Line) where
 
 module _ (w : Want) (c : Case) (s : Standing) where
   -- with no line yet
-  pub known-none : (k : Seeker) → Shows k.shape [] → k.sight ≡ sight_of c s → k.lines.items ≡ [] → k.classes.items ≡ [] → IsKnown w c s [] false k
-  known-none k shows sight lines classes = record {
+  pub known-none : (k : Seeker) → Shows k.shape [] → k.sight ≡ sight_of c s → k.lines.items ≡ [] → k.classes.items ≡ [] → k.steps.items ≡ [] → IsKnown w c s [] false k
+  known-none k shows sight lines classes steps = record {
     shows = shows;
     sight = sight;
     lines = λ h. lines;
     classes = λ h. subst (Follows w c s []) (sym classes) (follows-none w c s);
+    steps = λ h f. subst (Tracks []) (sym steps) tracks-none;
   }
 
   -- the lines that came are an outline
@@ -446,21 +457,46 @@ module _ (w : Want) (c : Case) (s : Standing) where
     pub takes-met : met ≡ true → TakesTo w c s ls met l true new
     takes-met is = record {
       outline = outline-is;
-      known = record { shows = shows-is; sight = same ∙ h.sight; lines = λ k. absurd (true≢false k); classes = λ k. absurd (true≢false k) };
+      known = record { shows = shows-is; sight = same ∙ h.sight; lines = λ k. absurd (true≢false k); classes = λ k. absurd (true≢false k); steps = λ k. absurd (true≢false k) };
       stays = λ k. refl;
       sure = λ k. absurd (true≢false (sym is ∙ k));
     }
 
     -- where it wasn't
-    module _ (unmet : met ≡ false) (lines : new.lines.items ≡ old.lines.items ++ l ∷ []) (classes : new.classes.items ≡ noted old.sight s w l old.classes.items) where
+    module _ (unmet : met ≡ false) (lines : new.lines.items ≡ old.lines.items ++ l ∷ []) (g : Bool) (classes : new.classes.items ≡ noted old.sight s w l g old.classes.items)
+        (followed : new.follows ≡ old.follows) (steps : old.follows ≡ true → IsCounted old.steps.items l → new.steps.items ≡ went_on old.steps.items l)
+        (opens : g ≡ (old.follows && (is_class_kind l.kind && is_opened c s (way new.steps.items)))) where
+      small : length ls < 2 ^ 64
+      small =
+          let kept = h.lines unmet in
+          let kept_len = old.lines.ok.0 in
+          let kept_room = old.lines.ok.1 in
+          let kept_small = old.lines.small in
+          subst (λ xs. length xs < 2 ^ 64) kept (omega (arith, kept_len, kept_room, kept_small))
+
+      grown : old.follows ≡ true → new.steps.items ≡ went_on old.steps.items l
+      grown f = steps f (is-counted ls old.steps.items l (h.steps unmet f) small)
+
+      more-steps : new.follows ≡ true → Tracks (ls ++ l ∷ []) new.steps.items
+      more-steps f =
+          let old-follows = sym followed ∙ f in
+          subst (Tracks (ls ++ l ∷ [])) (sym (grown old-follows)) (tracks-more ls old.steps.items l (h.steps unmet old-follows) small fits)
+
+      gives : g ≡ true → IsSeen w c s (ls ++ l ∷ []) (placed (located_back ls) l).path
+      gives t =
+          let both = sym opens ∙ t in
+          let follows = (and_parts old.follows (is_class_kind l.kind && is_opened c s (way new.steps.items)) both).0 in
+          follow-seen w c s ls l old.steps.items old.follows (h.steps unmet) fits
+          (ap (λ ss. old.follows && (is_class_kind l.kind && is_opened c s (way ss))) (sym (grown follows)) ∙ both)
+
       more-follows : Follows w c s (ls ++ l ∷ []) new.classes.items
       more-follows = subst (Follows w c s (ls ++ l ∷ [])) (sym classes)
-          (follows-more w c s ls l old.sight h.sight old.classes.items (h.classes unmet) fits outline-is)
+          (follows-more w c s ls l old.sight h.sight g gives old.classes.items (h.classes unmet) fits outline-is)
 
       pub takes-more : (b : Bool) → b ≡ list_any is_settled new.classes.items → TakesTo w c s ls met l b new
       takes-more b found = record {
         outline = outline-is;
-        known = record { shows = shows-is; sight = same ∙ h.sight; lines = λ k. lines ∙ ap (λ xs. xs ++ l ∷ []) (h.lines unmet); classes = λ k. more-follows };
+        known = record { shows = shows-is; sight = same ∙ h.sight; lines = λ k. lines ∙ ap (λ xs. xs ++ l ∷ []) (h.lines unmet); classes = λ k. more-follows; steps = λ k. more-steps };
         stays = λ k. absurd (true≢false (sym k ∙ unmet));
         sure = λ k t. found-sure w c s (ls ++ l ∷ []) new.classes.items more-follows (sym found ∙ t);
       }

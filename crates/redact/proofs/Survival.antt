@@ -16,10 +16,10 @@ use Rattle.iodef_tree.proofs.Blocks.{blocks-located, below-parents}
 use Rattle.iodef_tree.proofs.Located.{located-lines}
 use Rattle.iodef_tree.proofs.Order.{same_path-true, is_false}
 use Rattle.iodef_tree.proofs.Siblings.{all-append}
-use Rattle.marking.specs.Label.{Marking, private}
+use Rattle.marking.specs.Label.{LabelValue, private}
 use Rattle.marking.specs.Marks.{incident_path, is_well_marked, first_bad_marking, written_label, label_at}
 use Rattle.marking.specs.Members.{spelled_in, is_rule_kept_in}
-use Rattle.marking.specs.Pass.{bad_below}
+use Rattle.marking.specs.inner.Pass.{bad_below}
 use Rattle.marking.proofs.Bad.{first_bad}
 use Rattle.marking.proofs.Marked.{not_root}
 use Rattle.marking.proofs.Owned.{own-class}
@@ -30,7 +30,7 @@ use Rattle.policy.specs.Inherited.{label_step}
 use Rattle.policy.specs.declared.standing.Standing.{Standing}
 use Rattle.policy.specs.declared.case.Case.{Case}
 use Rattle.redact.specs.Kept.{Attribute, Verdicts, is_kept}
-use Rattle.redact.specs.Judged.{judge, Home, root, inside, keeps_plain, shows_label, left_before, new_place, left_with, moved, is_end, put_leaf, attribute_leaf, put_attributes, cut, places}
+use Rattle.redact.specs.inner.Judged.{judge, Surrounding, root, inside, keeps_plain, shows_label, left_before, new_place, left_with, moved, is_end, put_leaf, attribute_leaf, put_attributes, cut, places}
 use Rattle.redact.specs.Withheld.{class_places, place_by}
 use Rattle.redact.specs.Told.{verdicts_of, kept_outline}
 use Rattle.redact.specs.Excerpts.{LabelsSurvive}
@@ -110,7 +110,7 @@ alike-below [] (y ∷ q) a None n same b None m = absurd (omega (arith, same))
 -- ---- one class
 
 -- A visible class has its label in the excerpt, where it says it or there is one above it that it has in the document too.
-same-label : (w : Option Marking) (u shows incident incident' : Bool) (above above' label : Marking) → u ≡ is_none w →
+same-label : (w : Option LabelValue) (u shows incident incident' : Bool) (above above' label : LabelValue) → u ≡ is_none w →
     label ≡ unwrap_or (option_or w (if incident then Some private else None)) above → (shows ≡ true → (above' ≡ above) × (incident' ≡ incident)) →
     unwrap_or (option_or (if u && not shows then Some label else w) (if incident' then Some private else None)) above' ≡ label
 same-label w u shows incident incident' above above' label e is same = grind arith
@@ -123,7 +123,7 @@ module _ (es es' : List LocatedLine) (c : Case) (s : Standing) where
   abbrev Survives : Tokens × Tokens → Type 0
   Survives x = (is_well_marked es' x.1 ≡ true) × (v.visible x.0 ≡ true → label_at es' x.1 ≡ label_at es x.0)
 
-  survive : (f : Forest) (h : Home) (p q : Tokens) (n : ℕ) → AreMarked es p f → AreMarked es' q (cut h n (judge v p f)) → HasApart f → bad_below f ≡ None →
+  survive : (f : Forest) (h : Surrounding) (p q : Tokens) (n : ℕ) → AreMarked es p f → AreMarked es' q (cut h n (judge v p f)) → HasApart f → bad_below f ≡ None →
       length q ≡ length p → (shows_label h ≡ true → (label_at es' q ≡ label_at es p) × AreAlike p q) → AllByRecursion Survives (places h p q n (judge v p f))
   survive end h p q n here there apart ok same above = tt
   survive (leaf i rest) h p q n here there apart ok same above =

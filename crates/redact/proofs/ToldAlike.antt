@@ -14,7 +14,7 @@ use Rattle.iodef_tree.proofs.Nearest.{nearest-located}
 use Rattle.iodef_tree.proofs.ByPath.{has_class-root}
 use Rattle.marking.specs.Marks.{written_label}
 use Rattle.policy.specs.Permissions.{holds_for, covers}
-use Rattle.policy.specs.Gates.{passage_of}
+use Rattle.policy.specs.Gates.{refusal_of_gate}
 use Rattle.policy.specs.Verdict.{refusals_at, is_covered, is_visible}
 use Rattle.policy.specs.declared.standing.Standing.{Standing}
 use Rattle.policy.specs.declared.permission.Permission.{Permission}
@@ -99,7 +99,7 @@ module _ (s : Standing) (a b : Report) (da : IsMarked a.lines) (db : IsMarked b.
               classes = λ q k. ap (λ xs. has_class xs q) same_lines;
               written = λ q k. ap (λ xs. written_label xs q) same_lines;
             };
-            refused = λ q k. ap (λ gs. filter_map (passage_of s) (filter (λ g. same_path g.path q) gs)) h.gates;
+            refused = λ q k. ap (λ gs. filter_map (refusal_of_gate s) (filter (λ g. same_path g.path q) gs)) h.gates;
             granted = λ x k. covered-for es' x a.case ∙ ap (λ xs. list_any (covers es' s x) xs) h.permissions ∙ sym (covered-for es' x b.case);
           })
           (each (λ e. true ≡ true → true ≡ true) (λ e k. refl) es)
@@ -214,7 +214,7 @@ module _ (s : Standing) (a b : Report) (da : IsMarked a.lines) (db : IsMarked b.
         false_from_ne_true (same_path g.path q) (λ t. false≢true (sym (not-true (is_prefix p q) k) ∙ ap (is_prefix p) (sym (same_path-true g.path q t)) ∙ not-false (is_prefix p g.path) gone)) in
         let f : Gate → Bool = λ g. same_path g.path q in
         let o : Gate → Bool = λ g. not (is_prefix p g.path) in
-        ap (filter_map (passage_of s)) (filter-within f o a.case.gates no ∙ ap (filter f) h.gates ∙ sym (filter-within f o b.case.gates no))
+        ap (filter_map (refusal_of_gate s)) (filter-within f o a.case.gates no ∙ ap (filter f) h.gates ∙ sym (filter-within f o b.case.gates no))
 
     off-granted : (xs : List LocatedLine) (x : Tokens) → off x ≡ true → is_covered xs a.case s x ≡ is_covered xs b.case s x
     off-granted xs x k =

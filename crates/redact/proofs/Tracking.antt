@@ -133,7 +133,7 @@ module _ (before : List LocatedLine) (ss : List Step) (l : Line) (t : Leads befo
       ap (λ p. p ++ steps l.name (place_of l.in_array (place_among before l.depth l.name))) parent-is
       ∙ ap (λ n. way (take j ss) ++ steps l.name (place_of l.in_array n)) place-is
 
-  path-is : e.path ≡ way ss'
+  pub path-is : e.path ≡ way ss'
   path-is = path-below ∙ sym (way_more (take j ss) new)
 
   size : length ss' ≡ suc j

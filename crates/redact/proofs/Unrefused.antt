@@ -10,7 +10,7 @@ use Rattle.marking.specs.Marks.{label_at}
 use Rattle.marking.specs.declared.label.Handling.{Handling}
 use Rattle.marking.specs.declared.label.Handling.TheVariants.{Red}
 use Rattle.policy.specs.Clearance.{clearance_of}
-use Rattle.policy.specs.Gates.{passage_of}
+use Rattle.policy.specs.Gates.{refusal_of_gate}
 use Rattle.policy.specs.Verdict.{first_of, refusals_at, refusal_at, handling_for, is_cleared_for, is_covered, is_visible}
 use Rattle.policy.specs.declared.rule.Rule.{Rule}
 use Rattle.policy.specs.declared.gate.Gate.{Gate}
@@ -18,16 +18,16 @@ use Rattle.policy.specs.declared.standing.Standing.{Standing}
 use Rattle.policy.specs.declared.case.Case.{Case}
 use Rattle.redact.specs.Probed.{some_refuses, sees_all}
 
-passes-none : (s : Standing) (f : Gate → Bool) (gs : List Gate) → list_any (λ g. is_some (passage_of s g)) gs ≡ false → filter_map (passage_of s) (filter f gs) ≡ []
+passes-none : (s : Standing) (f : Gate → Bool) (gs : List Gate) → list_any (λ g. is_some (refusal_of_gate s g)) gs ≡ false → filter_map (refusal_of_gate s) (filter f gs) ≡ []
 passes-none s f [] h = refl
 passes-none s f (g ∷ gs) h =
-    let parts = or_parts (is_some (passage_of s g)) (list_any (λ g. is_some (passage_of s g)) gs) h in
-    by_value (f g) (passage_of s g) parts.0 refl (passes-none s f gs parts.1)
+    let parts = or_parts (is_some (refusal_of_gate s g)) (list_any (λ g. is_some (refusal_of_gate s g)) gs) h in
+    by_value (f g) (refusal_of_gate s g) parts.0 refl (passes-none s f gs parts.1)
   where
-    by_value : (b : Bool) (o : Option Rule) → is_some o ≡ false → passage_of s g ≡ o → filter_map (passage_of s) (filter f gs) ≡ [] →
-        filter_map (passage_of s) (if b then g ∷ filter f gs else filter f gs) ≡ []
+    by_value : (b : Bool) (o : Option Rule) → is_some o ≡ false → refusal_of_gate s g ≡ o → filter_map (refusal_of_gate s) (filter f gs) ≡ [] →
+        filter_map (refusal_of_gate s) (if b then g ∷ filter f gs else filter f gs) ≡ []
     by_value false o none is rest = rest
-    by_value true None none is rest = ap (λ o. cons_option o (filter_map (passage_of s) (filter f gs))) is ∙ rest
+    by_value true None none is rest = ap (λ o. cons_option o (filter_map (refusal_of_gate s) (filter f gs))) is ∙ rest
     by_value true (Some r) none is rest = absurd (true≢false none)
 
 flat-none : {X Y : Type 0} (f : X → List Y) → ((x : X) → f x ≡ []) → (xs : List X) → flat_map f xs ≡ []

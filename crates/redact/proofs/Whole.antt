@@ -8,7 +8,7 @@ use Rattle.iodef_tree.specs.Walk.{walk, AreBlocks}
 use Rattle.iodef_tree.proofs.Blocks.{blocks-located, below-parents}
 use Rattle.iodef_tree.proofs.Located.{located-lines}
 use Rattle.iodef_tree.proofs.Siblings.{siblings-all, walk-all}
-use Rattle.marking.specs.Label.{Marking}
+use Rattle.marking.specs.Label.{LabelValue}
 use Rattle.marking.specs.Marks.{first_bad_marking, written_label, label_at}
 use Rattle.marking.specs.Members.{spelled_in}
 use Rattle.marking.proofs.Bad.{first_bad}
@@ -18,11 +18,11 @@ use Rattle.policy.specs.Inherited.{inherited_at, enter_class, at_root}
 use Rattle.policy.proofs.Steps.{enter_class-at, enter_array-at, at_root-is}
 use Rattle.policy.specs.declared.standing.Standing.{Standing}
 use Rattle.policy.specs.declared.case.Case.{Case}
-use Rattle.redact.specs.Kept.{Verdicts, kept}
+use Rattle.redact.specs.Kept.{Verdicts, kept_lines}
 use Rattle.redact.specs.Withheld.{Withheld, is_among, place_by, class_places, withheld_pairs, in_order}
-use Rattle.redact.specs.Judged.{Judged, plain, judge, root, cut, visible_classes, told}
+use Rattle.redact.specs.inner.Judged.{Judged, plain, judge, root, cut, visible_classes, told}
 use Rattle.redact.specs.Told.{verdicts_of, kept_outline, withheld_of, visible_count}
-use Rattle.redact.specs.Pass.{enter, pass}
+use Rattle.redact.specs.inner.Pass.{enter, pass}
 use Rattle.redact.proofs.Keeping.{is_seen, any_seen, SaysBelow}
 use Rattle.redact.proofs.Ordered.{trails-none, ordered-cut}
 use Rattle.redact.proofs.Counts.{within-cut, count-walk, few-seen}
@@ -34,7 +34,7 @@ use Rattle.redact.proofs.Spelling.{label-names, labels-fit}
 -- ---- each class is judged as the definitions judge its path
 
 module _ (es : List LocatedLine) (c : Case) (s : Standing) (under : AreUnderParents es) where
-  pub enter-at : (p : Tokens) (name : Bytes) (place : Option ℕ) (w : Option Marking) → has_class es (p ++ steps name place) ≡ true →
+  pub enter-at : (p : Tokens) (name : Bytes) (place : Option ℕ) (w : Option LabelValue) → has_class es (p ++ steps name place) ≡ true →
       (is_some place ≡ true → has_class es (p ++ name ∷ []) ≡ false) → written_label es (p ++ steps name place) ≡ w →
       enter c s (inherited_at es c s p) name place w ≡ inherited_at es c s (p ++ steps name place)
   enter-at p name None w here bare is = enter_class-at es c s p name w here is
@@ -97,7 +97,7 @@ module _ (f : Forest) (c : Case) (s : Standing) (sound : IsSound f) (ok : first_
 
   -- the kept outline is that of what the pass leaves
   pub left-lines : kept_outline (lines 1 f) c s ≡ lines 1 (cut root 0 (judge v [] f))
-  left-lines = ap (kept v) (located-lines f sound) ∙ kept-lines v f sound says left-sound
+  left-lines = ap (kept_lines v) (located-lines f sound) ∙ kept-lines v f sound says left-sound
 
   -- the same of what the program's pass has judged
   module _ (j : Judged) (is : j ≡ pass c s (at_root c s) f) where

@@ -10,7 +10,7 @@ use Rattle.iodef_tree.specs.Tree.{Forest, end, leaf, branch, steps}
 use Rattle.iodef_tree.specs.Walk.{walk, leaf_entry}
 use Rattle.redact.specs.Kept.{Verdicts, is_wholly_hidden}
 use Rattle.redact.specs.Withheld.{Withheld, told_at_place, withheld_at, withheld_among}
-use Rattle.redact.specs.Judged.{judge, inside, keeps_plain, home_at, left_before, new_place, left_with, is_end, cut, told, places}
+use Rattle.redact.specs.inner.Judged.{judge, inside, keeps_plain, home_at, left_before, new_place, left_with, is_end, cut, told, places}
 use Rattle.marking.proofs.Bad.{no_class-kind}
 use Rattle.marking.proofs.Marked.{not_root}
 use Rattle.redact.proofs.Fates.{by_verdict}

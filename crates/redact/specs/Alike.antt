@@ -88,7 +88,7 @@ module _ (s : Standing) where
     pub permissions : permissions_but p a.case.permissions ≡ permissions_but p b.case.permissions
     pub withheld : withheld_of a.lines a.case s ≡ withheld_of b.lines b.case s
 
-  -- other permissions, whose grantees don't include the reader
+  -- other permissions that don't hold for the reader: their grantees don't include it, or they have ended
   pub record HasOtherPermissions (a b : Report) : Type 0 where
     pub lines : a.lines ≡ b.lines
     pub source : a.case.source ≡ b.case.source

@@ -66,14 +66,14 @@ module _ (v : Verdicts) where
   says_label e = is_class e && (v.visible e.path && (v.unmarked e.path && not (is_visible_class e.parent)))
 
   -- the lines that are added in a class
-  abbrev pub added : LocatedLine → List Line
-  added e = if says_label e then attribute_lines (suc e.line.depth) (v.label e.path) else []
+  abbrev pub added_label_lines : LocatedLine → List Line
+  added_label_lines e = if says_label e then attribute_lines (suc e.line.depth) (v.label e.path) else []
 
   -- each line, with those that are added in its class put in behind it
-  abbrev pub labelled : List LocatedLine → List Line
-  labelled [] = []
-  labelled (e ∷ es) = e.line ∷ put_all (added e) (labelled es)
+  abbrev pub with_added_labels : List LocatedLine → List Line
+  with_added_labels [] = []
+  with_added_labels (e ∷ es) = e.line ∷ put_all (added_label_lines e) (with_added_labels es)
 
   -- the kept outline
-  abbrev pub kept : List LocatedLine → List Line
-  kept es = labelled (filter is_kept es)
+  abbrev pub kept_lines : List LocatedLine → List Line
+  kept_lines es = with_added_labels (filter is_kept es)

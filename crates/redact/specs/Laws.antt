@@ -9,9 +9,9 @@ use Rattle.policy.specs.declared.gate.Gate.{Gate}
 use Rattle.policy.specs.declared.rule.Rule.{Rule}
 use Rattle.policy.specs.declared.verdict.Verdict.{Verdict}
 use Rattle.policy.specs.declared.verdict.Verdict.TheVariants.{Shown, Hidden}
-use Rattle.policy.specs.Gates.{passage_of}
+use Rattle.policy.specs.Gates.{refusal_of_gate}
 use Rattle.policy.specs.Verdict.{is_visible, verdict_of}
-use Rattle.redact.specs.Kept.{Verdicts, is_kept, is_frame, kept}
+use Rattle.redact.specs.Kept.{Verdicts, is_kept, is_frame, kept_lines}
 use Rattle.redact.specs.Withheld.{Withheld, in_order, Lists}
 use Rattle.redact.specs.Told.{verdicts_of, excerpt_place, visible_count, is_listed, excerpt_of, finds}
 use Rattle.redact.specs.Wants.{meets_by}
@@ -27,7 +27,7 @@ FoundIsListed = (ls : List Line) (c : Case) (s : Standing) (needle : Bytes) (nam
 -- the class lines of the kept outline are those of the kept classes, in their order: so each kept class has its place
 abbrev pub KeptClassesStay : Type 0
 KeptClassesStay = (v : Verdicts) (es : List LocatedLine) →
-    filter (λ l. is_class_kind l.kind) (kept v es) ≡ map (λ e. e.line) (filter is_class (filter (is_kept v) es))
+    filter (λ l. is_class_kind l.kind) (kept_lines v es) ≡ map (λ e. e.line) (filter is_class (filter (is_kept v) es))
 
 -- Nothing is told: there is no excerpt, and nothing that is looked for is met.
 pub record TellsNothing (ls : List Line) (c : Case) (s : Standing) : Type 0 where
@@ -37,7 +37,7 @@ pub record TellsNothing (ls : List Line) (c : Case) (s : Standing) : Type 0 wher
 -- a reader who isn't of the source, and whom a gate at the root refuses, is told nothing, whatever the lines are
 abbrev pub RootGateTellsNothing : Type 0
 RootGateTellsNothing = (ls : List Line) (c : Case) (s : Standing) (g : Gate) → s.source ≡ false →
-    Contains c.gates g → is_root g.path ≡ true → is_some (passage_of s g) ≡ true → TellsNothing ls c s
+    Contains c.gates g → is_root g.path ≡ true → is_some (refusal_of_gate s g) ≡ true → TellsNothing ls c s
 
 -- what is withheld is listed in order and without repeats: all of it, and nothing else
 abbrev pub WithheldIsListed : Type 0

@@ -1,16 +1,8 @@
 pub mod Kept
 pub mod Withheld
-pub mod Judged
 pub mod Told
-pub mod Pass
-pub mod Here
-pub mod Tokens
-pub mod Left
-pub mod Saying
 pub mod Excerpts
-pub mod Search
 pub mod Wants
-pub mod Ties
 pub mod Laws
 pub mod Examples
 pub mod Alike
@@ -19,3 +11,4 @@ pub mod Matters
 pub mod Marked
 pub mod Sifted
 pub mod Probed
+pub mod inner

@@ -11,18 +11,21 @@ use Rattle.iodef_tree.specs.declared.line.Line.{Line}
 use Rattle.iodef_tree.specs.declared.line.Kind.{Kind}
 use Rattle.iodef_tree.specs.declared.line.Kind.TheVariants as kind
 use Rattle.iodef_tree.specs.declared.fault.OutlineFault.{OutlineFault}
-use Rattle.marking.specs.Label.{Marking, extended, spelled, is_at_most}
+use Rattle.marking.specs.Label.{LabelValue, extended, spelled, is_at_most}
 use Rattle.marking.specs.Marks.{Held, absent, one_text, restriction_at, ext_restriction_at, first_bad_marking}
 use Rattle.marking.specs.declared.label.Handling.TheVariants.{Red}
 use Rattle.policy.specs.Clearance.{clearance_of}
-use Rattle.policy.specs.Gates.{passage_of}
+use Rattle.policy.specs.Gates.{refusal_of_gate}
+use Rattle.policy.specs.Laws.{refuses_on}
+use Rattle.policy.specs.Permissions.{holds_for}
 use Rattle.policy.specs.Verdict.{is_cleared_for, is_visible}
+use Rattle.policy.specs.declared.permission.Permission.{Permission}
 use Rattle.policy.specs.declared.standing.Standing.{Standing}
 use Rattle.policy.specs.declared.case.Case.{Case}
 use Rattle.redact.specs.Told.{is_named, is_hit, holds_needle}
 use Rattle.redact.specs.Feeding.{Progress, TakesLine}
 use Rattle.redact.specs.Wants.{meets}
-use Rattle.redact.specs.Sifted.{located_back}
+use Rattle.redact.specs.Sifted.{located_back, Tracks}
 use Rattle.redact.specs.declared.want.Want.{Want}
 use Rattle.redact.specs.declared.seeking.Sight.{Sight}
 use Rattle.redact.specs.declared.seeking.Sight.TheVariants as sight
@@ -98,13 +101,13 @@ has_wanted w es p = list_any (is_wanted_at w p) es
 
 -- a gate of the case refuses the reader, wherever it stands
 abbrev pub some_refuses : Case → Standing → Bool
-some_refuses c s = list_any (λ g. is_some (passage_of s g)) c.gates
+some_refuses c s = list_any (λ g. is_some (refusal_of_gate s g)) c.gates
 
 -- the reader sees every class of every report: it is of the source, or no gate refuses it and it is cleared for all
 abbrev pub sees_all : Case → Standing → Bool
 sees_all c s = s.source || (not (some_refuses c s) && is_at_most Red (clearance_of s).0)
 
--- how much: every class, each class in which a label is written for which the reader is cleared, or none for sure
+-- how much without permissions: every class, each class in which a label is written for which the reader is cleared, or none for sure
 abbrev pub sight_of : Case → Standing → Sight
 sight_of c s = if sees_all c s then sight.Everything else if some_refuses c s then sight.Unsure else sight.Cleared
 
@@ -117,6 +120,19 @@ abbrev pub is_cleared_sight : Sight → Bool
 is_cleared_sight sight.Everything = false
 is_cleared_sight sight.Cleared = true
 is_cleared_sight sight.Unsure = false
+
+-- ---- a permission that shows the class at which it stands, whatever label is written in that
+
+-- it holds for the reader, and no gate where it stands or above refuses the reader
+abbrev pub opens : Case → Standing → Permission → Bool
+opens c s x = holds_for s x && not (list_any (refuses_on s x.path) c.gates)
+
+abbrev pub some_opens : Case → Standing → Bool
+some_opens c s = list_any (opens c s) c.permissions
+
+-- one stands at the path
+abbrev pub is_opened : Case → Standing → Tokens → Bool
+is_opened c s p = list_any (λ x. same_path x.path p && opens c s x) c.permissions
 
 -- ---- a label that is written in a class, for which the reader is cleared
 
@@ -148,7 +164,7 @@ is_cleared_beside beside.Absent = false
 is_cleared_beside beside.Cleared = true
 is_cleared_beside beside.Other = false
 
-abbrev pub is_cleared_by : Standing → Beside → Bytes → Option Marking → Bool
+abbrev pub is_cleared_by : Standing → Beside → Bytes → Option LabelValue → Bool
 is_cleared_by s x r None = bytes_eq r (codes "ext-value") && is_cleared_beside x
 is_cleared_by s x r (Some m) = is_cleared_for s m
 
@@ -166,9 +182,9 @@ is_restriction l = bytes_eq l.name (codes "restriction")
 
 -- ---- the open classes, the outermost first
 
--- a class whose line has come
-abbrev pub entered : Sight → Want → Line → Open
-entered k w l = record { fits = wants_name w l.name; holds = is_none w.needle; shown = is_everything k; labelled = false; beside = beside.Absent }
+-- a class whose line has come, and which a permission opens or not
+abbrev pub entered : Sight → Want → Line → Bool → Open
+entered k w l g = record { fits = wants_name w l.name; holds = is_none w.needle; shown = is_everything k || g; labelled = false; beside = beside.Absent }
 
 -- the line is the first that is named `restriction`, and shows the class
 abbrev pub shows : Sight → Standing → Line → Open → Bool
@@ -191,12 +207,12 @@ innermost_holding k s w l (x ∷ []) = holding k s w l x ∷ []
 innermost_holding k s w l (x ∷ y ∷ xs) = x ∷ innermost_holding k s w l (y ∷ xs)
 
 -- the class of the line is open behind them, if it is one
-abbrev pub opened : Sight → Want → Line → List Open → List Open
-opened k w l os = if is_class_kind l.kind then os ++ entered k w l ∷ [] else os
+abbrev pub opened : Sight → Want → Line → Bool → List Open → List Open
+opened k w l g os = if is_class_kind l.kind then os ++ entered k w l g ∷ [] else os
 
 -- with a line more
-abbrev pub noted : Sight → Standing → Want → Line → List Open → List Open
-noted k s w l os = opened k w l (innermost_holding k s w l (take (l.depth - 1) os))
+abbrev pub noted : Sight → Standing → Want → Line → Bool → List Open → List Open
+noted k s w l g os = opened k w l g (innermost_holding k s w l (take (l.depth - 1) os))
 
 -- it is sure that the reader sees the class, that it holds what is wanted, and that it has a name that is wanted
 abbrev pub is_settled : Open → Bool
@@ -242,6 +258,7 @@ pub record IsKnown (w : Want) (c : Case) (s : Standing) (ls : List Line) (met : 
   pub sight : k.sight ≡ sight_of c s
   pub lines : met ≡ false → k.lines.items ≡ ls
   pub classes : met ≡ false → Follows w c s ls k.classes.items
+  pub steps : met ≡ false → k.follows ≡ true → Tracks ls k.steps.items
 
 -- one more line is taken, and true is answered of the lines with it, or not
 pub record TakesTo (w : Want) (c : Case) (s : Standing) (ls : List Line) (met : Bool) (l : Line) (now : Bool) (k : Seeker) : Type 0 where

@@ -11,7 +11,7 @@ use Rattle.iodef_tree.specs.Shown.{Shows}
 use Rattle.iodef_tree.specs.declared.line.Line.{Line}
 use Rattle.iodef_tree.specs.declared.shape.Shape.{Shape}
 use Rattle.iodef_tree.specs.declared.shape.Sibling.{Sibling}
-use Rattle.policy.specs.Gates.{passage_of}
+use Rattle.policy.specs.Gates.{refusal_of_gate}
 use Rattle.policy.specs.declared.gate.Gate.{Gate}
 use Rattle.policy.specs.declared.standing.Standing.{Standing}
 use Rattle.policy.specs.declared.case.Case.{Case}
@@ -53,7 +53,7 @@ stands p s q = is_root q || (same_path q (p ++ s.name ∷ []) || same_path q (p 
 
 -- a gate there refuses the reader
 abbrev pub stops : Standing → Tokens → Step → Gate → Bool
-stops r p s g = stands p s g.path && is_some (passage_of r g)
+stops r p s g = stands p s g.path && is_some (refusal_of_gate r g)
 
 -- a line is that of a class at which a gate refuses the reader, who isn't of the source
 abbrev pub is_stopped : Case → Standing → List Step → Line → Bool

@@ -7,16 +7,16 @@ use Rattle.iodef_tree.specs.Paths.{LocatedLine, is_class, located, below}
 use Rattle.iodef_tree.specs.declared.line.Line.{Line}
 use Rattle.iodef_tree.specs.declared.line.Kind.{Kind}
 use Rattle.iodef_tree.specs.declared.line.Kind.TheVariants as kind
-use Rattle.marking.specs.Label.{Marking, extended, restriction_of}
+use Rattle.marking.specs.Label.{LabelValue, extended, restriction_of}
 use Rattle.marking.specs.Marks.{written_label, label_at}
 use Rattle.policy.specs.Verdict.{is_visible, hiding_rule}
 use Rattle.policy.specs.declared.standing.Standing.{Standing}
 use Rattle.policy.specs.declared.case.Case.{Case}
-use Rattle.redact.specs.Kept.{Attribute, Verdicts, kept}
+use Rattle.redact.specs.Kept.{Attribute, Verdicts, kept_lines}
 use Rattle.redact.specs.Withheld.{Withheld, class_places, place_by, withheld_pairs, in_order}
 
 -- the value of `ext-restriction`, for an extended label (RFC 7970 section 5.1.1)
-abbrev pub ext_restriction_of : Marking → Option Bytes
+abbrev pub ext_restriction_of : LabelValue → Option Bytes
 ext_restriction_of (extended t) = Some t
 ext_restriction_of l = None
 
@@ -25,7 +25,7 @@ attributes_by restriction None = (codes "restriction", restriction) ∷ []
 attributes_by restriction (Some ext) = (codes "ext-restriction", ext) ∷ (codes "restriction", restriction) ∷ []
 
 -- what a label is written as (RFC 7970 section 3.3.1)
-abbrev pub attributes_of : Marking → List Attribute
+abbrev pub attributes_of : LabelValue → List Attribute
 attributes_of l = attributes_by (restriction_of l) (ext_restriction_of l)
 
 -- some class of these lines is visible
@@ -86,7 +86,7 @@ module _ (ls : List Line) (c : Case) (s : Standing) where
 
   -- the outline of the excerpt
   abbrev pub kept_outline : List Line
-  kept_outline = kept (verdicts_of (located ls) c s) (located ls)
+  kept_outline = kept_lines (verdicts_of (located ls) c s) (located ls)
 
   -- what is withheld, in order and without repeats
   abbrev pub withheld_of : List Withheld

@@ -12,7 +12,7 @@ use Rattle.iodef_tree.specs.Paths.{LocatedLine, is_class, class_paths, classes_o
 use Rattle.iodef_tree.specs.Pointer.{pointer_text}
 use Rattle.policy.specs.Rule.{name_of}
 use Rattle.policy.specs.declared.rule.Rule.{Rule}
-use Rattle.redact.specs.Kept.{Verdicts, is_frame, is_wholly_hidden, is_kept, kept}
+use Rattle.redact.specs.Kept.{Verdicts, is_frame, is_wholly_hidden, is_kept, kept_lines}
 
 -- a place in the excerpt, and the rule by which something is withheld there
 abbrev pub Withheld : Type 0
@@ -27,7 +27,7 @@ module _ (v : Verdicts) where
   -- The paths of the kept classes, each beside the path of its line in the kept outline: that has a line for each of them,
   -- in the same order.
   abbrev pub class_places : List LocatedLine → List (Tokens × Tokens)
-  class_places es = zip (class_paths (filter (is_kept v) es)) (classes_of (kept v es))
+  class_places es = zip (class_paths (filter (is_kept v) es)) (classes_of (kept_lines v es))
 
 -- the place of a kept class in the excerpt; the root's is the root's path, and what is not kept has none
 abbrev pub place_by : List (Tokens × Tokens) → Tokens → Option Tokens
@@ -64,20 +64,20 @@ same_withheld = eq_of_both (on (λ x. pointer_text x.0) bytes_eq) (on (λ x. nam
 
 -- ---- in order
 
-abbrev pub noted_by : Ordering → Withheld → Withheld → List Withheld → List Withheld → List Withheld
-noted_by Less x y ys rest = x ∷ y ∷ ys
-noted_by Equal x y ys rest = y ∷ ys
-noted_by Greater x y ys rest = y ∷ rest
+abbrev pub insert_withheld_by : Ordering → Withheld → Withheld → List Withheld → List Withheld → List Withheld
+insert_withheld_by Less x y ys rest = x ∷ y ∷ ys
+insert_withheld_by Equal x y ys rest = y ∷ ys
+insert_withheld_by Greater x y ys rest = y ∷ rest
 
 -- a pair at its place in the order, unless it stands there
-abbrev pub noted : Withheld → List Withheld → List Withheld
-noted x [] = x ∷ []
-noted x (y ∷ ys) = noted_by (withheld_cmp x y) x y ys (noted x ys)
+abbrev pub insert_withheld : Withheld → List Withheld → List Withheld
+insert_withheld x [] = x ∷ []
+insert_withheld x (y ∷ ys) = insert_withheld_by (withheld_cmp x y) x y ys (insert_withheld x ys)
 
 -- by the bytes of the place and then of the rule, none twice
 abbrev pub in_order : List Withheld → List Withheld
 in_order [] = []
-in_order (x ∷ xs) = noted x (in_order xs)
+in_order (x ∷ xs) = insert_withheld x (in_order xs)
 
 -- a list in this order, without repeats, of the same pairs
 pub record Lists (pairs listed : List Withheld) : Type 0 where

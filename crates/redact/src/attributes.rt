@@ -4,10 +4,10 @@ ghost use Rattle.std.specs.Prelude.{◌≡◌, ◌≤◌, ◌++◌, ◌∷◌, I
 ghost use Rattle.std.specs.List.{AllByRecursion};
 ghost use Rattle.iodef_tree.specs.View.{forest, named, members_forest};
 ghost use Rattle.marking.specs.Label.{marking_of};
-ghost use Rattle.redact.specs.Judged.{put_leaf, put_attributes, attribute_leaf};
+ghost use Rattle.redact.specs.inner.Judged.{put_leaf, put_attributes, attribute_leaf};
 ghost use Rattle.redact.specs.Told.{attributes_of, ext_restriction_of};
 ghost use Rattle.iodef_tree.specs.Filled.{IsFilled, IsMemberFilled};
-ghost use Rattle.redact.specs.Saying.{saying};
+ghost use Rattle.redact.specs.inner.Saying.{saying};
 ghost use Rattle.iodef_tree.specs.View.{forest_of_members};
 
 use iodef_tree::{Item, Member, Object, Text};

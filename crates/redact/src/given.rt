@@ -7,9 +7,9 @@ ghost use Rattle.redact.specs.Told.{excerpt_of};
 ghost use Rattle.redact.specs.Excerpts.{told_by, LabelsSurvive};
 
 use crate::kept::Excerpt;
-use crate::listed::listed;
-use crate::pass::{Home, State, tell};
+use crate::pass::{State, Surrounding, tell};
 use crate::reader::Reader;
+use crate::sorted_withheld::sorted_withheld;
 use iodef_tree::Document;
 use policy::{Case, Standing};
 use std::alloc::{AllocError, Global};
@@ -26,9 +26,9 @@ pub fn excerpt<'a>(
     standing: &'a Standing,
 ) -> Result<Option<Excerpt>, AllocError>
     requires { first_bad_marking (located document.now) ≡ None }
-    ensures told { IfOk result (λ r. option_map told_by r ≡ excerpt_of document.now case.now standing.now) }
+    ensures told { IfOk result (λ r. option_map told_by r ≡ excerpt_of document.now case.now standing.entry.now) }
     ensures checked { IfOk result (λ r. IfSome r (λ e. first_bad_marking (located e.document) ≡ None)) }
-    ensures labels { IfOk result (λ r. IfSome r (λ e. LabelsSurvive document.now case.now standing.now e.document)) }
+    ensures labels { IfOk result (λ r. IfSome r (λ e. LabelsSurvive document.now case.now standing.entry.now e.document)) }
 {
     let reader = Reader { case, standing };
     let mut state = State {
@@ -37,18 +37,24 @@ pub fn excerpt<'a>(
         place: Vec::new(alloc),
         classes: 0,
         withheld: Vec::new(alloc),
-        gone: Vec::new(alloc),
+        rules_met: Vec::new(alloc),
     };
     let ahead = reader.ahead(alloc)?;
     let above = reader.at_root(&ahead);
-    let kept = reader.cut(&mut state, Home::Root, &ahead, above, document.root())?;
+    let kept = reader.cut(
+        &mut state,
+        Surrounding::Root,
+        &ahead,
+        above,
+        document.root(),
+    )?;
     if state.classes == 0 {
         return Ok(None);
     }
     let classes = state.classes;
-    let gone = replace(&mut state.gone, Vec::new(alloc));
+    let gone = replace(&mut state.rules_met, Vec::new(alloc));
     tell(&mut state, gone.as_slice())?;
-    let withheld = listed(alloc, state.withheld)?;
+    let withheld = sorted_withheld(alloc, state.withheld)?;
     let document = Document::new(kept);
     Ok(Some(Excerpt {
         document,

@@ -7,7 +7,7 @@
 //!
 //! - `given`: [`excerpt`]; `kept`: [`Excerpt`];
 //! - `pass`: the one pass down, for a `reader`, by its `trail`; `attributes`: a label put in;
-//! - `note`: what is withheld, as it is noted; `listed`: the same in order;
+//! - `note`: what is withheld, as it is noted; `sorted_withheld`: the same in order;
 //! - `search`: [`finds`] and [`is_listed`]; `want`: [`meets`], one or the other by a [`Want`];
 //! - `rows`: [`RowPass`], an excerpt by lines that come one at a time: `marks`, whether their markings are accepted; `sieve`,
 //!   those of them that matter, by the `way` to each and the gates that are `refusing` there; `fed`, all of them, for the
@@ -23,9 +23,9 @@ mod fed;
 mod given;
 mod kept;
 pub mod laws;
-mod listed;
 mod marks;
 mod note;
+mod opening;
 mod pass;
 mod probe;
 mod reader;
@@ -34,6 +34,7 @@ mod rows;
 mod search;
 mod seeking;
 mod sieve;
+mod sorted_withheld;
 mod trail;
 mod want;
 mod way;

@@ -3,7 +3,7 @@
 ghost use Rattle.std.specs.Prelude.{◌≡◌, IfOk, OnOk, string_bytes};
 ghost use Rattle.iodef_tree.specs.Pointer.{pointer_text};
 ghost use Rattle.iodef_tree.specs.Text.{same_path};
-ghost use Rattle.redact.specs.Tokens.{path_of};
+ghost use Rattle.redact.specs.inner.Tokens.{path_of};
 ghost use Rattle.redact.specs.Withheld.{has_rule, with_rule};
 
 use crate::trail::{Token, are_same, path_at, print};
@@ -21,7 +21,7 @@ pub struct Note<'a> {
 }
 
 impl<'a> Model for Note<'a> {
-    ghost use Rattle.redact.specs.Tokens.{path_of};
+    ghost use Rattle.redact.specs.inner.Tokens.{path_of};
     ghost use Rattle.redact.specs.Withheld.{Withheld};
 
     ghost Value = { Withheld };

@@ -6,17 +6,17 @@ ghost use Rattle.iodef_tree.specs.View.{forest, bodies, body};
 ghost use Rattle.marking.specs.Members.{spelled_in};
 ghost use Rattle.marking.specs.Label.{marking_of};
 ghost use Rattle.redact.specs.Told.{attributes_of};
-ghost use Rattle.redact.specs.Judged.{inside, is_end, put_attributes, with_label, keeps_plain as keeps, shows_label, cut as what_is_left, told, visible_classes};
-ghost use Rattle.redact.specs.Pass.{judgment_by};
-ghost use Rattle.redact.specs.Here.{carries, judged_for, LiesAhead};
+ghost use Rattle.redact.specs.inner.Judged.{inside, is_end, put_attributes, with_label, keeps_plain as keeps, shows_label, cut as what_is_left, told, visible_classes};
+ghost use Rattle.redact.specs.inner.Pass.{judgment_by};
+ghost use Rattle.redact.specs.inner.Here.{carries, judged_for, LiesAhead};
 ghost use Rattle.iodef_tree.specs.Text.{Tokens};
 ghost use Rattle.iodef_tree.specs.Tree.{Content, many, says};
 ghost use Rattle.policy.specs.Inherited.{hides};
 ghost use Rattle.std.specs.List.{AllByRecursion};
 ghost use Rattle.iodef_tree.specs.Filled.{IsFilled, IsMemberFilled, IsItemFilled};
-ghost use Rattle.redact.specs.Tokens.{token_of, path_of};
+ghost use Rattle.redact.specs.inner.Tokens.{token_of, path_of};
 ghost use Rattle.redact.specs.Withheld.{at_place};
-ghost use Rattle.redact.specs.Left.{home_of, class_left, class_told, class_count, left_at, told_at, count_at, left_items, told_items, count_items, left_member, told_member, count_member, Goes, Tells, Leaves};
+ghost use Rattle.redact.specs.inner.Left.{home_of, class_left, class_told, class_count, left_at, told_at, count_at, left_items, told_items, count_items, left_member, told_member, count_member, Goes, Tells, Leaves};
 
 use crate::attributes::labelled;
 use crate::note::{Note, add};
@@ -31,7 +31,7 @@ use std::mem::replace;
 
 /// Where members stand: in the root, or in a class that is visible or isn't.
 #[derive(Clone, Copy)]
-pub enum Home {
+pub enum Surrounding {
     Root,
     Class(bool),
 }
@@ -45,29 +45,29 @@ pub struct State<'a> {
     pub classes: u32,
     pub withheld: Vec<Note<'a>>,
     /// By which rules something of the class whose members come is wholly hidden, each once.
-    pub gone: Vec<Rule>,
+    pub rules_met: Vec<Rule>,
 }
 
-fn keeps_plain(home: Home) -> bool
+fn keeps_plain(home: Surrounding) -> bool
     ensures { result ≡ keeps (home_of home) }
 {
     match home {
-        Home::Root => true,
-        Home::Class(visible) => visible,
+        Surrounding::Root => true,
+        Surrounding::Class(visible) => visible,
     }
 }
 
-fn shows(home: Home) -> bool
+fn shows(home: Surrounding) -> bool
     ensures { result ≡ shows_label (home_of home) }
 {
     match home {
-        Home::Root => false,
-        Home::Class(visible) => visible,
+        Surrounding::Root => false,
+        Surrounding::Class(visible) => visible,
     }
 }
 
 /// Whether a visible class has to say its label itself.
-fn needs_label(home: Home, object: &Object) -> bool
+fn needs_label(home: Surrounding, object: &Object) -> bool
     requires { IsFilled object.now }
     ensures { result ≡ (is_none (spelled_in (forest object.now)) && not (shows_label (home_of home))) }
 {
@@ -77,7 +77,7 @@ fn needs_label(home: Home, object: &Object) -> bool
 /// What is left of a visible class, with its label where it has to say it.
 fn with_own_label(
     alloc: Global,
-    home: Home,
+    home: Surrounding,
     object: &Object,
     kept: Object,
     label: Label<'_>,
@@ -118,7 +118,7 @@ fn push_member(
 }
 
 /// What is left of a text or another value, which stands in its class.
-fn plain_left(home: Home, item: &Item) -> Result<Option<Item>, AllocError>
+fn plain_left(home: Surrounding, item: &Item) -> Result<Option<Item>, AllocError>
     ensures left { IfOk result (λ r. (c : Content) → body item.now ≡ says c → option_map body r ≡ (if keeps (home_of home) then Some (says c) else None)) }
     ensures filled { IfOk result (λ r. IfSome r (λ i. IsItemFilled i)) }
 {
@@ -134,13 +134,13 @@ fn plain_left(home: Home, item: &Item) -> Result<Option<Item>, AllocError>
 
 /// Takes back the rules that the class around this one had met, and tells those met in this one.
 fn tell_and_leave(state: &mut State<'_>, outside: Vec<Rule>) -> Result<(), AllocError>
-    ensures withheld { OnOk result (state.new.withheld.items ≡ state.old.withheld.items ++ at_place (path_of state.old.place.items) state.old.gone.items) }
-    ensures gone { OnOk result (state.new.gone.items ≡ outside.items) }
+    ensures withheld { OnOk result (state.new.withheld.items ≡ state.old.withheld.items ++ at_place (path_of state.old.place.items) state.old.rules_met.items) }
+    ensures gone { OnOk result (state.new.rules_met.items ≡ outside.items) }
     ensures path { OnOk result (state.new.path.items ≡ state.old.path.items) }
     ensures place { OnOk result (state.new.place.items ≡ state.old.place.items) }
     ensures classes { OnOk result (state.new.classes ≡ state.old.classes) }
 {
-    let gone = replace(&mut state.gone, outside);
+    let gone = replace(&mut state.rules_met, outside);
     tell(state, gone.as_slice())
 }
 
@@ -156,9 +156,9 @@ fn leave_hidden(
     ensures left { IfOk result (λ r. r ≡ (if is_end (forest kept) then None else Some kept)) }
     ensures leaves { OnOk result (Leaves state.old state.new outside.items rule (is_end (forest kept))) }
 {
-    let mut gone = replace(&mut state.gone, outside);
+    let mut gone = replace(&mut state.rules_met, outside);
     if kept.members.is_empty() {
-        add(&mut state.gone, rule)?;
+        add(&mut state.rules_met, rule)?;
         Ok(None)
     } else {
         add(&mut gone, rule)?;
@@ -173,7 +173,7 @@ impl<'a> Reader<'a> {
     pub fn cut(
         &self,
         state: &mut State<'a>,
-        home: Home,
+        home: Surrounding,
         ahead: &Ahead<'a>,
         above: Carried<'a>,
         object: &'a Object,
@@ -201,7 +201,7 @@ impl<'a> Reader<'a> {
     fn cut_member(
         &self,
         state: &mut State<'a>,
-        home: Home,
+        home: Surrounding,
         ahead: &Ahead<'a>,
         above: Carried<'a>,
         name: &'a str,
@@ -243,7 +243,7 @@ impl<'a> Reader<'a> {
     fn cut_array(
         &self,
         state: &mut State<'a>,
-        home: Home,
+        home: Surrounding,
         ahead: &Ahead<'a>,
         above: Carried<'a>,
         name: &'a str,
@@ -277,7 +277,7 @@ impl<'a> Reader<'a> {
     fn cut_items(
         &self,
         state: &mut State<'a>,
-        home: Home,
+        home: Surrounding,
         ahead: &Ahead<'a>,
         array: Carried<'a>,
         base: usize,
@@ -319,7 +319,7 @@ impl<'a> Reader<'a> {
     fn cut_item(
         &self,
         state: &mut State<'a>,
-        home: Home,
+        home: Surrounding,
         ahead: &Ahead<'a>,
         door: Carried<'a>,
         base: usize,
@@ -358,7 +358,7 @@ impl<'a> Reader<'a> {
     fn cut_class(
         &self,
         state: &mut State<'a>,
-        home: Home,
+        home: Surrounding,
         ahead: &Ahead<'a>,
         at: Carried<'a>,
         base: usize,
@@ -392,7 +392,7 @@ impl<'a> Reader<'a> {
     fn cut_seen(
         &self,
         state: &mut State<'a>,
-        home: Home,
+        home: Surrounding,
         ahead: &Ahead<'a>,
         at: Carried<'a>,
         object: &'a Object,
@@ -410,8 +410,8 @@ impl<'a> Reader<'a> {
             (q : Tokens) → Goes q state.old state.new (told (inside true) (path_of state.old.place.items) 0 judged) [] (1 + visible_classes judged) 0) }
     {
         state.classes = state.classes.saturating_add(1);
-        let outside = replace(&mut state.gone, Vec::new(state.alloc));
-        let kept = self.cut(state, Home::Class(true), ahead, at, object)?;
+        let outside = replace(&mut state.rules_met, Vec::new(state.alloc));
+        let kept = self.cut(state, Surrounding::Class(true), ahead, at, object)?;
         tell_and_leave(state, outside)?;
         with_own_label(state.alloc, home, object, kept, at.label)
     }
@@ -442,8 +442,8 @@ impl<'a> Reader<'a> {
         ensures quiet { IfOk result (λ r. r ≡ None → state.new.withheld.items ≡ state.old.withheld.items) }
     {
         let rule = self.hides(at);
-        let outside = replace(&mut state.gone, Vec::new(state.alloc));
-        let kept = self.cut(state, Home::Class(false), ahead, at, object)?;
+        let outside = replace(&mut state.rules_met, Vec::new(state.alloc));
+        let kept = self.cut(state, Surrounding::Class(false), ahead, at, object)?;
         leave_hidden(state, outside, rule, kept)
     }
 }

@@ -76,7 +76,10 @@ impl Probe {
             return Err(fault);
         }
         let fed = self.fed.with_line(&line);
-        match self.seeker.take(&self.standing, &self.want, self.met, line) {
+        match self
+            .seeker
+            .take(&self.case, &self.standing, &self.want, self.met, line)
+        {
             Ok(met) => {
                 self.fed = fed;
                 self.met = met;
@@ -118,6 +121,8 @@ impl Probe {
             lines,
             classes: _,
             sight: _,
+            follows: _,
+            steps: _,
         } = seeker;
         let document = document_of(alloc, lines)?;
         Ok(meets(alloc, &document, &case, &standing, &want)?)

@@ -7,8 +7,8 @@ ghost use Rattle.policy.specs.Inherited.{carried, at_root as at_the_root, array_
 ghost use Rattle.iodef_tree.specs.Text.{Tokens};
 ghost use Rattle.policy.specs.declared.standing.Standing.{Standing as Asking};
 ghost use Rattle.policy.specs.declared.case.Case.{Case as Judged};
-ghost use Rattle.redact.specs.Here.{carries, LiesAhead};
-ghost use Rattle.redact.specs.Tokens.{token_of, path_of};
+ghost use Rattle.redact.specs.inner.Here.{carries, LiesAhead};
+ghost use Rattle.redact.specs.inner.Tokens.{token_of, path_of};
 
 use crate::trail::{Token, Trail};
 use marking::Label;

@@ -47,7 +47,7 @@ fn before<'a>(path: &'a [Text], step: &Step) -> Option<&'a [Text]>
 
 /// Whether the steps lead to a path. From the end on: what has to be told apart mostly differs there.
 #[tactic(auto, using(crate::proofs::Ends::way_more))]
-fn is_at(path: &[Text], steps: &[Step]) -> bool
+pub(crate) fn is_at(path: &[Text], steps: &[Step]) -> bool
     ensures { result ≡ same_path path.now (way steps.now) }
 {
     match steps.split_last() {
@@ -80,14 +80,14 @@ fn stands(path: &[Text], above: &[Step], step: &Step) -> bool
 
 /// Whether the gate stands there and refuses.
 fn stops(standing: &Standing, above: &[Step], step: &Step, gate: &Gate) -> bool
-    ensures { result ≡ stops standing.now (way above.now) step.now gate.now }
+    ensures { result ≡ stops standing.entry.now (way above.now) step.now gate.now }
 {
     stands(gate.path.tokens(), above, step) && passes(standing, gate).is_err()
 }
 
 /// Whether one of the gates does.
 fn is_stopped(case: &Case, standing: &Standing, above: &[Step], step: &Step) -> bool
-    ensures { result ≡ list_any (stops standing.now (way above.now) step.now) case.now.gates }
+    ensures { result ≡ list_any (stops standing.entry.now (way above.now) step.now) case.now.gates }
 {
     case.gates
         .as_slice()
@@ -104,7 +104,7 @@ pub(crate) fn refuses(
     step: &Step,
     line: &Line,
 ) -> bool
-    ensures { result ≡ (is_class_kind line.now.kind && (not standing.now.source && list_any (stops standing.now (way above.now) step.now) case.now.gates)) }
+    ensures { result ≡ (is_class_kind line.now.kind && (not standing.entry.now.source && list_any (stops standing.entry.now (way above.now) step.now) case.now.gates)) }
 {
     match line.kind {
         Kind::Class => !standing.source && is_stopped(case, standing, above, step),

@@ -32,10 +32,10 @@ pub fn excerpt_if_marked(
     case: &Case,
     standing: &Standing,
 ) -> Result<Option<Excerpt>, AllocError>
-    ensures told { first_bad_marking (located document.now) ≡ None → IfOk result (λ r. option_map told_by r ≡ excerpt_of document.now case.now standing.now) }
+    ensures told { first_bad_marking (located document.now) ≡ None → IfOk result (λ r. option_map told_by r ≡ excerpt_of document.now case.now standing.entry.now) }
     ensures refused { is_some (first_bad_marking (located document.now)) ≡ true → IfOk result (λ r. r ≡ None) }
     ensures checked { IfOk result (λ r. IfSome r (λ e. first_bad_marking (located e.document) ≡ None)) }
-    ensures labels { first_bad_marking (located document.now) ≡ None → IfOk result (λ r. IfSome r (λ e. LabelsSurvive document.now case.now standing.now e.document)) }
+    ensures labels { first_bad_marking (located document.now) ≡ None → IfOk result (λ r. IfSome r (λ e. LabelsSurvive document.now case.now standing.entry.now e.document)) }
 {
     match check(alloc, document) {
         Ok(()) => excerpt(alloc, document, case, standing),
@@ -66,9 +66,9 @@ impl Progress {
 
     /// One more line, if it may come behind the others.
     fn take(&mut self, case: &Case, standing: &Standing, line: Line) -> Result<(), OutlineFault>
-        ensures ok { OnOk result ((ls : List Row) → Knows case.now standing.now ls self.old.shape self.old.marks self.old.sieve →
-            (is_outline (ls ++ line ∷ []) ≡ true) × Knows case.now standing.now (ls ++ line ∷ []) self.new.shape self.new.marks self.new.sieve) }
-        ensures bad { IfErr result (λ f. f ≡ BadOutline → (ls : List Row) → Knows case.now standing.now ls self.old.shape self.old.marks self.old.sieve →
+        ensures ok { OnOk result ((ls : List Row) → Knows case.now standing.entry.now ls self.old.shape self.old.marks self.old.sieve →
+            (is_outline (ls ++ line ∷ []) ≡ true) × Knows case.now standing.entry.now (ls ++ line ∷ []) self.new.shape self.new.marks self.new.sieve) }
+        ensures bad { IfErr result (λ f. f ≡ BadOutline → (ls : List Row) → Knows case.now standing.entry.now ls self.old.shape self.old.marks self.old.sieve →
             is_outline (ls ++ line ∷ []) ≡ false) }
     {
         let fits = self.shape.accept(&line)?;

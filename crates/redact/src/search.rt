@@ -7,8 +7,8 @@ ghost use Rattle.iodef_tree.specs.View.{forest, bodies, body};
 ghost use Rattle.policy.specs.Ahead.{ahead_of, met_by};
 ghost use Rattle.policy.specs.Inherited.{carried};
 ghost use Rattle.redact.specs.Told.{finds as is_found, is_listed as is_shown, is_named};
-ghost use Rattle.redact.specs.Tokens.{token_of, path_of};
-ghost use Rattle.redact.specs.Search.{asked_of, body_hits, bodies_hit, members_hit, class_hits, found, found_at, found_items, found_member};
+ghost use Rattle.redact.specs.inner.Tokens.{token_of, path_of};
+ghost use Rattle.redact.specs.inner.Search.{asked_of, body_hits, bodies_hit, members_hit, class_hits, found, found_at, found_items, found_member};
 
 use crate::reader::Reader;
 use crate::trail::Token;
@@ -46,7 +46,7 @@ pub fn is_listed(
     case: &Case,
     standing: &Standing,
 ) -> Result<bool, AllocError>
-    ensures { IfOk result (λ b. b ≡ is_shown document.now case.now standing.now) }
+    ensures { IfOk result (λ b. b ≡ is_shown document.now case.now standing.entry.now) }
 {
     shows_some(alloc, document, case, standing)
 }
@@ -57,7 +57,7 @@ fn shows_some<'a>(
     case: &'a Case,
     standing: &'a Standing,
 ) -> Result<bool, AllocError>
-    ensures { IfOk result (λ b. b ≡ is_shown document.now case.now standing.now) }
+    ensures { IfOk result (λ b. b ≡ is_shown document.now case.now standing.entry.now) }
 {
     let search = Search {
         alloc,
@@ -81,7 +81,7 @@ pub fn finds(
     needle: &str,
     class: Option<&str>,
 ) -> Result<bool, AllocError>
-    ensures { IfOk result (λ b. b ≡ is_found document.now case.now standing.now needle.now (option_map (λ name. name.now) class.entry)) }
+    ensures { IfOk result (λ b. b ≡ is_found document.now case.now standing.entry.now needle.now (option_map (λ name. name.now) class.entry)) }
 {
     found(alloc, document, case, standing, needle, class)
 }
@@ -94,7 +94,7 @@ fn found<'a>(
     needle: &'a str,
     class: Option<&'a str>,
 ) -> Result<bool, AllocError>
-    ensures { IfOk result (λ b. b ≡ is_found document.now case.now standing.now needle.now (option_map (λ name. name.now) class.entry)) }
+    ensures { IfOk result (λ b. b ≡ is_found document.now case.now standing.entry.now needle.now (option_map (λ name. name.now) class.entry)) }
 {
     let search = Search {
         alloc,

@@ -1,25 +1,28 @@
 //! What is sure of the lines that came, of a report whose lines come one at a time.
 
-ghost use Rattle.std.specs.Prelude.{◌≡◌, option_map, ◌++◌, ◌∷◌, [], List, false, OnOk, IfOk, IfErr};
+ghost use Rattle.std.specs.Prelude.{◌≡◌, ◌&&◌, true, option_map, ◌++◌, ◌∷◌, [], List, false, OnOk, IfOk, IfErr};
 ghost use Rattle.std.specs.List.{list_any};
 ghost use Rattle.iodef_tree.specs.Outline.{is_outline};
+ghost use Rattle.iodef_tree.specs.Paths.{is_class_kind};
 ghost use Rattle.iodef_tree.specs.declared.line.Line.{Line as Row};
 ghost use Rattle.iodef_tree.specs.declared.fault.OutlineFault.TheVariants.{BadOutline};
-ghost use Rattle.policy.specs.declared.case.Case.{Case as Judged};
 ghost use Rattle.redact.specs.declared.want.Want.{Want as Wanted};
 ghost use Rattle.marking.specs.Label.{marking_of};
 ghost use Rattle.policy.specs.Verdict.{is_cleared_for};
 ghost use Rattle.redact.specs.Told.{is_hit};
-ghost use Rattle.redact.specs.Probed.{wants_name as is_name_wanted, wants_line as is_line_wanted, some_refuses as some_gate_refuses, sees_all as is_all_seen, sight_of, is_everything, is_cleared_sight, plain_text as text_alone, beside_by, beside_with, is_cleared_text, is_cleared_if, is_restriction as is_named_restriction, shows, entered as with_no_member, holding as with_member, innermost_holding, opened, noted, is_settled, IsKnown, TakesTo};
+ghost use Rattle.redact.specs.Probed.{wants_name as is_name_wanted, wants_line as is_line_wanted, some_refuses as some_gate_refuses, sees_all as is_all_seen, sight_of, is_everything, is_cleared_sight, plain_text as text_alone, beside_by, beside_with, is_cleared_text, is_cleared_if, is_restriction as is_named_restriction, shows, entered as with_no_member, holding as with_member, innermost_holding, is_opened as is_opened_at, opened, noted, is_settled, IsKnown, TakesTo};
+ghost use Rattle.redact.specs.Sifted.{way, IsCounted, went_on};
 
+use crate::opening::{is_opened, some_opens};
 use crate::want::Want;
+use crate::way::{Step, step_to};
 use iodef_tree::{Kind, Line, OutlineFault, Shape};
 use marking::{Handling, Label};
 use memchr::memmem::Finder;
 use policy::{Case, Standing, clearance, passes};
 use std::alloc::{AllocError, Global};
 
-/// How much the reader surely sees, whatever lines come.
+/// How much the reader surely sees without a permission, whatever lines come.
 #[derive(Clone, Copy)]
 pub(crate) enum Sight {
     /// Every class.
@@ -103,7 +106,7 @@ fn plain_text(line: &Line) -> Option<&str>
 
 /// Whether the reader is cleared for what stands under a label.
 fn is_cleared(standing: &Standing, label: Label<'_>) -> bool
-    ensures { result ≡ is_cleared_for standing.now (marking_of label.entry) }
+    ensures { result ≡ is_cleared_for standing.entry.now (marking_of label.entry) }
 {
     let most = clearance(standing).0;
     label.handling(standing.arrangement).is_at_most(most)
@@ -112,7 +115,7 @@ fn is_cleared(standing: &Standing, label: Label<'_>) -> bool
 impl Beside {
     /// What the first line named `ext-restriction` comes to.
     fn of(standing: &Standing, line: &Line) -> Beside
-        ensures { result ≡ beside_by standing.now (text_alone line.now) }
+        ensures { result ≡ beside_by standing.entry.now (text_alone line.now) }
     {
         match plain_text(line) {
             Some(text) => {
@@ -128,7 +131,7 @@ impl Beside {
 
     /// With a line more.
     fn with(self, standing: &Standing, line: &Line) -> Beside
-        ensures { result ≡ beside_with standing.now line.now self }
+        ensures { result ≡ beside_with standing.entry.now line.now self }
     {
         if line.name.as_str() == "ext-restriction" {
             return match self {
@@ -142,7 +145,7 @@ impl Beside {
 
     /// Whether a text as `restriction`, with this beside it, spells a label for which the reader is cleared.
     fn clears(self, standing: &Standing, restriction: &str) -> bool
-        ensures { result ≡ is_cleared_text standing.now self restriction.now }
+        ensures { result ≡ is_cleared_text standing.entry.now self restriction.now }
     {
         match Label::of(restriction, None) {
             Some(label) => is_cleared(standing, label),
@@ -152,7 +155,7 @@ impl Beside {
 
     /// The same of a line as `restriction`.
     fn clears_line(self, standing: &Standing, line: &Line) -> bool
-        ensures { result ≡ is_cleared_if standing.now self (text_alone line.now) }
+        ensures { result ≡ is_cleared_if standing.entry.now self (text_alone line.now) }
     {
         match plain_text(line) {
             Some(text) => self.clears(standing, text),
@@ -169,7 +172,7 @@ fn is_restriction(line: &Line) -> bool
 
 impl Sight {
     fn new(case: &Case, standing: &Standing) -> Sight
-        ensures { result ≡ sight_of case.now standing.now }
+        ensures { result ≡ sight_of case.now standing.entry.now }
     {
         if sees_all(case, standing) {
             Sight::Everything
@@ -200,14 +203,14 @@ impl Sight {
 }
 
 impl Open {
-    /// The class of this line.
-    fn new(sight: Sight, want: &Want, line: &Line) -> Open
-        ensures { result ≡ with_no_member sight want.now line.now }
+    /// The class of this line, which a permission opens or not.
+    fn new(sight: Sight, want: &Want, line: &Line, opened: bool) -> Open
+        ensures { result ≡ with_no_member sight want.now line.now opened }
     {
         Open {
             fits: wants_name(want, line.name.as_str()),
             holds: want.needle.is_none(),
-            shown: sight.is_everything(),
+            shown: sight.is_everything() || opened,
             labelled: false,
             beside: Beside::Absent,
         }
@@ -215,7 +218,7 @@ impl Open {
 
     /// Whether a line that stands in it shows it: the first that is named `restriction`.
     fn is_shown_by(self, sight: Sight, standing: &Standing, line: &Line) -> bool
-        ensures { result ≡ shows sight standing.now line.now self }
+        ensures { result ≡ shows sight standing.entry.now line.now self }
     {
         is_restriction(line)
             && (!self.labelled && (sight.is_cleared() && self.beside.clears_line(standing, line)))
@@ -223,7 +226,7 @@ impl Open {
 
     /// With a line more that stands in it.
     fn with(self, sight: Sight, standing: &Standing, want: &Want, line: &Line) -> Open
-        ensures { result ≡ with_member sight standing.now want.now line.now self }
+        ensures { result ≡ with_member sight standing.entry.now want.now line.now self }
     {
         Open {
             fits: self.fits,
@@ -243,7 +246,7 @@ impl Open {
 
 /// The innermost of these classes holds a line.
 fn hold(classes: &mut [Open], sight: Sight, standing: &Standing, want: &Want, line: &Line)
-    ensures { classes.new ≡ innermost_holding sight standing.now want.now line.now classes.old }
+    ensures { classes.new ≡ innermost_holding sight standing.entry.now want.now line.now classes.old }
 {
     if let Some(innermost) = classes.last_mut() {
         *innermost = innermost.with(sight, standing, want, line);
@@ -251,11 +254,17 @@ fn hold(classes: &mut [Open], sight: Sight, standing: &Standing, want: &Want, li
 }
 
 /// The class of a line, if it is one, is open behind these.
-fn enter(classes: &mut Vec<Open>, sight: Sight, want: &Want, line: &Line) -> Result<(), AllocError>
-    ensures { OnOk result (classes.new.items ≡ opened sight want.now line.now classes.old.items) }
+fn enter(
+    classes: &mut Vec<Open>,
+    sight: Sight,
+    want: &Want,
+    line: &Line,
+    is_opened: bool,
+) -> Result<(), AllocError>
+    ensures { OnOk result (classes.new.items ≡ opened sight want.now line.now is_opened classes.old.items) }
 {
     match line.kind {
-        Kind::Class => classes.push(Open::new(sight, want, line))?,
+        Kind::Class => classes.push(Open::new(sight, want, line, is_opened))?,
         Kind::Text | Kind::Value => {}
     }
     Ok(())
@@ -268,12 +277,13 @@ fn note(
     standing: &Standing,
     want: &Want,
     line: &Line,
+    is_opened: bool,
 ) -> Result<(), AllocError>
-    ensures { OnOk result (classes.new.items ≡ noted sight standing.now want.now line.now classes.old.items) }
+    ensures { OnOk result (classes.new.items ≡ noted sight standing.entry.now want.now line.now is_opened classes.old.items) }
 {
     classes.truncate((line.depth as usize).saturating_sub(1));
     hold(classes.as_mut_slice(), sight, standing, want, line);
-    enter(classes, sight, want, line)
+    enter(classes, sight, want, line, is_opened)
 }
 
 /// Whether one of them is surely one that is looked for.
@@ -285,7 +295,7 @@ fn is_found(classes: &[Open]) -> bool
 
 /// Whether a gate of the case refuses the reader.
 fn some_refuses(case: &Case, standing: &Standing) -> bool
-    ensures { result ≡ some_gate_refuses case.now standing.now }
+    ensures { result ≡ some_gate_refuses case.now standing.entry.now }
 {
     case.gates
         .as_slice()
@@ -295,7 +305,7 @@ fn some_refuses(case: &Case, standing: &Standing) -> bool
 
 /// Whether the reader may see every class of every report.
 fn sees_all(case: &Case, standing: &Standing) -> bool
-    ensures { result ≡ is_all_seen case.now standing.now }
+    ensures { result ≡ is_all_seen case.now standing.entry.now }
 {
     standing.source
         || (!some_refuses(case, standing) && Handling::Red.is_at_most(clearance(standing).0))
@@ -309,6 +319,45 @@ fn keep(lines: &mut Vec<Line>, line: Line) -> Result<(), AllocError>
     Ok(())
 }
 
+/// The way to a line, behind that to the one before it.
+fn step_on(steps: &mut Vec<Step>, line: &Line) -> Result<(), AllocError>
+    ensures { OnOk result (IsCounted steps.old.items line.now → steps.new.items ≡ went_on steps.old.items line.now) }
+{
+    let step = step_to(steps.as_slice(), line)?;
+    steps.truncate((line.depth as usize).saturating_sub(1));
+    steps.push(step)?;
+    Ok(())
+}
+
+/// Whether a line to which the steps lead is that of a class that a permission opens.
+fn opens_class(case: &Case, standing: &Standing, steps: &[Step], line: &Line) -> bool
+    ensures { result ≡ (is_class_kind line.now.kind && is_opened_at case.now standing.entry.now (way steps.now)) }
+{
+    match line.kind {
+        Kind::Class => is_opened(case, standing, steps),
+        Kind::Text | Kind::Value => false,
+    }
+}
+
+/// One more line behind others, to the newest of which the steps lead if they are kept: whether it is that of a class that a
+/// permission opens.
+fn follow(
+    steps: &mut Vec<Step>,
+    follows: bool,
+    case: &Case,
+    standing: &Standing,
+    line: &Line,
+) -> Result<bool, AllocError>
+    ensures steps { OnOk result (follows ≡ true → IsCounted steps.old.items line.now → steps.new.items ≡ went_on steps.old.items line.now) }
+    ensures opened { IfOk result (λ b. b ≡ (follows && (is_class_kind line.now.kind && is_opened_at case.now standing.entry.now (way steps.new.items)))) }
+{
+    if !follows {
+        return Ok(false);
+    }
+    step_on(steps, line)?;
+    Ok(opens_class(case, standing, steps.as_slice(), line))
+}
+
 /// What is known of the lines that came. Once it is sure that the want is met, only their shape still matters.
 #[derive(Drop)]
 pub(crate) struct Seeker {
@@ -316,32 +365,39 @@ pub(crate) struct Seeker {
     pub(crate) lines: Vec<Line>,
     pub(crate) classes: Vec<Open>,
     pub(crate) sight: Sight,
+    /// Some permission may show a class that isn't surely seen without it, so the way to the newest line is kept.
+    pub(crate) follows: bool,
+    pub(crate) steps: Vec<Step>,
 }
 
 impl Seeker {
     /// With no line yet.
     pub(crate) fn new(alloc: Global, case: &Case, standing: &Standing) -> Seeker
-        ensures { (w : Wanted) → IsKnown w case.now standing.now [] false result }
+        ensures { (w : Wanted) → IsKnown w case.now standing.entry.now [] false result }
     {
+        let sight = Sight::new(case, standing);
         Seeker {
             shape: Shape::new(alloc),
             lines: Vec::new(alloc),
             classes: Vec::new(alloc),
-            sight: Sight::new(case, standing),
+            sight,
+            follows: !sight.is_everything() && some_opens(case, standing),
+            steps: Vec::new(alloc),
         }
     }
 
     /// One more line, if it may come behind the others: whether it is sure now that the want is met.
     pub(crate) fn take(
         &mut self,
+        case: &Case,
         standing: &Standing,
         want: &Want,
         met: bool,
         line: Line,
     ) -> Result<bool, OutlineFault>
-        ensures ok { IfOk result (λ b. (c : Judged) (ls : List Row) → IsKnown want.now c standing.now ls met self.old →
-            TakesTo want.now c standing.now ls met line b self.new) }
-        ensures bad { IfErr result (λ f. f ≡ BadOutline → (c : Judged) (ls : List Row) → IsKnown want.now c standing.now ls met self.old →
+        ensures ok { IfOk result (λ b. (ls : List Row) → IsKnown want.now case.now standing.entry.now ls met self.old →
+            TakesTo want.now case.now standing.entry.now ls met line b self.new) }
+        ensures bad { IfErr result (λ f. f ≡ BadOutline → (ls : List Row) → IsKnown want.now case.now standing.entry.now ls met self.old →
             is_outline (ls ++ line ∷ []) ≡ false) }
     {
         if !self.shape.accept(&line)? {
@@ -350,7 +406,8 @@ impl Seeker {
         if met {
             return Ok(true);
         }
-        note(&mut self.classes, self.sight, standing, want, &line)?;
+        let opened = follow(&mut self.steps, self.follows, case, standing, &line)?;
+        note(&mut self.classes, self.sight, standing, want, &line, opened)?;
         keep(&mut self.lines, line)?;
         Ok(is_found(self.classes.as_slice()))
     }

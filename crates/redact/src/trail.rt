@@ -5,7 +5,7 @@ ghost use Rattle.std.specs.Str.{byte, bytes_eq};
 ghost use Rattle.iodef_tree.specs.Pointer.{escaped, pointer_text};
 ghost use Rattle.iodef_tree.specs.Text.{same_path};
 ghost use Rattle.marking.specs.Marks.{incident_path};
-ghost use Rattle.redact.specs.Tokens.{token_of, path_of};
+ghost use Rattle.redact.specs.inner.Tokens.{token_of, path_of};
 
 use iodef_tree::{Path, Text, push_token};
 use policy::Spot;

@@ -34,7 +34,7 @@ pub fn meets(
     standing: &Standing,
     want: &Want,
 ) -> Result<bool, AllocError>
-    ensures { IfOk result (λ b. b ≡ is_met want.now document.now case.now standing.now) }
+    ensures { IfOk result (λ b. b ≡ is_met want.now document.now case.now standing.entry.now) }
 {
     match &want.needle {
         None => is_listed(alloc, document, case, standing),

@@ -41,6 +41,7 @@ fn permissions_behind(
         permissions.push(Permission {
             path,
             grantee: Grantee::Org(READER),
+            until: None,
         })?;
     }
     Ok(permissions)

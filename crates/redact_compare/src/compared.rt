@@ -11,7 +11,6 @@ use crate::judged::{
     Judged, Moved, Sought, Told, count_seen, in_order, judge, kept_outline, places, search,
     withheld,
 };
-use crate::probing::is_sure_rightly;
 use crate::readers::{any_case, any_standing};
 use crate::shown::{note_classes, note_places, note_reader, note_withheld};
 use crate::stations::note_stations;
@@ -346,9 +345,5 @@ pub fn any_document(alloc: Global, dice: &mut Dice) -> Result<Option<Document>, 
 pub fn agrees_at(alloc: Global, tally: &mut Tally, seed: u64) -> Result<bool, AllocError> {
     let mut dice = Dice::new(seed);
     let document = any_document(alloc, &mut dice)?;
-    Ok(
-        agrees_on(alloc, tally, &mut dice, &document)?
-            && agree_by_lines(alloc, tally, seed)?
-            && is_sure_rightly(alloc, tally, seed)?,
-    )
+    Ok(agrees_on(alloc, tally, &mut dice, &document)? && agree_by_lines(alloc, tally, seed)?)
 }

@@ -1,7 +1,7 @@
-//! `redact_compare CASES`: compares `excerpt`, `is_listed` and `finds` with a plain, slow program, over so many generated
+//! `redact_compare CASES EVERY`: compares `excerpt`, `is_listed` and `finds` with a plain, slow program, over so many generated
 //! reports, gates, permissions and readers. That program judges each path alone over the flat outline. `RowPass` is compared with a
-//! pass that keeps all lines; where `Probe` is sure, generated reports that begin with the same lines have to meet the want. A
-//! difference is told by its seed, with status 1.
+//! pass that keeps all lines; where `Probe` is sure, in one case of EVERY, generated reports that begin with the same lines have to
+//! meet the want. A difference is told by its seed, with status 1.
 #![tactic(auto)]
 
 mod by_lines;
@@ -20,6 +20,7 @@ mod world;
 mod writing;
 
 use compared::agrees_at;
+use probing::is_sure_rightly;
 use std::alloc::{AllocError, Global};
 use std::process::ExitCode;
 use std::{env, io};
@@ -28,19 +29,40 @@ use tally::Tally;
 /// How many cases, where the words name no number.
 const CASES: u64 = 2048;
 
-/// The seed of the first of so many cases that shows a difference.
-fn difference(alloc: Global, tally: &mut Tally, cases: u64) -> Result<Option<u64>, AllocError> {
-    for seed in 0..cases {
-        if !agrees_at(alloc, tally, seed)? {
+/// One case of so many is searched by lines, where the words name no number.
+const EVERY: u64 = 4;
+
+/// What is asked for.
+#[derive(Drop)]
+struct Asked {
+    cases: u64,
+    every: u64,
+}
+
+/// Whether the case of this seed shows no difference, and a search of it by lines, if it is searched, is right.
+fn is_right(
+    alloc: Global,
+    tally: &mut Tally,
+    seed: u64,
+    is_searched: bool,
+) -> Result<bool, AllocError> {
+    Ok(agrees_at(alloc, tally, seed)? && (!is_searched || is_sure_rightly(alloc, tally, seed)?))
+}
+
+/// The seed of the first of the cases that shows a difference.
+fn difference(alloc: Global, tally: &mut Tally, asked: &Asked) -> Result<Option<u64>, AllocError> {
+    for seed in 0..asked.cases {
+        if !is_right(alloc, tally, seed, seed % asked.every.max(1) == 0)? {
             return Ok(Some(seed));
         }
     }
     Ok(None)
 }
 
-/// Compares so many cases. Whether there is no difference.
-fn compare(rt: &HostRuntime, tally: &mut Tally, cases: u64) -> io::Result<bool> {
-    let found = difference(rt.alloc(), tally, cases)?;
+/// Compares the cases. Whether there is no difference.
+fn compare(rt: &HostRuntime, tally: &mut Tally, asked: &Asked) -> io::Result<bool> {
+    let found = difference(rt.alloc(), tally, asked)?;
+    let cases = asked.cases;
     match found {
         Some(seed) => println!(rt; "seed {seed}: a difference")?,
         None => println!(rt; "{cases} cases, no difference")?,
@@ -62,21 +84,24 @@ fn tell(rt: &HostRuntime, tally: &Tally) -> io::Result<bool> {
     Ok(true)
 }
 
-/// How many cases are asked for.
-fn asked(rt: &HostRuntime) -> io::Result<u64> {
+/// What the words ask for.
+fn words_of(rt: &HostRuntime) -> io::Result<Asked> {
     let words: Vec<String> = env::args(rt)?.skip(1).collect(rt.alloc())?;
-    let cases = words.first().and_then(|word| word.parse::<u64>().ok());
-    Ok(cases.unwrap_or(CASES))
+    let number = |place: usize| words.get(place).and_then(|word| word.parse::<u64>().ok());
+    Ok(Asked {
+        cases: number(0).unwrap_or(CASES),
+        every: number(1).unwrap_or(EVERY),
+    })
 }
 
-/// Compares so many cases. Whether there is no difference, and nothing was rare.
-fn holds(rt: &HostRuntime, cases: u64) -> io::Result<bool> {
+/// Compares the cases. Whether there is no difference, and nothing was rare.
+fn holds(rt: &HostRuntime, asked: &Asked) -> io::Result<bool> {
     let mut tally = Tally::new(rt.alloc())?;
-    Ok(compare(rt, &mut tally, cases)? && tell(rt, &tally)?)
+    Ok(compare(rt, &mut tally, asked)? && tell(rt, &tally)?)
 }
 
 fn main(rt: HostRuntime) -> io::Result<ExitCode> {
-    let cases = asked(&rt)?;
-    let is_same = holds(&rt, cases)?;
+    let asked = words_of(&rt)?;
+    let is_same = holds(&rt, &asked)?;
     Ok(ExitCode::from(u8::from(!is_same)))
 }

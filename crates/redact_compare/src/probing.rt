@@ -16,9 +16,6 @@ const COMPLETIONS: u32 = 10;
 /// For each of them so many are made at most; some have markings that aren't accepted.
 const TRIES: u32 = 4;
 
-/// One case in so many is searched by lines.
-const SEARCHED: u64 = 4;
-
 /// By this the seed of the reports differs from that of the case.
 const OTHER: u64 = 0x5EED_0000_0000;
 
@@ -165,11 +162,8 @@ fn is_right(
     Ok(judging.meets_if_marked(lines)? == Some(end))
 }
 
-/// Whether a search of the case of this seed is right, if it is searched.
+/// Whether a search by lines of the case of this seed is right.
 pub fn is_sure_rightly(alloc: Global, tally: &mut Tally, seed: u64) -> Result<bool, AllocError> {
-    if seed % SEARCHED != 0 {
-        return Ok(true);
-    }
     let (Some(first), Some(second)) = (world_at(alloc, seed)?, world_at(alloc, seed)?) else {
         return Ok(false);
     };

@@ -96,6 +96,19 @@ fn any_grantee(dice: &mut Dice) -> Grantee {
     }
 }
 
+/// A moment; there are few, so that an end often falls on one.
+fn any_moment(dice: &mut Dice) -> i64 {
+    dice.roll(5) as i64
+}
+
+fn any_end(dice: &mut Dice) -> Option<i64> {
+    if dice.once_in(3) {
+        Some(any_moment(dice))
+    } else {
+        None
+    }
+}
+
 /// A permission at any path, or two.
 fn push_permissions(
     permissions: &mut Vec<Permission>,
@@ -106,11 +119,17 @@ fn push_permissions(
     let path = any_path(alloc, dice, classes)?;
     if dice.once_in(3) {
         let path = path.clone()?;
-        let grantee = any_grantee(dice);
-        permissions.push(Permission { path, grantee })?;
+        permissions.push(Permission {
+            path,
+            grantee: any_grantee(dice),
+            until: any_end(dice),
+        })?;
     }
-    let grantee = any_grantee(dice);
-    permissions.push(Permission { path, grantee })?;
+    permissions.push(Permission {
+        path,
+        grantee: any_grantee(dice),
+        until: any_end(dice),
+    })?;
     Ok(())
 }
 
@@ -170,5 +189,6 @@ pub fn any_standing(alloc: Global, dice: &mut Dice) -> Result<Standing, AllocErr
         groups: any_numbers(alloc, dice)?,
         active_groups: any_numbers(alloc, dice)?,
         communities: any_numbers(alloc, dice)?,
+        now: any_moment(dice),
     })
 }

@@ -53,6 +53,11 @@ fn note_permissions(tally: &mut Tally, world: &World<'_, '_>, judged: &Judged<'_
             "permissions that end at a label",
             needed && ended && !judged.visible,
         );
+        let over = world.reaches(permission, path) && world.is_over(permission);
+        tally.note(
+            "permissions that are over",
+            needed && over && !ended && !judged.visible,
+        );
     }
 }
 

@@ -22,6 +22,7 @@ const WANTED: &[&str] = &[
     "gates that refuse at one place",
     "permissions that show a class",
     "permissions that end at a label",
+    "permissions that are over",
     "rule G0",
     "rule G1",
     "rule G2",

@@ -106,6 +106,14 @@ impl<'a, 'r> World<'a, 'r> {
         is_meant(self.standing, permission.grantee) && path.starts_with(permission.path.tokens())
     }
 
+    /// Whether its last moment is past.
+    pub fn is_over(&self, permission: &Permission) -> bool {
+        match permission.until {
+            Some(end) => end <= self.standing.now,
+            None => false,
+        }
+    }
+
     /// Whether a label is written below the permission, down to the path.
     pub fn is_ended(&self, permission: &Permission, path: &[Text]) -> bool {
         for length in 0..=path.len() {
@@ -118,7 +126,10 @@ impl<'a, 'r> World<'a, 'r> {
 
     pub fn is_covered(&self, path: &[Text]) -> bool {
         for permission in self.case.permissions.as_slice() {
-            if self.reaches(permission, path) && !self.is_ended(permission, path) {
+            if self.reaches(permission, path)
+                && !self.is_over(permission)
+                && !self.is_ended(permission, path)
+            {
                 return true;
             }
         }

@@ -32,6 +32,11 @@ impl<'a> Fields<'a> {
         number_if_any(self.word())
     }
 
+    /// A moment, in seconds since the beginning of 1970, or none for `-` and behind the last field.
+    pub fn moment_if_any(&mut self) -> Option<i64> {
+        self.word().parse::<i64>().ok()
+    }
+
     /// Whether a flag holds: any word but `0` and `-`.
     pub fn flag(&mut self) -> bool {
         !matches!(self.word(), "" | "0" | "-")

@@ -1,7 +1,7 @@
 //! The request that the fields of a line name: WORD|FIELD|FIELD.. with the fields in the request's order.
 //!
 //! A group is `-` for none, and so is a class; gates are LEVEL:GROUP:POINTER with a space between; targets and grantees are
-//! `person 4`, `org 3`, `community 1` or `group 1`.
+//! `person 4`, `org 3`, `community 1` or `group 1`. A grant's end is a number of seconds, and `-` or missing for none.
 
 use crate::commands::command_of;
 use crate::documents::document_text;
@@ -113,6 +113,7 @@ fn sharing(
             revision: fields.number(),
             path: fields.text(alloc)?,
             grantee: grantee_of(fields.word()),
+            until: fields.moment_if_any(),
         })),
         "Withdraw" => Some(Request::Withdraw(Withdraw {
             incident: fields.number(),

@@ -30,6 +30,11 @@ pub fn number_of(word: &str) -> Result<u32, Unfit> {
     word.parse::<u32>().ok().ok_or(Unfit::NoCase)
 }
 
+/// A moment, in seconds since the beginning of 1970.
+fn moment_of(word: &str) -> Result<i64, Unfit> {
+    word.parse::<i64>().ok().ok_or(Unfit::NoCase)
+}
+
 /// Numbers with commas between them.
 fn numbers_of(alloc: Global, words: &str) -> Result<Numbers, Unfit> {
     let mut numbers = Vec::new(alloc);
@@ -41,7 +46,7 @@ fn numbers_of(alloc: Global, words: &str) -> Result<Numbers, Unfit> {
 
 /// A reader by the numbers of the person and of its organisation, as `4/3`, and what holds of it, each a word behind a
 /// space: `source`, `person`, `nominated`, `addressed`, `client`, `community`, `connected`, `arranged:GREEN`, and lists
-/// as `groups:1,7`, `active:7` and `communities:2`.
+/// as `groups:1,7`, `active:7` and `communities:2`. The moment is 0, or another as `now:1000`.
 pub fn standing_of(alloc: Global, words: &str) -> Result<Standing, Unfit> {
     let mut words = words.split(' ');
     let mut standing = stranger_of(alloc, words.next().unwrap_or(""))?;
@@ -82,6 +87,7 @@ fn hold_named(alloc: Global, standing: &mut Standing, name: &str, list: &str) ->
         "groups" => standing.groups = numbers_of(alloc, list)?,
         "active" => standing.active_groups = numbers_of(alloc, list)?,
         "communities" => standing.communities = numbers_of(alloc, list)?,
+        "now" => standing.now = moment_of(list)?,
         _ => return Err(Unfit::NoCase),
     }
     Ok(())
@@ -118,12 +124,25 @@ pub fn grantee_of(word: &str) -> Result<Grantee, Unfit> {
     }
 }
 
-/// A permission by its grantee and its pointer: `org:4@/Incident/0`.
+/// A grantee, and the moment up to which a permission holds behind a `<`, if it has an end: `org:4`, `org:4<1000`.
+fn grant_of(word: &str) -> Result<(Grantee, Option<i64>), Unfit> {
+    let (grantee, until) = match word.split_once('<') {
+        Some((grantee, end)) => (grantee, Some(moment_of(end)?)),
+        None => (word, None),
+    };
+    Ok((grantee_of(grantee)?, until))
+}
+
+/// A permission by its grantee with its end, if it has one, and its pointer: `org:4@/Incident/0`, `org:4<1000@/Incident/0`.
 fn permission_of(alloc: Global, word: &str) -> Result<Permission, Unfit> {
-    let (grantee, pointer) = word.split_once('@').ok_or(Unfit::NoCase)?;
-    let grantee = grantee_of(grantee)?;
+    let (grant, pointer) = word.split_once('@').ok_or(Unfit::NoCase)?;
+    let (grantee, until) = grant_of(grant)?;
     let path = Path::parse(alloc, pointer)?;
-    Ok(Permission { path, grantee })
+    Ok(Permission {
+        path,
+        grantee,
+        until,
+    })
 }
 
 fn gates_of(alloc: Global, words: &str) -> Result<Gates, Unfit> {
@@ -175,5 +194,8 @@ pub fn gate_word(alloc: Global, gate: &Gate) -> Result<String, AllocError> {
 pub fn permission_word(alloc: Global, permission: &Permission) -> Result<String, AllocError> {
     let (kind, number) = kind_of(permission.grantee);
     let pointer = permission.path.print(alloc)?;
-    format!(in alloc; "{kind}:{number}@{pointer}")
+    match permission.until {
+        Some(end) => format!(in alloc; "{kind}:{number}<{end}@{pointer}"),
+        None => format!(in alloc; "{kind}:{number}@{pointer}"),
+    }
 }

@@ -6,7 +6,7 @@ ghost use Rattle.circle.specs.Refusals.{bad};
 ghost use Rattle.circle.specs.declared.refusal.Code.TheVariants.{B1};
 ghost use Rattle.hub_core.specs.Documents.{Lines, documents_in, fault_in, fault_told, ident_of, marking_told, bad_marking};
 ghost use Rattle.hub_core.specs.Refusals.{because, stands_twice};
-ghost use Rattle.hub_core.specs.Asked.{Asks};
+ghost use Rattle.hub_core.specs.inner.Asked.{Asks};
 
 use crate::judging::posted::Posted;
 use crate::judging::stop::Stop;

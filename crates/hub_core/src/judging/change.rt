@@ -1,8 +1,8 @@
 //! Recipients, permissions and gates, one at a time.
 ghost use Rattle.std.specs.Prelude.{◌≡◌, [], ◌∷◌, IfOk};
 ghost use Rattle.hub_core.specs.Refusals.{grounds_by, is_class_at, is_place_at};
-ghost use Rattle.hub_core.specs.Aftermath.{edits_by};
-ghost use Rattle.hub_core.specs.Asked.{Asks};
+ghost use Rattle.hub_core.specs.Aftermath.{edits_by, put_permission};
+ghost use Rattle.hub_core.specs.inner.Asked.{Asks};
 ghost use Rattle.hub_core.specs.declared.request.Request.TheVariants as ask;
 
 use crate::edit::Edit;
@@ -17,7 +17,7 @@ use crate::{GATE_LIMIT, PERMISSION_LIMIT, RECIPIENT_LIMIT};
 use circle::directory::Person;
 use circle::refusal::Code;
 use iodef_tree::Path;
-use std::alloc::{AllocFailed, Global};
+use std::alloc::{AllocError, AllocFailed, Global};
 
 fn one(alloc: Global, edit: Edit) -> Result<Vec<Edit>, AllocFailed<Edit>>
     ensures { IfOk result (λ edits. edits.items ≡ edit ∷ []) }
@@ -73,7 +73,7 @@ pub fn unaddress(
     )?)
 }
 
-/// A permission at a class, for the revision that the source has seen.
+/// A permission at a class, for the revision that the source has seen, in place of one with another end.
 pub fn grant(
     alloc: Global,
     actor: &Person,
@@ -95,19 +95,32 @@ pub fn grant(
         other_than(known.revision, request.revision),
     )?;
     refuse_if(alloc, facts.permissions > PERMISSION_LIMIT, Code::L1)?;
-    Ok(one(
-        alloc,
-        Edit::PutPermission(Permission {
-            incident: request.incident,
-            permission: policy::Permission {
-                path,
-                grantee: request.grantee,
-            },
-        }),
-    )?)
+    Ok(exchanged(alloc, request, path)?)
 }
 
-/// A permission taken back; whom it names isn't looked up.
+/// The permission asked for at a class, and before it what takes out one with another end.
+fn exchanged(alloc: Global, request: &Grant, path: Path) -> Result<Vec<Edit>, AllocError>
+    ensures { IfOk result (λ edits. edits.items ≡ put_permission (record { incident = request.now.incident; path = path; grantee = request.now.grantee }) request.now.until) }
+{
+    let (incident, grantee) = (request.incident, request.grantee);
+    let mut edits = Vec::with_capacity(alloc, 2)?;
+    edits.push(Edit::TakePermission(PermissionKey {
+        incident,
+        path: path.clone()?,
+        grantee,
+    }))?;
+    edits.push(Edit::PutPermission(Permission {
+        incident,
+        permission: policy::Permission {
+            path,
+            grantee,
+            until: request.until,
+        },
+    }))?;
+    Ok(edits)
+}
+
+/// A permission taken back, ended or not; whom it names isn't looked up.
 pub fn withdraw(
     alloc: Global,
     actor: &Person,

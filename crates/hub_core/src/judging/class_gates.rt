@@ -7,8 +7,8 @@ ghost use Rattle.policy.specs.declared.gate.Gate.{Gate};
 ghost use Rattle.hub_core.specs.Documents.{Lines, is_class_in};
 ghost use Rattle.hub_core.specs.Aftermath.{put_gates};
 ghost use Rattle.hub_core.specs.Refusals.{is_bad_gate, are_bad_gates, stands_twice, stand_at_classes};
-ghost use Rattle.hub_core.specs.Asked.{Asks};
-ghost use Rattle.hub_core.specs.Wanted.{asked_as, put_at};
+ghost use Rattle.hub_core.specs.inner.Asked.{Asks};
+ghost use Rattle.hub_core.specs.inner.Wanted.{asked_as, put_at};
 ghost use Rattle.hub_core.specs.declared.request.WantedGate.{WantedGate};
 
 use crate::copies::copy_of_gate;
@@ -32,7 +32,7 @@ pub struct ClassGates {
 
 impl Model for ClassGates {
     ghost use Rattle.std.specs.Prelude.{List, map};
-    ghost use Rattle.hub_core.specs.Wanted.{asked_as};
+    ghost use Rattle.hub_core.specs.inner.Wanted.{asked_as};
     ghost use Rattle.hub_core.specs.declared.request.WantedGate.{WantedGate};
 
     ghost Value = { List WantedGate };

@@ -2,7 +2,7 @@
 ghost use Rattle.std.specs.Prelude.{◌≡◌, IfOk};
 ghost use Rattle.iodef_tree.specs.Text.{is_root as is_path_of_root};
 ghost use Rattle.hub_core.specs.Refusals.{is_bad_level as is_level_bad, is_bad_group as is_group_bad, root_gate};
-ghost use Rattle.hub_core.specs.Asked.{Asks};
+ghost use Rattle.hub_core.specs.inner.Asked.{Asks};
 
 use crate::judging::stop::{Stop, bad_if};
 use crate::request::Distribution;

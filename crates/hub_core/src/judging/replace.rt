@@ -5,11 +5,11 @@ ghost use Rattle.std.specs.Str.{bytes_eq};
 ghost use Rattle.hub_core.specs.Documents.{Lines, documents_in, ident_of};
 ghost use Rattle.hub_core.specs.Refusals.{grounds_by, replace_arguments, replace_facts};
 ghost use Rattle.hub_core.specs.Aftermath.{edits_by, put_revision};
-ghost use Rattle.hub_core.specs.Asked.{Asks};
+ghost use Rattle.hub_core.specs.inner.Asked.{Asks};
 ghost use Rattle.hub_core.specs.declared.request.Request.TheVariants as ask;
 
 use crate::edit::Edit;
-use crate::facts::{Facts, Known};
+use crate::facts::{Facts, IncidentFacts};
 use crate::judging::body::{documents, well_marked};
 use crate::judging::class_gates::ClassGates;
 use crate::judging::gate::root_level;
@@ -72,7 +72,7 @@ fn allowed<'a>(
     revision: u32,
     gates: &ClassGates,
     documents: &[Posted],
-) -> Result<&'a Known, Stop>
+) -> Result<&'a IncidentFacts, Stop>
     ensures asked { Asks (replace_facts facts.now actor.now revision gates.now documents.now) result }
     ensures known { IfOk result (λ k. facts.now.incident ≡ Some k.now) }
     ensures ident { IfOk result (λ k. list_all (λ (doc : Lines). bytes_eq (ident_of doc) k.now.ident) documents.now ≡ true) }
@@ -98,7 +98,7 @@ fn have_ident(documents: &[Posted], ident: &Text) -> bool
 fn next_revision(
     alloc: Global,
     incident: u32,
-    known: &Known,
+    known: &IncidentFacts,
     mut documents: Vec<Posted>,
 ) -> Result<Vec<Edit>, AllocError>
     requires single { length documents.items ≤ 1 }

@@ -2,7 +2,7 @@
 ghost use Rattle.std.specs.Prelude.{◌≡◌, IfOk};
 ghost use Rattle.hub_core.specs.Refusals.{grounds_by, is_bad_word as is_word_bad};
 ghost use Rattle.hub_core.specs.Aftermath.{edits_by};
-ghost use Rattle.hub_core.specs.Asked.{Asks};
+ghost use Rattle.hub_core.specs.inner.Asked.{Asks};
 ghost use Rattle.hub_core.specs.declared.request.Request.TheVariants as ask;
 
 use crate::WORD_LIMIT;

@@ -3,10 +3,10 @@ ghost use Rattle.std.specs.Prelude.{◌≡◌, [], ◌∷◌, IfOk, option_map, 
 ghost use Rattle.circle.specs.Refusals.{refuse, bad, unless_administrator};
 ghost use Rattle.iodef_tree.specs.Pointer.{pointer_tokens};
 ghost use Rattle.hub_core.specs.Refusals.{because, may_post as is_poster, unless_poster, is_bad_pointer, other_than as told_unless_same, unless_own};
-ghost use Rattle.hub_core.specs.Asked.{Asks};
+ghost use Rattle.hub_core.specs.inner.Asked.{Asks};
 ghost use Rattle.hub_core.specs.declared.judging.stop.Stop.TheVariants.{NoMemory};
 
-use crate::facts::{Facts, Known};
+use crate::facts::{Facts, IncidentFacts};
 use circle::directory::{Person, Role};
 use circle::refusal::{Code, Refusal};
 use circle::text::Text;
@@ -95,7 +95,7 @@ pub fn poster(alloc: Global, actor: &Person) -> Result<(), Stop>
 }
 
 /// What is known of the incident, where it is there and the actor's organisation posted it.
-pub fn own<'a>(alloc: Global, actor: &Person, facts: &'a Facts) -> Result<&'a Known, Stop>
+pub fn own<'a>(alloc: Global, actor: &Person, facts: &'a Facts) -> Result<&'a IncidentFacts, Stop>
     ensures asked { Asks (unless_own facts.now.incident actor.now ∷ []) result }
     ensures known { IfOk result (λ k. facts.now.incident ≡ Some k.now) }
 {

@@ -5,7 +5,7 @@ ghost use Rattle.std.specs.Prelude.{◌<◌};
 use super::SqlShelf;
 use crate::count_incidents::incident_count;
 use crate::directory_facts::find_circle_facts;
-use crate::find_arranged::{arranged, served_by};
+use crate::find_arranged::{arranged, orgs_whose_client};
 use crate::find_communities::{are_connected, communities_of, has_membership, share_community};
 use crate::find_document::find_document;
 use crate::find_gates::find_gates;
@@ -35,7 +35,7 @@ impl<S: Alter> LookUps for SqlShelf<S> {
 
     ghost failed = { λ shelf. shelf.failures };
 
-    ghost may_leave = { λ shelf left. MayLeave (state S.Store shelf.conn) left };
+    ghost may_remain = { λ shelf left. MayLeave (state S.Store shelf.conn) left };
 
     ghost sound = { λ shelf s has. has.sound };
 
@@ -119,9 +119,9 @@ impl<S: Alter> LookUps for SqlShelf<S> {
         told(&mut self.failures, found)
     }
 
-    fn served_by(&mut self, client: u32) -> Result<Vec<u32>, ShelfFault> {
+    fn orgs_whose_client(&mut self, client: u32) -> Result<Vec<u32>, ShelfFault> {
         self.may_ask()?;
-        let found = served_by(&mut self.conn, self.alloc, client);
+        let found = orgs_whose_client(&mut self.conn, self.alloc, client);
         told(&mut self.failures, found)
     }
 

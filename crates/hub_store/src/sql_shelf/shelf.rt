@@ -32,7 +32,7 @@ impl<S: Alter> Shelf for SqlShelf<S> {
 
     ghost failed = { λ shelf. shelf.failures };
 
-    ghost may_leave = { λ shelf left. MayLeave (state S.Store shelf.conn) left };
+    ghost may_remain = { λ shelf left. MayLeave (state S.Store shelf.conn) left };
 
     fn failures(&self) -> u64 {
         self.failures
@@ -44,8 +44,13 @@ impl<S: Alter> Shelf for SqlShelf<S> {
         told(&mut self.failures, found)
     }
 
-    fn standing(&mut self, person: u32, incident: u32) -> Result<Option<Standing>, ShelfFault> {
-        standing_by(self, person, incident)
+    fn standing(
+        &mut self,
+        person: u32,
+        incident: u32,
+        now: i64,
+    ) -> Result<Option<Standing>, ShelfFault> {
+        standing_by(self, person, incident, now)
     }
 
     fn case(&mut self, incident: u32) -> Result<Option<Case>, ShelfFault> {

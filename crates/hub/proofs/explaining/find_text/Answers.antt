@@ -5,7 +5,7 @@ use Rattle.circle.specs.Reads.{person_of}
 use Rattle.hub_core.specs.State.{incident_of}
 use Rattle.hub_core.specs.declared.facts.Facts.{Facts}
 use Rattle.hub_core.specs.declared.state.Incident.{Incident}
-use Rattle.hub.specs.Explaining.{text_of}
+use Rattle.hub.specs.inner.Explaining.{text_of}
 use Rattle.hub_core.proofs.Marked.{marked}
 use Rattle.hub.proofs.Explained.{text_there}
 use Rattle.hub.proofs.explaining.find_text.Goals as goal

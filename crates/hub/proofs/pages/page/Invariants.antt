@@ -3,9 +3,9 @@ use Rattle.hub_core.specs.State.{State}
 use Rattle.hub_core.specs.Sound.{IsSound}
 use Rattle.hub.specs.declared.TheConstants.{PAGE_LIMIT}
 use Rattle.hub.specs.Replies.{page_of}
-use Rattle.hub.specs.Wanted.{is_wanted}
+use Rattle.hub.specs.inner.Wanted.{is_wanted}
 use Rattle.hub_core.specs.Shelves.{IsKept}
-use Rattle.hub.specs.Asking.{IsThere}
+use Rattle.hub.specs.inner.Asking.{IsThere}
 use Rattle.hub.proofs.Paging.{passing_above}
 use Rattle.hub.proofs.pages.page.Given as goal
 
@@ -14,7 +14,7 @@ invariant-pages g l =
     let shelf = g.Sh.Shelf in
     record {
       room : length l.listed.items ≤ PAGE_LIMIT;
-      kept : IsKept shelf.has shelf.doubts shelf.failed shelf.may_leave l.initial.shelf l.shelf;
+      kept : IsKept shelf.has shelf.doubts shelf.failed shelf.may_remain l.initial.shelf l.shelf;
       told : shelf.doubts l.shelf ≡ 0 → (s : State) → shelf.has l.initial.shelf s → IsSound s → IsThere s l.asker.person.now →
           take PAGE_LIMIT (l.listed.items ++ passing_above s (is_wanted s l.asker.now l.asker.person.now l.wanted) l.above) ≡ page_of (is_wanted s l.asker.now l.asker.person.now l.wanted) l.after s;
     }

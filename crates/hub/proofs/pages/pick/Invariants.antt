@@ -3,9 +3,9 @@ use Rattle.hub_core.specs.State.{State}
 use Rattle.hub_core.specs.Sound.{IsSound}
 use Rattle.hub_core.specs.declared.reply.Entry.{Entry}
 use Rattle.hub.specs.declared.TheConstants.{PAGE_LIMIT}
-use Rattle.hub.specs.Wanted.{is_wanted_at}
+use Rattle.hub.specs.inner.Wanted.{is_wanted_at}
 use Rattle.hub_core.specs.Shelves.{IsKept}
-use Rattle.hub.specs.Asking.{IsThere}
+use Rattle.hub.specs.inner.Asking.{IsThere}
 use Rattle.hub.proofs.pages.pick.Given as goal
 
 abbrev pub invariant-loop-entry : goal.invariant-loop-entry
@@ -13,7 +13,7 @@ invariant-loop-entry g l =
     let shelf = g.Sh.Shelf in
     record {
       room : length l.listed.items ≤ PAGE_LIMIT;
-      kept : IsKept shelf.has shelf.doubts shelf.failed shelf.may_leave l.initial.shelf l.shelf;
+      kept : IsKept shelf.has shelf.doubts shelf.failed shelf.may_remain l.initial.shelf l.shelf;
       told : shelf.doubts l.shelf ≡ 0 → (s : State) → shelf.has l.initial.shelf s → IsSound s → IsThere s l.asker.person.now →
           take PAGE_LIMIT (l.listed.items ++ filter (λ (e : Entry). is_wanted_at s l.asker.now l.asker.person.now l.wanted e.number) (drop l.entry-index l.entries))
           ≡ take PAGE_LIMIT (l.initial.listed.items ++ filter (λ (e : Entry). is_wanted_at s l.asker.now l.asker.person.now l.wanted e.number) l.entries);

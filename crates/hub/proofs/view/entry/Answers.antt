@@ -1,6 +1,6 @@
 use Rattle.std.proofs.Common.{ap, ◌∙◌}
 use Rattle.hub_core.specs.Reads.{entries_after}
-use Rattle.hub.specs.Viewing.{first_being}
+use Rattle.hub.specs.inner.Viewing.{first_being}
 use Rattle.hub.proofs.Seeing.{entry_is}
 use Rattle.hub.proofs.view.entry.Goals as goal
 

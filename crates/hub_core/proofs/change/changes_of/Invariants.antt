@@ -1,5 +1,5 @@
 use Rattle.std.proofs.Common.{◌≡◌, ◌++◌, map, drop}
-use Rattle.hub_core.specs.Changes.{row_edit, directory_edits, row_edits}
+use Rattle.hub_core.specs.inner.Changes.{row_edit, directory_edits, row_edits}
 use Rattle.hub_core.proofs.change.changes_of.Given as goal
 
 abbrev pub invariant-loop-edit : goal.invariant-loop-edit

@@ -2,7 +2,7 @@ use Rattle.std.proofs.Common.{◌≡◌, ◌∙◌, length, ◌+◌, ◌-◌, �
 use Rattle.std.specs.Prelude.{is_some, min}
 use Rattle.hub_core.specs.Documents.{documents_in}
 use Rattle.hub_core.specs.Requests.{incident_asked, known_of, looked_up}
-use Rattle.hub_core.specs.Shared.{counts_in, sharing_asked}
+use Rattle.hub_core.specs.inner.Shared.{counts_in, sharing_asked}
 use Rattle.hub_core.specs.State.{permissions_of, recipients_of}
 use Rattle.hub_core.specs.declared.counts_then.Counts.{Counts}
 use Rattle.hub_core.specs.declared.request.Request.{Request}

@@ -5,10 +5,10 @@ use Rattle.circle.specs.declared.directory.Person.{Person}
 use Rattle.hub_core.specs.Documents.{Lines}
 use Rattle.hub_core.specs.Facts.{circle_facts_of, facts_of, posted_of}
 use Rattle.hub_core.specs.Requests.{incident_asked, known, known_of, looked_up}
-use Rattle.hub_core.specs.Shared.{counts_in}
+use Rattle.hub_core.specs.inner.Shared.{counts_in}
 use Rattle.hub_core.specs.State.{State}
 use Rattle.hub_core.specs.declared.counts_then.Counts.{Counts}
-use Rattle.hub_core.specs.declared.facts.Known.{Known}
+use Rattle.hub_core.specs.declared.facts.IncidentFacts.{IncidentFacts}
 use Rattle.hub_core.specs.declared.request.Request.{Request}
 use Rattle.hub_core.specs.declared.state.Incident.{Incident}
 use Rattle.hub_core.proofs.facts_made.find_facts.Goals as goal
@@ -17,7 +17,7 @@ is_there : (o : Option Incident) → is_some (option_map known o) ≡ is_some o
 is_there None = refl
 is_there (Some i) = refl
 
-told : (s : State) (a : Person) (r : Request) (circle : CircleFacts) (incident : Option Known) (document : Option Lines) (posted : Option ℕ) (counts : Counts) →
+told : (s : State) (a : Person) (r : Request) (circle : CircleFacts) (incident : Option IncidentFacts) (document : Option Lines) (posted : Option ℕ) (counts : Counts) →
     circle ≡ circle_facts_of s a r → incident ≡ known_of s r → document ≡ option_map (λ (i : Incident). i.document) (looked_up s (incident_asked r)) → posted ≡ posted_of s a r → counts ≡ counts_in s a r →
     record { circle = circle; incident = incident; document = document; posted = posted; gates = counts.gates; recipients = counts.recipients; permissions = counts.permissions } ≡ facts_of s a r
 told s a r circle incident document posted counts e f h i j = cc

@@ -10,6 +10,6 @@ abbrev pub invariant-loop-gate : goal.invariant-loop-gate
 invariant-loop-gate g l =
     let shelf = g.L.LookUps in
     record {
-      kept : IsKept shelf.has shelf.doubts shelf.failed shelf.may_leave l.initial.shelf l.shelf;
+      kept : IsKept shelf.has shelf.doubts shelf.failed shelf.may_remain l.initial.shelf l.shelf;
       all : shelf.doubts l.shelf ≡ 0 → (s : State) → shelf.has l.initial.shelf s → list_all (λ (w : WantedGate). is_own_group s l.actor w.group) (take l.gate-index l.gates) ≡ true;
     }

@@ -1,12 +1,12 @@
 use Rattle.std.proofs.Common.{◌≡◌, ◌∙◌, Bool, sym, ap, subst}
 use Rattle.std.specs.Prelude.{IfOk}
 use Rattle.hub_core.specs.Facts.{stands_in}
-use Rattle.hub_core.specs.Questions.{is_target_among}
+use Rattle.hub_core.specs.inner.Questions.{is_target_among}
 use Rattle.hub_core.specs.Requests.{incident_asked}
-use Rattle.hub_core.specs.Shared.{sharing_asked}
+use Rattle.hub_core.specs.inner.Shared.{sharing_asked}
 use Rattle.hub_core.specs.declared.request.Request.{Request}
 use Rattle.hub_core.specs.declared.sharing.Sharing.{Sharing}
-use Rattle.hub_core.proofs.Counted.{gate_stands, permission_stands, target_among}
+use Rattle.hub_core.proofs.Counted.{gate_stands, granted_stands, permission_stands, target_among}
 use Rattle.hub_core.proofs.sharing.stands.Goals as goal
 
 pub returns-in-Redistribute : goal.returns-in-Redistribute
@@ -30,13 +30,13 @@ returns-in-Unaddress c = λ s is.
 pub returns-in-Grant : goal.returns-in-Grant
 returns-in-Grant c = λ s is.
     let r = c.in-Grant.asked in
-    let P : Request → Type 0 = λ r. c.args.sharing.now ≡ sharing_asked (incident_asked r) s → IfOk c.stands_permission.result (λ b. b ≡ stands_in s r) in
-    let Q : Bool → Type 0 = λ due. IfOk c.stands_permission.result (λ b. b ≡ due) in
-    subst P (sym c.in-Grant.is) (λ same. subst Q (permission_stands s r.incident r.path r.grantee _ (c.as_slice-permissions.ensures ∙ ap (λ (x : Sharing). x.permissions) same)) c.stands_permission.ensures) is
+    let P : Request → Type 0 = λ r. c.args.sharing.now ≡ sharing_asked (incident_asked r) s → IfOk c.stands_granted.result (λ b. b ≡ stands_in s r) in
+    let Q : Bool → Type 0 = λ due. IfOk c.stands_granted.result (λ b. b ≡ due) in
+    subst P (sym c.in-Grant.is) (λ same. subst Q (granted_stands s r _ (c.as_slice-permissions.ensures ∙ ap (λ (x : Sharing). x.permissions) same)) c.stands_granted.ensures) is
 
 pub returns-in-Withdraw : goal.returns-in-Withdraw
 returns-in-Withdraw c = λ s is.
     let r = c.in-Withdraw.asked in
-    let P : Request → Type 0 = λ r. c.args.sharing.now ≡ sharing_asked (incident_asked r) s → IfOk c.stands_permission-in-Withdraw.result (λ b. b ≡ stands_in s r) in
-    let Q : Bool → Type 0 = λ due. IfOk c.stands_permission-in-Withdraw.result (λ b. b ≡ due) in
-    subst P (sym c.in-Withdraw.is) (λ same. subst Q (permission_stands s r.incident r.path r.grantee _ (c.as_slice-permissions.ensures ∙ ap (λ (x : Sharing). x.permissions) same)) c.stands_permission-in-Withdraw.ensures) is
+    let P : Request → Type 0 = λ r. c.args.sharing.now ≡ sharing_asked (incident_asked r) s → IfOk c.stands_permission.result (λ b. b ≡ stands_in s r) in
+    let Q : Bool → Type 0 = λ due. IfOk c.stands_permission.result (λ b. b ≡ due) in
+    subst P (sym c.in-Withdraw.is) (λ same. subst Q (permission_stands s r _ (c.as_slice-permissions.ensures ∙ ap (λ (x : Sharing). x.permissions) same)) c.stands_permission.ensures) is

@@ -1,5 +1,5 @@
 use Rattle.std.proofs.Common.{◌≡◌, ◌∙◌, ap, arith}
-use Rattle.hub_core.specs.Questions.{is_target_among}
+use Rattle.hub_core.specs.inner.Questions.{is_target_among}
 use Rattle.hub_core.specs.declared.request.Target.TheVariants as target
 use Rattle.hub_core.proofs.Counted.{target_among}
 use Rattle.hub_core.proofs.Standings.{client_is}
@@ -7,7 +7,7 @@ use Rattle.hub_core.proofs.standing.find_addressed.Goals as goal
 
 pub returns-clause-value : goal.returns-clause-value
 returns-clause-value g c = λ clean s has i number source.
-    let mid : g.L.LookUps.doubts c.served_by.new.self ≡ 0 = omega (arith, c.in_ok-recipients.ensures.kept.doubt) in
+    let mid : g.L.LookUps.doubts c.orgs_whose_client.new.self ≡ 0 = omega (arith, c.in_ok-recipients.ensures.kept.doubt) in
     let n = c.args.incident in
     let reader = c.args.reader.now in
     let serves = c.as_slice.ensures.value ∙ c.in_ok-served.ensures.value mid s has in

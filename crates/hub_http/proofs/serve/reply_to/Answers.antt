@@ -7,7 +7,7 @@ use Rattle.hub_http.proofs.serve.reply_to.Goals as goal
 pub returns-in_default-clause-replied : goal.returns-in_default-clause-replied
 returns-in_default-clause-replied g c = (
   c.answer-reply.result,
-  subst (λ (t : ℤ). Steps g.Sh.Shelf.has g.Sh.Shelf.doubts g.Sh.Shelf.failed g.Sh.Shelf.may_leave c.args.hub.now t (c.args.key.now, c.args.request.now) c.answer-reply.result c.answer-reply.new.self)
+  subst (λ (t : ℤ). Steps g.Sh.Shelf.has g.Sh.Shelf.doubts g.Sh.Shelf.failed g.Sh.Shelf.may_remain c.args.hub.now t (c.args.key.now, c.args.request.now) c.answer-reply.result c.answer-reply.new.self)
       (to_z-of_z w64 c.args.now c.ranges.now)
       record {
         step = c.answer-reply.ensures.step;
@@ -20,7 +20,7 @@ returns-in_default-clause-replied g c = (
 pub returns-in-Ok-write_all-clause-replied : goal.returns-in-Ok-write_all-clause-replied
 returns-in-Ok-write_all-clause-replied g c = (
   c.answer-reply.result,
-  subst (λ (t : ℤ). Steps g.Sh.Shelf.has g.Sh.Shelf.doubts g.Sh.Shelf.failed g.Sh.Shelf.may_leave c.args.hub.now t (c.args.key.now, c.args.request.now) c.answer-reply.result c.answer-reply.new.self)
+  subst (λ (t : ℤ). Steps g.Sh.Shelf.has g.Sh.Shelf.doubts g.Sh.Shelf.failed g.Sh.Shelf.may_remain c.args.hub.now t (c.args.key.now, c.args.request.now) c.answer-reply.result c.answer-reply.new.self)
       (to_z-of_z w64 c.args.now c.ranges.now)
       record {
         step = c.answer-reply.ensures.step;
@@ -35,7 +35,7 @@ returns-in-Ok-write_all-clause-replied g c = (
 pub returns-clause-replied : goal.returns-clause-replied
 returns-clause-replied g c = (
   c.answer-reply.result,
-  subst (λ (t : ℤ). Steps g.Sh.Shelf.has g.Sh.Shelf.doubts g.Sh.Shelf.failed g.Sh.Shelf.may_leave c.args.hub.now t (c.args.key.now, c.args.request.now) c.answer-reply.result c.answer-reply.new.self)
+  subst (λ (t : ℤ). Steps g.Sh.Shelf.has g.Sh.Shelf.doubts g.Sh.Shelf.failed g.Sh.Shelf.may_remain c.args.hub.now t (c.args.key.now, c.args.request.now) c.answer-reply.result c.answer-reply.new.self)
       (to_z-of_z w64 c.args.now c.ranges.now)
       record {
         step = c.answer-reply.ensures.step;

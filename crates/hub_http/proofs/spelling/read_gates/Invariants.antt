@@ -1,6 +1,6 @@
 use Rattle.std.proofs.Common.{◌≡◌, drop}
 use Rattle.hub_http.specs.Spelling.{gates}
-use Rattle.hub_http.specs.Texts.{texts}
+use Rattle.hub_http.specs.inner.Texts.{texts}
 use Rattle.hub_http.proofs.Gates.{behind}
 use Rattle.hub_http.proofs.spelling.read_gates.Given as goal
 

@@ -4,7 +4,7 @@ use Rattle.sqlite.specs.Held.{state}
 use Rattle.hub_core.specs.State.{empty}
 use Rattle.hub_core.specs.Edits.{after}
 use Rattle.hub_store.specs.Means.{Holds}
-use Rattle.hub_store.specs.Makes.{Makes}
+use Rattle.hub_store.specs.inner.Makes.{Makes}
 use Rattle.hub_store.proofs.Runs.{after_more}
 use Rattle.hub_store.proofs.Steps.{makes_then}
 use Rattle.hub_store.proofs.apply.make_all.Goals as goal

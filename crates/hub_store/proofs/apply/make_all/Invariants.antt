@@ -3,7 +3,7 @@ use Rattle.sqlite.specs.Held.{state}
 use Rattle.hub_core.specs.State.{State}
 use Rattle.hub_core.specs.Edits.{after}
 use Rattle.hub_store.specs.Means.{Holds}
-use Rattle.hub_store.specs.Makes.{Makes}
+use Rattle.hub_store.specs.inner.Makes.{Makes}
 use Rattle.hub_store.proofs.apply.make_all.Given as goal
 
 abbrev pub invariant-loop-edit : goal.invariant-loop-edit

@@ -1,7 +1,7 @@
 use Rattle.std.proofs.Common.{pos, ◌∷◌, [], Ok}
 use Rattle.sqlite_value.specs.declared.value.Value.TheVariants.{Int, Text}
 use Rattle.sqlite.specs.Held.{state}
-use Rattle.hub_store.specs.PairKinds.{kind_name}
+use Rattle.hub_store.specs.inner.PairKinds.{kind_name}
 use Rattle.hub_store.proofs.Answering.{read_shown}
 use Rattle.hub_store.proofs.AskedPairs.{from_shown}
 use Rattle.hub_store.proofs.Texts.{pairs_with_first, pairs_with_first_is, pairs_with_first_plain}

@@ -3,7 +3,7 @@ use Rattle.sqlite_value.specs.declared.value.Value.TheVariants.{Int}
 use Rattle.hub_core.specs.State.{empty}
 use Rattle.hub_store.specs.Tables.{hub_schema}
 use Rattle.hub_store.specs.Layout.{newest}
-use Rattle.hub_store.specs.Makes.{HasEmpty}
+use Rattle.hub_store.specs.inner.Makes.{HasEmpty}
 use Rattle.hub_store.specs.Means.{Holds}
 use Rattle.hub_store.proofs.Empty.{begins_empty}
 use Rattle.hub_store.proofs.FirstRow.{first_fails}

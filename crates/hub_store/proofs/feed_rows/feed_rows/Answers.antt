@@ -1,8 +1,8 @@
 use Rattle.std.proofs.Common.{◌≡◌, suc, length, Ok, refl, sym, ap, subst, ◌∙◌, rules}
 use Rattle.sqlite.specs.Held.{state}
 use Rattle.redact.specs.Feeding.{Progress}
-use Rattle.hub_store.specs.FeedsRows.{lines_of}
-use Rattle.hub_store.specs.Queries.{IsReadOutside}
+use Rattle.hub_store.specs.inner.FeedsRows.{lines_of}
+use Rattle.hub_store.specs.inner.Queries.{IsReadOutside}
 use Rattle.hub_store.proofs.AtPlaces.{next_place}
 use Rattle.hub_store.proofs.Streaming.{starts, goes_on, ends, not_begun}
 use Rattle.hub_store.proofs.feed_rows.feed_rows.Goals as goal

@@ -1,8 +1,8 @@
 use Rattle.std.proofs.Common.{◌≡◌, map, ◌∙◌}
 use Rattle.std.specs.Option.{option_to_list}
 use Rattle.circle.specs.Reads.{arranged}
-use Rattle.hub_store.specs.PairKinds.{pair_between, value_shown}
-use Rattle.hub_store.specs.ShownPairs.{handling_shown}
+use Rattle.hub_store.specs.inner.PairKinds.{pair_between, value_shown}
+use Rattle.hub_store.specs.inner.ShownPairs.{handling_shown}
 use Rattle.hub_store.specs.declared.pair_kind.PairKind.TheVariants as kind
 use Rattle.hub_store.proofs.DirectorySets.{arranged_rows}
 use Rattle.hub_store.proofs.Reading.{read_made}

@@ -1,8 +1,8 @@
 use Rattle.std.proofs.Common.{◌≡◌, Some, Ok}
 use Rattle.sqlite.specs.Held.{state}
 use Rattle.hub_core.specs.Reads.{case_of, naming_of}
-use Rattle.hub_store.specs.Queries.{IsReadInside}
-use Rattle.hub_store.specs.Shown.{IsCase}
+use Rattle.hub_store.specs.inner.Queries.{IsReadInside}
+use Rattle.hub_store.specs.inner.Shown.{IsCase}
 use Rattle.hub_store.proofs.Incidents.{case_is}
 use Rattle.hub_store.proofs.Reading.{read_then, read_gives}
 use Rattle.hub_store.proofs.find_case.read_case.Goals as goal

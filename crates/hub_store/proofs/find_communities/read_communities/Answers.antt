@@ -1,7 +1,7 @@
 use Rattle.std.proofs.Common.{◌≡◌, map, ◌∙◌}
 use Rattle.circle.specs.Reads.{communities_of}
 use Rattle.hub_store.specs.Pairs.{Pair}
-use Rattle.hub_store.specs.PairKinds.{pairs_to}
+use Rattle.hub_store.specs.inner.PairKinds.{pairs_to}
 use Rattle.hub_store.specs.declared.pair_kind.PairKind.TheVariants as kind
 use Rattle.hub_store.proofs.DirectorySets.{communities_are}
 use Rattle.hub_store.proofs.Reading.{read_turned}

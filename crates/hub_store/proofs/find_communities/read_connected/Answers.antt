@@ -1,7 +1,7 @@
 use Rattle.std.proofs.Common.{ℕ, get_or, Ok, true, false, rules, refl, sym, subst, ◌∙◌}
 use Rattle.std.specs.List.{list_any}
 use Rattle.circle.specs.Reads.{are_connected}
-use Rattle.hub_store.specs.ShownPairs.{AreRising, is_one_of, linked_with}
+use Rattle.hub_store.specs.inner.ShownPairs.{AreRising, is_one_of, linked_with}
 use Rattle.hub_store.proofs.DirectorySets.{communities_rise, connected_from}
 use Rattle.hub_store.proofs.Reading.{read_then, read_gives}
 use Rattle.hub_store.proofs.Stepping.{passed_over, settled, none_left}

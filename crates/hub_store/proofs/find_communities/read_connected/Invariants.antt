@@ -2,8 +2,8 @@ use Rattle.std.proofs.Common.{◌≡◌, drop, Ok}
 use Rattle.std.specs.List.{list_any}
 use Rattle.sqlite.specs.Held.{state}
 use Rattle.circle.specs.Reads.{communities_of, are_connected}
-use Rattle.hub_store.specs.Queries.{IsReadInside}
-use Rattle.hub_store.specs.ShownPairs.{is_one_of, linked_with}
+use Rattle.hub_store.specs.inner.Queries.{IsReadInside}
+use Rattle.hub_store.specs.inner.ShownPairs.{is_one_of, linked_with}
 use Rattle.hub_store.proofs.find_communities.read_connected.Given as goal
 
 abbrev pub invariant-loop-community : goal.invariant-loop-community

@@ -1,8 +1,8 @@
 use Rattle.std.proofs.Common.{◌≡◌, ◌∙◌, map, true, Ok, sym}
 use Rattle.std.specs.List.{list_any}
 use Rattle.hub_store.specs.Pairs.{Pair}
-use Rattle.hub_store.specs.PairKinds.{pairs_from, pairs_to}
-use Rattle.hub_store.specs.ShownPairs.{AreRising, is_one_of, linked_with}
+use Rattle.hub_store.specs.inner.PairKinds.{pairs_from, pairs_to}
+use Rattle.hub_store.specs.inner.ShownPairs.{AreRising, is_one_of, linked_with}
 use Rattle.hub_store.specs.declared.pair_kind.PairKind.TheVariants as kind
 use Rattle.hub_store.proofs.Reading.{read_then, read_gives}
 use Rattle.hub_store.proofs.Stepping.{found_above, found_below}

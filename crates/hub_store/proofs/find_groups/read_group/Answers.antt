@@ -2,7 +2,7 @@ use Rattle.std.proofs.Common.{pos, ◌∷◌, []}
 use Rattle.sqlite_value.specs.declared.value.Value.TheVariants.{Int}
 use Rattle.sqlite.specs.Held.{state}
 use Rattle.circle.specs.Reads.{group_of}
-use Rattle.hub_store.specs.ShownPairs.{group_shown}
+use Rattle.hub_store.specs.inner.ShownPairs.{group_shown}
 use Rattle.hub_store.proofs.Answering.{read_shown}
 use Rattle.hub_store.proofs.Finding.{reads_first}
 use Rattle.hub_store.proofs.GroupSets.{group_found}

@@ -1,8 +1,8 @@
 use Rattle.std.proofs.Common.{◌≡◌, ◌++◌, drop, Ok}
 use Rattle.std.specs.List.{filter_map}
 use Rattle.sqlite.specs.Held.{state}
-use Rattle.hub_store.specs.Queries.{IsReadInside}
-use Rattle.hub_store.specs.ShownPairs.{group_if_any, groups_in}
+use Rattle.hub_store.specs.inner.Queries.{IsReadInside}
+use Rattle.hub_store.specs.inner.ShownPairs.{group_if_any, groups_in}
 use Rattle.hub_store.proofs.find_groups.read_groups.Given as goal
 
 abbrev pub invariant-loop-member : goal.invariant-loop-member

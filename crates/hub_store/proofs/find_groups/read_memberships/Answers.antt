@@ -1,7 +1,7 @@
 use Rattle.std.proofs.Common.{◌≡◌, map, ◌∙◌}
 use Rattle.circle.specs.Reads.{memberships_in_groups}
-use Rattle.hub_store.specs.PairKinds.{pairs_to, first_shown}
-use Rattle.hub_store.specs.ShownPairs.{joined_of, joined_shown}
+use Rattle.hub_store.specs.inner.PairKinds.{pairs_to, first_shown}
+use Rattle.hub_store.specs.inner.ShownPairs.{joined_of, joined_shown}
 use Rattle.hub_store.specs.declared.pair_kind.PairKind.TheVariants as kind
 use Rattle.hub_store.proofs.DirectorySets.{membership_rows}
 use Rattle.hub_store.proofs.Listed.{reads_all}

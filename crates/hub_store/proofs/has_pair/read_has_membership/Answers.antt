@@ -1,5 +1,5 @@
 use Rattle.std.proofs.Common.{◌≡◌, is_some, ◌∙◌}
-use Rattle.hub_store.specs.PairKinds.{pair_between}
+use Rattle.hub_store.specs.inner.PairKinds.{pair_between}
 use Rattle.hub_store.specs.Rows.{membership_pair}
 use Rattle.hub_store.specs.declared.pair_kind.PairKind.TheVariants as kind
 use Rattle.hub_store.proofs.Extending.{pair_there}

@@ -2,7 +2,7 @@ use Rattle.hub_store.specs.Means.{Holds}
 use Rattle.hub_store.proofs.Changes.{takes_gates}
 use Rattle.hub_store.proofs.Steps.{made_by}
 use Rattle.hub_store.proofs.Texts.{take_gates}
-use Rattle.hub_store.specs.Partly.{without_gates}
+use Rattle.hub_store.specs.inner.Partly.{without_gates}
 use Rattle.hub_store.proofs.incident_edits.take_gates.Goals as goal
 
 pub returns-clause-made : goal.returns-clause-made

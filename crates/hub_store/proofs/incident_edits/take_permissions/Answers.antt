@@ -1,7 +1,7 @@
 use Rattle.hub_core.specs.Edits.{edited}
 use Rattle.hub_core.specs.declared.edit.Edit.TheVariants.{TakePolicy}
 use Rattle.hub_store.specs.Means.{Holds}
-use Rattle.hub_store.specs.Partly.{without_gates}
+use Rattle.hub_store.specs.inner.Partly.{without_gates}
 use Rattle.hub_store.proofs.Changes.{takes_permissions}
 use Rattle.hub_store.proofs.Steps.{made_by}
 use Rattle.hub_store.proofs.Texts.{take_permissions}

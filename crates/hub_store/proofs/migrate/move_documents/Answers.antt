@@ -1,8 +1,8 @@
 use Rattle.std.proofs.Common.{[], Ok, refl, rules, sym, subst, arith}
 use Rattle.sqlite.specs.Held.{state}
-use Rattle.hub_store.specs.Beside.{HoldsBeside}
-use Rattle.hub_store.specs.Makes.{Makes}
-use Rattle.hub_store.specs.Moving.{HoldsMoved, HoldsNext}
+use Rattle.hub_store.specs.inner.Beside.{HoldsBeside}
+use Rattle.hub_store.specs.inner.Makes.{Makes}
+use Rattle.hub_store.specs.inner.Moving.{HoldsMoved, HoldsNext}
 use Rattle.hub_store.proofs.Inside.{goes_then}
 use Rattle.hub_store.proofs.MovedOn.{moved_none, moved_all}
 use Rattle.hub_store.proofs.Steps.{clean_before, makes_start, fails_then, fails_passed}

@@ -4,8 +4,8 @@ use Rattle.sqlite.specs.State.{HasCleanDisk}
 use Rattle.hub_core.specs.State.{State}
 use Rattle.hub_core.specs.declared.TheConstants.{INCIDENT_LIMIT}
 use Rattle.hub_store.specs.Keeps.{Goes}
-use Rattle.hub_store.specs.Moving.{HasTexts, HoldsMoved}
-use Rattle.hub_store.specs.Beside.{HoldsBeside}
+use Rattle.hub_store.specs.inner.Moving.{HasTexts, HoldsMoved}
+use Rattle.hub_store.specs.inner.Beside.{HoldsBeside}
 use Rattle.hub_store.proofs.migrate.move_documents.Given as goal
 
 abbrev pub invariant-loop : goal.invariant-loop

@@ -2,9 +2,9 @@ use Rattle.std.proofs.Common.{[], map, Ok, rules}
 use Rattle.sqlite.specs.Held.{state}
 use Rattle.hub_core.specs.State.{empty}
 use Rattle.hub_store.specs.Items.{items_of, item_row}
-use Rattle.hub_store.specs.Beside.{HoldsBeside}
+use Rattle.hub_store.specs.inner.Beside.{HoldsBeside}
 use Rattle.hub_store.specs.Layout.{parts_1}
-use Rattle.hub_store.specs.Makes.{Makes}
+use Rattle.hub_store.specs.inner.Makes.{Makes}
 use Rattle.hub_store.specs.Parts.{HoldsParts}
 use Rattle.hub_store.proofs.Inside.{goes_then}
 use Rattle.hub_store.proofs.Steps.{clean_before, fails_then, fails_passed}

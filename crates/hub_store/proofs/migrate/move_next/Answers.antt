@@ -2,8 +2,8 @@ use Rattle.std.proofs.Common.{◌≡◌, ◌++◌, ◌∷◌, [], None, Some, Ok
 use Rattle.sqlite.specs.Held.{state}
 use Rattle.hub_core.specs.Documents.{Lines}
 use Rattle.hub_store.specs.Items.{items_in, item_row}
-use Rattle.hub_store.specs.Moving.{HoldsMoved, HoldsNext, incidents_up_to}
-use Rattle.hub_store.specs.PutsLines.{PutsLines, HasMore}
+use Rattle.hub_store.specs.inner.Moving.{HoldsMoved, HoldsNext, incidents_up_to}
+use Rattle.hub_store.specs.inner.PutsLines.{PutsLines, HasMore}
 use Rattle.hub_store.proofs.Inside.{goes_then}
 use Rattle.hub_store.proofs.Movable.{lines_stand}
 use Rattle.hub_store.proofs.Moved.{next_more}

@@ -2,8 +2,8 @@ use Rattle.std.proofs.Common.{◌≡◌, suc, length, Ok, refl, sym, ap, subst, 
 use Rattle.std.proofs.lemmas.Bool.{true≢false}
 use Rattle.sqlite.specs.Held.{state}
 use Rattle.redact.specs.Feeding.{Progress}
-use Rattle.hub_store.specs.ProbesRows.{AreFirst}
-use Rattle.hub_store.specs.Queries.{IsReadOutside}
+use Rattle.hub_store.specs.inner.ProbesRows.{AreFirst}
+use Rattle.hub_store.specs.inner.Queries.{IsReadOutside}
 use Rattle.hub_store.proofs.AtPlaces.{next_place}
 use Rattle.hub_store.proofs.Streaming.{starts, goes_on, ends, stops, not_begun}
 use Rattle.hub_store.proofs.Probing.{probed_on, all_came, first_came}

@@ -1,7 +1,7 @@
 use Rattle.std.proofs.Common.{w64}
 use Rattle.std.proofs.lemmas.Int.{to_z_pos}
 use Rattle.hub_store.specs.Means.{HoldsBetween}
-use Rattle.hub_store.specs.Beside.{HoldsBeside}
+use Rattle.hub_store.specs.inner.Beside.{HoldsBeside}
 use Rattle.hub_store.proofs.Changes.{puts_line}
 use Rattle.hub_store.proofs.Migrating.{moves_line, line_fails}
 use Rattle.hub_store.proofs.Steps.{made_by, fails_by}

@@ -3,7 +3,7 @@ use Rattle.sqlite.specs.State.{HasCleanDisk}
 use Rattle.sqlite.specs.Held.{state}
 use Rattle.hub_store.proofs.Outcomes.{unchanged_keeps, not_run_keeps, failed_query}
 use Rattle.sqlite.specs.Values.{bound}
-use Rattle.hub_store.specs.Queries.{HasRefused}
+use Rattle.hub_store.specs.inner.Queries.{HasRefused}
 use Rattle.hub_store.proofs.QueryCauses.{not_run_asked}
 use Rattle.hub_store.proofs.Steps.{kept_then, on_err_any, survives_itself, err_passed}
 use Rattle.hub_store.proofs.query.ask.Goals as goal

@@ -2,7 +2,7 @@ use Rattle.std.proofs.Common.{[]}
 use Rattle.hub_store.specs.Tables.{schema_by, item_table}
 use Rattle.hub_store.specs.Parts.{HoldsParts}
 use Rattle.hub_store.specs.Layout.{parts_1}
-use Rattle.hub_store.specs.Beside.{HoldsBeside}
+use Rattle.hub_store.specs.inner.Beside.{HoldsBeside}
 use Rattle.hub_store.proofs.Causes.{fails_for_reason}
 use Rattle.hub_store.proofs.Creates.{creates}
 use Rattle.hub_store.proofs.Steps.{made_by, fails_by}

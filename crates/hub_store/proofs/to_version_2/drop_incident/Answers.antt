@@ -2,7 +2,7 @@ use Rattle.std.proofs.Common.{[]}
 use Rattle.hub_store.specs.Tables.{beside_item, incident_table}
 use Rattle.hub_store.specs.Parts.{HoldsParts}
 use Rattle.hub_store.specs.Layout.{without_incidents}
-use Rattle.hub_store.specs.Beside.{HoldsBeside}
+use Rattle.hub_store.specs.inner.Beside.{HoldsBeside}
 use Rattle.hub_store.proofs.DropCauses.{drop_fails, drops_empty}
 use Rattle.hub_store.proofs.Steps.{made_by, fails_by}
 use Rattle.hub_store.proofs.Migrating.{drop_incident, drops_incident, incident_dropping}

@@ -4,7 +4,7 @@ use Rattle.std.specs.Vec.Iter.{into_iter_items}
 use Rattle.serde_json.specs.View.{items_view, members_view}
 use Rattle.serde_json.specs.Written.{items_have_float, members_have_float}
 use Rattle.iodef_tree.specs.Filled.{IsItemFilled, IsMemberFilled}
-use Rattle.iodef_tree.specs.FitValues.{IsBodyOrdered, AreBodiesOrdered, HasBodyTexts, HaveTexts, are_flat, are_members_flat}
+use Rattle.iodef_tree.specs.inner.FitValues.{IsBodyOrdered, AreBodiesOrdered, HasBodyTexts, HaveTexts, are_flat, are_members_flat}
 use Rattle.iodef_tree.specs.Values.{items_of_data}
 use Rattle.iodef_tree.specs.View.{body, named}
 use Rattle.iodef_tree.proofs.FromValues.{given_members}

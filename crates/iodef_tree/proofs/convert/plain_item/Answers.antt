@@ -1,6 +1,6 @@
 use Rattle.std.proofs.Common.{true, sym, ap, ◌∙◌, subst}
 use Rattle.serde_json.specs.View.{view}
-use Rattle.iodef_tree.specs.FitValues.{IsBodyOrdered, HasBodyTexts}
+use Rattle.iodef_tree.specs.inner.FitValues.{IsBodyOrdered, HasBodyTexts}
 use Rattle.iodef_tree.specs.Tree.{says, value}
 use Rattle.iodef_tree.proofs.Filled.{filled-Value}
 use Rattle.iodef_tree.proofs.ValueTexts.{value-body, written-text}

@@ -1,6 +1,6 @@
 use Rattle.std.proofs.Common.{false, sym, ap, ◌∙◌, subst}
 use Rattle.serde_json.specs.View.{view}
-use Rattle.iodef_tree.specs.FitValues.{AreBodiesOrdered, HaveTexts}
+use Rattle.iodef_tree.specs.inner.FitValues.{AreBodiesOrdered, HaveTexts}
 use Rattle.iodef_tree.specs.Tree.{one, says, value}
 use Rattle.iodef_tree.specs.declared.object.Item.TheVariants.{Value}
 use Rattle.iodef_tree.proofs.Filled.{filled-One, filled-Value}

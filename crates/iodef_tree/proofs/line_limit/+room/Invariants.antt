@@ -1,5 +1,5 @@
 use Rattle.std.proofs.Common.{◌≡◌, ◌+◌, drop, map, sum_by}
-use Rattle.iodef_tree.specs.FitValues.{line_count, bodies_count, body_count}
+use Rattle.iodef_tree.specs.inner.FitValues.{line_count, bodies_count, body_count}
 use Rattle.iodef_tree.specs.View.{forest, bodies, body, members_forest}
 use Rattle.iodef_tree.proofs.line_limit.+room.Given as goal
 

@@ -1,5 +1,5 @@
 use Rattle.std.proofs.Common.{◌≡◌, ◌∷◌, drop}
-use Rattle.iodef_tree.specs.Lookup.{class_at}
+use Rattle.iodef_tree.specs.inner.Lookup.{class_at}
 use Rattle.iodef_tree.specs.View.{forest, members_forest}
 use Rattle.iodef_tree.proofs.lookup.item_at.Given as goal
 

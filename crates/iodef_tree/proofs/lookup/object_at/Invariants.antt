@@ -1,6 +1,6 @@
 use Rattle.std.proofs.Common.{◌≡◌, length}
 use Rattle.iodef_tree.specs.Filled.{IsFilled}
-use Rattle.iodef_tree.specs.Lookup.{object_at}
+use Rattle.iodef_tree.specs.inner.Lookup.{object_at}
 use Rattle.iodef_tree.specs.View.{forest}
 use Rattle.iodef_tree.proofs.lookup.object_at.Given as goal
 

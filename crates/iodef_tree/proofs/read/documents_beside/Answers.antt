@@ -1,6 +1,6 @@
 use Rattle.std.proofs.Common.{◌≡◌, sym, ◌∙◌, subst, Ok, arith}
 use Rattle.serde_json.specs.View.{view, items_view, members_view}
-use Rattle.iodef_tree.specs.FitValues.{IsFit, AreFit}
+use Rattle.iodef_tree.specs.inner.FitValues.{IsFit, AreFit}
 use Rattle.iodef_tree.specs.Reading.{documents, document_of, if_short}
 use Rattle.iodef_tree.specs.Tree.{lines}
 use Rattle.std.specs.Vec.Iter.{into_iter_items}

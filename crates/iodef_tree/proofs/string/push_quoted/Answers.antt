@@ -4,7 +4,7 @@ use Rattle.std.proofs.lemmas.Bool.{or_parts, eqb-false, ltb-false}
 use Rattle.std.specs.List.{list_any}
 use Rattle.json.specs.Print.{escape, quoted}
 use Rattle.json.proofs.Printed.Strings.{escape_byte_plain}
-use Rattle.iodef_tree.specs.Written.{needs_escape}
+use Rattle.iodef_tree.specs.inner.Written.{needs_escape}
 use Rattle.iodef_tree.proofs.string.push_quoted.Goals as goal
 
 -- a text that needs no escape

@@ -1,7 +1,7 @@
 use Rattle.std.proofs.Common.{◌≡◌, ◌+◌, ◌<◌, ◌^◌, drop}
 use Rattle.serde_json.specs.Data.{items_depth, members_depth}
 use Rattle.serde_json.specs.View.{items_view, members_view}
-use Rattle.iodef_tree.specs.FitValues.{any_at, is_refused}
+use Rattle.iodef_tree.specs.inner.FitValues.{any_at, is_refused}
 use Rattle.iodef_tree.specs.Values.{item_nodes, member_nodes}
 use Rattle.iodef_tree.proofs.unfit_values.+plain.Given as goal
 

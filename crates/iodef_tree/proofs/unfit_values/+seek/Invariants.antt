@@ -1,7 +1,7 @@
 use Rattle.std.proofs.Common.{◌≡◌, ◌+◌, ◌<◌, ◌^◌, drop}
 use Rattle.serde_json.specs.Data.{items_depth, members_depth}
 use Rattle.serde_json.specs.View.{items_view, members_view}
-use Rattle.iodef_tree.specs.FitValues.{is_sought}
+use Rattle.iodef_tree.specs.inner.FitValues.{is_sought}
 use Rattle.iodef_tree.specs.Values.{item_nodes, member_nodes, first_at}
 use Rattle.iodef_tree.proofs.unfit_values.+seek.Given as goal
 

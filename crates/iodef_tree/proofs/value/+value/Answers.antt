@@ -1,9 +1,9 @@
 use Rattle.std.proofs.lemmas.Grind.{common_steps}
 use Rattle.std.proofs.Common.{arith, ◌∙◌, ap, subst, rules}
-use Rattle.iodef_tree.specs.FitValues.{AreBodiesOrdered}
+use Rattle.iodef_tree.specs.inner.FitValues.{AreBodiesOrdered}
 use Rattle.iodef_tree.specs.Filled.{IsMemberFilled}
 use Rattle.iodef_tree.specs.View.{forest, bodies}
-use Rattle.iodef_tree.specs.Written.{members_of}
+use Rattle.iodef_tree.specs.inner.Written.{members_of}
 use Rattle.iodef_tree.specs.declared.object.Object.{the_lemmas}
 use Rattle.iodef_tree.proofs.Data.{put-started, object-ordered, put-member, all-left}
 use Rattle.iodef_tree.proofs.Filled.{many-kept, member-at, member-elements}

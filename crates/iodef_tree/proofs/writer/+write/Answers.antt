@@ -2,7 +2,7 @@ use Rattle.std.proofs.lemmas.Grind.{common_steps}
 use Rattle.std.proofs.Common.{arith, string_bytes, [], ◌∷◌, ◌++◌, false, subst, rules}
 use Rattle.iodef_tree.specs.Filled.{IsMemberFilled}
 use Rattle.iodef_tree.specs.View.{forest}
-use Rattle.iodef_tree.specs.Written.{written}
+use Rattle.iodef_tree.specs.inner.Written.{written}
 use Rattle.iodef_tree.specs.declared.object.Object.{the_lemmas}
 use Rattle.iodef_tree.proofs.Filled.{many-kept, member-at, member-elements}
 use Rattle.iodef_tree.proofs.Writing.{write-member}

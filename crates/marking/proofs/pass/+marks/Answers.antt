@@ -6,7 +6,7 @@ use Rattle.iodef_tree.specs.View.{bodies, members_forest}
 use Rattle.iodef_tree.specs.declared.object.Object.{the_lemmas}
 use Rattle.iodef_tree.proofs.Filled.{member-at, element-at}
 use Rattle.marking.specs.Marks.{marked_by}
-use Rattle.marking.specs.Pass.{marked_below}
+use Rattle.marking.specs.inner.Pass.{marked_below}
 use Rattle.marking.proofs.Fronts.{written-member}
 use Rattle.marking.proofs.pass.+marks.Goals as goal
 

@@ -3,7 +3,7 @@ use Rattle.std.proofs.lemmas.Grind.{common_steps}
 use Rattle.iodef_tree.specs.View.{bodies, members_forest}
 use Rattle.iodef_tree.specs.declared.object.Object.{the_lemmas}
 use Rattle.iodef_tree.proofs.Filled.{member-at, element-at}
-use Rattle.marking.specs.Pass.{tokens_of}
+use Rattle.marking.specs.inner.Pass.{tokens_of}
 use Rattle.marking.proofs.Fronts.{bad-none, bad-some}
 use Rattle.marking.proofs.rule.+check.Goals as goal
 

@@ -1,6 +1,6 @@
 use Rattle.std.proofs.Common.{◌∙◌, ap, codes}
 use Rattle.iodef_tree.specs.View.{forest}
-use Rattle.redact.specs.Judged.{put_leaf, put_attributes, attribute_leaf}
+use Rattle.redact.specs.inner.Judged.{put_leaf, put_attributes, attribute_leaf}
 use Rattle.redact.specs.Told.{attributes_by}
 use Rattle.marking.specs.Label.{marking_of, restriction_of}
 use Rattle.redact.proofs.attributes.labelled.Goals as goal

@@ -10,7 +10,7 @@ use Rattle.iodef_tree.specs.Filled.{IsMemberFilled}
 use Rattle.iodef_tree.proofs.Filled.{made-filled, members-filled, filled-One, filled-Text}
 use Rattle.redact.proofs.Filling.{inserted-filled}
 use Rattle.iodef_tree.proofs.Views.{forest-members, forest-made, bodies-One, body-Text}
-use Rattle.redact.specs.Saying.{saying}
+use Rattle.redact.specs.inner.Saying.{saying}
 use Rattle.redact.proofs.attributes.with_attribute.Goals as goal
 
 pub returns-clause-put : goal.returns-clause-put

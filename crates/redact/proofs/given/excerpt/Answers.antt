@@ -7,11 +7,11 @@ use Rattle.marking.specs.Marks.{first_bad_marking}
 use Rattle.policy.specs.Inherited.{carried, at_root}
 use Rattle.policy.specs.declared.rule.Rule.{Rule}
 use Rattle.redact.specs.Withheld.{Withheld, is_among, at_place, in_order}
-use Rattle.redact.specs.Left.{tells}
-use Rattle.redact.specs.Judged.{root, told}
-use Rattle.redact.specs.Pass.{pass}
+use Rattle.redact.specs.inner.Left.{tells}
+use Rattle.redact.specs.inner.Judged.{root, told}
+use Rattle.redact.specs.inner.Pass.{pass}
 use Rattle.redact.specs.Told.{kept_outline, withheld_of, visible_count}
-use Rattle.redact.specs.Tokens.{path_of}
+use Rattle.redact.specs.inner.Tokens.{path_of}
 use Rattle.redact.specs.Excerpts.{LabelsSurvive}
 use Rattle.redact.proofs.Promised.{excerpt-none, excerpt-some, told_as, told-is}
 use Rattle.redact.proofs.Survival.{markings-accepted, labels-survive}

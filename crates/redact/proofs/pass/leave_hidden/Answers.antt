@@ -1,6 +1,6 @@
 use Rattle.std.proofs.Common.{◌≡◌, sym, ◌∙◌, ◌++◌, ap, refl}
 use Rattle.redact.specs.Withheld.{at_place, with_rule}
-use Rattle.redact.specs.Tokens.{path_of}
+use Rattle.redact.specs.inner.Tokens.{path_of}
 use Rattle.redact.proofs.Filling.{object-end}
 use Rattle.redact.proofs.pass.leave_hidden.Goals as goal
 
@@ -11,7 +11,7 @@ pub returns-in_ok-tell-clause-leaves : goal.returns-in_ok-tell-clause-leaves
 returns-in_ok-tell-clause-leaves c =
     let st = c.args.state.now in
     let told = c.in_ok-tell.ensures in
-    let rules : c.as_slice.result.now ≡ with_rule st.gone.items c.args.rule = cc (c.as_slice.ensures.value, c.in_ok-add-2.ensures, c.replace-gone.ensures.value) in
+    let rules : c.as_slice.result.now ≡ with_rule st.rules_met.items c.args.rule = cc (c.as_slice.ensures.value, c.in_ok-add-2.ensures, c.replace-gone.ensures.value) in
     rw (object-end c.args.kept c.requires ∙ sym c.is_empty.ensures ∙ c.if-is_empty.false) (record {
       withheld = told.withheld ∙ ap (λ gs. st.withheld.items ++ at_place (path_of st.place.items) gs) rules;
       gone = cc (told.gone, c.replace-gone.ensures.after);

@@ -3,7 +3,7 @@ use Rattle.iodef_tree.specs.Text.{Bytes, Tokens}
 use Rattle.policy.specs.Ahead.{Met, met_at, ahead_of, nothing_met}
 use Rattle.policy.specs.declared.standing.Standing.{Standing}
 use Rattle.policy.specs.declared.case.Case.{Case}
-use Rattle.redact.specs.Tokens.{token_of}
+use Rattle.redact.specs.inner.Tokens.{token_of}
 use Rattle.redact.proofs.reader.further.Goals as goal
 
 -- where nothing can be met, nothing can further down

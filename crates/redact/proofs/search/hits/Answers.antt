@@ -2,7 +2,7 @@ use Rattle.std.proofs.Common.{sym, ◌∙◌, ap, subst}
 use Rattle.iodef_tree.specs.View.{body}
 use Rattle.iodef_tree.proofs.Views.{body-Text}
 use Rattle.memchr.specs.Find.{FindsNeedle}
-use Rattle.redact.specs.Search.{body_hits}
+use Rattle.redact.specs.inner.Search.{body_hits}
 use Rattle.redact.proofs.Needles.{finds_has}
 use Rattle.redact.proofs.search.hits.Goals as goal
 

@@ -4,7 +4,7 @@ use Rattle.std.proofs.lemmas.Iterator.Search.{any_from_yields_List}
 use Rattle.iodef_tree.specs.View.{body, bodies}
 use Rattle.iodef_tree.specs.declared.object.Item.{Item}
 use Rattle.iodef_tree.proofs.Views.{bodies-Many}
-use Rattle.redact.specs.Search.{body_hits, bodies_hit}
+use Rattle.redact.specs.inner.Search.{body_hits, bodies_hit}
 use Rattle.redact.proofs.Searching.{any_map}
 use Rattle.redact.proofs.search.member_hits.Goals as goal
 

@@ -1,5 +1,5 @@
 use Rattle.std.proofs.Common.{sym, ◌∙◌, ap, bytes_eq, decimal, rules}
-use Rattle.redact.specs.Tokens.{token_of}
+use Rattle.redact.specs.inner.Tokens.{token_of}
 use Rattle.redact.proofs.Alike.{places-alike}
 use Rattle.redact.proofs.trail.is_same.Goals as goal
 

@@ -1,5 +1,5 @@
 use Rattle.std.proofs.Common.{◌≡◌, take}
-use Rattle.redact.specs.Tokens.{path_of}
+use Rattle.redact.specs.inner.Tokens.{path_of}
 use Rattle.redact.proofs.trail.path_at.Given as goal
 
 abbrev pub invariant-loop-token : goal.invariant-loop-token

@@ -1,6 +1,6 @@
 use Rattle.std.proofs.Common.{◌≡◌, ◌++◌, drop, string_bytes}
 use Rattle.iodef_tree.specs.Pointer.{pointer_text}
-use Rattle.redact.specs.Tokens.{path_of}
+use Rattle.redact.specs.inner.Tokens.{path_of}
 use Rattle.redact.proofs.trail.print.Given as goal
 
 abbrev pub invariant-loop-token : goal.invariant-loop-token

@@ -56,7 +56,7 @@ returns-clause-cause g c = λ clean s has sound failed.
 
 pub returns-clause-kept : goal.returns-clause-kept
 returns-clause-kept g c = λ unmade.
-    let P : g.row.Sh.Denot → Type 0 = λ shelf. KeepsContent g.Sh.Shelf.has g.Sh.Shelf.doubts g.Sh.Shelf.failed g.Sh.Shelf.may_leave shelf c.answered.new.shelf in
+    let P : g.row.Sh.Denot → Type 0 = λ shelf. KeepsContent g.Sh.Shelf.has g.Sh.Shelf.doubts g.Sh.Shelf.failed g.Sh.Shelf.may_remain shelf c.answered.new.shelf in
     elim c.match-answered.branch [
       | in-Ok w ↦
           subst P c.self.view_is (w.in-Ok.ensures.kept (sym (ap is_made w.result-is) ∙ unmade))

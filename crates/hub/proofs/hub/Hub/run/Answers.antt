@@ -32,6 +32,6 @@ loop-one-preserved g c =
           let mid = c.loop-one.invariant.told before s has sound in
           let whole = runs_sound s mid.0 _ _ sound mid.1 in
           let step = c.step-reply.ensures.step clean mid.0 mid.2 whole in
-          rw items (stops_on shelf.may_leave c.args.self.now c.loop-one.self c.step-reply.new.self s mid.0 step.0 c.args.asked.now c.loop-one.one-index c.one-item.result earlier reply c.one-item.is c.loop-one-test.true
+          rw items (stops_on shelf.may_remain c.args.self.now c.loop-one.self c.step-reply.new.self s mid.0 step.0 c.args.asked.now c.loop-one.one-index c.one-item.result earlier reply c.one-item.is c.loop-one-test.true
           mid.1 step.1 (c.loop-one.invariant.crash before s has sound) (c.step-reply.ensures.durable clean mid.0 mid.2 whole) (c.step-reply.ensures.crash clean mid.0 mid.2 whole));
     }

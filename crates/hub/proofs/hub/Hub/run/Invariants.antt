@@ -19,6 +19,6 @@ invariant-loop-one g l =
       told : shelf.doubts l.self ≡ 0 → (s : State) → shelf.has l.fn.self s → IsSound s
           → (mid : State) × IsRun s (take l.one-index l.asked) l.replies.items mid × shelf.has l.self mid;
       cause : shelf.doubts l.self ≡ 0 → (s : State) → shelf.has l.fn.self s → IsSound s → AreCounted (failures_told l.replies.items) (shelf.failed l.fn.self) (shelf.failed l.self);
-      crash : shelf.doubts l.self ≡ 0 → (s : State) → shelf.has l.fn.self s → IsSound s → (left : Option State) → shelf.may_leave l.self left
-          → (shelf.may_leave l.fn.self left × (any_made l.replies.items ≡ false)) ⊎ IsSomeAnd left (λ content. MayBeLeft s (take l.one-index l.asked) l.replies.items content);
+      crash : shelf.doubts l.self ≡ 0 → (s : State) → shelf.has l.fn.self s → IsSound s → (left : Option State) → shelf.may_remain l.self left
+          → (shelf.may_remain l.fn.self left × (any_made l.replies.items ≡ false)) ⊎ IsSomeAnd left (λ content. MayBeLeft s (take l.one-index l.asked) l.replies.items content);
     }

@@ -3,7 +3,7 @@ use Rattle.circle.specs.Directory.{Directory}
 use Rattle.circle.specs.Aftermath.{edited_rows}
 use Rattle.hub_core.specs.State.{State}
 use Rattle.hub_core.specs.Edits.{after}
-use Rattle.hub_core.specs.Changes.{directory_edits, row_edits}
+use Rattle.hub_core.specs.inner.Changes.{directory_edits, row_edits}
 use Rattle.hub_core.specs.Lists.{with_directory}
 use Rattle.hub_core.proofs.MadeApart.{made_apart}
 use Rattle.hub_core.proofs.list_shelf.ListShelf.make.Goals as goal

@@ -1,7 +1,7 @@
 use Rattle.std.proofs.Common.{◌∙◌, sym, ap, subst, map, length, add-one}
 use Rattle.std.specs.Vec.Iter.{into_iter_items}
 use Rattle.hub_core.specs.Edits.{after}
-use Rattle.hub_core.specs.Changes.{row_edit}
+use Rattle.hub_core.specs.inner.Changes.{row_edit}
 use Rattle.hub_core.specs.Lists.{HasRoom, with_directory}
 use Rattle.hub_core.proofs.lists.Lists.make_all.Goals as goal
 

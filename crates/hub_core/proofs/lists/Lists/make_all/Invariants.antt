@@ -2,7 +2,7 @@ use Rattle.std.proofs.Common.{◌≡◌, map, length}
 use Rattle.std.specs.Vec.Iter.{into_iter_items}
 use Rattle.circle.specs.Directory.{Directory}
 use Rattle.hub_core.specs.Edits.{after}
-use Rattle.hub_core.specs.Changes.{row_edit}
+use Rattle.hub_core.specs.inner.Changes.{row_edit}
 use Rattle.hub_core.specs.Lists.{AreInOrder, HasRoom, with_directory}
 use Rattle.hub_core.proofs.lists.Lists.make_all.Given as goal
 

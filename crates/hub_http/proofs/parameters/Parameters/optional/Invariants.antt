@@ -1,6 +1,6 @@
 use Rattle.std.proofs.Common.{◌≡◌, ◌++◌, drop}
 use Rattle.hub_http.specs.Parameters.{sole, values}
-use Rattle.hub_http.specs.Texts.{pair_views}
+use Rattle.hub_http.specs.inner.Texts.{pair_views}
 use Rattle.hub_http.proofs.ValuesSoFar.{held}
 use Rattle.hub_http.proofs.parameters.Parameters.optional.Given as goal
 

@@ -1,5 +1,5 @@
 use Rattle.std.proofs.Common.{◌≡◌, Bor, Option, Some, None, option_map, [], IfSome, arith}
-use Rattle.iodef_tree.specs.Lookup.{object_at}
+use Rattle.iodef_tree.specs.inner.Lookup.{object_at}
 use Rattle.iodef_tree.specs.Paths.{located}
 use Rattle.iodef_tree.specs.Sound.{IsSound}
 use Rattle.json_pointer.specs.Text.{Tokens}

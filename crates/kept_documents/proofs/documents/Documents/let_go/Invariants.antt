@@ -3,4 +3,4 @@ use Rattle.kept_documents.specs.Kept.{AreSpared}
 use Rattle.kept_documents.proofs.documents.Documents.let_go.Given as goal
 
 abbrev pub invariant-loop-edit : goal.invariant-loop-edit
-invariant-loop-edit l = AreSpared (take l.edit-index l.edits) l.self l.initial.self
+invariant-loop-edit g l = AreSpared (take l.edit-index l.edits) l.self l.initial.self

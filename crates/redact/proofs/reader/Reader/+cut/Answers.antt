@@ -16,10 +16,10 @@ use Rattle.iodef_tree.proofs.Views.{forest-made}
 use Rattle.policy.specs.Ahead.{ahead_of}
 use Rattle.marking.specs.Label.{marking_of}
 use Rattle.policy.specs.Inherited.{carried, is_seen, hides}
-use Rattle.redact.specs.Judged.{inside, is_end, cut, told}
-use Rattle.redact.specs.Pass.{pass}
-use Rattle.redact.specs.Tokens.{token_of, path_of}
-use Rattle.redact.specs.Left.{home_of, left_at, told_at, count_at, left_member, told_member, count_member, left_members, told_members, count_members, left_items, told_items, count_items, Goes, Leaves}
+use Rattle.redact.specs.inner.Judged.{inside, is_end, cut, told}
+use Rattle.redact.specs.inner.Pass.{pass}
+use Rattle.redact.specs.inner.Tokens.{token_of, path_of}
+use Rattle.redact.specs.inner.Left.{home_of, left_at, told_at, count_at, left_member, told_member, count_member, left_members, told_members, count_members, left_items, told_items, count_items, Goes, Leaves}
 use Rattle.redact.specs.declared.pass.State.{State}
 use Rattle.redact.specs.declared.trail.Token.{Token}
 use Rattle.redact.proofs.Fronts.{Outcome, of_object}
@@ -79,7 +79,7 @@ cut_member-cut_array-requires t c = (search (rules, the_lemmas), (elements-kept 
 pub cut_seen-returns-clause-goes : goal.cut_seen-returns-clause-goes
 cut_seen-returns-clause-goes t c = IfOk-weaker c.with_own_label.result _ _ (λ o _ q.
     let st = c.args.state.now in
-    let b : State = record st { classes = c.saturating_add-state.result; gone = c.replace-outside.new.dest } in
+    let b : State = record st { classes = c.saturating_add-state.result; rules_met = c.replace-outside.new.dest } in
     let k = c.cut.new.state in
     let r = path_of st.place.items in
     let J = pass c.args.self.now.case.now c.args.self.now.standing.now (carried (path_of st.path.items) c.args.at) (forest c.args.object.now) in
@@ -114,7 +114,7 @@ cut_hidden-returns-clause-quiet t c =
 pub cut_hidden-returns-clause-goes : goal.cut_hidden-returns-clause-goes
 cut_hidden-returns-clause-goes t c = IfOk-weaker c.leave_hidden.result _ _ (λ o left.
     let st = c.args.state.now in
-    let b : State = record st { gone = c.replace-outside.new.dest } in
+    let b : State = record st { rules_met = c.replace-outside.new.dest } in
     let k = c.cut.new.state in
     let J = pass c.args.self.now.case.now c.args.self.now.standing.now (carried (path_of st.path.items) c.args.at) (forest c.args.object.now) in
     let r = path_of st.place.items in
@@ -122,7 +122,7 @@ cut_hidden-returns-clause-goes t c = IfOk-weaker c.leave_hidden.result _ _ (λ o
     let rule = hides c.args.self.now.standing.now (carried (path_of st.path.items) c.args.at) in
     let kept = c.in_ok-kept.ensures in
     let d = c.leave_hidden.new.state in
-    let leaves : Leaves k d st.gone.items rule (is_end (cut (inside false) 0 J)) = rw (kept.left, c.replace-outside.ensures.value, c.hides-rule.ensures) at left in
+    let leaves : Leaves k d st.rules_met.items rule (is_end (cut (inside false) 0 J)) = rw (kept.left, c.replace-outside.ensures.value, c.hides-rule.ensures) at left in
     record {
       path = leaves.path ∙ kept.goes.path;
       place = leaves.place ∙ kept.goes.place;

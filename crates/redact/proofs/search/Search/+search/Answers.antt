@@ -11,8 +11,8 @@ use Rattle.policy.specs.Inherited.{carried, array_step, enter_array}
 use Rattle.policy.specs.declared.inherited.Carried.{Carried}
 use Rattle.policy.specs.declared.standing.Standing.{Standing}
 use Rattle.policy.specs.declared.case.Case.{Case}
-use Rattle.redact.specs.Tokens.{token_of, path_of}
-use Rattle.redact.specs.Search.{asked_of, found_items, found_member}
+use Rattle.redact.specs.inner.Tokens.{token_of, path_of}
+use Rattle.redact.specs.inner.Search.{asked_of, found_items, found_member}
 use Rattle.redact.specs.declared.trail.Token.{Token}
 use Rattle.redact.proofs.Entering.{class-found}
 use Rattle.redact.proofs.Searching.{found_next}

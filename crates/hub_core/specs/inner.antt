@@ -1,0 +1,5 @@
+pub mod Asked
+pub mod Changes
+pub mod Questions
+pub mod Shared
+pub mod Wanted

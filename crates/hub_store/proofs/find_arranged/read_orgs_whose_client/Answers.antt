@@ -1,0 +1,15 @@
+use Rattle.std.proofs.Common.{◌≡◌, ◌==◌, map, ◌∙◌}
+use Rattle.circle.specs.Reads.{orgs_whose_client}
+use Rattle.hub_store.specs.Pairs.{Pair}
+use Rattle.hub_store.specs.inner.PairKinds.{pairs_to}
+use Rattle.hub_store.specs.Rows.{client_pair}
+use Rattle.hub_store.specs.declared.pair_kind.PairKind.TheVariants as kind
+use Rattle.hub_store.proofs.Reading.{read_turned}
+use Rattle.hub_store.proofs.PairRows.{viewed_pairs}
+use Rattle.hub_store.proofs.find_arranged.read_orgs_whose_client.Goals as goal
+
+pub returns-clause-read : goal.returns-clause-read
+returns-clause-read g c =
+    let client = c.args.client in
+    read_turned _ _ (λ s found. found.items ≡ map (λ (p : Pair). p.0.0) (pairs_to kind.Client client s.directory)) (λ s found. found.items ≡ orgs_whose_client client s.directory) c.read_firsts.result c.read_firsts.ensures.read
+    (λ s found sound is. is ∙ viewed_pairs client_pair (λ (p : Pair). p.0.0) (λ (p : Pair). p.0.1 == client) s.directory.clients)

@@ -1,0 +1,13 @@
+pub mod Beside
+pub mod FeedsRows
+pub mod FirstShown
+pub mod Looks
+pub mod Makes
+pub mod Moving
+pub mod PairKinds
+pub mod Partly
+pub mod ProbesRows
+pub mod PutsLines
+pub mod Queries
+pub mod Shown
+pub mod ShownPairs

@@ -1,0 +1,94 @@
+-- The table of the lines while a migration fills it, beside the tables of version 1.
+use Rattle.std.specs.Prelude.{◌≡◌, ◌<◌, ◌^◌, ◌&&◌, ℕ, suc, pos, Bool, false, List, [], ◌∷◌, ◌++◌, length}
+use Rattle.std.specs.List.{AllByRecursion}
+use Rattle.sqlite_value.specs.declared.value.Value.TheVariants.{Null, Int}
+use Rattle.sqlite_value.specs.declared.keys.Collation.TheVariants.{Binary}
+use Rattle.std.specs.Ordering.{is_eq}
+use Rattle.sqlite_value.specs.Order.{Row, column, value_cmp}
+use Rattle.sqlite_trees.specs.Tree.{rowid}
+use Rattle.sqlite_schema.specs.Rules.{equal}
+use Rattle.sqlite.specs.Effect.{Database}
+use Rattle.circle.specs.Sound.{Pairwise}
+use Rattle.hub_core.specs.State.{State}
+use Rattle.hub_store.specs.Items.{Item, item_row}
+use Rattle.hub_core.specs.declared.state.Naming.{Naming}
+use Rattle.hub_core.specs.declared.state.Permission.{Permission}
+use Rattle.hub_store.specs.Rows.{naming_row, endless_row}
+use Rattle.hub_store.specs.Fit.{ShortItem, IsShort}
+use Rattle.hub_store.specs.Layout.{with_items, item_part, with_permissions, permission_part_3}
+use Rattle.hub_store.specs.Parts.{HoldsParts}
+
+-- the rowids count on from a number, with no gap
+abbrev pub AreNumbered : ℕ → List Row → Type 0
+AreNumbered n [] = Unit {0}
+AreNumbered n (r ∷ rows) = (rowid r ≡ Int (pos n)) × AreNumbered (suc n) rows
+
+-- these lines beside all tables of version 1, in a table that was made empty
+pub record HoldsBeside (items : List Row) (s : State) (db : Database) : Type 0 where
+  pub parts : HoldsParts (with_items items s) db
+  pub numbered : AreNumbered 1 (db.trees (item_part items).table.tree)
+
+-- as SQL compares them, two rows begin with the same values
+abbrev pub begin_alike : ℕ → Row → Row → Bool
+begin_alike at a b = equal Binary (column a at) (column b at) && equal Binary (column a (suc at)) (column b (suc at))
+
+abbrev pub Apart : Row → Row → Type 0
+Apart a b = (begin_alike 0 a b ≡ false) × (begin_alike 0 b a ≡ false)
+
+-- the row is that of a line that a store takes
+abbrev pub IsShortLine : Row → Type 0
+IsShortLine row = (x : Item) × (row ≡ item_row x) × ShortItem x
+
+-- Lines that the table takes: each has a place of its own, is short enough, and the rowids don't run out.
+pub record CanStand (items : List Row) : Type 0 where
+  pub apart : Pairwise Apart items
+  pub lines : AllByRecursion IsShortLine items
+  pub few : length items < 2 ^ 62
+
+-- ---- the table of the incidents, while it is filled again
+
+abbrev pub NumbersApart : Row → Row → Type 0
+NumbersApart a b = (is_eq (value_cmp (rowid a) (rowid b)) ≡ false) × (is_eq (value_cmp (rowid b) (rowid a)) ≡ false)
+
+-- no two have the source and the ident of each other
+abbrev pub IdentsApart : Row → Row → Type 0
+IdentsApart a b = (begin_alike 2 a b ≡ false) × (begin_alike 2 b a ≡ false)
+
+abbrev pub IsShortNaming : Row → Type 0
+IsShortNaming row = (k : Naming) × (row ≡ naming_row k) × IsShort row × (k.number < 2 ^ 63)
+
+-- Incidents that the table takes: no two have one number, or one ident of one source, and each is short enough.
+pub record CanName (rows : List Row) : Type 0 where
+  pub numbers : Pairwise NumbersApart rows
+  pub idents : Pairwise IdentsApart rows
+  pub namings : AllByRecursion IsShortNaming rows
+
+-- ---- the table of the permissions, while it is filled again
+
+-- a row of version 2 as version 3 keeps it
+abbrev pub without_end : Row → Row
+without_end row = row ++ Null ∷ []
+
+abbrev pub IsEndlessRow : Row → Type 0
+IsEndlessRow row = (x : Permission) × (row ≡ endless_row x)
+
+-- these permissions beside all else, in a table that was made empty
+pub record HoldsGranted (permissions : List Row) (s : State) (db : Database) : Type 0 where
+  pub parts : HoldsParts (with_permissions permissions s) db
+  pub numbered : AreNumbered 1 (db.trees (permission_part_3 permissions).table.tree)
+
+-- as SQL compares them, two rows have the same incident, path, kind and target
+abbrev pub granted_alike : Row → Row → Bool
+granted_alike a b = begin_alike 0 a b && begin_alike 2 a b
+
+abbrev pub GrantsApart : Row → Row → Type 0
+GrantsApart a b = (granted_alike a b ≡ false) × (granted_alike b a ≡ false)
+
+abbrev pub IsShortGrant : Row → Type 0
+IsShortGrant row = (x : Permission) × (row ≡ without_end (endless_row x)) × IsShort (Null ∷ row)
+
+-- Permissions that the table takes: each is of its own, is short enough, and the rowids don't run out.
+pub record CanGrant (permissions : List Row) : Type 0 where
+  pub apart : Pairwise GrantsApart permissions
+  pub grants : AllByRecursion IsShortGrant permissions
+  pub few : length permissions < 2 ^ 62

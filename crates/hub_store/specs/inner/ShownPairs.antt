@@ -1,0 +1,58 @@
+-- What the rows of the directory's queries show.
+use Rattle.std.specs.Prelude.{◌≡◌, ◌<◌, ◌==◌, ℕ, pos, Bool, List, [], ◌∷◌, ◌++◌, map, Option, option_map}
+use Rattle.std.specs.List.{list_any, filter_map}
+use Rattle.sqlite_value.specs.declared.value.Value.TheVariants.{Int, Text}
+use Rattle.sqlite_value.specs.Order.{Row, column}
+use Rattle.sqlite_trees.specs.Tree.{IsAscending}
+use Rattle.circle.specs.declared.directory.Handling.{Handling}
+use Rattle.circle.specs.declared.directory.Group.{Group}
+use Rattle.circle.specs.declared.directory.GroupMember.{GroupMember}
+use Rattle.circle.specs.Directory.{Directory}
+use Rattle.circle.specs.Reads.{group_of, memberships_in_groups}
+use Rattle.hub_core.specs.Reads.{joined}
+use Rattle.hub_core.specs.declared.reply.JoinedGroup.{JoinedGroup}
+use Rattle.hub_store.specs.Values.{flag}
+use Rattle.hub_store.specs.Rows.{handling_number}
+use Rattle.hub_store.specs.Pairs.{Pair}
+use Rattle.hub_store.specs.inner.PairKinds.{pairs_from, pairs_to}
+use Rattle.hub_store.specs.declared.pair_kind.PairKind.TheVariants as kind
+use Rattle.hub_store.specs.declared.joined_rows.Joined.{Joined}
+
+-- the first column is this number, and no other
+abbrev pub ShowsNumber : Row → ℕ → Type 0
+ShowsNumber shown n = (m : ℕ) → column shown 0 ≡ Int (pos m) → n ≡ m
+
+abbrev pub handling_shown : Handling → Row
+handling_shown h = Int (pos (handling_number h)) ∷ []
+
+abbrev pub joined_shown : Joined → Row
+joined_shown j = Int (pos j.group) ∷ flag j.extend ∷ []
+
+abbrev pub group_shown : Group → Row
+group_shown g = Int (pos g.number) ∷ Int (pos g.owner) ∷ Text g.name ∷ Text g.releasability ∷ flag g.active ∷ []
+
+-- a member of a group, without its organisation
+abbrev pub joined_of : GroupMember → Joined
+joined_of m = record { group = m.group; extend = m.extend }
+
+abbrev pub joined_group : Joined → Group → JoinedGroup
+joined_group j g = record { number = g.number; owner = g.owner; name = g.name; releasability = g.releasability; active = g.active; extend = j.extend }
+
+-- numbers that rise
+abbrev pub AreRising : List ℕ → Type 0
+AreRising = IsAscending (λ (a b : ℕ). a < b)
+
+abbrev pub is_one_of : List ℕ → ℕ → Bool
+is_one_of ns n = list_any (λ m. m == n) ns
+
+-- the communities that are connected with this one: those with a greater number, then those with a smaller
+abbrev pub linked_with : ℕ → Directory → List ℕ
+linked_with community d = map (λ (p : Pair). p.0.1) (pairs_from kind.Connection community d) ++ map (λ (p : Pair). p.0.0) (pairs_to kind.Connection community d)
+
+-- what an organisation's rows among the members of groups are joined with
+abbrev pub group_if_any : Directory → Joined → Option JoinedGroup
+group_if_any d j = option_map (joined_group j) (group_of j.group d)
+
+-- the groups of which an organisation is a member, by number
+abbrev pub groups_in : ℕ → Directory → List JoinedGroup
+groups_in org d = filter_map (λ (m : GroupMember). option_map (joined m) (group_of m.group d)) (memberships_in_groups org d)

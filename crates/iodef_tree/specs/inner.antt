@@ -1,0 +1,5 @@
+pub mod Converted
+pub mod FitValues
+pub mod Lookup
+pub mod SoundParts
+pub mod Written

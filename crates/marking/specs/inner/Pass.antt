@@ -1,0 +1,48 @@
+-- One pass down the tree: what a class inherits from what stands above it, and the first that breaks the marking rule.
+use Rattle.std.specs.Prelude.{ℕ, List, [], ◌∷◌, ◌++◌, reverse, if◌then◌else◌, Option, Some, None, is_some, unwrap_or, option_map, codes}
+use Rattle.std.specs.Option.{option_or}
+use Rattle.std.specs.Str.{bytes_eq}
+use Rattle.std.specs.declared.alloc.Global.{Global}
+use Rattle.std.specs.Prelude.{Vec}
+use Rattle.iodef_tree.specs.Text.{Bytes, Tokens}
+use Rattle.iodef_tree.specs.Tree.{Forest, end, leaf, branch, Body, holds, says, steps}
+use Rattle.iodef_tree.specs.Pointer.{pointer_text}
+use Rattle.iodef_tree.specs.declared.Text.{Text}
+use Rattle.marking.specs.Label.{LabelValue, private}
+use Rattle.marking.specs.Marks.{Marked}
+use Rattle.marking.specs.Members.{spelled_in, is_rule_kept_in}
+
+-- the tokens below a class of the first class that breaks the marking rule
+abbrev pub bad_below : Forest → Option Tokens
+bad_below end = None
+bad_below (leaf i rest) = bad_below rest
+bad_below (branch name place kids rest) =
+    option_or (option_map (λ t. steps name place ++ t) (if is_rule_kept_in kids then bad_below kids else Some [])) (bad_below rest)
+
+-- the same for what stands at one place, itself included
+abbrev pub bad_in_body : Body → Option Tokens
+bad_in_body (holds kids) = if is_rule_kept_in kids then bad_below kids else Some []
+bad_in_body (says content) = None
+
+-- tokens that were taken on the way back, the last first
+abbrev pub tokens_of : Vec Text Global → Tokens
+tokens_of trail = reverse trail.items
+
+-- the own label of a class by its JSON pointer and its members: what they spell, or the default of the Incident
+abbrev pub own_below : Bytes → Forest → Option LabelValue
+own_below pointer kids = option_or (spelled_in kids) (if bytes_eq pointer (codes "/Incident/0") then Some private else None)
+
+-- with an own label a class is its own site
+abbrev pub marked_step : Marked → Bytes → Option LabelValue → Marked
+marked_step above path own = record { path = path; label = unwrap_or own above.label; site = if is_some own then path else above.site }
+
+abbrev pub enter : Marked → Bytes → Option ℕ → Forest → Marked
+enter above name place kids =
+    let path = above.path ++ pointer_text (steps name place) in marked_step above path (own_below path kids)
+
+-- how the classes below are marked, in stored order
+abbrev pub marked_below : Marked → Forest → List Marked
+marked_below above end = []
+marked_below above (leaf i rest) = marked_below above rest
+marked_below above (branch name place kids rest) =
+    let here = enter above name place kids in here ∷ (marked_below here kids ++ marked_below above rest)

@@ -1,0 +1,17 @@
+use Rattle.std.proofs.Common.{◌≡◌, List, ◌∙◌, subst, IsPermutation}
+use Rattle.std.proofs.lemmas.Result.{IfOk-weaker}
+use Rattle.std.specs.List.{dedup}
+use Rattle.std.proofs.lemmas.List.Filters.{dedup_is}
+use Rattle.redact.specs.Withheld.{Withheld, same_withheld}
+use Rattle.redact.proofs.Listing.{lists-dedup}
+use Rattle.redact.proofs.InOrder.{listed_in_order}
+use Rattle.redact.proofs.sorted_withheld.sorted_withheld.Goals as goal
+
+pub returns : goal.returns
+returns c =
+    let xs : List Withheld = c.args.notes.items in
+    let ys : List Withheld = c.sort.new.self.items in
+    let zs : List Withheld = c.dedup.new.self.items in
+    let once : zs ≡ dedup same_withheld ys = dedup_is same_withheld ys zs c.dedup.ensures.filtered in
+    let moved : IsPermutation xs ys = subst (λ ws. IsPermutation ws ys) c.in_ok-entries.ensures c.in_ok-sort.ensures.permutation in
+    IfOk-weaker c.pairs_of.result _ _ (λ v is. is ∙ once ∙ listed_in_order xs (dedup same_withheld ys) (lists-dedup xs ys moved c.in_ok-sort.ensures.sorted)) c.pairs_of.ensures

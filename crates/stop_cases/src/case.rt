@@ -1,0 +1,88 @@
+//! A case: what it begins with, what is done, what is due, and what is printed of it.
+
+use crate::block::Block;
+use crate::due::{Due, due_of};
+use crate::files::{Kept, NEVER};
+use crate::lists::{are_made, begun};
+use crate::steps::{Asked, Steps};
+use crate::stops::{Case, Stops};
+use crate::stores::{Way, stated};
+use hub::Hub;
+use hub_core::{Edit, ListShelf};
+use std::alloc::{AllocError, Global};
+
+/// The first rows and the requests with which each case begins.
+#[derive(Clone, Copy)]
+pub struct World<'a> {
+    pub rows: &'a [Edit],
+    pub asked: &'a [Asked],
+}
+
+/// The bytes of an older store that statements make; none where one is refused.
+fn older(alloc: Global, statements: &str) -> Result<Option<Kept>, AllocError> {
+    let files = Kept::nothing(alloc).files(alloc, NEVER)?;
+    match stated(alloc, files, statements) {
+        Some(files) => Ok(Some(Kept::of(alloc, &files)?)),
+        None => Ok(None),
+    }
+}
+
+impl World<'_> {
+    /// The bytes of the files with which the case of a block begins; none where they aren't made.
+    fn kept(&self, alloc: Global, block: &Block) -> Result<Option<Kept>, AllocError> {
+        let nothing = Kept::nothing(alloc);
+        match block.way() {
+            Way::Make => Ok(Some(nothing)),
+            Way::Migrate(_) => older(alloc, block.statements.as_str()),
+            Way::Open => {
+                let steps = Steps {
+                    way: Way::Make,
+                    rows: self.rows,
+                    asked: self.asked,
+                };
+                steps.kept(alloc, &nothing)
+            }
+        }
+    }
+
+    /// The hub in memory that has what the store has which is taken; none where one of the requests isn't made.
+    fn hub(&self, alloc: Global, way: Way, asked: &[Asked]) -> Option<Hub<ListShelf>> {
+        if let Way::Make = way {
+            return begun(alloc, &[]);
+        }
+        let mut hub = begun(alloc, self.rows)?;
+        let is_made = are_made(alloc, &mut hub, self.asked);
+        let is_made = is_made && (matches!(way, Way::Open) || are_made(alloc, &mut hub, asked));
+        if is_made { Some(hub) } else { None }
+    }
+
+    /// The steps of a block.
+    fn steps<'a>(&'a self, way: Way, asked: &'a [Asked]) -> Steps<'a> {
+        let (rows, asked): (&[Edit], &[Asked]) = match way {
+            Way::Make => (self.rows, asked),
+            Way::Open => (&[], asked),
+            Way::Migrate(_) => (&[], &[]),
+        };
+        Steps { way, rows, asked }
+    }
+
+    /// What is printed of the case of a block.
+    pub fn told(&self, alloc: Global, block: &Block) -> Result<String, AllocError> {
+        let asked = block.asked()?;
+        let way = block.way();
+        let Some(kept) = self.kept(alloc, block)? else {
+            return String::from_str(alloc, "the store that the case begins with wasn't made");
+        };
+        let Some(hub) = self.hub(alloc, way, &asked) else {
+            return String::from_str(alloc, "a request that the case begins with wasn't made");
+        };
+        let steps = self.steps(way, &asked);
+        let due = due_of(alloc, &steps, hub)?;
+        let case = Case {
+            kept: &kept,
+            steps,
+            due: &due,
+        };
+        case.told(alloc)
+    }
+}

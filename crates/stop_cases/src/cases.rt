@@ -1,0 +1,67 @@
+//! The lines of the table.
+//!
+//! The first block sets up the organisations, persons and groups: one request a line, WHO|REQUEST|FIELD|FIELD.. with the fields
+//! in the request's order; WHO is `p4` for person 4, or `nobody`. What a field may say stands in `requests` of `trying_hub`. Its
+//! requests come before those of each later block; the store begins with organisation 1 and its administrator, person 1.
+//!
+//! A block of requests is a case that asks them. A block with the line `create` is one that makes a store. One with lines
+//! `sql|STATEMENT` is one that migrates the store that these statements make, of the version of a line `version|NUMBER`; its
+//! requests make the same in memory.
+
+use crate::block::Block;
+use crate::case::World;
+use crate::steps::Asked;
+use hub_core::Edit;
+use std::alloc::{AllocError, Global};
+
+/// What the lines so far have set up.
+#[derive(Drop)]
+pub struct Cases {
+    alloc: Global,
+    rows: Vec<Edit>,
+    /// The requests of the first block.
+    asked: Option<Vec<Asked>>,
+    /// The lines of the block at hand.
+    block: Block,
+}
+
+impl Cases {
+    /// The store of each case begins with these rows.
+    pub fn new(alloc: Global, rows: Vec<Edit>) -> Cases {
+        Cases {
+            alloc,
+            rows,
+            asked: None,
+            block: Block::new(alloc),
+        }
+    }
+
+    /// What is printed for one more line; none where it is one of a block.
+    pub fn told_of(&mut self, line: &str) -> Result<Option<String>, AllocError> {
+        if line.is_empty() {
+            return self.end_block();
+        }
+        self.block.add(line)?;
+        Ok(None)
+    }
+
+    /// Plays the case of a block; of the first block nothing is printed.
+    fn end_block(&mut self) -> Result<Option<String>, AllocError> {
+        let alloc = self.alloc;
+        if self.block.is_empty() {
+            return Ok(None);
+        }
+        let Some(asked) = &self.asked else {
+            self.asked = Some(self.block.asked()?);
+            self.block = Block::new(alloc);
+            return Ok(None);
+        };
+        let world = World {
+            rows: &self.rows,
+            asked,
+        };
+        let told = world.told(alloc, &self.block)?;
+        self.block = Block::new(alloc);
+        Ok(Some(told))
+    }
+}

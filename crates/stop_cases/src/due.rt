@@ -1,0 +1,89 @@
+//! What all persons have to be told, by a hub in memory.
+
+use crate::content::content;
+use crate::lists::is_made;
+use crate::steps::{Asked, Steps};
+use crate::stores::Way;
+use hub::Hub;
+use hub_core::{Edit, ListShelf, Shelf};
+use std::alloc::{AllocError, Global};
+
+/// What is due of some steps.
+#[derive(Drop)]
+pub struct Due {
+    /// What is told behind none of them, behind the first, and so on.
+    pub told: Vec<String>,
+    /// Which of them are changes.
+    pub changes: Vec<bool>,
+}
+
+impl Due {
+    fn push(
+        &mut self,
+        alloc: Global,
+        is_change: bool,
+        hub: &mut Hub<ListShelf>,
+    ) -> Result<(), AllocError> {
+        self.changes.push(is_change)?;
+        self.told.push(content(alloc, hub)?)?;
+        Ok(())
+    }
+
+    fn push_asked(
+        &mut self,
+        alloc: Global,
+        mut hub: Hub<ListShelf>,
+        asked: &[Asked],
+    ) -> Result<(), AllocError> {
+        for (now, key, request) in asked {
+            let is_change = is_made(&hub.answer(alloc, *now, key, request));
+            self.push(alloc, is_change, &mut hub)?;
+        }
+        Ok(())
+    }
+
+    /// Whether that is what is told behind so many steps.
+    pub fn is_told(&self, done: usize, found: &str) -> bool {
+        match self.told.get(done) {
+            Some(told) => told.as_str() == found,
+            None => false,
+        }
+    }
+}
+
+/// What is told where the store isn't taken yet, and all that it is when it is.
+fn of_taking(alloc: Global, way: Way, hub: &mut Hub<ListShelf>) -> Result<Due, AllocError> {
+    let mut due = Due {
+        told: Vec::new(alloc),
+        changes: Vec::new(alloc),
+    };
+    let told = content(alloc, hub)?;
+    if let Way::Open = way {
+        due.told.push(told)?;
+        return Ok(due);
+    }
+    let words = way.words(alloc)?;
+    due.told.push(format!(in alloc; "{words}{told}")?)?;
+    due.told.push(told)?;
+    due.changes.push(true)?;
+    Ok(due)
+}
+
+/// The hub with these rows more.
+fn with_rows(hub: Hub<ListShelf>, rows: &[Edit]) -> Hub<ListShelf> {
+    let mut shelf = hub.into_shelf();
+    let _ = shelf.apply(rows);
+    Hub::new(shelf)
+}
+
+/// What is due of steps, by a hub that has what the store has which is taken.
+pub fn due_of(alloc: Global, steps: &Steps<'_>, hub: Hub<ListShelf>) -> Result<Due, AllocError> {
+    let mut hub = hub;
+    let mut due = of_taking(alloc, steps.way, &mut hub)?;
+    if !steps.rows.is_empty() {
+        hub = with_rows(hub, steps.rows);
+        due.push(alloc, true, &mut hub)?;
+    }
+    due.push_asked(alloc, hub, steps.asked)?;
+    Ok(due)
+}

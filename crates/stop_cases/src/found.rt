@@ -1,0 +1,113 @@
+//! What is found behind a stop.
+
+use crate::content::content;
+use crate::files::{Kept, NEVER, Stopping};
+use crate::stores::{Way, shelf_in};
+use hub::Hub;
+use hub_core::Shelf;
+use hub_store::{OpenFault, SqlShelf};
+use sqlite::Alter;
+use sqlite_disk::Files;
+use std::alloc::{AllocError, Global};
+
+/// What all persons are told by the store in these files; or why there is none, where the files were opened.
+enum Look {
+    Told(String),
+    Refused(Option<OpenFault>),
+}
+
+/// What all persons are told by the store of a shelf.
+fn told_by<Sh: Shelf + Drop>(alloc: Global, shelf: Sh) -> Result<String, AllocError> {
+    content(alloc, &mut Hub::new(shelf))
+}
+
+/// The same of a shelf over tables in any store.
+fn told_over<S: Alter + Drop>(alloc: Global, shelf: SqlShelf<S>) -> Result<String, AllocError> {
+    told_by(alloc, shelf)
+}
+
+fn looked(alloc: Global, files: Files<Stopping>, way: Way) -> Result<Look, AllocError> {
+    match shelf_in(alloc, files, way) {
+        Ok(shelf) => Ok(Look::Told(told_over(alloc, shelf)?)),
+        Err((fault, _)) => Ok(Look::Refused(fault)),
+    }
+}
+
+/// The same of a store that is taken otherwise, behind words that tell so.
+fn looked_again(alloc: Global, kept: &Kept, way: Way) -> Result<String, AllocError> {
+    let words = way.words(alloc)?;
+    match looked(alloc, kept.files(alloc, NEVER)?, way)? {
+        Look::Told(told) => format!(in alloc; "{words}{told}"),
+        Look::Refused(_) => format!(in alloc; "{words}: refused"),
+    }
+}
+
+/// The same where the store wasn't opened.
+fn tell_refused(
+    alloc: Global,
+    kept: &Kept,
+    fault: Option<OpenFault>,
+) -> Result<String, AllocError> {
+    match fault {
+        Some(OpenFault::NotOurs) => looked_again(alloc, kept, Way::Make),
+        Some(OpenFault::WrongVersion(version)) => looked_again(alloc, kept, Way::Migrate(version)),
+        _ => String::from_str(alloc, "a store that isn't opened"),
+    }
+}
+
+/// What all persons are told by the store in files of these bytes.
+fn tell(alloc: Global, kept: &Kept) -> Result<String, AllocError> {
+    match looked(alloc, kept.files(alloc, NEVER)?, Way::Open)? {
+        Look::Told(told) => Ok(told),
+        Look::Refused(fault) => tell_refused(alloc, kept, fault),
+    }
+}
+
+/// What was found in files of some bytes.
+#[derive(Drop)]
+struct Found {
+    kept: Kept,
+    told: String,
+}
+
+/// All that was found behind the stops of a case, so that the same bytes aren't opened again.
+#[derive(Drop)]
+pub struct Finds {
+    alloc: Global,
+    all: Vec<Found>,
+}
+
+impl Finds {
+    pub fn new(alloc: Global) -> Finds {
+        Finds {
+            alloc,
+            all: Vec::new(alloc),
+        }
+    }
+
+    /// What was found in files of the same bytes.
+    fn before(&self, kept: &Kept) -> Option<&str> {
+        for found in self.all.iter().rev() {
+            if found.kept.is_same(kept) {
+                return Some(found.told.as_str());
+            }
+        }
+        None
+    }
+
+    fn add(&mut self, kept: Kept, told: &str) -> Result<(), AllocError> {
+        let told = String::from_str(self.alloc, told)?;
+        self.all.push(Found { kept, told })?;
+        Ok(())
+    }
+
+    /// What all persons are told by the store in files of these bytes.
+    pub fn told(&mut self, kept: Kept) -> Result<String, AllocError> {
+        if let Some(told) = self.before(&kept) {
+            return String::from_str(self.alloc, told);
+        }
+        let told = tell(self.alloc, &kept)?;
+        self.add(kept, told.as_str())?;
+        Ok(told)
+    }
+}

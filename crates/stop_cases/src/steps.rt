@@ -1,0 +1,137 @@
+//! The steps of a case, over a shelf in memory or in files.
+
+use crate::files::{Kept, NEVER, Stopping, take_calls};
+use crate::stores::{Stored, Way, left, shelf_in};
+use circle::refusal::Code;
+use hub::{Hub, Key};
+use hub_core::{Edit, Reply, Request, Shelf};
+use hub_store::SqlShelf;
+use sqlite::Alter;
+use sqlite_disk::Files;
+use std::alloc::{AllocError, Global};
+
+/// A moment, in seconds since 1970, the key of the caller, and what is asked.
+pub type Asked = (i64, Key, Request);
+
+/// A store is taken, gets the rows that a hub begins with, where there are such, and is asked.
+#[derive(Clone, Copy)]
+pub struct Steps<'a> {
+    pub way: Way,
+    pub rows: &'a [Edit],
+    pub asked: &'a [Asked],
+}
+
+/// What came of the steps over files of which one may have stopped.
+#[derive(Drop)]
+pub struct Played {
+    /// How many steps were answered as done.
+    pub done: usize,
+    /// Whether the next one was begun.
+    pub is_begun: bool,
+    /// Whether all were done, the files were closed, and no call of theirs was refused.
+    pub is_whole: bool,
+    pub files: Files<Stopping>,
+}
+
+fn is_given_up(reply: &Reply) -> bool {
+    match reply {
+        Reply::Refused(refusal) => refusal.code == Code::F1 || refusal.code == Code::F2,
+        _ => false,
+    }
+}
+
+/// What came of steps whose files were left.
+fn ended(done: usize, is_begun: bool, is_closed: bool, files: Files<Stopping>) -> Played {
+    let mut files = files;
+    let is_whole = is_closed && take_calls(&mut files);
+    Played {
+        done,
+        is_begun,
+        is_whole,
+        files,
+    }
+}
+
+/// How many requests are answered before the first that is given up.
+fn answered<Sh: Shelf>(alloc: Global, hub: &mut Hub<Sh>, asked: &[Asked]) -> usize {
+    for (i, (now, key, request)) in asked.iter().enumerate() {
+        if is_given_up(&hub.answer(alloc, *now, key, request)) {
+            return i;
+        }
+    }
+    asked.len()
+}
+
+impl Steps<'_> {
+    /// How many steps the taking is: making tables and migrating are one, as they change the files.
+    fn of_taking(&self) -> usize {
+        match self.way {
+            Way::Make | Way::Migrate(_) => 1,
+            Way::Open => 0,
+        }
+    }
+
+    fn of_rows(&self) -> usize {
+        if self.rows.is_empty() { 0 } else { 1 }
+    }
+
+    pub fn len(&self) -> usize {
+        self.of_taking()
+            .saturating_add(self.of_rows())
+            .saturating_add(self.asked.len())
+    }
+
+    /// How many steps are answered as done, by a shelf that is taken.
+    fn go<Sh: Shelf + Drop>(&self, alloc: Global, mut shelf: Sh) -> (usize, Sh) {
+        let taken = self.of_taking();
+        if !self.rows.is_empty() && shelf.apply(self.rows).is_err() {
+            return (taken, shelf);
+        }
+        let mut hub = Hub::new(shelf);
+        let answered = answered(alloc, &mut hub, self.asked);
+        let done = taken
+            .saturating_add(self.of_rows())
+            .saturating_add(answered);
+        (done, hub.into_shelf())
+    }
+
+    /// The same over tables in any store.
+    fn go_over<S: Alter + Drop>(&self, alloc: Global, shelf: SqlShelf<S>) -> (usize, SqlShelf<S>) {
+        self.go(alloc, shelf)
+    }
+
+    /// What came of them where the store wasn't taken.
+    fn untaken(&self, are_opened: bool, files: Files<Stopping>) -> Played {
+        Played {
+            done: 0,
+            is_begun: are_opened && self.of_taking() > 0,
+            is_whole: false,
+            files,
+        }
+    }
+
+    /// Plays those behind the taking.
+    fn play_over(&self, alloc: Global, shelf: SqlShelf<Stored>) -> Played {
+        let (done, shelf) = self.go_over(alloc, shelf);
+        let is_begun = done < self.len();
+        let (is_closed, files) = left(shelf, !is_begun);
+        ended(done, is_begun, is_closed, files)
+    }
+
+    /// Plays them over these files, up to the first that isn't answered as done; behind the last the files are closed.
+    pub fn play(&self, alloc: Global, files: Files<Stopping>) -> Played {
+        match shelf_in(alloc, files, self.way) {
+            Ok(shelf) => self.play_over(alloc, shelf),
+            Err((fault, files)) => self.untaken(fault.is_some(), files),
+        }
+    }
+
+    /// The bytes behind all steps, with no stop, over these; none where one isn't done.
+    pub fn kept(&self, alloc: Global, before: &Kept) -> Result<Option<Kept>, AllocError> {
+        let played = self.play(alloc, before.files(alloc, NEVER)?);
+        if played.is_whole {
+            return Ok(Some(Kept::of(alloc, &played.files)?));
+        }
+        Ok(None)
+    }
+}

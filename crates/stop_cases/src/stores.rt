@@ -1,0 +1,167 @@
+//! Stores over the two files.
+
+use crate::files::Stopping;
+use hub_core::ShelfFault;
+use hub_store::{OpenFault, SqlShelf};
+use sqlite::{Alter, Connection, FileStore, Options};
+use sqlite_disk::Files;
+use std::alloc::{AllocError, Global};
+
+pub type Stored = FileStore<Stopping>;
+
+/// How a store is taken.
+#[derive(Clone, Copy)]
+pub enum Way {
+    /// New tables are made.
+    Make,
+    /// The tables are opened.
+    Open,
+    /// Those of this older version are brought to the newest.
+    Migrate(u32),
+}
+
+impl Way {
+    /// What is put before what all are told by a store that had to be taken in this way.
+    pub fn words(self, alloc: Global) -> Result<String, AllocError> {
+        match self {
+            Way::Make => String::from_str(alloc, "not ours, then made"),
+            Way::Open => Ok(String::new(alloc)),
+            Way::Migrate(version) => format!(in alloc; "version {version}, then migrated"),
+        }
+    }
+}
+
+/// A small memory: the pages of a case fit, written ones go to the log in several writes, and so few pages in the log are copied
+/// into the database file that this happens within a list.
+fn options() -> Options {
+    Options {
+        cache_pages: 64,
+        spill_pages: 4,
+        checkpoint_frames: 4,
+        seed: 1,
+    }
+}
+
+/// A connection over the files, which come back where they aren't opened.
+fn connected(alloc: Global, files: Files<Stopping>) -> Result<Connection<Stored>, Files<Stopping>> {
+    if !files.may_be_used() {
+        return Err(files);
+    }
+    match Connection::open_files(alloc, files, options()) {
+        Ok(conn) => Ok(conn),
+        Err((_, left)) => Err(left.into_files()),
+    }
+}
+
+/// The files as they are, with no call of them.
+fn cut_off(conn: Connection<Stored>) -> Files<Stopping> {
+    conn.into_store().close()
+}
+
+/// Closes the files in order, and tells whether they were.
+fn closed(conn: Connection<Stored>) -> (bool, Files<Stopping>) {
+    match conn.close_files() {
+        Ok(files) => (true, files),
+        Err((_, store)) => (false, store.close()),
+    }
+}
+
+/// The files of a shelf that is left: closed in order, if that is asked for, or as they are. Tells whether they were closed.
+pub fn left(shelf: SqlShelf<Stored>, in_order: bool) -> (bool, Files<Stopping>) {
+    let conn = shelf.release();
+    if in_order {
+        closed(conn)
+    } else {
+        (false, cut_off(conn))
+    }
+}
+
+fn open_fault(fault: ShelfFault) -> OpenFault {
+    match fault {
+        ShelfFault::NoMemory => OpenFault::NoMemory,
+        ShelfFault::Failed => OpenFault::Failed,
+    }
+}
+
+/// New tables over the connection, which comes back where they aren't made.
+fn made<S: Alter + Drop>(
+    alloc: Global,
+    conn: Connection<S>,
+) -> Result<SqlShelf<S>, (OpenFault, Connection<S>)> {
+    if !conn.is_autocommit() {
+        return Err((OpenFault::Failed, conn));
+    }
+    match SqlShelf::create(alloc, conn) {
+        Ok(shelf) => Ok(shelf),
+        Err((fault, conn)) => Err((open_fault(fault), conn)),
+    }
+}
+
+/// The tables of the connection, opened or brought to the newest version.
+fn opened<S: Alter + Drop>(
+    alloc: Global,
+    conn: Connection<S>,
+    migrates: bool,
+) -> Result<SqlShelf<S>, (OpenFault, Connection<S>)> {
+    if !conn.is_autocommit() {
+        return Err((OpenFault::Failed, conn));
+    }
+    if migrates {
+        SqlShelf::migrate(alloc, conn)
+    } else {
+        SqlShelf::open(alloc, conn)
+    }
+}
+
+fn taken<S: Alter + Drop>(
+    alloc: Global,
+    conn: Connection<S>,
+    way: Way,
+) -> Result<SqlShelf<S>, (OpenFault, Connection<S>)> {
+    match way {
+        Way::Make => made(alloc, conn),
+        Way::Open => opened(alloc, conn, false),
+        Way::Migrate(_) => opened(alloc, conn, true),
+    }
+}
+
+/// The shelf over these files; or why there is none, where they were opened, and the files as they are then.
+pub fn shelf_in(
+    alloc: Global,
+    files: Files<Stopping>,
+    way: Way,
+) -> Result<SqlShelf<Stored>, (Option<OpenFault>, Files<Stopping>)> {
+    let conn = match connected(alloc, files) {
+        Ok(conn) => conn,
+        Err(files) => return Err((None, files)),
+    };
+    match taken(alloc, conn, way) {
+        Ok(shelf) => Ok(shelf),
+        Err((fault, conn)) => Err((Some(fault), cut_off(conn))),
+    }
+}
+
+/// Whether the statements were all run.
+fn are_run<S: Alter + Drop>(conn: &mut Connection<S>, statements: &str) -> bool {
+    conn.execute_batch(statements).is_ok()
+}
+
+/// The files of a connection, closed, behind these statements; none where one is refused.
+fn stated_over(conn: Connection<Stored>, statements: &str) -> Option<Files<Stopping>> {
+    let mut conn = conn;
+    let are_run = are_run(&mut conn, statements);
+    let (is_closed, files) = closed(conn);
+    if are_run && is_closed {
+        Some(files)
+    } else {
+        None
+    }
+}
+
+/// The files, closed, behind these statements; none where one is refused.
+pub fn stated(alloc: Global, files: Files<Stopping>, statements: &str) -> Option<Files<Stopping>> {
+    match connected(alloc, files) {
+        Ok(conn) => stated_over(conn, statements),
+        Err(_) => None,
+    }
+}
