@@ -113,7 +113,7 @@ def fill(store: pathlib.Path, size: int) -> None:
     begin, = rows.execute("SELECT max(number) + 1 FROM incident").fetchone()
     for number in range(begin, size + 1):
         own = IDENTITY[:len(IDENTITY) - 7] + f"{number:07}"
-        rows.execute("INSERT INTO incident VALUES (?, ?, ?, ?)", (number, source, identity.replace(IDENTITY, own), revision))
+        rows.execute("INSERT INTO incident (number, source, ident, revision) VALUES (?, ?, ?, ?)", (number, source, identity.replace(IDENTITY, own), revision))
         rows.executemany("INSERT INTO item VALUES (?, ?, ?, ?, ?, ?, ?)",
                          [(number, *line[:5], line[5].replace(IDENTITY, own)) for line in lines])
         rows.execute("INSERT INTO gate VALUES (?, '', ?, ?)", (number, level, group))

@@ -42,7 +42,7 @@ RULES = {
     "G2": "for the source's communities and those connected to them",
     "G4": "for a sharing group of which your organisation is no member",
     "G4X": "for a sharing group that is switched off",
-    "H-GREEN": "marked GREEN, for the source's communities",
+    "H-GREEN": "marked GREEN, for the source's communities, or for the one that the incident names",
     "H-AMBER": "marked AMBER, for nominated persons of addressed organisations, and of clients of these or of the source",
     "H-STRICT": "marked AMBER+STRICT, for nominated persons of addressed organisations",
     "H-RED": "marked RED, for addressed persons",
@@ -383,16 +383,20 @@ class Hub:
 
     # Reports, by a poster or a coordinator
 
-    def post(self, report: bytes, level: int, group: int | None = None, gates: Sequence[Gate] = ()) -> tuple[int, ...]:
-        """A new report. The numbers of its Incidents."""
-        value = self._ask("POST", "/incidents", _spread(level, group, gates), report, AGAIN_POST)
+    def post(
+        self, report: bytes, level: int, group: int | None = None, gates: Sequence[Gate] = (), community: int | None = None
+    ) -> tuple[int, ...]:
+        """A new report; what is marked green in it is for one community, if one is named. The numbers of its Incidents."""
+        value = self._ask("POST", "/incidents", _spread(level, group, gates, community), report, AGAIN_POST)
         return tuple(self._told(_numbers, value, AGAIN_POST))
 
     def replace(
-        self, number: int, revision: int, report: bytes, level: int, group: int | None = None, gates: Sequence[Gate] = ()
+        self, number: int, revision: int, report: bytes, level: int, group: int | None = None, gates: Sequence[Gate] = (),
+        community: int | None = None,
     ) -> int:
-        """A new revision in place of the one that was seen. All permissions are taken out. The number of the new revision."""
-        query = [("revision", revision), *_spread(level, group, gates)]
+        """A new revision in place of the one that was seen. All permissions are taken out, and a community is named only where one
+        is given. The number of the new revision."""
+        query = [("revision", revision), *_spread(level, group, gates, community)]
         value = self._ask("PUT", f"/incidents/{number}", query, report, AGAIN_REPLACE)
         return int(self._told(lambda told: _member(told, "revision", int), value, AGAIN_REPLACE))
 
@@ -494,9 +498,10 @@ def _every(page: Callable[[int], tuple[Entry, ...]], after: int) -> Iterator[Ent
         after = found[-1].number
 
 
-def _spread(level: int, group: int | None, gates: Sequence[Gate]) -> list[tuple[str, object]]:
+def _spread(level: int, group: int | None, gates: Sequence[Gate], community: int | None) -> list[tuple[str, object]]:
+    named = [("community", community)] if community is not None else []
     grouped = [("group", group)] if group is not None else []
-    return [("level", level), *grouped, *(("gate", str(gate)) for gate in gates)]
+    return [*named, ("level", level), *grouped, *(("gate", str(gate)) for gate in gates)]
 
 
 # What stands in a document
@@ -658,18 +663,20 @@ class PostLine:
     group: int | None
     gates: tuple[Gate, ...]
     source: int | None
+    community: int | None
 
 
 def post_line(text: bytes, place: int) -> PostLine:
-    bad = Usage(f'line {place}: {{"document":..,"gates":[..],"group":..,"level":..,"source":..}} is wanted')
+    bad = Usage(f'line {place}: {{"community":..,"document":..,"gates":[..],"group":..,"level":..,"source":..}} is wanted')
     try:
         value = json.loads(text)
     except (ValueError, RecursionError):
         raise bad from None
-    if not isinstance(value, dict) or set(value) - {"document", "gates", "group", "level", "source"}:
+    if not isinstance(value, dict) or set(value) - {"community", "document", "gates", "group", "level", "source"}:
         raise bad
     document, gates, group, source = value.get("document"), value.get("gates", []), value.get("group"), value.get("source")
-    are_numbers = all(each is None or type(each) is int and 0 <= each <= LAST_NUMBER for each in (group, source))
+    community = value.get("community")
+    are_numbers = all(each is None or type(each) is int and 0 <= each <= LAST_NUMBER for each in (group, source, community))
     if not isinstance(document, dict) or not isinstance(gates, list) or type(value.get("level")) is not int or not are_numbers:
         raise bad
     try:
@@ -677,7 +684,7 @@ def post_line(text: bytes, place: int) -> PostLine:
     except (AttributeError, argparse.ArgumentTypeError):
         raise bad from None
     report = json.dumps(document, separators=(",", ":"), ensure_ascii=False).encode(errors="surrogatepass")
-    return PostLine(report, value["level"], group, read, source)
+    return PostLine(report, value["level"], group, read, source, community)
 
 
 def do_post_all(hub: Hub, given: argparse.Namespace, teller: Teller) -> None:
@@ -691,12 +698,13 @@ def do_post_all(hub: Hub, given: argparse.Namespace, teller: Teller) -> None:
     for place, line in enumerate(lines):
         try:
             try:
-                told = " ".join(map(str, hub.post(line.report, line.level, line.group, line.gates)))
+                told = " ".join(map(str, hub.post(line.report, line.level, line.group, line.gates, line.community)))
             except Refused as refusal:
                 if not (given.replace and refusal.code == "S1" and refusal.detail.isdigit()):
                     raise
                 stored = int(refusal.detail)
-                revision = hub.replace(stored, hub.view(stored).revision, line.report, line.level, line.group, line.gates)
+                seen = hub.view(stored).revision
+                revision = hub.replace(stored, seen, line.report, line.level, line.group, line.gates, line.community)
                 told = f"{stored}\tr{revision}"
         except HubError:
             print(f"iodef-hub-ask: {place} of {len(lines)} lines are posted; line {place + 1}:", file=sys.stderr)
@@ -803,12 +811,14 @@ def words() -> tuple[argparse.ArgumentParser, dict[str, Command]]:
     watch.add_argument("--rounds", type=number, default=0, help="how often to look; 0 is for ever")
 
     for made in (
-        command("post", told(lambda hub, given: [str(each) for each in hub.post(read_file(given.file), given.level, given.group, given.gate)]),
+        command("post", told(lambda hub, given: [str(each) for each in hub.post(
+            read_file(given.file), given.level, given.group, given.gate, given.community)]),
                 "posts a report; tells the numbers", "file", "level"),
         command("replace", told(lambda hub, given: [str(hub.replace(
-            given.number, revision_of(hub, given), read_file(given.file), given.level, given.group, given.gate))]),
+            given.number, revision_of(hub, given), read_file(given.file), given.level, given.group, given.gate, given.community))]),
                 "puts a new revision in place of the stored one, which takes out all permissions", "number", "file", "level"),
     ):
+        made.add_argument("--community", type=number, help="the one community of yours that what is marked green is for; else all of them")
         made.add_argument("--group", type=number, help="the sharing group of level 4")
         made.add_argument("--gate", type=gate, action="append", default=[], metavar="LEVEL:GROUP:POINTER")
         if "replace" in made.prog:

@@ -154,6 +154,7 @@ fn push_report(
         source: report.source,
         ident: Text::new(ident),
         revision: report.revision,
+        community: report.community,
     };
     edits.push(Edit::PutIncident(Incident { naming, document }))?;
     for target in report.recipients.iter() {

@@ -67,6 +67,15 @@ impl<'a> Reader<'a> {
             && (row.org == report.source || report.recipients.contains(&Target::Org(row.org))))
     }
 
+    /// Whether the person's organisation is in the community that the report names, or in one of the source's where it
+    /// names none. The source needn't be in the one that is named.
+    fn is_peer(&self, report: &Report) -> bool {
+        match report.community {
+            Some(community) => self.circle.is_member(community, self.own.org),
+            None => self.circle.share_community(self.own.org, report.source),
+        }
+    }
+
     /// How strictly handled the person may see what is in the report.
     fn cleared(&self, report: &Report) -> u32 {
         if report.recipients.contains(&Target::Person(self.who)) {
@@ -75,7 +84,7 @@ impl<'a> Reader<'a> {
             3
         } else if self.own.nominated && self.is_client(report) {
             2
-        } else if self.circle.share_community(self.own.org, report.source) {
+        } else if self.is_peer(report) {
             1
         } else {
             0

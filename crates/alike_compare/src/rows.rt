@@ -79,6 +79,8 @@ pub struct Report {
     /// What its IncidentID says; no other has it.
     pub ident: u32,
     pub revision: u32,
+    /// The community that it names, if it names one.
+    pub community: Option<u32>,
     pub reach: Reach,
     pub recipients: Vec<Target>,
     pub classes: Vec<Class>,

@@ -4,7 +4,9 @@
 use crate::reader::Reader;
 use crate::rows::{Class, ORGS, Report, World, end_of};
 use crate::told::{same_withheld, withheld_of};
-use crate::worlds::{PERSONS, any_label, any_reach, any_report, any_target, push_tree};
+use crate::worlds::{
+    PERSONS, any_community, any_label, any_reach, any_report, any_target, push_tree,
+};
 use crate::writing::{ALONE, BESIDE, DEEPEST, NOTE_COUNT, spelled};
 use std::alloc::{AllocError, Global};
 use trying::Dice;
@@ -253,7 +255,7 @@ pub fn other_class(
     }))
 }
 
-/// Another report in place of one, or the same with another root gate, recipients and revision.
+/// Another report in place of one, or the same with another community, root gate, recipients and revision.
 fn other_report(
     alloc: Global,
     dice: &mut Dice,
@@ -266,6 +268,7 @@ fn other_report(
     }
     let mut other = report.clone()?;
     let target = any_target(dice, PERSONS);
+    other.community = any_community(dice);
     other.reach = any_reach(dice, 5);
     other.revision = dice.one_to(9);
     other.recipients.retain(|row| *row != target);

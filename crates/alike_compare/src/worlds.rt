@@ -91,6 +91,15 @@ pub fn any_reach(dice: &mut Dice, levels: u32) -> Reach {
     }
 }
 
+/// The community that an incident names, none in one of two. Its source isn't always a member.
+pub fn any_community(dice: &mut Dice) -> Option<u32> {
+    if dice.once_in(2) {
+        Some(dice.one_to(COMMUNITIES))
+    } else {
+        None
+    }
+}
+
 /// The directory's rows of two numbers, each in about one of three.
 fn push_pair(circle: &mut Circle, dice: &mut Dice, a: u32, b: u32) -> Result<(), AllocError> {
     if a != b && dice.once_in(4) {
@@ -251,6 +260,7 @@ pub fn any_report(
         source,
         ident,
         revision: dice.one_to(3),
+        community: any_community(dice),
         reach,
         recipients,
         classes,

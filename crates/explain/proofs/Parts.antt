@@ -25,6 +25,7 @@ use Rattle.explain.specs.declared.fault.ExplainFault.{ExplainFault}
 -- each part beside the verdict is what the policy and the markings say of the path
 pub record HasParts (es : List LocatedLine) (c : Case) (s : Standing) (p : Tokens) (x : Explanation) : Type 0 where
   pub path : x.path ≡ p
+  pub community : x.community ≡ c.community
   pub gates : x.gates ≡ passages_on c s p
   pub site : x.site ≡ site_of es p
   pub label : x.label ≡ text_of (label_at es p)
@@ -42,6 +43,7 @@ explained-decided es c s p x decided parts = by_class (has_class es p) decided
         λ i. Some (record {
           verdict = same i;
           path = sym parts.path i;
+          community = sym parts.community i;
           gates = sym parts.gates i;
           site = sym parts.site i;
           label = sym parts.label i;

@@ -1,5 +1,5 @@
 -- Why a reader sees a class or doesn't: what the policy and the markings say of its path.
-use Rattle.std.specs.Prelude.{List, map, filter, Option, string_bytes}
+use Rattle.std.specs.Prelude.{ℕ, List, map, filter, Option, string_bytes}
 use Rattle.std.specs.List.{flat_map}
 use Rattle.iodef_tree.specs.Text.{Bytes, Tokens, same_path, prefixes}
 use Rattle.iodef_tree.specs.Paths.{LocatedLine}
@@ -37,6 +37,7 @@ covering es c s p = filter (covers es s p) c.permissions
 pub record Explanation : Type 0 where
   pub verdict : Verdict
   pub path : Tokens
+  pub community : Option ℕ
   pub gates : List (Gate × Option Rule)
   pub site : Tokens
   pub label : Bytes
@@ -48,6 +49,7 @@ abbrev pub explanation_of : List LocatedLine → Case → Standing → Tokens �
 explanation_of es c s p = record {
   verdict = verdict_of es c s p;
   path = p;
+  community = c.community;
   gates = passages_on c s p;
   site = site_of es p;
   label = text_of (label_at es p);
@@ -61,6 +63,7 @@ abbrev pub explanation : Trace → Explanation
 explanation t = record {
   verdict = t.verdict;
   path = t.path;
+  community = t.community;
   gates = t.gates.items;
   site = t.site;
   label = string_bytes t.label;

@@ -42,6 +42,11 @@ verdict_line v = codes "verdict " ++ side_text v ++ space ++ name_of (rule_in v)
 abbrev pub path_line : Tokens → Bytes
 path_line p = codes "path " ++ path_text p ++ newline
 
+-- the community that is named; nothing where none is
+abbrev pub community_line : Option ℕ → Bytes
+community_line None = []
+community_line (Some n) = codes "community " ++ decimal n ++ newline
+
 -- 0 for no group
 abbrev pub group_number : Option ℕ → ℕ
 group_number g = unwrap_or g 0
@@ -80,6 +85,7 @@ abbrev pub trace_text : Explanation → Bytes
 trace_text x =
     verdict_line x.verdict
     ++ path_line x.path
+    ++ community_line x.community
     ++ flat_map gate_line x.gates
     ++ site_line x.site x.label x.handling
     ++ clearance_line x.clearance

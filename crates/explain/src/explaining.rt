@@ -35,6 +35,7 @@ pub fn explain(
     Ok(Trace {
         verdict,
         path: copy,
+        community: case.community,
         gates,
         site,
         label: text,

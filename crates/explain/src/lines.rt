@@ -4,7 +4,7 @@ ghost use Rattle.std.specs.Prelude.{◌≡◌, ◌++◌, IfOk, OnOk, decimal, st
 ghost use Rattle.std.specs.List.{flat_map};
 ghost use Rattle.json.specs.Print.{quoted as in_quotes};
 ghost use Rattle.explain.specs.Explanation.{explanation};
-ghost use Rattle.explain.specs.Lines.{space, newline, path_text, result_text, side_text, rule_in, verdict_line, path_line, gate_line, site_line, clearance_line, grantee_text, end_text, permission_line, permission_lines, trace_text};
+ghost use Rattle.explain.specs.Lines.{space, newline, path_text, result_text, side_text, rule_in, verdict_line, path_line, community_line, gate_line, site_line, clearance_line, grantee_text, end_text, permission_line, permission_lines, trace_text};
 
 use crate::listing::{PrintedPermission, in_order, kind_name, number_of};
 use crate::trace::Trace;
@@ -14,15 +14,16 @@ use policy::{Gate, Grantee, Permission, Rule, Verdict};
 use std::alloc::{AllocError, Global};
 
 impl Trace {
-    /// The trace as lines, each ended by a newline: the verdict, the path, each gate, the site with its label and handling,
-    /// the clearance, and each permission with its end, if it has one, by the bytes of its path, then by kind and number.
-    /// Paths, as JSON pointers, and the label are JSON strings.
+    /// The trace as lines, each ended by a newline: the verdict, the path, the community that is named, if one is, each gate,
+    /// the site with its label and handling, the clearance, and each permission with its end, if it has one, by the bytes of
+    /// its path, then by kind and number. Paths, as JSON pointers, and the label are JSON strings.
     pub fn text(&self, alloc: Global) -> Result<String, AllocError>
         ensures { IfOk result (λ s. string_bytes s ≡ trace_text (explanation self.now)) }
     {
         let mut out = String::new(alloc);
         push_verdict(&mut out, self.verdict)?;
         push_path(alloc, &mut out, &self.path)?;
+        push_community(&mut out, self.community)?;
         push_gates(alloc, &mut out, self.gates.as_slice())?;
         push_site(
             alloc,
@@ -107,6 +108,19 @@ fn push_path(alloc: Global, out: &mut String, path: &Path) -> Result<(), AllocEr
 {
     push_pointer(alloc, out, "path ", path)?;
     out.push_str("\n")
+}
+
+fn push_community(out: &mut String, community: Option<u32>) -> Result<(), AllocError>
+    ensures { OnOk result (string_bytes out.new ≡ string_bytes out.old ++ community_line community) }
+{
+    match community {
+        None => Ok(()),
+        Some(number) => {
+            out.push_str("community")?;
+            push_number(out, number)?;
+            out.push_str("\n")
+        }
+    }
 }
 
 /// What became of a gate.

@@ -9,6 +9,8 @@ pub struct Trace {
     pub verdict: Verdict,
     /// The class.
     pub path: Path,
+    /// The community that the incident names, if it names one.
+    pub community: Option<u32>,
     /// Every gate at a prefix of the path, the shortest path first and at equal paths in the order of the case, each with
     /// the rule by which it refuses the reader, if it does.
     pub gates: Vec<(Gate, Option<Rule>)>,

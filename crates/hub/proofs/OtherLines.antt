@@ -178,9 +178,9 @@ hidden-step now a s t ss st there h =
             withheld = h.withheld ∙ ap (withheld_of h.document (case_for t i)) (same-at now a s t h);
           },
         )))))
-        (λ x k. ap (λ gs. record { source = x.naming.source; gates = map (λ (g : Gate). g.gate) gs; permissions = its_permissions x.naming.number t.permissions })
+        (λ x k. ap (λ gs. record { source = x.naming.source; community = x.naming.community; gates = map (λ (g : Gate). g.gate) gs; permissions = its_permissions x.naming.number t.permissions })
         (sym (of-others (λ (g : Gate). g.incident) (λ (g : Gate). is_prefix p g.gate.path) n x.naming.number s.gates t.gates k h.gates))
-        ∙ ap (λ xs. record { source = x.naming.source; gates = its_gates x.naming.number s.gates; permissions = map (λ (y : Permission). y.permission) xs })
+        ∙ ap (λ xs. record { source = x.naming.source; community = x.naming.community; gates = its_gates x.naming.number s.gates; permissions = map (λ (y : Permission). y.permission) xs })
         (sym (of-others (λ (y : Permission). y.incident) (λ (y : Permission). is_prefix p y.permission.path) n x.naming.number s.permissions t.permissions k h.permissions)))
       where
         same-at : (now : ℤ) (a : Account) (s t : State) (h : HasOtherHiddenClass now a s t) → standing_at t now a.person (record h.incident { document = h.document }) ≡ standing_at s now a.person h.incident

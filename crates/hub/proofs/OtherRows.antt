@@ -20,7 +20,7 @@ use Rattle.circle.specs.declared.directory.Arrangement.{Arrangement}
 use Rattle.circle.specs.declared.directory.GroupMember.{GroupMember}
 use Rattle.hub_core.specs.Handlings.{handling_in}
 use Rattle.hub_core.specs.State.{State, incident_of, incident_number, is_recipient_being, same_target}
-use Rattle.hub_core.specs.Reads.{joined, standing_for, case_for}
+use Rattle.hub_core.specs.Reads.{is_peer, joined, standing_for, case_for}
 use Rattle.hub_core.specs.Sound.{IsSound}
 use Rattle.hub_core.specs.declared.request.Target.{Target}
 use Rattle.hub_core.specs.declared.request.Target.TheVariants as target
@@ -84,6 +84,7 @@ module _ (now : ℤ) (a : Account) (s : State) (accounts : List Account) (arrang
       addressed = org;
       client = client;
       community = share_community p.org i.naming.source s.directory;
+      peer = is_peer p.org i.naming.source i.naming.community s.directory;
       connected = are_connected p.org i.naming.source s.directory;
       arrangement = arrangement;
       who = p.number;
@@ -151,7 +152,7 @@ module _ (now : ℤ) (a : Account) (s : State) (accounts : List Account) (arrang
     includes-both g = sym (includes-stands blank g) ∙ ap (λ st. includes st g) (standing-same blank) ∙ stands g
       where
         blank : Incident
-        blank = record { naming = record { number = 0; source = 0; ident = []; revision = 0 }; document = [] }
+        blank = record { naming = record { number = 0; source = 0; ident = []; revision = 0; community = None }; document = [] }
 
         stands : (g : Grantee) → includes (standing_for w now p blank) g ≡ includes_person now a w.directory g
         stands (grantee.Person n) = refl

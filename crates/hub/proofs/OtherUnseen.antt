@@ -133,8 +133,8 @@ module _ (now : ℤ) (a : Account) (s t : State) (ss : IsSound s) (st : IsSound 
       filter-within (λ (x : Permission). x.incident == i.naming.number) (λ (x : Permission). not (x.incident == n)) s.permissions (λ x gone. apart x.incident gone)
       ∙ ap (filter (λ (x : Permission). x.incident == i.naming.number)) h.others.permissions
       ∙ sym (filter-within (λ (x : Permission). x.incident == i.naming.number) (λ (x : Permission). not (x.incident == n)) t.permissions (λ x gone. apart x.incident gone)) in
-      ap (λ gs. record { source = i.naming.source; gates = map (λ (g : Gate). g.gate) gs; permissions = its_permissions i.naming.number s.permissions }) gates
-      ∙ ap (λ xs. record { source = i.naming.source; gates = its_gates i.naming.number t.gates; permissions = map (λ (x : Permission). x.permission) xs }) permissions
+      ap (λ gs. record { source = i.naming.source; community = i.naming.community; gates = map (λ (g : Gate). g.gate) gs; permissions = its_permissions i.naming.number s.permissions }) gates
+      ∙ ap (λ xs. record { source = i.naming.source; community = i.naming.community; gates = its_gates i.naming.number t.gates; permissions = map (λ (x : Permission). x.permission) xs }) permissions
     where
       apart : (m : ℕ) → not (m == n) ≡ false → (m == i.naming.number) ≡ false
       apart m gone = not_both m n i.naming.number (turned i.naming.number n (not-true (i.naming.number == n) k)) (not-false (m == n) gone)

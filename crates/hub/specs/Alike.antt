@@ -32,7 +32,8 @@ use Rattle.hub.specs.declared.key.Key.TheVariants.{Digest}
 
 -- ---- rows
 
--- the incidents, with another document in the one of this number; the IncidentID beside it follows
+-- the incidents, with another document in the one of this number; the IncidentID beside it follows, and its source, its
+-- revision and the community that it names stay
 abbrev pub with_document : ℕ → Lines → List Incident → List Incident
 with_document n document incidents = map (λ (i : Incident). if i.naming.number == n then record i { naming = record i.naming { ident = ident_of document }; document = document } else i) incidents
 
@@ -95,7 +96,8 @@ module _ (now : ℤ) (a : Account) where
     pub permissions : permissions_but_at incident.naming.number path s.permissions ≡ permissions_but_at incident.naming.number path t.permissions
     pub after : t ≡ record s { incidents = with_document incident.naming.number document s.incidents; gates = t.gates; permissions = t.permissions }
 
-  -- Anything in an incident of which the person sees nothing on either side; it may be missing on one.
+  -- Anything in an incident of which the person sees nothing on either side, the community that it names among it; it may be
+  -- missing on one.
   pub record HasOtherUnseenIncident (s t : State) : Type 0 where
     pub number : ℕ
     pub first_foreign : is_own s number ≡ false
@@ -134,7 +136,8 @@ module _ (now : ℤ) (a : Account) where
   staying_members d = filter (λ (m : GroupMember). m.org == a.person.org) d.group_members
 
   -- Put in, taken out or exchanged are permissions whose grantee doesn't include the person, recipients that are other
-  -- persons, other persons, arrangements with other organisations, and memberships of other organisations in groups.
+  -- persons, other persons, arrangements with other organisations, and memberships of other organisations in groups. Stay do
+  -- the incidents, with the communities that they name, and which organisations are in which communities.
   pub record HasOtherRows (s t : State) : Type 0 where
     pub permissions : staying_permissions s ≡ staying_permissions t
     pub recipients : staying_recipients s ≡ staying_recipients t

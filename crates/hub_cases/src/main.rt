@@ -6,8 +6,9 @@
 //!
 //! A request is WHO|REQUEST|FIELD|FIELD.. with the fields in the request's order; WHO is `p4` for person 4, or `nobody`, and
 //! `p4 at 1717200000` asks at that moment, in seconds since 1970; the others come a second behind one another.
-//! The key of person N is 32 bytes of N. A group is `-` for none, and so is a class; gates are LEVEL:GROUP:POINTER with a
-//! space between; targets and grantees are `person 4`, `org 3`, `community 1` or `group 1`.
+//! The key of person N is 32 bytes of N. The level of a Post or a Replace is `1@3` where its incidents name community 3. A group
+//! is `-` for none, and so is a class; gates are LEVEL:GROUP:POINTER with a space between; targets and grantees are `person 4`,
+//! `org 3`, `community 1` or `group 1`.
 //! `150 times` before a request asks it so often; in it `<n>` is the number of the time, and `<a,b>` is a and b in turn.
 //!
 //! Behind the answers of a block stands whether tables in memory, opened anew behind each request, answer the same. Behind

@@ -1,5 +1,5 @@
 //! Stores of older versions, made by their SQL texts, and brought to the newest version: a report that one organisation may
-//! see a class of.
+//! see a class of, and one with a class for the communities of its source.
 
 use crate::openings::fault_told;
 use crate::tables::opened;
@@ -24,21 +24,21 @@ const TABLES: [&str; 10] = [
     "CREATE TABLE incident (number INTEGER PRIMARY KEY, source INTEGER NOT NULL, ident TEXT NOT NULL, revision INTEGER NOT NULL, text TEXT NOT NULL, UNIQUE (source, ident)) STRICT",
 ];
 
-/// Five organisations, six persons, two communities and a group; a gate and a permission.
-const ROWS: [&str; 7] = [
+/// Five organisations, six persons, two communities and a group; the gates of two incidents.
+const ROWS: [&str; 6] = [
     "INSERT INTO org VALUES (1, 'Hub'), (2, 'Src'), (3, 'Mem'), (4, 'Far'), (5, 'Cli')",
     "INSERT INTO person VALUES (1, 1, 'admin', 0, X'0101010101010101010101010101010101010101010101010101010101010101', 1, 0), (2, 2, 'src', 1, X'0202020202020202020202020202020202020202020202020202020202020202', 1, 0), (3, 3, 'mem', 1, X'0303030303030303030303030303030303030303030303030303030303030303', 1, 0), (4, 4, 'far', 3, X'0404040404040404040404040404040404040404040404040404040404040404', 1, 0), (5, 5, 'cli', 1, X'0505050505050505050505050505050505050505050505050505050505050505', 1, 0), (6, 3, 'six', 3, X'0606060606060606060606060606060606060606060606060606060606060606', 1, 0)",
     "INSERT INTO community VALUES (1, 'east'), (2, 'west')",
     "INSERT INTO grp VALUES (1, 2, 'g', '', 1)",
     "INSERT INTO pair VALUES ('member', 1, 2, NULL), ('member', 1, 3, NULL), ('member', 2, 4, NULL), ('grp_member', 1, 2, 1), ('grp_member', 1, 3, 0)",
-    "INSERT INTO gate VALUES (1, '', 3, NULL)",
-    "INSERT INTO permission VALUES (1, '/Incident/0/EventData/0', 1, 4)",
+    "INSERT INTO gate VALUES (1, '', 3, NULL), (2, '', 3, NULL)",
 ];
 
-/// The incident, as version 1 keeps it.
-const ROWS_1: [&str; 2] = [
+/// The incidents and the permission, as version 1 keeps them.
+const ROWS_1: [&str; 3] = [
     "INSERT INTO hub VALUES (1)",
-    "INSERT INTO incident VALUES (1, 2, '\"7\"', 1, '{\"Incident\":[{\"Contact\":[],\"EventData\":[{\"Description\":[\"x\"],\"Flow\":[{\"System\":[],\"restriction\":\"red\"}]}],\"GenerationTime\":\"g\",\"IncidentID\":\"7\",\"purpose\":\"reporting\",\"restriction\":\"private\"}],\"version\":\"2.0\"}')",
+    "INSERT INTO permission VALUES (1, '/Incident/0/EventData/0', 1, 4)",
+    "INSERT INTO incident VALUES (1, 2, '\"7\"', 1, '{\"Incident\":[{\"Contact\":[],\"EventData\":[{\"Description\":[\"x\"],\"Flow\":[{\"System\":[],\"restriction\":\"red\"}]}],\"GenerationTime\":\"g\",\"IncidentID\":\"7\",\"purpose\":\"reporting\",\"restriction\":\"private\"}],\"version\":\"2.0\"}'), (2, 2, '\"3\"', 1, '{\"Incident\":[{\"Contact\":[{\"ContactName\":[\"n\"],\"Email\":[{\"EmailTo\":\"e\",\"restriction\":\"green\"}],\"restriction\":\"red\"}],\"GenerationTime\":\"g\",\"IncidentID\":\"3\",\"purpose\":\"reporting\",\"restriction\":\"public\"}],\"version\":\"2.0\"}')",
 ];
 
 /// The same with a report that doesn't read back.
@@ -54,15 +54,68 @@ const TABLES_2: [&str; 3] = [
     "CREATE TABLE incident (number INTEGER PRIMARY KEY, source INTEGER NOT NULL, ident TEXT NOT NULL, revision INTEGER NOT NULL, UNIQUE (source, ident)) STRICT",
 ];
 
-/// The incident, as version 2 keeps it.
-const ROWS_2: [&str; 3] = [
+/// The permission, as version 2 keeps it.
+const ROWS_2: [&str; 2] = [
     "INSERT INTO hub VALUES (2)",
-    "INSERT INTO incident VALUES (1, 2, '\"7\"', 1)",
+    "INSERT INTO permission VALUES (1, '/Incident/0/EventData/0', 1, 4)",
+];
+
+/// What version 3 made of the tables of version 2.
+const TABLES_3: [&str; 2] = [
+    "DROP TABLE permission",
+    "CREATE TABLE permission (incident INTEGER NOT NULL, path TEXT NOT NULL, kind INTEGER NOT NULL, target INTEGER NOT NULL, until INTEGER, UNIQUE (incident, path, kind, target)) STRICT",
+];
+
+/// The permission, as version 3 keeps it: up to the first second of June 2024.
+const ROWS_3: [&str; 2] = [
+    "INSERT INTO hub VALUES (3)",
+    "INSERT INTO permission VALUES (1, '/Incident/0/EventData/0', 1, 4, 1717200000)",
+];
+
+/// The incidents, as versions 2 and 3 keep them.
+const IN_LINES: [&str; 3] = [
+    "INSERT INTO incident VALUES (1, 2, '\"7\"', 1), (2, 2, '\"3\"', 1)",
     "INSERT INTO item VALUES (1, 1, 1, 'Incident', 1, 0, ''), (1, 2, 2, 'Contact', 0, 2, '[]'), (1, 3, 2, 'EventData', 1, 0, ''), (1, 4, 3, 'Description', 1, 1, 'x'), (1, 5, 3, 'Flow', 1, 0, ''), (1, 6, 4, 'System', 0, 2, '[]'), (1, 7, 4, 'restriction', 0, 1, 'red'), (1, 8, 2, 'GenerationTime', 0, 1, 'g'), (1, 9, 2, 'IncidentID', 0, 1, '7'), (1, 10, 2, 'purpose', 0, 1, 'reporting'), (1, 11, 2, 'restriction', 0, 1, 'private'), (1, 12, 1, 'version', 0, 1, '2.0')",
+    "INSERT INTO item VALUES (2, 1, 1, 'Incident', 1, 0, ''), (2, 2, 2, 'Contact', 1, 0, ''), (2, 3, 3, 'ContactName', 1, 1, 'n'), (2, 4, 3, 'Email', 1, 0, ''), (2, 5, 4, 'EmailTo', 0, 1, 'e'), (2, 6, 4, 'restriction', 0, 1, 'green'), (2, 7, 3, 'restriction', 0, 1, 'red'), (2, 8, 2, 'GenerationTime', 0, 1, 'g'), (2, 9, 2, 'IncidentID', 0, 1, '3'), (2, 10, 2, 'purpose', 0, 1, 'reporting'), (2, 11, 2, 'restriction', 0, 1, 'public'), (2, 12, 1, 'version', 0, 1, '2.0')",
 ];
 
 /// What is asked of a store that is open.
-const MOMENTS: [&str; 2] = ["p4 at 0|View|1", "p4 at 9223372036854775807|View|1"];
+const ASKED: [&str; 4] = [
+    "p4 at 0|View|1",
+    "p4 at 9223372036854775807|View|1",
+    "p6|View|2",
+    "p1|Explain|6|2|/Incident/0/Contact/0/Email/0",
+];
+
+/// Opened, brought to the newest version, once more, and opened then.
+const TURNS_1: [(&str, bool); 4] = [
+    ("version 1", false),
+    ("version 1, migrated", true),
+    ("migrated again", true),
+    ("opened", false),
+];
+
+const TURNS_2: [(&str, bool); 4] = [
+    ("version 2", false),
+    ("version 2, migrated", true),
+    ("migrated again", true),
+    ("opened", false),
+];
+
+const TURNS_3: [(&str, bool); 4] = [
+    ("version 3", false),
+    ("version 3, migrated", true),
+    ("migrated again", true),
+    ("opened", false),
+];
+
+const UNREAD_TURNS: [(&str, bool); 2] = [
+    (
+        "version 1 with a report that doesn't read back, migrated",
+        true,
+    ),
+    ("as before", false),
+];
 
 /// Whether the statements were all run.
 fn are_run(conn: &mut Connection<MemStore>, statements: &[&str]) -> bool {
@@ -74,14 +127,15 @@ fn are_run(conn: &mut Connection<MemStore>, statements: &[&str]) -> bool {
     true
 }
 
-/// What person 4 sees of the incident at the first moment and at the last, and the shelf.
+/// What person 4 sees of the first incident at the first moment and at the last, what person 6 sees of the second and why,
+/// and the shelf.
 fn seen<S: Alter + Drop>(
     alloc: Global,
     shelf: SqlShelf<S>,
 ) -> Result<(String, SqlShelf<S>), AllocError> {
     let mut told = String::new(alloc);
     let mut hub = Hub::new(shelf);
-    for (now, key, request) in &requests_of(alloc, &MOMENTS, None)? {
+    for (now, key, request) in &requests_of(alloc, &ASKED, None)? {
         let answer = reply(alloc, &hub.answer(alloc, *now, key, request))?;
         told.push_str(if told.is_empty() { "" } else { "; " })?;
         told.push_str(answer.as_str())?;
@@ -89,7 +143,7 @@ fn seen<S: Alter + Drop>(
     Ok((told, hub.into_shelf()))
 }
 
-/// Opens it or brings it to the newest version, tells what person 4 sees then, or the fault, and gives the connection back.
+/// Opens it or brings it to the newest version, tells what is seen then, or the fault, and gives the connection back.
 fn told_by(
     alloc: Global,
     conn: Connection<MemStore>,
@@ -120,19 +174,19 @@ fn in_turn(
     Ok(())
 }
 
-/// A store with these tables beside those of version 1, and with these rows beside those of every version; none where a
-/// statement is refused.
-fn store(
-    alloc: Global,
-    tables: &[&str],
-    rows: &[&str],
-) -> Result<Option<Connection<MemStore>>, AllocError> {
+/// A store after these statements, behind those that make the tables of version 1 and the rows of every version; none where
+/// one of them is refused.
+fn store(alloc: Global, others: &[&[&str]]) -> Result<Option<Connection<MemStore>>, AllocError> {
     let mut conn = Connection::open_in_memory(alloc)?;
-    let made = are_run(&mut conn, &TABLES)
-        && are_run(&mut conn, tables)
-        && are_run(&mut conn, &ROWS)
-        && are_run(&mut conn, rows);
-    if made { Ok(Some(conn)) } else { Ok(None) }
+    if !are_run(&mut conn, &TABLES) || !are_run(&mut conn, &ROWS) {
+        return Ok(None);
+    }
+    for statements in others {
+        if !are_run(&mut conn, statements) {
+            return Ok(None);
+        }
+    }
+    Ok(Some(conn))
 }
 
 /// What is printed of a store, if it was made.
@@ -151,27 +205,13 @@ fn printed(
 /// What is printed of each version, and of reports that don't read back.
 pub fn all(alloc: Global) -> Result<Vec<String>, AllocError> {
     let mut all = Vec::new(alloc);
-    let turns = [
-        ("version 1", false),
-        ("version 1, migrated", true),
-        ("migrated again", true),
-        ("opened", false),
-    ];
-    printed(alloc, store(alloc, &[], &ROWS_1)?, &turns, &mut all)?;
-    let turns = [
-        (
-            "version 1 with a report that doesn't read back, migrated",
-            true,
-        ),
-        ("as before", false),
-    ];
-    printed(alloc, store(alloc, &[], &UNREAD_1)?, &turns, &mut all)?;
-    let turns = [
-        ("version 2", false),
-        ("version 2, migrated", true),
-        ("migrated again", true),
-        ("opened", false),
-    ];
-    printed(alloc, store(alloc, &TABLES_2, &ROWS_2)?, &turns, &mut all)?;
+    let first = store(alloc, &[&ROWS_1])?;
+    printed(alloc, first, &TURNS_1, &mut all)?;
+    let unread = store(alloc, &[&UNREAD_1])?;
+    printed(alloc, unread, &UNREAD_TURNS, &mut all)?;
+    let second = store(alloc, &[&TABLES_2, &IN_LINES, &ROWS_2])?;
+    printed(alloc, second, &TURNS_2, &mut all)?;
+    let third = store(alloc, &[&TABLES_2, &TABLES_3, &IN_LINES, &ROWS_3])?;
+    printed(alloc, third, &TURNS_3, &mut all)?;
     Ok(all)
 }

@@ -216,6 +216,52 @@ fn an_addressed_person_behind_a_gate(rt: HostRuntime) -> io::Result<()> {
     remove(&rt, path)
 }
 
+/// A community of organisations 2 and 4 beside the one that 2 shares with 3, and a report that names it.
+const NAMED: [Post; 4] = [
+    ("abc", "/communities", "name=north"),
+    ("abc", "/communities/3/join", "org=2"),
+    ("abc", "/communities/3/join", "org=4"),
+    ("key-2", "/incidents?level=1&community=3", RED_CONTACT),
+];
+
+const GREEN_EMAIL: &str = "/Incident/0/Contact/0/Email/0";
+
+const NOT_OF_THE_COMMUNITY: &str = r#"verdict Hidden H-GREEN
+path "/Incident/0/Contact/0/Email/0"
+community 3
+gate "" 1 0 pass
+site "/Incident/0/Contact/0/Email/0" "green" GREEN
+clearance CLEAR A
+"#;
+
+const OF_THE_COMMUNITY: &str = r#"verdict Shown M
+path "/Incident/0/Contact/0/Email/0"
+community 3
+gate "" 1 0 pass
+site "/Incident/0/Contact/0/Email/0" "green" GREEN
+clearance GREEN M
+"#;
+
+/// Green is for the community that the incident names, and for no other that its source shares with the reader.
+#[test]
+fn a_community_that_an_incident_names(rt: HostRuntime) -> io::Result<()> {
+    let path = store_with(&rt, "named", &NAMED)?;
+    let cases = [
+        prints(
+            &["explain", STORE, "6", "1", GREEN_EMAIL],
+            KEY,
+            NOT_OF_THE_COMMUNITY,
+        ),
+        prints(
+            &["explain", STORE, "4", "1", GREEN_EMAIL],
+            KEY,
+            OF_THE_COMMUNITY,
+        ),
+    ];
+    assert_eq!(rt; first_wrong(&rt, path.as_str(), &cases)?, None);
+    remove(&rt, path.as_str())
+}
+
 const SHOWN_BY_GRANT: &str = r#"verdict Shown X
 path "/Incident/0/EventData/0"
 gate "" 3 0 pass

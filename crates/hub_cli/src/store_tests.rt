@@ -46,7 +46,7 @@ fn a_store_is_made_once(rt: HostRuntime) -> io::Result<()> {
     let cases = [
         made(),
         tells(&["init", STORE, "Hub", ABC], "", "Failed\n", Status::Failed),
-        prints(&["migrate", STORE], "", "version 3\n"),
+        prints(&["migrate", STORE], "", "version 4\n"),
     ];
     assert_eq!(rt; first_wrong(&rt, path.as_str(), &cases)?, None);
     remove(&rt, path.as_str())

@@ -49,7 +49,7 @@ fn add_incidents(world: &mut World) -> Result<(), Fault> {
     for place in 0..INCIDENTS {
         let number = place.saturating_add(1);
         let body = body(world.alloc, number, place < 2)?;
-        let added = world.add_incident(1, 999_999, body.as_str())?;
+        let added = world.add_incident(1, 999_999, None, body.as_str())?;
         agree(added == Some(number), "the number of an incident")?;
         world.add_gate(number, Path::root(world.alloc), 3)?;
     }
@@ -133,6 +133,7 @@ fn changes(alloc: Global, time: u32) -> Result<[Request; 4], AllocError> {
         until: None,
     };
     let distribution = Distribution {
+        community: None,
         level: 3,
         group: None,
         gates: WantedGates::new(Vec::new(alloc)),

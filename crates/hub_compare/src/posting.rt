@@ -3,7 +3,7 @@
 use crate::asked::Asker;
 use crate::commands::any_group;
 use crate::documents::{Flaw, any_body, any_flaw, ident_text};
-use crate::world::World;
+use crate::world::{Relation, World};
 use circle::text::Text;
 use hub_core::{Bytes, Distribution, Post, Replace, WantedGate, WantedGates};
 use std::alloc::{AllocError, Global};
@@ -82,6 +82,23 @@ fn wide_gates(dice: &mut Dice, alloc: Global) -> Result<Vec<WantedGate>, AllocEr
     Ok(gates)
 }
 
+/// No community in one of two, or one: in three of four one that the organisation has joined, if it has joined any.
+fn any_community(dice: &mut Dice, world: &World, own: u32) -> Result<Option<u32>, AllocError> {
+    let mut joined = Vec::new(world.alloc);
+    for pair in world.pairs.iter() {
+        if pair.relation == Relation::Member && pair.b == own {
+            joined.push(pair.a)?;
+        }
+    }
+    if dice.once_in(2) {
+        return Ok(None);
+    }
+    Ok(Some(match dice.one_of(joined.as_slice()) {
+        Some(community) if !dice.once_in(4) => *community,
+        _ => dice.number(world.communities),
+    }))
+}
+
 /// How far a report reaches, and the body of one with these IncidentIDs; one in five has many gates.
 fn any_content(
     dice: &mut Dice,
@@ -99,6 +116,7 @@ fn any_content(
     let gates = WantedGates::new(gates);
     let body = any_body(world.alloc, dice, idents, flaw, is_wide)?;
     let distribution = Distribution {
+        community: any_community(dice, world, own)?,
         level,
         group,
         gates,

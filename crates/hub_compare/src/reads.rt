@@ -34,6 +34,7 @@ fn same_permissions(one: &[Permission], other: &[Permission]) -> bool {
 
 fn same_case(one: &Case, other: &Case) -> bool {
     one.source == other.source
+        && one.community == other.community
         && same_gates(one.gates.as_slice(), other.gates.as_slice())
         && same_permissions(one.permissions.as_slice(), other.permissions.as_slice())
 }
@@ -45,6 +46,7 @@ fn same_standing(one: &Standing, other: &Standing) -> bool {
         && one.addressed == other.addressed
         && one.client == other.client
         && one.community == other.community
+        && one.peer == other.peer
         && one.connected == other.connected
         && one.arrangement == other.arrangement
         && one.who == other.who

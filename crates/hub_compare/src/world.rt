@@ -235,6 +235,7 @@ impl World {
         &mut self,
         source: u32,
         revision: u32,
+        community: Option<u32>,
         body: &str,
     ) -> Result<Option<u32>, Fault> {
         let (document, ident) = document_of(self.alloc, body)?;
@@ -249,6 +250,7 @@ impl World {
             source,
             ident,
             revision,
+            community,
         };
         self.incidents.push(Incident { naming, document })?;
         Ok(Some(number))

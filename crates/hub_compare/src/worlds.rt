@@ -170,6 +170,15 @@ fn add_permissions(
     Ok(())
 }
 
+/// The community that an incident names, none in one of two. Its source may have left it.
+fn any_community(dice: &mut Dice, world: &World) -> Option<u32> {
+    if dice.once_in(2) {
+        Some(dice.one_to(world.communities))
+    } else {
+        None
+    }
+}
+
 /// An incident with gates, recipients and permissions, unless its source has posted one under the same IncidentID.
 fn add_incident(world: &mut World, dice: &mut Dice, crowded: bool) -> Result<(), Fault> {
     let mut idents = Vec::new(world.alloc);
@@ -186,7 +195,8 @@ fn add_incident(world: &mut World, dice: &mut Dice, crowded: bool) -> Result<(),
         2 => 7,
         _ => 1,
     };
-    if let Some(incident) = world.add_incident(source, revision, body.as_str())? {
+    let community = any_community(dice, world);
+    if let Some(incident) = world.add_incident(source, revision, community, body.as_str())? {
         let classes = world.classes(incident)?;
         add_gates(world, dice, incident, classes.as_slice(), crowded)?;
         add_recipients(world, dice, incident, crowded)?;

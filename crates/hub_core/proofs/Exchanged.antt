@@ -1,5 +1,5 @@
 -- Another document for an incident, with other gates, leaves a sound state.
-use Rattle.std.proofs.Common.{◌≡◌, ℕ, ◌+◌, ◌≤◌, ◌<◌, ◌==◌, ◌&&◌, ◌||◌, Bool, true, false, not, if◌then◌else◌, List, [], ◌∷◌, map, filter, Some, None, refl, sym, ap, ◌∙◌, subst, arith}
+use Rattle.std.proofs.Common.{◌≡◌, ℕ, ◌+◌, ◌≤◌, ◌<◌, ◌==◌, ◌&&◌, ◌||◌, Bool, true, false, not, if◌then◌else◌, List, [], ◌∷◌, map, filter, Option, Some, None, refl, sym, ap, ◌∙◌, subst, arith}
 use Rattle.std.proofs.lemmas.Bool.{and_parts, eq-eqb, eqb-true, not-true, not_from_false}
 use Rattle.std.specs.Prelude.{count_by, find}
 use Rattle.std.specs.Option.{option_map_or}
@@ -16,7 +16,7 @@ use Rattle.hub_core.specs.declared.TheConstants.{INCIDENT_LIMIT, REVISION_LIMIT,
 use Rattle.hub_core.specs.Requests.{known}
 use Rattle.hub_core.specs.Aftermath.{next_row}
 use Rattle.hub_core.specs.Documents.{Lines, is_class_in}
-use Rattle.hub_core.specs.Sound.{IsSound, SoundIncidents, SoundRecipients, SoundPermissions, IsAccepted, IsIncident}
+use Rattle.hub_core.specs.Sound.{IsSound, SoundIncidents, SoundRecipients, SoundPermissions, IsAccepted, IsIncident, IsCommunityIfAny}
 use Rattle.hub_core.specs.State.{State, incident_number, incident_in, incident_of, root_gates, class_gates, recipients_of, permissions_of}
 use Rattle.hub_core.specs.declared.request.Distribution.{Distribution}
 use Rattle.hub_core.specs.declared.state.Incident.{Incident}
@@ -114,11 +114,11 @@ each_exchanged P n f i (x ∷ xs) only here all = (split (x.naming.number == n) 
 
 -- ---- the incidents
 
-abbrev revised : Lines → Incident → Incident
-revised doc i = next_row i.naming.number (known i) doc
+abbrev revised : Option ℕ → Lines → Incident → Incident
+revised community doc i = next_row i.naming.number (known i) community doc
 
-abbrev put_revised : Lines → Incident → List Incident → List Incident
-put_revised doc i incidents = put_by (by_number incident_number) (revised doc i) (others i.naming.number incidents)
+abbrev put_revised : Option ℕ → Lines → Incident → List Incident → List Incident
+put_revised community doc i incidents = put_by (by_number incident_number) (revised community doc i) (others i.naming.number incidents)
 
 -- a document that may stand in place of an incident's own
 pub record MayFollow (doc : Lines) (i : Incident) : Type 0 where
@@ -126,36 +126,37 @@ pub record MayFollow (doc : Lines) (i : Incident) : Type 0 where
   pub named : incident_id doc ≡ Some i.naming.ident
   pub room : i.naming.revision + 1 ≤ REVISION_LIMIT
 
-is_exchange : (s : State) (i : Incident) (doc : Lines) → IsSound s → incident_of i.naming.number s ≡ Some i → put_revised doc i s.incidents ≡ exchange i.naming.number (revised doc) s.incidents
-is_exchange s i doc h found = put_back i.naming.number 0 (revised doc) s.incidents i (λ x. refl) h.incidents.numbered.0 found refl
+is_exchange : (s : State) (i : Incident) (community : Option ℕ) (doc : Lines) → IsSound s → incident_of i.naming.number s ≡ Some i → put_revised community doc i s.incidents ≡ exchange i.naming.number (revised community doc) s.incidents
+is_exchange s i community doc h found = put_back i.naming.number 0 (revised community doc) s.incidents i (λ x. refl) h.incidents.numbered.0 found refl
 
-exchanged_map : (d : Directory) (n : ℕ) (doc : Lines) (i : Incident) (incidents : List Incident) → SoundIncidents d incidents → Each (λ (y : Incident). (y.naming.number == n) ≡ true → y ≡ i) incidents → MayFollow doc i →
-    SoundIncidents d (exchange n (revised doc) incidents)
-exchanged_map d n doc i incidents h only new =
-    let g : Incident → Incident = λ (y : Incident). if y.naming.number == n then revised doc y else y in
+exchanged_map : (d : Directory) (n : ℕ) (community : Option ℕ) (doc : Lines) (i : Incident) (incidents : List Incident) → SoundIncidents d incidents → Each (λ (y : Incident). (y.naming.number == n) ≡ true → y ≡ i) incidents → IsCommunityIfAny d.communities community → MayFollow doc i →
+    SoundIncidents d (exchange n (revised community doc) incidents)
+exchanged_map d n community doc i incidents h only there new =
+    let g : Incident → Incident = λ (y : Incident). if y.naming.number == n then revised community doc y else y in
     record {
-      numbered = numbered_map incident_number INCIDENT_LIMIT g incidents (λ y. same_when incident_number (y.naming.number == n) (revised doc y) y refl) h.numbered;
-      idents = differ_map {K = ℕ × Bytes} (λ (y : Incident). (y.naming.source, y.naming.ident)) g incidents (λ y. same_when (λ (x : Incident). let pair : ℕ × Bytes = (x.naming.source, x.naming.ident) in pair) (y.naming.number == n) (revised doc y) y refl) h.idents;
-      sources = each_map (λ (y : Incident). IsOrg d.orgs y.naming.source) g incidents (λ y e. subst (IsOrg d.orgs) (sym (same_when (λ (x : Incident). x.naming.source) (y.naming.number == n) (revised doc y) y refl)) e) h.sources;
-      revisions = each_exchanged (λ (y : Incident). y.naming.revision ≤ REVISION_LIMIT) n (revised doc) i incidents only new.room h.revisions;
-      documents = each_exchanged (λ (y : Incident). IsAccepted y.document) n (revised doc) i incidents only new.accepted h.documents;
-      follow = each_exchanged (λ (y : Incident). incident_id y.document ≡ Some y.naming.ident) n (revised doc) i incidents only new.named h.follow;
+      numbered = numbered_map incident_number INCIDENT_LIMIT g incidents (λ y. same_when incident_number (y.naming.number == n) (revised community doc y) y refl) h.numbered;
+      idents = differ_map {K = ℕ × Bytes} (λ (y : Incident). (y.naming.source, y.naming.ident)) g incidents (λ y. same_when (λ (x : Incident). let pair : ℕ × Bytes = (x.naming.source, x.naming.ident) in pair) (y.naming.number == n) (revised community doc y) y refl) h.idents;
+      sources = each_map (λ (y : Incident). IsOrg d.orgs y.naming.source) g incidents (λ y e. subst (IsOrg d.orgs) (sym (same_when (λ (x : Incident). x.naming.source) (y.naming.number == n) (revised community doc y) y refl)) e) h.sources;
+      revisions = each_exchanged (λ (y : Incident). y.naming.revision ≤ REVISION_LIMIT) n (revised community doc) i incidents only new.room h.revisions;
+      communities = each_exchanged (λ (y : Incident). IsCommunityIfAny d.communities y.naming.community) n (revised community doc) i incidents only there h.communities;
+      documents = each_exchanged (λ (y : Incident). IsAccepted y.document) n (revised community doc) i incidents only new.accepted h.documents;
+      follow = each_exchanged (λ (y : Incident). incident_id y.document ≡ Some y.naming.ident) n (revised community doc) i incidents only new.named h.follow;
     }
 
-incidents_exchanged : (s : State) (i : Incident) (doc : Lines) → IsSound s → incident_of i.naming.number s ≡ Some i → MayFollow doc i → SoundIncidents s.directory (put_revised doc i s.incidents)
-incidents_exchanged s i doc h found new =
-    subst (SoundIncidents s.directory) (sym (is_exchange s i doc h found))
-    (exchanged_map s.directory i.naming.number doc i s.incidents h.incidents (only_one i.naming.number 0 s.incidents i h.incidents.numbered.0 found) new)
+incidents_exchanged : (s : State) (i : Incident) (community : Option ℕ) (doc : Lines) → IsSound s → incident_of i.naming.number s ≡ Some i → IsCommunityIfAny s.directory.communities community → MayFollow doc i → SoundIncidents s.directory (put_revised community doc i s.incidents)
+incidents_exchanged s i community doc h found there new =
+    subst (SoundIncidents s.directory) (sym (is_exchange s i community doc h found))
+    (exchanged_map s.directory i.naming.number community doc i s.incidents h.incidents (only_one i.naming.number 0 s.incidents i h.incidents.numbered.0 found) there new)
 
 -- ---- another incident is found as before
 
-found_before : (m : ℕ) (i : Incident) (doc : Lines) (incidents : List Incident) → (m == i.naming.number) ≡ false → incident_in m (put_revised doc i incidents) ≡ incident_in m incidents
-found_before m i doc incidents other =
-    find_put (λ (x : Incident). x.naming.number == m) (by_number incident_number) (revised doc i) (others i.naming.number incidents) (turned m i.naming.number other)
+found_before : (m : ℕ) (i : Incident) (community : Option ℕ) (doc : Lines) (incidents : List Incident) → (m == i.naming.number) ≡ false → incident_in m (put_revised community doc i incidents) ≡ incident_in m incidents
+found_before m i community doc incidents other =
+    find_put (λ (x : Incident). x.naming.number == m) (by_number incident_number) (revised community doc i) (others i.naming.number incidents) (turned m i.naming.number other)
     ∙ find_left (λ (x : Incident). x.naming.number == m) (λ (x : Incident). not (x.naming.number == i.naming.number)) incidents (λ x h. not_from_false (x.naming.number == i.naming.number) (not_both x.naming.number m i.naming.number other h))
 
-holds_before : (test : Incident → Bool) (m : ℕ) (i : Incident) (doc : Lines) (incidents : List Incident) → (m == i.naming.number) ≡ false → option_map_or test (incident_in m incidents) false ≡ true → option_map_or test (incident_in m (put_revised doc i incidents)) false ≡ true
-holds_before test m i doc incidents other h = ap (λ o. option_map_or test o false) (found_before m i doc incidents other) ∙ h
+holds_before : (test : Incident → Bool) (m : ℕ) (i : Incident) (community : Option ℕ) (doc : Lines) (incidents : List Incident) → (m == i.naming.number) ≡ false → option_map_or test (incident_in m incidents) false ≡ true → option_map_or test (incident_in m (put_revised community doc i incidents)) false ≡ true
+holds_before test m i community doc incidents other h = ap (λ o. option_map_or test o false) (found_before m i community doc incidents other) ∙ h
 
 -- ---- what is left of the gates and the permissions
 
@@ -170,41 +171,41 @@ count_beside : (test : Tokens → Bool) (m n : ℕ) (gates : List Gate) → (n =
 count_beside test m n gates other = count_kept (λ (g : Gate). g.incident == m && test g.gate.path) (λ (g : Gate). not (g.incident == n)) gates
     (λ g h. not_from_false (g.incident == n) (not_both g.incident m n (turned n m other) (and_parts (g.incident == m) (test g.gate.path) h).0))
 
-beside : (s : State) (i : Incident) (doc : Lines) → IsSound s → IsBeside s.directory.groups (put_revised doc i s.incidents) i.naming.number (gates_beside i.naming.number s.gates)
-beside s i doc h =
+beside : (s : State) (i : Incident) (community : Option ℕ) (doc : Lines) → IsSound s → IsBeside s.directory.groups (put_revised community doc i s.incidents) i.naming.number (gates_beside i.naming.number s.gates)
+beside s i community doc h =
     let n = i.naming.number in
     record {
       rising = pairs_left _ (λ (g : Gate). not (g.incident == n)) s.gates h.gates.rising;
-      places = each_passed _ _ (λ (g : Gate). not (g.incident == n)) s.gates (λ g other e. holds_before (λ (x : Incident). is_root g.gate.path || is_class_in x.document g.gate.path) g.incident i doc s.incidents (not-true (g.incident == n) other) e) h.gates.places;
+      places = each_passed _ _ (λ (g : Gate). not (g.incident == n)) s.gates (λ g other e. holds_before (λ (x : Incident). is_root g.gate.path || is_class_in x.document g.gate.path) g.incident i community doc s.incidents (not-true (g.incident == n) other) e) h.gates.places;
       ends = each_left _ (λ (g : Gate). not (g.incident == n)) s.gates h.gates.ends;
       others = each_weaker _ _ (gates_beside n s.gates) (λ g e. not-true (g.incident == n) e) (each_passes (λ (g : Gate). not (g.incident == n)) s.gates);
-      roots = each_put (λ (x : Incident). (n == x.naming.number) ≡ false → root_gates x.naming.number (gates_beside n s.gates) ≡ 1) (by_number incident_number) (revised doc i) (others n s.incidents) (λ e. never (n == n) (eq-eqb n n refl) e)
+      roots = each_put (λ (x : Incident). (n == x.naming.number) ≡ false → root_gates x.naming.number (gates_beside n s.gates) ≡ 1) (by_number incident_number) (revised community doc i) (others n s.incidents) (λ e. never (n == n) (eq-eqb n n refl) e)
           (each_left _ (λ (x : Incident). not (x.naming.number == n)) s.incidents (each_weaker _ _ s.incidents (λ x e other. count_beside is_root x.naming.number n s.gates other ∙ e) h.gates.roots));
-      limit = each_put (λ (x : Incident). (n == x.naming.number) ≡ false → class_gates x.naming.number (gates_beside n s.gates) ≤ GATE_LIMIT) (by_number incident_number) (revised doc i) (others n s.incidents) (λ e. never (n == n) (eq-eqb n n refl) e)
+      limit = each_put (λ (x : Incident). (n == x.naming.number) ≡ false → class_gates x.naming.number (gates_beside n s.gates) ≤ GATE_LIMIT) (by_number incident_number) (revised community doc i) (others n s.incidents) (λ e. never (n == n) (eq-eqb n n refl) e)
           (each_left _ (λ (x : Incident). not (x.naming.number == n)) s.incidents (each_weaker _ _ s.incidents (λ x e other. subst (λ k. k ≤ GATE_LIMIT) (sym (count_beside (λ p. not (is_root p)) x.naming.number n s.gates other)) e) h.gates.limit));
     }
 
-recipients_stay : (s : State) (i : Incident) (doc : Lines) → IsSound s → incident_of i.naming.number s ≡ Some i → SoundRecipients s.directory (put_revised doc i s.incidents) s.recipients
-recipients_stay s i doc h found =
+recipients_stay : (s : State) (i : Incident) (community : Option ℕ) (doc : Lines) → IsSound s → incident_of i.naming.number s ≡ Some i → SoundRecipients s.directory (put_revised community doc i s.incidents) s.recipients
+recipients_stay s i community doc h found =
     let n = i.naming.number in
     let here : recipients_of n s.recipients ≤ RECIPIENT_LIMIT = found_each (λ (x : Incident). recipients_of x.naming.number s.recipients ≤ RECIPIENT_LIMIT) (λ (x : Incident). x.naming.number == n) s.incidents i found h.recipients.limit in
     record {
       rising = h.recipients.rising;
-      ends = each_weaker _ _ s.recipients (λ r e. subst (λ is. IsIncident is r.incident) (sym (is_exchange s i doc h found)) (names_map incident_number (λ (y : Incident). if y.naming.number == n then revised doc y else y) s.incidents r.incident (λ y. same_when incident_number (y.naming.number == n) (revised doc y) y refl) e)) h.recipients.ends;
+      ends = each_weaker _ _ s.recipients (λ r e. subst (λ is. IsIncident is r.incident) (sym (is_exchange s i community doc h found)) (names_map incident_number (λ (y : Incident). if y.naming.number == n then revised community doc y else y) s.incidents r.incident (λ y. same_when incident_number (y.naming.number == n) (revised community doc y) y refl) e)) h.recipients.ends;
       targets = h.recipients.targets;
-      limit = each_put (λ (x : Incident). recipients_of x.naming.number s.recipients ≤ RECIPIENT_LIMIT) (by_number incident_number) (revised doc i) (others n s.incidents) here (each_left _ (λ (x : Incident). not (x.naming.number == n)) s.incidents h.recipients.limit);
+      limit = each_put (λ (x : Incident). recipients_of x.naming.number s.recipients ≤ RECIPIENT_LIMIT) (by_number incident_number) (revised community doc i) (others n s.incidents) here (each_left _ (λ (x : Incident). not (x.naming.number == n)) s.incidents h.recipients.limit);
     }
 
-permissions_stay : (s : State) (i : Incident) (doc : Lines) → IsSound s → incident_of i.naming.number s ≡ Some i → SoundPermissions s.directory (put_revised doc i s.incidents) (permissions_beside i.naming.number s.permissions)
-permissions_stay s i doc h found =
+permissions_stay : (s : State) (i : Incident) (community : Option ℕ) (doc : Lines) → IsSound s → incident_of i.naming.number s ≡ Some i → SoundPermissions s.directory (put_revised community doc i s.incidents) (permissions_beside i.naming.number s.permissions)
+permissions_stay s i community doc h found =
     let n = i.naming.number in
     let fewer : Each (λ (x : Incident). permissions_of x.naming.number (permissions_beside n s.permissions) ≤ PERMISSION_LIMIT) s.incidents =
     each_weaker _ _ s.incidents (λ x e. at_most _ _ PERMISSION_LIMIT (count_left (λ (y : Permission). y.incident == x.naming.number) (λ (y : Permission). not (y.incident == n)) s.permissions) e) h.permissions.limit in
     record {
       rising = pairs_left _ (λ (x : Permission). not (x.incident == n)) s.permissions h.permissions.rising;
-      places = each_passed _ _ (λ (x : Permission). not (x.incident == n)) s.permissions (λ x other e. holds_before (λ (y : Incident). is_class_in y.document x.permission.path) x.incident i doc s.incidents (not-true (x.incident == n) other) e) h.permissions.places;
+      places = each_passed _ _ (λ (x : Permission). not (x.incident == n)) s.permissions (λ x other e. holds_before (λ (y : Incident). is_class_in y.document x.permission.path) x.incident i community doc s.incidents (not-true (x.incident == n) other) e) h.permissions.places;
       grantees = each_left _ (λ (x : Permission). not (x.incident == n)) s.permissions h.permissions.grantees;
-      limit = each_put (λ (x : Incident). permissions_of x.naming.number (permissions_beside n s.permissions) ≤ PERMISSION_LIMIT) (by_number incident_number) (revised doc i) (others n s.incidents)
+      limit = each_put (λ (x : Incident). permissions_of x.naming.number (permissions_beside n s.permissions) ≤ PERMISSION_LIMIT) (by_number incident_number) (revised community doc i) (others n s.incidents)
           (found_each (λ (x : Incident). permissions_of x.naming.number (permissions_beside n s.permissions) ≤ PERMISSION_LIMIT) (λ (x : Incident). x.naming.number == n) s.incidents i found fewer) (each_left _ (λ (x : Incident). not (x.naming.number == n)) s.incidents fewer);
     }
 
@@ -212,23 +213,23 @@ permissions_stay s i doc h found =
 
 abbrev pub with_document : State → Incident → Distribution → Lines → State
 with_document s i d doc = record s {
-  incidents = put_revised doc i s.incidents;
+  incidents = put_revised d.community doc i s.incidents;
   gates = put_all i.naming.number d (gates_beside i.naming.number s.gates);
   permissions = permissions_beside i.naming.number s.permissions;
 }
 
-pub exchanged : (s : State) (i : Incident) (d : Distribution) (doc : Lines) → IsSound s → incident_of i.naming.number s ≡ Some i → MayFollow doc i → StandAtClasses d.gates doc → Wishes s.directory.groups d →
+pub exchanged : (s : State) (i : Incident) (d : Distribution) (doc : Lines) → IsSound s → incident_of i.naming.number s ≡ Some i → MayFollow doc i → StandAtClasses d.gates doc → Wishes s.directory d →
     IsSound (with_document s i d doc)
 exchanged s i d doc h found new classes wishes =
     let n = i.naming.number in
-    let incidents : List Incident = put_revised doc i s.incidents in
-    let row : Incident = revised doc i in
+    let incidents : List Incident = put_revised d.community doc i s.incidents in
+    let row : Incident = revised d.community doc i in
     let there : incident_in n incidents ≡ Some row =
     find_new (λ (x : Incident). x.naming.number == n) (by_number incident_number) row (others n s.incidents) (eq-eqb n n refl) (each_weaker _ _ (others n s.incidents) (λ x e. not-true (x.naming.number == n) e) (each_passes (λ (x : Incident). not (x.naming.number == n)) s.incidents)) in
     record {
       directory = h.directory;
-      incidents = incidents_exchanged s i doc h found new;
-      gates = given s.directory.groups incidents n d (gates_beside n s.gates) row there wishes.known (wanted_at s.directory.groups incidents n d row there wishes classes) wishes.once wishes.few (beside s i doc h);
-      recipients = recipients_stay s i doc h found;
-      permissions = permissions_stay s i doc h found;
+      incidents = incidents_exchanged s i d.community doc h found wishes.there.community new;
+      gates = given s.directory.groups incidents n d (gates_beside n s.gates) row there wishes.there.group (wanted_at s.directory incidents n d row there wishes classes) wishes.once wishes.few (beside s i d.community doc h);
+      recipients = recipients_stay s i d.community doc h found;
+      permissions = permissions_stay s i d.community doc h found;
     }

@@ -15,12 +15,16 @@ use Rattle.circle.proofs.Keeping.{each_weaker}
 use Rattle.circle.proofs.Kept as kept
 use Rattle.hub_core.specs.Aftermath.{changed}
 use Rattle.hub_core.specs.Refusals.{refusal_of}
-use Rattle.hub_core.specs.Sound.{IsSound, IsTarget, IsGrantee, IsGroupIfAny}
+use Rattle.hub_core.specs.Sound.{IsSound, IsTarget, IsGrantee, IsCommunityIfAny, IsGroupIfAny}
 use Rattle.hub_core.specs.State.{State}
 use Rattle.hub_core.specs.declared.request.Request.TheVariants as ask
 use Rattle.hub_core.specs.declared.request.Target.{Target}
 use Rattle.hub_core.specs.declared.request.Target.TheVariants as target
 use Rattle.hub_core.proofs.Commands.{rows_make}
+
+community_stays : (d e : Directory) → Grows d e → (community : Option ℕ) → IsCommunityIfAny d.communities community → IsCommunityIfAny e.communities community
+community_stays d e more None h = tt
+community_stays d e more (Some n) h = more.communities n h
 
 group_stays : (d e : Directory) → Grows d e → (g : Option ℕ) → IsGroupIfAny d.groups g → IsGroupIfAny e.groups g
 group_stays d e more None h = tt
@@ -46,6 +50,7 @@ with_directory s e h sound more =
         idents = h.incidents.idents;
         sources = each_weaker _ _ s.incidents (λ i known. more.orgs i.naming.source known) h.incidents.sources;
         revisions = h.incidents.revisions;
+        communities = each_weaker _ _ s.incidents (λ i known. community_stays d e more i.naming.community known) h.incidents.communities;
         documents = h.incidents.documents;
         follow = h.incidents.follow;
       };

@@ -17,7 +17,7 @@ use Rattle.hub_core.specs.Aftermath.{changed, next_incident, put_gates, put_next
 use Rattle.hub_core.specs.Documents.{Lines, documents_in, ident_of}
 use Rattle.hub_core.specs.Edits.{after}
 use Rattle.hub_core.specs.Refusals.{grounds, refusal_of, are_bad_gates, has_several, has_some, stand_at_classes, keep_ident, next_revision, unless_refused}
-use Rattle.hub_core.specs.Requests.{known, are_own_groups}
+use Rattle.hub_core.specs.Requests.{known, has_joined_all}
 use Rattle.hub_core.specs.Facts.{number_of}
 use Rattle.hub_core.specs.Laws.{StaysSound}
 use Rattle.hub_core.specs.Sound.{IsSound}
@@ -48,7 +48,7 @@ post_kept s a r h known fine =
     let next : next_incident s ≡ length s.incidents + 1 = next_number incident_number INCIDENT_LIMIT s.incidents h.incidents.numbered in
     let room : length s.incidents + length docs ≤ INCIDENT_LIMIT = ltb-false INCIDENT_LIMIT _ p.1.1.1.1.1.1.1.1.1.1.0 in
     let classes : stand_at_classes d.gates docs ≡ true = not-false (stand_at_classes d.gates docs) p.1.1.1.1.1.1.1.1.0 in
-    let own : are_own_groups s a d ≡ true = not-false (are_own_groups s a d) p.1.1.1.1.1.1.1.0 in
+    let own : has_joined_all s a d ≡ true = not-false (has_joined_all s a d) p.1.1.1.1.1.1.1.0 in
     let good : are_bad_gates d.gates ≡ false = (or_parts (are_bad_gates d.gates) (has_several docs && has_some d.gates) p.1.1.1.0).0 in
     posted docs s a.org (next_incident s) d h next room known
     (fit r.document docs d.gates (body_read r.document p.1.1.1.1.0) p.1.1.1.1.1.1.0 classes) p.1.1.1.1.1.0 (not_posted s a.org docs p.1.1.1.1.1.1.1.1.1.0)
@@ -66,12 +66,12 @@ one_of (doc ∷ other ∷ docs) h k = absurd (false≢true (sym h ∙ two (lengt
 
 -- what the edits of the incident, of its gates and of its permissions make
 after_replace : (s : State) (i : Incident) (n : ℕ) (d : Distribution) (docs : List Lines) (doc : Lines) → i.naming.number ≡ n → incident_of n s ≡ Some i → docs ≡ doc ∷ [] →
-    after (put_next n (option_map known (incident_of n s)) docs ++ TakePolicy n ∷ put_gates n d) s ≡ with_document s i d doc
+    after (put_next n (option_map known (incident_of n s)) d.community docs ++ TakePolicy n ∷ put_gates n d) s ≡ with_document s i d doc
 after_replace s i n d docs doc same found one =
-    subst (λ m. after (put_next m (option_map known (incident_of n s)) docs ++ TakePolicy m ∷ put_gates m d) s ≡ with_document s i d doc) same
-    (ap (λ o. after (put_next i.naming.number (option_map known o) docs ++ TakePolicy i.naming.number ∷ put_gates i.naming.number d) s) found
-    ∙ (ap (λ ds. after (put_revision i.naming.number (known i) ds ++ TakePolicy i.naming.number ∷ put_gates i.naming.number d) s) one
-    ∙ after_gates i.naming.number d (after (put_revision i.naming.number (known i) (doc ∷ []) ++ TakePolicy i.naming.number ∷ []) s)))
+    subst (λ m. after (put_next m (option_map known (incident_of n s)) d.community docs ++ TakePolicy m ∷ put_gates m d) s ≡ with_document s i d doc) same
+    (ap (λ o. after (put_next i.naming.number (option_map known o) d.community docs ++ TakePolicy i.naming.number ∷ put_gates i.naming.number d) s) found
+    ∙ (ap (λ ds. after (put_revision i.naming.number (known i) d.community ds ++ TakePolicy i.naming.number ∷ put_gates i.naming.number d) s) one
+    ∙ after_gates i.naming.number d (after (put_revision i.naming.number (known i) d.community (doc ∷ []) ++ TakePolicy i.naming.number ∷ []) s)))
 
 replace_kept : (s : State) (a : Person) (r : Replace) → IsSound s → refusal_of s a (ask.Replace r) ≡ None → IsSound (changed s a (ask.Replace r))
 replace_kept s a r h fine =
@@ -85,7 +85,7 @@ replace_kept s a r h fine =
     let read : reading r.document ≡ Ok docs = body_read r.document p.1.1.1.1.0 in
     let one = one_of docs p.1.1.1.1.1.0 (reported r.document docs read).some in
     let classes : stand_at_classes d.gates docs ≡ true = not-false (stand_at_classes d.gates docs) p.1.1.1.1.1.1.1.1.1.0 in
-    let own : are_own_groups s a d ≡ true = not-false (are_own_groups s a d) p.1.1.1.1.1.1.1.1.0 in
+    let own : has_joined_all s a d ≡ true = not-false (has_joined_all s a d) p.1.1.1.1.1.1.1.1.0 in
     let kept : keep_ident (option_map known (incident_of n s)) docs ≡ true = not-false (keep_ident (option_map known (incident_of n s)) docs) p.1.1.1.1.1.1.1.1.1.1.0 in
     let few : number_of d.gates ≤ GATE_LIMIT = subst (λ m. m ≤ GATE_LIMIT) (counted_is s n i (λ m. number_of d.gates) found) (ltb-false GATE_LIMIT _ p.1.1.1.1.1.1.1.1.1.1.1.1.1.0) in
     let room : next_revision (option_map known (incident_of n s)) ≤ REVISION_LIMIT = ltb-false REVISION_LIMIT _ p.1.1.1.1.1.1.1.1.1.1.1.1.0 in

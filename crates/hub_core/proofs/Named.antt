@@ -7,16 +7,16 @@ use Rattle.std.specs.Option.{option_map_or}
 use Rattle.iodef_tree.specs.Text.{Bytes, Tokens}
 use Rattle.policy.specs.declared.permission.Grantee.{Grantee}
 use Rattle.policy.specs.declared.permission.Grantee.TheVariants as grantee
-use Rattle.circle.specs.Directory.{Directory, has_group_member}
+use Rattle.circle.specs.Directory.{Directory, has_group_member, has_membership}
 use Rattle.circle.specs.Sound as circle
-use Rattle.circle.specs.Sound.{Each, IsGroup}
+use Rattle.circle.specs.Sound.{Each, IsCommunity, IsGroup}
 use Rattle.circle.specs.declared.directory.Person.{Person}
 use Rattle.circle.proofs.Keeping.{found_then, each_weaker}
 use Rattle.hub_core.specs.Refusals.{is_own}
-use Rattle.hub_core.specs.Requests.{known, is_own_group, are_own_groups, is_target, is_grantee}
+use Rattle.hub_core.specs.Requests.{known, is_own_community, is_own_group, are_own_groups, has_joined_all, is_target, is_grantee}
 use Rattle.hub_core.specs.Facts.{counted}
 use Rattle.hub_core.specs.Documents.{Lines, at_pointer}
-use Rattle.hub_core.specs.Sound.{IsIncident, IsTarget, IsGrantee, IsGroupIfAny}
+use Rattle.hub_core.specs.Sound.{IsIncident, IsTarget, IsGrantee, IsCommunityIfAny, IsGroupIfAny}
 use Rattle.hub_core.specs.State.{State, incident_of}
 use Rattle.hub_core.specs.declared.request.Distribution.{Distribution}
 use Rattle.hub_core.specs.declared.request.Target.{Target}
@@ -81,8 +81,28 @@ group_if_any s a None h k = tt
 group_if_any s a (Some n) h k = group_is s.directory n a.org h k
 
 -- the groups of an incident's gates are there
-pub groups_are : (s : State) (a : Person) (d : Distribution) → circle.IsSound s.directory → are_own_groups s a d ≡ true →
+groups_are : (s : State) (a : Person) (d : Distribution) → circle.IsSound s.directory → are_own_groups s a d ≡ true →
     IsGroupIfAny s.directory.groups d.group × Each (λ (g : WantedGate). IsGroupIfAny s.directory.groups g.group) d.gates
 groups_are s a d h k =
     let parts = and_parts (is_own_group s a d.group) (list_all (λ (g : WantedGate). is_own_group s a g.group) d.gates) k in
     (group_if_any s a d.group h parts.0, each_weaker _ _ d.gates (λ g e. group_if_any s a g.group h e) (all_each (λ (g : WantedGate). is_own_group s a g.group) d.gates parts.1))
+
+-- a community with a member is there
+community_is : (d : Directory) (n org : ℕ) → circle.IsSound d → has_membership n org d ≡ true → IsCommunity d.communities n
+community_is d n org h member = found_then _ _ (IsCommunity d.communities n) d.memberships (λ m is e. subst (IsCommunity d.communities) (eqb-true m.community n (and_parts (m.community == n) (m.org == org) is).0) e.0) member h.memberships.ends
+
+community_if_any : (s : State) (a : Person) (community : Option ℕ) → circle.IsSound s.directory → is_own_community s a community ≡ true → IsCommunityIfAny s.directory.communities community
+community_if_any s a None h k = tt
+community_if_any s a (Some n) h k = community_is s.directory n a.org h k
+
+-- so are the community and the groups that a distribution names
+pub record AreThere (directory : Directory) (d : Distribution) : Type 0 where
+  pub community : IsCommunityIfAny directory.communities d.community
+  pub group : IsGroupIfAny directory.groups d.group
+  pub groups : Each (λ (g : WantedGate). IsGroupIfAny directory.groups g.group) d.gates
+
+pub all_there : (s : State) (a : Person) (d : Distribution) → circle.IsSound s.directory → has_joined_all s a d ≡ true → AreThere s.directory d
+all_there s a d h k =
+    let parts = and_parts (is_own_community s a d.community) (are_own_groups s a d) k in
+    let groups = groups_are s a d h parts.1 in
+    record { community = community_if_any s a d.community h parts.0; group = groups.0; groups = groups.1 }

@@ -108,10 +108,10 @@ module _ (P : Edit → Type 0) where
 gates_spare : (n m : ℕ) (d : Distribution) → (m == n) ≡ false → Each (Spares n) (put_gates m d)
 gates_spare n m d h = (h, each_wanted (Spares n) m d.gates (λ g p. (h, tt)))
 
-next_spares : (n m : ℕ) (k : Option IncidentFacts) (docs : List Lines) → (m == n) ≡ false → Each (Spares n) (put_next m k docs)
-next_spares n m None docs h = tt
-next_spares n m (Some k) [] h = tt
-next_spares n m (Some k) (doc ∷ docs) h = (h, (h, tt))
+next_spares : (n m : ℕ) (k : Option IncidentFacts) (community : Option ℕ) (docs : List Lines) → (m == n) ≡ false → Each (Spares n) (put_next m k community docs)
+next_spares n m None community docs h = tt
+next_spares n m (Some k) community [] h = tt
+next_spares n m (Some k) community (doc ∷ docs) h = (h, (h, tt))
 
 -- numbers from one on that is above it
 incidents_spare : (n source m : ℕ) (d : Distribution) (docs : List Lines) → n + 1 ≤ m → Each (Spares n) (put_incidents source m d docs)
@@ -147,8 +147,8 @@ all_spared s a (ask.Replace r) i h found other fine =
     let apart : (n == i.naming.number) ≡ false = not_theirs s a n i found other p.1.1.1.1.1.1.1.0 in
     let docs = documents_in r.document in
     let k = option_map known (incident_of n s) in
-    each_append (Spares i.naming.number) (put_next n k docs) (TakePolicy n ∷ put_gates n r.distribution)
-    (next_spares i.naming.number n k docs apart)
+    each_append (Spares i.naming.number) (put_next n k r.distribution.community docs) (TakePolicy n ∷ put_gates n r.distribution)
+    (next_spares i.naming.number n k r.distribution.community docs apart)
     (apart, gates_spare i.naming.number n r.distribution apart)
 all_spared s a (ask.Redistribute r) i h found other fine =
     let p = passed (grounds s a (ask.Redistribute r)) fine in
@@ -213,17 +213,17 @@ keeps (edit ∷ edits) s h =
     let rest = keeps edits (edited edit s) h.1 in
     record { recipients = rest.recipients ∙ first.recipients; permissions = rest.permissions ∙ first.permissions }
 
-next_plain : (n : ℕ) (k : Option IncidentFacts) (docs : List Lines) → Each IsPlain (put_next n k docs)
-next_plain n None docs = tt
-next_plain n (Some k) [] = tt
-next_plain n (Some k) (doc ∷ docs) = (tt, (tt, tt))
+next_plain : (n : ℕ) (k : Option IncidentFacts) (community : Option ℕ) (docs : List Lines) → Each IsPlain (put_next n k community docs)
+next_plain n None community docs = tt
+next_plain n (Some k) community [] = tt
+next_plain n (Some k) community (doc ∷ docs) = (tt, (tt, tt))
 
-replaced : (s : State) (n : ℕ) (d : Distribution) (k : Option IncidentFacts) (docs : List Lines) → EndsPermissions n s (after (put_next n k docs ++ TakePolicy n ∷ put_gates n d) s)
+replaced : (s : State) (n : ℕ) (d : Distribution) (k : Option IncidentFacts) (docs : List Lines) → EndsPermissions n s (after (put_next n k d.community docs ++ TakePolicy n ∷ put_gates n d) s)
 replaced s n d k docs =
-    let first = put_next n k docs in
+    let first = put_next n k d.community docs in
     let t : State = after first s in
     let u : State = edited (TakePolicy n) t in
-    let one = keeps first s (next_plain n k docs) in
+    let one = keeps first s (next_plain n k d.community docs) in
     let two = keeps (put_gates n d) u (tt, each_wanted IsPlain n d.gates (λ g p. (tt, tt))) in
     let all : after (first ++ TakePolicy n ∷ put_gates n d) s ≡ after (put_gates n d) u = after_append first (TakePolicy n ∷ put_gates n d) s in
     record {

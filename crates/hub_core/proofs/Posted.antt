@@ -9,14 +9,14 @@ use Rattle.iodef_tree.specs.Json.{incident_id}
 use Rattle.iodef_tree.specs.Pointer.{pointer_tokens}
 use Rattle.circle.specs.Ordered.{put_by, by_number}
 use Rattle.circle.specs.Sound.{Each, CountsFrom, IsOrg}
-use Rattle.circle.specs.declared.directory.Group.{Group}
+use Rattle.circle.specs.Directory.{Directory}
 use Rattle.circle.proofs.Keeping.{each_put, each_weaker, pairs_put, numbered_put, length_put, any_put, names_within, pair_apart}
 use Rattle.hub_core.specs.declared.TheConstants.{INCIDENT_LIMIT, GATE_LIMIT, RECIPIENT_LIMIT, PERMISSION_LIMIT}
 use Rattle.hub_core.specs.Aftermath.{put_incident, put_incidents}
 use Rattle.hub_core.specs.Documents.{Lines, ident_of, at_pointer, is_class_in}
 use Rattle.hub_core.specs.Edits.{after}
 use Rattle.hub_core.specs.Refusals.{stands_twice}
-use Rattle.hub_core.specs.Sound.{IsSound, SoundIncidents, SoundRecipients, SoundPermissions, IsAccepted, IsIncident, IsGroupIfAny}
+use Rattle.hub_core.specs.Sound.{IsSound, SoundIncidents, SoundRecipients, SoundPermissions, IsAccepted, IsIncident, IsCommunityIfAny, IsGroupIfAny}
 use Rattle.hub_core.specs.State.{State, incident_number, incident_in, root_gates, class_gates, recipients_of, permissions_of}
 use Rattle.hub_core.specs.declared.request.Distribution.{Distribution}
 use Rattle.hub_core.specs.declared.request.WantedGate.{WantedGate}
@@ -24,14 +24,13 @@ use Rattle.hub_core.specs.declared.state.Incident.{Incident}
 use Rattle.hub_core.specs.declared.state.Recipient.{Recipient}
 use Rattle.hub_core.specs.declared.state.Permission.{Permission}
 use Rattle.hub_core.proofs.Gated.{IsWanted, IsBeside, put_all, after_append, after_gates, given}
-use Rattle.hub_core.proofs.Named.{some_is}
+use Rattle.hub_core.proofs.Named.{AreThere, some_is}
 use Rattle.hub_core.proofs.Keeping.{never, turned, found_any, found_passing, find_put, find_new, count_none}
 
 -- ---- what is asked for every incident alike
 
-pub record Wishes (groups : List Group) (d : Distribution) : Type 0 where
-  pub known : IsGroupIfAny groups d.group
-  pub groups_known : Each (λ (w : WantedGate). IsGroupIfAny groups w.group) d.gates
+pub record Wishes (directory : Directory) (d : Distribution) : Type 0 where
+  pub there : AreThere directory d
   pub below : Each (λ (w : WantedGate). at_pointer is_root w.path ≡ false) d.gates
   pub once : stands_twice (map (λ (w : WantedGate). w.path) d.gates) ≡ false
   pub few : length d.gates ≤ GATE_LIMIT
@@ -50,11 +49,11 @@ class_at o i None h k = k
 class_at o i (Some p) h k = ap (λ o. option_map_or (λ (x : Incident). is_class_in x.document p) o false) h ∙ k
 
 -- they stand at classes of the incident that has the document
-pub wanted_at : (groups : List Group) (incidents : List Incident) (n : ℕ) (d : Distribution) (i : Incident) → incident_in n incidents ≡ Some i → Wishes groups d → StandAtClasses d.gates i.document →
-    Each (IsWanted groups incidents n) d.gates
-wanted_at groups incidents n d i found wishes classes = go d.gates wishes.groups_known wishes.below classes
+pub wanted_at : (directory : Directory) (incidents : List Incident) (n : ℕ) (d : Distribution) (i : Incident) → incident_in n incidents ≡ Some i → Wishes directory d → StandAtClasses d.gates i.document →
+    Each (IsWanted directory.groups incidents n) d.gates
+wanted_at directory incidents n d i found wishes classes = go d.gates wishes.there.groups wishes.below classes
   where
-    go : (ws : List WantedGate) → Each (λ (w : WantedGate). IsGroupIfAny groups w.group) ws → Each (λ (w : WantedGate). at_pointer is_root w.path ≡ false) ws → StandAtClasses ws i.document → Each (IsWanted groups incidents n) ws
+    go : (ws : List WantedGate) → Each (λ (w : WantedGate). IsGroupIfAny directory.groups w.group) ws → Each (λ (w : WantedGate). at_pointer is_root w.path ≡ false) ws → StandAtClasses ws i.document → Each (IsWanted directory.groups incidents n) ws
     go [] a b c = tt
     go (w ∷ ws) a b c = (record { group = a.0; place = class_at (incident_in n incidents) i (pointer_tokens w.path) found c.0; below = b.0 }, go ws a.1 b.1 c.1)
 
@@ -89,16 +88,16 @@ stays test m x xs other h = ap (λ o. option_map_or test o false) (find_put (λ 
 abbrev pub IsNew : ℕ → List Incident → Lines → Type 0
 IsNew source incidents doc = Each (λ (i : Incident). (i.naming.source == source && bytes_eq i.naming.ident (ident_of doc)) ≡ false) incidents
 
-abbrev new_row : ℕ → ℕ → Lines → Incident
-new_row source n doc = record { naming = record { number = n; source = source; ident = ident_of doc; revision = 1 }; document = doc }
+abbrev new_row : ℕ → ℕ → Option ℕ → Lines → Incident
+new_row source n community doc = record { naming = record { number = n; source = source; ident = ident_of doc; revision = 1; community = community }; document = doc }
 
-abbrev put_row : ℕ → ℕ → Lines → List Incident → List Incident
-put_row source n doc incidents = put_by (by_number incident_number) (new_row source n doc) incidents
+abbrev put_row : ℕ → ℕ → Option ℕ → Lines → List Incident → List Incident
+put_row source n community doc incidents = put_by (by_number incident_number) (new_row source n community doc) incidents
 
-incidents_put : (s : State) (source n : ℕ) (wanted : List WantedGate) (doc : Lines) → IsSound s → n ≡ length s.incidents + 1 → length s.incidents < INCIDENT_LIMIT → IsOrg s.directory.orgs source → IsFit wanted doc → IsNew source s.incidents doc →
-    SoundIncidents s.directory (put_row source n doc s.incidents)
-incidents_put s source n wanted doc h next room known fit new =
-    let row : Incident = new_row source n doc in
+incidents_put : (s : State) (source n : ℕ) (community : Option ℕ) (wanted : List WantedGate) (doc : Lines) → IsSound s → n ≡ length s.incidents + 1 → length s.incidents < INCIDENT_LIMIT → IsOrg s.directory.orgs source → IsCommunityIfAny s.directory.communities community → IsFit wanted doc → IsNew source s.incidents doc →
+    SoundIncidents s.directory (put_row source n community doc s.incidents)
+incidents_put s source n community wanted doc h next room known there fit new =
+    let row : Incident = new_row source n community doc in
     record {
       numbered = numbered_put incident_number INCIDENT_LIMIT row s.incidents next room h.incidents.numbered;
       idents = pairs_put _ (by_number incident_number) row s.incidents (each_weaker _ _ s.incidents (λ i e. (
@@ -107,13 +106,14 @@ incidents_put s source n wanted doc h next room known fit new =
       )) new) h.incidents.idents;
       sources = each_put _ (by_number incident_number) row s.incidents known h.incidents.sources;
       revisions = each_put _ (by_number incident_number) row s.incidents (omega arith) h.incidents.revisions;
+      communities = each_put _ (by_number incident_number) row s.incidents there h.incidents.communities;
       documents = each_put _ (by_number incident_number) row s.incidents fit.accepted h.incidents.documents;
       follow = each_put _ (by_number incident_number) row s.incidents fit.named h.incidents.follow;
     }
 
-beside : (s : State) (source n : ℕ) (doc : Lines) → IsSound s → n ≡ length s.incidents + 1 → IsBeside s.directory.groups (put_row source n doc s.incidents) n s.gates
-beside s source n doc h next =
-    let row : Incident = new_row source n doc in
+beside : (s : State) (source n : ℕ) (community : Option ℕ) (doc : Lines) → IsSound s → n ≡ length s.incidents + 1 → IsBeside s.directory.groups (put_row source n community doc s.incidents) n s.gates
+beside s source n community doc h next =
+    let row : Incident = new_row source n community doc in
     record {
       rising = h.gates.rising;
       places = each_weaker _ _ s.gates (λ g e. let test = λ (i : Incident). is_root g.gate.path || is_class_in i.document g.gate.path in stays test g.incident row s.incidents (not_new_of s n g.incident test h next e) e) h.gates.places;
@@ -126,9 +126,9 @@ beside s source n doc h next =
 zero_low : (n limit : ℕ) → n ≡ 0 → n ≤ limit
 zero_low n limit h = omega arith
 
-recipients_put : (s : State) (source n : ℕ) (doc : Lines) → IsSound s → n ≡ length s.incidents + 1 → SoundRecipients s.directory (put_row source n doc s.incidents) s.recipients
-recipients_put s source n doc h next =
-    let row : Incident = new_row source n doc in
+recipients_put : (s : State) (source n : ℕ) (community : Option ℕ) (doc : Lines) → IsSound s → n ≡ length s.incidents + 1 → SoundRecipients s.directory (put_row source n community doc s.incidents) s.recipients
+recipients_put s source n community doc h next =
+    let row : Incident = new_row source n community doc in
     let none : recipients_of n s.recipients ≡ 0 = count_none (λ (r : Recipient). r.incident == n) s.recipients (each_weaker _ _ s.recipients (λ r e. not_new s n r.incident h next e) h.recipients.ends) in
     record {
       rising = h.recipients.rising;
@@ -137,9 +137,9 @@ recipients_put s source n doc h next =
       limit = each_put (λ (i : Incident). recipients_of i.naming.number s.recipients ≤ RECIPIENT_LIMIT) (by_number incident_number) row s.incidents (zero_low _ RECIPIENT_LIMIT none) h.recipients.limit;
     }
 
-permissions_put : (s : State) (source n : ℕ) (doc : Lines) → IsSound s → n ≡ length s.incidents + 1 → SoundPermissions s.directory (put_row source n doc s.incidents) s.permissions
-permissions_put s source n doc h next =
-    let row : Incident = new_row source n doc in
+permissions_put : (s : State) (source n : ℕ) (community : Option ℕ) (doc : Lines) → IsSound s → n ≡ length s.incidents + 1 → SoundPermissions s.directory (put_row source n community doc s.incidents) s.permissions
+permissions_put s source n community doc h next =
+    let row : Incident = new_row source n community doc in
     let none : permissions_of n s.permissions ≡ 0 = count_none (λ (x : Permission). x.incident == n) s.permissions (each_weaker _ _ s.permissions (λ x e. not_new_of s n x.incident (λ (i : Incident). is_class_in i.document x.permission.path) h next e) h.permissions.places) in
     record {
       rising = h.permissions.rising;
@@ -153,41 +153,41 @@ no_number s n h next = each_weaker (λ (i : Incident). i.naming.number ≤ 0 + l
 
 -- what the edits of one document make
 abbrev with_one : ℕ → ℕ → Distribution → Lines → State → State
-with_one source n d doc s = record s { incidents = put_row source n doc s.incidents; gates = put_all n d s.gates }
+with_one source n d doc s = record s { incidents = put_row source n d.community doc s.incidents; gates = put_all n d s.gates }
 
 after_one : (source n : ℕ) (d : Distribution) (doc : Lines) (s : State) → after (put_incident source n d doc) s ≡ with_one source n d doc s
-after_one source n d doc s = after_gates n d (record s { incidents = put_row source n doc s.incidents })
+after_one source n d doc s = after_gates n d (record s { incidents = put_row source n d.community doc s.incidents })
 
 posted_one : (s : State) (source n : ℕ) (d : Distribution) (doc : Lines) → IsSound s → n ≡ length s.incidents + 1 → length s.incidents < INCIDENT_LIMIT → IsOrg s.directory.orgs source → IsFit d.gates doc →
-    IsNew source s.incidents doc → Wishes s.directory.groups d → IsSound (with_one source n d doc s)
+    IsNew source s.incidents doc → Wishes s.directory d → IsSound (with_one source n d doc s)
 posted_one s source n d doc h next room known fit new wishes =
-    let row : Incident = new_row source n doc in
-    let incidents : List Incident = put_row source n doc s.incidents in
+    let row : Incident = new_row source n d.community doc in
+    let incidents : List Incident = put_row source n d.community doc s.incidents in
     let found : incident_in n incidents ≡ Some row = find_new (λ (i : Incident). i.naming.number == n) (by_number incident_number) row s.incidents (eq-eqb n n refl) (no_number s n h next) in
     record {
       directory = h.directory;
-      incidents = incidents_put s source n d.gates doc h next room known fit new;
-      gates = given s.directory.groups incidents n d s.gates row found wishes.known (wanted_at s.directory.groups incidents n d row found wishes fit.classes) wishes.once wishes.few (beside s source n doc h next);
-      recipients = recipients_put s source n doc h next;
-      permissions = permissions_put s source n doc h next;
+      incidents = incidents_put s source n d.community d.gates doc h next room known wishes.there.community fit new;
+      gates = given s.directory.groups incidents n d s.gates row found wishes.there.group (wanted_at s.directory incidents n d row found wishes fit.classes) wishes.once wishes.few (beside s source n d.community doc h next);
+      recipients = recipients_put s source n d.community doc h next;
+      permissions = permissions_put s source n d.community doc h next;
     }
 
 -- ---- one document after another
 
 -- a document behind one of another ident is new there too
-still_new : (source n : ℕ) (doc : Lines) (incidents : List Incident) (docs : List Lines) → list_any (bytes_eq (ident_of doc)) (map ident_of docs) ≡ false → Each (IsNew source incidents) docs → Each (IsNew source (put_row source n doc incidents)) docs
-still_new source n doc incidents [] differ new = tt
-still_new source n doc incidents (d ∷ ds) differ new =
+still_new : (source n : ℕ) (community : Option ℕ) (doc : Lines) (incidents : List Incident) (docs : List Lines) → list_any (bytes_eq (ident_of doc)) (map ident_of docs) ≡ false → Each (IsNew source incidents) docs → Each (IsNew source (put_row source n community doc incidents)) docs
+still_new source n community doc incidents [] differ new = tt
+still_new source n community doc incidents (d ∷ ds) differ new =
     let parts = or_parts (bytes_eq (ident_of doc) (ident_of d)) (list_any (bytes_eq (ident_of doc)) (map ident_of ds)) differ in
-    (each_put (λ (i : Incident). (i.naming.source == source && bytes_eq i.naming.ident (ident_of d)) ≡ false) (by_number incident_number) (new_row source n doc) incidents (and_right (source == source) (bytes_eq (ident_of doc) (ident_of d)) parts.0) new.0, still_new source n doc incidents ds parts.1 new.1)
+    (each_put (λ (i : Incident). (i.naming.source == source && bytes_eq i.naming.ident (ident_of d)) ≡ false) (by_number incident_number) (new_row source n community doc) incidents (and_right (source == source) (bytes_eq (ident_of doc) (ident_of d)) parts.0) new.0, still_new source n community doc incidents ds parts.1 new.1)
 
 pub posted : (docs : List Lines) (s : State) (source n : ℕ) (d : Distribution) → IsSound s → n ≡ length s.incidents + 1 → length s.incidents + length docs ≤ INCIDENT_LIMIT → IsOrg s.directory.orgs source →
-    Each (IsFit d.gates) docs → stands_twice (map ident_of docs) ≡ false → Each (IsNew source s.incidents) docs → Wishes s.directory.groups d → IsSound (after (put_incidents source n d docs) s)
+    Each (IsFit d.gates) docs → stands_twice (map ident_of docs) ≡ false → Each (IsNew source s.incidents) docs → Wishes s.directory d → IsSound (after (put_incidents source n d docs) s)
 posted [] s source n d h next room known fit once new wishes = h
 posted (doc ∷ docs) s source n d h next room known fit once new wishes =
     let t : State = with_one source n d doc s in
     let parts = or_parts (list_any (bytes_eq (ident_of doc)) (map ident_of docs)) (stands_twice (map ident_of docs)) once in
-    let long : length t.incidents ≡ length s.incidents + 1 = length_put (by_number incident_number) (new_row source n doc) s.incidents in
+    let long : length t.incidents ≡ length s.incidents + 1 = length_put (by_number incident_number) (new_row source n d.community doc) s.incidents in
     let sound : IsSound t = posted_one s source n d doc h next (omega (arith, room)) known fit.0 new.0 wishes in
     subst IsSound (sym (after_append (put_incident source n d doc) (put_incidents source (n + 1) d docs) s ∙ ap (after (put_incidents source (n + 1) d docs)) (after_one source n d doc s)))
-    (posted docs t source (n + 1) d sound (omega (arith, next, long)) (omega (arith, room, long)) known fit.1 parts.1 (still_new source n doc s.incidents docs parts.0 new.1) wishes)
+    (posted docs t source (n + 1) d sound (omega (arith, next, long)) (omega (arith, room, long)) known fit.1 parts.1 (still_new source n d.community doc s.incidents docs parts.0 new.1) wishes)

@@ -1,6 +1,5 @@
 -- How a standing is made of what is looked up.
 use Rattle.std.proofs.Common.{◌≡◌, ℕ, List, ◌==◌, ◌||◌, filter, Option, Some, None, refl, sym, ap, ◌∙◌}
-use Rattle.std.proofs.lemmas.Bool.{eqb-true}
 use Rattle.std.specs.Prelude.{ℤ, option_map, option_and_then}
 use Rattle.std.specs.List.{list_any}
 use Rattle.circle.specs.Reads.{orgs_whose_client, person_of}
@@ -16,7 +15,6 @@ use Rattle.hub_core.specs.declared.request.Target.TheVariants as target
 use Rattle.hub_core.specs.declared.state.Incident.{Incident}
 use Rattle.hub_core.specs.declared.state.Naming.{Naming}
 use Rattle.hub_core.proofs.Counted.{any_same, target_among}
-use Rattle.hub_core.proofs.Keeping.{found_is}
 use Rattle.hub_core.proofs.Twins.{any_map}
 
 -- one of those that an organisation is a client of is the source, or addressed
@@ -31,13 +29,13 @@ client_is s i org n source served targets number from serves to =
     ∙ (any_map (λ o. o == i.naming.source || has_recipient i.naming.number (target.Org o) s) (λ (c : Client). c.org) (filter (λ (c : Client). c.client == org) s.directory.clients)
     ∙ any_having (λ (c : Client). c.client == org) (λ (c : Client). c.org == i.naming.source || has_recipient i.naming.number (target.Org c.org) s) s.directory.clients)))))
 
--- a standing to each incident of this number and source is that to the one that was found
+-- a standing to each incident of this naming is that to the one that was found
 pub standing_is : (s : State) (person n : ℕ) (now : ℤ) (reader : Person) (k : Naming) (standing : Standing) → Some reader ≡ person_of person s.directory → Some k ≡ naming_of n s →
-    ((i : Incident) → i.naming.number ≡ n → i.naming.source ≡ k.source → standing ≡ standing_for s now reader i) → Some standing ≡ standing_of person n now s
+    ((i : Incident) → i.naming ≡ k → standing ≡ standing_for s now reader i) → Some standing ≡ standing_of person n now s
 standing_is s person n now reader k standing found is each =
     split (incident_of n s) refl is
     ∙ ap (option_and_then (λ (p : Person). option_map (standing_for s now p) (incident_of n s))) found
   where
     split : (o : Option Incident) → incident_of n s ≡ o → Some k ≡ option_map (λ (i : Incident). i.naming) o → Some standing ≡ option_map (standing_for s now reader) o
     split None e h = cc
-    split (Some i) e h = ap Some (each i (eqb-true i.naming.number n (found_is (λ (i : Incident). i.naming.number == n) s.incidents i e)) (let same : k ≡ i.naming = cc in ap (λ (x : Naming). x.source) (sym same)))
+    split (Some i) e h = ap Some (each i (let same : k ≡ i.naming = cc in sym same))

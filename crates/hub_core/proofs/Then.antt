@@ -41,28 +41,28 @@ gates_leave get same n (g ∷ gates) s =
 
 -- an incident that is exchanged
 next_leaves : {X : Type 0} (get : State → X) → ((n : ℕ) (s : State) → get (edited (edit.TakeIncident n) s) ≡ get s) → ((i : Incident) (s : State) → get (edited (edit.PutIncident i) s) ≡ get s) →
-    (n : ℕ) (k : Option IncidentFacts) (docs : List Lines) (s : State) → get (after (put_next n k docs) s) ≡ get s
-next_leaves get taken put n None docs s = refl
-next_leaves get taken put n (Some k) [] s = refl
-next_leaves get taken put n (Some k) (doc ∷ docs) s = put (next_row n k doc) (edited (edit.TakeIncident n) s) ∙ taken n s
+    (n : ℕ) (k : Option IncidentFacts) (community : Option ℕ) (docs : List Lines) (s : State) → get (after (put_next n k community docs) s) ≡ get s
+next_leaves get taken put n None community docs s = refl
+next_leaves get taken put n (Some k) community [] s = refl
+next_leaves get taken put n (Some k) community (doc ∷ docs) s = put (next_row n k community doc) (edited (edit.TakeIncident n) s) ∙ taken n s
 
 pub exchanged_recipients : (k : Option IncidentFacts) (docs : List Lines) (n : ℕ) (d : Distribution) (s : State) →
-    (let t : State = after (put_next n k docs ++ edit.TakePolicy n ∷ put_gates n d) s in t.recipients) ≡ s.recipients
+    (let t : State = after (put_next n k d.community docs ++ edit.TakePolicy n ∷ put_gates n d) s in t.recipients) ≡ s.recipients
 exchanged_recipients k docs n d s =
     let get : State → List Recipient = λ s. s.recipients in
-    let t : State = after (put_next n k docs) s in
-    ap get (after_append (put_next n k docs) (edit.TakePolicy n ∷ put_gates n d) s)
+    let t : State = after (put_next n k d.community docs) s in
+    ap get (after_append (put_next n k d.community docs) (edit.TakePolicy n ∷ put_gates n d) s)
     ∙ (gates_leave get (λ g u. refl) n d.gates (edited (edit.PutGate (record { incident = n; gate = record { path = []; level = d.level; group = d.group } })) (edited (edit.TakePolicy n) t))
-    ∙ next_leaves get (λ m u. refl) (λ i u. refl) n k docs s)
+    ∙ next_leaves get (λ m u. refl) (λ i u. refl) n k d.community docs s)
 
 pub exchanged_permissions : (k : Option IncidentFacts) (docs : List Lines) (n : ℕ) (d : Distribution) (s : State) →
-    (let t : State = after (put_next n k docs ++ edit.TakePolicy n ∷ put_gates n d) s in t.permissions) ≡ filter (λ (x : Permission). not (x.incident == n)) s.permissions
+    (let t : State = after (put_next n k d.community docs ++ edit.TakePolicy n ∷ put_gates n d) s in t.permissions) ≡ filter (λ (x : Permission). not (x.incident == n)) s.permissions
 exchanged_permissions k docs n d s =
     let get : State → List Permission = λ s. s.permissions in
-    let t : State = after (put_next n k docs) s in
-    ap get (after_append (put_next n k docs) (edit.TakePolicy n ∷ put_gates n d) s)
+    let t : State = after (put_next n k d.community docs) s in
+    ap get (after_append (put_next n k d.community docs) (edit.TakePolicy n ∷ put_gates n d) s)
     ∙ (gates_leave get (λ g u. refl) n d.gates (edited (edit.PutGate (record { incident = n; gate = record { path = []; level = d.level; group = d.group } })) (edited (edit.TakePolicy n) t))
-    ∙ ap (filter (λ (x : Permission). not (x.incident == n))) (next_leaves get (λ m u. refl) (λ i u. refl) n k docs s))
+    ∙ ap (filter (λ (x : Permission). not (x.incident == n))) (next_leaves get (λ m u. refl) (λ i u. refl) n k d.community docs s))
 
 nowhere : (b : Bool) → (not b && b) ≡ false
 nowhere true = refl

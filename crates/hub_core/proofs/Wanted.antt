@@ -1,5 +1,5 @@
 -- What is asked of the gates of a request, and what is put of them, is told by their paths.
-use Rattle.std.proofs.Common.{◌≡◌, ℕ, List, [], ◌∷◌, ◌++◌, Bool, ◌&&◌, map, Option, append_assoc, refl, ap, ◌∙◌}
+use Rattle.std.proofs.Common.{◌≡◌, ℕ, List, [], ◌∷◌, ◌++◌, Bool, ◌&&◌, map, Option, None, append_assoc, refl, ap, ◌∙◌}
 use Rattle.std.specs.List.{list_all, flat_map}
 use Rattle.iodef_tree.proofs.Inverse.{pointer_tokens-pointer_text}
 use Rattle.policy.specs.declared.gate.Gate.{Gate}
@@ -29,10 +29,10 @@ stand_seen gates inner wanted docs b same seen is = is ∙ stand_in_each gates d
 
 -- what is put of gates that are seen as these, behind the gate at the root
 pub put_seen : (n level : ℕ) (group : Option ℕ) (gates inner : List Gate) (wanted : List WantedGate) (before rooted after : List Edit) → gates ≡ inner → map asked_as inner ≡ wanted →
-    rooted ≡ before ++ put_gate n level group [] → after ≡ rooted ++ map (put_at n) gates → after ≡ before ++ put_gates n (record { level = level; group = group; gates = wanted })
+    rooted ≡ before ++ put_gate n level group [] → after ≡ rooted ++ map (put_at n) gates → after ≡ before ++ put_gates n (record { community = None; level = level; group = group; gates = wanted })
 put_seen n level group gates inner wanted before rooted after same seen root put =
     let root_gate : List Edit = put_gate n level group [] in
     put ∙ ap (λ (es : List Edit). es ++ map (put_at n) gates) root
     ∙ append_assoc before root_gate (map (put_at n) gates)
     ∙ ap (λ (es : List Edit). before ++ (root_gate ++ es)) (put_each n gates)
-    ∙ ap (λ (ws : List WantedGate). before ++ put_gates n (record { level = level; group = group; gates = ws })) (ap (map asked_as) same ∙ seen)
+    ∙ ap (λ (ws : List WantedGate). before ++ put_gates n (record { community = None; level = level; group = group; gates = ws })) (ap (map asked_as) same ∙ seen)

@@ -20,7 +20,7 @@ use Rattle.circle.specs.declared.directory.Account.{Account}
 use Rattle.hub_core.specs.Documents.{Lines}
 use Rattle.hub_core.specs.State.{State, permission_with}
 use Rattle.hub_core.specs.Refusals.{refusal_of, state_after}
-use Rattle.hub_core.specs.Reads.{standing_of}
+use Rattle.hub_core.specs.Reads.{is_peer, standing_of}
 use Rattle.hub_core.specs.declared.request.Target.TheVariants as target
 use Rattle.hub_core.specs.declared.request.Distribution.{Distribution}
 use Rattle.hub_core.specs.declared.request.Request.{Request}
@@ -97,7 +97,7 @@ abbrev pub at_first : State
 at_first = record { directory = circle; incidents = []; gates = []; recipients = []; permissions = [] }
 
 abbrev pub incident : ℕ → ℕ → ℕ → Bytes → Incident
-incident n source revision ident = record { naming = record { number = n; source = source; ident = ident; revision = revision }; document = lines }
+incident n source revision ident = record { naming = record { number = n; source = source; ident = ident; revision = revision; community = None }; document = lines }
 
 abbrev pub gate : ℕ → Tokens → ℕ → Option ℕ → Gate
 gate n path level group = record { incident = n; gate = record { path = path; level = level; group = group } }
@@ -121,13 +121,22 @@ posted = record {
   permissions = permission (Some june) ∷ [];
 }
 
+-- the same, where the bank's incident names this community, or none
+abbrev pub posted_in : Option ℕ → State
+posted_in community =
+    let bank = incident 1 1 1 (codes "\"7\"") in
+    record posted { incidents = record bank { naming = record bank.naming { community = community } } ∷ incident 2 3 1 (codes "\"7\"") ∷ [] }
+
 -- ---- requests
 
 abbrev pub at_level : ℕ → Distribution
-at_level level = record { level = level; group = None; gates = [] }
+at_level level = record { community = None; level = level; group = None; gates = [] }
 
 abbrev pub post : Bytes → Request
 post document = ask.Post (record { distribution = at_level 3; document = document })
+
+abbrev pub post_in : ℕ → Request
+post_in community = ask.Post (record { distribution = record (at_level 1) { community = Some community }; document = body })
 
 abbrev pub replace : ℕ → ℕ → Request
 replace n revision = ask.Replace (record { incident = n; revision = revision; distribution = at_level 1; document = body })
@@ -158,10 +167,17 @@ answered r = (refusal_of posted banker r, state_after posted banker r)
 abbrev pub StandingsAreFound : Type 0
 StandingsAreFound =
     standing_of 2 1 june posted ∷ standing_of 3 1 june posted ∷ standing_of 2 9 june posted ∷ []
-    ≡ Some (record (stranger 2 2) { addressed = true; community = true; groups = 1 ∷ []; active_groups = 1 ∷ []; communities = 1 ∷ []; now = june })
+    ≡ Some (record (stranger 2 2) { addressed = true; community = true; peer = true; groups = 1 ∷ []; active_groups = 1 ∷ []; communities = 1 ∷ []; now = june })
     ∷ Some (record (stranger 3 3) { nominated = true; client = true; connected = true; arrangement = Some Amber; communities = 2 ∷ []; now = june })
     ∷ None
     ∷ []
+
+-- Peers of an incident of the bank's are the bank itself and the insurer where it names no community, and the members of one
+-- that it names, the bank among them or not.
+abbrev pub PeersAreFound : Type 0
+PeersAreFound =
+    map (λ community. map (λ org. is_peer org 1 community circle) (1 ∷ 2 ∷ 3 ∷ [])) (None ∷ Some 1 ∷ Some 2 ∷ Some 9 ∷ [])
+    ≡ (true ∷ true ∷ false ∷ []) ∷ (true ∷ true ∷ false ∷ []) ∷ (false ∷ false ∷ true ∷ []) ∷ (false ∷ false ∷ false ∷ []) ∷ []
 
 -- A reader posts nothing and grants nothing, whatever it sends.
 abbrev pub ReaderPostsNothing : Type 0
@@ -251,6 +267,19 @@ abbrev pub ReplaceEndsPermissions : Type 0
 ReplaceEndsPermissions =
     map answered (replace 2 1 ∷ replace 1 2 ∷ replace 1 1 ∷ [])
     ≡ (Some (bare N1), posted) ∷ (Some (told (codes "1") (bare S3)), posted) ∷ (None, exchanged) ∷ []
+
+-- why the banker is refused there, if it is, and which communities the incidents name then
+abbrev pub named_after : State → Request → Option Refusal × List (Option ℕ)
+named_after s r =
+    let left : State = state_after s banker r in
+    (refusal_of s banker r, map (λ (i : Incident). i.naming.community) left.incidents)
+
+-- An incident names a community of the organisation that posts it, and no other, there or not. Where its document is exchanged it
+-- is named anew, and with none it names none.
+abbrev pub CommunitiesAreNamed : Type 0
+CommunitiesAreNamed =
+    named_after at_first (post_in 1) ∷ named_after at_first (post_in 2) ∷ named_after at_first (post_in 9) ∷ named_after (posted_in (Some 1)) (replace 1 1) ∷ []
+    ≡ (None, Some 1 ∷ []) ∷ (Some (bare N2), []) ∷ (Some (bare N2), []) ∷ (None, None ∷ None ∷ []) ∷ []
 
 -- Coordinators nominate their own, and what is arranged with an organisation is cancelled before it is arranged anew.
 abbrev pub CoordinatorsKeepToTheirs : Type 0

@@ -4,7 +4,7 @@ use Rattle.std.specs.List.{list_all}
 use Rattle.std.specs.Option.{option_map_or}
 use Rattle.policy.specs.declared.permission.Grantee.{Grantee}
 use Rattle.policy.specs.declared.permission.Grantee.TheVariants as grantee
-use Rattle.circle.specs.Directory.{Directory, has_org, has_person, has_community, has_group_member}
+use Rattle.circle.specs.Directory.{Directory, has_org, has_person, has_community, has_membership, has_group_member}
 use Rattle.circle.specs.Reads.{person_of}
 use Rattle.circle.specs.declared.directory.Person.{Person}
 use Rattle.hub_core.specs.State.{State, incident_of}
@@ -42,7 +42,12 @@ known i = record { source = i.naming.source; revision = i.naming.revision; ident
 abbrev pub known_of : State → Request → Option IncidentFacts
 known_of s request = option_map known (looked_up s (incident_asked request))
 
--- ---- groups, organisations, persons
+-- ---- communities, groups, organisations, persons
+
+-- the actor's organisation is a member of the community, where one is named; of one that isn't there nobody is
+abbrev pub is_own_community : State → Person → Option ℕ → Bool
+is_own_community s a None = true
+is_own_community s a (Some community) = has_membership community a.org s.directory
 
 -- the actor's organisation is a member of the group, where one is named
 abbrev pub is_own_group : State → Person → Option ℕ → Bool
@@ -51,6 +56,10 @@ is_own_group s a (Some group) = has_group_member group a.org s.directory
 
 abbrev pub are_own_groups : State → Person → Distribution → Bool
 are_own_groups s a d = is_own_group s a d.group && list_all (λ (g : WantedGate). is_own_group s a g.group) d.gates
+
+-- the actor's organisation is a member of the community that is named, and of all groups
+abbrev pub has_joined_all : State → Person → Distribution → Bool
+has_joined_all s a d = is_own_community s a d.community && are_own_groups s a d
 
 abbrev pub is_target : Directory → Target → Bool
 is_target d (target.Person n) = has_person n d

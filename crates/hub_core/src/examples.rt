@@ -2,11 +2,16 @@
 //! here, with no program between. Each is the contract of a function that does nothing.
 #![tactic(auto, unfolding(crate::proofs::Computed::computed))]
 
-ghost use Rattle.hub_core.specs.Examples.{StandingsAreFound, ReaderPostsNothing, FirstPostIsFirst, PostsAreRefused, GrantsAreRefused, PermissionsAreExchanged, GatesAreRefused, OthersAreNotThere, PermissionsAreWithdrawn, ReplaceEndsPermissions, CoordinatorsKeepToTheirs};
+ghost use Rattle.hub_core.specs.Examples.{StandingsAreFound, PeersAreFound, ReaderPostsNothing, FirstPostIsFirst, PostsAreRefused, GrantsAreRefused, PermissionsAreExchanged, GatesAreRefused, OthersAreNotThere, PermissionsAreWithdrawn, ReplaceEndsPermissions, CommunitiesAreNamed, CoordinatorsKeepToTheirs};
 
 /// How persons stand to an incident, by the rows of the circle.
 pub fn standings_are_found()
     ensures { StandingsAreFound }
+{}
+
+/// Who is in the community that an incident names, or shares one with its source.
+pub fn peers_are_found()
+    ensures { PeersAreFound }
 {}
 
 /// A reader posts nothing and grants nothing.
@@ -52,6 +57,11 @@ pub fn permissions_are_withdrawn()
 /// An exchange of a document, and why one is refused.
 pub fn replace_ends_permissions()
     ensures { ReplaceEndsPermissions }
+{}
+
+/// A community is named by its members, and anew with each document.
+pub fn communities_are_named()
+    ensures { CommunitiesAreNamed }
 {}
 
 /// Coordinators nominate their own, and arrange once.

@@ -10,7 +10,7 @@ ghost use Rattle.hub_core.specs.declared.state.Incident.{Incident};
 use crate::counts_then::counts_then;
 use crate::facts::{Facts, IncidentFacts};
 use crate::look_ups::LookUps;
-use crate::named_there::{are_own_groups, is_active, is_grantee, is_own_group, is_target};
+use crate::named_there::{has_joined_all, is_active, is_grantee, is_own_group, is_target};
 use crate::posted_earlier::find_posted;
 use crate::request::{
     Address, Explain, Grant, Redistribute, Replace, Request, Unaddress, Withdraw,
@@ -65,8 +65,8 @@ fn find_exists<L: LookUps>(
     ensures cause { IsErrOf result ShelfFault.Failed → HasFailed (L.failed shelf.old) (L.failed shelf.new) }
 {
     match request {
-        Request::Post(asked) => are_own_groups(shelf, actor, &asked.distribution),
-        Request::Replace(asked) => are_own_groups(shelf, actor, &asked.distribution),
+        Request::Post(asked) => has_joined_all(shelf, actor, &asked.distribution),
+        Request::Replace(asked) => has_joined_all(shelf, actor, &asked.distribution),
         Request::Redistribute(asked) => is_own_group(shelf, actor, asked.group),
         Request::Address(asked) => is_target(shelf, asked.target),
         Request::Grant(asked) => is_grantee(shelf, actor.org, asked.grantee),

@@ -35,6 +35,7 @@ impl ListShelf {
             None => Ok(None),
             Some(incident) => Ok(Some(Case {
                 source: incident.naming.source,
+                community: incident.naming.community,
                 gates: self.case_gates(incident.naming.number)?,
                 permissions: self.case_permissions(incident.naming.number)?,
             })),

@@ -2,7 +2,7 @@
 ghost use Rattle.std.specs.Prelude.{◌≡◌, IfOk, IsErrOf};
 ghost use Rattle.std.specs.List.{list_all};
 ghost use Rattle.iodef_tree.specs.Pointer.{pointer_tokens};
-ghost use Rattle.hub_core.specs.Requests.{is_own_group, are_own_groups, is_target, is_grantee, is_active};
+ghost use Rattle.hub_core.specs.Requests.{is_own_community, is_own_group, are_own_groups, has_joined_all, is_target, is_grantee, is_active};
 ghost use Rattle.hub_core.specs.Shelves.{HasFailed, IsKept};
 ghost use Rattle.hub_core.specs.State.{State};
 
@@ -23,6 +23,21 @@ pub(crate) fn path_of(alloc: Global, text: &Text) -> Result<Option<Path>, AllocE
         Ok(path) => Ok(Some(path)),
         Err(PathFault::BadPath) => Ok(None),
         Err(PathFault::NoMemory) => Err(AllocError),
+    }
+}
+
+fn is_own_community<L: LookUps>(
+    shelf: &mut L,
+    actor: &Person,
+    community: Option<u32>,
+) -> Result<bool, ShelfFault>
+    ensures value { L.doubts shelf.new ≡ 0 → (s : State) → L.has shelf.old s → IfOk result (λ b. b ≡ is_own_community s actor.now community) }
+    ensures kept { IsKept L.has L.doubts L.failed L.may_remain shelf.old shelf.new }
+    ensures cause { IsErrOf result ShelfFault.Failed → HasFailed (L.failed shelf.old) (L.failed shelf.new) }
+{
+    match community {
+        None => Ok(true),
+        Some(community) => shelf.has_membership(community, actor.org),
     }
 }
 
@@ -58,7 +73,7 @@ fn are_all_own<L: LookUps>(
     Ok(true)
 }
 
-pub(crate) fn are_own_groups<L: LookUps>(
+fn are_own_groups<L: LookUps>(
     shelf: &mut L,
     actor: &Person,
     distribution: &Distribution,
@@ -69,6 +84,23 @@ pub(crate) fn are_own_groups<L: LookUps>(
 {
     if is_own_group(shelf, actor, distribution.group)? {
         are_all_own(shelf, actor, distribution.gates.as_slice())
+    } else {
+        Ok(false)
+    }
+}
+
+/// Whether the actor's organisation is a member of the community that is named, and of all groups.
+pub(crate) fn has_joined_all<L: LookUps>(
+    shelf: &mut L,
+    actor: &Person,
+    distribution: &Distribution,
+) -> Result<bool, ShelfFault>
+    ensures value { L.doubts shelf.new ≡ 0 → (s : State) → L.has shelf.old s → IfOk result (λ b. b ≡ has_joined_all s actor.now distribution.now) }
+    ensures kept { IsKept L.has L.doubts L.failed L.may_remain shelf.old shelf.new }
+    ensures cause { IsErrOf result ShelfFault.Failed → HasFailed (L.failed shelf.old) (L.failed shelf.new) }
+{
+    if is_own_community(shelf, actor, distribution.community)? {
+        are_own_groups(shelf, actor, distribution)
     } else {
         Ok(false)
     }

@@ -1,9 +1,11 @@
 //! How a person stands to an incident, made of what a shelf looks up.
 ghost use Rattle.std.specs.Prelude.{◌≡◌, ◌==◌, ◌||◌, IfOk, IsErrOf};
 ghost use Rattle.std.specs.List.{list_any};
+ghost use Rattle.std.specs.Option.{option_map_or};
+ghost use Rattle.circle.specs.Directory.{has_membership as is_membership};
 ghost use Rattle.circle.specs.Reads.{communities_of, groups_joined, active_groups_joined, share_community, are_connected};
 ghost use Rattle.hub_core.specs.inner.Questions as spec;
-ghost use Rattle.hub_core.specs.Reads.{standing_of, standing_for, is_client_for, arranged as arranged_with};
+ghost use Rattle.hub_core.specs.Reads.{standing_of, standing_for, is_client_for, is_peer, arranged as arranged_with};
 ghost use Rattle.hub_core.specs.Shelves.{HasFailed, IsKept, IsRead};
 ghost use Rattle.hub_core.specs.State.{State, has_recipient};
 ghost use Rattle.hub_core.specs.declared.request.Target.TheVariants as target;
@@ -14,6 +16,7 @@ use crate::look_ups::LookUps;
 use crate::questions::is_target_among;
 use crate::request::Target;
 use crate::shelf::ShelfFault;
+use crate::state::Naming;
 use circle::directory::Person;
 use marking::Handling;
 use policy::{Numbers, Standing};
@@ -26,10 +29,11 @@ struct Joined {
     communities: Numbers,
 }
 
-/// How an organisation stands to a source.
+/// How an organisation stands to a source and to the community that is named.
 #[derive(Drop)]
 struct Ties {
     community: bool,
+    peer: bool,
     connected: bool,
     arrangement: Option<Handling>,
 }
@@ -63,16 +67,40 @@ fn find_arranged<L: LookUps>(
     }
 }
 
-fn find_ties<L: LookUps>(shelf: &mut L, org: u32, source: u32) -> Result<Ties, ShelfFault>
-    ensures value { L.doubts shelf.new ≡ 0 → (s : State) → L.has shelf.old s → IfOk result (λ found. found ≡ record { community = share_community org source s.directory; connected = are_connected org source s.directory; arrangement = arranged_with source org s.directory }) }
+/// Whether an organisation is a member of the community that is named; where none is, whether it shares one with the source.
+fn find_peer<L: LookUps>(
+    shelf: &mut L,
+    org: u32,
+    community: Option<u32>,
+    shares: bool,
+) -> Result<bool, ShelfFault>
+    ensures value { L.doubts shelf.new ≡ 0 → (s : State) → L.has shelf.old s → IfOk result (λ b. b ≡ option_map_or (λ c. is_membership c org s.directory) community shares) }
+    ensures kept { IsKept L.has L.doubts L.failed L.may_remain shelf.old shelf.new }
+    ensures cause { IsErrOf result ShelfFault.Failed → HasFailed (L.failed shelf.old) (L.failed shelf.new) }
+{
+    match community {
+        None => Ok(shares),
+        Some(community) => shelf.has_membership(community, org),
+    }
+}
+
+fn find_ties<L: LookUps>(
+    shelf: &mut L,
+    org: u32,
+    source: u32,
+    named: Option<u32>,
+) -> Result<Ties, ShelfFault>
+    ensures value { L.doubts shelf.new ≡ 0 → (s : State) → L.has shelf.old s → IfOk result (λ found. found ≡ record { community = share_community org source s.directory; peer = is_peer org source named s.directory; connected = are_connected org source s.directory; arrangement = arranged_with source org s.directory }) }
     ensures kept { IsKept L.has L.doubts L.failed L.may_remain shelf.old shelf.new }
     ensures cause { IsErrOf result ShelfFault.Failed → HasFailed (L.failed shelf.old) (L.failed shelf.new) }
 {
     let community = shelf.share_community(org, source)?;
+    let peer = find_peer(shelf, org, named, community)?;
     let connected = shelf.are_connected(org, source)?;
     let arrangement = find_arranged(shelf, source, org)?;
     Ok(Ties {
         community,
+        peer,
         connected,
         arrangement,
     })
@@ -125,16 +153,16 @@ fn find_addressed<L: LookUps>(
 fn standing_to<L: LookUps>(
     shelf: &mut L,
     reader: &Person,
-    incident: u32,
-    source: u32,
+    naming: &Naming,
     now: i64,
 ) -> Result<Standing, ShelfFault>
-    ensures value { L.doubts shelf.new ≡ 0 → (s : State) → L.has shelf.old s → (i : Incident) → i.naming.number ≡ incident → i.naming.source ≡ source → IfOk result (λ found. found ≡ standing_for s now reader.now i) }
+    ensures value { L.doubts shelf.new ≡ 0 → (s : State) → L.has shelf.old s → (i : Incident) → i.naming ≡ naming.now → IfOk result (λ found. found ≡ standing_for s now reader.now i) }
     ensures kept { IsKept L.has L.doubts L.failed L.may_remain shelf.old shelf.new }
     ensures cause { IsErrOf result ShelfFault.Failed → HasFailed (L.failed shelf.old) (L.failed shelf.new) }
 {
-    let addressed = find_addressed(shelf, reader, incident, source)?;
-    let ties = find_ties(shelf, reader.org, source)?;
+    let source = naming.source;
+    let addressed = find_addressed(shelf, reader, naming.number, source)?;
+    let ties = find_ties(shelf, reader.org, source, naming.community)?;
     let joined = find_joined(shelf, reader.org)?;
     Ok(Standing {
         source: reader.org == source,
@@ -143,6 +171,7 @@ fn standing_to<L: LookUps>(
         addressed: addressed.org,
         client: addressed.client,
         community: ties.community,
+        peer: ties.peer,
         connected: ties.connected,
         arrangement: ties.arrangement,
         who: reader.number,
@@ -171,7 +200,7 @@ fn find_standing<L: LookUps>(
     let Some(naming) = shelf.naming(incident)? else {
         return Ok(None);
     };
-    let standing = standing_to(shelf, &reader, incident, naming.source, now)?;
+    let standing = standing_to(shelf, &reader, &naming, now)?;
     Ok(Some(standing))
 }
 

@@ -7,8 +7,8 @@
 //! - FACTS are words: `exists`, `stands` and the other flags where they hold, `count=4`, `posted=1`, `gates=17`, `recipients=65`,
 //!   `permissions=65`; `known=2,1,"2"` is an incident of organisation 2 in revision 1 with that IncidentID, `document=JSON` its
 //!   document. What isn't named is false, 0 or none.
-//! - A group is `-` for none. Gates are LEVEL:GROUP:POINTER with a space between them. Targets and grantees are `person 4`,
-//!   `org 3`, `community 1` or `group 1`. A class is `-` for none. `DOC1` and its kin are documents (`documents.rt` of `trying_hub`).
+//! - The level of a post is `1@3` where it names community 3. A group is `-` for none. Gates are LEVEL:GROUP:POINTER with a space
+//!   between them. Targets and grantees are `person 4`, `org 3`, `community 1` or `group 1`. A class is `-` for none. `DOC1` and its kin are documents (`documents.rt` of `trying_hub`).
 //!
 //! The answer is the refusal, its code and perhaps its detail, or the edits with a semicolon between them.
 //!
@@ -18,7 +18,8 @@
 //!   `nothing` of a request that only reads, the numbers of new incidents, the revision, or `done`; `nobody` where no person has the key.
 //! - `facts` before it: what the shelf finds out about it, in the words above.
 //! - `case 1`, `standing 4 1` (a person, an incident; then a moment other than 0), `document 1`, `entries 0 100` (above a number, at most so many), `groups 4`
-//!   and `person 4` (persons by their keys), `failures`: what stands there.
+//!   and `person 4` (persons by their keys), `failures`: what stands there. A case or an incident that names community 3 is `in 3`. Who
+//!   stands in a `community` with the source and isn't in the one that is named is a `neighbour`, who is in that alone a `peer`.
 #![tactic(auto)]
 
 mod facts;

@@ -1,6 +1,6 @@
 //! What a shelf tells, as text.
 
-use crate::told::permitted_text;
+use crate::told::{named_text, permitted_text};
 use circle::directory::Person;
 use hub_core::{Entry, JoinedGroup};
 use iodef_tree::Document;
@@ -30,6 +30,7 @@ fn permission(alloc: Global, permission: &Permission) -> Result<String, AllocErr
 fn case_found(alloc: Global, case: &Case) -> Result<String, AllocError> {
     let source = case.source;
     let mut all = format!(in alloc; "of {source}")?;
+    all.push_str(named_text(alloc, case.community)?.as_str())?;
     for row in case.gates.as_slice() {
         all.push_str(gate(alloc, row)?.as_str())?;
     }
@@ -66,6 +67,16 @@ fn push_numbers(
     Ok(())
 }
 
+/// Who shares a community with the source, or is in the one that the incident names, or in that alone.
+fn community_word(community: bool, peer: bool) -> &'static str {
+    match (community, peer) {
+        (true, true) => " community",
+        (true, false) => " neighbour",
+        (false, true) => " peer",
+        (false, false) => "",
+    }
+}
+
 fn standing_found(alloc: Global, standing: &Standing) -> Result<String, AllocError> {
     let (who, org) = (standing.who, standing.org);
     let mut all = format!(in alloc; "{who} of {org}")?;
@@ -74,7 +85,7 @@ fn standing_found(alloc: Global, standing: &Standing) -> Result<String, AllocErr
     push_if(&mut all, standing.nominated, " nominated")?;
     push_if(&mut all, standing.addressed, " addressed")?;
     push_if(&mut all, standing.client, " client")?;
-    push_if(&mut all, standing.community, " community")?;
+    all.push_str(community_word(standing.community, standing.peer))?;
     push_if(&mut all, standing.connected, " connected")?;
     if let Some(handling) = standing.arrangement {
         all.push_str(" arranged ")?;

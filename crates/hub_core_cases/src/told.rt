@@ -38,12 +38,21 @@ fn recipient(alloc: Global, recipient: &Recipient) -> Result<String, AllocError>
     }
 }
 
+/// The community that an incident names, if it names one.
+pub fn named_text(alloc: Global, community: Option<u32>) -> Result<String, AllocError> {
+    match community {
+        None => Ok(String::new(alloc)),
+        Some(n) => format!(in alloc; " in {n}"),
+    }
+}
+
 fn incident(alloc: Global, row: &Incident) -> Result<String, AllocError> {
     let naming = &row.naming;
     let (number, source, revision) = (naming.number, naming.source, naming.revision);
     let ident = naming.ident.as_str();
+    let named = named_text(alloc, naming.community)?;
     let text = row.document.text(alloc)?;
-    format!(in alloc; "put incident {number} of {source} {ident} revision {revision} {text}")
+    format!(in alloc; "put incident {number} of {source}{named} {ident} revision {revision} {text}")
 }
 
 fn gate(alloc: Global, row: &Gate) -> Result<String, AllocError> {

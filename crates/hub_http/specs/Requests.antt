@@ -2,6 +2,7 @@
 use Rattle.std.specs.Prelude.{ℕ, List, [], ◌∷◌, length, ◌==◌, if◌then◌else◌, Option, Some, None, unwrap_or, Ok, Err, codes}
 use Rattle.circle.specs.declared.command.CircleCommand.{CircleCommand}
 use Rattle.circle.specs.declared.command.CircleCommand.TheVariants as command
+use Rattle.hub_core.specs.declared.request.Distribution.{Distribution}
 use Rattle.hub_core.specs.declared.request.Request.{Request}
 use Rattle.hub_core.specs.declared.request.Request.TheVariants as request
 use Rattle.hub_http.specs.declared.request_fault.RequestFault.TheVariants.{BadBody}
@@ -64,22 +65,27 @@ explain_in pairs = do
 
 -- ---- incidents
 
-unfoldable pub post_in : List Pair → List ℕ → Read Request
-post_in pairs body = do
-  _ ← only (codes "level" ∷ codes "group" ∷ codes "gate" ∷ []) pairs
+-- how far an incident reaches: the community that it names, if one is, the gate at its root and those at its classes
+unfoldable pub distribution_in : List Pair → Read Distribution
+distribution_in pairs = do
+  community ← optional_number (codes "community") pairs
   level ← needed_number (codes "level") pairs
   group ← optional_number (codes "group") pairs
   wanted ← gates (values (codes "gate") pairs)
-  Ok (request.Post (record { distribution = record { level = level; group = group; gates = wanted }; document = body }))
+  Ok (record { community = community; level = level; group = group; gates = wanted })
+
+unfoldable pub post_in : List Pair → List ℕ → Read Request
+post_in pairs body = do
+  _ ← only (codes "community" ∷ codes "level" ∷ codes "group" ∷ codes "gate" ∷ []) pairs
+  distribution ← distribution_in pairs
+  Ok (request.Post (record { distribution = distribution; document = body }))
 
 unfoldable pub replace_in : ℕ → List Pair → List ℕ → Read Request
 replace_in n pairs body = do
-  _ ← only (codes "revision" ∷ codes "level" ∷ codes "group" ∷ codes "gate" ∷ []) pairs
+  _ ← only (codes "revision" ∷ codes "community" ∷ codes "level" ∷ codes "group" ∷ codes "gate" ∷ []) pairs
   revision ← needed_number (codes "revision") pairs
-  level ← needed_number (codes "level") pairs
-  group ← optional_number (codes "group") pairs
-  wanted ← gates (values (codes "gate") pairs)
-  Ok (request.Replace (record { incident = n; revision = revision; distribution = record { level = level; group = group; gates = wanted }; document = body }))
+  distribution ← distribution_in pairs
+  Ok (request.Replace (record { incident = n; revision = revision; distribution = distribution; document = body }))
 
 unfoldable pub redistribute_in : ℕ → List Pair → Read Request
 redistribute_in n pairs = do

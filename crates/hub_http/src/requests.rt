@@ -107,20 +107,30 @@ fn read_explain(alloc: Global, pairs: &Parameters<'_>) -> Result<Request, Reques
     }))
 }
 
+/// How far an incident reaches, beside other parameters.
+#[tactic(auto, unfolding(crate::specs::Requests::distribution_in))]
+fn read_distribution(alloc: Global, pairs: &Parameters<'_>) -> Result<Distribution, RequestFault>
+    ensures { Yields result (spec.distribution_in pairs.now) }
+{
+    let community = pairs.optional_number("community")?;
+    let level = pairs.needed_number("level")?;
+    let group = pairs.optional_number("group")?;
+    let gates = pairs.gates(alloc)?;
+    Ok(Distribution {
+        community,
+        level,
+        group,
+        gates,
+    })
+}
+
 #[tactic(auto, unfolding(crate::specs::Requests::post_in))]
 fn read_post(alloc: Global, pairs: &Parameters<'_>, body: &[u8]) -> Result<Request, RequestFault>
     ensures { Yields result (spec.post_in pairs.now body.now) }
 {
-    pairs.only(&["level", "group", "gate"])?;
-    let level = pairs.needed_number("level")?;
-    let group = pairs.optional_number("group")?;
-    let gates = pairs.gates(alloc)?;
+    pairs.only(&["community", "level", "group", "gate"])?;
+    let distribution = read_distribution(alloc, pairs)?;
     let document = Bytes::new(Vec::from_slice(alloc, body)?);
-    let distribution = Distribution {
-        level,
-        group,
-        gates,
-    };
     Ok(Request::Post(Post {
         distribution,
         document,
@@ -136,17 +146,10 @@ fn read_replace(
 ) -> Result<Request, RequestFault>
     ensures { Yields result (spec.replace_in incident pairs.now body.now) }
 {
-    pairs.only(&["revision", "level", "group", "gate"])?;
+    pairs.only(&["revision", "community", "level", "group", "gate"])?;
     let revision = pairs.needed_number("revision")?;
-    let level = pairs.needed_number("level")?;
-    let group = pairs.optional_number("group")?;
-    let gates = pairs.gates(alloc)?;
+    let distribution = read_distribution(alloc, pairs)?;
     let document = Bytes::new(Vec::from_slice(alloc, body)?);
-    let distribution = Distribution {
-        level,
-        group,
-        gates,
-    };
     Ok(Request::Replace(Replace {
         incident,
         revision,

@@ -96,11 +96,20 @@ fn end_text(alloc: Global, until: Option<i64>) -> Result<String, AllocError> {
     }
 }
 
+/// What stands in front of how far an incident reaches that names a community.
+fn community_text(alloc: Global, community: Option<u32>) -> Result<String, AllocError> {
+    match community {
+        None => Ok(String::new(alloc)),
+        Some(number) => format!(in alloc; "community {number} "),
+    }
+}
+
 fn distribution(alloc: Global, wanted: &Distribution) -> Result<String, AllocError> {
+    let community = community_text(alloc, wanted.community)?;
     let level = wanted.level;
     let group = group(alloc, wanted.group)?;
     let gates = gates(alloc, &wanted.gates)?;
-    format!(in alloc; "level {level} group {group} gates{gates}")
+    format!(in alloc; "{community}level {level} group {group} gates{gates}")
 }
 
 /// A request with a document.

@@ -40,7 +40,7 @@ use Rattle.hub_core.specs.declared.state.Permission.{Permission}
 use Rattle.hub_core.specs.declared.state.PermissionKey.{PermissionKey}
 use Rattle.hub_core.specs.declared.edit.Edit.TheVariants.{Directory, PutIncident, TakeIncident, TakePolicy, PutGate, TakeGate, PutRecipient, TakeRecipient, PutPermission, TakePermission}
 use Rattle.hub_core.proofs.Indexing.{paths_by_pointers}
-use Rattle.hub_store.specs.Values.{flag}
+use Rattle.hub_store.specs.Values.{number_or_null, flag}
 use Rattle.hub_store.specs.Pairs.{Pair, pair_row, rows_of_pairs, put_pair, take_pair}
 use Rattle.hub_store.specs.Rows.{role_number, org_row, account_row, community_row, group_row, naming_row, named_row, gate_row, recipient_row, permission_row, client_pair, membership_pair, connection_pair, group_member_pair, arrangement_pair, pair_sets}
 use Rattle.hub_store.specs.Fit.{FitOrg, FitAccount, FitCommunity, FitGroup, FitGate}
@@ -48,7 +48,7 @@ use Rattle.hub_store.specs.inner.Partly.{without_gates}
 use Rattle.hub_store.specs.Means.{holdings, Holds, HoldsBetween}
 use Rattle.hub_store.specs.Holdings.{Holding, IsHeld}
 use Rattle.hub_store.specs.Parts.{held}
-use Rattle.hub_store.specs.Layout.{tables_3}
+use Rattle.hub_store.specs.Layout.{tables_4}
 use Rattle.hub_store.specs.Items.{Item, items_in, items_of, item_row, line_shown, kind_number}
 use Rattle.hub_store.proofs.Compare.{begins, and_true, equal_numbers, equal_texts, cast_int, cast_null, cast_flag}
 use Rattle.hub_store.proofs.Forms.{is_param}
@@ -87,7 +87,7 @@ permission_test key x =
 
 -- what the tables hold between two statements
 abbrev held_rows : List Row → List Row → core.State → List Holding
-held_rows items incidents s = map held (tables_3 items incidents (map permission_row s.permissions) s)
+held_rows items incidents s = map held (tables_4 items incidents s)
 
 -- ---- edits
 
@@ -137,10 +137,10 @@ puts_group old new group count h fit s held =
 
 -- ---- an incident and its lines, one statement after another
 
-pub puts_naming : (old new : State) (naming : Naming) (count : ℕ) → Executes put_naming (Int (pos naming.number) ∷ Int (pos naming.source) ∷ Text naming.ident ∷ Int (pos naming.revision) ∷ []) old new (Ok count) → (s : core.State) (items incidents more : List Row) → IsPermutation (naming_row naming ∷ incidents) more
+pub puts_naming : (old new : State) (naming : Naming) (count : ℕ) → Executes put_naming (Int (pos naming.number) ∷ Int (pos naming.source) ∷ Text naming.ident ∷ Int (pos naming.revision) ∷ number_or_null naming.community ∷ []) old new (Ok count) → (s : core.State) (items incidents more : List Row) → IsPermutation (naming_row naming ∷ incidents) more
     → HoldsBetween items incidents old.now s → HoldsBetween items more new.now s
 puts_naming old new naming count h s items incidents more same between =
-    let put = puts.puts_naming old new naming.number naming.source naming.ident naming.revision between.known count h in
+    let put = puts.puts_naming old new naming.number naming.source naming.ident naming.revision naming.community between.known count h in
     record {
       known = put.0;
       whole = put.2;

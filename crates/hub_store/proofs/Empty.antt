@@ -47,7 +47,7 @@ all_bare db has =
               bare db 7 _ e.1.1.1.1.0,
               (
                 bare db 9 _ e.1.1.1.1.1.0,
-                (bare db 12 _ e.1.1.1.1.1.1.0, (bare db 14 _ e.1.1.1.1.1.1.1.0, (bare db 20 _ e.1.1.1.1.1.1.1.1.0, (bare db 22 _ e.1.1.1.1.1.1.1.1.1.0, (bare db 24 _ e.1.1.1.1.1.1.1.1.1.1.0, tt))))),
+                (bare db 12 _ e.1.1.1.1.1.1.0, (bare db 14 _ e.1.1.1.1.1.1.1.0, (bare db 20 _ e.1.1.1.1.1.1.1.1.0, (bare db 24 _ e.1.1.1.1.1.1.1.1.1.0, (bare db 26 _ e.1.1.1.1.1.1.1.1.1.1.0, tt))))),
               ),
             ),
           ),
@@ -69,7 +69,7 @@ begins_empty old new count h has =
 pub sound_empty : IsSound empty
 sound_empty = record {
   directory = empty_sound.0;
-  incidents = record { numbered = (tt, omega arith); idents = tt; sources = tt; revisions = tt; documents = tt; follow = tt };
+  incidents = record { numbered = (tt, omega arith); idents = tt; sources = tt; revisions = tt; communities = tt; documents = tt; follow = tt };
   gates = record { rising = tt; places = tt; ends = tt; roots = tt; limit = tt };
   recipients = record { rising = tt; ends = tt; targets = tt; limit = tt };
   permissions = record { rising = tt; places = tt; grantees = tt; limit = tt };

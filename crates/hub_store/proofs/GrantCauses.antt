@@ -23,6 +23,7 @@ use Rattle.sqlite_schema.specs.declared.command.Command.TheVariants.{Insert}
 use Rattle.sqlite_schema.specs.declared.schema.Constraint.TheVariants.{Datatype, NotNull, Check, PrimaryKey, Unique, ForeignKey}
 use Rattle.sqlite_schema.specs.declared.schema.Index.{Index}
 use Rattle.sqlite_schema.specs.declared.schema.Keys.TheVariants.{Enforced}
+use Rattle.sqlite_schema.specs.declared.schema.Schema.{Schema}
 use Rattle.sqlite_schema.specs.declared.schema.Table.{Table}
 use Rattle.sqlite_schema.specs.Rules.{Keeps, table_reals, index_reals, guards, clashes, equal, agree}
 use Rattle.sqlite_rules.specs.declared.error.Refusal.{Refusal}
@@ -47,7 +48,7 @@ use Rattle.hub_core.specs.State.{State, grantee_key}
 use Rattle.hub_core.specs.declared.state.Permission.{Permission}
 use Rattle.hub_store.specs.Failing.{HasReason}
 use Rattle.hub_store.specs.Fit.{IsShort}
-use Rattle.hub_store.specs.Tables.{hub_schema}
+use Rattle.hub_store.specs.Tables.{schema_by}
 use Rattle.hub_store.specs.Rows.{endless_row}
 use Rattle.hub_store.specs.Layout.{permission_part_3}
 use Rattle.hub_store.specs.inner.Beside.{AreNumbered, HoldsGranted, CanGrant, GrantsApart, granted_alike, without_end}
@@ -63,6 +64,9 @@ put_grant = codes "INSERT INTO permission (incident, path, kind, target) VALUES 
 
 abbrev pub grant_terms : List Term
 grant_terms = lit Null ∷ col 0 0 ∷ col 0 1 ∷ col 0 2 ∷ col 0 3 ∷ lit Null ∷ []
+
+abbrev schema_3 : Schema
+schema_3 = schema_by 3
 
 abbrev permission : Table
 permission = (permission_part_3 []).table
@@ -98,12 +102,12 @@ entry_storable n x short = record {
   short = omega (arith, short);
 }
 
-own_columns : (i : Index) → Has hub_schema.indexes i → i.table ≡ permission.tree → i.columns ≡ key
+own_columns : (i : Index) → Has schema_3.indexes i → i.table ≡ permission.tree → i.columns ≡ key
 own_columns i h is =
-    let own : (not (i.table == permission.tree) || bytes_eq i.columns key) ≡ true = test_has (λ (i : Index). not (i.table == permission.tree) || bytes_eq i.columns key) hub_schema.indexes i refl h in
+    let own : (not (i.table == permission.tree) || bytes_eq i.columns key) ≡ true = test_has (λ (i : Index). not (i.table == permission.tree) || bytes_eq i.columns key) schema_3.indexes i refl h in
     bytes_eq-true i.columns key (subst (λ t. (not (t == permission.tree) || bytes_eq i.columns key) ≡ true) is own)
 
-sized : (n : ℕ) (x : Permission) → IsShort (Null ∷ row_of x) → ¬ IsOversized hub_schema permission (Int (pos n) ∷ row_of x)
+sized : (n : ℕ) (x : Permission) → IsShort (Null ∷ row_of x) → ¬ IsOversized schema_3 permission (Int (pos n) ∷ row_of x)
 sized n x short (inl big) = big (storable n x short)
 sized n x short (inr index) = index.3 (subst (λ (cs : List ℕ). IsStorable (index_reals (table_reals permission) cs) (entry_of cs (Int (pos n) ∷ row_of x))) (sym (own_columns index.0 index.1 index.2)) (entry_storable n x short))
 
@@ -121,13 +125,13 @@ as_seen a b =
     ap (λ c. equal Binary (column a 1) (column b 1) && (equal Binary (column a 2) (column b 2) && (equal Binary (column a 3) (column b 3) && c))) (and_true _)
     ∙ rw (column_past a 0, column_past b 0, column_past a 1, column_past b 1, column_past a 2, column_past b 2, column_past a 3, column_past b 3) (sym (both_first (equal Binary (column (drop 1 a) 0) (column (drop 1 b) 0)) (equal Binary (column (drop 1 a) 1) (column (drop 1 b) 1)) (equal Binary (column (drop 1 a) 2) (column (drop 1 b) 2) && equal Binary (column (drop 1 a) 3) (column (drop 1 b) 3))))
 
-unique_rows : (rows : List Row) → Pairwise (OneApart granted_alike) (map (λ (r : Row). drop 1 r) rows) → AllByRecursion (λ row. list_all (λ i. not (guards i permission && clashes i.order i.columns rows row)) hub_schema.indexes ≡ true) rows
+unique_rows : (rows : List Row) → Pairwise (OneApart granted_alike) (map (λ (r : Row). drop 1 r) rows) → AllByRecursion (λ row. list_all (λ i. not (guards i permission && clashes i.order i.columns rows row)) schema_3.indexes ≡ true) rows
 unfolding agrees
 unique_rows rows apart =
     let pairs = pairs_seen granted_alike agrees (λ (r : Row). drop 1 r) as_seen rows apart in
     all_from _ rows (λ row h. and_true _ ∙ ap not (no_clash agrees rows pairs row h))
 
-module _ (db : Trees) (whole : IsDatabase (record { schema = hub_schema; trees = db })) (counts : AreNumbered 1 (db permission.tree)) (x : Permission) (rows : List Row) (held : IsPermutation rows (map (λ (r : Row). drop 1 r) (db permission.tree))) (can : CanGrant (row_of x ∷ rows)) (short : IsShort (Null ∷ row_of x)) where
+module _ (db : Trees) (whole : IsDatabase (record { schema = schema_3; trees = db })) (counts : AreNumbered 1 (db permission.tree)) (x : Permission) (rows : List Row) (held : IsPermutation rows (map (λ (r : Row). drop 1 r) (db permission.tree))) (can : CanGrant (row_of x ∷ rows)) (short : IsShort (Null ∷ row_of x)) where
   start : ℕ
   start = suc (length (db permission.tree))
 
@@ -152,12 +156,12 @@ module _ (db : Trees) (whole : IsDatabase (record { schema = hub_schema; trees =
       subst (Pairwise (OneApart granted_alike)) (sym all_seen)
       (pairs_permuted granted_alike (row_of x ∷ rows) (seen ++ row_of x ∷ []) (IsPermutation-trans _ _ _ (IsPermutation-cons (row_of x) _ _ held) (IsPermutation-append_comm (row_of x ∷ []) seen)) can.apart)
 
-  unique : Keeps Unique hub_schema (with_tree db permission.tree (edited db edit))
+  unique : Keeps Unique schema_3 (with_tree db permission.tree (edited db edit))
   unique =
       let u = whole.obeys.rules Unique in
       (u.0, (u.1.0, (u.1.1.0, (u.1.1.1.0, (u.1.1.1.1.0, (u.1.1.1.1.1.0, (u.1.1.1.1.1.1.0, (u.1.1.1.1.1.1.1.0, (u.1.1.1.1.1.1.1.1.0, (u.1.1.1.1.1.1.1.1.1.0, (unique_rows (edited db edit) apart, tt)))))))))))
 
-  unrefused : (why : Refusal) → ¬ IsRefused hub_schema Enforced db edit why
+  unrefused : (why : Refusal) → ¬ IsRefused schema_3 Enforced db edit why
   unfolding edit start
   unrefused (Violates Datatype) h = true≢false h
   unrefused (Violates NotNull) h = true≢false h
@@ -170,13 +174,13 @@ module _ (db : Trees) (whole : IsDatabase (record { schema = hub_schema; trees =
   unrefused BadReference h = true≢false h
   unrefused TooDeep h = h
 
-  unbroken : ¬ Breaks hub_schema db edit
+  unbroken : ¬ Breaks schema_3 db edit
   unfolding edit start
   unbroken (inl refused) = unrefused refused.0 refused.1
-  unbroken (inr (row, inl same, big)) = sized start x short (subst (IsOversized hub_schema permission) same big)
+  unbroken (inr (row, inl same, big)) = sized start x short (subst (IsOversized schema_3 permission) same big)
   unbroken (inr (row, inr none, big)) = none
 
-stands : IsWritable hub_schema permission 10
+stands : IsWritable schema_3 permission 10
 stands = record { listed = refl; uncounted = refl; alone = λ tree olds news. refl; unreferred = (refl, (refl, (refl, (refl, (refl, (refl, (refl, (refl, (refl, (refl, (refl, tt))))))))))) }
 
 -- a permission fails for a reason alone
@@ -185,15 +189,15 @@ pub grant_fails : (x : Permission) (rows : List Row) (s : State) → CanGrant (r
 unfolding understood everything edit start
 grant_fails x rows s can old new e h has other =
     let db = old.now.trees in
-    let sound : IsDatabase (record { schema = hub_schema; trees = db }) = subst (λ k. IsDatabase (record { schema = k; trees = db })) has.parts.known has.parts.whole in
+    let sound : IsDatabase (record { schema = schema_3; trees = db }) = subst (λ k. IsDatabase (record { schema = k; trees = db })) has.parts.known has.parts.whole in
     let held = has.parts.means.1.1.1.1.1.1.1.1.1.1.0 in
     let own = can.grants.0 in
     let news = ap (λ r. numbered Chosen (db permission.tree) (r ∷ [])) (cast_grant x) ∙ (put_behind (db permission.tree) (row_of x ∷ []) has.numbered).news in
-    elim (fails_as put_grant (endless_row x) old new hub_schema has.parts.known (Insert 10 (Values grant_terms 6)) refl tt (refl, refl, refl, refl) e other h) [
+    elim (fails_as put_grant (endless_row x) old new schema_3 has.parts.known (Insert 10 (Values grant_terms 6)) refl tt (refl, refl, refl, refl) e other h) [
       | inl reason ↦ reason
-      | inr refused ↦ elim (insert_stops hub_schema permission 10 stands old (statement_of put_grant (understood hub_schema put_grant)) (endless_row x) grant_terms 6 has.parts.known refl refused.0 refused.1) [
+      | inr refused ↦ elim (insert_stops schema_3 permission 10 stands old (statement_of put_grant (understood schema_3 put_grant)) (endless_row x) grant_terms 6 has.parts.known refl refused.0 refused.1) [
         | inl limited ↦ inr (inr limited)
-        | inr broken ↦ absurd (unbroken db sound has.numbered x rows held.same can own.2 (subst (λ l. Breaks hub_schema db (record { table = permission; gone = []; news = l })) news broken))
+        | inr broken ↦ absurd (unbroken db sound has.numbered x rows held.same can own.2 (subst (λ l. Breaks schema_3 db (record { table = permission; gone = []; news = l })) news broken))
       ]
     ]
 
@@ -202,7 +206,7 @@ pub grant_counts : (x : Permission) (rows : List Row) (s : State) (old new : sql
 unfolding understood everything
 grant_counts x rows s old new count h has =
     let before = old.now.trees permission.tree in
-    let changed = inserted hub_schema permission 10 refl refl refl (λ tree olds news. refl) put_grant (endless_row x) old new has.parts.known (refl, refl) count h grant_terms 6 refl in
+    let changed = inserted schema_3 permission 10 refl refl refl (λ tree olds news. refl) put_grant (endless_row x) old new has.parts.known (refl, refl) count h grant_terms 6 refl in
     let put = put_behind before (row_of x ∷ []) has.numbered in
     let news = ap (λ r. numbered Chosen before (r ∷ [])) (cast_grant x) ∙ put.news in
     subst (AreNumbered 1) (sym (changed.applies.rows ∙ ap (put_all before) news ∙ put.all)) put.counts

@@ -5,7 +5,7 @@ use Rattle.sqlite_value.specs.Order.{Row}
 use Rattle.sqlite.specs.Effect.{Database}
 use Rattle.hub_core.specs.State as core
 use Rattle.hub_store.specs.inner.Beside.{HoldsGranted, without_end}
-use Rattle.hub_store.specs.Fit.{IsFit, AreEndless}
+use Rattle.hub_store.specs.Fit.{FitAs, AreEndless}
 use Rattle.hub_store.specs.Layout.{parts_2, without_permissions, permission_part_3}
 use Rattle.hub_store.specs.Means.{HoldsAs}
 use Rattle.hub_store.specs.Parts.{HoldsParts}
@@ -17,6 +17,6 @@ pub tables_of_2 : (db : Database) (s : core.State) → HoldsAs 2 db s → HoldsP
 tables_of_2 db s held = record { known = held.known; whole = held.whole; means = held.means }
 
 -- with all rows of version 2 in it, the table is that of version 3
-pub held_as_3 : (db : Database) (s : core.State) (rows : List Row) → IsFit s → AreEndless s → IsPermutation (map endless_row s.permissions) rows → HoldsGranted (map without_end rows) s db → HoldsAs 3 db s
+pub held_as_3 : (db : Database) (s : core.State) (rows : List Row) → FitAs 3 s → AreEndless s → IsPermutation (map endless_row s.permissions) rows → HoldsGranted (map without_end rows) s db → HoldsAs 3 db s
 held_as_3 db s rows fit endless read held =
     record { known = held.parts.known; whole = held.parts.whole; means = exchanged_rows db.trees (without_permissions s) (permission_part_3 (map without_end rows)) [] _ (rows_kept s rows endless read) held.parts.means; fit = fit }

@@ -11,7 +11,7 @@ use Rattle.sqlite.specs.State.{Executes}
 use Rattle.hub_core.specs.State.{State}
 use Rattle.hub_core.specs.declared.state.Permission.{Permission}
 use Rattle.hub_store.specs.Items.{items_of, item_row}
-use Rattle.hub_store.specs.Rows.{named_row, endless_row}
+use Rattle.hub_store.specs.Rows.{named_row_2, endless_row}
 use Rattle.hub_store.specs.Tables.{schema_by, without_permission, permission_table, permission_table_3}
 use Rattle.hub_store.specs.Parts.{schema_of, HoldsParts}
 use Rattle.hub_store.specs.Layout.{alike, permission_part, item_part, incident_part_2, renamed_2, without_permissions, permission_part_3}
@@ -38,7 +38,7 @@ permission_dropping = record { command = refl; listed = refl; quiet = refl; unco
 pub drops_permission : (old new : sql.State) (s : State) (count : ℕ) → Executes drop_permission [] old new (Ok count) → HoldsParts (renamed_2 s) old.now → HoldsParts (without_permissions s) new.now
 unfolding understood everything
 drops_permission old new s count h has =
-    drops (alike 3 s) (permission_part s) (item_part (map item_row (items_of s)) ∷ incident_part_2 (map named_row s.incidents) ∷ []) _ _ refl (dropped_by old new drop_permission (schema_of (renamed_2 s)) 8 (permission_part s).table has.known refl refl refl refl (refl, refl) count h) has
+    drops (alike 3 s) (permission_part s) (item_part (map item_row (items_of s)) ∷ incident_part_2 (map named_row_2 s.incidents) ∷ []) _ _ refl (dropped_by old new drop_permission (schema_of (renamed_2 s)) 8 (permission_part s).table has.known refl refl refl refl (refl, refl) count h) has
 
 abbrev pub create_permission : List ℕ
 create_permission = codes "CREATE TABLE permission (incident INTEGER NOT NULL, path TEXT NOT NULL, kind INTEGER NOT NULL, target INTEGER NOT NULL, until INTEGER, UNIQUE (incident, path, kind, target)) STRICT"

@@ -45,10 +45,10 @@ pub incident_found : (db : Trees) (s : core.State) (n : ℕ) (project : List Ter
     → IsPermutation (map (λ (i : Incident). shows project (Int (pos n) ∷ []) (named_row i)) (option_to_list (incident_of n s))) rows
 incident_found db s n project rows sound means a = one_with_number db incident_tree named_row incident_number s.incidents (λ i. refl) n project rows (held_of s incident_place _ refl means) a sound.incidents.numbered.0
 
-pub naming_found : (db : Trees) (s : core.State) (n : ℕ) (rows : List Row) → IsSound s → Means db s → IsAnswer (one_table incident_tree (is_param 0 0 ∷ []) (col 1 0 ∷ col 1 2 ∷ col 1 3 ∷ col 1 4 ∷ [])) db (Int (pos n) ∷ []) rows
+pub naming_found : (db : Trees) (s : core.State) (n : ℕ) (rows : List Row) → IsSound s → Means db s → IsAnswer (one_table incident_tree (is_param 0 0 ∷ []) (col 1 0 ∷ col 1 2 ∷ col 1 3 ∷ col 1 4 ∷ col 1 5 ∷ [])) db (Int (pos n) ∷ []) rows
     → IsPermutation (map naming_shown (option_to_list (naming_of n s))) rows
 naming_found db s n rows sound means a =
-    let project = col 1 0 ∷ col 1 2 ∷ col 1 3 ∷ col 1 4 ∷ [] in
+    let project = col 1 0 ∷ col 1 2 ∷ col 1 3 ∷ col 1 4 ∷ col 1 5 ∷ [] in
     subst (λ l. IsPermutation l rows) (as_viewed (λ (i : Incident). shows project (Int (pos n) ∷ []) (named_row i)) (λ (i : Incident). i.naming) naming_shown (λ i. refl) (incident_of n s))
     (incident_found db s n project rows sound means a)
 
@@ -99,7 +99,7 @@ entries_listed db s number most rows sound means a =
 -- ---- cases
 
 -- the case of an incident that is there, by what was read of it
-pub case_is : (s : core.State) (n : ℕ) (k : Naming) (case : Case) → Some k ≡ naming_of n s → IsCase k.source n s case → Some case ≡ case_of n s
+pub case_is : (s : core.State) (n : ℕ) (k : Naming) (case : Case) → Some k ≡ naming_of n s → IsCase k n s case → Some case ≡ case_of n s
 case_is s n k case is it = go (incident_of n s) refl is
   where
     go : (o : Option Incident) → incident_of n s ≡ o → Some k ≡ option_map (λ (i : Incident). i.naming) o → Some case ≡ option_map (case_for s) o
@@ -107,6 +107,7 @@ case_is s n k case is it = go (incident_of n s) refl is
     go (Some i) e h =
         let number : i.naming.number ≡ n = eqb-true i.naming.number n (found_is (λ (i : Incident). i.naming.number == n) s.incidents i e) in
         let source : k.source ≡ i.naming.source = cc in
-        let gates = it.1 ∙ sym (ap (λ m. its_gates m s.gates) number) in
-        let permissions = it.2 ∙ sym (ap (λ m. its_permissions m s.permissions) number) in
-        ap Some (λ j. record { source = (it.0 ∙ source) j; gates = gates j; permissions = permissions j })
+        let community : k.community ≡ i.naming.community = cc in
+        let gates = it.2 ∙ sym (ap (λ m. its_gates m s.gates) number) in
+        let permissions = it.3 ∙ sym (ap (λ m. its_permissions m s.permissions) number) in
+        ap Some (λ j. record { source = (it.0 ∙ source) j; community = (it.1 ∙ community) j; gates = gates j; permissions = permissions j })

@@ -20,6 +20,8 @@ pub mod GrantRows
 pub mod Grantable
 pub mod Granted
 pub mod Migrating
+pub mod NamedRows
+pub mod Unnaming
 pub mod Causes
 pub mod FirstRow
 pub mod WriteCauses
@@ -28,8 +30,12 @@ pub mod Standing
 pub mod LineCauses
 pub mod QueryCauses
 pub mod VersionCauses
+pub mod VersionCauses3
+pub mod Versioning
 pub mod NamingCauses
+pub mod UnnamedCauses
 pub mod Movable
+pub mod Unnamed
 pub mod Steps
 pub mod Creates
 pub mod PairSets

@@ -18,7 +18,7 @@ use Rattle.hub_core.specs.State.{State}
 use Rattle.hub_core.specs.declared.state.Naming.{Naming}
 use Rattle.iodef_tree.specs.declared.line.Line.{Line}
 use Rattle.hub_store.specs.Items.{Item, placed_lines, item_row, line_shown, kind_number}
-use Rattle.hub_store.specs.Rows.{naming_row}
+use Rattle.hub_store.specs.Rows.{naming_row_2}
 use Rattle.hub_store.specs.Tables.{schema_by, beside_item, without_incident, up_to_permission, hub_table, incident_table, item_table, incident_table_2}
 use Rattle.hub_store.specs.Parts.{Part, schema_of, HoldsParts}
 use Rattle.hub_store.specs.Layout.{without_rowids, common, incident_part, item_part, incident_part_2, parts_1, with_items, without_incidents, tables_2, unversioned_2}
@@ -35,7 +35,7 @@ use Rattle.hub_store.proofs.LineRows.{cast_items}
 use Rattle.hub_store.proofs.LineCauses.{lines_count, lines_fail, terms_accepted, lines_bound}
 use Rattle.hub_store.proofs.Standing.{stand_permuted}
 use Rattle.hub_store.proofs.VersionCauses.{take_fails}
-use Rattle.hub_store.proofs.Texts.{put_line, put_naming, put_version, line_terms}
+use Rattle.hub_store.proofs.Texts.{put_line, put_naming_2, put_version, line_terms}
 
 -- the schema that the statements of version 1 make is that of its parts
 first_version : (s : State) → created up_to_permission incident_table ≡ schema_of (parts_1 s)
@@ -111,12 +111,12 @@ line_fails incident place line s items more same can old new e h has other =
 stands_incidents : (s : State) (items incidents : List Row) → Stands (common 1 s ++ item_part items ∷ []) (incident_part_2 incidents) [] 10
 stands_incidents s items incidents = record { listed = refl; uncounted = refl; timeless = refl; alone = λ tree olds news. refl; apart = refl; same = λ rows. refl }
 
-pub moves_naming : (old new : sql.State) (naming : Naming) (s : State) (items incidents more : List Row) → IsPermutation (naming_row naming ∷ incidents) more → (count : ℕ)
-    → Executes put_naming (Int (pos naming.number) ∷ Int (pos naming.source) ∷ Text naming.ident ∷ Int (pos naming.revision) ∷ []) old new (Ok count) → HoldsParts (tables_2 1 items incidents s) old.now → HoldsParts (tables_2 1 items more s) new.now
+pub moves_naming : (old new : sql.State) (naming : Naming) (s : State) (items incidents more : List Row) → IsPermutation (naming_row_2 naming ∷ incidents) more → (count : ℕ)
+    → Executes put_naming_2 (Int (pos naming.number) ∷ Int (pos naming.source) ∷ Text naming.ident ∷ Int (pos naming.revision) ∷ []) old new (Ok count) → HoldsParts (tables_2 1 items incidents s) old.now → HoldsParts (tables_2 1 items more s) new.now
 unfolding understood everything
 moves_naming old new naming s items incidents more same count h has =
-    puts (common 1 s ++ item_part items ∷ []) (incident_part_2 incidents) [] 10 (stands_incidents s items incidents) put_naming _ old new (refl, refl) count h has (col 0 0 ∷ lit Null ∷ col 0 1 ∷ col 0 2 ∷ col 0 3 ∷ []) 5 refl (naming_row naming) refl
-    (rw (cast_int naming.number, cast_int naming.source, cast_int naming.revision, cast_null) refl) (naming_row naming) (λ rows. refl) more same
+    puts (common 1 s ++ item_part items ∷ []) (incident_part_2 incidents) [] 10 (stands_incidents s items incidents) put_naming_2 _ old new (refl, refl) count h has (col 0 0 ∷ lit Null ∷ col 0 1 ∷ col 0 2 ∷ col 0 3 ∷ []) 5 refl (naming_row_2 naming) refl
+    (rw (cast_int naming.number, cast_int naming.source, cast_int naming.revision, cast_null) refl) (naming_row_2 naming) (λ rows. refl) more same
 
 -- ---- the version is exchanged
 

@@ -32,10 +32,10 @@ use Rattle.hub_core.specs.declared.state.Incident.{Incident}
 use Rattle.hub_core.specs.declared.state.Naming.{Naming}
 use Rattle.hub_core.proofs.Keeping.{numbers_above}
 use Rattle.hub_store.specs.inner.Beside.{begin_alike, Apart, IsShortLine, CanStand, NumbersApart, IdentsApart, IsShortNaming, CanName}
-use Rattle.hub_store.specs.Fit.{AreTaken, ShortItem, ShortNaming, FitIncident}
+use Rattle.hub_store.specs.Fit.{AreTaken, IsShort, ShortItem, ShortNaming, FitIncident}
 use Rattle.hub_store.specs.Items.{Item, items_from, items_in, item_row}
 use Rattle.hub_store.specs.inner.Moving.{HasTexts, IsReadable, ReadsFirst, old_shown, incidents_up_to}
-use Rattle.hub_store.specs.Rows.{named_row, naming_row}
+use Rattle.hub_store.specs.Rows.{named_row_2, naming_row_2}
 use Rattle.hub_store.proofs.Compare.{equal_numbers, equal_texts}
 use Rattle.hub_store.proofs.OldTexts.{read_back}
 
@@ -274,47 +274,61 @@ below a b low = grind (arith, nat_tests)
 above : (a b : ℕ) → a < b → is_eq (int_cmp (pos b) (pos a)) ≡ false
 above a b low = grind (arith, nat_tests)
 
-numbers_apart : (a b : Naming) → a.number < b.number → NumbersApart (naming_row a) (naming_row b)
+pub numbers_apart : (a b : Naming) → a.number < b.number → NumbersApart (naming_row_2 a) (naming_row_2 b)
 numbers_apart a b low =
     (ap is_eq (value_cmp-Int (pos a.number) (pos b.number)) ∙ below a.number b.number low, ap is_eq (value_cmp-Int (pos b.number) (pos a.number)) ∙ above a.number b.number low)
 
-abbrev key_of : Incident → ℕ × List ℕ
+abbrev pub key_of : Incident → ℕ × List ℕ
 key_of i = (i.naming.source, i.naming.ident)
 
-idents_differ : (a b : Incident) → key_of a ≢ key_of b → begin_alike 2 (named_row a) (named_row b) ≡ false
+idents_differ : (a b : Incident) → key_of a ≢ key_of b → begin_alike 2 (named_row_2 a) (named_row_2 b) ≡ false
 idents_differ a b other =
     ap₂ (λ x y. x && y) (equal_numbers a.naming.source b.naming.source) (equal_texts a.naming.ident b.naming.ident)
     ∙ false_from_ne_true _ (λ both.
     let parts = and_parts (a.naming.source == b.naming.source) (bytes_eq a.naming.ident b.naming.ident) both in
     other (ap₂ (λ (x : ℕ) (y : List ℕ). (x, y)) (eqb-true a.naming.source b.naming.source parts.0) (bytes_eq-true a.naming.ident b.naming.ident parts.1)))
 
-idents_apart : (a b : Incident) → key_of a ≢ key_of b → IdentsApart (named_row a) (named_row b)
+pub idents_apart : (a b : Incident) → key_of a ≢ key_of b → IdentsApart (named_row_2 a) (named_row_2 b)
 idents_apart a b other = (idents_differ a b other, idents_differ b a (λ same. other (sym same)))
 
-names_rise : (is : List Incident) → Ascend is → Pairwise NumbersApart (map named_row is)
-names_rise [] up = tt
-names_rise (i ∷ is) up = (each is up.0, names_rise is up.1)
-  where
-    each : (js : List Incident) → NumbersAbove i.naming.number js → AllByRecursion (NumbersApart (named_row i)) (map named_row js)
-    each [] all = tt
-    each (j ∷ js) all = (numbers_apart i.naming j.naming all.0, each js all.1)
+-- of the rows of a version, which tell the number, the source and the ident
+module _ (kept : Naming → Row) (numbers : (a b : Naming) → a.number < b.number → NumbersApart (kept a) (kept b)) (idents : (a b : Incident) → key_of a ≢ key_of b → IdentsApart (kept a.naming) (kept b.naming)) where
+  abbrev kept_row : Incident → Row
+  kept_row i = kept i.naming
 
-names_differ : (is : List Incident) → Pairwise (λ (a b : Incident). key_of a ≢ key_of b) is → Pairwise IdentsApart (map named_row is)
-names_differ [] p = tt
-names_differ (i ∷ is) p = (each is p.0, names_differ is p.1)
-  where
-    each : (js : List Incident) → AllByRecursion (λ (j : Incident). key_of i ≢ key_of j) js → AllByRecursion (IdentsApart (named_row i)) (map named_row js)
-    each [] all = tt
-    each (j ∷ js) all = (idents_apart i j all.0, each js all.1)
+  names_rise : (is : List Incident) → Ascend is → Pairwise NumbersApart (map kept_row is)
+  names_rise [] up = tt
+  names_rise (i ∷ is) up = (each is up.0, names_rise is up.1)
+    where
+      each : (js : List Incident) → NumbersAbove i.naming.number js → AllByRecursion (NumbersApart (kept_row i)) (map kept_row js)
+      each [] all = tt
+      each (j ∷ js) all = (numbers i.naming j.naming all.0, each js all.1)
 
-short_names : (is : List Incident) → AllByRecursion ShortNaming is → AllByRecursion (λ (i : Incident). i.naming.number ≤ 1000000) is → AllByRecursion IsShortNaming (map named_row is)
-short_names [] all low = tt
-short_names (i ∷ is) all low = ((i.naming, refl, all.0.1, omega (arith, low.0)), short_names is all.1 low.1)
+  names_differ : (is : List Incident) → Pairwise (λ (a b : Incident). key_of a ≢ key_of b) is → Pairwise IdentsApart (map kept_row is)
+  names_differ [] p = tt
+  names_differ (i ∷ is) p = (each is p.0, names_differ is p.1)
+    where
+      each : (js : List Incident) → AllByRecursion (λ (j : Incident). key_of i ≢ key_of j) js → AllByRecursion (IdentsApart (kept_row i)) (map kept_row js)
+      each [] all = tt
+      each (j ∷ js) all = (idents i j all.0, each js all.1)
 
--- all incidents stand in the new table
-pub names_stand : (s : core.State) → IsSound s → AreTaken s → CanName (map named_row s.incidents)
-names_stand s sound taken = record {
-  numbers = names_rise s.incidents (ascending 0 s.incidents sound.incidents.numbered.0);
-  idents = names_differ s.incidents sound.incidents.idents;
-  namings = short_names s.incidents taken.incidents (low_numbers s sound);
-}
+  short_names : (is : List Incident) → AllByRecursion (λ (i : Incident). IsShort (kept i.naming)) is → AllByRecursion (λ (i : Incident). i.naming.number ≤ 1000000) is → AllByRecursion (IsShortNaming kept) (map kept_row is)
+  short_names [] all low = tt
+  short_names (i ∷ is) all low = ((i.naming, refl, all.0, omega (arith, low.0)), short_names is all.1 low.1)
+
+  -- all incidents stand in the table that keeps them so
+  pub names_stand_as : (s : core.State) → IsSound s → AllByRecursion (λ (i : Incident). IsShort (kept i.naming)) s.incidents → CanName kept (map (λ (i : Incident). kept i.naming) s.incidents)
+  names_stand_as s sound short = record {
+    numbers = names_rise s.incidents (ascending 0 s.incidents sound.incidents.numbered.0);
+    idents = names_differ s.incidents sound.incidents.idents;
+    namings = short_names s.incidents short (low_numbers s sound);
+  }
+
+-- without its community a row is shorter
+shorter : (i : Incident) → ShortNaming i → IsShort (named_row_2 i)
+shorter i short = omega (arith, short.1)
+
+-- all incidents stand in the table of version 2
+pub names_stand : (s : core.State) → IsSound s → AreTaken s → CanName naming_row_2 (map named_row_2 s.incidents)
+names_stand s sound taken =
+    names_stand_as naming_row_2 numbers_apart idents_apart s sound (all_weaker ShortNaming (λ (i : Incident). IsShort (named_row_2 i)) shorter s.incidents taken.incidents)

@@ -19,7 +19,7 @@ use Rattle.hub_store.specs.Means.{HoldsAs}
 use Rattle.hub_store.specs.inner.Moving.{HasTexts, HoldsMoved, HoldsNext, incident_above, naming_in}
 use Rattle.hub_store.specs.Parts.{HoldsParts}
 use Rattle.hub_store.specs.inner.PutsLines.{PutsLines}
-use Rattle.hub_store.specs.Rows.{naming_row, named_row}
+use Rattle.hub_store.specs.Rows.{naming_row_2, named_row_2}
 use Rattle.hub_store.specs.inner.Beside.{HoldsBeside}
 use Rattle.hub_store.proofs.Movable.{all_low}
 use Rattle.hub_store.proofs.Moved.{none_moved, next_more, next_kept, all_moved}
@@ -61,20 +61,26 @@ pub tables_of_1 : (db : Database) (s : core.State) → HoldsAs 1 db s → HoldsP
 tables_of_1 db s held = record { known = held.known; whole = held.whole; means = held.means }
 
 pub texts_of_1 : (db : Database) (s : core.State) → IsSound s → HoldsAs 1 db s → HasTexts s
-texts_of_1 db s sound held = record { sound = sound; texts = held.fit.1 }
+texts_of_1 db s sound held = record { sound = sound; texts = held.fit.1; unnamed = held.fit.0.0.1 }
 
 -- ---- which version it is
 
-pub only_1 : (v : ℕ) → IsTrue (is_older v) → v < 2 → v ≡ 1
-only_1 v older low = grind (arith, nat_tests)
+pub only_1 : (v : ℕ) → 0 < v → v < 2 → v ≡ 1
+only_1 v some low = grind (arith, nat_tests)
 
-pub only_2 : (v : ℕ) → IsTrue (is_older v) → 2 ≤ v → v ≡ 2
-only_2 v older high = grind (arith, nat_tests)
+pub only_2 : (v : ℕ) → v < 3 → 2 ≤ v → v ≡ 2
+only_2 v low high = grind (arith, nat_tests)
+
+pub only_3 : (v : ℕ) → IsTrue (is_older v) → 3 ≤ v → v ≡ 3
+only_3 v older high = grind (arith, nat_tests)
+
+pub above_none : (v : ℕ) → IsTrue (is_older v) → 0 < v
+above_none v older = grind (arith, nat_tests)
 
 -- ---- version 2
 
 pub held_as_2 : (db : Database) (s : core.State) → FitAs 2 s → HoldsParts (parts_2 s) db → HoldsAs 2 db s
 held_as_2 db s fit has = record { known = has.known; whole = has.whole; means = has.means; fit = fit }
 
-pub rows_of_namings : (kept : List Naming) (is : List Incident) → kept ≡ naming_in is → map naming_row kept ≡ map named_row is
-rows_of_namings kept is same = ap (map naming_row) same ∙ map-map naming_row (λ (i : Incident). i.naming) is
+pub rows_of_namings : (kept : List Naming) (is : List Incident) → kept ≡ naming_in is → map naming_row_2 kept ≡ map named_row_2 is
+rows_of_namings kept is same = ap (map naming_row_2) same ∙ map-map naming_row_2 (λ (i : Incident). i.naming) is

@@ -50,13 +50,13 @@ use Rattle.hub_store.specs.Failing.{HasReason}
 use Rattle.hub_store.specs.Fit.{IsShort}
 use Rattle.hub_store.specs.Layout.{incident_part_2, tables_2}
 use Rattle.hub_store.specs.Parts.{HoldsParts}
-use Rattle.hub_store.specs.Rows.{naming_row}
+use Rattle.hub_store.specs.Rows.{naming_row_2}
 use Rattle.hub_store.specs.Tables.{schema_by}
 use Rattle.hub_store.proofs.Causes.{fails_as}
 use Rattle.hub_store.proofs.Compare.{cast_int, cast_null, and_true}
 use Rattle.hub_store.proofs.Lists.{came_in, has_permuted}
 use Rattle.hub_store.proofs.Standing.{OneApart, pairs_permuted, no_clash}
-use Rattle.hub_store.proofs.Texts.{put_naming}
+use Rattle.hub_store.proofs.Texts.{put_naming_2}
 use Rattle.hub_store.proofs.WriteCauses.{Breaks, IsWritable, insert_stops}
 
 abbrev schema_2 : Schema
@@ -68,24 +68,24 @@ incident = (incident_part_2 []).table
 pub stands_incident : IsWritable schema_2 incident 10
 stands_incident = record { listed = refl; uncounted = refl; alone = λ tree olds news. refl; unreferred = (refl, (refl, (refl, (refl, (refl, (refl, (refl, (refl, (refl, (refl, (refl, tt))))))))))) }
 
-storable : (k : Naming) → IsShort (naming_row k) → IsStorableRow (table_reals incident) (naming_row k)
+storable : (k : Naming) → IsShort (naming_row_2 k) → IsStorableRow (table_reals incident) (naming_row_2 k)
 unfolding is_nan
 storable k short = (
   record {
     typed = λ c h. absurd (grind arith);
     columns = (omega arith, omega arith);
-    numbers = All-from_recursion (λ (x : Value). NotNan (number x)) (naming_row k) (tt, (tt, (tt, (tt, (tt, tt)))));
+    numbers = All-from_recursion (λ (x : Value). NotNan (number x)) (naming_row_2 k) (tt, (tt, (tt, (tt, (tt, tt)))));
     short = short;
   },
   omega arith,
 )
 
-entry_storable : (k : Naming) → IsShort (naming_row k) → IsStorable (index_reals (table_reals incident) (2 ∷ 3 ∷ [])) (entry_of (2 ∷ 3 ∷ []) (naming_row k))
+entry_storable : (k : Naming) → IsShort (naming_row_2 k) → IsStorable (index_reals (table_reals incident) (2 ∷ 3 ∷ [])) (entry_of (2 ∷ 3 ∷ []) (naming_row_2 k))
 unfolding is_nan
 entry_storable k short = record {
   typed = λ c h. absurd (grind arith);
   columns = (omega arith, omega arith);
-  numbers = All-from_recursion (λ (x : Value). NotNan (number x)) (entry_of (2 ∷ 3 ∷ []) (naming_row k)) (tt, (tt, (tt, tt)));
+  numbers = All-from_recursion (λ (x : Value). NotNan (number x)) (entry_of (2 ∷ 3 ∷ []) (naming_row_2 k)) (tt, (tt, (tt, tt)));
   short = omega (arith, short);
 }
 
@@ -94,18 +94,18 @@ own_columns i h is =
     let own : (not (i.table == incident.tree) || bytes_eq i.columns (2 ∷ 3 ∷ [])) ≡ true = test_has (λ (i : Index). not (i.table == incident.tree) || bytes_eq i.columns (2 ∷ 3 ∷ [])) schema_2.indexes i refl h in
     bytes_eq-true i.columns (2 ∷ 3 ∷ []) (subst (λ t. (not (t == incident.tree) || bytes_eq i.columns (2 ∷ 3 ∷ [])) ≡ true) is own)
 
-sized : (k : Naming) → IsShort (naming_row k) → ¬ IsOversized schema_2 incident (naming_row k)
+sized : (k : Naming) → IsShort (naming_row_2 k) → ¬ IsOversized schema_2 incident (naming_row_2 k)
 sized k short (inl big) = big (storable k short)
-sized k short (inr index) = index.3 (subst (λ (cs : List ℕ). IsStorable (index_reals (table_reals incident) cs) (entry_of cs (naming_row k))) (sym (own_columns index.0 index.1 index.2)) (entry_storable k short))
+sized k short (inr index) = index.3 (subst (λ (cs : List ℕ). IsStorable (index_reals (table_reals incident) cs) (entry_of cs (naming_row_2 k))) (sym (own_columns index.0 index.1 index.2)) (entry_storable k short))
 
-agrees : Row → Row → Bool
+unfoldable pub agrees : Row → Row → Bool
 agrees a b = agree plain (2 ∷ 3 ∷ []) a (2 ∷ 3 ∷ []) b
 
-as_begun : (a b : Row) → agrees a b ≡ begin_alike 2 a b
+pub as_begun : (a b : Row) → agrees a b ≡ begin_alike 2 a b
 unfolding agrees first_key
 as_begun a b = ap (λ c. equal Binary (column a 2) (column b 2) && c) (and_true _)
 
-apart_agrees : (rows : List Row) → Pairwise IdentsApart rows → Pairwise (OneApart agrees) rows
+pub apart_agrees : (rows : List Row) → Pairwise IdentsApart rows → Pairwise (OneApart agrees) rows
 apart_agrees [] p = tt
 apart_agrees (r ∷ rows) p = (each rows p.0, apart_agrees rows p.1)
   where
@@ -117,25 +117,25 @@ unique_rows : (rows : List Row) → Pairwise IdentsApart rows → AllByRecursion
 unfolding agrees
 unique_rows rows apart = all_from _ rows (λ row h. and_true _ ∙ ap not (no_clash agrees rows (apart_agrees rows apart) row h))
 
-not_taken : (new : Row) (rows : List Row) → AllByRecursion (NumbersApart new) rows → is_taken rows new ≡ false
+pub not_taken : (new : Row) (rows : List Row) → AllByRecursion (NumbersApart new) rows → is_taken rows new ≡ false
 not_taken new [] all = refl
 not_taken new (r ∷ rows) all = ap (λ b. b || is_taken rows new) all.0.1 ∙ not_taken new rows all.1
 
-module _ (db : Trees) (whole : IsDatabase (record { schema = schema_2; trees = db })) (k : Naming) (incidents : List Row) (held : IsPermutation incidents (map (λ (r : Row). r) (db incident.tree))) (can : CanName (naming_row k ∷ incidents)) (low : k.number < 2 ^ 63) (short : IsShort (naming_row k)) where
+module _ (db : Trees) (whole : IsDatabase (record { schema = schema_2; trees = db })) (k : Naming) (incidents : List Row) (held : IsPermutation incidents (map (λ (r : Row). r) (db incident.tree))) (can : CanName naming_row_2 (naming_row_2 k ∷ incidents)) (low : k.number < 2 ^ 63) (short : IsShort (naming_row_2 k)) where
   edit : Edit
-  edit = record { table = incident; gone = []; news = naming_row k ∷ [] }
+  edit = record { table = incident; gone = []; news = naming_row_2 k ∷ [] }
 
   are : IsPermutation incidents (db incident.tree)
   are = subst (IsPermutation incidents) (map-id (db incident.tree)) held
 
-  free : is_taken (db incident.tree) (naming_row k) ≡ false
-  free = not_taken (naming_row k) (db incident.tree) (all_from (NumbersApart (naming_row k)) (db incident.tree) (λ y h. all_has (NumbersApart (naming_row k)) incidents y can.numbers.0 (has_permuted (db incident.tree) incidents (IsPermutation-sym _ _ are) y h)))
+  free : is_taken (db incident.tree) (naming_row_2 k) ≡ false
+  free = not_taken (naming_row_2 k) (db incident.tree) (all_from (NumbersApart (naming_row_2 k)) (db incident.tree) (λ y h. all_has (NumbersApart (naming_row_2 k)) incidents y can.numbers.0 (has_permuted (db incident.tree) incidents (IsPermutation-sym _ _ are) y h)))
 
-  unique : Keeps Unique schema_2 (with_tree db incident.tree (put_row (naming_row k) (db incident.tree)))
+  unique : Keeps Unique schema_2 (with_tree db incident.tree (put_row (naming_row_2 k) (db incident.tree)))
   unique =
       let u = whole.obeys.rules Unique in
-      let rows = put_row (naming_row k) (db incident.tree) in
-      let apart = pairs_permuted (begin_alike 2) (naming_row k ∷ incidents) rows (IsPermutation-trans _ _ _ (IsPermutation-cons (naming_row k) _ _ are) (came_in (naming_row k) (db incident.tree) free)) can.idents in
+      let rows = put_row (naming_row_2 k) (db incident.tree) in
+      let apart = pairs_permuted (begin_alike 2) (naming_row_2 k ∷ incidents) rows (IsPermutation-trans _ _ _ (IsPermutation-cons (naming_row_2 k) _ _ are) (came_in (naming_row_2 k) (db incident.tree) free)) can.idents in
       (u.0, (u.1.0, (u.1.1.0, (u.1.1.1.0, (u.1.1.1.1.0, (u.1.1.1.1.1.0, (u.1.1.1.1.1.1.0, (u.1.1.1.1.1.1.1.0, (u.1.1.1.1.1.1.1.1.0, (u.1.1.1.1.1.1.1.1.1.0, (unique_rows rows apart, tt)))))))))))
 
   unrefused : (why : Refusal) → ¬ IsRefused schema_2 Enforced db edit why
@@ -157,17 +157,17 @@ module _ (db : Trees) (whole : IsDatabase (record { schema = schema_2; trees = d
   unbroken (inr (row, inl same, big)) = sized k short (subst (IsOversized schema_2 incident) same big)
   unbroken (inr (row, inr none, big)) = none
 
-cast_naming : (k : Naming) → cast_row incident (naming_row k) ≡ naming_row k
+cast_naming : (k : Naming) → cast_row incident (naming_row_2 k) ≡ naming_row_2 k
 cast_naming k = rw (cast_int k.number, cast_int k.source, cast_int k.revision, cast_null) refl
 
 abbrev terms : List Term
 terms = col 0 0 ∷ lit Null ∷ col 0 1 ∷ col 0 2 ∷ col 0 3 ∷ []
 
-number_of : (k j : Naming) → naming_row k ≡ naming_row j → k.number ≡ j.number
+number_of : (k j : Naming) → naming_row_2 k ≡ naming_row_2 j → k.number ≡ j.number
 number_of k j is = cc
 
-pub naming_fails : (k : Naming) (s : core.State) (items incidents : List Row) → CanName (naming_row k ∷ incidents)
-    → (old new : State) (e : Error) → ExecutesInside 0 put_naming (Int (pos k.number) ∷ Int (pos k.source) ∷ Text k.ident ∷ Int (pos k.revision) ∷ []) old new (Err e) → HoldsParts (tables_2 1 items incidents s) old.now → e ≢ SqliteFailure code.OutOfMemory → HasReason old new
+pub naming_fails : (k : Naming) (s : core.State) (items incidents : List Row) → CanName naming_row_2 (naming_row_2 k ∷ incidents)
+    → (old new : State) (e : Error) → ExecutesInside 0 put_naming_2 (Int (pos k.number) ∷ Int (pos k.source) ∷ Text k.ident ∷ Int (pos k.revision) ∷ []) old new (Err e) → HoldsParts (tables_2 1 items incidents s) old.now → e ≢ SqliteFailure code.OutOfMemory → HasReason old new
 unfolding understood everything edit
 naming_fails k s items incidents can old new e h has other =
     let db = old.now.trees in
@@ -176,9 +176,9 @@ naming_fails k s items incidents can old new e h has other =
     let low : k.number < 2 ^ 63 = subst (λ n. n < 2 ^ 63) (sym (number_of k own.0 own.1)) own.3 in
     let params = Int (pos k.number) ∷ Int (pos k.source) ∷ Text k.ident ∷ Int (pos k.revision) ∷ [] in
     let news = ap (λ r. numbered Chosen (db incident.tree) (r ∷ [])) (cast_naming k) in
-    elim (fails_as put_naming params old new schema_2 has.known (Insert 10 (Values terms 5)) refl tt (refl, refl, refl, refl) e other h) [
+    elim (fails_as put_naming_2 params old new schema_2 has.known (Insert 10 (Values terms 5)) refl tt (refl, refl, refl, refl) e other h) [
       | inl reason ↦ reason
-      | inr refused ↦ elim (insert_stops schema_2 incident 10 stands_incident old (statement_of put_naming (understood schema_2 put_naming)) params terms 5 has.known refl refused.0 refused.1) [
+      | inr refused ↦ elim (insert_stops schema_2 incident 10 stands_incident old (statement_of put_naming_2 (understood schema_2 put_naming_2)) params terms 5 has.known refl refused.0 refused.1) [
         | inl limited ↦ inr (inr limited)
         | inr broken ↦ absurd (unbroken db sound k incidents has.means.1.1.1.1.1.1.1.1.1.1.0.same can low own.2 (subst (λ l. Breaks schema_2 db (record { table = incident; gone = []; news = l })) news broken))
       ]

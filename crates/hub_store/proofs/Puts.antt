@@ -132,8 +132,9 @@ pub puts_permission : (old new : State) (incident : ℕ) (path : List ℕ) (kind
     → Put permissions (Null ∷ Int (pos incident) ∷ Text path ∷ Int (pos kind) ∷ Int (pos target) ∷ moment_or_null until ∷ []) old new
 puts_permission old new incident path kind target until has count h = put_one permissions permission_place refl refl refl (λ tree olds news. refl) put_permission _ old new has put_permission_plain count h _ _ put_permission_is _ refl (rw (cast_int incident, cast_int kind, cast_int target, cast_moment until, cast_null) refl)
 
-pub puts_naming : (old new : State) (number : ℕ) (source : ℕ) (ident : List ℕ) (revision : ℕ) → old.now.schema ≡ hub_schema → (count : ℕ) → Executes put_naming (Int (pos number) ∷ Int (pos source) ∷ Text ident ∷ Int (pos revision) ∷ []) old new (Ok count) → Put incidents (Int (pos number) ∷ Null ∷ Int (pos source) ∷ Text ident ∷ Int (pos revision) ∷ []) old new
-puts_naming old new number source ident revision has count h = put_one incidents incident_place refl refl refl (λ tree olds news. refl) put_naming _ old new has put_naming_plain count h _ _ put_naming_is _ refl (rw (cast_int number, cast_int source, cast_int revision, cast_null) refl)
+pub puts_naming : (old new : State) (number : ℕ) (source : ℕ) (ident : List ℕ) (revision : ℕ) (community : Option ℕ) → old.now.schema ≡ hub_schema → (count : ℕ) → Executes put_naming (Int (pos number) ∷ Int (pos source) ∷ Text ident ∷ Int (pos revision) ∷ number_or_null community ∷ []) old new (Ok count)
+    → Put incidents (Int (pos number) ∷ Null ∷ Int (pos source) ∷ Text ident ∷ Int (pos revision) ∷ number_or_null community ∷ []) old new
+puts_naming old new number source ident revision community has count h = put_one incidents incident_place refl refl refl (λ tree olds news. refl) put_naming _ old new has put_naming_plain count h _ _ put_naming_is _ refl (rw (cast_int number, cast_int source, cast_int revision, cast_option community, cast_null) refl)
 
 pub puts_line : (old new : State) (incident place depth : ℕ) (name : List ℕ) (in_array : Bool) (kind : ℕ) (text : List ℕ) → old.now.schema ≡ hub_schema → (count : ℕ) → Executes put_line (Int (pos incident) ∷ Int (pos place) ∷ Int (pos depth) ∷ Text name ∷ flag in_array ∷ Int (pos kind) ∷ Text text ∷ []) old new (Ok count)
     → Put items (Null ∷ Int (pos incident) ∷ Int (pos place) ∷ Int (pos depth) ∷ Text name ∷ flag in_array ∷ Int (pos kind) ∷ Text text ∷ []) old new

@@ -1,5 +1,5 @@
 -- Why a store of an older version, which stands for a state, is not brought to the newest.
-use Rattle.std.proofs.Common.{◌≡◌, ◌≤◌, ◌⊎◌, inl, inr, ℕ, Bool, true, false, is_some, IsTrue, refl, sym, subst}
+use Rattle.std.proofs.Common.{◌≡◌, ◌≤◌, inl, inr, ℕ, Bool, true, false, is_some, IsTrue, refl, sym, subst}
 use Rattle.sqlite_trees.specs.declared.store.Store as store
 use Rattle.sqlite_schema.specs.Names.{same_name}
 use Rattle.sqlite.specs.Held.{Held, state}
@@ -12,12 +12,13 @@ use Rattle.hub_store.specs.Tables.{schema_by}
 use Rattle.hub_store.specs.Versions.{version_column}
 use Rattle.hub_store.proofs.Causes.{reason_before}
 use Rattle.hub_store.proofs.Runs.{has_now}
-use Rattle.hub_store.proofs.VersionHeld.{older_is}
+use Rattle.hub_store.proofs.VersionHeld.{IsOneOfThree, older_is}
 
-column_there : (v : ℕ) → (v ≡ 1) ⊎ (v ≡ 2) → is_some (version_column (schema_by v)) ≡ true
+column_there : (v : ℕ) → IsOneOfThree v → is_some (version_column (schema_by v)) ≡ true
 unfolding same_name
 column_there v (inl is) = subst (λ n. is_some (version_column (schema_by n)) ≡ true) (sym is) refl
-column_there v (inr is) = subst (λ n. is_some (version_column (schema_by n)) ≡ true) (sym is) refl
+column_there v (inr (inl is)) = subst (λ n. is_some (version_column (schema_by n)) ≡ true) (sym is) refl
+column_there v (inr (inr is)) = subst (λ n. is_some (version_column (schema_by n)) ≡ true) (sym is) refl
 
 -- an open store has the column of the version, and obeys its tables
 there : (v : ℕ) (old : State) (s : core.State) → IsTrue (is_older v) → HasAs v old s → IsTrue old.is_open → (is_some (version_column old.now.schema) ≡ true) × IsLive old

@@ -17,6 +17,7 @@ use Rattle.sqlite_schema.specs.Rules.{differ}
 use Rattle.sqlite_rules.specs.Lists.{Has}
 use Rattle.sqlite_rules.proofs.ListLemmas.{all_has, all_from}
 use Rattle.circle.specs.Sound.{Pairwise}
+use Rattle.hub_core.specs.declared.state.Naming.{Naming}
 use Rattle.hub_store.specs.inner.Beside.{begin_alike, IsShortLine, CanStand, IsShortNaming, CanName}
 use Rattle.hub_store.proofs.Lists.{has_permuted}
 
@@ -121,11 +122,11 @@ stand_behind xs ys can = record {
 }
 
 -- the first names stand, with one of them in front
-pub first_names : (new : Row) (before rows rest : List Row) → IsPermutation (new ∷ before) rows → CanName (rows ++ rest) → CanName (new ∷ before)
-first_names new before rows rest is can =
+pub first_names : (kept : Naming → Row) (new : Row) (before rows rest : List Row) → IsPermutation (new ∷ before) rows → CanName kept (rows ++ rest) → CanName kept (new ∷ before)
+first_names kept new before rows rest is can =
     let back = IsPermutation-sym (new ∷ before) rows is in
     record {
       numbers = pairs_permuted (λ a b. is_eq (value_cmp (rowid a) (rowid b))) rows (new ∷ before) back (pairs_before (λ a b. is_eq (value_cmp (rowid a) (rowid b))) rows rest can.numbers);
       idents = pairs_permuted (begin_alike 2) rows (new ∷ before) back (pairs_before (begin_alike 2) rows rest can.idents);
-      namings = all_from IsShortNaming (new ∷ before) (λ y h. all_has IsShortNaming rows y (all_before IsShortNaming rows rest can.namings) (has_permuted (new ∷ before) rows is y h));
+      namings = all_from (IsShortNaming kept) (new ∷ before) (λ y h. all_has (IsShortNaming kept) rows y (all_before (IsShortNaming kept) rows rest can.namings) (has_permuted (new ∷ before) rows is y h));
     }

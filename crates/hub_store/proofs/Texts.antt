@@ -111,15 +111,19 @@ unfolding understood everything
 put_permission_plain = (refl, refl)
 
 abbrev pub put_naming : List ℕ
-put_naming = codes "INSERT INTO incident (number, source, ident, revision) VALUES (?1, ?2, ?3, ?4)"
+put_naming = codes "INSERT INTO incident (number, source, ident, revision, community) VALUES (?1, ?2, ?3, ?4, ?5)"
 
-pub put_naming_is : command_of (understood hub_schema put_naming) ≡ Insert incident_place (Values (col 0 0 ∷ lit Null ∷ col 0 1 ∷ col 0 2 ∷ col 0 3 ∷ []) 5)
+pub put_naming_is : command_of (understood hub_schema put_naming) ≡ Insert incident_place (Values (col 0 0 ∷ lit Null ∷ col 0 1 ∷ col 0 2 ∷ col 0 3 ∷ col 0 4 ∷ []) 6)
 unfolding understood everything
 put_naming_is = refl
 
 pub put_naming_plain : IsPlain (understood hub_schema put_naming)
 unfolding understood everything
 put_naming_plain = (refl, refl)
+
+-- without a community, as a migration puts it
+abbrev pub put_naming_2 : List ℕ
+put_naming_2 = codes "INSERT INTO incident (number, source, ident, revision) VALUES (?1, ?2, ?3, ?4)"
 
 -- the columns of a line are the parameters from a place on, behind the incident's
 abbrev pub line_terms : ℕ → List Term
@@ -415,9 +419,9 @@ unfolding understood everything
 permissions_of_incident_plain = ((refl, refl), refl)
 
 abbrev pub incident_with_number : List ℕ
-incident_with_number = codes "SELECT number, source, ident, revision FROM incident WHERE number = ?1"
+incident_with_number = codes "SELECT number, source, ident, revision, community FROM incident WHERE number = ?1"
 
-pub incident_with_number_is : command_of (understood hub_schema incident_with_number) ≡ Select (program (one_table incident_tree (is_param 0 0 ∷ []) (col 1 0 ∷ col 1 2 ∷ col 1 3 ∷ col 1 4 ∷ []))) (codes "number" ∷ codes "source" ∷ codes "ident" ∷ codes "revision" ∷ [])
+pub incident_with_number_is : command_of (understood hub_schema incident_with_number) ≡ Select (program (one_table incident_tree (is_param 0 0 ∷ []) (col 1 0 ∷ col 1 2 ∷ col 1 3 ∷ col 1 4 ∷ col 1 5 ∷ []))) (codes "number" ∷ codes "source" ∷ codes "ident" ∷ codes "revision" ∷ codes "community" ∷ [])
 unfolding understood everything
 incident_with_number_is = refl
 

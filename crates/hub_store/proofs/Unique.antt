@@ -282,7 +282,9 @@ one_naming a b e =
     let source : a.source ≡ b.source = cc in
     let ident : a.ident ≡ b.ident = cc in
     let revision : a.revision ≡ b.revision = cc in
-    λ i. record { number = number i; source = source i; ident = ident i; revision = revision i }
+    let null : number_or_null a.community ≡ number_or_null b.community = cc in
+    let community = one_number a.community b.community null in
+    λ i. record { number = number i; source = source i; ident = ident i; revision = revision i; community = community i }
 
 one_item : (a b : Item) → item_row a ≡ item_row b → a ≡ b
 one_item a b e =

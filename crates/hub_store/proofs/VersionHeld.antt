@@ -38,19 +38,28 @@ pub tells_3 : (db : Database) (s : core.State) → HoldsAs 3 db s → version_of
 unfolding same_name
 tells_3 db s held = ap (λ schema. only_u32 (versions_by db.trees (hub_of schema))) held.known ∙ ap only_u32 (one_version 3 (db.trees 0) held.means.0.same)
 
-pub older_is : (v : ℕ) → IsTrue (is_older v) → (v ≡ 1) ⊎ (v ≡ 2)
-older_is v older = go (v == 1) refl
-  where
-    go : (b : Bool) → (v == 1) ≡ b → (v ≡ 1) ⊎ (v ≡ 2)
-    go true is = inl (eqb-true v 1 is)
-    go false is = let left : v ≡ 2 = grind (arith, nat_tests) in inr left
+pub tells_4 : (db : Database) (s : core.State) → HoldsAs 4 db s → version_of db ≡ Some 4
+unfolding same_name
+tells_4 db s held = ap (λ schema. only_u32 (versions_by db.trees (hub_of schema))) held.known ∙ ap only_u32 (one_version 4 (db.trees 0) held.means.0.same)
 
-older_held : (db : Database) (v : ℕ) (s : core.State) → (v ≡ 1) ⊎ (v ≡ 2) → HoldsAs v db s → version_of db ≡ Some v
+abbrev pub IsOneOfThree : ℕ → Type 0
+IsOneOfThree v = (v ≡ 1) ⊎ ((v ≡ 2) ⊎ (v ≡ 3))
+
+pub older_is : (v : ℕ) → IsTrue (is_older v) → IsOneOfThree v
+older_is v older = go (v == 1) refl (v == 2) refl
+  where
+    go : (b : Bool) → (v == 1) ≡ b → (c : Bool) → (v == 2) ≡ c → IsOneOfThree v
+    go true is c also = inl (eqb-true v 1 is)
+    go false is true also = inr (inl (eqb-true v 2 also))
+    go false is false also = let left : v ≡ 3 = grind (arith, nat_tests) in inr (inr left)
+
+older_held : (db : Database) (v : ℕ) (s : core.State) → IsOneOfThree v → HoldsAs v db s → version_of db ≡ Some v
 older_held db v s (inl is) held = tells_1 db s (subst (λ k. HoldsAs k db s) is held) ∙ ap Some (sym is)
-older_held db v s (inr is) held = tells_2 db s (subst (λ k. HoldsAs k db s) is held) ∙ ap Some (sym is)
+older_held db v s (inr (inl is)) held = tells_2 db s (subst (λ k. HoldsAs k db s) is held) ∙ ap Some (sym is)
+older_held db v s (inr (inr is)) held = tells_3 db s (subst (λ k. HoldsAs k db s) is held) ∙ ap Some (sym is)
 
 pub older_tells : (c : State) (v : ℕ) (s : core.State) → IsTrue (is_older v) → HasAs v c s → IsTrue c.is_open → version_of c.now ≡ Some v
 older_tells c v s older has up = ap version_of (has.settled up) ∙ older_held c.committed v s (older_is v older) (has.holds up)
 
 pub newest_tells : (c : State) (s : core.State) → Has c s → IsTrue c.is_open → version_of c.now ≡ Some newest
-newest_tells c s has up = ap version_of (has.settled up) ∙ tells_3 c.committed s (has.holds up)
+newest_tells c s has up = ap version_of (has.settled up) ∙ tells_4 c.committed s (has.holds up)

@@ -1,5 +1,5 @@
 -- What every row that the code can make keeps beside soundness: the limits of its texts and its level. What a store takes as one row.
-use Rattle.std.specs.Prelude.{◌<◌, ◌≤◌, ◌+◌, ◌^◌, ◌≡◌, ◌==◌, ℕ, Bool, true, false, ◌∷◌, length, sum_by, None, IsTrue}
+use Rattle.std.specs.Prelude.{◌<◌, ◌≤◌, ◌+◌, ◌^◌, ◌≡◌, nat_lt, ℕ, Bool, true, false, ◌∷◌, length, sum_by, None, IsTrue}
 use Rattle.std.specs.List.{AllByRecursion}
 use Rattle.std.specs.Str.{IsUtf8}
 use Rattle.sqlite_value.specs.declared.value.Value.TheVariants.{Null}
@@ -42,22 +42,31 @@ pub record IsFit (s : State) : Type 0 where
   pub groups : AllByRecursion FitGroup s.directory.groups
   pub gates : AllByRecursion FitGate s.gates
 
--- in versions 1 and 2 no permission has an end
+-- before version 3 no permission has an end
 abbrev pub IsEndless : Permission → Type 0
 IsEndless x = x.permission.until ≡ None
 
 abbrev pub AreEndless : State → Type 0
 AreEndless s = AllByRecursion IsEndless s.permissions
 
--- whether the version is 1, and whether it is 2
-abbrev pub FitWith : Bool → Bool → State → Type 0
-FitWith true _ s = IsFit s × AllByRecursion FitIncident s.incidents × AreEndless s
-FitWith false true s = IsFit s × AreEndless s
-FitWith false false s = IsFit s
+-- before version 4 no incident names a community
+abbrev pub NamesNone : Incident → Type 0
+NamesNone i = i.naming.community ≡ None
 
--- what the rows of a version keep
+abbrev pub NameNone : State → Type 0
+NameNone s = AllByRecursion NamesNone s.incidents
+
+-- with this, where it is asked
+abbrev pub and_if : Bool → Type 0 → Type 0 → Type 0
+and_if true more rest = rest × more
+and_if false more rest = rest
+
+-- What the rows of a version keep beside: in version 1 the texts of the documents are UTF-8, before version 3 no permission has an
+-- end, and before version 4 no incident names a community.
 abbrev pub FitAs : ℕ → State → Type 0
-FitAs v s = FitWith (v == 1) (v == 2) s
+FitAs v s =
+    and_if (nat_lt v 2) (AllByRecursion FitIncident s.incidents)
+    (and_if (nat_lt v 3) (AreEndless s) (and_if (nat_lt v 4) (NameNone s) (IsFit s)))
 
 -- ---- what a store takes
 
@@ -75,7 +84,8 @@ abbrev pub ShortPermission : Permission → Type 0
 ShortPermission x = IsShort (Null ∷ permission_row x)
 
 -- A store takes the rows that are new in version 2: each line of the documents, under a rowid, and each incident without them;
--- and those that are new in version 3: each permission, under a rowid.
+-- those that are new in version 3: each permission, under a rowid; and those that are new in version 4: each incident with the
+-- community that it names, which is the longer row.
 pub record AreTaken (s : State) : Type 0 where
   pub items : AllByRecursion ShortItem (items_of s)
   pub incidents : AllByRecursion ShortNaming s.incidents

@@ -4,9 +4,9 @@ use Rattle.sqlite_value.specs.declared.value.Value.TheVariants.{Int}
 use Rattle.sqlite_value.specs.Order.{Row}
 use Rattle.sqlite_schema.specs.declared.schema.Table.{Table}
 use Rattle.hub_core.specs.State.{State}
-use Rattle.hub_store.specs.Shapes.{hub_table, org_table, person_table, community_table, grp_table, pair_table, gate_table, recipient_table, permission_table, incident_table, item_table, incident_table_2, permission_table_3}
+use Rattle.hub_store.specs.Shapes.{hub_table, org_table, person_table, community_table, grp_table, pair_table, gate_table, recipient_table, permission_table, incident_table, item_table, incident_table_2, permission_table_3, incident_table_4}
 use Rattle.hub_store.specs.Pairs.{rows_of_pairs}
-use Rattle.hub_store.specs.Rows.{org_row, account_row, community_row, group_row, pair_sets, gate_row, recipient_row, endless_row, permission_row, incident_row, named_row}
+use Rattle.hub_store.specs.Rows.{org_row, account_row, community_row, group_row, pair_sets, gate_row, recipient_row, endless_row, permission_row, incident_row, named_row_2, named_row}
 use Rattle.hub_store.specs.Items.{items_of, item_row}
 use Rattle.hub_store.specs.Parts.{Part}
 
@@ -58,7 +58,7 @@ abbrev pub tables_2 : ℕ → List Row → List Row → State → List Part
 tables_2 version items incidents s = common version s ++ item_part items ∷ incident_part_2 incidents ∷ []
 
 abbrev pub parts_2 : State → List Part
-parts_2 s = tables_2 2 (map item_row (items_of s)) (map named_row s.incidents) s
+parts_2 s = tables_2 2 (map item_row (items_of s)) (map named_row_2 s.incidents) s
 
 -- ---- between version 1 and version 2
 
@@ -78,31 +78,60 @@ unversioned_2 items incidents s = without_rowids 0 hub_table [] ∷ drop 1 (tabl
 abbrev pub permission_part_3 : List Row → Part
 permission_part_3 = without_rowids 24 permission_table_3
 
--- with these lines, incidents and permissions, and all else as in a state
-abbrev pub tables_3 : List Row → List Row → List Row → State → List Part
-tables_3 items incidents permissions s = alike 3 s ++ item_part items ∷ incident_part_2 incidents ∷ permission_part_3 permissions ∷ []
+-- With these incidents and permissions, and all else as in a state. While a migration makes them another version may stand there.
+abbrev pub tables_3 : ℕ → List Row → List Row → State → List Part
+tables_3 version incidents permissions s = alike version s ++ item_part (map item_row (items_of s)) ∷ incident_part_2 incidents ∷ permission_part_3 permissions ∷ []
 
 abbrev pub parts_3 : State → List Part
-parts_3 s = tables_3 (map item_row (items_of s)) (map named_row s.incidents) (map permission_row s.permissions) s
+parts_3 s = tables_3 3 (map named_row_2 s.incidents) (map permission_row s.permissions) s
 
 -- ---- between version 2 and version 3
 
 -- the tables of version 2 under the version that is to come
 abbrev pub renamed_2 : State → List Part
-renamed_2 s = tables_2 3 (map item_row (items_of s)) (map named_row s.incidents) s
+renamed_2 s = tables_2 3 (map item_row (items_of s)) (map named_row_2 s.incidents) s
 
 abbrev pub without_permissions : State → List Part
-without_permissions s = alike 3 s ++ item_part (map item_row (items_of s)) ∷ incident_part_2 (map named_row s.incidents) ∷ []
+without_permissions s = alike 3 s ++ item_part (map item_row (items_of s)) ∷ incident_part_2 (map named_row_2 s.incidents) ∷ []
 
 -- with these permissions
 abbrev pub with_permissions : List Row → State → List Part
-with_permissions permissions s = tables_3 (map item_row (items_of s)) (map named_row s.incidents) permissions s
+with_permissions permissions s = tables_3 3 (map named_row_2 s.incidents) permissions s
+
+-- ---- version 4: an incident may name a community
+
+abbrev pub incident_part_4 : List Row → Part
+incident_part_4 rows = record { table = record incident_table_4 { tree = 26 }; seen = λ r. r; rows = rows }
+
+-- with these lines and incidents, and all else as in a state
+abbrev pub tables_4 : List Row → List Row → State → List Part
+tables_4 items incidents s = alike 4 s ++ item_part items ∷ permission_part_3 (map permission_row s.permissions) ∷ incident_part_4 incidents ∷ []
+
+abbrev pub parts_4 : State → List Part
+parts_4 s = tables_4 (map item_row (items_of s)) (map named_row s.incidents) s
+
+-- ---- between version 3 and version 4
+
+-- the tables of version 3, and no version
+abbrev pub unversioned_3 : State → List Part
+unversioned_3 s = without_rowids 0 hub_table [] ∷ drop 1 (parts_3 s)
+
+-- the tables of version 3 under a version, as the one that is to come
+abbrev pub renamed_3 : ℕ → State → List Part
+renamed_3 version s = tables_3 version (map named_row_2 s.incidents) (map permission_row s.permissions) s
+
+abbrev pub without_namings : State → List Part
+without_namings s = alike 4 s ++ item_part (map item_row (items_of s)) ∷ permission_part_3 (map permission_row s.permissions) ∷ []
+
+-- with these incidents
+abbrev pub with_namings : List Row → State → List Part
+with_namings incidents s = tables_4 (map item_row (items_of s)) incidents s
 
 -- ---- every version: its schema, what it means and where its statements find a table follow from its parts
 
 -- the newest version of the tables
 abbrev pub newest : ℕ
-newest = 3
+newest = 4
 
 abbrev pub parts_by : ℕ → State → List Part
-parts_by v s = if v == 1 then parts_1 s else if v == 2 then parts_2 s else parts_3 s
+parts_by v s = if v == 1 then parts_1 s else if v == 2 then parts_2 s else if v == 3 then parts_3 s else parts_4 s

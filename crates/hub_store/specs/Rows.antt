@@ -59,9 +59,16 @@ community_row c = Int (pos c.number) ∷ Null ∷ Text c.name ∷ []
 abbrev pub group_row : Group → Row
 group_row g = Int (pos g.number) ∷ Null ∷ Int (pos g.owner) ∷ Text g.name ∷ Text g.releasability ∷ flag g.active ∷ []
 
--- an incident without its document, as version 2 keeps it
+-- an incident without its document and the community that it names, as versions 2 and 3 keep it
+abbrev pub naming_row_2 : Naming → Row
+naming_row_2 k = Int (pos k.number) ∷ Null ∷ Int (pos k.source) ∷ Text k.ident ∷ Int (pos k.revision) ∷ []
+
+abbrev pub named_row_2 : Incident → Row
+named_row_2 i = naming_row_2 i.naming
+
+-- with the community, as version 4 keeps it
 abbrev pub naming_row : Naming → Row
-naming_row k = Int (pos k.number) ∷ Null ∷ Int (pos k.source) ∷ Text k.ident ∷ Int (pos k.revision) ∷ []
+naming_row k = naming_row_2 k ++ number_or_null k.community ∷ []
 
 abbrev pub named_row : Incident → Row
 named_row i = naming_row i.naming
@@ -70,7 +77,7 @@ named_row i = naming_row i.naming
 abbrev pub document_text : Lines → List ℕ
 document_text doc = compact_text (object (data_of doc))
 
--- an incident with it, as version 1 keeps it
+-- an incident with its document, as version 1 keeps it
 abbrev pub incident_row : Incident → Row
 incident_row i = Int (pos i.naming.number) ∷ Null ∷ Int (pos i.naming.source) ∷ Text i.naming.ident ∷ Int (pos i.naming.revision) ∷ Text (document_text i.document) ∷ []
 

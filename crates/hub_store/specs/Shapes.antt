@@ -96,6 +96,11 @@ incident_table_2 = numbered (codes "incident") (integer (codes "source") ∷ tex
 abbrev pub permission_table_3 : Table
 permission_table_3 = unnumbered (codes "permission") (integer (codes "incident") ∷ text (codes "path") ∷ integer (codes "kind") ∷ integer (codes "target") ∷ integer_or_null (codes "until") ∷ []) ((1 ∷ 2 ∷ 3 ∷ 4 ∷ []) ∷ [])
 
+-- ---- a table that is changed in version 4
+
+abbrev pub incident_table_4 : Table
+incident_table_4 = numbered (codes "incident") (integer (codes "source") ∷ text (codes "ident") ∷ integer (codes "revision") ∷ integer_or_null (codes "community") ∷ []) ((2 ∷ 3 ∷ []) ∷ [])
+
 -- ---- the schema after each statement of version 1
 
 abbrev pub no_schema : Schema

@@ -15,6 +15,7 @@ use crate::statement::run;
 use crate::tables::make_tables;
 use crate::to_version_2::make_tables_2;
 use crate::to_version_3::make_tables_3;
+use crate::to_version_4::make_tables_4;
 use crate::version::NEWEST;
 use sqlite::{Alter, Connection, Error, ErrorCode, Transaction, params};
 
@@ -32,6 +33,7 @@ fn make_in<S: Alter>(tx: &mut Transaction<'_, S>) -> Result<(), Error>
     make_tables(tx)?;
     make_tables_2(tx)?;
     make_tables_3(tx)?;
+    make_tables_4(tx)?;
     put_version(tx)
 }
 

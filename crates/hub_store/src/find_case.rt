@@ -9,24 +9,26 @@ ghost use Rattle.hub_store.specs.inner.Shown.{IsCase};
 use crate::find_gates::read_gates;
 use crate::find_naming::read_naming;
 use crate::find_permissions::read_permissions;
+use hub_core::Naming;
 use policy::Case;
 use sqlite::{Alter, Connection, Error, Transaction};
 use std::alloc::Global;
 
-/// The gates and the permissions of an incident of this source.
+/// The gates and the permissions of an incident, beside what it is known by.
 fn read_policy<S: Alter>(
     tx: &mut Transaction<'_, S>,
     alloc: Global,
-    source: u32,
+    naming: &Naming,
     incident: u32,
 ) -> Result<Case, Error>
     ensures same_reference { tx.new.conn.ghost_name ≡ tx.old.conn.ghost_name }
-    ensures read { IsReadInside (state S.Store tx.old.conn.now) (state S.Store tx.new.conn.now) (λ s case. IsCase source incident s case) result }
+    ensures read { IsReadInside (state S.Store tx.old.conn.now) (state S.Store tx.new.conn.now) (λ s case. IsCase naming.now incident s case) result }
 {
     let gates = read_gates(tx, alloc, incident)?;
     let permissions = read_permissions(tx, alloc, incident)?;
     Ok(Case {
-        source,
+        source: naming.source,
+        community: naming.community,
         gates,
         permissions,
     })
@@ -44,7 +46,7 @@ fn read_case<S: Alter>(
     match naming {
         None => Ok(None),
         Some(naming) => {
-            let case = read_policy(tx, alloc, naming.source, incident)?;
+            let case = read_policy(tx, alloc, &naming, incident)?;
             Ok(Some(case))
         }
     }

@@ -22,7 +22,7 @@ pub(crate) fn read_naming<S: Alter>(
 {
     let rows = ask(
         tx,
-        "SELECT number, source, ident, revision FROM incident WHERE number = ?1",
+        "SELECT number, source, ident, revision, community FROM incident WHERE number = ?1",
         params![incident],
     )?;
     first(alloc, &rows)

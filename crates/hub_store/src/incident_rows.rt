@@ -90,6 +90,7 @@ impl FromRow for Naming {
             source: row.get(1)?,
             ident: Text::new(row.get(2)?),
             revision: row.get(3)?,
+            community: number_if_any(row, 4)?,
         })
     }
 }

@@ -12,8 +12,8 @@
 //!
 //! The rooms, in the way of the data:
 //!
-//! - `tables`, `to_version_2`, `to_version_3`, `set_version`, `create` and `version`: a new store, and the version of one
-//!   that is there;
+//! - `tables`, `to_version_2`, `to_version_3`, `to_version_4`, `set_version`, `create` and `version`: a new store, and the
+//!   version of one that is there;
 //!   `migrate` and `set_version`: a store of an older version, brought to the newest;
 //! - `pair_kind`, `numbers`, `from_row`, `person_rows`, `joined_rows`, `incident_rows`, `item_rows`: values as rows, and rows as values;
 //! - `statement` and `query`: a text that is prepared and run, and asked in a transaction; `any_row`, `ask_pairs`,
@@ -78,6 +78,7 @@ mod statement;
 mod tables;
 mod to_version_2;
 mod to_version_3;
+mod to_version_4;
 mod told;
 mod version;
 

@@ -1,6 +1,6 @@
 //! A store of an older version, brought to the newest in one transaction.
 
-ghost use Rattle.std.specs.Prelude.{◌≡◌, ◌≢◌, ◌&&◌, List, [], map, false, OnOk, OnErr, IfOk, IfErr, IsTrue};
+ghost use Rattle.std.specs.Prelude.{◌≡◌, ◌≢◌, ◌<◌, ◌&&◌, List, [], map, false, OnOk, OnErr, IfOk, IfErr, IsTrue};
 ghost use Rattle.sqlite_value.specs.Order.{Row};
 ghost use Rattle.sqlite.specs.State.{HasCleanDisk, Survives};
 ghost use Rattle.sqlite.specs.Held.{state};
@@ -9,7 +9,7 @@ ghost use Rattle.hub_core.specs.Sound.{IsSound};
 ghost use Rattle.hub_store.specs.Fit.{AreTaken};
 ghost use Rattle.hub_store.specs.Items.{items_of, item_row};
 ghost use Rattle.hub_store.specs.Layout.{parts_1, with_items, without_incidents, tables_2};
-ghost use Rattle.hub_store.specs.Rows.{naming_row};
+ghost use Rattle.hub_store.specs.Rows.{naming_row_2};
 ghost use Rattle.hub_store.specs.Parts.{HoldsParts};
 ghost use Rattle.hub_store.specs.inner.Beside.{HoldsBeside, CanName};
 ghost use Rattle.hub_store.specs.Means.{HoldsAs, Holds, TreesHold};
@@ -23,11 +23,12 @@ ghost use Rattle.hub_store.specs.Opening.{is_older as is_older_version};
 use crate::from_row::STRANGE;
 use crate::old_rows::first_incident;
 use crate::put_lines::put_lines;
-use crate::put_naming::put_naming;
+use crate::put_naming::put_naming_2;
 use crate::query::{ask, probe};
 use crate::set_version::set_version;
 use crate::to_version_2::{create_incident, create_item, drop_incident};
 use crate::to_version_3::to_version_3;
+use crate::to_version_4::to_version_4;
 use crate::version::NEWEST;
 use hub_core::{Incident, Naming};
 use sqlite::{Alter, Connection, Error, ErrorCode, Transaction, params};
@@ -120,11 +121,11 @@ fn move_lines<S: Alter>(tx: &mut Transaction<'_, S>, alloc: Global) -> Result<Ve
 fn put_back<S: Alter>(tx: &mut Transaction<'_, S>, kept: &[Naming]) -> Result<(), Error>
     ensures same_reference { tx.new.conn.ghost_name ≡ tx.old.conn.ghost_name }
     ensures goes { Goes (state S.Store tx.old.conn.now) (state S.Store tx.new.conn.now) result }
-    ensures made { (s : State) → (items : List Row) → Makes (state S.Store tx.old.conn.now) (state S.Store tx.new.conn.now) (HoldsParts (tables_2 1 items [] s)) (HoldsParts (tables_2 1 items (map naming_row kept.now) s)) result }
-    ensures cause { (s : State) → (items : List Row) → CanName (map naming_row kept.now) → FailsOnly (state S.Store tx.old.conn.now) (state S.Store tx.new.conn.now) (HoldsParts (tables_2 1 items [] s)) result }
+    ensures made { (s : State) → (items : List Row) → Makes (state S.Store tx.old.conn.now) (state S.Store tx.new.conn.now) (HoldsParts (tables_2 1 items [] s)) (HoldsParts (tables_2 1 items (map naming_row_2 kept.now) s)) result }
+    ensures cause { (s : State) → (items : List Row) → CanName naming_row_2 (map naming_row_2 kept.now) → FailsOnly (state S.Store tx.old.conn.now) (state S.Store tx.new.conn.now) (HoldsParts (tables_2 1 items [] s)) result }
 {
     for naming in kept {
-        put_naming(tx, naming)?;
+        put_naming_2(tx, naming)?;
     }
     Ok(())
 }
@@ -133,8 +134,8 @@ fn put_back<S: Alter>(tx: &mut Transaction<'_, S>, kept: &[Naming]) -> Result<()
 fn move_incidents<S: Alter>(tx: &mut Transaction<'_, S>, kept: &[Naming]) -> Result<(), Error>
     ensures same_reference { tx.new.conn.ghost_name ≡ tx.old.conn.ghost_name }
     ensures goes { Goes (state S.Store tx.old.conn.now) (state S.Store tx.new.conn.now) result }
-    ensures made { (s : State) → (items : List Row) → Makes (state S.Store tx.old.conn.now) (state S.Store tx.new.conn.now) (HoldsParts (without_incidents items s)) (HoldsParts (tables_2 1 items (map naming_row kept.now) s)) result }
-    ensures cause { (s : State) → (items : List Row) → CanName (map naming_row kept.now) → FailsOnly (state S.Store tx.old.conn.now) (state S.Store tx.new.conn.now) (HoldsParts (without_incidents items s)) result }
+    ensures made { (s : State) → (items : List Row) → Makes (state S.Store tx.old.conn.now) (state S.Store tx.new.conn.now) (HoldsParts (without_incidents items s)) (HoldsParts (tables_2 1 items (map naming_row_2 kept.now) s)) result }
+    ensures cause { (s : State) → (items : List Row) → CanName naming_row_2 (map naming_row_2 kept.now) → FailsOnly (state S.Store tx.old.conn.now) (state S.Store tx.new.conn.now) (HoldsParts (without_incidents items s)) result }
 {
     create_incident(tx)?;
     put_back(tx, kept)
@@ -152,6 +153,23 @@ fn to_version_2<S: Alter>(tx: &mut Transaction<'_, S>, alloc: Global) -> Result<
     set_version(tx, 2)
 }
 
+/// From version 1 or 2 to version 3.
+fn to_version_3_from<S: Alter>(
+    tx: &mut Transaction<'_, S>,
+    alloc: Global,
+    version: u32,
+) -> Result<(), Error>
+    ensures same_reference { tx.new.conn.ghost_name ≡ tx.old.conn.ghost_name }
+    ensures goes { Goes (state S.Store tx.old.conn.now) (state S.Store tx.new.conn.now) result }
+    ensures made { 0 < version → version < 3 → (s : State) → IsSound s → Makes (state S.Store tx.old.conn.now) (state S.Store tx.new.conn.now) (λ db. HoldsAs version db s) (λ db. HoldsAs 3 db s) result }
+    ensures cause { 0 < version → version < 3 → (s : State) → IsSound s → AreTaken s → FailsOnly (state S.Store tx.old.conn.now) (state S.Store tx.new.conn.now) (λ db. HoldsAs version db s) result }
+{
+    if version < 2 {
+        to_version_2(tx, alloc)?;
+    }
+    to_version_3(tx)
+}
+
 /// Each step leads from one version to the next.
 fn go_steps<S: Alter>(tx: &mut Transaction<'_, S>, alloc: Global, version: u32) -> Result<(), Error>
     ensures same_reference { tx.new.conn.ghost_name ≡ tx.old.conn.ghost_name }
@@ -159,13 +177,10 @@ fn go_steps<S: Alter>(tx: &mut Transaction<'_, S>, alloc: Global, version: u32) 
     ensures made { IsTrue (is_older_version version) → (s : State) → IsSound s → Makes (state S.Store tx.old.conn.now) (state S.Store tx.new.conn.now) (λ db. HoldsAs version db s) (λ db. Holds db s) result }
     ensures cause { IsTrue (is_older_version version) → (s : State) → IsSound s → AreTaken s → FailsOnly (state S.Store tx.old.conn.now) (state S.Store tx.new.conn.now) (λ db. HoldsAs version db s) result }
 {
-    if version < 2 {
-        to_version_2(tx, alloc)?;
-    }
     if version < 3 {
-        to_version_3(tx)?;
+        to_version_3_from(tx, alloc, version)?;
     }
-    Ok(())
+    to_version_4(tx)
 }
 
 /// Brings a store from an older version to the newest in one transaction, or leaves it. Nothing is asked of the store after the

@@ -39,7 +39,7 @@ fn only_of(mut documents: Vec<Document>) -> Result<Document, Error>
     }
 }
 
-/// What a row holds beside the document.
+/// What a row holds beside the document. In version 1 no incident names a community.
 fn naming_of(row: &Row) -> Result<Naming, Error>
     ensures value { IfOk result (ShowsNaming row.now) }
     ensures cause { (i : OldIncident) → row.now ≡ old_shown i → IsReadable i → IfErr result IsUnheld }
@@ -49,6 +49,7 @@ fn naming_of(row: &Row) -> Result<Naming, Error>
         source: row.get(1)?,
         ident: Text::new(row.get(2)?),
         revision: row.get(3)?,
+        community: None,
     })
 }
 

@@ -8,7 +8,7 @@ ghost use Rattle.sqlite.specs.State.{HasCleanDisk};
 ghost use Rattle.sqlite.specs.Held.{state};
 ghost use Rattle.hub_core.specs.State.{State};
 ghost use Rattle.hub_core.specs.Sound.{IsSound};
-ghost use Rattle.hub_store.specs.Tables.{schema_by, without_permission, hub_schema};
+ghost use Rattle.hub_store.specs.Tables.{schema_by, without_permission};
 ghost use Rattle.hub_store.specs.Layout.{parts_2, renamed_2, without_permissions};
 ghost use Rattle.hub_store.specs.Rows.{endless_row};
 ghost use Rattle.hub_store.specs.Fit.{AreTaken};
@@ -35,7 +35,7 @@ fn drop_permission<S: Alter>(tx: &mut Transaction<'_, S>) -> Result<(), Error>
 
 fn create_permission<S: Alter>(tx: &mut Transaction<'_, S>) -> Result<(), Error>
     ensures same_reference { tx.new.conn.ghost_name ≡ tx.old.conn.ghost_name }
-    ensures empty { Creates (state S.Store tx.old.conn.now) (state S.Store tx.new.conn.now) (HasEmpty without_permission) (HasEmpty hub_schema) result }
+    ensures empty { Creates (state S.Store tx.old.conn.now) (state S.Store tx.new.conn.now) (HasEmpty without_permission) (HasEmpty (schema_by 3)) result }
     ensures made { (s : State) → Makes (state S.Store tx.old.conn.now) (state S.Store tx.new.conn.now) (HoldsParts (without_permissions s)) (HoldsGranted [] s) result }
     ensures cause { (s : State) → FailsOnly (state S.Store tx.old.conn.now) (state S.Store tx.new.conn.now) (HoldsParts (without_permissions s)) result }
 {
@@ -49,7 +49,7 @@ fn create_permission<S: Alter>(tx: &mut Transaction<'_, S>) -> Result<(), Error>
 /// The tables of version 3 where those of version 2 have no row.
 pub(crate) fn make_tables_3<S: Alter>(tx: &mut Transaction<'_, S>) -> Result<(), Error>
     ensures same_reference { tx.new.conn.ghost_name ≡ tx.old.conn.ghost_name }
-    ensures made { Creates (state S.Store tx.old.conn.now) (state S.Store tx.new.conn.now) (HasEmpty (schema_by 2)) (HasEmpty hub_schema) result }
+    ensures made { Creates (state S.Store tx.old.conn.now) (state S.Store tx.new.conn.now) (HasEmpty (schema_by 2)) (HasEmpty (schema_by 3)) result }
 {
     drop_permission(tx)?;
     create_permission(tx)

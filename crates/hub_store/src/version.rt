@@ -14,7 +14,7 @@ use sqlite::{Alter, Connection, Error, ErrorCode, Row, Transaction};
 use sqlite_schema::schema::Schema;
 
 /// The newest version of the tables.
-pub const NEWEST: u32 = 3;
+pub const NEWEST: u32 = 4;
 
 /// Whether just one table has this tree.
 fn has_one_table(schema: &Schema, tree: u32) -> bool

@@ -59,12 +59,12 @@ both a b a' b' f g h = let parts = and_parts a b h in and_from a' b' (f parts.0)
 
 pub clearance-raised : (s t : Standing) → IsRaised s t → is_at_most (clearance_of s).0 (clearance_of t).0 ≡ true
 clearance-raised s t up =
-    rises s.person (s.nominated && s.addressed) (s.nominated && s.client) s.community
-    t.person (t.nominated && t.addressed) (t.nominated && t.client) t.community
+    rises s.person (s.nominated && s.addressed) (s.nominated && s.client) s.peer
+    t.person (t.nominated && t.addressed) (t.nominated && t.client) t.peer
     up.person
     (both s.nominated s.addressed t.nominated t.addressed up.nominated up.addressed)
     (both s.nominated s.client t.nominated t.client up.nominated up.client)
-    up.community
+    up.peer
 
 abbrev is_within : Handling → Row → Bool
 is_within h r = not r.holds || is_at_most r.handling h
@@ -91,7 +91,7 @@ pub clearance-strictest : (s : Standing) → All (λ r. r.holds ≡ true → is_
 clearance-strictest s k d below =
     implied (slice_index_or (clearance_rows s) k d).holds _
     (AllPass-from_list_all (is_within (clearance_of s).0) (clearance_rows s)
-    (rows_within s.person (s.nominated && s.addressed) (s.nominated && s.client) s.community) k d below)
+    (rows_within s.person (s.nominated && s.addressed) (s.nominated && s.client) s.peer) k d below)
   where
     implied : (a b : Bool) → (not a || b) ≡ true → a ≡ true → b ≡ true
     implied true b h is = h

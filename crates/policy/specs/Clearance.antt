@@ -18,13 +18,14 @@ abbrev pub row : Rule → Bool → Handling → Row
 row r holds h = record { rule = r; holds = holds; handling = h }
 
 -- The table, the strictest row first. TLP:RED is for individual recipients, TLP:AMBER+STRICT for their organisation,
--- TLP:AMBER for its clients too, TLP:GREEN for the community, and TLP:CLEAR for everybody.
+-- TLP:AMBER for its clients too, TLP:GREEN for the community that the incident names (for the source's where it names none),
+-- and TLP:CLEAR for everybody.
 abbrev pub clearance_rows : Standing → List Row
 clearance_rows s =
     row P s.person Red
     ∷ row O (s.nominated && s.addressed) Strict
     ∷ row C (s.nominated && s.client) Amber
-    ∷ row M s.community Green
+    ∷ row M s.peer Green
     ∷ row A true Clear
     ∷ []
 

@@ -32,11 +32,19 @@ anybody = stranger 7 3
 
 -- of the source, which is in a community
 abbrev pub colleague : Standing
-colleague = record anybody { source = true; community = true }
+colleague = record anybody { source = true; community = true; peer = true }
 
--- of an organisation that is in one community with the source
+-- of an organisation that is in one community with the source, where the incident names none or that one
 abbrev pub neighbour : Standing
-neighbour = record anybody { community = true }
+neighbour = record anybody { community = true; peer = true }
+
+-- of such an organisation, where the incident names a community that it isn't in
+abbrev pub unnamed : Standing
+unnamed = record anybody { community = true }
+
+-- of an organisation in the community that the incident names, which the source has left
+abbrev pub named : Standing
+named = record anybody { peer = true }
 
 -- of an organisation in a community that is linked to the source's
 abbrev pub acquaintance : Standing
@@ -79,7 +87,7 @@ abbrev pub gate_at : Tokens → ℕ → Option ℕ → Gate
 gate_at path level group = record { path = path; level = level; group = group }
 
 abbrev pub case_of : List Gate → List Permission → Case
-case_of gates permissions = record { source = 2; gates = gates; permissions = permissions }
+case_of gates permissions = record { source = 2; community = None; gates = gates; permissions = permissions }
 
 -- open to all at the root, with these gates at classes
 abbrev pub behind : List Gate → Case
@@ -152,16 +160,19 @@ red_below =
 -- nobody who isn't nominated, and an arrangement clears nobody.
 abbrev pub StandingsAreCleared : Type 0
 StandingsAreCleared =
-    map clearance_of (recipient ∷ nominated_partner ∷ nominated_client ∷ neighbour ∷ anybody ∷ addressed_only ∷ arranged_at Amber anybody ∷ record nominated_client { community = true } ∷ [])
-    ≡ (Red, P) ∷ (Strict, O) ∷ (Amber, C) ∷ (Green, M) ∷ (Clear, A) ∷ (Clear, A) ∷ (Clear, A) ∷ (Amber, C) ∷ []
+    map clearance_of (recipient ∷ nominated_partner ∷ nominated_client ∷ neighbour ∷ anybody ∷ addressed_only ∷ arranged_at Amber anybody ∷ record nominated_client { peer = true } ∷ unnamed ∷ named ∷ [])
+    ≡ (Red, P) ∷ (Strict, O) ∷ (Amber, C) ∷ (Green, M) ∷ (Clear, A) ∷ (Clear, A) ∷ (Clear, A) ∷ (Amber, C) ∷ (Clear, A) ∷ (Green, M) ∷ []
 
--- who passes a gate of each level that names no group: the source alone, its communities, those linked to them too, and all
+-- who passes a gate of each level that names no group: the source alone, its communities, those linked to them too, and all;
+-- no gate asks for the community that the incident names
 abbrev pub LevelsLetPass : Type 0
 LevelsLetPass =
-    map (λ s. map (λ level. refusal_of_gate s (gate_at event_path level None)) (0 ∷ 1 ∷ 2 ∷ 3 ∷ 5 ∷ [])) (colleague ∷ neighbour ∷ acquaintance ∷ anybody ∷ [])
+    map (λ s. map (λ level. refusal_of_gate s (gate_at event_path level None)) (0 ∷ 1 ∷ 2 ∷ 3 ∷ 5 ∷ [])) (colleague ∷ neighbour ∷ unnamed ∷ acquaintance ∷ anybody ∷ named ∷ [])
     ≡ (None ∷ None ∷ None ∷ None ∷ None ∷ [])
     ∷ (Some G0 ∷ None ∷ None ∷ None ∷ None ∷ [])
+    ∷ (Some G0 ∷ None ∷ None ∷ None ∷ None ∷ [])
     ∷ (Some G0 ∷ Some G1 ∷ None ∷ None ∷ None ∷ [])
+    ∷ (Some G0 ∷ Some G1 ∷ Some G2 ∷ None ∷ None ∷ [])
     ∷ (Some G0 ∷ Some G1 ∷ Some G2 ∷ None ∷ None ∷ [])
     ∷ []
 

@@ -76,8 +76,8 @@ abbrev pub LaterSeesNoMore : Type 0
 LaterSeesNoMore = (es : List LocatedLine) (c : Case) (s : Standing) (p : Tokens) (m : ℤ) → s.now ≤ℤ m →
     is_visible es c (record s { now = m }) p ≡ true → is_visible es c s p ≡ true
 
--- The second standing is the first, raised: perhaps a recipient, nominated, of an organisation that is addressed, a client
--- or in the source's communities, where the first wasn't; the moment is the same.
+-- The second standing is the first, raised: perhaps a recipient, nominated, of an organisation that is addressed, a client,
+-- in the source's communities or in the one that the incident names, where the first wasn't; the moment is the same.
 pub record IsRaised (s t : Standing) : Type 0 where
   pub source : s.source ≡ t.source
   pub person : s.person ≡ true → t.person ≡ true
@@ -85,6 +85,7 @@ pub record IsRaised (s t : Standing) : Type 0 where
   pub addressed : s.addressed ≡ true → t.addressed ≡ true
   pub client : s.client ≡ true → t.client ≡ true
   pub community : s.community ≡ true → t.community ≡ true
+  pub peer : s.peer ≡ true → t.peer ≡ true
   pub connected : s.connected ≡ t.connected
   pub arrangement : s.arrangement ≡ t.arrangement
   pub who : s.who ≡ t.who

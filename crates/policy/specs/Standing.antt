@@ -11,6 +11,7 @@ stranger who org = record {
   addressed = false;
   client = false;
   community = false;
+  peer = false;
   connected = false;
   arrangement = None;
   who = who;

@@ -19,7 +19,7 @@ pub fn clearance(standing: &Standing) -> (Handling, Rule)
     if standing.nominated && standing.client {
         return (Handling::Amber, Rule::C);
     }
-    if standing.community {
+    if standing.peer {
         return (Handling::Green, Rule::M);
     }
     (Handling::Clear, Rule::A)

@@ -12,7 +12,8 @@ pub enum Rule {
     O,
     /// The reader is nominated and its organisation is a client of the source or of an addressed organisation.
     C,
-    /// The reader's organisation shares a community with the source.
+    /// The reader's organisation is in the community that the incident names; where it names none, it shares one with the
+    /// source.
     M,
     /// Anybody.
     A,

@@ -21,6 +21,8 @@ pub struct Standing {
     pub client: bool,
     /// The reader's organisation and the source are in one community.
     pub community: bool,
+    /// The reader's organisation is a member of the community that the incident names; where it names none, as `community`.
+    pub peer: bool,
     /// The reader's organisation is in a community that is linked to one of the source's.
     pub connected: bool,
     /// What the source arranged with the reader's organisation for the label `default`.
@@ -52,6 +54,7 @@ impl Standing {
             addressed: false,
             client: false,
             community: false,
+            peer: false,
             connected: false,
             arrangement: None,
             who,

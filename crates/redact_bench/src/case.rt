@@ -60,6 +60,7 @@ pub fn case_of(alloc: Global, array: &Path, asked: Asked) -> Result<Case, AllocE
     let permissions = permissions_behind(alloc, array, asked.gates, asked.permissions)?;
     Ok(Case {
         source: 1,
+        community: None,
         gates: Gates::new(gates),
         permissions: Permissions::new(permissions),
     })

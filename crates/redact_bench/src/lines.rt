@@ -87,6 +87,7 @@ fn case(alloc: Global) -> Result<Case, AllocError> {
     })?;
     Ok(Case {
         source: 1,
+        community: None,
         gates: Gates::new(gates),
         permissions: Permissions::new(Vec::new(alloc)),
     })

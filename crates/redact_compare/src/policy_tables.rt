@@ -50,7 +50,7 @@ pub fn cleared(standing: &Standing) -> u32 {
         (standing.person, 4),
         (standing.nominated && standing.addressed, 3),
         (standing.nominated && standing.client, 2),
-        (standing.community, 1),
+        (standing.peer, 1),
     ];
     for (holds, rank) in table {
         if holds {

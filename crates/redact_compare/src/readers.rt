@@ -31,7 +31,8 @@ fn any_path(alloc: Global, dice: &mut Dice, classes: &[Path]) -> Result<Path, Al
     }
 }
 
-fn any_group(dice: &mut Dice) -> Option<u32> {
+/// The number of a group or a community, or none.
+fn any_number(dice: &mut Dice) -> Option<u32> {
     match dice.roll(4) {
         0 => None,
         number => Some(number),
@@ -54,7 +55,7 @@ fn any_level(dice: &mut Dice) -> u8 {
 /// A gate at the path.
 fn push_gate(gates: &mut Vec<Gate>, dice: &mut Dice, path: Path) -> Result<(), AllocError> {
     let level = any_level(dice);
-    let group = any_group(dice);
+    let group = any_number(dice);
     gates.push(Gate { path, level, group })?;
     Ok(())
 }
@@ -77,7 +78,7 @@ fn push_gates(
 fn any_gates(alloc: Global, dice: &mut Dice, classes: &[Path]) -> Result<Gates, AllocError> {
     let mut gates = Vec::new(alloc);
     let level = if dice.once_in(8) { any_level(dice) } else { 3 };
-    let group = any_group(dice);
+    let group = any_number(dice);
     let path = Path::root(alloc);
     gates.push(Gate { path, level, group })?;
     for _ in 0..dice.roll(4) {
@@ -150,6 +151,7 @@ pub fn any_case(alloc: Global, dice: &mut Dice, classes: &[Path]) -> Result<Case
     let permissions = any_permissions(alloc, dice, classes)?;
     Ok(Case {
         source: 9,
+        community: any_number(dice),
         gates,
         permissions,
     })
@@ -182,6 +184,7 @@ pub fn any_standing(alloc: Global, dice: &mut Dice) -> Result<Standing, AllocErr
         addressed: dice.once_in(3),
         client: dice.once_in(2),
         community: dice.once_in(2),
+        peer: dice.once_in(2),
         connected: dice.once_in(2),
         arrangement: any_arrangement(dice),
         who: dice.roll(3),

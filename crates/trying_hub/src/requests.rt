@@ -1,7 +1,8 @@
 //! The request that the fields of a line name: WORD|FIELD|FIELD.. with the fields in the request's order.
 //!
-//! A group is `-` for none, and so is a class; gates are LEVEL:GROUP:POINTER with a space between; targets and grantees are
-//! `person 4`, `org 3`, `community 1` or `group 1`. A grant's end is a number of seconds, and `-` or missing for none.
+//! The level of a Post or a Replace is `1@3` where its incidents name community 3. A group is `-` for none, and so is a class;
+//! gates are LEVEL:GROUP:POINTER with a space between; targets and grantees are `person 4`, `org 3`, `community 1` or `group 1`.
+//! A grant's end is a number of seconds, and `-` or missing for none.
 
 use crate::commands::command_of;
 use crate::documents::document_text;
@@ -57,9 +58,19 @@ fn body_of(alloc: Global, text: &str) -> Result<Bytes, AllocError> {
     Ok(Bytes::new(document_text(text).as_bytes().to_vec(alloc)?))
 }
 
+/// A level, and the community that is named, if one is.
+fn level_of(word: &str) -> (u32, Option<u32>) {
+    match word.split_once('@') {
+        Some((level, community)) => (number_of(level), Some(number_of(community))),
+        None => (number_of(word), None),
+    }
+}
+
 fn distribution(alloc: Global, fields: &mut Fields<'_>) -> Result<Distribution, AllocError> {
+    let (level, community) = level_of(fields.word());
     Ok(Distribution {
-        level: fields.number(),
+        community,
+        level,
         group: fields.number_if_any(),
         gates: gates_of(alloc, fields.word())?,
     })

@@ -46,7 +46,9 @@ fn numbers_of(alloc: Global, words: &str) -> Result<Numbers, Unfit> {
 
 /// A reader by the numbers of the person and of its organisation, as `4/3`, and what holds of it, each a word behind a
 /// space: `source`, `person`, `nominated`, `addressed`, `client`, `community`, `connected`, `arranged:GREEN`, and lists
-/// as `groups:1,7`, `active:7` and `communities:2`. The moment is 0, or another as `now:1000`.
+/// as `groups:1,7`, `active:7` and `communities:2`. The moment is 0, or another as `now:1000`. Who shares a `community` with
+/// the source is a peer too, as where the incident names none; who shares one but isn't in the one that it names is a
+/// `neighbour`, and who is in that alone a `peer`.
 pub fn standing_of(alloc: Global, words: &str) -> Result<Standing, Unfit> {
     let mut words = words.split(' ');
     let mut standing = stranger_of(alloc, words.next().unwrap_or(""))?;
@@ -71,7 +73,12 @@ fn hold(alloc: Global, standing: &mut Standing, word: &str) -> Result<(), Unfit>
         "nominated" => standing.nominated = true,
         "addressed" => standing.addressed = true,
         "client" => standing.client = true,
-        "community" => standing.community = true,
+        "community" => {
+            standing.community = true;
+            standing.peer = true;
+        }
+        "neighbour" => standing.community = true,
+        "peer" => standing.peer = true,
         "connected" => standing.connected = true,
         _ => {
             let (name, list) = word.split_once(':').ok_or(Unfit::NoCase)?;
@@ -145,12 +152,25 @@ fn permission_of(alloc: Global, word: &str) -> Result<Permission, Unfit> {
     })
 }
 
-fn gates_of(alloc: Global, words: &str) -> Result<Gates, Unfit> {
+/// The number of a community, if the word names one: `in:3`.
+fn community_of(word: &str) -> Result<Option<u32>, Unfit> {
+    match word.strip_prefix("in:") {
+        None => Ok(None),
+        Some(number) => Ok(Some(number_of(number)?)),
+    }
+}
+
+/// The community that is named, if one is, and the gates.
+fn gates_of(alloc: Global, words: &str) -> Result<(Option<u32>, Gates), Unfit> {
+    let mut named = None;
     let mut gates = Vec::new(alloc);
     for word in words.split_whitespace() {
-        gates.push(gate_of(alloc, word)?)?;
+        match community_of(word)? {
+            Some(community) => named = Some(community),
+            None => gates.push(gate_of(alloc, word)?)?,
+        }
     }
-    Ok(Gates::new(gates))
+    Ok((named, Gates::new(gates)))
 }
 
 fn permissions_of(alloc: Global, words: &str) -> Result<Permissions, Unfit> {
@@ -161,11 +181,14 @@ fn permissions_of(alloc: Global, words: &str) -> Result<Permissions, Unfit> {
     Ok(Permissions::new(permissions))
 }
 
-/// A case by its gates and its permissions, with spaces between them.
+/// A case by its gates and its permissions, with spaces between them. Among the gates stands the community that it names, if
+/// it names one, as `in:3`.
 pub fn case_of(alloc: Global, source: u32, gates: &str, permissions: &str) -> Result<Case, Unfit> {
+    let (community, gates) = gates_of(alloc, gates)?;
     Ok(Case {
         source,
-        gates: gates_of(alloc, gates)?,
+        community,
+        gates,
         permissions: permissions_of(alloc, permissions)?,
     })
 }

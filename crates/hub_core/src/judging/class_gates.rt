@@ -1,5 +1,5 @@
 //! The gates of classes that a posted document comes with: at which paths, and the edits that put them.
-ghost use Rattle.std.specs.Prelude.{◌≡◌, [], ◌∷◌, ◌++◌, map, IfOk, OnOk, codes};
+ghost use Rattle.std.specs.Prelude.{◌≡◌, [], ◌∷◌, ◌++◌, map, None, IfOk, OnOk, codes};
 ghost use Rattle.std.specs.List.{list_any, list_all};
 ghost use Rattle.std.specs.Str.{bytes_eq};
 ghost use Rattle.circle.specs.Refusals.{bad};
@@ -70,7 +70,7 @@ impl ClassGates {
         level: u8,
         group: Option<u32>,
     ) -> Result<(), AllocError>
-        ensures { OnOk result (edits.new.items ≡ edits.old.items ++ put_gates incident (record { level = level; group = group; gates = self.now })) }
+        ensures { OnOk result (edits.new.items ≡ edits.old.items ++ put_gates incident (record { community = None; level = level; group = group; gates = self.now })) }
     {
         let gate = Gate {
             path: Path::root(alloc),

@@ -30,8 +30,13 @@ pub fn post(alloc: Global, actor: &Person, facts: &Facts, request: &Post) -> Res
     let (gates, documents) = arguments(alloc, request)?;
     allowed(alloc, facts, &gates, &documents)?;
     let first = facts.circle.count + 1;
-    let group = request.distribution.group;
-    Ok(put_incidents(alloc, actor.org, first, level, group, &gates, documents)?)
+    let posting = Posting {
+        source: actor.org,
+        community: request.distribution.community,
+        level,
+        group: request.distribution.group,
+    };
+    Ok(put_incidents(alloc, &posting, first, &gates, documents)?)
 }
 
 /// The gates and the documents. Gates are for a single document, since a path would name another class in each.
@@ -69,18 +74,25 @@ fn allowed(
     Ok(())
 }
 
+/// What the incidents of a body have in common, beside the gates of classes.
+#[derive(Drop)]
+struct Posting {
+    source: u32,
+    community: Option<u32>,
+    level: u8,
+    group: Option<u32>,
+}
+
 /// The incidents in the order of the body, from a number on, each with its gates.
 fn put_incidents(
     alloc: Global,
-    source: u32,
+    posting: &Posting,
     first: u32,
-    level: u8,
-    group: Option<u32>,
     gates: &ClassGates,
     documents: Vec<Posted>,
 ) -> Result<Vec<Edit>, AllocError>
     requires { first + length documents.items < 2 ^ 32 }
-    ensures { IfOk result (λ edits. edits.items ≡ put_all_incidents source first (record { level = level; group = group; gates = gates.now }) documents.items) }
+    ensures { IfOk result (λ edits. edits.items ≡ put_all_incidents posting.now.source first (record { community = posting.now.community; level = posting.now.level; group = posting.now.group; gates = gates.now }) documents.items) }
 {
     let mut edits = Vec::new(alloc);
     let mut number = first;
@@ -88,12 +100,13 @@ fn put_incidents(
         let (document, ident) = posted.into_parts();
         let naming = Naming {
             number,
-            source,
+            source: posting.source,
             ident,
             revision: 1,
+            community: posting.community,
         };
         edits.push(Edit::PutIncident(Incident { naming, document }))?;
-        gates.put(alloc, &mut edits, number, level, group)?;
+        gates.put(alloc, &mut edits, number, posting.level, posting.group)?;
         number += 1;
     }
     Ok(edits)

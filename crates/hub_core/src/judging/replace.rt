@@ -23,7 +23,7 @@ use circle::refusal::Code;
 use circle::text::Text;
 use std::alloc::{AllocError, Global};
 
-/// The incident in its next revision, with the gates given; its permissions end and its recipients stay.
+/// The incident in its next revision, with the community and the gates given; its permissions end and its recipients stay.
 pub fn replace(
     alloc: Global,
     actor: &Person,
@@ -38,7 +38,8 @@ pub fn replace(
     let (gates, documents) = arguments(alloc, request)?;
     let known = allowed(alloc, actor, facts, request.revision, &gates, &documents)?;
     let incident = request.incident;
-    let mut edits = next_revision(alloc, incident, known, documents)?;
+    let community = request.distribution.community;
+    let mut edits = next_revision(alloc, incident, known, community, documents)?;
     edits.push(Edit::TakePolicy(incident))?;
     gates.put(
         alloc,
@@ -99,12 +100,13 @@ fn next_revision(
     alloc: Global,
     incident: u32,
     known: &IncidentFacts,
+    community: Option<u32>,
     mut documents: Vec<Posted>,
 ) -> Result<Vec<Edit>, AllocError>
     requires single { length documents.items ≤ 1 }
     requires ident { list_all (λ (doc : Lines). bytes_eq (ident_of doc) known.now.ident) documents.items ≡ true }
     requires room { known.now.revision + 1 ≤ REVISION_LIMIT }
-    ensures { IfOk result (λ edits. edits.items ≡ put_revision incident known.now documents.items) }
+    ensures { IfOk result (λ edits. edits.items ≡ put_revision incident known.now community documents.items) }
 {
     let mut edits = Vec::new(alloc);
     if let Some(posted) = documents.pop() {
@@ -115,6 +117,7 @@ fn next_revision(
             source: known.source,
             ident,
             revision: known.revision + 1,
+            community,
         };
         edits.push(Edit::PutIncident(Incident { naming, document }))?;
     }

@@ -13,7 +13,8 @@ use Rattle.hub_core.specs.State.{State}
 use Rattle.hub_store.specs.Items.{Item, item_row}
 use Rattle.hub_core.specs.declared.state.Naming.{Naming}
 use Rattle.hub_core.specs.declared.state.Permission.{Permission}
-use Rattle.hub_store.specs.Rows.{naming_row, endless_row}
+use Rattle.hub_store.specs.Rows.{naming_row_2, endless_row}
+use Rattle.hub_store.specs.inner.Shown.{naming_shown_2}
 use Rattle.hub_store.specs.Fit.{ShortItem, IsShort}
 use Rattle.hub_store.specs.Layout.{with_items, item_part, with_permissions, permission_part_3}
 use Rattle.hub_store.specs.Parts.{HoldsParts}
@@ -54,14 +55,26 @@ NumbersApart a b = (is_eq (value_cmp (rowid a) (rowid b)) ≡ false) × (is_eq (
 abbrev pub IdentsApart : Row → Row → Type 0
 IdentsApart a b = (begin_alike 2 a b ≡ false) × (begin_alike 2 b a ≡ false)
 
-abbrev pub IsShortNaming : Row → Type 0
-IsShortNaming row = (k : Naming) × (row ≡ naming_row k) × IsShort row × (k.number < 2 ^ 63)
+-- as a version keeps it
+abbrev pub IsShortNaming : (Naming → Row) → Row → Type 0
+IsShortNaming kept row = (k : Naming) × (row ≡ kept k) × IsShort row × (k.number < 2 ^ 63)
 
--- Incidents that the table takes: no two have one number, or one ident of one source, and each is short enough.
-pub record CanName (rows : List Row) : Type 0 where
+-- Incidents that the table of a version takes: no two have one number, or one ident of one source, and each is short enough.
+pub record CanName (kept : Naming → Row) (rows : List Row) : Type 0 where
   pub numbers : Pairwise NumbersApart rows
   pub idents : Pairwise IdentsApart rows
-  pub namings : AllByRecursion IsShortNaming rows
+  pub namings : AllByRecursion (IsShortNaming kept) rows
+
+-- an incident that names no community, as version 4 keeps it
+abbrev pub unnamed_row : Naming → Row
+unnamed_row k = naming_row_2 k ++ Null ∷ []
+
+-- the columns that the query of all incidents of version 3 shows, as version 4 keeps them
+abbrev pub without_community : Row → Row
+without_community r = column r 0 ∷ Null ∷ column r 1 ∷ column r 2 ∷ column r 3 ∷ Null ∷ []
+
+abbrev pub IsUnnamedRow : Row → Type 0
+IsUnnamedRow row = (k : Naming) × (row ≡ naming_shown_2 k)
 
 -- ---- the table of the permissions, while it is filled again
 

@@ -11,26 +11,26 @@ use Rattle.hub_core.specs.State.{State}
 use Rattle.hub_core.specs.declared.TheConstants.{INCIDENT_LIMIT}
 use Rattle.hub_core.specs.declared.state.Incident.{Incident}
 use Rattle.hub_core.specs.declared.state.Naming.{Naming}
-use Rattle.hub_store.specs.Fit.{FitIncident}
+use Rattle.hub_store.specs.Fit.{FitIncident, NameNone}
 use Rattle.hub_store.specs.Rows.{document_text}
-use Rattle.hub_store.specs.inner.Shown.{naming_shown}
+use Rattle.hub_store.specs.inner.Shown.{naming_shown_2}
 use Rattle.hub_store.specs.Items.{items_in, item_row}
 use Rattle.hub_store.specs.inner.Beside.{HoldsBeside}
 
--- an incident of version 1 as its row shows it: its text reads as its document, and as no other beside it
+-- an incident of version 1, which names no community, as its row shows it: its text reads as its document, and as no other beside it
 abbrev pub ShowsIncident : Row → Incident → Type 0
-ShowsIncident row i = (k : Naming) → (text : List ℕ) → row ≡ naming_shown k ++ Text text ∷ [] → (i.naming ≡ k) × (reading text ≡ Ok (i.document ∷ []))
+ShowsIncident row i = (k : Naming) → (text : List ℕ) → k.community ≡ None → row ≡ naming_shown_2 k ++ Text text ∷ [] → (i.naming ≡ k) × (reading text ≡ Ok (i.document ∷ []))
 
 -- the same without its document, and its document alone
 abbrev pub ShowsNaming : Row → Naming → Type 0
-ShowsNaming row naming = (k : Naming) → (text : List ℕ) → row ≡ naming_shown k ++ Text text ∷ [] → naming ≡ k
+ShowsNaming row naming = (k : Naming) → (text : List ℕ) → k.community ≡ None → row ≡ naming_shown_2 k ++ Text text ∷ [] → naming ≡ k
 
 abbrev pub ShowsDocument : Row → Lines → Type 0
-ShowsDocument row document = (k : Naming) → (text : List ℕ) → row ≡ naming_shown k ++ Text text ∷ [] → reading text ≡ Ok (document ∷ [])
+ShowsDocument row document = (k : Naming) → (text : List ℕ) → row ≡ naming_shown_2 k ++ Text text ∷ [] → reading text ≡ Ok (document ∷ [])
 
 -- the columns of an incident of version 1
 abbrev pub old_shown : Incident → Row
-old_shown i = naming_shown i.naming ++ Text (document_text i.document) ∷ []
+old_shown i = naming_shown_2 i.naming ++ Text (document_text i.document) ∷ []
 
 -- its columns can be read
 pub record IsReadable (i : Incident) : Type 0 where
@@ -46,10 +46,11 @@ abbrev pub ReadsFirst : List Row → Type 0
 ReadsFirst [] = Unit {0}
 ReadsFirst (row ∷ rows) = (i : Incident) × (row ≡ old_shown i) × IsReadable i
 
--- A sound state, of whose documents each has a text in UTF-8, so that it reads back.
+-- A sound state, of whose documents each has a text in UTF-8, so that it reads back, and whose incidents name no community.
 pub record HasTexts (s : State) : Type 0 where
   pub sound : IsSound s
   pub texts : AllByRecursion FitIncident s.incidents
+  pub unnamed : NameNone s
 
 -- what is kept of the incidents beside their documents
 abbrev pub naming_in : List Incident → List Naming

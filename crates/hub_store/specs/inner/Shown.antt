@@ -44,8 +44,12 @@ person_shown p = Int (pos p.number) ∷ Int (pos p.org) ∷ Text p.name ∷ Int 
 abbrev pub entry_shown : Entry → Row
 entry_shown e = Int (pos e.number) ∷ Int (pos e.revision) ∷ Int (pos e.source) ∷ []
 
+-- in versions 1 to 3
+abbrev pub naming_shown_2 : Naming → Row
+naming_shown_2 k = Int (pos k.number) ∷ Int (pos k.source) ∷ Text k.ident ∷ Int (pos k.revision) ∷ []
+
 abbrev pub naming_shown : Naming → Row
-naming_shown k = Int (pos k.number) ∷ Int (pos k.source) ∷ Text k.ident ∷ Int (pos k.revision) ∷ []
+naming_shown k = Int (pos k.number) ∷ Int (pos k.source) ∷ Text k.ident ∷ Int (pos k.revision) ∷ number_or_null k.community ∷ []
 
 abbrev pub gate_shown : Gate → Row
 gate_shown g = Text (pointer_text g.path) ∷ Int (pos g.level) ∷ number_or_null g.group ∷ []
@@ -67,6 +71,6 @@ ShowsLines [] (Some lines) = ⊥
 ShowsLines (row ∷ rows) None = ⊥
 ShowsLines (row ∷ rows) (Some lines) = ShowsAll ShowsPlaced (row ∷ rows) (placed_from 1 lines)
 
--- the case of an incident with this source and number
-abbrev pub IsCase : ℕ → ℕ → State → Case → Type 0
-IsCase source n s case = (case.source ≡ source) × (case.gates ≡ its_gates n s.gates) × (case.permissions ≡ its_permissions n s.permissions)
+-- the case of an incident with this number, by what it is known by
+abbrev pub IsCase : Naming → ℕ → State → Case → Type 0
+IsCase k n s case = (case.source ≡ k.source) × (case.community ≡ k.community) × (case.gates ≡ its_gates n s.gates) × (case.permissions ≡ its_permissions n s.permissions)

@@ -1,4 +1,4 @@
-use Rattle.std.proofs.Common.{◌∙◌, ap}
+use Rattle.std.proofs.Common.{◌∙◌, refl, ap}
 use Rattle.iodef_tree.specs.Paths.{located}
 use Rattle.marking.specs.Label.{text_of}
 use Rattle.policy.specs.Verdict.{handling_for}
@@ -20,6 +20,7 @@ returns c =
     explained-decided (located c.args.document.now) c.args.case.now c.args.standing.now c.args.path.now _ c.in_ok-verdict.ensures
     (record {
       path = c.in_ok-copy.ensures.cases;
+      community = refl;
       gates = c.in_ok-gates.ensures;
       site = c.in_ok-sited.ensures.1;
       label = c.in_ok-text.ensures ∙ ap text_of c.in_ok-sited.ensures.2;

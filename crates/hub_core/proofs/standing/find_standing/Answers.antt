@@ -12,4 +12,4 @@ returns-clause-value g c = λ clean s has.
     let first : shelf.doubts c.person_of.new.self ≡ 0 = omega (arith, mid, naming.kept.doubt) in
     let here = c.in_ok-reader.ensures.kept.content first s has in
     standing_is s c.args.person c.args.incident c.args.now c.in-Some.reader c.in-Some-2.naming c.in_ok-standing.standing (sym c.in-Some.is ∙ c.in_ok-reader.ensures.value first s has) (sym c.in-Some-2.is ∙ naming.value mid s here)
-    (λ i number source. c.in_ok-standing.ensures.value clean s (naming.kept.content mid s here) i number source ∙ ap (λ t. standing_for s t c.in-Some.reader i) (to_z-of_z w64 c.args.now c.ranges.now))
+    (λ i is. c.in_ok-standing.ensures.value clean s (naming.kept.content mid s here) i is ∙ ap (λ t. standing_for s t c.in-Some.reader i) (to_z-of_z w64 c.args.now c.ranges.now))

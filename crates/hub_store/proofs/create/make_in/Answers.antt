@@ -11,5 +11,10 @@ pub returns-in_err-make_tables_3-clause-made : goal.returns-in_err-make_tables_3
 returns-in_err-make_tables_3-clause-made g c =
     creates_not c.from_residual-in_err-make_tables_3.ensures.1 (creates_then c.in_ok-make_tables.ensures.made (creates_then c.in_ok-make_tables_2.ensures.made c.in_err-make_tables_3.ensures.made))
 
+pub returns-in_err-make_tables_4-clause-made : goal.returns-in_err-make_tables_4-clause-made
+returns-in_err-make_tables_4-clause-made g c =
+    creates_not c.from_residual-in_err-make_tables_4.ensures.1
+    (creates_then c.in_ok-make_tables.ensures.made (creates_then c.in_ok-make_tables_2.ensures.made (creates_then c.in_ok-make_tables_3.ensures.made c.in_err-make_tables_4.ensures.made)))
+
 pub returns-clause-made : goal.returns-clause-made
-returns-clause-made g c = creates_then c.in_ok-make_tables.ensures.made (creates_then c.in_ok-make_tables_2.ensures.made (creates_then c.in_ok-make_tables_3.ensures.made c.put_version.ensures.made))
+returns-clause-made g c = creates_then c.in_ok-make_tables.ensures.made (creates_then c.in_ok-make_tables_2.ensures.made (creates_then c.in_ok-make_tables_3.ensures.made (creates_then c.in_ok-make_tables_4.ensures.made c.put_version.ensures.made)))

@@ -16,5 +16,5 @@ returns-in_ok-case-in-Some-clause-read g c =
     let k = c.in-Some.naming in
     let case = c.in_ok-case-in-Some.case in
     let first : IsReadInside old mid (λ s found. found ≡ naming_of n s) (Ok (Some k)) = rw c.in-Some.is at c.in_ok-naming.ensures.read in
-    let both = read_then old mid new (λ s found. found ≡ naming_of n s) (IsCase k.source n) (Some k) (Ok case) first c.in_ok-case-in-Some.ensures.read in
-    read_gives old new (λ s it. (Some k ≡ naming_of n s) × IsCase k.source n s it) (λ s found. found ≡ case_of n s) case (Some case) both (λ s sound it. case_is s n k case it.0 it.1)
+    let both = read_then old mid new (λ s found. found ≡ naming_of n s) (IsCase k n) (Some k) (Ok case) first c.in_ok-case-in-Some.ensures.read in
+    read_gives old new (λ s it. (Some k ≡ naming_of n s) × IsCase k n s it) (λ s found. found ≡ case_of n s) case (Some case) both (λ s sound it. case_is s n k case it.0 it.1)

@@ -4,7 +4,7 @@ use Rattle.std.proofs.lemmas.Grind.{common_steps}
 use Rattle.hub_core.specs.State.{empty}
 use Rattle.hub_store.specs.inner.Beside.{CanName}
 use Rattle.hub_store.specs.Parts.{HoldsParts}
-use Rattle.hub_store.specs.Rows.{naming_row}
+use Rattle.hub_store.specs.Rows.{naming_row_2}
 use Rattle.hub_store.specs.Layout.{tables_2}
 use Rattle.hub_store.proofs.Standing.{first_names}
 use Rattle.hub_store.proofs.Steps.{makes_then, fails_then, fails_passed}
@@ -15,20 +15,20 @@ pub loop-naming-preserved : goal.loop-naming-preserved
 loop-naming-preserved g c = record {
   same_reference = search rules;
   made = λ s items.
-      let same = one_more naming_row c.args.kept.now c.loop-naming.naming-index c.naming-item.result c.loop-naming-test.true c.naming-item.is in
-      makes_then _ _ _ _ (HoldsParts (tables_2 1 items (map naming_row (take c.loop-naming.naming-index c.args.kept.now)) s)) _ tt _ (c.loop-naming.invariant.made s items) (c.in_ok-put_naming.ensures.moved s items (map naming_row (take c.loop-naming.naming-index c.args.kept.now)) (map naming_row (take (c.loop-naming.naming-index + 1) c.args.kept.now)) same);
+      let same = one_more naming_row_2 c.args.kept.now c.loop-naming.naming-index c.naming-item.result c.loop-naming-test.true c.naming-item.is in
+      makes_then _ _ _ _ (HoldsParts (tables_2 1 items (map naming_row_2 (take c.loop-naming.naming-index c.args.kept.now)) s)) _ tt _ (c.loop-naming.invariant.made s items) (c.in_ok-put_naming_2.ensures.moved s items (map naming_row_2 (take c.loop-naming.naming-index c.args.kept.now)) (map naming_row_2 (take (c.loop-naming.naming-index + 1) c.args.kept.now)) same);
 }
 
-pub returns-in_err-put_naming-clause-goes : goal.returns-in_err-put_naming-clause-goes
-returns-in_err-put_naming-clause-goes g c =
-    let same = one_more naming_row c.args.kept.now c.loop-naming.naming-index c.naming-item.result c.loop-naming-test.true c.naming-item.is in
-    let whole = makes_then _ _ _ _ (HoldsParts (tables_2 1 [] (map naming_row (take c.loop-naming.naming-index c.args.kept.now)) empty)) _ tt _ (c.loop-naming.invariant.made empty []) (c.in_err-put_naming.ensures.moved empty [] (map naming_row (take c.loop-naming.naming-index c.args.kept.now)) (map naming_row (take (c.loop-naming.naming-index + 1) c.args.kept.now)) same) in
+pub returns-in_err-put_naming_2-clause-goes : goal.returns-in_err-put_naming_2-clause-goes
+returns-in_err-put_naming_2-clause-goes g c =
+    let same = one_more naming_row_2 c.args.kept.now c.loop-naming.naming-index c.naming-item.result c.loop-naming-test.true c.naming-item.is in
+    let whole = makes_then _ _ _ _ (HoldsParts (tables_2 1 [] (map naming_row_2 (take c.loop-naming.naming-index c.args.kept.now)) empty)) _ tt _ (c.loop-naming.invariant.made empty []) (c.in_err-put_naming_2.ensures.moved empty [] (map naming_row_2 (take c.loop-naming.naming-index c.args.kept.now)) (map naming_row_2 (take (c.loop-naming.naming-index + 1) c.args.kept.now)) same) in
     record { kept = whole.goes.kept; inside = λ _ inside. search rules; survives = whole.goes.survives }
 
-pub returns-in_err-put_naming-clause-made : goal.returns-in_err-put_naming-clause-made
-returns-in_err-put_naming-clause-made g c s items =
-    let same = one_more naming_row c.args.kept.now c.loop-naming.naming-index c.naming-item.result c.loop-naming-test.true c.naming-item.is in
-    let whole = makes_then _ _ _ _ (HoldsParts (tables_2 1 items (map naming_row (take c.loop-naming.naming-index c.args.kept.now)) s)) _ tt _ (c.loop-naming.invariant.made s items) (c.in_err-put_naming.ensures.moved s items (map naming_row (take c.loop-naming.naming-index c.args.kept.now)) (map naming_row (take (c.loop-naming.naming-index + 1) c.args.kept.now)) same) in
+pub returns-in_err-put_naming_2-clause-made : goal.returns-in_err-put_naming_2-clause-made
+returns-in_err-put_naming_2-clause-made g c s items =
+    let same = one_more naming_row_2 c.args.kept.now c.loop-naming.naming-index c.naming-item.result c.loop-naming-test.true c.naming-item.is in
+    let whole = makes_then _ _ _ _ (HoldsParts (tables_2 1 items (map naming_row_2 (take c.loop-naming.naming-index c.args.kept.now)) s)) _ tt _ (c.loop-naming.invariant.made s items) (c.in_err-put_naming_2.ensures.moved s items (map naming_row_2 (take c.loop-naming.naming-index c.args.kept.now)) (map naming_row_2 (take (c.loop-naming.naming-index + 1) c.args.kept.now)) same) in
     record { goes = record { kept = whole.goes.kept; inside = λ _ inside. search rules; survives = whole.goes.survives }; made = λ _ _ before. search rules }
 
 pub returns-clause-goes : goal.returns-clause-goes
@@ -39,15 +39,15 @@ returns-clause-made g c s items =
     let all : take c.loop-naming.naming-index c.args.kept.now ≡ c.args.kept.now = grind (arith, common_steps) in
     rw all at (c.loop-naming.invariant.made s items)
 
-pub returns-in_err-put_naming-clause-cause : goal.returns-in_err-put_naming-clause-cause
-returns-in_err-put_naming-clause-cause g c s items can =
+pub returns-in_err-put_naming_2-clause-cause : goal.returns-in_err-put_naming_2-clause-cause
+returns-in_err-put_naming_2-clause-cause g c s items can =
     let kept = c.args.kept.now in
     let at = c.loop-naming.naming-index in
-    let same = one_more naming_row kept at c.naming-item.result c.loop-naming-test.true c.naming-item.is in
-    let all : map naming_row (take (at + 1) kept) ++ map naming_row (drop (at + 1) kept) ≡ map naming_row kept = sym (map-append naming_row (take (at + 1) kept) (drop (at + 1) kept)) ∙ ap (map naming_row) (take-append-drop (at + 1) kept) in
-    let first = first_names (naming_row c.naming-item.result) (map naming_row (take at kept)) (map naming_row (take (at + 1) kept)) (map naming_row (drop (at + 1) kept)) same (subst CanName (sym all) can) in
+    let same = one_more naming_row_2 kept at c.naming-item.result c.loop-naming-test.true c.naming-item.is in
+    let all : map naming_row_2 (take (at + 1) kept) ++ map naming_row_2 (drop (at + 1) kept) ≡ map naming_row_2 kept = sym (map-append naming_row_2 (take (at + 1) kept) (drop (at + 1) kept)) ∙ ap (map naming_row_2) (take-append-drop (at + 1) kept) in
+    let first = first_names naming_row_2 (naming_row_2 c.naming-item.result) (map naming_row_2 (take at kept)) (map naming_row_2 (take (at + 1) kept)) (map naming_row_2 (drop (at + 1) kept)) same (subst (CanName naming_row_2) (sym all) can) in
     fails_passed c.from_residual.ensures.1
-    (fails_then (c.loop-naming.invariant.made s items) (c.in_err-put_naming.ensures.moved s items _ _ same).goes (c.in_err-put_naming.ensures.cause s items (map naming_row (take at kept)) first))
+    (fails_then (c.loop-naming.invariant.made s items) (c.in_err-put_naming_2.ensures.moved s items _ _ same).goes (c.in_err-put_naming_2.ensures.cause s items (map naming_row_2 (take at kept)) first))
 
 pub returns-clause-cause : goal.returns-clause-cause
 returns-clause-cause g c s items can = record { cause = λ clean inside before. tt }

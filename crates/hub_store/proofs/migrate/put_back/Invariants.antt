@@ -4,12 +4,12 @@ use Rattle.sqlite.specs.Held.{state}
 use Rattle.hub_core.specs.State.{State}
 use Rattle.hub_store.specs.inner.Makes.{Makes}
 use Rattle.hub_store.specs.Parts.{HoldsParts}
-use Rattle.hub_store.specs.Rows.{naming_row}
+use Rattle.hub_store.specs.Rows.{naming_row_2}
 use Rattle.hub_store.specs.Layout.{tables_2}
 use Rattle.hub_store.proofs.migrate.put_back.Given as goal
 
 abbrev pub invariant-loop-naming : goal.invariant-loop-naming
 invariant-loop-naming g l = record {
   same_reference : l.tx.conn.ghost_name ≡ l.fn.tx.conn.ghost_name;
-  made : (s : State) → (items : List Row) → Makes {T = Unit {0}} (state g.S.Store l.fn.tx.conn.now) (state g.S.Store l.tx.conn.now) (HoldsParts (tables_2 1 items [] s)) (HoldsParts (tables_2 1 items (map naming_row (take l.naming-index l.kept)) s)) (Ok tt);
+  made : (s : State) → (items : List Row) → Makes {T = Unit {0}} (state g.S.Store l.fn.tx.conn.now) (state g.S.Store l.tx.conn.now) (HoldsParts (tables_2 1 items [] s)) (HoldsParts (tables_2 1 items (map naming_row_2 (take l.naming-index l.kept)) s)) (Ok tt);
 }

@@ -6,7 +6,7 @@ use Rattle.hub_store.specs.inner.Beside.{CanName}
 use Rattle.hub_store.specs.Layout.{tables_2, without_incidents}
 use Rattle.hub_store.specs.inner.Makes.{Makes}
 use Rattle.hub_store.specs.Means.{HoldsAs}
-use Rattle.hub_store.specs.Rows.{named_row}
+use Rattle.hub_store.specs.Rows.{named_row_2, naming_row_2}
 use Rattle.hub_store.specs.Parts.{HoldsParts}
 use Rattle.hub_store.proofs.Inside.{goes_then}
 use Rattle.hub_store.proofs.Movable.{names_stand}
@@ -44,13 +44,13 @@ returns-clause-made g c s sound = record {
       let items = map item_row (items_of s) in
       let move = c.in_ok-kept.ensures in
       let put = c.in_ok-move_incidents.ensures in
-      let set = c.set_version.ensures.made s items (map named_row s.incidents) 1 in
+      let set = c.set_version.ensures.made s items (map named_row_2 s.incidents) 1 in
       let late = clean_before _ _ set.goes.survives clean in
       let early = clean_before _ _ put.goes.survives late in
       let moved = move.moved early inside s (texts_of_1 _ s sound before) (tables_of_1 _ s before) in
       let mid = move.goes.inside early inside in
       let made = (put.made s items).made late mid.0 moved.0 in
-      on_ok c.set_version.result _ _ (λ tables. held_as_2 _ s (before.fit.0, before.fit.2) tables)
+      on_ok c.set_version.result _ _ (λ tables. held_as_2 _ s before.fit.0 tables)
       (set.made clean (put.goes.inside late mid.0).0 (subst (λ rows. HoldsParts (tables_2 1 items rows s) (state g.S.Store c.move_incidents.new.tx.conn.now).now) (rows_of_namings _ s.incidents (c.deref.ensures.value ∙ moved.1)) made));
 }
 
@@ -71,7 +71,7 @@ returns-in_err-move_incidents-clause-cause g c s sound taken =
       cause = λ clean inside before.
           let early = clean_before _ _ put.goes.survives clean in
           let moved = move.moved early inside s (texts_of_1 _ s sound before) (tables_of_1 _ s before) in
-          let can = subst CanName (sym (rows_of_namings _ s.incidents (c.deref.ensures.value ∙ moved.1))) (names_stand s sound taken) in
+          let can = subst (CanName naming_row_2) (sym (rows_of_namings _ s.incidents (c.deref.ensures.value ∙ moved.1))) (names_stand s sound taken) in
           (fails_then one put.goes (put.cause s items can)).cause clean inside before;
     })
 
@@ -81,11 +81,11 @@ returns-clause-cause g c s sound taken =
     let move = c.in_ok-kept.ensures in
     let put = c.in_ok-move_incidents.ensures in
     let set = c.set_version.ensures in
-    let two : Makes {T = Unit {0}} (state g.S.Store c.args.tx.now.conn.now) (state g.S.Store c.move_incidents.new.tx.conn.now) (λ db. HoldsAs 1 db s) (HoldsParts (tables_2 1 items (map named_row s.incidents) s)) (Ok tt) = record {
+    let two : Makes {T = Unit {0}} (state g.S.Store c.args.tx.now.conn.now) (state g.S.Store c.move_incidents.new.tx.conn.now) (λ db. HoldsAs 1 db s) (HoldsParts (tables_2 1 items (map named_row_2 s.incidents) s)) (Ok tt) = record {
       goes = goes_then {U = Unit {0}} _ _ _ _ (Ok tt) move.goes (record { kept = put.goes.kept; inside = put.goes.inside; survives = put.goes.survives });
       made = λ clean inside before.
           let early = clean_before _ _ put.goes.survives clean in
           let moved = move.moved early inside s (texts_of_1 _ s sound before) (tables_of_1 _ s before) in
           subst (λ rows. HoldsParts (tables_2 1 items rows s) (state g.S.Store c.move_incidents.new.tx.conn.now).now) (rows_of_namings _ s.incidents (c.deref.ensures.value ∙ moved.1)) ((put.made s items).made clean (move.goes.inside early inside).0 moved.0);
     } in
-    fails_then two (set.made empty [] [] 1).goes (set.cause s items (map named_row s.incidents) 1)
+    fails_then two (set.made empty [] [] 1).goes (set.cause s items (map named_row_2 s.incidents) 1)

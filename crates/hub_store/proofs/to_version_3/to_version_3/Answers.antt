@@ -1,7 +1,7 @@
 use Rattle.std.proofs.Common.{[], map, rules}
 use Rattle.hub_core.specs.State.{empty}
 use Rattle.hub_store.specs.Items.{items_of, item_row}
-use Rattle.hub_store.specs.Rows.{named_row}
+use Rattle.hub_store.specs.Rows.{named_row_2}
 use Rattle.hub_store.specs.Layout.{parts_2}
 use Rattle.hub_store.specs.Means.{HoldsAs}
 use Rattle.hub_store.specs.Parts.{HoldsParts}
@@ -39,7 +39,7 @@ pub returns-in_err-set_version-clause-cause : goal.returns-in_err-set_version-cl
 returns-in_err-set_version-clause-cause g c s sound taken =
     let set = c.in_err-set_version.ensures in
     let items = map item_row (items_of s) in
-    let incidents = map named_row s.incidents in
+    let incidents = map named_row_2 s.incidents in
     let one = c.in_ok-rows.ensures.same s in
     fails_passed {T = Unit {0}} {P = λ db. HoldsAs 2 db s} c.from_residual-in_err-set_version.ensures.1 (record {
       cause = λ clean inside before. (fails_then one (set.made s items incidents 2).goes (set.cause s items incidents 2)).cause clean inside (tables_of_2 _ s before);
@@ -51,7 +51,7 @@ returns-clause-goes g c = goes_then _ _ _ _ _ (goes_then _ _ _ _ _ c.in_ok-rows.
 pub returns-clause-made : goal.returns-clause-made
 returns-clause-made g c s =
     let read = c.in_ok-rows.ensures in
-    let set = c.in_ok-set_version.ensures.made s (map item_row (items_of s)) (map named_row s.incidents) 2 in
+    let set = c.in_ok-set_version.ensures.made s (map item_row (items_of s)) (map named_row_2 s.incidents) 2 in
     let first = makes_then _ _ _ _ (HoldsParts (parts_2 s)) _ _ _ (read.same s) set in
     let move = rw c.deref.ensures.value at c.move_rows.ensures.made in
     record {
@@ -68,7 +68,7 @@ returns-clause-made g c s =
 pub returns-clause-cause : goal.returns-clause-cause
 returns-clause-cause g c s sound taken =
     let read = c.in_ok-rows.ensures in
-    let set = c.in_ok-set_version.ensures.made s (map item_row (items_of s)) (map named_row s.incidents) 2 in
+    let set = c.in_ok-set_version.ensures.made s (map item_row (items_of s)) (map named_row_2 s.incidents) 2 in
     let first = makes_then _ _ _ _ (HoldsParts (parts_2 s)) _ _ _ (read.same s) set in
     let move = rw c.deref.ensures.value at c.move_rows.ensures.cause in
     record {

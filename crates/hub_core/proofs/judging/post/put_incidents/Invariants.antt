@@ -5,6 +5,7 @@ use Rattle.hub_core.proofs.judging.post.put_incidents.Given as goal
 
 abbrev pub invariant-loop-posted : goal.invariant-loop-posted
 invariant-loop-posted l = record {
-  left : l.edits.items ++ put_incidents l.source l.number (record { level = l.level; group = l.fn.group; gates = l.gates }) (into_iter_items l.posted-iterator) ≡ put_incidents l.source l.fn.first (record { level = l.level; group = l.fn.group; gates = l.gates }) l.fn.documents.items;
+  left : l.edits.items ++ put_incidents l.posting.source l.number (record { community = l.posting.community; level = l.posting.level; group = l.posting.group; gates = l.gates }) (into_iter_items l.posted-iterator)
+      ≡ put_incidents l.posting.source l.fn.first (record { community = l.posting.community; level = l.posting.level; group = l.posting.group; gates = l.gates }) l.fn.documents.items;
   count : l.number + length (into_iter_items l.posted-iterator) ≡ l.fn.first + length l.fn.documents.items;
 }

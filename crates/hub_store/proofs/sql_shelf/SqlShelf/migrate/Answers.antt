@@ -8,8 +8,8 @@ use Rattle.hub_store.specs.Versions.{version_of}
 use Rattle.hub_store.proofs.Renewed.{at_newest, not_begun, is_brought, is_not_brought}
 use Rattle.hub_store.proofs.sql_shelf.SqlShelf.migrate.Goals as goal
 
-pub returns-in-Ok-Some-eq3-clause-opened : goal.returns-in-Ok-Some-eq3-clause-opened
-returns-in-Ok-Some-eq3-clause-opened g c =
+pub returns-in-Ok-Some-eq4-clause-opened : goal.returns-in-Ok-Some-eq4-clause-opened
+returns-in-Ok-Some-eq4-clause-opened g c =
     subst (λ h. IsMigrated (state g.S.Store c.args.conn) (state g.S.Store h) c.over.result.failures) (sym c.over.ensures.same)
     (at_newest (state g.S.Store c.args.conn) (state g.S.Store c.version.new.conn) c.version.ensures.survives c.version.ensures.kept c.over.result.failures (search rules) (search rules) c.over.ensures.begun)
 

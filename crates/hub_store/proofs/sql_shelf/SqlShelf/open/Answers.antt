@@ -4,8 +4,8 @@ use Rattle.hub_store.specs.Opening.{IsOpened}
 use Rattle.hub_store.proofs.Opened.{is_opened, is_refused}
 use Rattle.hub_store.proofs.sql_shelf.SqlShelf.open.Goals as goal
 
-pub returns-in-Ok-Some-eq3-clause-opened : goal.returns-in-Ok-Some-eq3-clause-opened
-returns-in-Ok-Some-eq3-clause-opened g c =
+pub returns-in-Ok-Some-eq4-clause-opened : goal.returns-in-Ok-Some-eq4-clause-opened
+returns-in-Ok-Some-eq4-clause-opened g c =
     subst (λ h. IsOpened (state g.S.Store c.args.conn) (state g.S.Store h) c.over.result.failures) (sym c.over.ensures.same)
     (is_opened (state g.S.Store c.args.conn) (state g.S.Store c.version.new.conn) c.version.ensures.survives c.version.ensures.kept c.over.result.failures (search rules) c.over.ensures.begun)
 
