@@ -15,7 +15,7 @@ use Rattle.policy.specs.declared.permission.Permission.{Permission}
 use Rattle.policy.specs.declared.verdict.Verdict.{Verdict}
 use Rattle.policy.specs.declared.verdict.Verdict.TheVariants.{Shown, Hidden}
 use Rattle.explain.specs.Explanation.{Explanation}
-use Rattle.explain.specs.Listing.{entry_of, in_order, kind_name, number_of}
+use Rattle.explain.specs.Listing.{entry_of, permissions_in_order, kind_name, number_of}
 use Rattle.explain.specs.declared.listing.PrintedPermission.{PrintedPermission}
 
 abbrev pub space : Bytes
@@ -79,7 +79,7 @@ abbrev pub permission_line : PrintedPermission → Bytes
 permission_line e = codes "permission " ++ quoted e.pointer ++ space ++ grantee_text e.grantee ++ end_text e.until ++ newline
 
 abbrev pub permission_lines : List Permission → Bytes
-permission_lines xs = flat_map permission_line (in_order (map entry_of xs))
+permission_lines xs = flat_map permission_line (permissions_in_order (map entry_of xs))
 
 abbrev pub trace_text : Explanation → Bytes
 trace_text x =

@@ -51,5 +51,5 @@ put_all fs [] = fs
 put_all fs (e ∷ es) = put_all (put e fs) es
 
 -- in this order; those of which none comes before the other stay in theirs
-abbrev pub in_order : List PrintedPermission → List PrintedPermission
-in_order es = put_all [] es
+abbrev pub permissions_in_order : List PrintedPermission → List PrintedPermission
+permissions_in_order es = put_all [] es

@@ -2,7 +2,7 @@
 
 ghost use Rattle.std.specs.Prelude.{◌≡◌, ◌≤◌, length, map, IfOk, OnOk};
 ghost use Rattle.std.specs.List.{insert};
-ghost use Rattle.explain.specs.Listing.{kind_place as place_of_kind, kind_name as name_of_kind, number_of as number_in, comes_before as is_before, put as put_in, in_order as in_this_order, entry_of as entry_for};
+ghost use Rattle.explain.specs.Listing.{kind_place as place_of_kind, kind_name as name_of_kind, number_of as number_in, comes_before as is_before, put as put_in, permissions_in_order as in_this_order, entry_of as entry_for};
 
 use iodef_tree::Text;
 use policy::{Grantee, Permission};
@@ -97,7 +97,7 @@ fn entry_of(alloc: Global, permission: &Permission) -> Result<PrintedPermission,
 }
 
 /// The permissions by the bytes of the printed path, then by kind and number; those alike in their order.
-pub(crate) fn in_order(
+pub(crate) fn sort_permissions(
     alloc: Global,
     permissions: &[Permission],
 ) -> Result<Vec<PrintedPermission>, AllocError>

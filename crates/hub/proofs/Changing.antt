@@ -18,7 +18,7 @@ use Rattle.hub_core.specs.Documents.{Lines, documents_in, made_at}
 use Rattle.hub_core.specs.State.{State}
 use Rattle.hub_core.specs.Aftermath.{next_incident, put_gate, put_incident, put_incidents, edits_of, edits_by}
 use Rattle.hub_core.specs.Facts.{facts_of}
-use Rattle.hub_core.specs.Requests.{looked_up, known, known_of, incident_asked}
+use Rattle.hub_core.specs.Requests.{looked_up, incident_facts, known_of, incident_asked}
 use Rattle.hub_core.specs.Refusals.{refusal_of, next_revision}
 use Rattle.hub_core.specs.Laws.{is_reading}
 use Rattle.hub_core.specs.Sound.{IsSound}
@@ -88,7 +88,7 @@ revision_fits s a r sound = small (looked_up s (incident_asked r)) (there (incid
     there None i h = cc
     there (Some n) i h = found_each (λ (j : Incident). j.naming.revision ≤ REVISION_LIMIT) (λ (j : Incident). j.naming.number == n) s.incidents i h sound.incidents.revisions
 
-    small : (o : Option Incident) → ((i : Incident) → o ≡ Some i → i.naming.revision ≤ REVISION_LIMIT) → next_revision (option_map known o) < 2 ^ 32
+    small : (o : Option Incident) → ((i : Incident) → o ≡ Some i → i.naming.revision ≤ REVISION_LIMIT) → next_revision (option_map incident_facts o) < 2 ^ 32
     small None h = omega arith
     small (Some i) h = let low = h i refl in omega (arith, low)
 

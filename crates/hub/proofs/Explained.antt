@@ -17,7 +17,7 @@ use Rattle.circle.proofs.Judged.{passed}
 use Rattle.hub_core.specs.State.{State, incident_of}
 use Rattle.hub_core.specs.Documents.{Lines}
 use Rattle.hub_core.specs.Reads.{case_for}
-use Rattle.hub_core.specs.Requests.{known}
+use Rattle.hub_core.specs.Requests.{incident_facts}
 use Rattle.hub_core.specs.Refusals.{is_class_at, grounds, refusal_of}
 use Rattle.hub_core.specs.declared.state.Incident.{Incident}
 use Rattle.hub_core.specs.declared.request.Explain.{Explain}
@@ -31,7 +31,7 @@ told_of true text h = refl
 told_of false text h = absurd (true≢false h)
 
 there : (s : State) (now : ℤ) (p : Option Person) (i : Option Incident) (path : Option Tokens) →
-    is_none path ≡ false → is_none (option_map known i) ≡ false → not (option_map_or (λ (q : Person). q.active) p false) ≡ false →
+    is_none path ≡ false → is_none (option_map incident_facts i) ≡ false → not (option_map_or (λ (q : Person). q.active) p false) ≡ false →
     not (option_map_or (is_class_at (option_map (λ (j : Incident). j.document) i)) path false) ≡ false →
     text_of s now p i path ≡ Some (trace_of s now p i path)
 there s now None i path wanted posted active class = absurd (true≢false active)

@@ -1,4 +1,4 @@
 pub mod Asking
 pub mod Explaining
 pub mod Viewing
-pub mod Wanted
+pub mod PageFilter

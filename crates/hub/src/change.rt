@@ -9,7 +9,7 @@ ghost use Rattle.hub_core.specs.Shelves.{KeepsContent};
 ghost use Rattle.hub.specs.Serving.{IsCounted, IsServed, due_to, gives_numbers, is_made, is_made_by, made_reply, number_put, numbers_put};
 
 use crate::asking::Asker;
-use crate::fault::{ample, told};
+use crate::fault::{ample, refuse};
 use circle::command::{CircleCommand, RowEdit};
 use hub_core::{Code, Edit, Facts, Refusal, Reply, Request, Shelf, ShelfFault, judge, lacks_role};
 use policy::Numbers;
@@ -103,12 +103,12 @@ pub fn change<Sh: Shelf>(
 {
     // Who may not post makes the hub read no body.
     if lacks_role(asker.person, request) {
-        return told(Refusal::bare(alloc, Code::W1));
+        return refuse(Refusal::bare(alloc, Code::W1));
     }
     let facts = shelf.facts(asker.person, request)?;
     let edits = match judge(alloc, asker.person, &facts, request) {
         Ok(edits) => edits,
-        Err(refusal) => return told(refusal),
+        Err(refusal) => return refuse(refusal),
     };
     let reply = reply_to(alloc, &facts, request, edits.as_slice())?;
     match shelf.apply(edits.as_slice()) {

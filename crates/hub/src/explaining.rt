@@ -16,7 +16,7 @@ ghost use Rattle.hub.specs.Replies.{refused_or};
 ghost use Rattle.hub.specs.Told.{trace_of};
 
 use crate::asking::{Asker, case_of, standing_of_person};
-use crate::fault::{ample, told};
+use crate::fault::{ample, refuse};
 use circle::text::Text;
 use explain::{ExplainFault, explain};
 use hub_core::{Code, Explain, Facts, Refusal, Reply, Request, Shelf, ShelfFault, judge};
@@ -38,13 +38,13 @@ fn text_of(
     ensures fault { IfErr result (λ e. e ≡ ShelfFault.NoMemory) }
 {
     match check(alloc, document) {
-        Ok(()) => explained(alloc, document, case, standing, path),
+        Ok(()) => trace_at(alloc, document, case, standing, path),
         Err(MarkingFault::BadMarking(_)) => Ok(None),
         Err(MarkingFault::NoMemory) => Err(ShelfFault::NoMemory),
     }
 }
 
-fn explained(
+fn trace_at(
     alloc: Global,
     document: &Document,
     case: &Case,
@@ -127,7 +127,7 @@ pub fn explain_to<Sh: Shelf>(
 {
     let facts = shelf.facts(asker.person, request)?;
     match judge(alloc, asker.person, &facts, request) {
-        Err(refusal) => told(refusal),
+        Err(refusal) => refuse(refusal),
         Ok(_) => {
             let text = find_text(shelf, alloc, asker, &facts, asked)?;
             Ok(reply_of(alloc, text))

@@ -36,7 +36,7 @@ pub fn given_up(alloc: Global, fault: ShelfFault) -> Reply
 }
 
 /// The refusal as a reply; that of want of memory is the shelf's.
-pub fn told(refusal: Refusal) -> Result<Reply, ShelfFault>
+pub fn refuse(refusal: Refusal) -> Result<Reply, ShelfFault>
     ensures reply { IfOk result (λ reply. reply ≡ Refused refusal) }
     ensures other { IfOk result (λ reply. refusal ≡ no_memory → ⊥) }
     ensures fault { IfErr result (λ e. e ≡ ShelfFault.NoMemory) }

@@ -17,7 +17,7 @@ ghost use Rattle.hub.specs.declared.key.Key.TheVariants.{Digest};
 
 use crate::fault::given_up;
 use crate::key::Key;
-use crate::serving::answered;
+use crate::serving::answer_key;
 use hub_core::{Reply, Request, Shelf};
 use std::alloc::{AllocError, Global};
 use std::marker::Model;
@@ -70,7 +70,7 @@ impl<Sh: Shelf> Hub<Sh> {
         ensures later { Sh.failed self.old ≤ Sh.failed self.new }
         ensures doubt { Sh.doubts self.old ≤ Sh.doubts self.new }
     {
-        match answered(&mut self.shelf, alloc, now, key, request) {
+        match answer_key(&mut self.shelf, alloc, now, key, request) {
             Ok(reply) => reply,
             Err(fault) => given_up(alloc, fault),
         }

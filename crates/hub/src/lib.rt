@@ -18,7 +18,7 @@
 //!
 //! - `hub`: [`Hub`], one request and a list of them; `key`: [`Key`], by what a caller is known;
 //! - `serving`: who asks, and what is answered;
-//! - `reading`: requests that only read: a page by `pages` (`wanted`: what it lists), a view by `view`, an explanation
+//! - `reading`: requests that only read: a page by `pages` (`page_filter`: what it lists), a view by `view`, an explanation
 //!   by `explaining`;
 //! - `change`: a change is judged, its reply is made, and only then the shelf is asked to make it;
 //! - `asking`: the reads of the shelf that several of these need; `fault`: why an answer is given up;
@@ -36,7 +36,7 @@ mod pages;
 mod reading;
 mod serving;
 mod view;
-mod wanted;
+mod page_filter;
 
 pub use hub::Hub;
 pub use key::Key;

@@ -8,14 +8,14 @@ ghost use Rattle.hub_core.specs.Reads.{case_for};
 ghost use Rattle.hub_core.specs.declared.state.Incident.{Incident};
 ghost use Rattle.hub_core.specs.declared.reply.Entry.{Entry as Listed};
 ghost use Rattle.hub.specs.Replies.{page_of};
-ghost use Rattle.hub.specs.inner.Wanted.{HasSameWords, admits, shuts_out, is_shut_out, is_told, is_wanted, is_wanted_at, number_at_end};
+ghost use Rattle.hub.specs.inner.PageFilter.{HasSameWords, admits, shuts_out, is_shut_out, is_told, is_wanted, is_wanted_at, number_at_end};
 ghost use Rattle.hub_core.specs.Shelves.{HasFailed, IsKept};
 ghost use Rattle.hub.specs.inner.Asking.{IsThere};
 
 use crate::PAGE_LIMIT;
 use crate::asking::{Asker, case_of, is_met, standing};
 use crate::fault::ample;
-use crate::wanted::Wanted;
+use crate::page_filter::PageFilter;
 use hub_core::{Entry, Shelf, ShelfFault};
 use policy::{Case, Gate, Standing, passes};
 use redact::Want;
@@ -69,7 +69,7 @@ fn copied(alloc: Global, want: &Want) -> Result<Want, ShelfFault>
 }
 
 /// Whether a standing rules an incident out, whatever it holds.
-fn is_ruled_out(wanted: Wanted<'_>, standing: &Standing) -> bool
+fn is_ruled_out(wanted: PageFilter<'_>, standing: &Standing) -> bool
     ensures { result ≡ not (admits wanted.entry standing.entry.now) }
 {
     wanted.addressed && !(standing.person || standing.addressed)
@@ -80,7 +80,7 @@ fn is_ruled_out(wanted: Wanted<'_>, standing: &Standing) -> bool
 fn is_wanted_by<Sh: Shelf>(
     shelf: &mut Sh,
     alloc: Global,
-    wanted: Wanted<'_>,
+    wanted: PageFilter<'_>,
     standing: Standing,
     incident: u32,
 ) -> Result<bool, ShelfFault>
@@ -106,7 +106,7 @@ fn lists<Sh: Shelf>(
     shelf: &mut Sh,
     alloc: Global,
     asker: Asker<'_>,
-    wanted: Wanted<'_>,
+    wanted: PageFilter<'_>,
     incident: u32,
 ) -> Result<bool, ShelfFault>
     ensures value { Sh.doubts shelf.new ≡ 0 → (s : State) → Sh.has shelf.old s → IsSound s → IsThere s asker.entry.person.now → IfOk result (λ b. b ≡ is_wanted_at s asker.entry.now asker.entry.person.now wanted.entry incident) }
@@ -124,7 +124,7 @@ fn pick<Sh: Shelf>(
     shelf: &mut Sh,
     alloc: Global,
     asker: Asker<'_>,
-    wanted: Wanted<'_>,
+    wanted: PageFilter<'_>,
     entries: &[Entry],
     listed: &mut Vec<Entry>,
 ) -> Result<(), ShelfFault>
@@ -161,7 +161,7 @@ pub fn page<Sh: Shelf>(
     shelf: &mut Sh,
     alloc: Global,
     asker: Asker<'_>,
-    wanted: Wanted<'_>,
+    wanted: PageFilter<'_>,
     after: u32,
 ) -> Result<Vec<Entry>, ShelfFault>
     ensures value { Sh.doubts shelf.new ≡ 0 → (s : State) → Sh.has shelf.old s → IsSound s → IsThere s asker.entry.person.now → IfOk result (λ listed. listed.items ≡ page_of (is_wanted s asker.entry.now asker.entry.person.now wanted.entry) after s) }

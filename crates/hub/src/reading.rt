@@ -10,17 +10,17 @@ ghost use Rattle.hub_core.specs.State.{incident_of};
 ghost use Rattle.hub_core.specs.declared.state.Incident.{Incident};
 ghost use Rattle.hub.specs.Told.{is_served, is_addressed};
 ghost use Rattle.hub.specs.Replies.{page_of, viewed};
-ghost use Rattle.hub.specs.inner.Wanted.{is_wanted};
+ghost use Rattle.hub.specs.inner.PageFilter.{is_wanted};
 ghost use Rattle.hub.specs.Serving.{read_by, searched};
 ghost use Rattle.hub_core.specs.Shelves.{HasFailed, IsKept};
 ghost use Rattle.hub.specs.inner.Asking.{IsThere};
 
 use crate::asking::Asker;
 use crate::explaining::explain_to;
-use crate::fault::{ample, told};
+use crate::fault::{ample, refuse};
 use crate::pages::page;
 use crate::view::view;
-use crate::wanted::Wanted;
+use crate::page_filter::PageFilter;
 use circle::text::Text;
 use hub_core::{
     Code, Entries, JoinedGroups, Refusal, Reply, Request, Search, Shelf, ShelfFault, judge,
@@ -33,7 +33,7 @@ fn list<Sh: Shelf>(
     shelf: &mut Sh,
     alloc: Global,
     asker: Asker<'_>,
-    wanted: Wanted<'_>,
+    wanted: PageFilter<'_>,
     after: u32,
 ) -> Result<Reply, ShelfFault>
     ensures value { Sh.doubts shelf.new ≡ 0 → (s : State) → Sh.has shelf.old s → IsSound s → IsThere s asker.entry.person.now → IfOk result (λ reply. reply ≡ Incidents (page_of (is_wanted s asker.entry.now asker.entry.person.now wanted.entry) after s)) }
@@ -61,7 +61,7 @@ fn list_shown<Sh: Shelf>(
         needle: None,
         class: None,
     };
-    let wanted = Wanted {
+    let wanted = PageFilter {
         addressed,
         want: &want,
     };
@@ -109,10 +109,10 @@ fn search<Sh: Shelf>(
 {
     let facts = shelf.facts(asker.person, request)?;
     match judge(alloc, asker.person, &facts, request) {
-        Err(refusal) => told(refusal),
+        Err(refusal) => refuse(refusal),
         Ok(_) => {
             let want = want_of(alloc, asked)?;
-            let wanted = Wanted {
+            let wanted = PageFilter {
                 addressed: false,
                 want: &want,
             };

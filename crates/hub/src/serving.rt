@@ -18,7 +18,7 @@ use hub_core::{Code, Refusal, Reply, Request, Shelf, ShelfFault};
 use std::alloc::Global;
 
 /// What a person's request is answered.
-fn served<Sh: Shelf>(
+fn answer_person<Sh: Shelf>(
     shelf: &mut Sh,
     alloc: Global,
     asker: Asker<'_>,
@@ -36,7 +36,7 @@ fn served<Sh: Shelf>(
 }
 
 /// What a request is answered, to whom the key makes known.
-pub fn answered<Sh: Shelf>(
+pub fn answer_key<Sh: Shelf>(
     shelf: &mut Sh,
     alloc: Global,
     now: i64,
@@ -55,7 +55,7 @@ pub fn answered<Sh: Shelf>(
                 person: &person,
                 now,
             };
-            served(shelf, alloc, asker, request)
+            answer_person(shelf, alloc, asker, request)
         }
     }
 }

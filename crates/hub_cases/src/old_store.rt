@@ -174,19 +174,27 @@ fn in_turn(
     Ok(())
 }
 
-/// A store after these statements, behind those that make the tables of version 1 and the rows of every version; none where
-/// one of them is refused.
-fn store(alloc: Global, others: &[&[&str]]) -> Result<Option<Connection<MemStore>>, AllocError> {
+/// A store with the tables of version 1 and the rows of every version; none where a statement is refused.
+fn begun(alloc: Global) -> Result<Option<Connection<MemStore>>, AllocError> {
     let mut conn = Connection::open_in_memory(alloc)?;
-    if !are_run(&mut conn, &TABLES) || !are_run(&mut conn, &ROWS) {
-        return Ok(None);
+    if are_run(&mut conn, &TABLES) && are_run(&mut conn, &ROWS) {
+        Ok(Some(conn))
+    } else {
+        Ok(None)
     }
-    for statements in others {
-        if !are_run(&mut conn, statements) {
-            return Ok(None);
-        }
+}
+
+/// The store after these statements too; none where one of them is refused.
+fn behind(
+    store: Option<Connection<MemStore>>,
+    statements: &[&str],
+) -> Option<Connection<MemStore>> {
+    let mut conn = store?;
+    if are_run(&mut conn, statements) {
+        Some(conn)
+    } else {
+        None
     }
-    Ok(Some(conn))
 }
 
 /// What is printed of a store, if it was made.
@@ -205,13 +213,13 @@ fn printed(
 /// What is printed of each version, and of reports that don't read back.
 pub fn all(alloc: Global) -> Result<Vec<String>, AllocError> {
     let mut all = Vec::new(alloc);
-    let first = store(alloc, &[&ROWS_1])?;
+    let first = behind(begun(alloc)?, &ROWS_1);
     printed(alloc, first, &TURNS_1, &mut all)?;
-    let unread = store(alloc, &[&UNREAD_1])?;
+    let unread = behind(begun(alloc)?, &UNREAD_1);
     printed(alloc, unread, &UNREAD_TURNS, &mut all)?;
-    let second = store(alloc, &[&TABLES_2, &IN_LINES, &ROWS_2])?;
-    printed(alloc, second, &TURNS_2, &mut all)?;
-    let third = store(alloc, &[&TABLES_2, &TABLES_3, &IN_LINES, &ROWS_3])?;
-    printed(alloc, third, &TURNS_3, &mut all)?;
+    let second = behind(behind(begun(alloc)?, &TABLES_2), &IN_LINES);
+    printed(alloc, behind(second, &ROWS_2), &TURNS_2, &mut all)?;
+    let third = behind(behind(behind(begun(alloc)?, &TABLES_2), &TABLES_3), &IN_LINES);
+    printed(alloc, behind(third, &ROWS_3), &TURNS_3, &mut all)?;
     Ok(all)
 }

@@ -10,7 +10,7 @@ use crate::fault::Fault;
 use crate::input::read_line;
 use crate::keys::line_key;
 use crate::output::print;
-use crate::replies::{printed, status_of};
+use crate::replies::{reply_lines, status_of};
 use crate::status::Status;
 use crate::store::{close, open_store};
 use hub::Hub;
@@ -48,7 +48,7 @@ pub fn reply_to_input<Sh: Shelf, R: Read, C: Clock>(
 
 /// Prints the reply, and tells how the program ends with it.
 fn print_reply<W: Write>(alloc: Global, writer: &mut W, reply: &Reply) -> Result<Status, Fault> {
-    print(writer, printed(alloc, reply)?.as_str())?;
+    print(writer, reply_lines(alloc, reply)?.as_str())?;
     Ok(status_of(reply))
 }
 

@@ -10,18 +10,18 @@ pub const STORE: &str = "STORE";
 
 /// What is to stand on an output.
 #[derive(Clone, Copy)]
-pub enum Wanted<'a> {
+pub enum Expected<'a> {
     All(&'a str),
     Beginning(&'a str),
     Something,
 }
 
-impl<'a> Wanted<'a> {
+impl<'a> Expected<'a> {
     fn is(self, written: &[u8]) -> bool {
         match self {
-            Wanted::All(text) => written == text.as_bytes(),
-            Wanted::Beginning(text) => written.starts_with(text.as_bytes()),
-            Wanted::Something => !written.is_empty(),
+            Expected::All(text) => written == text.as_bytes(),
+            Expected::Beginning(text) => written.starts_with(text.as_bytes()),
+            Expected::Something => !written.is_empty(),
         }
     }
 }
@@ -32,8 +32,8 @@ pub struct Case<'a> {
     pub words: &'a [&'a str],
     pub input: &'a [u8],
     pub status: Status,
-    pub output: Wanted<'a>,
-    pub errors: Wanted<'a>,
+    pub output: Expected<'a>,
+    pub errors: Expected<'a>,
 }
 
 /// It is done, and this printed.
@@ -42,15 +42,15 @@ pub fn prints<'a>(words: &'a [&'a str], input: &'a str, output: &'a str) -> Case
         words,
         input: input.as_bytes(),
         status: Status::Done,
-        output: Wanted::All(output),
-        errors: Wanted::All(""),
+        output: Expected::All(output),
+        errors: Expected::All(""),
     }
 }
 
 /// It is done, and this printed first.
 pub fn begins<'a>(words: &'a [&'a str], input: &'a str, output: &'a str) -> Case<'a> {
     Case {
-        output: Wanted::Beginning(output),
+        output: Expected::Beginning(output),
         ..prints(words, input, "")
     }
 }
@@ -67,7 +67,7 @@ pub fn refused<'a>(words: &'a [&'a str], input: &'a str, output: &'a str) -> Cas
 pub fn tells<'a>(words: &'a [&'a str], input: &'a str, fault: &'a str, status: Status) -> Case<'a> {
     Case {
         status,
-        errors: Wanted::All(fault),
+        errors: Expected::All(fault),
         ..prints(words, input, "")
     }
 }

@@ -2,7 +2,7 @@
 
 use crate::commands::{explanation, init, mark, migrate, serve, view};
 use crate::fault::Fault;
-use crate::output::{ended, told};
+use crate::output::{end_with, tell};
 use crate::status::Status;
 use crate::words::{Asked, command_line, read_words};
 use clap::Error;
@@ -19,7 +19,7 @@ pub fn cli_run<R: Read, W: Write, E: Write>(
 ) -> Status {
     let alloc = rt.alloc();
     let Ok(line) = command_line(alloc, words) else {
-        return ended(errors, Err(Fault::NoMemory));
+        return end_with(errors, Err(Fault::NoMemory));
     };
     match read_words(alloc, line.as_slice()) {
         Ok(asked) => run(rt, asked, reader, writer, errors),
@@ -53,12 +53,12 @@ fn run<R: Read, W: Write, E: Write>(
         } => explanation::run(rt, store, person, number, pointer, reader, writer),
         Asked::Migrate { store } => migrate::run(rt, store, writer),
     };
-    ended(errors, outcome)
+    end_with(errors, outcome)
 }
 
 fn usage<E: Write>(errors: &mut E, error: &Error) -> Status {
     if error.kind() == ErrorKind::OutOfMemory {
-        return told(errors, "NoMemory", Status::Failed);
+        return tell(errors, "NoMemory", Status::Failed);
     }
     match write!(errors, "{error}") {
         Ok(()) => Status::Usage,

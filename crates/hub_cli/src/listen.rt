@@ -4,7 +4,7 @@ ghost use Rattle.hub_cli.specs.Serving.{HasRun, fault_told};
 
 use crate::clock::seconds;
 use crate::fault::Fault;
-use crate::output::told;
+use crate::output::tell;
 use crate::peer::{Timed, part};
 use crate::status::Status;
 use hub::Hub;
@@ -88,7 +88,7 @@ pub fn serve_count<Sh: Shelf, C: Clock, E: Write>(
     let mut status = Status::Done;
     for _ in 0..count {
         if let Err(fault) = serve_next(alloc, listener, hub, clock) {
-            status = told(errors, fault_name(fault), status);
+            status = tell(errors, fault_name(fault), status);
         }
     }
     status

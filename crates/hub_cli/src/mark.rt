@@ -50,14 +50,14 @@ impl From<AllocError> for MarkFault {
 /// What is asked for: the labels of one Incident's document, by the Incident's place in the body, and of all its classes
 /// or of the one at a path.
 #[derive(Drop)]
-pub struct Wanted {
+pub struct Selection {
     pub place: u32,
     pub class: Option<Path>,
 }
 
 /// For each class that is wanted, in stored order, a line with the compact JSON array of its path, its label, the label's
 /// handling where nothing is arranged, and the path of the class where that label stands.
-pub fn mark_text(alloc: Global, body: &[u8], wanted: &Wanted) -> Result<String, MarkFault>
+pub fn mark_text(alloc: Global, body: &[u8], wanted: &Selection) -> Result<String, MarkFault>
     ensures { IsMarked result (printed wanted.now body.now) }
 {
     let documents = match Document::read(alloc, body) {

@@ -16,7 +16,7 @@ pub fn print<W: Write>(writer: &mut W, text: &str) -> Result<Status, Fault> {
 }
 
 /// Tells a fault by its name, on a line of its own.
-pub fn told<E: Write>(errors: &mut E, name: &str, status: Status) -> Status {
+pub fn tell<E: Write>(errors: &mut E, name: &str, status: Status) -> Status {
     match writeln!(errors, "{name}") {
         Ok(()) => status,
         Err(_) => Status::Failed,
@@ -24,9 +24,9 @@ pub fn told<E: Write>(errors: &mut E, name: &str, status: Status) -> Status {
 }
 
 /// How the program ends; a fault is told.
-pub fn ended<E: Write>(errors: &mut E, outcome: Result<Status, Fault>) -> Status {
+pub fn end_with<E: Write>(errors: &mut E, outcome: Result<Status, Fault>) -> Status {
     match outcome {
         Ok(status) => status,
-        Err(fault) => told(errors, fault.name(), fault.status()),
+        Err(fault) => tell(errors, fault.name(), fault.status()),
     }
 }

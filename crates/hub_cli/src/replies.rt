@@ -28,7 +28,7 @@ fn line_of(alloc: Global, reply: &Reply) -> Result<String, AllocError>
 }
 
 /// What is printed of a reply: the lines of an explanation, of all else the body and a newline.
-pub fn printed(alloc: Global, reply: &Reply) -> Result<String, AllocError>
+pub fn reply_lines(alloc: Global, reply: &Reply) -> Result<String, AllocError>
     ensures { IfOk result (λ text. string_bytes text ≡ printed_of reply.now) }
 {
     match reply {

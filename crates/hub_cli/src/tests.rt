@@ -1,6 +1,6 @@
 //! The program on whole inputs: what it prints, what it tells, how it ends.
 
-use crate::cases::{Case, Wanted, first_wrong, prints, tells};
+use crate::cases::{Case, Expected, first_wrong, prints, tells};
 use crate::cli::cli_run;
 use crate::examples::{
     BOTNET, BOTNET_MARKS, DENIAL_OF_SERVICE, DENIAL_OF_SERVICE_MARKS, PHISHING, PHISHING_MARKS,
@@ -115,7 +115,7 @@ fn classes_that_are_none(rt: HostRuntime) -> io::Result<()> {
 fn usage<'a>(words: &'a [&'a str]) -> Case<'a> {
     Case {
         status: Status::Usage,
-        errors: Wanted::Something,
+        errors: Expected::Something,
         ..prints(words, UNMARKED, "")
     }
 }

@@ -9,12 +9,12 @@ use Rattle.circle.specs.declared.command.Edit.TheVariants.{Row, Found}
 use Rattle.circle.specs.declared.directory.Person.{Person}
 use Rattle.circle.specs.declared.refusal.Refusal.{Refusal}
 use Rattle.hub_core.specs.State.{State}
-use Rattle.hub_core.specs.Edits.{after}
+use Rattle.hub_core.specs.Edits.{with_edits}
 use Rattle.hub_core.specs.Refusals.{refusal_of, state_after, unless_refused}
 use Rattle.hub_core.specs.declared.edit.Edit.TheVariants as edit
 use Rattle.hub_core.specs.declared.request.Request.TheVariants as ask
 
-pub rows_make : (change : Change) (s : State) → after (map edit.Directory (rows_of change)) s ≡ record s { directory = edited change s.directory }
+pub rows_make : (change : Change) (s : State) → with_edits (map edit.Directory (rows_of change)) s ≡ record s { directory = edited change s.directory }
 rows_make (Row row) s = refl
 rows_make (Found group) s = refl
 

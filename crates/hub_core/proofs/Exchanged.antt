@@ -13,7 +13,7 @@ use Rattle.circle.specs.Directory.{Directory}
 use Rattle.circle.proofs.Keeping.{each_put, each_left, each_weaker, each_map, pairs_left, numbered_map, differ_map, names_map}
 use Rattle.circle.proofs.Kept.{same_when}
 use Rattle.hub_core.specs.declared.TheConstants.{INCIDENT_LIMIT, REVISION_LIMIT, GATE_LIMIT, RECIPIENT_LIMIT, PERMISSION_LIMIT}
-use Rattle.hub_core.specs.Requests.{known}
+use Rattle.hub_core.specs.Requests.{incident_facts}
 use Rattle.hub_core.specs.Aftermath.{next_row}
 use Rattle.hub_core.specs.Documents.{Lines, is_class_in}
 use Rattle.hub_core.specs.Sound.{IsSound, SoundIncidents, SoundRecipients, SoundPermissions, IsAccepted, IsIncident, IsCommunityIfAny}
@@ -115,7 +115,7 @@ each_exchanged P n f i (x ∷ xs) only here all = (split (x.naming.number == n) 
 -- ---- the incidents
 
 abbrev revised : Option ℕ → Lines → Incident → Incident
-revised community doc i = next_row i.naming.number (known i) community doc
+revised community doc i = next_row i.naming.number (incident_facts i) community doc
 
 abbrev put_revised : Option ℕ → Lines → Incident → List Incident → List Incident
 put_revised community doc i incidents = put_by (by_number incident_number) (revised community doc i) (others i.naming.number incidents)

@@ -15,7 +15,7 @@ use Rattle.circle.proofs.Keeping.{each_put, each_weaker, order_put}
 use Rattle.hub_core.specs.declared.TheConstants.{GATE_LIMIT}
 use Rattle.hub_core.specs.Aftermath.{put_gate, put_gates}
 use Rattle.hub_core.specs.Documents.{at_pointer, made_at, is_class_in}
-use Rattle.hub_core.specs.Edits.{after}
+use Rattle.hub_core.specs.Edits.{with_edits}
 use Rattle.hub_core.specs.Refusals.{stands_twice}
 use Rattle.hub_core.specs.Sound.{SoundGates, IsGroupIfAny}
 use Rattle.hub_core.specs.State.{State, gate_cmp, incident_in, is_class_of, is_place_of, root_gates, class_gates}
@@ -37,24 +37,24 @@ put_wanted n (w ∷ ws) gates = put_wanted n ws (option_map_or (λ p. put_by gat
 abbrev pub put_all : ℕ → Distribution → List Gate → List Gate
 put_all n d gates = put_wanted n d.gates (put_by gate_cmp (record { incident = n; gate = record { path = []; level = d.level; group = d.group } }) gates)
 
-pub after_append : (xs ys : List Edit) (s : State) → after (xs ++ ys) s ≡ after ys (after xs s)
+pub after_append : (xs ys : List Edit) (s : State) → with_edits (xs ++ ys) s ≡ with_edits ys (with_edits xs s)
 after_append [] ys s = refl
-after_append (x ∷ xs) ys s = after_append xs ys (after (x ∷ []) s)
+after_append (x ∷ xs) ys s = after_append xs ys (with_edits (x ∷ []) s)
 
-after_wanted : (n : ℕ) (wanted : List WantedGate) (s : State) → after (flat_map (λ (g : WantedGate). made_at (put_gate n g.level g.group) g.path) wanted) s ≡ record s { gates = put_wanted n wanted s.gates }
+after_wanted : (n : ℕ) (wanted : List WantedGate) (s : State) → with_edits (flat_map (λ (g : WantedGate). made_at (put_gate n g.level g.group) g.path) wanted) s ≡ record s { gates = put_wanted n wanted s.gates }
 after_wanted n [] s = refl
 after_wanted n (w ∷ ws) s =
     after_append (made_at (put_gate n w.level w.group) w.path) (flat_map (λ (g : WantedGate). made_at (put_gate n g.level g.group) g.path) ws) s
     ∙ split (pointer_tokens w.path) (after_wanted n ws)
   where
-    split : (o : Option Tokens) → ((t : State) → after (flat_map (λ (g : WantedGate). made_at (put_gate n g.level g.group) g.path) ws) t ≡ record t { gates = put_wanted n ws t.gates })
-        → after (flat_map (λ (g : WantedGate). made_at (put_gate n g.level g.group) g.path) ws) (after (option_map_or (put_gate n w.level w.group) o []) s)
+    split : (o : Option Tokens) → ((t : State) → with_edits (flat_map (λ (g : WantedGate). made_at (put_gate n g.level g.group) g.path) ws) t ≡ record t { gates = put_wanted n ws t.gates })
+        → with_edits (flat_map (λ (g : WantedGate). made_at (put_gate n g.level g.group) g.path) ws) (with_edits (option_map_or (put_gate n w.level w.group) o []) s)
         ≡ record s { gates = put_wanted n ws (option_map_or (λ p. put_by gate_cmp (record { incident = n; gate = record { path = p; level = w.level; group = w.group } }) s.gates) o s.gates) }
     split None rest = rest s
-    split (Some p) rest = rest (after (put_gate n w.level w.group p) s)
+    split (Some p) rest = rest (with_edits (put_gate n w.level w.group p) s)
 
-pub after_gates : (n : ℕ) (d : Distribution) (s : State) → after (put_gates n d) s ≡ record s { gates = put_all n d s.gates }
-after_gates n d s = after_wanted n d.gates (after (put_gate n d.level d.group []) s)
+pub after_gates : (n : ℕ) (d : Distribution) (s : State) → with_edits (put_gates n d) s ≡ record s { gates = put_all n d s.gates }
+after_gates n d s = after_wanted n d.gates (with_edits (put_gate n d.level d.group []) s)
 
 -- ---- the gates asked for, one after another
 

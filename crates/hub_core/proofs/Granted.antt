@@ -14,7 +14,7 @@ use Rattle.circle.proofs.Keeping.{each_put, each_left, each_weaker, pairs_left, 
 use Rattle.hub_core.specs.declared.TheConstants.{PERMISSION_LIMIT}
 use Rattle.hub_core.specs.Aftermath.{changed, put_permission}
 use Rattle.hub_core.specs.Documents.{at_pointer, is_class_in}
-use Rattle.hub_core.specs.Edits.{after}
+use Rattle.hub_core.specs.Edits.{with_edits}
 use Rattle.hub_core.specs.Refusals.{grounds, refusal_of, is_class_at}
 use Rattle.hub_core.specs.Requests.{is_grantee}
 use Rattle.hub_core.specs.Facts.{permissions_then}
@@ -45,8 +45,8 @@ still_few s key h = each_weaker _ _ s.incidents (λ i e. at_most _ _ PERMISSION_
 -- at the path that the pointer names
 granted_at : (s : State) (n : ℕ) (o : Option Tokens) (grantee : Grantee) (until : Option ℤ) → IsSound s →
     option_map_or (is_class_of s.incidents n) o false ≡ true → IsGrantee s.directory grantee →
-    permissions_of n (after (option_map_or (λ p. put_permission (record { incident = n; path = p; grantee = grantee }) until) o []) s).permissions ≤ PERMISSION_LIMIT →
-    IsSound (after (option_map_or (λ p. put_permission (record { incident = n; path = p; grantee = grantee }) until) o []) s)
+    permissions_of n (with_edits (option_map_or (λ p. put_permission (record { incident = n; path = p; grantee = grantee }) until) o []) s).permissions ≤ PERMISSION_LIMIT →
+    IsSound (with_edits (option_map_or (λ p. put_permission (record { incident = n; path = p; grantee = grantee }) until) o []) s)
 granted_at s n None grantee until h class known few = h
 granted_at s n (Some p) grantee until h class known few =
     let key : PermissionKey = record { incident = n; path = p; grantee = grantee } in
@@ -70,7 +70,7 @@ grant_kept s a r h fine =
     (grantee_is s.directory a.org r.grantee h.directory (not-false (is_grantee s.directory a.org r.grantee) p.1.1.1.0))
     (subst (λ m. m ≤ PERMISSION_LIMIT) (counted_is s n it.incident (λ m. permissions_of m (changed s a (ask.Grant r)).permissions) it.found) few)
 
-withdrawn_at : (s : State) (n : ℕ) (o : Option Tokens) (grantee : Grantee) → IsSound s → IsSound (after (option_map_or (λ p. TakePermission (record { incident = n; path = p; grantee = grantee }) ∷ []) o []) s)
+withdrawn_at : (s : State) (n : ℕ) (o : Option Tokens) (grantee : Grantee) → IsSound s → IsSound (with_edits (option_map_or (λ p. TakePermission (record { incident = n; path = p; grantee = grantee }) ∷ []) o []) s)
 withdrawn_at s n None grantee h = h
 withdrawn_at s n (Some p) grantee h = with_permissions s _ h (record {
   rising = pairs_left _ _ s.permissions h.permissions.rising;

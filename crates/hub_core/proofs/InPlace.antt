@@ -8,8 +8,8 @@ use Rattle.iodef_tree.specs.Pointer.{pointer_tokens}
 use Rattle.policy.specs.declared.permission.Grantee.{Grantee}
 use Rattle.hub_core.specs.declared.TheConstants.{PERMISSION_LIMIT}
 use Rattle.hub_core.specs.Aftermath.{changed, put_permission}
-use Rattle.hub_core.specs.Edits.{after}
-use Rattle.hub_core.specs.Laws.{ExchangesMeetNoLimit}
+use Rattle.hub_core.specs.Edits.{with_edits}
+use Rattle.hub_core.specs.Laws.{GrantsInPlaceMeetNoLimit}
 use Rattle.hub_core.specs.Sound.{IsSound}
 use Rattle.hub_core.specs.State.{State, has_permission, incident_of, is_permission_being, permission_cmp, permission_with, permissions_of}
 use Rattle.hub_core.specs.declared.request.Request.TheVariants as ask
@@ -19,7 +19,7 @@ use Rattle.hub_core.proofs.Bounded.{few_permissions}
 use Rattle.hub_core.proofs.Keeping.{count_fewer, count_more}
 
 in_place : (s : State) (n : ℕ) (o : Option Tokens) (grantee : Grantee) (until : Option ℤ) → IsSound s → option_map_or (λ p. has_permission (record { incident = n; path = p; grantee = grantee }) s) o false ≡ true →
-    permissions_of n (after (option_map_or (λ p. put_permission (record { incident = n; path = p; grantee = grantee }) until) o []) s).permissions ≤ PERMISSION_LIMIT
+    permissions_of n (with_edits (option_map_or (λ p. put_permission (record { incident = n; path = p; grantee = grantee }) until) o []) s).permissions ≤ PERMISSION_LIMIT
 in_place s n None grantee until sound there = absurd (false≢true there)
 in_place s n (Some p) grantee until sound there =
     let key : PermissionKey = record { incident = n; path = p; grantee = grantee } in
@@ -30,8 +30,8 @@ in_place s n (Some p) grantee until sound there =
     let few = few_permissions s n sound in
     omega arith
 
-pub exchanges_meet_no_limit : ExchangesMeetNoLimit
-exchanges_meet_no_limit s a r sound there = by_case (is_some (incident_of r.incident s))
+pub grants_in_place_meet_no_limit : GrantsInPlaceMeetNoLimit
+grants_in_place_meet_no_limit s a r sound there = by_case (is_some (incident_of r.incident s))
   where
     by_case : (b : Bool) → (if b then permissions_of r.incident (changed s a (ask.Grant r)).permissions else 0) ≤ PERMISSION_LIMIT
     by_case true = in_place s r.incident (pointer_tokens r.path) r.grantee r.until sound there

@@ -6,7 +6,7 @@ use Rattle.circle.specs.Refusals.{Ground, first_answer}
 use Rattle.circle.specs.declared.directory.Person.{Person}
 use Rattle.circle.specs.declared.refusal.Refusal.{Refusal}
 use Rattle.hub_core.specs.State.{State}
-use Rattle.hub_core.specs.Edits.{after}
+use Rattle.hub_core.specs.Edits.{with_edits}
 use Rattle.hub_core.specs.Facts.{facts_of}
 use Rattle.hub_core.specs.Refusals.{refusal_of, state_after, grounds_by, refusal_by}
 use Rattle.hub_core.specs.Aftermath.{edits_by}
@@ -45,7 +45,7 @@ edits_are view edits judged x made same = subst (λ j. IfOk j (λ y. view y ≡ 
 
 pub made_in : {X : Type 0} (view : X → List Edit) (s : State) (a : Person) (r named : Request) (f : Facts) (judged : Result X Stop) (answer : Result X Refusal) → IsAsked s a r named f →
     Asks (grounds_by f a named) judged → IfOk judged (λ x. view x ≡ edits_by f a named) → IfOk answer (λ x. judged ≡ Ok x) → IsSound s →
-    IfOk answer (λ x. after (view x) s ≡ state_after s a r)
+    IfOk answer (λ x. with_edits (view x) s ≡ state_after s a r)
 made_in view s a r named f judged (Ok x) h asked made same sound =
     let none : refusal_by f a r ≡ None = ap (refusal_by f a) h.name ∙ h.plain ∙ none_of (grounds_by f a named) judged x asked same in
     let edits : view x ≡ edits_by f a r = edits_are view (edits_by f a named) judged x made same ∙ ap (edits_by f a) (sym h.name) in

@@ -15,9 +15,9 @@ use Rattle.circle.proofs.Judged.{passed, next_number}
 use Rattle.hub_core.specs.declared.TheConstants.{INCIDENT_LIMIT, REVISION_LIMIT, GATE_LIMIT}
 use Rattle.hub_core.specs.Aftermath.{changed, next_incident, put_gates, put_next, put_revision}
 use Rattle.hub_core.specs.Documents.{Lines, documents_in, ident_of}
-use Rattle.hub_core.specs.Edits.{after}
+use Rattle.hub_core.specs.Edits.{with_edits}
 use Rattle.hub_core.specs.Refusals.{grounds, refusal_of, are_bad_gates, has_several, has_some, stand_at_classes, keep_ident, next_revision, unless_refused}
-use Rattle.hub_core.specs.Requests.{known, has_joined_all}
+use Rattle.hub_core.specs.Requests.{incident_facts, has_joined_all}
 use Rattle.hub_core.specs.Facts.{number_of}
 use Rattle.hub_core.specs.Laws.{StaysSound}
 use Rattle.hub_core.specs.Sound.{IsSound}
@@ -66,12 +66,12 @@ one_of (doc ∷ other ∷ docs) h k = absurd (false≢true (sym h ∙ two (lengt
 
 -- what the edits of the incident, of its gates and of its permissions make
 after_replace : (s : State) (i : Incident) (n : ℕ) (d : Distribution) (docs : List Lines) (doc : Lines) → i.naming.number ≡ n → incident_of n s ≡ Some i → docs ≡ doc ∷ [] →
-    after (put_next n (option_map known (incident_of n s)) d.community docs ++ TakePolicy n ∷ put_gates n d) s ≡ with_document s i d doc
+    with_edits (put_next n (option_map incident_facts (incident_of n s)) d.community docs ++ TakePolicy n ∷ put_gates n d) s ≡ with_document s i d doc
 after_replace s i n d docs doc same found one =
-    subst (λ m. after (put_next m (option_map known (incident_of n s)) d.community docs ++ TakePolicy m ∷ put_gates m d) s ≡ with_document s i d doc) same
-    (ap (λ o. after (put_next i.naming.number (option_map known o) d.community docs ++ TakePolicy i.naming.number ∷ put_gates i.naming.number d) s) found
-    ∙ (ap (λ ds. after (put_revision i.naming.number (known i) d.community ds ++ TakePolicy i.naming.number ∷ put_gates i.naming.number d) s) one
-    ∙ after_gates i.naming.number d (after (put_revision i.naming.number (known i) d.community (doc ∷ []) ++ TakePolicy i.naming.number ∷ []) s)))
+    subst (λ m. with_edits (put_next m (option_map incident_facts (incident_of n s)) d.community docs ++ TakePolicy m ∷ put_gates m d) s ≡ with_document s i d doc) same
+    (ap (λ o. with_edits (put_next i.naming.number (option_map incident_facts o) d.community docs ++ TakePolicy i.naming.number ∷ put_gates i.naming.number d) s) found
+    ∙ (ap (λ ds. with_edits (put_revision i.naming.number (incident_facts i) d.community ds ++ TakePolicy i.naming.number ∷ put_gates i.naming.number d) s) one
+    ∙ after_gates i.naming.number d (with_edits (put_revision i.naming.number (incident_facts i) d.community (doc ∷ []) ++ TakePolicy i.naming.number ∷ []) s)))
 
 replace_kept : (s : State) (a : Person) (r : Replace) → IsSound s → refusal_of s a (ask.Replace r) ≡ None → IsSound (changed s a (ask.Replace r))
 replace_kept s a r h fine =
@@ -86,16 +86,16 @@ replace_kept s a r h fine =
     let one = one_of docs p.1.1.1.1.1.0 (reported r.document docs read).some in
     let classes : stand_at_classes d.gates docs ≡ true = not-false (stand_at_classes d.gates docs) p.1.1.1.1.1.1.1.1.1.0 in
     let own : has_joined_all s a d ≡ true = not-false (has_joined_all s a d) p.1.1.1.1.1.1.1.1.0 in
-    let kept : keep_ident (option_map known (incident_of n s)) docs ≡ true = not-false (keep_ident (option_map known (incident_of n s)) docs) p.1.1.1.1.1.1.1.1.1.1.0 in
+    let kept : keep_ident (option_map incident_facts (incident_of n s)) docs ≡ true = not-false (keep_ident (option_map incident_facts (incident_of n s)) docs) p.1.1.1.1.1.1.1.1.1.1.0 in
     let few : number_of d.gates ≤ GATE_LIMIT = subst (λ m. m ≤ GATE_LIMIT) (counted_is s n i (λ m. number_of d.gates) found) (ltb-false GATE_LIMIT _ p.1.1.1.1.1.1.1.1.1.1.1.1.1.0) in
-    let room : next_revision (option_map known (incident_of n s)) ≤ REVISION_LIMIT = ltb-false REVISION_LIMIT _ p.1.1.1.1.1.1.1.1.1.1.1.1.0 in
+    let room : next_revision (option_map incident_facts (incident_of n s)) ≤ REVISION_LIMIT = ltb-false REVISION_LIMIT _ p.1.1.1.1.1.1.1.1.1.1.1.1.0 in
     let fits : IsFit d.gates one.0 = (subst (Each (IsFit d.gates)) one.1 (fit r.document docs d.gates read p.1.1.1.1.1.1.0 classes)).0 in
     let same : list_all (λ (doc : Lines). bytes_eq (ident_of doc) i.naming.ident) (one.0 ∷ []) ≡ true =
-    ap (list_all (λ (doc : Lines). bytes_eq (ident_of doc) i.naming.ident)) (sym one.1) ∙ (sym (ap (λ o. keep_ident (option_map known o) docs) found) ∙ kept) in
+    ap (list_all (λ (doc : Lines). bytes_eq (ident_of doc) i.naming.ident)) (sym one.1) ∙ (sym (ap (λ o. keep_ident (option_map incident_facts o) docs) found) ∙ kept) in
     let ident : ident_of one.0 ≡ i.naming.ident = bytes_eq-true (ident_of one.0) i.naming.ident (all_each (λ (doc : Lines). bytes_eq (ident_of doc) i.naming.ident) (one.0 ∷ []) same).0 in
     subst IsSound (sym (after_replace s i n d docs one.0 it.number found one.1))
     (exchanged s i d one.0 h (subst (λ m. incident_of m s ≡ Some i) (sym it.number) found)
-    (record { accepted = fits.accepted; named = fits.named ∙ ap Some ident; room = subst (λ o. next_revision (option_map known o) ≤ REVISION_LIMIT) found room })
+    (record { accepted = fits.accepted; named = fits.named ∙ ap Some ident; room = subst (λ o. next_revision (option_map incident_facts o) ≤ REVISION_LIMIT) found room })
     fits.classes (wishes s a d h.directory p.1.1.1.0 own few))
 
 -- ---- every request

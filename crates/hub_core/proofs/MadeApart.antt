@@ -3,13 +3,13 @@ use Rattle.std.proofs.Common.{◌≡◌, List, [], ◌∷◌, refl, ◌∙◌}
 use Rattle.circle.specs.Directory.{Directory}
 use Rattle.circle.specs.Aftermath.{edited_row, edited_rows}
 use Rattle.hub_core.specs.State.{State}
-use Rattle.hub_core.specs.Edits.{edited, after}
+use Rattle.hub_core.specs.Edits.{edited, with_edits}
 use Rattle.hub_core.specs.inner.Changes.{directory_edits, row_edits}
 use Rattle.hub_core.specs.declared.edit.Edit.{Edit}
 use Rattle.hub_core.specs.declared.edit.Edit.TheVariants as edit
 
 -- edits of other rows don't ask which directory there is
-beside : (edits : List Edit) (s : State) (d e : Directory) → (let t : State = after (row_edits edits) (record s { directory = d }) in record t { directory = e }) ≡ (let t : State = after (row_edits edits) s in record t { directory = e })
+beside : (edits : List Edit) (s : State) (d e : Directory) → (let t : State = with_edits (row_edits edits) (record s { directory = d }) in record t { directory = e }) ≡ (let t : State = with_edits (row_edits edits) s in record t { directory = e })
 beside [] s d e = refl
 beside (edit.Directory row ∷ edits) s d e = beside edits s d e
 beside (edit.PutIncident i ∷ edits) s d e = beside edits (edited (edit.PutIncident i) s) d e
@@ -22,7 +22,7 @@ beside (edit.TakeRecipient r ∷ edits) s d e = beside edits (edited (edit.TakeR
 beside (edit.PutPermission x ∷ edits) s d e = beside edits (edited (edit.PutPermission x) s) d e
 beside (edit.TakePermission key ∷ edits) s d e = beside edits (edited (edit.TakePermission key) s) d e
 
-pub made_apart : (edits : List Edit) (s : State) → after edits s ≡ (let t : State = after (row_edits edits) s in record t { directory = edited_rows (directory_edits edits) s.directory })
+pub made_apart : (edits : List Edit) (s : State) → with_edits edits s ≡ (let t : State = with_edits (row_edits edits) s in record t { directory = edited_rows (directory_edits edits) s.directory })
 made_apart [] s = refl
 made_apart (edit.Directory row ∷ edits) s = made_apart edits (edited (edit.Directory row) s) ∙ beside edits s (edited_row row s.directory) (edited_rows (directory_edits edits) (edited_row row s.directory))
 made_apart (edit.PutIncident i ∷ edits) s = made_apart edits (edited (edit.PutIncident i) s)

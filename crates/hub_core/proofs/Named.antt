@@ -13,7 +13,7 @@ use Rattle.circle.specs.Sound.{Each, IsCommunity, IsGroup}
 use Rattle.circle.specs.declared.directory.Person.{Person}
 use Rattle.circle.proofs.Keeping.{found_then, each_weaker}
 use Rattle.hub_core.specs.Refusals.{is_own}
-use Rattle.hub_core.specs.Requests.{known, is_own_community, is_own_group, are_own_groups, has_joined_all, is_target, is_grantee}
+use Rattle.hub_core.specs.Requests.{incident_facts, is_own_community, is_own_group, are_own_groups, has_joined_all, is_target, is_grantee}
 use Rattle.hub_core.specs.Facts.{counted}
 use Rattle.hub_core.specs.Documents.{Lines, at_pointer}
 use Rattle.hub_core.specs.Sound.{IsIncident, IsTarget, IsGrantee, IsCommunityIfAny, IsGroupIfAny}
@@ -46,10 +46,10 @@ pub record Own (s : State) (a : Person) (n : ℕ) : Type 0 where
   pub source : incident.naming.source ≡ a.org
   pub number : incident.naming.number ≡ n
 
-pub own : (s : State) (a : Person) (n : ℕ) → not (is_own (option_map known (incident_of n s)) a) ≡ false → Own s a n
+pub own : (s : State) (a : Person) (n : ℕ) → not (is_own (option_map incident_facts (incident_of n s)) a) ≡ false → Own s a n
 own s a n h =
     let theirs = λ (k : IncidentFacts). k.source == a.org in
-    let f = found_passing (λ (i : Incident). i.naming.source == a.org) (incident_of n s) (sym (map_or_map theirs known (incident_of n s) false) ∙ not-false (is_own (option_map known (incident_of n s)) a) h) in
+    let f = found_passing (λ (i : Incident). i.naming.source == a.org) (incident_of n s) (sym (map_or_map theirs incident_facts (incident_of n s) false) ∙ not-false (is_own (option_map incident_facts (incident_of n s)) a) h) in
     record { incident = f.0; found = f.1; source = eqb-true f.0.naming.source a.org f.2; number = eqb-true f.0.naming.number n (found_is (λ (i : Incident). i.naming.number == n) s.incidents f.0 f.1) }
 
 pub some_is : {X : Type 0} (o : Option X) (x : X) → o ≡ Some x → is_some o ≡ true

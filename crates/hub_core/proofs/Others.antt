@@ -2,7 +2,7 @@
 use Rattle.std.proofs.Common.{◌≡◌, ◌≢◌, ℕ, ◌+◌, ◌≤◌, ◌==◌, ◌&&◌, Bool, true, false, not, List, [], ◌∷◌, ◌++◌, length, map, filter, Option, Some, None, refl, sym, ap, ◌∙◌, subst, arith}
 use Rattle.std.specs.Prelude.{option_map}
 use Rattle.hub_core.specs.declared.facts.IncidentFacts.{IncidentFacts}
-use Rattle.hub_core.specs.Requests.{known}
+use Rattle.hub_core.specs.Requests.{incident_facts}
 use Rattle.std.proofs.lemmas.Bool.{and_left, eqb-true, false_from_ne_true, ne_eqb, not-true, not_from_false}
 use Rattle.std.specs.List.{flat_map}
 use Rattle.std.specs.Option.{option_map_or}
@@ -20,9 +20,9 @@ use Rattle.circle.proofs.Keeping.{names_within}
 use Rattle.hub_core.specs.declared.TheConstants.{INCIDENT_LIMIT}
 use Rattle.hub_core.specs.Aftermath.{changed, edits_of, next_incident, put_gate, put_gates, put_incident, put_incidents, put_next, put_permission}
 use Rattle.hub_core.specs.Documents.{Lines, documents_in, made_at}
-use Rattle.hub_core.specs.Edits.{after, edited}
-use Rattle.hub_core.specs.Laws.{OthersStay, ExchangesEndPermissions}
-use Rattle.hub_core.specs.Others.{LeavesIncident, EndsPermissions, recipients_at, permissions_at}
+use Rattle.hub_core.specs.Edits.{with_edits, edited}
+use Rattle.hub_core.specs.Laws.{OthersStay, ReplacesTakePermissionsOut}
+use Rattle.hub_core.specs.Others.{LeavesIncident, HasPermissionsTakenOut, recipients_at, permissions_at}
 use Rattle.hub_core.specs.Refusals.{grounds, refusal_of, is_own, unless_refused}
 use Rattle.hub_core.specs.Sound.{IsSound}
 use Rattle.hub_core.specs.State.{State, incident_number, incident_of, gate_cmp, recipient_cmp, permission_cmp, is_gate_at, is_recipient_being, is_permission_being, same_target, same_grantee}
@@ -81,7 +81,7 @@ spared_by n (TakePermission key) s h = record { row = refl; gates = refl; recipi
 
 -- ---- all edits
 
-spared : (n : ℕ) (edits : List Edit) (s : State) → Each (Spares n) edits → LeavesIncident n s (after edits s)
+spared : (n : ℕ) (edits : List Edit) (s : State) → Each (Spares n) edits → LeavesIncident n s (with_edits edits s)
 spared n [] s h = record { row = refl; gates = refl; recipients = refl; permissions = refl }
 spared n (edit ∷ edits) s h =
     let first = spared_by n edit s h.0 in
@@ -130,7 +130,7 @@ one_row : (x y : Incident) → Some x ≡ Some y → x ≡ y
 one_row x y e = cc
 
 -- whose incident it is isn't another's
-not_theirs : (s : State) (a : Person) (n : ℕ) (i : Incident) → incident_of i.naming.number s ≡ Some i → i.naming.source ≢ a.org → not (is_own (option_map known (incident_of n s)) a) ≡ false → (n == i.naming.number) ≡ false
+not_theirs : (s : State) (a : Person) (n : ℕ) (i : Incident) → incident_of i.naming.number s ≡ Some i → i.naming.source ≢ a.org → not (is_own (option_map incident_facts (incident_of n s)) a) ≡ false → (n == i.naming.number) ≡ false
 not_theirs s a n i found other h =
     let it = own s a n h in
     false_from_ne_true (n == i.naming.number) (λ e. other (sym (ap (λ (x : Incident). x.naming.source) (one_row it.incident i (sym it.found ∙ (ap (λ m. incident_of m s) (eqb-true n i.naming.number e) ∙ found)))) ∙ it.source))
@@ -146,7 +146,7 @@ all_spared s a (ask.Replace r) i h found other fine =
     let p = passed (grounds s a (ask.Replace r)) fine in
     let apart : (n == i.naming.number) ≡ false = not_theirs s a n i found other p.1.1.1.1.1.1.1.0 in
     let docs = documents_in r.document in
-    let k = option_map known (incident_of n s) in
+    let k = option_map incident_facts (incident_of n s) in
     each_append (Spares i.naming.number) (put_next n k r.distribution.community docs) (TakePolicy n ∷ put_gates n r.distribution)
     (next_spares i.naming.number n k r.distribution.community docs apart)
     (apart, gates_spare i.naming.number n r.distribution apart)
@@ -191,8 +191,8 @@ IsPlain (PutGate g) = Unit {0}
 IsPlain _ = ⊥
 
 record Keeps (before after : State) : Type 0 where
-  recipients : after.recipients ≡ before.recipients
-  permissions : after.permissions ≡ before.permissions
+  recipients : with_edits.recipients ≡ before.recipients
+  permissions : with_edits.permissions ≡ before.permissions
 
 keeps_by : (edit : Edit) (s : State) → IsPlain edit → Keeps s (edited edit s)
 keeps_by (Directory edit) s h = absurd h
@@ -206,7 +206,7 @@ keeps_by (TakeRecipient r) s h = absurd h
 keeps_by (PutPermission x) s h = absurd h
 keeps_by (TakePermission key) s h = absurd h
 
-keeps : (edits : List Edit) (s : State) → Each IsPlain edits → Keeps s (after edits s)
+keeps : (edits : List Edit) (s : State) → Each IsPlain edits → Keeps s (with_edits edits s)
 keeps [] s h = record { recipients = refl; permissions = refl }
 keeps (edit ∷ edits) s h =
     let first = keeps_by edit s h.0 in
@@ -218,20 +218,20 @@ next_plain n None community docs = tt
 next_plain n (Some k) community [] = tt
 next_plain n (Some k) community (doc ∷ docs) = (tt, (tt, tt))
 
-replaced : (s : State) (n : ℕ) (d : Distribution) (k : Option IncidentFacts) (docs : List Lines) → EndsPermissions n s (after (put_next n k d.community docs ++ TakePolicy n ∷ put_gates n d) s)
+replaced : (s : State) (n : ℕ) (d : Distribution) (k : Option IncidentFacts) (docs : List Lines) → HasPermissionsTakenOut n s (with_edits (put_next n k d.community docs ++ TakePolicy n ∷ put_gates n d) s)
 replaced s n d k docs =
     let first = put_next n k d.community docs in
-    let t : State = after first s in
+    let t : State = with_edits first s in
     let u : State = edited (TakePolicy n) t in
     let one = keeps first s (next_plain n k d.community docs) in
     let two = keeps (put_gates n d) u (tt, each_wanted IsPlain n d.gates (λ g p. (tt, tt))) in
-    let all : after (first ++ TakePolicy n ∷ put_gates n d) s ≡ after (put_gates n d) u = after_append first (TakePolicy n ∷ put_gates n d) s in
+    let all : with_edits (first ++ TakePolicy n ∷ put_gates n d) s ≡ with_edits (put_gates n d) u = after_append first (TakePolicy n ∷ put_gates n d) s in
     record {
       permissions = ap (permissions_at n) all ∙ (ap (filter (λ (x : Permission). x.incident == n)) two.permissions ∙ filter_none (λ (x : Permission). x.incident == n) (λ (x : Permission). not (x.incident == n)) t.permissions (λ x h. not-true (x.incident == n) h));
       recipients = ap (recipients_at n) all ∙ ap (filter (λ (r : Recipient). r.incident == n)) (two.recipients ∙ one.recipients);
     }
 
-pub exchanges_end_permissions : ExchangesEndPermissions
-exchanges_end_permissions s a r fine =
+pub replaces_take_permissions_out : ReplacesTakePermissionsOut
+replaces_take_permissions_out s a r fine =
     let n = r.incident in
-    subst (λ o. EndsPermissions n s (unless_refused o s (changed s a (ask.Replace r)))) (sym fine) (replaced s n r.distribution (option_map known (incident_of n s)) (documents_in r.document))
+    subst (λ o. HasPermissionsTakenOut n s (unless_refused o s (changed s a (ask.Replace r)))) (sym fine) (replaced s n r.distribution (option_map incident_facts (incident_of n s)) (documents_in r.document))

@@ -14,7 +14,7 @@ use Rattle.circle.proofs.Keeping.{each_put, each_weaker, pairs_put, numbered_put
 use Rattle.hub_core.specs.declared.TheConstants.{INCIDENT_LIMIT, GATE_LIMIT, RECIPIENT_LIMIT, PERMISSION_LIMIT}
 use Rattle.hub_core.specs.Aftermath.{put_incident, put_incidents}
 use Rattle.hub_core.specs.Documents.{Lines, ident_of, at_pointer, is_class_in}
-use Rattle.hub_core.specs.Edits.{after}
+use Rattle.hub_core.specs.Edits.{with_edits}
 use Rattle.hub_core.specs.Refusals.{stands_twice}
 use Rattle.hub_core.specs.Sound.{IsSound, SoundIncidents, SoundRecipients, SoundPermissions, IsAccepted, IsIncident, IsCommunityIfAny, IsGroupIfAny}
 use Rattle.hub_core.specs.State.{State, incident_number, incident_in, root_gates, class_gates, recipients_of, permissions_of}
@@ -155,7 +155,7 @@ no_number s n h next = each_weaker (λ (i : Incident). i.naming.number ≤ 0 + l
 abbrev with_one : ℕ → ℕ → Distribution → Lines → State → State
 with_one source n d doc s = record s { incidents = put_row source n d.community doc s.incidents; gates = put_all n d s.gates }
 
-after_one : (source n : ℕ) (d : Distribution) (doc : Lines) (s : State) → after (put_incident source n d doc) s ≡ with_one source n d doc s
+after_one : (source n : ℕ) (d : Distribution) (doc : Lines) (s : State) → with_edits (put_incident source n d doc) s ≡ with_one source n d doc s
 after_one source n d doc s = after_gates n d (record s { incidents = put_row source n d.community doc s.incidents })
 
 posted_one : (s : State) (source n : ℕ) (d : Distribution) (doc : Lines) → IsSound s → n ≡ length s.incidents + 1 → length s.incidents < INCIDENT_LIMIT → IsOrg s.directory.orgs source → IsFit d.gates doc →
@@ -182,12 +182,12 @@ still_new source n community doc incidents (d ∷ ds) differ new =
     (each_put (λ (i : Incident). (i.naming.source == source && bytes_eq i.naming.ident (ident_of d)) ≡ false) (by_number incident_number) (new_row source n community doc) incidents (and_right (source == source) (bytes_eq (ident_of doc) (ident_of d)) parts.0) new.0, still_new source n community doc incidents ds parts.1 new.1)
 
 pub posted : (docs : List Lines) (s : State) (source n : ℕ) (d : Distribution) → IsSound s → n ≡ length s.incidents + 1 → length s.incidents + length docs ≤ INCIDENT_LIMIT → IsOrg s.directory.orgs source →
-    Each (IsFit d.gates) docs → stands_twice (map ident_of docs) ≡ false → Each (IsNew source s.incidents) docs → Wishes s.directory d → IsSound (after (put_incidents source n d docs) s)
+    Each (IsFit d.gates) docs → stands_twice (map ident_of docs) ≡ false → Each (IsNew source s.incidents) docs → Wishes s.directory d → IsSound (with_edits (put_incidents source n d docs) s)
 posted [] s source n d h next room known fit once new wishes = h
 posted (doc ∷ docs) s source n d h next room known fit once new wishes =
     let t : State = with_one source n d doc s in
     let parts = or_parts (list_any (bytes_eq (ident_of doc)) (map ident_of docs)) (stands_twice (map ident_of docs)) once in
     let long : length t.incidents ≡ length s.incidents + 1 = length_put (by_number incident_number) (new_row source n d.community doc) s.incidents in
     let sound : IsSound t = posted_one s source n d doc h next (omega (arith, room)) known fit.0 new.0 wishes in
-    subst IsSound (sym (after_append (put_incident source n d doc) (put_incidents source (n + 1) d docs) s ∙ ap (after (put_incidents source (n + 1) d docs)) (after_one source n d doc s)))
+    subst IsSound (sym (after_append (put_incident source n d doc) (put_incidents source (n + 1) d docs) s ∙ ap (with_edits (put_incidents source (n + 1) d docs)) (after_one source n d doc s)))
     (posted docs t source (n + 1) d sound (omega (arith, next, long)) (omega (arith, room, long)) known fit.1 parts.1 (still_new source n d.community doc s.incidents docs parts.0 new.1) wishes)

@@ -14,7 +14,7 @@ use Rattle.circle.proofs.Keeping.{each_put, each_left, each_weaker, pairs_left, 
 use Rattle.hub_core.specs.declared.TheConstants.{GATE_LIMIT}
 use Rattle.hub_core.specs.Aftermath.{changed, put_gate}
 use Rattle.hub_core.specs.Documents.{at_pointer, is_class_in}
-use Rattle.hub_core.specs.Edits.{after}
+use Rattle.hub_core.specs.Edits.{with_edits}
 use Rattle.hub_core.specs.Refusals.{grounds, refusal_of, is_place_at}
 use Rattle.hub_core.specs.Facts.{gates_then}
 use Rattle.hub_core.specs.Requests.{is_own_group}
@@ -93,8 +93,8 @@ with_gates s rows h new = record { directory = h.directory; incidents = h.incide
 
 redistributed_at : (s : State) (n : ℕ) (o : Option Tokens) (level : ℕ) (group : Option ℕ) → IsSound s →
     option_map_or (is_place_of s.incidents n) o false ≡ true → IsGroupIfAny s.directory.groups group →
-    class_gates n (after (option_map_or (λ p. TakeGate (record { incident = n; path = p }) ∷ put_gate n level group p) o []) s).gates ≤ GATE_LIMIT →
-    IsSound (after (option_map_or (λ p. TakeGate (record { incident = n; path = p }) ∷ put_gate n level group p) o []) s)
+    class_gates n (with_edits (option_map_or (λ p. TakeGate (record { incident = n; path = p }) ∷ put_gate n level group p) o []) s).gates ≤ GATE_LIMIT →
+    IsSound (with_edits (option_map_or (λ p. TakeGate (record { incident = n; path = p }) ∷ put_gate n level group p) o []) s)
 redistributed_at s n None level group h place known few = h
 redistributed_at s n (Some p) level group h place known few =
     let key : GateKey = record { incident = n; path = p } in

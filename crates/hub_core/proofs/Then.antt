@@ -7,7 +7,7 @@ use Rattle.iodef_tree.specs.Text.{Bytes, Tokens}
 use Rattle.iodef_tree.specs.Pointer.{pointer_tokens}
 use Rattle.hub_core.specs.Documents.{Lines, made_at}
 use Rattle.hub_core.specs.State.{State, permissions_of}
-use Rattle.hub_core.specs.Edits.{after, edited}
+use Rattle.hub_core.specs.Edits.{with_edits, edited}
 use Rattle.hub_core.specs.Aftermath.{next_row, put_gate, put_gates, put_next}
 use Rattle.hub_core.specs.declared.counts_then.Counts.{Counts}
 use Rattle.hub_core.specs.declared.request.Distribution.{Distribution}
@@ -23,43 +23,43 @@ use Rattle.hub_core.proofs.Counted.{count_agree, count_filter}
 use Rattle.hub_core.proofs.Gated.{after_append}
 
 -- an edit at the path of a text, or none, leaves what it leaves at each path
-pub along_path : {X : Type 0} (get : State → X) (f : Tokens → List Edit) (path : Bytes) (s : State) → ((p : Tokens) → get (after (f p) s) ≡ get s) → get (after (made_at f path) s) ≡ get s
+pub along_path : {X : Type 0} (get : State → X) (f : Tokens → List Edit) (path : Bytes) (s : State) → ((p : Tokens) → get (with_edits (f p) s) ≡ get s) → get (with_edits (made_at f path) s) ≡ get s
 along_path get f path s same = split (pointer_tokens path)
   where
-    split : (o : Option Tokens) → get (after (option_map_or f o []) s) ≡ get s
+    split : (o : Option Tokens) → get (with_edits (option_map_or f o []) s) ≡ get s
     split None = refl
     split (Some p) = same p
 
 -- gates that are put
 gates_leave : {X : Type 0} (get : State → X) → ((g : Gate) (s : State) → get (edited (edit.PutGate g) s) ≡ get s) → (n : ℕ) (gates : List WantedGate) (s : State) →
-    get (after (flat_map (λ (g : WantedGate). made_at (put_gate n g.level g.group) g.path) gates) s) ≡ get s
+    get (with_edits (flat_map (λ (g : WantedGate). made_at (put_gate n g.level g.group) g.path) gates) s) ≡ get s
 gates_leave get same n [] s = refl
 gates_leave get same n (g ∷ gates) s =
     ap get (after_append (made_at (put_gate n g.level g.group) g.path) (flat_map (λ (g : WantedGate). made_at (put_gate n g.level g.group) g.path) gates) s)
-    ∙ (gates_leave get same n gates (after (made_at (put_gate n g.level g.group) g.path) s)
+    ∙ (gates_leave get same n gates (with_edits (made_at (put_gate n g.level g.group) g.path) s)
     ∙ along_path get (put_gate n g.level g.group) g.path s (λ p. same (record { incident = n; gate = record { path = p; level = g.level; group = g.group } }) s))
 
 -- an incident that is exchanged
 next_leaves : {X : Type 0} (get : State → X) → ((n : ℕ) (s : State) → get (edited (edit.TakeIncident n) s) ≡ get s) → ((i : Incident) (s : State) → get (edited (edit.PutIncident i) s) ≡ get s) →
-    (n : ℕ) (k : Option IncidentFacts) (community : Option ℕ) (docs : List Lines) (s : State) → get (after (put_next n k community docs) s) ≡ get s
+    (n : ℕ) (k : Option IncidentFacts) (community : Option ℕ) (docs : List Lines) (s : State) → get (with_edits (put_next n k community docs) s) ≡ get s
 next_leaves get taken put n None community docs s = refl
 next_leaves get taken put n (Some k) community [] s = refl
 next_leaves get taken put n (Some k) community (doc ∷ docs) s = put (next_row n k community doc) (edited (edit.TakeIncident n) s) ∙ taken n s
 
 pub exchanged_recipients : (k : Option IncidentFacts) (docs : List Lines) (n : ℕ) (d : Distribution) (s : State) →
-    (let t : State = after (put_next n k d.community docs ++ edit.TakePolicy n ∷ put_gates n d) s in t.recipients) ≡ s.recipients
+    (let t : State = with_edits (put_next n k d.community docs ++ edit.TakePolicy n ∷ put_gates n d) s in t.recipients) ≡ s.recipients
 exchanged_recipients k docs n d s =
     let get : State → List Recipient = λ s. s.recipients in
-    let t : State = after (put_next n k d.community docs) s in
+    let t : State = with_edits (put_next n k d.community docs) s in
     ap get (after_append (put_next n k d.community docs) (edit.TakePolicy n ∷ put_gates n d) s)
     ∙ (gates_leave get (λ g u. refl) n d.gates (edited (edit.PutGate (record { incident = n; gate = record { path = []; level = d.level; group = d.group } })) (edited (edit.TakePolicy n) t))
     ∙ next_leaves get (λ m u. refl) (λ i u. refl) n k d.community docs s)
 
 pub exchanged_permissions : (k : Option IncidentFacts) (docs : List Lines) (n : ℕ) (d : Distribution) (s : State) →
-    (let t : State = after (put_next n k d.community docs ++ edit.TakePolicy n ∷ put_gates n d) s in t.permissions) ≡ filter (λ (x : Permission). not (x.incident == n)) s.permissions
+    (let t : State = with_edits (put_next n k d.community docs ++ edit.TakePolicy n ∷ put_gates n d) s in t.permissions) ≡ filter (λ (x : Permission). not (x.incident == n)) s.permissions
 exchanged_permissions k docs n d s =
     let get : State → List Permission = λ s. s.permissions in
-    let t : State = after (put_next n k d.community docs) s in
+    let t : State = with_edits (put_next n k d.community docs) s in
     ap get (after_append (put_next n k d.community docs) (edit.TakePolicy n ∷ put_gates n d) s)
     ∙ (gates_leave get (λ g u. refl) n d.gates (edited (edit.PutGate (record { incident = n; gate = record { path = []; level = d.level; group = d.group } })) (edited (edit.TakePolicy n) t))
     ∙ ap (filter (λ (x : Permission). not (x.incident == n))) (next_leaves get (λ m u. refl) (λ i u. refl) n k d.community docs s))

@@ -36,11 +36,11 @@ looked_up s None = None
 looked_up s (Some n) = incident_of n s
 
 -- what is known of it, its document apart
-abbrev pub known : Incident → IncidentFacts
-known i = record { source = i.naming.source; revision = i.naming.revision; ident = i.naming.ident }
+abbrev pub incident_facts : Incident → IncidentFacts
+incident_facts i = record { source = i.naming.source; revision = i.naming.revision; ident = i.naming.ident }
 
 abbrev pub known_of : State → Request → Option IncidentFacts
-known_of s request = option_map known (looked_up s (incident_asked request))
+known_of s request = option_map incident_facts (looked_up s (incident_asked request))
 
 -- ---- communities, groups, organisations, persons
 

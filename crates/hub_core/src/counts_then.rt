@@ -3,7 +3,7 @@ ghost use Rattle.std.specs.Prelude.{◌≡◌, ◌∷◌, [], true, false, ℕ, 
 ghost use Rattle.circle.specs.declared.directory.Person.{Person as Actor};
 ghost use Rattle.hub_core.specs.Aftermath.{put_gate, put_permission};
 ghost use Rattle.hub_core.specs.Documents.{made_at};
-ghost use Rattle.hub_core.specs.Edits.{after};
+ghost use Rattle.hub_core.specs.Edits.{with_edits};
 ghost use Rattle.hub_core.specs.Reads.{its_gates, its_permissions};
 ghost use Rattle.hub_core.specs.Requests.{looked_up, incident_asked};
 ghost use Rattle.hub_core.specs.inner.Shared.{counts_in, counts_of, sharing_asked, sharing_of};
@@ -31,7 +31,7 @@ pub(crate) struct Counts {
 
 /// How many class gates there would be with the gate asked for, if its text is the pointer of a path.
 fn gates_with(alloc: Global, asked: &Redistribute, gates: &[Gate]) -> Result<u32, AllocError>
-    ensures { (s : State) → IsSound s → gates.now ≡ its_gates asked.now.incident s.gates → IfOk result (λ k. k ≡ class_gates asked.now.incident (after (made_at (λ p. edit.TakeGate (record { incident = asked.now.incident; path = p }) ∷ put_gate asked.now.incident asked.now.level asked.now.group p) asked.now.path) s).gates) }
+    ensures { (s : State) → IsSound s → gates.now ≡ its_gates asked.now.incident s.gates → IfOk result (λ k. k ≡ class_gates asked.now.incident (with_edits (made_at (λ p. edit.TakeGate (record { incident = asked.now.incident; path = p }) ∷ put_gate asked.now.incident asked.now.level asked.now.group p) asked.now.path) s).gates) }
 {
     match path_of(alloc, &asked.path)? {
         None => Ok(capped(count_class_gates(gates))),
@@ -45,7 +45,7 @@ fn permissions_with(
     asked: &Grant,
     permissions: &[Permission],
 ) -> Result<u32, AllocError>
-    ensures { (s : State) → IsSound s → permissions.now ≡ its_permissions asked.now.incident s.permissions → IfOk result (λ k. k ≡ permissions_of asked.now.incident (after (made_at (λ p. put_permission (record { incident = asked.now.incident; path = p; grantee = asked.now.grantee }) asked.now.until) asked.now.path) s).permissions) }
+    ensures { (s : State) → IsSound s → permissions.now ≡ its_permissions asked.now.incident s.permissions → IfOk result (λ k. k ≡ permissions_of asked.now.incident (with_edits (made_at (λ p. put_permission (record { incident = asked.now.incident; path = p; grantee = asked.now.grantee }) asked.now.until) asked.now.path) s).permissions) }
 {
     match path_of(alloc, &asked.path)? {
         None => Ok(capped(permissions.len())),
@@ -62,7 +62,7 @@ fn permissions_without(
     asked: &Withdraw,
     permissions: &[Permission],
 ) -> Result<u32, AllocError>
-    ensures { (s : State) → IsSound s → permissions.now ≡ its_permissions asked.now.incident s.permissions → IfOk result (λ k. k ≡ permissions_of asked.now.incident (after (made_at (λ p. edit.TakePermission (record { incident = asked.now.incident; path = p; grantee = asked.now.grantee }) ∷ []) asked.now.path) s).permissions) }
+    ensures { (s : State) → IsSound s → permissions.now ≡ its_permissions asked.now.incident s.permissions → IfOk result (λ k. k ≡ permissions_of asked.now.incident (with_edits (made_at (λ p. edit.TakePermission (record { incident = asked.now.incident; path = p; grantee = asked.now.grantee }) ∷ []) asked.now.path) s).permissions) }
 {
     match path_of(alloc, &asked.path)? {
         None => Ok(capped(permissions.len())),

@@ -2,7 +2,7 @@
 //! here, with no program between. Each is the contract of a function that does nothing.
 #![tactic(auto, unfolding(crate::proofs::Computed::computed))]
 
-ghost use Rattle.hub_core.specs.Examples.{StandingsAreFound, PeersAreFound, ReaderPostsNothing, FirstPostIsFirst, PostsAreRefused, GrantsAreRefused, PermissionsAreExchanged, GatesAreRefused, OthersAreNotThere, PermissionsAreWithdrawn, ReplaceEndsPermissions, CommunitiesAreNamed, CoordinatorsKeepToTheirs};
+ghost use Rattle.hub_core.specs.Examples.{StandingsAreFound, PeersAreFound, ReaderPostsNothing, FirstPostIsFirst, PostsAreRefused, GrantsAreRefused, PermissionsAreExchanged, GatesAreRefused, OthersAreNotThere, PermissionsAreWithdrawn, ReplaceTakesPermissionsOut, CommunitiesAreNamed, CoordinatorsKeepToTheirs};
 
 /// How persons stand to an incident, by the rows of the circle.
 pub fn standings_are_found()
@@ -55,8 +55,8 @@ pub fn permissions_are_withdrawn()
 {}
 
 /// An exchange of a document, and why one is refused.
-pub fn replace_ends_permissions()
-    ensures { ReplaceEndsPermissions }
+pub fn replace_takes_permissions_out()
+    ensures { ReplaceTakesPermissionsOut }
 {}
 
 /// A community is named by its members, and anew with each document.

@@ -1,7 +1,7 @@
 //! What there is to know about a request, made of what a shelf looks up.
 ghost use Rattle.std.specs.Prelude.{◌≡◌, IfOk, IsErrOf, option_map};
 ghost use Rattle.hub_core.specs.Facts.{plain_facts, exists_in, stands_in, count_in, circle_facts_of, facts_of};
-ghost use Rattle.hub_core.specs.Requests.{known, looked_up, incident_asked as incident_named_by};
+ghost use Rattle.hub_core.specs.Requests.{incident_facts, looked_up, incident_asked as incident_named_by};
 ghost use Rattle.hub_core.specs.inner.Shared.{sharing_asked};
 ghost use Rattle.hub_core.specs.Shelves.{HasFailed, IsKept, IsRead};
 ghost use Rattle.hub_core.specs.State.{State};
@@ -137,7 +137,7 @@ fn known_asked<L: LookUps>(
     shelf: &mut L,
     incident: Option<u32>,
 ) -> Result<Option<IncidentFacts>, ShelfFault>
-    ensures value { L.doubts shelf.new ≡ 0 → (s : State) → L.has shelf.old s → IfOk result (λ found. found ≡ option_map known (looked_up s incident)) }
+    ensures value { L.doubts shelf.new ≡ 0 → (s : State) → L.has shelf.old s → IfOk result (λ found. found ≡ option_map incident_facts (looked_up s incident)) }
     ensures kept { IsKept L.has L.doubts L.failed L.may_remain shelf.old shelf.new }
     ensures cause { IsErrOf result ShelfFault.Failed → HasFailed (L.failed shelf.old) (L.failed shelf.new) }
 {

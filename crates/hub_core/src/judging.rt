@@ -3,7 +3,7 @@ ghost use Rattle.std.specs.Prelude.{◌≡◌, ◌<◌, List, IfErr, IfOk, None,
 ghost use Rattle.circle.specs.Outcomes.{RefusedAs};
 ghost use Rattle.circle.specs.Refusals.{Ground, first_answer};
 ghost use Rattle.hub_core.specs.State.{State};
-ghost use Rattle.hub_core.specs.Edits.{after as after_edits};
+ghost use Rattle.hub_core.specs.Edits.{with_edits as state_with_edits};
 ghost use Rattle.hub_core.specs.Sound.{IsSound};
 ghost use Rattle.hub_core.specs.Facts.{facts_of};
 ghost use Rattle.hub_core.specs.Refusals.{refusal_of, state_after};
@@ -50,25 +50,25 @@ pub fn judge(
     ensures refused { (s : State) → facts.now ≡ facts_of s actor.now request.now → IfErr result (RefusedAs (refusal_of s actor.now request.now)) }
     ensures allowed { (s : State) → facts.now ≡ facts_of s actor.now request.now → OnOk result (refusal_of s actor.now request.now ≡ None) }
     ensures edits { facts.now.circle.count < 4294967295 → IfOk result (λ edits. edits.items ≡ edits_by facts.now actor.now request.now) }
-    ensures made { (s : State) → IsSound s → facts.now ≡ facts_of s actor.now request.now → IfOk result (λ edits. after_edits edits.items s ≡ state_after s actor.now request.now) }
+    ensures made { (s : State) → IsSound s → facts.now ≡ facts_of s actor.now request.now → IfOk result (λ edits. state_with_edits edits.items s ≡ state_after s actor.now request.now) }
 {
     match request {
         Request::Circle(command) => judge_command(alloc, actor, &facts.circle, command),
-        Request::Post(asked) => answer(alloc, post(alloc, actor, facts, asked)),
-        Request::Replace(asked) => answer(alloc, replace(alloc, actor, facts, asked)),
-        Request::Redistribute(asked) => answer(alloc, redistribute(alloc, actor, facts, asked)),
-        Request::Address(asked) => answer(alloc, address(alloc, actor, facts, asked)),
-        Request::Unaddress(asked) => answer(alloc, unaddress(alloc, actor, facts, asked)),
-        Request::Grant(asked) => answer(alloc, grant(alloc, actor, facts, asked)),
-        Request::Withdraw(asked) => answer(alloc, withdraw(alloc, actor, facts, asked)),
-        Request::Explain(asked) => answer(alloc, explain(alloc, actor, facts, asked)),
-        Request::Search(asked) => answer(alloc, search(alloc, actor, facts, asked)),
+        Request::Post(asked) => stop_as_refusal(alloc, post(alloc, actor, facts, asked)),
+        Request::Replace(asked) => stop_as_refusal(alloc, replace(alloc, actor, facts, asked)),
+        Request::Redistribute(asked) => stop_as_refusal(alloc, redistribute(alloc, actor, facts, asked)),
+        Request::Address(asked) => stop_as_refusal(alloc, address(alloc, actor, facts, asked)),
+        Request::Unaddress(asked) => stop_as_refusal(alloc, unaddress(alloc, actor, facts, asked)),
+        Request::Grant(asked) => stop_as_refusal(alloc, grant(alloc, actor, facts, asked)),
+        Request::Withdraw(asked) => stop_as_refusal(alloc, withdraw(alloc, actor, facts, asked)),
+        Request::Explain(asked) => stop_as_refusal(alloc, explain(alloc, actor, facts, asked)),
+        Request::Search(asked) => stop_as_refusal(alloc, search(alloc, actor, facts, asked)),
         _ => Ok(Vec::new(alloc)),
     }
 }
 
 /// Want of memory as a refusal.
-fn answer(alloc: Global, judged: Result<Vec<Edit>, Stop>) -> Result<Vec<Edit>, Refusal>
+fn stop_as_refusal(alloc: Global, judged: Result<Vec<Edit>, Stop>) -> Result<Vec<Edit>, Refusal>
     ensures refused { (grounds : List Ground) → Asks grounds judged → IfErr result (RefusedAs (first_answer grounds)) }
     ensures edits { IfOk result (λ edits. judged ≡ Ok edits) }
 {

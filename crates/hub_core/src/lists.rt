@@ -2,13 +2,13 @@
 ghost use Rattle.std.specs.Prelude.{◌≡◌, length, map, OnOk};
 ghost use Rattle.circle.specs.Directory.{Directory};
 ghost use Rattle.hub_core.specs.State.{empty, gate_key, permission_key};
-ghost use Rattle.hub_core.specs.Edits.{after};
+ghost use Rattle.hub_core.specs.Edits.{with_edits};
 ghost use Rattle.hub_core.specs.inner.Changes.{row_edit};
 ghost use Rattle.hub_core.specs.Lists.{AreInOrder, HasRoom, IsMade, with_directory};
 ghost use Rattle.hub_core.specs.declared.edit.Edit.TheVariants as edit;
 
 use crate::change::RowChange;
-use crate::in_order::{put, take, take_all};
+use crate::sorted_rows::{put, take, take_all};
 use crate::rows::{Indexed, Named, PlacedGate, PlacedPermission};
 use crate::state::{Incident, Recipient};
 use std::alloc::{AllocError, Global};
@@ -55,7 +55,7 @@ impl Lists {
     pub(crate) fn make_all(&mut self, changes: Vec<RowChange>)
         requires in_order { AreInOrder self.old }
         requires room { HasRoom (length changes.items) self.old }
-        ensures made { (d : Directory) → with_directory d self.new ≡ after (map row_edit changes.items) (with_directory d self.old) }
+        ensures made { (d : Directory) → with_directory d self.new ≡ with_edits (map row_edit changes.items) (with_directory d self.old) }
         ensures in_order { AreInOrder self.new }
     {
         for change in changes {

@@ -12,7 +12,7 @@ ghost use Rattle.hub_core.specs.declared.state.Recipient.{Recipient};
 ghost use Rattle.hub_core.specs.Reads.{its_gates, its_permissions, its_recipients, entries_after, entry_of, incidents_above};
 
 use crate::copies::{copy_of_gate, copy_of_permission};
-use crate::in_order::{rows_alike, rows_of};
+use crate::sorted_rows::{rows_alike, rows_of};
 use crate::lists::Lists;
 use crate::recipients::Recipients;
 use crate::reply::Entry;

@@ -5,7 +5,7 @@ ghost use Rattle.circle.specs.Ordered.{pair_cmp};
 ghost use Rattle.hub_core.specs.State.{grantee_key as key_of_grantee};
 ghost use Rattle.hub_core.specs.Orders.{named};
 
-use crate::in_order::Row;
+use crate::sorted_rows::Row;
 use crate::request::Target;
 use crate::row_keys::{grantee_key, target_key};
 use crate::state::{Gate, Incident, Permission, Recipient};

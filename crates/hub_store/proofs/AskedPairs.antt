@@ -27,7 +27,7 @@ use Rattle.hub_store.specs.declared.pair_kind.PairKind.{PairKind}
 use Rattle.hub_store.specs.declared.pair_kind.PairKind.TheVariants as kind
 use Rattle.hub_store.proofs.Compare.{begins, equal_numbers, and_true}
 use Rattle.hub_store.proofs.Finding.{seen_through, of_elements, only_one, Once, no_permutation}
-use Rattle.hub_store.proofs.Forms.{one_table, is_param, by_column, in_order}
+use Rattle.hub_store.proofs.Forms.{one_table, is_param, by_column, ordered_by}
 use Rattle.hub_store.proofs.Listed.{in_its_order, int_below, not_less, first_decides, next_decides}
 use Rattle.hub_store.proofs.OneKind.{kind_alone, is_of}
 use Rattle.hub_store.proofs.Puts.{past_two, past_three}
@@ -112,19 +112,19 @@ module _ (db : Trees) (s : core.State) (k : PairKind) (sound : IsSound s) (means
   -- the pairs of the set that pass, in the order of the query
   ordered : (terms project : List Term) (order : List (Term × Key)) (params : Row) (test : Row → Bool) (out : Row → Output) (q : Pair → Bool) (rows : List Row) → ((r : Row) → keeps terms params r ≡ is_of (kind_name k) test (drop 1 r))
       → ((r : Row) → (eval_all (map (λ (key : Term × Key). key.0) order) (params ∷ r ∷ []), shows project params r) ≡ out (drop 1 r)) → ((p : Pair) → test (pair_row (kind_name k) p) ≡ q p)
-      → ((a b : Pair) → q a ≡ true → Below a b → q b ≡ true → output_cmp (in_order order (one_table pair_tree terms project)) (out (pair_row (kind_name k) a)) (out (pair_row (kind_name k) b)) ≡ Less)
-      → IsAnswer (in_order order (one_table pair_tree terms project)) db params rows → rows ≡ map (λ p. (out (pair_row (kind_name k) p)).1) (filter q (pairs_of k s.directory))
+      → ((a b : Pair) → q a ≡ true → Below a b → q b ≡ true → output_cmp (ordered_by order (one_table pair_tree terms project)) (out (pair_row (kind_name k) a)) (out (pair_row (kind_name k) b)) ≡ Less)
+      → IsAnswer (ordered_by order (one_table pair_tree terms project)) db params rows → rows ≡ map (λ p. (out (pair_row (kind_name k) p)).1) (filter q (pairs_of k s.directory))
   ordered terms project order params test out q rows kept show same below answer =
       in_its_order db pair_tree (pairs_of k s.directory) q terms project order (lit (Int (negsuc 0))) params (λ p. out (pair_row (kind_name k) p)) rows Below (pairs_rise k s.directory sound.directory) below
       (λ all found. passing (keeps terms params) (λ r. (eval_all (map (λ (key : Term × Key). key.0) order) (params ∷ r ∷ []), shows project params r)) test out q all kept show same found) answer
 
-  pub from_shown : (a : ℕ) (rows : List Row) → IsAnswer (in_order (by_column 3 ∷ []) (one_table pair_tree (is_param 1 0 ∷ is_param 2 1 ∷ []) (col 1 3 ∷ col 1 4 ∷ []))) db (Text (kind_name k) ∷ Int (pos a) ∷ []) rows → rows ≡ map second_shown (pairs_from k a s.directory)
+  pub from_shown : (a : ℕ) (rows : List Row) → IsAnswer (ordered_by (by_column 3 ∷ []) (one_table pair_tree (is_param 1 0 ∷ is_param 2 1 ∷ []) (col 1 3 ∷ col 1 4 ∷ []))) db (Text (kind_name k) ∷ Int (pos a) ∷ []) rows → rows ≡ map second_shown (pairs_from k a s.directory)
   from_shown a rows answer =
       let params = Text (kind_name k) ∷ Int (pos a) ∷ [] in
       ordered (is_param 1 0 ∷ is_param 2 1 ∷ []) (col 1 3 ∷ col 1 4 ∷ []) (by_column 3 ∷ []) params (begins 1 (Int (pos a) ∷ [])) from_out (λ (p : Pair). p.0.0 == a) rows (past_two (Text (kind_name k)) (Int (pos a))) (past_from params) (λ p. and_true _ ∙ equal_numbers p.0.0 a)
       (λ p q one less other. rw (value_cmp-Int (pos p.0.1) (pos q.0.1), int_below p.0.1 q.0.1 (next_decides p.0.0 q.0.0 a (nat_cmp p.0.1 q.0.1) one other less)) refl) answer
 
-  pub to_shown : (b : ℕ) (rows : List Row) → IsAnswer (in_order (by_column 2 ∷ []) (one_table pair_tree (is_param 1 0 ∷ is_param 3 1 ∷ []) (col 1 2 ∷ col 1 4 ∷ []))) db (Text (kind_name k) ∷ Int (pos b) ∷ []) rows → rows ≡ map first_shown (pairs_to k b s.directory)
+  pub to_shown : (b : ℕ) (rows : List Row) → IsAnswer (ordered_by (by_column 2 ∷ []) (one_table pair_tree (is_param 1 0 ∷ is_param 3 1 ∷ []) (col 1 2 ∷ col 1 4 ∷ []))) db (Text (kind_name k) ∷ Int (pos b) ∷ []) rows → rows ≡ map first_shown (pairs_to k b s.directory)
   to_shown b rows answer =
       let params = Text (kind_name k) ∷ Int (pos b) ∷ [] in
       ordered (is_param 1 0 ∷ is_param 3 1 ∷ []) (col 1 2 ∷ col 1 4 ∷ []) (by_column 2 ∷ []) params (begins 2 (Int (pos b) ∷ [])) to_out (λ (p : Pair). p.0.1 == b) rows (kept_to (kind_name k) b) (past_to params) (λ p. and_true _ ∙ equal_numbers p.0.1 b)

@@ -14,7 +14,7 @@ use Rattle.hub_store.specs.Items.{items_of, item_row}
 use Rattle.hub_store.specs.Rows.{named_row_2, endless_row}
 use Rattle.hub_store.specs.Tables.{schema_by, without_permission, permission_table, permission_table_3}
 use Rattle.hub_store.specs.Parts.{schema_of, HoldsParts}
-use Rattle.hub_store.specs.Layout.{alike, permission_part, item_part, incident_part_2, renamed_2, without_permissions, permission_part_3}
+use Rattle.hub_store.specs.Layout.{in_every_version, permission_part, item_part, incident_part_2, renumbered_2, without_permissions, permission_part_3}
 use Rattle.hub_store.specs.inner.Beside.{AreNumbered, HoldsGranted, without_end}
 use Rattle.hub_store.proofs.Causes.{IsCreation, naming}
 use Rattle.hub_store.proofs.Creates.{made_by}
@@ -35,10 +35,10 @@ pub permission_dropping : IsDropping (schema_by 2) drop_permission 8 old_table
 unfolding understood everything
 permission_dropping = record { command = refl; listed = refl; quiet = refl; uncounted = refl; whole = (refl, refl, refl, refl); unreferred = (refl, (refl, (refl, (refl, (refl, (refl, (refl, (refl, (refl, (refl, (refl, tt))))))))))) }
 
-pub drops_permission : (old new : sql.State) (s : State) (count : ℕ) → Executes drop_permission [] old new (Ok count) → HoldsParts (renamed_2 s) old.now → HoldsParts (without_permissions s) new.now
+pub drops_permission : (old new : sql.State) (s : State) (count : ℕ) → Executes drop_permission [] old new (Ok count) → HoldsParts (renumbered_2 s) old.now → HoldsParts (without_permissions s) new.now
 unfolding understood everything
 drops_permission old new s count h has =
-    drops (alike 3 s) (permission_part s) (item_part (map item_row (items_of s)) ∷ incident_part_2 (map named_row_2 s.incidents) ∷ []) _ _ refl (dropped_by old new drop_permission (schema_of (renamed_2 s)) 8 (permission_part s).table has.known refl refl refl refl (refl, refl) count h) has
+    drops (in_every_version 3 s) (permission_part s) (item_part (map item_row (items_of s)) ∷ incident_part_2 (map named_row_2 s.incidents) ∷ []) _ _ refl (dropped_by old new drop_permission (schema_of (renumbered_2 s)) 8 (permission_part s).table has.known refl refl refl refl (refl, refl) count h) has
 
 abbrev pub create_permission : List ℕ
 create_permission = codes "CREATE TABLE permission (incident INTEGER NOT NULL, path TEXT NOT NULL, kind INTEGER NOT NULL, target INTEGER NOT NULL, until INTEGER, UNIQUE (incident, path, kind, target)) STRICT"

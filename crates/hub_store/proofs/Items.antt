@@ -27,7 +27,7 @@ use Rattle.hub_store.specs.Holdings.{without_rowids}
 use Rattle.hub_store.specs.Means.{Means}
 use Rattle.hub_store.specs.Items.{Item, items_from, items_in, items_of, item_row, line_shown, kind_number, placed_shown, placed_from}
 use Rattle.hub_store.proofs.Compare.{begins, equal_numbers, and_true}
-use Rattle.hub_store.proofs.Forms.{one_table, is_param, by_column, in_order}
+use Rattle.hub_store.proofs.Forms.{one_table, is_param, by_column, ordered_by}
 use Rattle.hub_store.proofs.Finding.{seen_through, of_elements, only_one, once_numbered}
 use Rattle.hub_store.proofs.Found.{filter_all}
 use Rattle.hub_store.proofs.Listed.{in_its_order, int_below}
@@ -133,7 +133,7 @@ its_shown None = refl
 its_shown (Some i) = shown_lines i.naming.number 1 i.document
 
 abbrev pub lines_query : Query
-lines_query = in_order (by_column 2 ∷ []) (one_table item_tree (is_param 1 0 ∷ []) (col 1 2 ∷ col 1 3 ∷ col 1 4 ∷ col 1 5 ∷ col 1 6 ∷ col 1 7 ∷ []))
+lines_query = ordered_by (by_column 2 ∷ []) (one_table item_tree (is_param 1 0 ∷ []) (col 1 2 ∷ col 1 3 ∷ col 1 4 ∷ col 1 5 ∷ col 1 6 ∷ col 1 7 ∷ []))
 
 abbrev line_out : Row → Output
 line_out r = (column r 1 ∷ [], column r 1 ∷ column r 2 ∷ column r 3 ∷ column r 4 ∷ column r 5 ∷ column r 6 ∷ [])

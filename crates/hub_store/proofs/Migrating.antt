@@ -21,7 +21,7 @@ use Rattle.hub_store.specs.Items.{Item, placed_lines, item_row, line_shown, kind
 use Rattle.hub_store.specs.Rows.{naming_row_2}
 use Rattle.hub_store.specs.Tables.{schema_by, beside_item, without_incident, up_to_permission, hub_table, incident_table, item_table, incident_table_2}
 use Rattle.hub_store.specs.Parts.{Part, schema_of, HoldsParts}
-use Rattle.hub_store.specs.Layout.{without_rowids, common, incident_part, item_part, incident_part_2, parts_1, with_items, without_incidents, tables_2, unversioned_2}
+use Rattle.hub_store.specs.Layout.{without_rowids, in_versions_1_and_2, incident_part, item_part, incident_part_2, parts_1, with_items, without_incidents, tables_2, unversioned_2}
 use Rattle.hub_store.specs.inner.Beside.{AreNumbered, HoldsBeside, CanStand}
 use Rattle.hub_store.specs.Failing.{HasReason}
 use Rattle.hub_store.proofs.Causes.{IsCreation, naming}
@@ -64,7 +64,7 @@ pub drops_incident : (old new : sql.State) (s : State) (items : List Row) (count
 unfolding understood everything
 drops_incident old new s items count h has =
     let p = incident_part s in
-    drops (common 1 s) p (item_part items ∷ []) _ _ refl (dropped_by old new drop_incident (schema_of (with_items items s)) 9 p.table has.parts.known refl refl refl refl (refl, refl) count h) has.parts
+    drops (in_versions_1_and_2 1 s) p (item_part items ∷ []) _ _ refl (dropped_by old new drop_incident (schema_of (with_items items s)) 9 p.table has.parts.known refl refl refl refl (refl, refl) count h) has.parts
 
 -- what is dropped where no table has a row
 pub incident_dropping : IsDropping beside_item drop_incident 9 (record incident_table { tree = 18 })
@@ -85,7 +85,7 @@ makes_incident old new s items count h has =
 -- ---- rows are moved
 
 -- the table of the lines stands last, beside the tables of version 1
-pub stands_items : (s : State) (items : List Row) → Stands (common 1 s ++ incident_part s ∷ []) (item_part items) [] 10
+pub stands_items : (s : State) (items : List Row) → Stands (in_versions_1_and_2 1 s ++ incident_part s ∷ []) (item_part items) [] 10
 stands_items s items = record { listed = refl; uncounted = refl; timeless = refl; alone = λ tree olds news. refl; apart = refl; same = λ rows. refl }
 
 pub moves_line : (old new : sql.State) (incident place : ℕ) (line : Line) (s : State) (items more : List Row) → IsPermutation (item_row (record { incident = incident; place = place; line = line }) ∷ items) more → (count : ℕ)
@@ -95,7 +95,7 @@ moves_line old new incident place line s items more same count h has =
     let row = item_row (record { incident = incident; place = place; line = line }) in
     let x : Item = record { incident = incident; place = place; line = line } in
     record {
-      parts = puts (common 1 s ++ incident_part s ∷ []) (item_part items) [] 10 (stands_items s items) put_line _ old new (refl, refl) count h has.parts (line_terms 1) 8 refl (Null ∷ row) refl (rw (cast_int incident, cast_int place, cast_int line.depth, cast_flag line.in_array, cast_int (kind_number line.kind), cast_null) refl) row (λ rows. refl) more same;
+      parts = puts (in_versions_1_and_2 1 s ++ incident_part s ∷ []) (item_part items) [] 10 (stands_items s items) put_line _ old new (refl, refl) count h has.parts (line_terms 1) 8 refl (Null ∷ row) refl (rw (cast_int incident, cast_int place, cast_int line.depth, cast_flag line.in_array, cast_int (kind_number line.kind), cast_null) refl) row (λ rows. refl) more same;
       numbered = lines_count put_line _ (line_terms 1) (row ∷ []) items s refl (refl, refl) refl (cast_items items (x ∷ [])) old new count h has;
     }
 
@@ -108,14 +108,14 @@ line_fails incident place line s items more same can old new e h has other =
     lines_fail put_line (Int (pos incident) ∷ Int (pos place) ∷ line_shown line) (line_terms 1) (item_row x ∷ []) items s refl (refl, refl, refl, refl) (terms_accepted (Int (pos incident) ∷ placed_lines place (line ∷ [])) 1 1 (refl, lines_bound place (line ∷ []))) refl (cast_items items (x ∷ []))
     (stand_permuted more (item_row x ∷ items) (IsPermutation-sym _ _ same) can) old new e h has other
 
-stands_incidents : (s : State) (items incidents : List Row) → Stands (common 1 s ++ item_part items ∷ []) (incident_part_2 incidents) [] 10
+stands_incidents : (s : State) (items incidents : List Row) → Stands (in_versions_1_and_2 1 s ++ item_part items ∷ []) (incident_part_2 incidents) [] 10
 stands_incidents s items incidents = record { listed = refl; uncounted = refl; timeless = refl; alone = λ tree olds news. refl; apart = refl; same = λ rows. refl }
 
 pub moves_naming : (old new : sql.State) (naming : Naming) (s : State) (items incidents more : List Row) → IsPermutation (naming_row_2 naming ∷ incidents) more → (count : ℕ)
     → Executes put_naming_2 (Int (pos naming.number) ∷ Int (pos naming.source) ∷ Text naming.ident ∷ Int (pos naming.revision) ∷ []) old new (Ok count) → HoldsParts (tables_2 1 items incidents s) old.now → HoldsParts (tables_2 1 items more s) new.now
 unfolding understood everything
 moves_naming old new naming s items incidents more same count h has =
-    puts (common 1 s ++ item_part items ∷ []) (incident_part_2 incidents) [] 10 (stands_incidents s items incidents) put_naming_2 _ old new (refl, refl) count h has (col 0 0 ∷ lit Null ∷ col 0 1 ∷ col 0 2 ∷ col 0 3 ∷ []) 5 refl (naming_row_2 naming) refl
+    puts (in_versions_1_and_2 1 s ++ item_part items ∷ []) (incident_part_2 incidents) [] 10 (stands_incidents s items incidents) put_naming_2 _ old new (refl, refl) count h has (col 0 0 ∷ lit Null ∷ col 0 1 ∷ col 0 2 ∷ col 0 3 ∷ []) 5 refl (naming_row_2 naming) refl
     (rw (cast_int naming.number, cast_int naming.source, cast_int naming.revision, cast_null) refl) (naming_row_2 naming) (λ rows. refl) more same
 
 -- ---- the version is exchanged

@@ -26,7 +26,7 @@ use Rattle.hub_store.specs.Means.{Means}
 use Rattle.hub_store.specs.Rows.{gate_row, recipient_row, permission_row}
 use Rattle.hub_store.specs.inner.Shown.{gate_shown, target_shown, permission_shown}
 use Rattle.hub_store.proofs.Compare.{begins, equal_numbers, and_true}
-use Rattle.hub_store.proofs.Forms.{one_table, is_param, by_column, in_order}
+use Rattle.hub_store.proofs.Forms.{one_table, is_param, by_column, ordered_by}
 use Rattle.hub_store.proofs.Listed.{listed, int_below, not_less, next_decides}
 use Rattle.hub_store.proofs.Puts.{past_one}
 use Rattle.hub_store.proofs.Statements.{shows}
@@ -34,7 +34,7 @@ use Rattle.hub_store.proofs.Rising.{rising}
 use Rattle.hub_store.proofs.Places.{gate_place, gate_tree, permission_place, permission_tree, recipient_place, recipient_tree, held_of}
 
 abbrev gates_query : Query
-gates_query = in_order (by_column 2 ∷ []) (one_table gate_tree (is_param 1 0 ∷ []) (col 1 2 ∷ col 1 3 ∷ col 1 4 ∷ []))
+gates_query = ordered_by (by_column 2 ∷ []) (one_table gate_tree (is_param 1 0 ∷ []) (col 1 2 ∷ col 1 3 ∷ col 1 4 ∷ []))
 
 abbrev gate_out : Row → Output
 gate_out r = (column r 1 ∷ [], column r 1 ∷ column r 2 ∷ column r 3 ∷ [])
@@ -88,7 +88,7 @@ three_decide m n k o p q e f h = go (nat_cmp m n) refl h
     go Greater is more = absurd cc
 
 abbrev permissions_query : Query
-permissions_query = in_order (by_column 2 ∷ by_column 3 ∷ by_column 4 ∷ []) (one_table permission_tree (is_param 1 0 ∷ []) (col 1 2 ∷ col 1 3 ∷ col 1 4 ∷ col 1 5 ∷ []))
+permissions_query = ordered_by (by_column 2 ∷ by_column 3 ∷ by_column 4 ∷ []) (one_table permission_tree (is_param 1 0 ∷ []) (col 1 2 ∷ col 1 3 ∷ col 1 4 ∷ col 1 5 ∷ []))
 
 abbrev permission_out : Row → Output
 permission_out r = (column r 1 ∷ column r 2 ∷ column r 3 ∷ [], column r 1 ∷ column r 2 ∷ column r 3 ∷ column r 4 ∷ [])
@@ -112,7 +112,7 @@ permissions_listed db s n rows sound means a =
 -- ---- recipients: by kind and number
 
 abbrev recipients_query : Query
-recipients_query = in_order (by_column 2 ∷ by_column 3 ∷ []) (one_table recipient_tree (is_param 1 0 ∷ []) (col 1 2 ∷ col 1 3 ∷ []))
+recipients_query = ordered_by (by_column 2 ∷ by_column 3 ∷ []) (one_table recipient_tree (is_param 1 0 ∷ []) (col 1 2 ∷ col 1 3 ∷ []))
 
 abbrev recipient_out : Row → Output
 recipient_out r = (column r 1 ∷ column r 2 ∷ [], column r 1 ∷ column r 2 ∷ [])

@@ -10,7 +10,7 @@ use Rattle.iodef_tree.specs.declared.line.Line.{Line}
 use Rattle.hub_core.specs.Documents.{Lines}
 use Rattle.hub_store.specs.Items.{items_from, item_row}
 use Rattle.hub_store.specs.Rows.{permission_row}
-use Rattle.hub_store.specs.Layout.{newest, alike, common, incident_part, item_part, incident_part_4, permission_part_3}
+use Rattle.hub_store.specs.Layout.{newest, in_every_version, in_versions_1_and_2, incident_part, item_part, incident_part_4, permission_part_3}
 use Rattle.hub_store.specs.inner.Beside.{CanStand}
 use Rattle.hub_store.specs.Keeps.{Goes}
 use Rattle.hub_store.specs.inner.Makes.{Makes}
@@ -101,12 +101,12 @@ puts_none a n place =
       goes = goes;
       edited = λ s incidents items more same. record {
         goes = goes;
-        made = λ _ _ between. record { known = between.known; whole = between.whole; means = exchanged_rows _ (alike newest s) (item_part items) (permission_part_3 (map permission_row s.permissions) ∷ incident_part_4 incidents ∷ []) more same between.means; fit = between.fit };
+        made = λ _ _ between. record { known = between.known; whole = between.whole; means = exchanged_rows _ (in_every_version newest s) (item_part items) (permission_part_3 (map permission_row s.permissions) ∷ incident_part_4 incidents ∷ []) more same between.means; fit = between.fit };
       };
       moved = λ s items more same. record {
         goes = goes;
         made = λ _ _ has. record {
-          parts = record { known = has.parts.known; whole = has.parts.whole; means = exchanged_rows _ (common 1 s ++ incident_part s ∷ []) (item_part items) [] more same has.parts.means };
+          parts = record { known = has.parts.known; whole = has.parts.whole; means = exchanged_rows _ (in_versions_1_and_2 1 s ++ incident_part s ∷ []) (item_part items) [] more same has.parts.means };
           numbered = has.numbered;
         };
       };

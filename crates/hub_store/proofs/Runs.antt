@@ -5,15 +5,15 @@ use Rattle.sqlite_trees.specs.declared.store.Store as store
 use Rattle.sqlite.specs.Held.{Held, state}
 use Rattle.sqlite.specs.State.{State, Shows, IsUnchanged}
 use Rattle.hub_core.specs.State as core
-use Rattle.hub_core.specs.Edits.{edited, after}
+use Rattle.hub_core.specs.Edits.{edited, with_edits}
 use Rattle.hub_core.specs.declared.edit.Edit.{Edit}
 use Rattle.hub_core.proofs.Gated.{after_append}
 use Rattle.hub_store.specs.Content.{HasAs, Has, CommitsState}
 use Rattle.hub_store.specs.Keeps.{Knows, KeepsCommitted}
 use Rattle.hub_store.specs.Means.{HoldsAs, Holds}
 
-pub after_more : (edits : List Edit) (i : ℕ) (edit : Edit) (s : core.State) → i < length edits → edit ≡ get_or edits i edit → after (take (i + 1) edits) s ≡ edited edit (after (take i edits) s)
-after_more edits i edit s low is = ap (λ l. after l s) (take_more edits i edit low) ∙ ap (λ e. after (take i edits ++ e ∷ []) s) (sym is) ∙ after_append (take i edits) (edit ∷ []) s
+pub after_more : (edits : List Edit) (i : ℕ) (edit : Edit) (s : core.State) → i < length edits → edit ≡ get_or edits i edit → with_edits (take (i + 1) edits) s ≡ edited edit (with_edits (take i edits) s)
+after_more edits i edit s low is = ap (λ l. with_edits l s) (take_more edits i edit low) ∙ ap (λ e. with_edits (take i edits ++ e ∷ []) s) (sym is) ∙ after_append (take i edits) (edit ∷ []) s
 
 pub committed_made : (mid last : State) (s : core.State) → Holds mid.now s → Shows mid last mid.now mid.now false → CommitsState last s
 committed_made mid last s holds shows = record { is_open = shows.is_open; holds = subst (λ d. Holds d s) (sym shows.committed_is) holds; settled = shows.now_is ∙ sym shows.committed_is }

@@ -9,7 +9,7 @@ use Rattle.sqlite.specs.Listing.{understood, reads_listing}
 use Rattle.sqlite.proofs.Callers.{IsPlain, command_of}
 use Rattle.hub_store.specs.Tables.{hub_schema}
 use Rattle.hub_store.specs.Pairs.{put_pair, take_pair}
-use Rattle.hub_store.proofs.Forms.{is_param, is_above, by_column, one_table, in_order, program}
+use Rattle.hub_store.proofs.Forms.{is_param, is_above, by_column, one_table, ordered_by, program}
 use Rattle.hub_store.proofs.Places.{community_place, community_tree, gate_place, gate_tree, grp_place, grp_tree, hub_place, incident_place, incident_tree, item_place, item_tree, org_place, org_tree, pair_place, pair_tree, permission_place, permission_tree, person_place, person_tree, recipient_place, recipient_tree}
 
 -- ---- rows come in
@@ -366,7 +366,7 @@ pair_with_both_plain = ((refl, refl), refl)
 abbrev pub pairs_with_first : List ℕ
 pairs_with_first = codes "SELECT b, value FROM pair WHERE kind = ?1 AND a = ?2 ORDER BY b"
 
-pub pairs_with_first_is : command_of (understood hub_schema pairs_with_first) ≡ Select (program (in_order (by_column 3 ∷ []) (one_table pair_tree (is_param 1 0 ∷ is_param 2 1 ∷ []) (col 1 3 ∷ col 1 4 ∷ [])))) (codes "b" ∷ codes "value" ∷ [])
+pub pairs_with_first_is : command_of (understood hub_schema pairs_with_first) ≡ Select (program (ordered_by (by_column 3 ∷ []) (one_table pair_tree (is_param 1 0 ∷ is_param 2 1 ∷ []) (col 1 3 ∷ col 1 4 ∷ [])))) (codes "b" ∷ codes "value" ∷ [])
 unfolding understood everything
 pairs_with_first_is = refl
 
@@ -377,7 +377,7 @@ pairs_with_first_plain = ((refl, refl), refl)
 abbrev pub pairs_with_second : List ℕ
 pairs_with_second = codes "SELECT a, value FROM pair WHERE kind = ?1 AND b = ?2 ORDER BY a"
 
-pub pairs_with_second_is : command_of (understood hub_schema pairs_with_second) ≡ Select (program (in_order (by_column 2 ∷ []) (one_table pair_tree (is_param 1 0 ∷ is_param 3 1 ∷ []) (col 1 2 ∷ col 1 4 ∷ [])))) (codes "a" ∷ codes "value" ∷ [])
+pub pairs_with_second_is : command_of (understood hub_schema pairs_with_second) ≡ Select (program (ordered_by (by_column 2 ∷ []) (one_table pair_tree (is_param 1 0 ∷ is_param 3 1 ∷ []) (col 1 2 ∷ col 1 4 ∷ [])))) (codes "a" ∷ codes "value" ∷ [])
 unfolding understood everything
 pairs_with_second_is = refl
 
@@ -388,7 +388,7 @@ pairs_with_second_plain = ((refl, refl), refl)
 abbrev pub gates_of_incident : List ℕ
 gates_of_incident = codes "SELECT path, level, grp FROM gate WHERE incident = ?1 ORDER BY path"
 
-pub gates_of_incident_is : command_of (understood hub_schema gates_of_incident) ≡ Select (program (in_order (by_column 2 ∷ []) (one_table gate_tree (is_param 1 0 ∷ []) (col 1 2 ∷ col 1 3 ∷ col 1 4 ∷ [])))) (codes "path" ∷ codes "level" ∷ codes "grp" ∷ [])
+pub gates_of_incident_is : command_of (understood hub_schema gates_of_incident) ≡ Select (program (ordered_by (by_column 2 ∷ []) (one_table gate_tree (is_param 1 0 ∷ []) (col 1 2 ∷ col 1 3 ∷ col 1 4 ∷ [])))) (codes "path" ∷ codes "level" ∷ codes "grp" ∷ [])
 unfolding understood everything
 gates_of_incident_is = refl
 
@@ -399,7 +399,7 @@ gates_of_incident_plain = ((refl, refl), refl)
 abbrev pub recipients_of_incident : List ℕ
 recipients_of_incident = codes "SELECT kind, target FROM recipient WHERE incident = ?1 ORDER BY kind, target"
 
-pub recipients_of_incident_is : command_of (understood hub_schema recipients_of_incident) ≡ Select (program (in_order (by_column 2 ∷ by_column 3 ∷ []) (one_table recipient_tree (is_param 1 0 ∷ []) (col 1 2 ∷ col 1 3 ∷ [])))) (codes "kind" ∷ codes "target" ∷ [])
+pub recipients_of_incident_is : command_of (understood hub_schema recipients_of_incident) ≡ Select (program (ordered_by (by_column 2 ∷ by_column 3 ∷ []) (one_table recipient_tree (is_param 1 0 ∷ []) (col 1 2 ∷ col 1 3 ∷ [])))) (codes "kind" ∷ codes "target" ∷ [])
 unfolding understood everything
 recipients_of_incident_is = refl
 
@@ -410,7 +410,7 @@ recipients_of_incident_plain = ((refl, refl), refl)
 abbrev pub permissions_of_incident : List ℕ
 permissions_of_incident = codes "SELECT path, kind, target, until FROM permission WHERE incident = ?1 ORDER BY path, kind, target"
 
-pub permissions_of_incident_is : command_of (understood hub_schema permissions_of_incident) ≡ Select (program (in_order (by_column 2 ∷ by_column 3 ∷ by_column 4 ∷ []) (one_table permission_tree (is_param 1 0 ∷ []) (col 1 2 ∷ col 1 3 ∷ col 1 4 ∷ col 1 5 ∷ [])))) (codes "path" ∷ codes "kind" ∷ codes "target" ∷ codes "until" ∷ [])
+pub permissions_of_incident_is : command_of (understood hub_schema permissions_of_incident) ≡ Select (program (ordered_by (by_column 2 ∷ by_column 3 ∷ by_column 4 ∷ []) (one_table permission_tree (is_param 1 0 ∷ []) (col 1 2 ∷ col 1 3 ∷ col 1 4 ∷ col 1 5 ∷ [])))) (codes "path" ∷ codes "kind" ∷ codes "target" ∷ codes "until" ∷ [])
 unfolding understood everything
 permissions_of_incident_is = refl
 
@@ -432,7 +432,7 @@ incident_with_number_plain = ((refl, refl), refl)
 abbrev pub lines_of_incident : List ℕ
 lines_of_incident = codes "SELECT place, depth, name, in_array, kind, text FROM item WHERE incident = ?1 ORDER BY place"
 
-pub lines_of_incident_is : command_of (understood hub_schema lines_of_incident) ≡ Select (program (in_order (by_column 2 ∷ []) (one_table item_tree (is_param 1 0 ∷ []) (col 1 2 ∷ col 1 3 ∷ col 1 4 ∷ col 1 5 ∷ col 1 6 ∷ col 1 7 ∷ [])))) (codes "place" ∷ codes "depth" ∷ codes "name" ∷ codes "in_array" ∷ codes "kind" ∷ codes "text" ∷ [])
+pub lines_of_incident_is : command_of (understood hub_schema lines_of_incident) ≡ Select (program (ordered_by (by_column 2 ∷ []) (one_table item_tree (is_param 1 0 ∷ []) (col 1 2 ∷ col 1 3 ∷ col 1 4 ∷ col 1 5 ∷ col 1 6 ∷ col 1 7 ∷ [])))) (codes "place" ∷ codes "depth" ∷ codes "name" ∷ codes "in_array" ∷ codes "kind" ∷ codes "text" ∷ [])
 unfolding understood everything
 lines_of_incident_is = refl
 

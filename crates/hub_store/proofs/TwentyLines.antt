@@ -22,7 +22,7 @@ use Rattle.hub_core.specs.Documents.{Lines}
 use Rattle.hub_core.specs.State.{State, empty}
 use Rattle.hub_store.specs.Items.{items_from, item_row, placed_lines}
 use Rattle.hub_store.specs.Rows.{permission_row}
-use Rattle.hub_store.specs.Layout.{newest, alike, common, incident_part, item_part, permission_part_3, incident_part_4, tables_4, with_items}
+use Rattle.hub_store.specs.Layout.{newest, in_every_version, in_versions_1_and_2, incident_part, item_part, permission_part_3, incident_part_4, tables_4, with_items}
 use Rattle.hub_store.specs.Parts.{schema_of, HoldsParts}
 use Rattle.hub_store.specs.Means.{HoldsBetween}
 use Rattle.hub_store.specs.inner.PutsLines.{HasMore}
@@ -71,10 +71,10 @@ module _ (n place : ℕ) (ls : Lines) (long : length ls ≡ 20) (old new : sql.S
   puts_twenty incidents between =
       let all = map item_row (items_from n place ls) in
       let has : HoldsParts (tables_4 items incidents s) old.now = record { known = between.known; whole = between.whole; means = between.means } in
-      let put = puts_all (alike newest s) (item_part items) (permission_part_3 (map permission_row s.permissions) ∷ incident_part_4 incidents ∷ []) item_place (stands_between s items incidents) put_twenty _ old new is_plain count h has (terms_for 1 20) 8 is_put all given (cast_items items (items_from n place ls)) (λ before. past_rowids before all) more same in
+      let put = puts_all (in_every_version newest s) (item_part items) (permission_part_3 (map permission_row s.permissions) ∷ incident_part_4 incidents ∷ []) item_place (stands_between s items incidents) put_twenty _ old new is_plain count h has (terms_for 1 20) 8 is_put all given (cast_items items (items_from n place ls)) (λ before. past_rowids before all) more same in
       record {
         known = put.known;
-        whole = puts_whole (alike newest s) (item_part items) (permission_part_3 (map permission_row s.permissions) ∷ incident_part_4 incidents ∷ []) item_place (stands_between s items incidents) put_twenty _ old new is_plain count h has (terms_for 1 20) 8 is_put;
+        whole = puts_whole (in_every_version newest s) (item_part items) (permission_part_3 (map permission_row s.permissions) ∷ incident_part_4 incidents ∷ []) item_place (stands_between s items incidents) put_twenty _ old new is_plain count h has (terms_for 1 20) 8 is_put;
         means = put.means;
         fit = between.fit;
       }
@@ -84,7 +84,7 @@ module _ (n place : ℕ) (ls : Lines) (long : length ls ≡ 20) (old new : sql.S
       let all = map item_row (items_from n place ls) in
       let cast = cast_items items (items_from n place ls) in
       record {
-        parts = puts_all (common 1 s ++ incident_part s ∷ []) (item_part items) [] 10 (stands_items s items) put_twenty _ old new is_plain_beside count h has.parts (terms_for 1 20) 8 is_put_beside all given cast (λ before. past_rowids before all) more same;
+        parts = puts_all (in_versions_1_and_2 1 s ++ incident_part s ∷ []) (item_part items) [] 10 (stands_items s items) put_twenty _ old new is_plain_beside count h has.parts (terms_for 1 20) 8 is_put_beside all given cast (λ before. past_rowids before all) more same;
         numbered = lines_count put_twenty _ (terms_for 1 20) all items s is_put_beside is_plain_beside given cast old new count h has;
       }
 

@@ -13,7 +13,7 @@ use Rattle.hub_store.specs.Items.{items_of, item_row}
 use Rattle.hub_store.specs.Rows.{named_row_2, permission_row}
 use Rattle.hub_store.specs.Tables.{schema_by, without_naming, incident_table_2, incident_table_4}
 use Rattle.hub_store.specs.Parts.{schema_of, HoldsParts}
-use Rattle.hub_store.specs.Layout.{alike, item_part, incident_part_2, permission_part_3, renamed_3, without_namings, with_namings, incident_part_4}
+use Rattle.hub_store.specs.Layout.{in_every_version, item_part, incident_part_2, permission_part_3, renumbered_3, without_namings, with_namings, incident_part_4}
 use Rattle.hub_store.specs.inner.Beside.{unnamed_row}
 use Rattle.hub_store.specs.inner.Shown.{naming_shown_2}
 use Rattle.hub_store.proofs.Causes.{IsCreation, naming}
@@ -34,11 +34,11 @@ pub old_dropping : IsDropping (schema_by 3) drop_incident 9 old_incident
 unfolding understood everything
 old_dropping = record { command = refl; listed = refl; quiet = refl; uncounted = refl; whole = (refl, refl, refl, refl); unreferred = (refl, (refl, (refl, (refl, (refl, (refl, (refl, (refl, (refl, (refl, (refl, tt))))))))))) }
 
-pub drops_old : (old new : sql.State) (s : State) (count : ℕ) → Executes drop_incident [] old new (Ok count) → HoldsParts (renamed_3 4 s) old.now → HoldsParts (without_namings s) new.now
+pub drops_old : (old new : sql.State) (s : State) (count : ℕ) → Executes drop_incident [] old new (Ok count) → HoldsParts (renumbered_3 4 s) old.now → HoldsParts (without_namings s) new.now
 unfolding understood everything
 drops_old old new s count h has =
     let p = incident_part_2 (map named_row_2 s.incidents) in
-    drops (alike 4 s ++ item_part (map item_row (items_of s)) ∷ []) p (permission_part_3 (map permission_row s.permissions) ∷ []) _ _ refl (dropped_by old new drop_incident (schema_of (renamed_3 4 s)) 9 p.table has.known refl refl refl refl (refl, refl) count h) has
+    drops (in_every_version 4 s ++ item_part (map item_row (items_of s)) ∷ []) p (permission_part_3 (map permission_row s.permissions) ∷ []) _ _ refl (dropped_by old new drop_incident (schema_of (renumbered_3 4 s)) 9 p.table has.known refl refl refl refl (refl, refl) count h) has
 
 abbrev pub create_incident_4 : List ℕ
 create_incident_4 = codes "CREATE TABLE incident (number INTEGER PRIMARY KEY, source INTEGER NOT NULL, ident TEXT NOT NULL, revision INTEGER NOT NULL, community INTEGER, UNIQUE (source, ident)) STRICT"

@@ -36,7 +36,7 @@ use Rattle.sqlite.specs.State.{State, ExecutesInside}
 use Rattle.sqlite.proofs.Callers.{command_of, statement_of}
 use Rattle.hub_core.specs.State as core
 use Rattle.hub_store.specs.Failing.{HasReason}
-use Rattle.hub_store.specs.Layout.{renamed_3, unversioned_3}
+use Rattle.hub_store.specs.Layout.{renumbered_3, unversioned_3}
 use Rattle.hub_store.specs.Parts.{HoldsParts}
 use Rattle.hub_store.specs.Tables.{schema_by, hub_table}
 use Rattle.hub_store.proofs.Causes.{IsWhole, fails_as}
@@ -95,7 +95,7 @@ unasked limit db e (inr (inl (is, inr rows))) = absurd rows.4
 unasked limit db e (inr (inr h)) = h.1
 
 pub take_fails_3 : (sql : List ℕ) (before : ℕ) (s : core.State) → command_of (understood schema_3 sql) ≡ Delete 0 (program all_versions) → IsWhole sql [] (understood schema_3 sql)
-    → (old new : State) (e : Error) → ExecutesInside 0 sql [] old new (Err e) → HoldsParts (renamed_3 before s) old.now → e ≢ SqliteFailure code.OutOfMemory → HasReason old new
+    → (old new : State) (e : Error) → ExecutesInside 0 sql [] old new (Err e) → HoldsParts (renumbered_3 before s) old.now → e ≢ SqliteFailure code.OutOfMemory → HasReason old new
 take_fails_3 sql before s is whole old new e h has other =
     let db = old.now.trees in
     let sound : IsDatabase (record { schema = schema_3; trees = db }) = subst (λ k. IsDatabase (record { schema = k; trees = db })) has.known has.whole in

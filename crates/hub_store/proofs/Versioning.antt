@@ -14,7 +14,7 @@ use Rattle.sqlite.specs.declared.error.ErrorCode.TheVariants as code
 use Rattle.hub_core.specs.State.{State}
 use Rattle.hub_store.specs.Tables.{hub_table}
 use Rattle.hub_store.specs.Parts.{Part, HoldsParts}
-use Rattle.hub_store.specs.Layout.{without_rowids, parts_3, renamed_3, unversioned_3}
+use Rattle.hub_store.specs.Layout.{without_rowids, parts_3, renumbered_3, unversioned_3}
 use Rattle.hub_store.specs.Failing.{HasReason}
 use Rattle.hub_store.proofs.Compare.{cast_int, cast_null}
 use Rattle.hub_store.proofs.Migrating.{take_version}
@@ -29,17 +29,17 @@ rest_3 s = drop 1 (parts_3 s)
 stands_first : (rows : List Row) (s : State) → Stands [] (without_rowids 0 hub_table rows) (rest_3 s) 0
 stands_first rows s = record { listed = refl; uncounted = refl; timeless = refl; alone = λ tree olds news. refl; apart = refl; same = λ rows. refl }
 
-pub takes_version_3 : (old new : sql.State) (version : ℕ) (s : State) (count : ℕ) → Executes take_version [] old new (Ok count) → HoldsParts (renamed_3 version s) old.now → HoldsParts (unversioned_3 s) new.now
+pub takes_version_3 : (old new : sql.State) (version : ℕ) (s : State) (count : ℕ) → Executes take_version [] old new (Ok count) → HoldsParts (renumbered_3 version s) old.now → HoldsParts (unversioned_3 s) new.now
 unfolding understood everything
 takes_version_3 old new version s count h has =
     takes [] (without_rowids 0 hub_table ((Int (pos version) ∷ []) ∷ [])) (rest_3 s) 0 (stands_first _ s) take_version [] old new (refl, refl) count h has [] refl (λ r. true) (λ r. refl) [] refl
 
 -- the version is taken, or there is a reason
-pub version_kept_3 : (version : ℕ) (s : State) (old new : sql.State) (e : Error) → ExecutesInside 0 take_version [] old new (Err e) → HoldsParts (renamed_3 version s) old.now → e ≢ SqliteFailure code.OutOfMemory → HasReason old new
+pub version_kept_3 : (version : ℕ) (s : State) (old new : sql.State) (e : Error) → ExecutesInside 0 take_version [] old new (Err e) → HoldsParts (renumbered_3 version s) old.now → e ≢ SqliteFailure code.OutOfMemory → HasReason old new
 unfolding understood everything
 version_kept_3 version s old new e h has other = take_fails_3 take_version version s refl (refl, refl, refl, refl) old new e h has other
 
-pub puts_version_3 : (old new : sql.State) (version : ℕ) (s : State) (count : ℕ) → Executes put_version (Int (pos version) ∷ []) old new (Ok count) → HoldsParts (unversioned_3 s) old.now → HoldsParts (renamed_3 version s) new.now
+pub puts_version_3 : (old new : sql.State) (version : ℕ) (s : State) (count : ℕ) → Executes put_version (Int (pos version) ∷ []) old new (Ok count) → HoldsParts (unversioned_3 s) old.now → HoldsParts (renumbered_3 version s) new.now
 unfolding understood everything
 puts_version_3 old new version s count h has =
     let row = Int (pos version) ∷ [] in

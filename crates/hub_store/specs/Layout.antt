@@ -19,8 +19,8 @@ abbrev pub without_rowids : ℕ → Table → List Row → Part
 without_rowids tree table rows = record { table = record table { tree = tree }; seen = drop 1; rows = rows }
 
 -- The tables that all versions have alike. The trees between are those of the indexes. The first table holds the version.
-abbrev pub alike : ℕ → State → List Part
-alike version s =
+abbrev pub in_every_version : ℕ → State → List Part
+in_every_version version s =
     without_rowids 0 hub_table ((Int (pos version) ∷ []) ∷ [])
     ∷ by_number 1 org_table org_row s.directory.orgs
     ∷ by_number 3 person_table account_row s.directory.accounts
@@ -36,14 +36,14 @@ abbrev pub permission_part : State → Part
 permission_part s = without_rowids 16 permission_table (map endless_row s.permissions)
 
 -- what versions 1 and 2 have alike
-abbrev pub common : ℕ → State → List Part
-common version s = alike version s ++ permission_part s ∷ []
+abbrev pub in_versions_1_and_2 : ℕ → State → List Part
+in_versions_1_and_2 version s = in_every_version version s ++ permission_part s ∷ []
 
 abbrev pub incident_part : State → Part
 incident_part s = by_number 18 incident_table incident_row s.incidents
 
 abbrev pub parts_1 : State → List Part
-parts_1 s = common 1 s ++ incident_part s ∷ []
+parts_1 s = in_versions_1_and_2 1 s ++ incident_part s ∷ []
 
 -- ---- version 2: the lines of the documents stand in a table of their own
 
@@ -55,7 +55,7 @@ incident_part_2 rows = record { table = record incident_table_2 { tree = 22 }; s
 
 -- With these lines and incidents, and all else as in a state. While a migration makes them another version may stand there.
 abbrev pub tables_2 : ℕ → List Row → List Row → State → List Part
-tables_2 version items incidents s = common version s ++ item_part items ∷ incident_part_2 incidents ∷ []
+tables_2 version items incidents s = in_versions_1_and_2 version s ++ item_part items ∷ incident_part_2 incidents ∷ []
 
 abbrev pub parts_2 : State → List Part
 parts_2 s = tables_2 2 (map item_row (items_of s)) (map named_row_2 s.incidents) s
@@ -64,10 +64,10 @@ parts_2 s = tables_2 2 (map item_row (items_of s)) (map named_row_2 s.incidents)
 
 -- with these lines beside all tables of version 1
 abbrev pub with_items : List Row → State → List Part
-with_items items s = common 1 s ++ incident_part s ∷ item_part items ∷ []
+with_items items s = in_versions_1_and_2 1 s ++ incident_part s ∷ item_part items ∷ []
 
 abbrev pub without_incidents : List Row → State → List Part
-without_incidents items s = common 1 s ++ item_part items ∷ []
+without_incidents items s = in_versions_1_and_2 1 s ++ item_part items ∷ []
 
 -- the tables of version 2, and no version
 abbrev pub unversioned_2 : List Row → List Row → State → List Part
@@ -80,7 +80,7 @@ permission_part_3 = without_rowids 24 permission_table_3
 
 -- With these incidents and permissions, and all else as in a state. While a migration makes them another version may stand there.
 abbrev pub tables_3 : ℕ → List Row → List Row → State → List Part
-tables_3 version incidents permissions s = alike version s ++ item_part (map item_row (items_of s)) ∷ incident_part_2 incidents ∷ permission_part_3 permissions ∷ []
+tables_3 version incidents permissions s = in_every_version version s ++ item_part (map item_row (items_of s)) ∷ incident_part_2 incidents ∷ permission_part_3 permissions ∷ []
 
 abbrev pub parts_3 : State → List Part
 parts_3 s = tables_3 3 (map named_row_2 s.incidents) (map permission_row s.permissions) s
@@ -88,11 +88,11 @@ parts_3 s = tables_3 3 (map named_row_2 s.incidents) (map permission_row s.permi
 -- ---- between version 2 and version 3
 
 -- the tables of version 2 under the version that is to come
-abbrev pub renamed_2 : State → List Part
-renamed_2 s = tables_2 3 (map item_row (items_of s)) (map named_row_2 s.incidents) s
+abbrev pub renumbered_2 : State → List Part
+renumbered_2 s = tables_2 3 (map item_row (items_of s)) (map named_row_2 s.incidents) s
 
 abbrev pub without_permissions : State → List Part
-without_permissions s = alike 3 s ++ item_part (map item_row (items_of s)) ∷ incident_part_2 (map named_row_2 s.incidents) ∷ []
+without_permissions s = in_every_version 3 s ++ item_part (map item_row (items_of s)) ∷ incident_part_2 (map named_row_2 s.incidents) ∷ []
 
 -- with these permissions
 abbrev pub with_permissions : List Row → State → List Part
@@ -105,7 +105,7 @@ incident_part_4 rows = record { table = record incident_table_4 { tree = 26 }; s
 
 -- with these lines and incidents, and all else as in a state
 abbrev pub tables_4 : List Row → List Row → State → List Part
-tables_4 items incidents s = alike 4 s ++ item_part items ∷ permission_part_3 (map permission_row s.permissions) ∷ incident_part_4 incidents ∷ []
+tables_4 items incidents s = in_every_version 4 s ++ item_part items ∷ permission_part_3 (map permission_row s.permissions) ∷ incident_part_4 incidents ∷ []
 
 abbrev pub parts_4 : State → List Part
 parts_4 s = tables_4 (map item_row (items_of s)) (map named_row s.incidents) s
@@ -117,11 +117,11 @@ abbrev pub unversioned_3 : State → List Part
 unversioned_3 s = without_rowids 0 hub_table [] ∷ drop 1 (parts_3 s)
 
 -- the tables of version 3 under a version, as the one that is to come
-abbrev pub renamed_3 : ℕ → State → List Part
-renamed_3 version s = tables_3 version (map named_row_2 s.incidents) (map permission_row s.permissions) s
+abbrev pub renumbered_3 : ℕ → State → List Part
+renumbered_3 version s = tables_3 version (map named_row_2 s.incidents) (map permission_row s.permissions) s
 
 abbrev pub without_namings : State → List Part
-without_namings s = alike 4 s ++ item_part (map item_row (items_of s)) ∷ permission_part_3 (map permission_row s.permissions) ∷ []
+without_namings s = in_every_version 4 s ++ item_part (map item_row (items_of s)) ∷ permission_part_3 (map permission_row s.permissions) ∷ []
 
 -- with these incidents
 abbrev pub with_namings : List Row → State → List Part

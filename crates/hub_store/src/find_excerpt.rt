@@ -14,7 +14,7 @@ use sqlite::{Alter, Connection, Error};
 use std::alloc::Global;
 
 /// What a reader is served of the lines that came to a pass.
-fn served(pass: RowPass) -> Result<Option<Excerpt>, Error>
+fn finish_pass(pass: RowPass) -> Result<Option<Excerpt>, Error>
     requires { pass.fed.fault ≡ None }
     ensures { IfOk result (λ found. option_map told_by found ≡ served_of pass.fed.lines pass.case pass.standing) }
 {
@@ -41,5 +41,5 @@ pub(crate) fn find_excerpt<S: Alter>(
     prove!(settled);
     let mut pass = RowPass::new(alloc, case, standing)?;
     feed_rows(conn, alloc, incident, &mut pass)?;
-    served(pass)
+    finish_pass(pass)
 }

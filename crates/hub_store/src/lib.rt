@@ -79,7 +79,7 @@ mod tables;
 mod to_version_2;
 mod to_version_3;
 mod to_version_4;
-mod told;
+mod failures;
 mod version;
 
 pub use sql_shelf::{OpenFault, SqlShelf};

@@ -10,7 +10,7 @@ mod migrated;
 mod shelf;
 
 use crate::create::make_store;
-use crate::told::fault_of;
+use crate::failures::fault_of;
 use crate::version::{NEWEST, version};
 use hub_core::ShelfFault;
 use sqlite::{Alter, Connection};

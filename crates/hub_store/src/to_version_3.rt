@@ -9,7 +9,7 @@ ghost use Rattle.sqlite.specs.Held.{state};
 ghost use Rattle.hub_core.specs.State.{State};
 ghost use Rattle.hub_core.specs.Sound.{IsSound};
 ghost use Rattle.hub_store.specs.Tables.{schema_by, without_permission};
-ghost use Rattle.hub_store.specs.Layout.{parts_2, renamed_2, without_permissions};
+ghost use Rattle.hub_store.specs.Layout.{parts_2, renumbered_2, without_permissions};
 ghost use Rattle.hub_store.specs.Rows.{endless_row};
 ghost use Rattle.hub_store.specs.Fit.{AreTaken};
 ghost use Rattle.hub_store.specs.Parts.{HoldsParts};
@@ -27,8 +27,8 @@ use sqlite::{Alter, Error, Row, Transaction};
 fn drop_permission<S: Alter>(tx: &mut Transaction<'_, S>) -> Result<(), Error>
     ensures same_reference { tx.new.conn.ghost_name ≡ tx.old.conn.ghost_name }
     ensures empty { Creates (state S.Store tx.old.conn.now) (state S.Store tx.new.conn.now) (HasEmpty (schema_by 2)) (HasEmpty without_permission) result }
-    ensures made { (s : State) → Makes (state S.Store tx.old.conn.now) (state S.Store tx.new.conn.now) (HoldsParts (renamed_2 s)) (HoldsParts (without_permissions s)) result }
-    ensures cause { (s : State) → FailsOnly (state S.Store tx.old.conn.now) (state S.Store tx.new.conn.now) (HoldsParts (renamed_2 s)) result }
+    ensures made { (s : State) → Makes (state S.Store tx.old.conn.now) (state S.Store tx.new.conn.now) (HoldsParts (renumbered_2 s)) (HoldsParts (without_permissions s)) result }
+    ensures cause { (s : State) → FailsOnly (state S.Store tx.old.conn.now) (state S.Store tx.new.conn.now) (HoldsParts (renumbered_2 s)) result }
 {
     run(tx, "DROP TABLE permission", &[])
 }
@@ -104,8 +104,8 @@ fn put_rows<S: Alter>(tx: &mut Transaction<'_, S>, rows: &[Row]) -> Result<(), E
 fn move_rows<S: Alter>(tx: &mut Transaction<'_, S>, rows: &[Row]) -> Result<(), Error>
     ensures same_reference { tx.new.conn.ghost_name ≡ tx.old.conn.ghost_name }
     ensures goes { Goes (state S.Store tx.old.conn.now) (state S.Store tx.new.conn.now) result }
-    ensures made { AllByRecursion IsEndlessRow rows.now → (s : State) → Makes (state S.Store tx.old.conn.now) (state S.Store tx.new.conn.now) (HoldsParts (renamed_2 s)) (HoldsGranted (map without_end rows.now) s) result }
-    ensures cause { AllByRecursion IsEndlessRow rows.now → (s : State) → CanGrant (map without_end rows.now) → FailsOnly (state S.Store tx.old.conn.now) (state S.Store tx.new.conn.now) (HoldsParts (renamed_2 s)) result }
+    ensures made { AllByRecursion IsEndlessRow rows.now → (s : State) → Makes (state S.Store tx.old.conn.now) (state S.Store tx.new.conn.now) (HoldsParts (renumbered_2 s)) (HoldsGranted (map without_end rows.now) s) result }
+    ensures cause { AllByRecursion IsEndlessRow rows.now → (s : State) → CanGrant (map without_end rows.now) → FailsOnly (state S.Store tx.old.conn.now) (state S.Store tx.new.conn.now) (HoldsParts (renumbered_2 s)) result }
 {
     drop_permission(tx)?;
     create_permission(tx)?;

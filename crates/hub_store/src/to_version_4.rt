@@ -9,7 +9,7 @@ ghost use Rattle.sqlite.specs.Held.{state};
 ghost use Rattle.hub_core.specs.State.{State};
 ghost use Rattle.hub_core.specs.Sound.{IsSound};
 ghost use Rattle.hub_store.specs.Tables.{schema_by, without_naming, hub_schema};
-ghost use Rattle.hub_store.specs.Layout.{parts_3, renamed_3, without_namings, with_namings};
+ghost use Rattle.hub_store.specs.Layout.{parts_3, renumbered_3, without_namings, with_namings};
 ghost use Rattle.hub_store.specs.Fit.{AreTaken};
 ghost use Rattle.hub_store.specs.Parts.{HoldsParts};
 ghost use Rattle.hub_store.specs.inner.Beside.{CanName, IsUnnamedRow, unnamed_row, without_community};
@@ -28,8 +28,8 @@ use sqlite::{Alter, Error, Row, Transaction};
 fn drop_incident<S: Alter>(tx: &mut Transaction<'_, S>) -> Result<(), Error>
     ensures same_reference { tx.new.conn.ghost_name ≡ tx.old.conn.ghost_name }
     ensures empty { Creates (state S.Store tx.old.conn.now) (state S.Store tx.new.conn.now) (HasEmpty (schema_by 3)) (HasEmpty without_naming) result }
-    ensures made { (s : State) → Makes (state S.Store tx.old.conn.now) (state S.Store tx.new.conn.now) (HoldsParts (renamed_3 4 s)) (HoldsParts (without_namings s)) result }
-    ensures cause { (s : State) → FailsOnly (state S.Store tx.old.conn.now) (state S.Store tx.new.conn.now) (HoldsParts (renamed_3 4 s)) result }
+    ensures made { (s : State) → Makes (state S.Store tx.old.conn.now) (state S.Store tx.new.conn.now) (HoldsParts (renumbered_3 4 s)) (HoldsParts (without_namings s)) result }
+    ensures cause { (s : State) → FailsOnly (state S.Store tx.old.conn.now) (state S.Store tx.new.conn.now) (HoldsParts (renumbered_3 4 s)) result }
 {
     run(tx, "DROP TABLE incident", &[])
 }
@@ -105,8 +105,8 @@ fn put_rows<S: Alter>(tx: &mut Transaction<'_, S>, rows: &[Row]) -> Result<(), E
 fn move_rows<S: Alter>(tx: &mut Transaction<'_, S>, rows: &[Row]) -> Result<(), Error>
     ensures same_reference { tx.new.conn.ghost_name ≡ tx.old.conn.ghost_name }
     ensures goes { Goes (state S.Store tx.old.conn.now) (state S.Store tx.new.conn.now) result }
-    ensures made { AllByRecursion IsUnnamedRow rows.now → (s : State) → Makes (state S.Store tx.old.conn.now) (state S.Store tx.new.conn.now) (HoldsParts (renamed_3 4 s)) (HoldsParts (with_namings (map without_community rows.now) s)) result }
-    ensures cause { AllByRecursion IsUnnamedRow rows.now → (s : State) → CanName unnamed_row (map without_community rows.now) → FailsOnly (state S.Store tx.old.conn.now) (state S.Store tx.new.conn.now) (HoldsParts (renamed_3 4 s)) result }
+    ensures made { AllByRecursion IsUnnamedRow rows.now → (s : State) → Makes (state S.Store tx.old.conn.now) (state S.Store tx.new.conn.now) (HoldsParts (renumbered_3 4 s)) (HoldsParts (with_namings (map without_community rows.now) s)) result }
+    ensures cause { AllByRecursion IsUnnamedRow rows.now → (s : State) → CanName unnamed_row (map without_community rows.now) → FailsOnly (state S.Store tx.old.conn.now) (state S.Store tx.new.conn.now) (HoldsParts (renumbered_3 4 s)) result }
 {
     drop_incident(tx)?;
     create_incident(tx)?;

@@ -8,7 +8,7 @@ ghost use Rattle.hub_store.specs.Keeps.{KeepsCommitted};
 ghost use Rattle.hub_store.specs.Versions.{tables_at, version_column, only_u32, version_of};
 ghost use Rattle.hub_store.specs.Failing.{HasReason};
 
-use crate::told::fault_of;
+use crate::failures::fault_of;
 use hub_core::ShelfFault;
 use sqlite::{Alter, Connection, Error, ErrorCode, Row, Transaction};
 use sqlite_schema::schema::Schema;

@@ -5,7 +5,7 @@ use Rattle.std.proofs.lemmas.Bool.{not_from_false}
 use Rattle.std.proofs.lemmas.List.Folds.{list_any_more}
 use Rattle.std.specs.List.{list_any}
 use Rattle.circle.specs.Ordered.{by_number}
-use Rattle.hub_core.specs.Edits.{after, edited}
+use Rattle.hub_core.specs.Edits.{with_edits, edited}
 use Rattle.hub_core.specs.Reads.{document_of}
 use Rattle.hub_core.specs.State.{State, incident_number}
 use Rattle.hub_core.specs.declared.state.Incident.{Incident}
@@ -35,11 +35,11 @@ second : (a b : Bool) → (a || b) ≡ false → b ≡ false
 second true b h = cc
 second false b h = h
 
-stays : (n : ℕ) (edits : List Edit) (s : State) → list_any (is_of n) edits ≡ false → document_of n (after edits s) ≡ document_of n s
+stays : (n : ℕ) (edits : List Edit) (s : State) → list_any (is_of n) edits ≡ false → document_of n (with_edits edits s) ≡ document_of n s
 stays n [] s h = refl
 stays n (edit ∷ edits) s h = stays n edits (edited edit s) (second (is_of n edit) (list_any (is_of n) edits) h) ∙ one_stays n edit s (first (is_of n edit) (list_any (is_of n) edits) h)
 
-pub kept_after : (edits : List Edit) (old new : List Entry) (s : State) → AreSpared edits new old → AreDocuments old s → AreDocuments new (after edits s)
+pub kept_after : (edits : List Edit) (old new : List Entry) (s : State) → AreSpared edits new old → AreDocuments old s → AreDocuments new (with_edits edits s)
 kept_after edits old new s spared all e k = let was = spared e k in stays e.0 edits s was.1 ∙ all e was.0
 
 -- an edit more that isn't of it

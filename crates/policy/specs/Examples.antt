@@ -246,6 +246,7 @@ MomentsAreRead =
     (codes "1996-12-19T16:39:57-08:00"
     ∷ codes "1996-12-20T00:39:57Z"
     ∷ codes "1990-12-31T23:59:60Z"
+    ∷ codes "1990-12-31T15:59:60-08:00"
     ∷ codes "1985-04-12T23:20:50.52Z"
     ∷ codes "1937-01-01T12:00:27.87+00:20"
     ∷ codes "1969-12-31T23:59:59.0Z"
@@ -254,6 +255,7 @@ MomentsAreRead =
     ∷ [])
     ≡ Ok (pos 851_042_397)
     ∷ Ok (pos 851_042_397)
+    ∷ Ok (pos 662_687_999)
     ∷ Ok (pos 662_687_999)
     ∷ Err BadMoment
     ∷ Err BadMoment

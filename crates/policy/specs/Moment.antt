@@ -14,7 +14,7 @@ second = pos 1_000_000_000
 abbrev pub whole_second : ℤ → Result ℤ MomentFault
 whole_second n = if int_eq (int_rem n second) (pos 0) then Ok (int_div n second) else Err BadMoment
 
--- of a text the instant that `jiff` reads in it, if any
+-- the second of the instant that was read, where one was and it is whole
 abbrev pub moment_of : Result ℤ Error → Result ℤ MomentFault
 moment_of (Ok n) = whole_second n
 moment_of (Err e) = Err BadMoment

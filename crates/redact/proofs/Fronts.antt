@@ -15,7 +15,7 @@ use Rattle.policy.specs.declared.rule.Rule.{Rule}
 use Rattle.policy.specs.declared.standing.Standing.{Standing}
 use Rattle.policy.specs.declared.case.Case.{Case}
 use Rattle.redact.specs.Withheld.{Withheld}
-use Rattle.redact.specs.inner.Judged.{Surrounding, inside, keeps_plain, left_before, new_place, left_with, moved, is_end, with_label, cut, visible_classes, told}
+use Rattle.redact.specs.inner.Judged.{Surrounding, inside, keeps_plain, left_before, new_place, left_with, moved, is_end, with_label, cut, visible_classes, withheld_below}
 use Rattle.redact.specs.inner.Pass.{enter, judgment_by, pass}
 use Rattle.redact.proofs.Fates.{new_place-before}
 use Rattle.redact.specs.inner.Left.{left_at, told_at, count_at, left_items, told_items, count_items, many_or_none, left_members, told_members, count_members}
@@ -61,7 +61,7 @@ module _ (c : Case) (s : Standing) (h : Surrounding) (a : Inherited) (q : Tokens
       let r = q ++ steps name (new_place n place) in
       rw (enters (spelled_in kids)) (by_tests (is_seen s k) (is_end (cut (inside false) 0 (pass c s k kids)))
       (with_label h (judgment_by c s k (spelled_in kids)) (cut (inside true) 0 (pass c s k kids))) (cut (inside false) 0 (pass c s k kids))
-      (hides s k) (told (inside true) r 0 (pass c s k kids)) (told (inside false) r 0 (pass c s k kids)) (visible_classes (pass c s k kids)))
+      (hides s k) (withheld_below (inside true) r 0 (pass c s k kids)) (withheld_below (inside false) r 0 (pass c s k kids)) (visible_classes (pass c s k kids)))
     where
       by_tests : (b e : Bool) (S F : Forest) (rule : Rule) (TS TF : List Withheld) (m : ℕ) →
           let L = made (left_with n place) rest in

@@ -8,7 +8,7 @@ use Rattle.std.specs.Ordering.{ordering_reverse, is_eq}
 use Rattle.std.specs.declared.cmp.Ordering.{Ordering}
 use Rattle.std.specs.declared.cmp.Ordering.TheVariants.{Less, Equal, Greater}
 use Rattle.redact.specs.inner.Ties.{withheld-ties}
-use Rattle.redact.specs.Withheld.{Withheld, withheld_cmp, is_among, insert_withheld_by, insert_withheld, in_order, Lists}
+use Rattle.redact.specs.Withheld.{Withheld, withheld_cmp, is_among, insert_withheld_by, insert_withheld, withheld_in_order, Lists}
 use Rattle.redact.proofs.Listing.{withheld-total, withheld-same, among-contains}
 
 abbrev pub In : {X : Type 0} → List X → X → Type 0
@@ -89,10 +89,10 @@ noted_sorted x (y ∷ ys) h = by_case (withheld_cmp x y) refl (noted_sorted x ys
         let low : withheld_cmp y x ≡ Less = withheld-total.antisymm y x ∙ ap ordering_reverse is in
         (all_noted (λ z. withheld_cmp y z ≡ Less) x ys low h.0, later)
 
-in_order_sorted : (xs : List Withheld) → IsStrictlySortedBy withheld_cmp (in_order xs)
+in_order_sorted : (xs : List Withheld) → IsStrictlySortedBy withheld_cmp (withheld_in_order xs)
 unfolding IsStrictlySortedBy
 in_order_sorted [] = tt
-in_order_sorted (x ∷ xs) = noted_sorted x (in_order xs) (in_order_sorted xs)
+in_order_sorted (x ∷ xs) = noted_sorted x (withheld_in_order xs) (in_order_sorted xs)
 
 -- what is noted is the pair or was there
 noted_from : (x z : Withheld) (ys : List Withheld) → In (insert_withheld x ys) z → In (x ∷ ys) z
@@ -121,32 +121,32 @@ noted_to x z (y ∷ ys) h = by_case (withheld_cmp x y) refl h (noted_to x z ys)
     by_case Greater is (inr (inl h)) later = inl h
     by_case Greater is (inr (inr h)) later = inr (later (inr h))
 
-ordered_from : (xs : List Withheld) (z : Withheld) → In (in_order xs) z → In xs z
+ordered_from : (xs : List Withheld) (z : Withheld) → In (withheld_in_order xs) z → In xs z
 ordered_from [] z h = h
-ordered_from (x ∷ xs) z h = elim (noted_from x z (in_order xs) h) [ inl k ↦ inl k | inr k ↦ inr (ordered_from xs z k) ]
+ordered_from (x ∷ xs) z h = elim (noted_from x z (withheld_in_order xs) h) [ inl k ↦ inl k | inr k ↦ inr (ordered_from xs z k) ]
 
-ordered_to : (xs : List Withheld) (z : Withheld) → In xs z → In (in_order xs) z
+ordered_to : (xs : List Withheld) (z : Withheld) → In xs z → In (withheld_in_order xs) z
 ordered_to [] z h = h
-ordered_to (x ∷ xs) z (inl h) = noted_to x z (in_order xs) (inl h)
-ordered_to (x ∷ xs) z (inr h) = noted_to x z (in_order xs) (inr (ordered_to xs z h))
+ordered_to (x ∷ xs) z (inl h) = noted_to x z (withheld_in_order xs) (inl h)
+ordered_to (x ∷ xs) z (inr h) = noted_to x z (withheld_in_order xs) (inr (ordered_to xs z h))
 
 -- what is put in order is a list of the same pairs
-pub order-lists : (pairs : List Withheld) → Lists pairs (in_order pairs)
+pub order-lists : (pairs : List Withheld) → Lists pairs (withheld_in_order pairs)
 order-lists pairs = record {
   ascending = in_order_sorted pairs;
-  sound = λ z k. contains_in pairs z (ordered_from pairs z (in_contained (in_order pairs) z k));
-  complete = λ z k. contains_in (in_order pairs) z (ordered_to pairs z (in_contained pairs z k));
+  sound = λ z k. contains_in pairs z (ordered_from pairs z (in_contained (withheld_in_order pairs) z k));
+  complete = λ z k. contains_in (withheld_in_order pairs) z (ordered_to pairs z (in_contained pairs z k));
 }
 
 -- the list of the pairs in order is that of the definition
-pub listed_in_order : (pairs listed : List Withheld) → Lists pairs listed → listed ≡ in_order pairs
+pub listed_in_order : (pairs listed : List Withheld) → Lists pairs listed → listed ≡ withheld_in_order pairs
 listed_in_order pairs listed h =
-    same_sorted withheld_cmp withheld-total listed (in_order pairs) h.ascending (in_order_sorted pairs)
+    same_sorted withheld_cmp withheld-total listed (withheld_in_order pairs) h.ascending (in_order_sorted pairs)
     (λ z k. ordered_to pairs z (in_contained pairs z (h.sound z (contains_in listed z k))))
     (λ z k. in_contained listed z (h.complete z (contains_in pairs z (ordered_from pairs z k))))
 
 -- the same pairs are in one order
-pub same_in_order : (xs ys : List Withheld) → ((x : Withheld) → is_among xs x ≡ is_among ys x) → in_order xs ≡ in_order ys
-same_in_order xs ys same = same_sorted withheld_cmp withheld-total (in_order xs) (in_order ys) (in_order_sorted xs) (in_order_sorted ys)
+pub same_in_order : (xs ys : List Withheld) → ((x : Withheld) → is_among xs x ≡ is_among ys x) → withheld_in_order xs ≡ withheld_in_order ys
+same_in_order xs ys same = same_sorted withheld_cmp withheld-total (withheld_in_order xs) (withheld_in_order ys) (in_order_sorted xs) (in_order_sorted ys)
     (λ z k. ordered_to ys z (in_contained ys z (among-contains xs ys same z (contains_in xs z (ordered_from xs z k)))))
     (λ z k. ordered_to xs z (in_contained xs z (among-contains ys xs (λ y. sym (same y)) z (contains_in ys z (ordered_from ys z k)))))

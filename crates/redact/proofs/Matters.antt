@@ -16,7 +16,7 @@ use Rattle.policy.specs.declared.standing.Standing.{Standing}
 use Rattle.policy.specs.declared.case.Case.{Case}
 use Rattle.policy.specs.declared.rule.Rule.{Rule}
 use Rattle.redact.specs.Kept.{Verdicts, is_frame, is_wholly_hidden, is_kept, kept_lines}
-use Rattle.redact.specs.Withheld.{class_places, place_by, told_at_place, withheld_at, withheld_pairs, in_order}
+use Rattle.redact.specs.Withheld.{class_places, place_by, told_at_place, withheld_at, withheld_pairs, withheld_in_order}
 use Rattle.redact.specs.Told.{Told, some_seen, verdicts_of, excerpt_of}
 use Rattle.redact.specs.Alike.{class_path, by_class}
 use Rattle.redact.specs.Matters.{is_refused, matters, lines_that_matter}
@@ -35,7 +35,7 @@ some-or (Some r) x y h = refl
 abbrev told_of_lines : List LocatedLine → Case → Standing → Option Told
 told_of_lines es c s =
     let v = verdicts_of es c s in
-    if list_any (seen v) es then Some (record { outline = kept_lines v es; withheld = in_order (withheld_pairs v es); classes = count_by (seen v) es }) else None
+    if list_any (seen v) es then Some (record { outline = kept_lines v es; withheld = withheld_in_order (withheld_pairs v es); classes = count_by (seen v) es }) else None
 
 module _ (ls : List Line) (c : Case) (s : Standing) where
   abbrev pub es : List LocatedLine
@@ -244,10 +244,10 @@ module _ (ls : List Line) (c : Case) (s : Standing) where
 
   lines-told : told_of_lines es c s ≡ told_of_lines es' c s
   lines-told =
-      ap (λ b. if b then Some (record { outline = kept_lines v es; withheld = in_order (withheld_pairs v es); classes = count_by (seen v) es }) else None) (listed-same worlds)
-      ∙ ap (λ o. if list_any (seen v') es' then Some (record { outline = o; withheld = in_order (withheld_pairs v es); classes = count_by (seen v) es }) else None) (outline-same worlds)
-      ∙ ap (λ ps. if list_any (seen v') es' then Some (record { outline = kept_lines v' es'; withheld = in_order ps; classes = count_by (seen v) es }) else None) pairs-same
-      ∙ ap (λ n. if list_any (seen v') es' then Some (record { outline = kept_lines v' es'; withheld = in_order (withheld_pairs v' es'); classes = n }) else None) (count-same worlds)
+      ap (λ b. if b then Some (record { outline = kept_lines v es; withheld = withheld_in_order (withheld_pairs v es); classes = count_by (seen v) es }) else None) (listed-same worlds)
+      ∙ ap (λ o. if list_any (seen v') es' then Some (record { outline = o; withheld = withheld_in_order (withheld_pairs v es); classes = count_by (seen v) es }) else None) (outline-same worlds)
+      ∙ ap (λ ps. if list_any (seen v') es' then Some (record { outline = kept_lines v' es'; withheld = withheld_in_order ps; classes = count_by (seen v) es }) else None) pairs-same
+      ∙ ap (λ n. if list_any (seen v') es' then Some (record { outline = kept_lines v' es'; withheld = withheld_in_order (withheld_pairs v' es'); classes = n }) else None) (count-same worlds)
 
   pub same_located : located (lines_that_matter c s ls) ≡ es'
   same_located = located-kept (is_refused c s) refl (passed-above c s) ls

@@ -17,7 +17,7 @@ use Rattle.policy.specs.declared.standing.Standing.{Standing}
 use Rattle.policy.specs.declared.case.Case.{Case}
 use Rattle.policy.proofs.Steps.{covers-push, covers-root}
 use Rattle.redact.specs.Sifted.{way, went_on, located_back, Tracks}
-use Rattle.redact.specs.Probed.{opens, is_opened, IsSeen}
+use Rattle.redact.specs.inner.Seeking.{permits, is_permitted, IsSeen}
 use Rattle.redact.specs.declared.want.Want.{Want}
 use Rattle.redact.specs.declared.way.Step.{Step}
 use Rattle.redact.proofs.Stopped.{refused-any}
@@ -55,15 +55,15 @@ none-some (Some x) h = absurd (true≢false h)
 
 -- the class is visible, whatever lines there are
 module _ (es : List LocatedLine) (c : Case) (s : Standing) (p : Tokens) where
-  any-covers : (xs : List Permission) → list_any (λ x. same_path x.path p && opens c s x) xs ≡ true → (list_any (covers es s p) xs ≡ true) × (list_any (refuses_on s p) c.gates ≡ false)
+  any-covers : (xs : List Permission) → list_any (λ x. same_path x.path p && permits c s x) xs ≡ true → (list_any (covers es s p) xs ≡ true) × (list_any (refuses_on s p) c.gates ≡ false)
   any-covers [] h = absurd (false≢true h)
-  any-covers (x ∷ xs) h = by_test (same_path x.path p && opens c s x) refl (any-covers xs) h
+  any-covers (x ∷ xs) h = by_test (same_path x.path p && permits c s x) refl (any-covers xs) h
     where
-      by_test : (b : Bool) → (same_path x.path p && opens c s x) ≡ b →
-          (list_any (λ y. same_path y.path p && opens c s y) xs ≡ true → (list_any (covers es s p) xs ≡ true) × (list_any (refuses_on s p) c.gates ≡ false)) →
-          (b || list_any (λ y. same_path y.path p && opens c s y) xs) ≡ true → (list_any (covers es s p) (x ∷ xs) ≡ true) × (list_any (refuses_on s p) c.gates ≡ false)
+      by_test : (b : Bool) → (same_path x.path p && permits c s x) ≡ b →
+          (list_any (λ y. same_path y.path p && permits c s y) xs ≡ true → (list_any (covers es s p) xs ≡ true) × (list_any (refuses_on s p) c.gates ≡ false)) →
+          (b || list_any (λ y. same_path y.path p && permits c s y) xs) ≡ true → (list_any (covers es s p) (x ∷ xs) ≡ true) × (list_any (refuses_on s p) c.gates ≡ false)
       by_test true is rest k =
-          let parts = and_parts (same_path x.path p) (opens c s x) is in
+          let parts = and_parts (same_path x.path p) (permits c s x) is in
           let both = and_parts (holds_for s x) (not (list_any (refuses_on s x.path) c.gates)) parts.1 in (
             or_left (covers es s p x) (list_any (covers es s p) xs) (covers-own es s p x both.0 parts.0),
             subst (λ q. list_any (refuses_on s q) c.gates ≡ false) (same_path-true x.path p parts.0) (not-true (list_any (refuses_on s x.path) c.gates) both.1),
@@ -72,7 +72,7 @@ module _ (es : List LocatedLine) (c : Case) (s : Standing) (p : Tokens) where
           let later = rest k in
           (or_right (covers es s p x) (list_any (covers es s p) xs) later.0, later.1)
 
-  pub opened-seen : is_opened c s p ≡ true → is_visible es c s p ≡ true
+  pub opened-seen : is_permitted c s p ≡ true → is_visible es c s p ≡ true
   opened-seen h =
       let found = any-covers c.permissions h in
       covered s.source (is_none (refusal_at c s p)) (is_cleared_for s (label_at es p)) (is_covered es c s p)
@@ -80,9 +80,9 @@ module _ (es : List LocatedLine) (c : Case) (s : Standing) (p : Tokens) where
 
 -- where steps lead to the newest line, a class that a permission opens is seen
 pub follow-seen : (w : Want) (c : Case) (s : Standing) (ls : List Line) (l : Line) (ss : List Step) (follows : Bool) → (follows ≡ true → Tracks ls ss) → may_come (back ls) l ≡ true →
-    (follows && (is_class_kind l.kind && is_opened c s (way (went_on ss l)))) ≡ true → IsSeen w c s (ls ++ l ∷ []) (placed (located_back ls) l).path
+    (follows && (is_class_kind l.kind && is_permitted c s (way (went_on ss l)))) ≡ true → IsSeen w c s (ls ++ l ∷ []) (placed (located_back ls) l).path
 follow-seen w c s ls l ss follows tracks fits h more outline marked =
-    let parts = and_parts follows (is_class_kind l.kind && is_opened c s (way (went_on ss l))) h in
-    let both = and_parts (is_class_kind l.kind) (is_opened c s (way (went_on ss l))) parts.1 in
+    let parts = and_parts follows (is_class_kind l.kind && is_permitted c s (way (went_on ss l))) h in
+    let both = and_parts (is_class_kind l.kind) (is_permitted c s (way (went_on ss l))) parts.1 in
     opened-seen (located ((ls ++ l ∷ []) ++ more)) c s (placed (located_back ls) l).path
-    (ap (is_opened c s) (path-is (located_back ls) ss l (tracks parts.0).leads (ap (λ b. may_come b l) (back-lines ls) ∙ fits)) ∙ both.1)
+    (ap (is_permitted c s) (path-is (located_back ls) ss l (tracks parts.0).leads (ap (λ b. may_come b l) (back-lines ls) ∙ fits)) ∙ both.1)

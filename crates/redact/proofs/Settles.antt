@@ -19,7 +19,8 @@ use Rattle.policy.specs.Verdict.{refusal_at, is_cleared_for, is_covered, is_visi
 use Rattle.policy.specs.declared.standing.Standing.{Standing}
 use Rattle.policy.specs.declared.case.Case.{Case}
 use Rattle.redact.specs.Sifted.{located_back}
-use Rattle.redact.specs.Probed.{InEach, some_refuses, is_cleared_beside, is_cleared_by, is_cleared_text, IsBeside}
+use Rattle.redact.specs.Probed.{InEach}
+use Rattle.redact.specs.inner.Seeking.{some_refuses, is_cleared_beside, is_cleared_by, is_cleared_text, IsBeside}
 use Rattle.redact.specs.declared.seeking.Beside.{Beside}
 use Rattle.redact.specs.declared.seeking.Beside.TheVariants as beside
 use Rattle.redact.proofs.Lengthened.{located-append, any-stays}

@@ -25,7 +25,8 @@ use Rattle.policy.specs.declared.case.Case.{Case}
 use Rattle.redact.specs.Told.{is_seen_class, is_named, is_hit, holds_needle}
 use Rattle.redact.specs.Wants.{meets, meets_by}
 use Rattle.redact.specs.Sifted.{way, IsCounted, went_on, located_back, Tracks}
-use Rattle.redact.specs.Probed.{InEach, IsSure, wants_name_by, wants_name, wants_line_by, wants_line, holds_wanted_by, holds_wanted, is_wanted_at, some_refuses, sees_all, sight_of, is_everything, is_cleared_sight, text_by_kind, plain_text, beside_by, first_beside, beside_with, is_cleared_if, is_restriction, shows, entered, holding, innermost_holding, is_opened, opened, noted, is_settled, IsBeside, IsSeen, IsOpen, AreOpen, Follows, IsKnown, TakesTo, ProbeState, ProbesLine}
+use Rattle.redact.specs.Probed.{InEach, IsSure, ProbeState, ProbesLine}
+use Rattle.redact.specs.inner.Seeking.{wants_name_by, wants_name, wants_line_by, wants_line, holds_wanted_by, holds_wanted, is_wanted_at, some_refuses, sees_all, sight_of, is_everything, is_cleared_sight, text_by_kind, plain_text, beside_by, first_beside, beside_with, is_cleared_if, is_restriction, shows, entered, holding, innermost_holding, is_permitted, opened, noted, is_settled, IsBeside, IsSeen, IsOpen, AreOpen, Follows, IsKnown, TakesTo}
 use Rattle.redact.specs.declared.seeking.Sight.{Sight}
 use Rattle.redact.specs.declared.seeking.Sight.TheVariants as sight
 use Rattle.redact.specs.declared.seeking.Beside.{Beside}
@@ -465,7 +466,7 @@ module _ (w : Want) (c : Case) (s : Standing) where
     -- where it wasn't
     module _ (unmet : met ≡ false) (lines : new.lines.items ≡ old.lines.items ++ l ∷ []) (g : Bool) (classes : new.classes.items ≡ noted old.sight s w l g old.classes.items)
         (followed : new.follows ≡ old.follows) (steps : old.follows ≡ true → IsCounted old.steps.items l → new.steps.items ≡ went_on old.steps.items l)
-        (opens : g ≡ (old.follows && (is_class_kind l.kind && is_opened c s (way new.steps.items)))) where
+        (permits : g ≡ (old.follows && (is_class_kind l.kind && is_permitted c s (way new.steps.items)))) where
       small : length ls < 2 ^ 64
       small =
           let kept = h.lines unmet in
@@ -484,10 +485,10 @@ module _ (w : Want) (c : Case) (s : Standing) where
 
       gives : g ≡ true → IsSeen w c s (ls ++ l ∷ []) (placed (located_back ls) l).path
       gives t =
-          let both = sym opens ∙ t in
-          let follows = (and_parts old.follows (is_class_kind l.kind && is_opened c s (way new.steps.items)) both).0 in
+          let both = sym permits ∙ t in
+          let follows = (and_parts old.follows (is_class_kind l.kind && is_permitted c s (way new.steps.items)) both).0 in
           follow-seen w c s ls l old.steps.items old.follows (h.steps unmet) fits
-          (ap (λ ss. old.follows && (is_class_kind l.kind && is_opened c s (way ss))) (sym (grown follows)) ∙ both)
+          (ap (λ ss. old.follows && (is_class_kind l.kind && is_permitted c s (way ss))) (sym (grown follows)) ∙ both)
 
       more-follows : Follows w c s (ls ++ l ∷ []) new.classes.items
       more-follows = subst (Follows w c s (ls ++ l ∷ [])) (sym classes)

@@ -21,7 +21,7 @@ use Rattle.policy.specs.declared.permission.Permission.{Permission}
 use Rattle.policy.specs.declared.gate.Gate.{Gate}
 use Rattle.policy.specs.declared.case.Case.{Case}
 use Rattle.redact.specs.Kept.{Verdicts, is_frame, is_kept}
-use Rattle.redact.specs.Withheld.{in_order}
+use Rattle.redact.specs.Withheld.{withheld_in_order}
 use Rattle.redact.specs.Told.{some_seen, verdicts_of, kept_outline, withheld_of, visible_count, is_listed, told_of, excerpt_of, finds}
 use Rattle.redact.specs.Wants.{meets_by}
 use Rattle.redact.specs.Alike.{Report, class_path, by_class, IsToldAlike, is_plain_of, is_within, is_hidden_from, HasOtherPermissions, HasOtherPlainLines, HasOtherHiddenClass, IsAlikeStep, IsMarked}
@@ -112,7 +112,7 @@ module _ (s : Standing) (a b : Report) (da : IsMarked a.lines) (db : IsMarked b.
     }
 
     permissions-told : IsToldAlike s a b
-    permissions-told = told-by (outline-same permissions_world) (ap in_order (pairs-same permissions_world (λ p. refl) (λ e k. absurd (true≢false k)))) (count-same permissions_world) (listed-same permissions_world) (found-same permissions_world)
+    permissions-told = told-by (outline-same permissions_world) (ap withheld_in_order (pairs-same permissions_world (λ p. refl) (λ e k. absurd (true≢false k)))) (count-same permissions_world) (listed-same permissions_world) (found-same permissions_world)
 
   -- ---- other plain lines
   module _ (p : Tokens) (h : HasOtherPlainLines s p a b) where
@@ -178,7 +178,7 @@ module _ (s : Standing) (a b : Report) (da : IsMarked a.lines) (db : IsMarked b.
     }
 
     plain-told : IsToldAlike s a b
-    plain-told = told-by (outline-same plain_world) (ap in_order (pairs-same plain_world (λ q. refl) (λ e k. (in_p e k).0))) (count-same plain_world) (listed-same plain_world) (found-same plain_world)
+    plain-told = told-by (outline-same plain_world) (ap withheld_in_order (pairs-same plain_world (λ q. refl) (λ e k. (in_p e k).0))) (count-same plain_world) (listed-same plain_world) (found-same plain_world)
 
   -- ---- another hidden class
   module _ (p : Tokens) (h : HasOtherHiddenClass s p a b) where

@@ -16,7 +16,7 @@ use Rattle.policy.specs.declared.rule.Rule.{Rule}
 use Rattle.policy.specs.declared.gate.Gate.{Gate}
 use Rattle.policy.specs.declared.standing.Standing.{Standing}
 use Rattle.policy.specs.declared.case.Case.{Case}
-use Rattle.redact.specs.Probed.{some_refuses, sees_all}
+use Rattle.redact.specs.inner.Seeking.{some_refuses, sees_all}
 
 passes-none : (s : Standing) (f : Gate → Bool) (gs : List Gate) → list_any (λ g. is_some (refusal_of_gate s g)) gs ≡ false → filter_map (refusal_of_gate s) (filter f gs) ≡ []
 passes-none s f [] h = refl

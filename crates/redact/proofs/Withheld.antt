@@ -10,7 +10,7 @@ use Rattle.iodef_tree.specs.Tree.{Forest, end, leaf, branch, steps}
 use Rattle.iodef_tree.specs.Walk.{walk, leaf_entry}
 use Rattle.redact.specs.Kept.{Verdicts, is_wholly_hidden}
 use Rattle.redact.specs.Withheld.{Withheld, told_at_place, withheld_at, withheld_among}
-use Rattle.redact.specs.inner.Judged.{judge, inside, keeps_plain, home_at, left_before, new_place, left_with, is_end, cut, told, places}
+use Rattle.redact.specs.inner.Judged.{judge, inside, keeps_plain, home_at, left_before, new_place, left_with, is_end, cut, withheld_below, places}
 use Rattle.marking.proofs.Bad.{no_class-kind}
 use Rattle.marking.proofs.Marked.{not_root}
 use Rattle.redact.proofs.Fates.{by_verdict}
@@ -43,7 +43,7 @@ module _ (v : Verdicts) (place : Tokens → Option Tokens) where
   all_parts (x ∷ xs) ys h = let parts = all_parts xs ys h.1 in ((h.0, parts.0), parts.1)
 
   pub withheld-walk : (f : Forest) (d : ℕ) (p q : Tokens) (n : ℕ) → SaysBelow v d p f → AllByRecursion IsRight (places (home_at v p) p q n (judge v p f)) →
-      place p ≡ Some q → is_wholly_hidden v p ≡ false → tells (walk d p f) ≡ told (home_at v p) q n (judge v p f)
+      place p ≡ Some q → is_wholly_hidden v p ≡ false → tells (walk d p f) ≡ withheld_below (home_at v p) q n (judge v p f)
   withheld-walk end d p q n says right here shown = refl
   withheld-walk (leaf i rest) d p q n says right here shown =
       rw (no_class-kind i.content) (withheld-walk rest d p q (if keeps_plain (home_at v p) then left_with n i.place else left_before n i.place) says right here shown)
@@ -55,8 +55,8 @@ module _ (v : Verdicts) (place : Tokens → Option Tokens) where
       let J = judge v p' kids in
       let h = home_at v p in
       let rule = v.rule p' in
-      let TK = λ (b : Bool). told (inside b) r 0 J in
-      let TB = λ (m : ℕ). told h q m (judge v p rest) in
+      let TK = λ (b : Bool). withheld_below (inside b) r 0 J in
+      let TB = λ (m : ℕ). withheld_below h q m (judge v p rest) in
       let PK = λ (b : Bool). places (inside b) p' r 0 J in
       let PB = λ (m : ℕ). places h p q m (judge v p rest) in
       let bare : is_wholly_hidden v p' ≡ (not (v.visible p') && not (v.holds_visible p')) = rw (not_root p name pl) in
@@ -74,5 +74,5 @@ module _ (v : Verdicts) (place : Tokens → Option Tokens) where
       right
       (λ at all open'.
       withheld-walk kids (suc d) p' r 0 says.1 (subst (λ g. AllByRecursion IsRight (places g p' r 0 J)) (sym (home-class v p name pl)) all) at (bare ∙ open')
-      ∙ ap (λ g. told g r 0 J) (home-class v p name pl))
+      ∙ ap (λ g. withheld_below g r 0 J) (home-class v p name pl))
       (λ hidden closed. silent kids (suc d) p' says.1 (sym says.0 ∙ closed) (bare ∙ ap (λ b. not b && not (v.holds_visible p')) hidden ∙ ap not closed)))

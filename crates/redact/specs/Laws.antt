@@ -12,7 +12,7 @@ use Rattle.policy.specs.declared.verdict.Verdict.TheVariants.{Shown, Hidden}
 use Rattle.policy.specs.Gates.{refusal_of_gate}
 use Rattle.policy.specs.Verdict.{is_visible, verdict_of}
 use Rattle.redact.specs.Kept.{Verdicts, is_kept, is_frame, kept_lines}
-use Rattle.redact.specs.Withheld.{Withheld, in_order, Lists}
+use Rattle.redact.specs.Withheld.{Withheld, withheld_in_order, Lists}
 use Rattle.redact.specs.Told.{verdicts_of, excerpt_place, visible_count, is_listed, excerpt_of, finds}
 use Rattle.redact.specs.Wants.{meets_by}
 
@@ -41,7 +41,7 @@ RootGateTellsNothing = (ls : List Line) (c : Case) (s : Standing) (g : Gate) →
 
 -- what is withheld is listed in order and without repeats: all of it, and nothing else
 abbrev pub WithheldIsListed : Type 0
-WithheldIsListed = (pairs : List Withheld) → Lists pairs (in_order pairs)
+WithheldIsListed = (pairs : List Withheld) → Lists pairs (withheld_in_order pairs)
 
 -- ---- what is decided, and what is served
 

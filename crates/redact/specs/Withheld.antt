@@ -75,9 +75,9 @@ insert_withheld x [] = x ∷ []
 insert_withheld x (y ∷ ys) = insert_withheld_by (withheld_cmp x y) x y ys (insert_withheld x ys)
 
 -- by the bytes of the place and then of the rule, none twice
-abbrev pub in_order : List Withheld → List Withheld
-in_order [] = []
-in_order (x ∷ xs) = insert_withheld x (in_order xs)
+abbrev pub withheld_in_order : List Withheld → List Withheld
+withheld_in_order [] = []
+withheld_in_order (x ∷ xs) = insert_withheld x (withheld_in_order xs)
 
 -- a list in this order, without repeats, of the same pairs
 pub record Lists (pairs listed : List Withheld) : Type 0 where

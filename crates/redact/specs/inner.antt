@@ -4,5 +4,6 @@ pub mod Left
 pub mod Pass
 pub mod Saying
 pub mod Search
+pub mod Seeking
 pub mod Ties
 pub mod Tokens

@@ -25,7 +25,7 @@ mod kept;
 pub mod laws;
 mod marks;
 mod note;
-mod opening;
+mod permitting;
 mod pass;
 mod probe;
 mod reader;

@@ -6,7 +6,7 @@ ghost use Rattle.iodef_tree.specs.View.{forest, bodies, body};
 ghost use Rattle.marking.specs.Members.{spelled_in};
 ghost use Rattle.marking.specs.Label.{marking_of};
 ghost use Rattle.redact.specs.Told.{attributes_of};
-ghost use Rattle.redact.specs.inner.Judged.{inside, is_end, put_attributes, with_label, keeps_plain as keeps, shows_label, cut as what_is_left, told, visible_classes};
+ghost use Rattle.redact.specs.inner.Judged.{inside, is_end, put_attributes, with_label, keeps_plain as keeps, shows_label, cut as what_is_left, withheld_below, visible_classes};
 ghost use Rattle.redact.specs.inner.Pass.{judgment_by};
 ghost use Rattle.redact.specs.inner.Here.{carries, judged_for, LiesAhead};
 ghost use Rattle.iodef_tree.specs.Text.{Tokens};
@@ -185,7 +185,7 @@ impl<'a> Reader<'a> {
         ensures filled { IfOk result (λ o. IsFilled o) }
         ensures goes { IfOk result (λ o.
             let judged = judged_for self.now state.old.path.items above.entry (forest object.now) in
-            Goes (path_of state.old.place.items) state.old state.new (told (home_of home) (path_of state.old.place.items) 0 judged) [] (visible_classes judged) 0) }
+            Goes (path_of state.old.place.items) state.old state.new (withheld_below (home_of home) (path_of state.old.place.items) 0 judged) [] (visible_classes judged) 0) }
         ensures quiet { IfOk result (λ o. length o.members.items ≡ 0 → state.new.withheld.items ≡ state.old.withheld.items) }
     {
         let mut members = Vec::new(state.alloc);
@@ -407,7 +407,7 @@ impl<'a> Reader<'a> {
         ensures goes { IfOk result (λ o.
             let k = carries state.old.path.items at.entry in
             let judged = judged_for self.now state.old.path.items at.entry (forest object.now) in
-            (q : Tokens) → Goes q state.old state.new (told (inside true) (path_of state.old.place.items) 0 judged) [] (1 + visible_classes judged) 0) }
+            (q : Tokens) → Goes q state.old state.new (withheld_below (inside true) (path_of state.old.place.items) 0 judged) [] (1 + visible_classes judged) 0) }
     {
         state.classes = state.classes.saturating_add(1);
         let outside = replace(&mut state.rules_met, Vec::new(state.alloc));
@@ -437,7 +437,7 @@ impl<'a> Reader<'a> {
             let k = carries state.old.path.items at.entry in
             let judged = judged_for self.now state.old.path.items at.entry (forest object.now) in
             Goes (path_of (take base state.old.place.items)) state.old state.new (if is_end (what_is_left (inside false) 0 judged) then (path_of (take base state.old.place.items), hides self.now.standing.now k) ∷ []
-            else (path_of state.old.place.items, hides self.now.standing.now k) ∷ told (inside false) (path_of state.old.place.items) 0 judged) []
+            else (path_of state.old.place.items, hides self.now.standing.now k) ∷ withheld_below (inside false) (path_of state.old.place.items) 0 judged) []
             (visible_classes judged) 0) }
         ensures quiet { IfOk result (λ r. r ≡ None → state.new.withheld.items ≡ state.old.withheld.items) }
     {

@@ -32,7 +32,8 @@ pub struct Probe {
 
 impl Model for Probe {
     ghost use Rattle.std.specs.Prelude.{◌≡◌, true, None};
-    ghost use Rattle.redact.specs.Probed.{ProbeState, IsSure, IsKnown};
+    ghost use Rattle.redact.specs.Probed.{ProbeState, IsSure};
+    ghost use Rattle.redact.specs.inner.Seeking.{IsKnown};
 
     ghost Value = { ProbeState };
 

@@ -10,10 +10,10 @@ ghost use Rattle.redact.specs.declared.want.Want.{Want as Wanted};
 ghost use Rattle.marking.specs.Label.{marking_of};
 ghost use Rattle.policy.specs.Verdict.{is_cleared_for};
 ghost use Rattle.redact.specs.Told.{is_hit};
-ghost use Rattle.redact.specs.Probed.{wants_name as is_name_wanted, wants_line as is_line_wanted, some_refuses as some_gate_refuses, sees_all as is_all_seen, sight_of, is_everything, is_cleared_sight, plain_text as text_alone, beside_by, beside_with, is_cleared_text, is_cleared_if, is_restriction as is_named_restriction, shows, entered as with_no_member, holding as with_member, innermost_holding, is_opened as is_opened_at, opened, noted, is_settled, IsKnown, TakesTo};
+ghost use Rattle.redact.specs.inner.Seeking.{wants_name as is_name_wanted, wants_line as is_line_wanted, some_refuses as some_gate_refuses, sees_all as is_all_seen, sight_of, is_everything, is_cleared_sight, plain_text as text_alone, beside_by, beside_with, is_cleared_text, is_cleared_if, is_restriction as is_named_restriction, shows, entered as with_no_member, holding as with_member, innermost_holding, is_permitted as is_permitted_at, opened, noted, is_settled, IsKnown, TakesTo};
 ghost use Rattle.redact.specs.Sifted.{way, IsCounted, went_on};
 
-use crate::opening::{is_opened, some_opens};
+use crate::permitting::{is_permitted, some_permits};
 use crate::want::Want;
 use crate::way::{Step, step_to};
 use iodef_tree::{Kind, Line, OutlineFault, Shape};
@@ -259,12 +259,12 @@ fn enter(
     sight: Sight,
     want: &Want,
     line: &Line,
-    is_opened: bool,
+    is_permitted: bool,
 ) -> Result<(), AllocError>
-    ensures { OnOk result (classes.new.items ≡ opened sight want.now line.now is_opened classes.old.items) }
+    ensures { OnOk result (classes.new.items ≡ opened sight want.now line.now is_permitted classes.old.items) }
 {
     match line.kind {
-        Kind::Class => classes.push(Open::new(sight, want, line, is_opened))?,
+        Kind::Class => classes.push(Open::new(sight, want, line, is_permitted))?,
         Kind::Text | Kind::Value => {}
     }
     Ok(())
@@ -277,13 +277,13 @@ fn note(
     standing: &Standing,
     want: &Want,
     line: &Line,
-    is_opened: bool,
+    is_permitted: bool,
 ) -> Result<(), AllocError>
-    ensures { OnOk result (classes.new.items ≡ noted sight standing.entry.now want.now line.now is_opened classes.old.items) }
+    ensures { OnOk result (classes.new.items ≡ noted sight standing.entry.now want.now line.now is_permitted classes.old.items) }
 {
     classes.truncate((line.depth as usize).saturating_sub(1));
     hold(classes.as_mut_slice(), sight, standing, want, line);
-    enter(classes, sight, want, line, is_opened)
+    enter(classes, sight, want, line, is_permitted)
 }
 
 /// Whether one of them is surely one that is looked for.
@@ -331,10 +331,10 @@ fn step_on(steps: &mut Vec<Step>, line: &Line) -> Result<(), AllocError>
 
 /// Whether a line to which the steps lead is that of a class that a permission opens.
 fn opens_class(case: &Case, standing: &Standing, steps: &[Step], line: &Line) -> bool
-    ensures { result ≡ (is_class_kind line.now.kind && is_opened_at case.now standing.entry.now (way steps.now)) }
+    ensures { result ≡ (is_class_kind line.now.kind && is_permitted_at case.now standing.entry.now (way steps.now)) }
 {
     match line.kind {
-        Kind::Class => is_opened(case, standing, steps),
+        Kind::Class => is_permitted(case, standing, steps),
         Kind::Text | Kind::Value => false,
     }
 }
@@ -349,7 +349,7 @@ fn follow(
     line: &Line,
 ) -> Result<bool, AllocError>
     ensures steps { OnOk result (follows ≡ true → IsCounted steps.old.items line.now → steps.new.items ≡ went_on steps.old.items line.now) }
-    ensures opened { IfOk result (λ b. b ≡ (follows && (is_class_kind line.now.kind && is_opened_at case.now standing.entry.now (way steps.new.items)))) }
+    ensures opened { IfOk result (λ b. b ≡ (follows && (is_class_kind line.now.kind && is_permitted_at case.now standing.entry.now (way steps.new.items)))) }
 {
     if !follows {
         return Ok(false);
@@ -381,7 +381,7 @@ impl Seeker {
             lines: Vec::new(alloc),
             classes: Vec::new(alloc),
             sight,
-            follows: !sight.is_everything() && some_opens(case, standing),
+            follows: !sight.is_everything() && some_permits(case, standing),
             steps: Vec::new(alloc),
         }
     }

@@ -3,7 +3,7 @@
 ghost use Rattle.std.specs.Prelude.{◌≡◌, IfOk};
 ghost use Rattle.std.proofs.Common.{rules};
 ghost use Rattle.std.specs.Cmp.Rules.{comparing};
-ghost use Rattle.redact.specs.Withheld.{in_order};
+ghost use Rattle.redact.specs.Withheld.{withheld_in_order};
 
 use crate::note::Note;
 use iodef_tree::Path;
@@ -138,7 +138,7 @@ fn pairs_of(alloc: Global, entries: Vec<PrintedNote<'_>>) -> Result<Vec<(Path, R
 
 /// The notes by the bytes of the printed place and then of the rule, without repeats.
 pub fn sorted_withheld(alloc: Global, notes: Vec<Note<'_>>) -> Result<Vec<(Path, Rule)>, AllocError>
-    ensures { IfOk result (λ v. v.items ≡ in_order notes.entry.items) }
+    ensures { IfOk result (λ v. v.items ≡ withheld_in_order notes.entry.items) }
 {
     let mut entries = entries_of(alloc, notes)?;
     entries.sort()?;

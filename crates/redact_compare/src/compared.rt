@@ -8,7 +8,7 @@ use crate::by_lines::agree_by_lines;
 use crate::documents::report_text;
 use crate::entry::{Entry, located};
 use crate::judged::{
-    Judged, Moved, Sought, Told, count_seen, in_order, judge, kept_outline, places, search,
+    Judged, Moved, Sought, Told, count_seen, withheld_in_order, judge, kept_outline, places, search,
     withheld,
 };
 use crate::readers::{any_case, any_standing};
@@ -90,7 +90,7 @@ fn withheld_at(
 ) -> Result<Vec<Told>, AllocError> {
     let told = withheld(alloc, list, pairs)?;
     let count = told.len();
-    let withheld = in_order(alloc, told)?;
+    let withheld = withheld_in_order(alloc, told)?;
     note_withheld(tally, count, &withheld);
     Ok(withheld)
 }

@@ -255,7 +255,7 @@ fn put_told(list: &mut Vec<Told>, pair: Told) -> Result<(), AllocError> {
 }
 
 /// The pairs by place and rule, without repeats.
-pub fn in_order(alloc: Global, pairs: Vec<Told>) -> Result<Vec<Told>, AllocError> {
+pub fn withheld_in_order(alloc: Global, pairs: Vec<Told>) -> Result<Vec<Told>, AllocError> {
     let mut list = Vec::new(alloc);
     for pair in pairs {
         put_told(&mut list, pair)?;

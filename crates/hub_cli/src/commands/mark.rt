@@ -2,8 +2,8 @@
 
 use crate::fault::Fault;
 use crate::input::read_input;
-use crate::mark::{MarkFault, Wanted, mark_text};
-use crate::output::{ended, print, told};
+use crate::mark::{MarkFault, Selection, mark_text};
+use crate::output::{end_with, print, tell};
 use crate::status::Status;
 use iodef_tree::{Path, PathFault};
 use std::alloc::Global;
@@ -20,25 +20,25 @@ pub fn run<R: Read, W: Write, E: Write>(
 ) -> Status {
     let wanted = match wanted(alloc, place, pointer) {
         Ok(wanted) => wanted,
-        Err(PathFault::BadPath) => return told(errors, PathFault::BadPath.name(), Status::Refused),
-        Err(PathFault::NoMemory) => return ended(errors, Err(Fault::NoMemory)),
+        Err(PathFault::BadPath) => return tell(errors, PathFault::BadPath.name(), Status::Refused),
+        Err(PathFault::NoMemory) => return end_with(errors, Err(Fault::NoMemory)),
     };
     let body = match read_input(alloc, reader) {
         Ok(body) => body,
-        Err(fault) => return ended(errors, Err(fault)),
+        Err(fault) => return end_with(errors, Err(fault)),
     };
     match mark_text(alloc, &body, &wanted) {
-        Ok(text) => ended(errors, print(writer, text.as_str())),
-        Err(fault) => told(errors, fault.name(), status_of(&fault)),
+        Ok(text) => end_with(errors, print(writer, text.as_str())),
+        Err(fault) => tell(errors, fault.name(), status_of(&fault)),
     }
 }
 
-fn wanted(alloc: Global, place: u32, pointer: Option<&str>) -> Result<Wanted, PathFault> {
+fn wanted(alloc: Global, place: u32, pointer: Option<&str>) -> Result<Selection, PathFault> {
     let class = match pointer {
         Some(pointer) => Some(Path::parse(alloc, pointer)?),
         None => None,
     };
-    Ok(Wanted { place, class })
+    Ok(Selection { place, class })
 }
 
 fn status_of(fault: &MarkFault) -> Status {

@@ -95,11 +95,11 @@ pub fn grant(
         other_than(known.revision, request.revision),
     )?;
     refuse_if(alloc, facts.permissions > PERMISSION_LIMIT, Code::L1)?;
-    Ok(exchanged(alloc, request, path)?)
+    Ok(put_in_place(alloc, request, path)?)
 }
 
 /// The permission asked for at a class, and before it what takes out one with another end.
-fn exchanged(alloc: Global, request: &Grant, path: Path) -> Result<Vec<Edit>, AllocError>
+fn put_in_place(alloc: Global, request: &Grant, path: Path) -> Result<Vec<Edit>, AllocError>
     ensures { IfOk result (λ edits. edits.items ≡ put_permission (record { incident = request.now.incident; path = path; grantee = request.now.grantee }) request.now.until) }
 {
     let (incident, grantee) = (request.incident, request.grantee);

@@ -6,7 +6,7 @@ ghost use Rattle.circle.specs.Facts.{facts_of};
 ghost use Rattle.circle.specs.Refusals.{refusal_of};
 ghost use Rattle.circle.specs.Sound.{IsSound};
 ghost use Rattle.hub_core.specs.State.{State};
-ghost use Rattle.hub_core.specs.Edits.{after};
+ghost use Rattle.hub_core.specs.Edits.{with_edits};
 ghost use Rattle.hub_core.specs.declared.edit.Edit.TheVariants as edit;
 
 use crate::edit::Edit;
@@ -26,7 +26,7 @@ pub fn judge_command(
     ensures refused { (s : State) → facts.now ≡ facts_of s.directory actor.now command.now → IfErr result (RefusedAs (refusal_of s.directory actor.now command.now)) }
     ensures allowed { (s : State) → facts.now ≡ facts_of s.directory actor.now command.now → OnOk result (refusal_of s.directory actor.now command.now ≡ None) }
     ensures edits { IfOk result (λ edits. edits.items ≡ map edit.Directory (rows_of (edit_of (facts.now.count + 1) actor.now command.now))) }
-    ensures made { (s : State) → IsSound s.directory → facts.now ≡ facts_of s.directory actor.now command.now → IfOk result (λ edits. after edits.items s ≡ record s { directory = state_after s.directory actor.now command.now }) }
+    ensures made { (s : State) → IsSound s.directory → facts.now ≡ facts_of s.directory actor.now command.now → IfOk result (λ edits. with_edits edits.items s ≡ record s { directory = state_after s.directory actor.now command.now }) }
 {
     let change = judge(alloc, actor, facts, command)?;
     match rows(alloc, change) {

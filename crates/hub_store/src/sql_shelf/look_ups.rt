@@ -15,7 +15,7 @@ use crate::find_number::number_of;
 use crate::find_numbered::{has_community, has_org, has_person, person_of};
 use crate::find_permissions::find_permissions;
 use crate::find_recipients::find_recipients;
-use crate::told::told;
+use crate::failures::count_failure;
 use circle::command::{CircleCommand, CircleFacts};
 use circle::directory::{Handling, Person};
 use circle::text::Text;
@@ -50,120 +50,120 @@ impl<S: Alter> LookUps for SqlShelf<S> {
     ) -> Result<CircleFacts, ShelfFault> {
         self.may_ask()?;
         let found = find_circle_facts(&mut self.conn, self.alloc, actor, command);
-        told(&mut self.failures, found)
+        count_failure(&mut self.failures, found)
     }
 
     fn person_of(&mut self, number: u32) -> Result<Option<Person>, ShelfFault> {
         self.may_ask()?;
         let found = person_of(&mut self.conn, self.alloc, number);
-        told(&mut self.failures, found)
+        count_failure(&mut self.failures, found)
     }
 
     fn has_person(&mut self, number: u32) -> Result<bool, ShelfFault> {
         self.may_ask()?;
         let found = has_person(&mut self.conn, self.alloc, number);
-        told(&mut self.failures, found)
+        count_failure(&mut self.failures, found)
     }
 
     fn has_org(&mut self, number: u32) -> Result<bool, ShelfFault> {
         self.may_ask()?;
         let found = has_org(&mut self.conn, number);
-        told(&mut self.failures, found)
+        count_failure(&mut self.failures, found)
     }
 
     fn has_community(&mut self, number: u32) -> Result<bool, ShelfFault> {
         self.may_ask()?;
         let found = has_community(&mut self.conn, number);
-        told(&mut self.failures, found)
+        count_failure(&mut self.failures, found)
     }
 
     fn has_membership(&mut self, community: u32, org: u32) -> Result<bool, ShelfFault> {
         self.may_ask()?;
         let found = has_membership(&mut self.conn, community, org);
-        told(&mut self.failures, found)
+        count_failure(&mut self.failures, found)
     }
 
     fn has_group_member(&mut self, group: u32, org: u32) -> Result<bool, ShelfFault> {
         self.may_ask()?;
         let found = has_group_member(&mut self.conn, group, org);
-        told(&mut self.failures, found)
+        count_failure(&mut self.failures, found)
     }
 
     fn groups_joined(&mut self, org: u32) -> Result<GroupsJoined, ShelfFault> {
         self.may_ask()?;
         let found = groups_joined(&mut self.conn, self.alloc, org);
-        told(&mut self.failures, found)
+        count_failure(&mut self.failures, found)
     }
 
     fn communities_of(&mut self, org: u32) -> Result<Vec<u32>, ShelfFault> {
         self.may_ask()?;
         let found = communities_of(&mut self.conn, self.alloc, org);
-        told(&mut self.failures, found)
+        count_failure(&mut self.failures, found)
     }
 
     fn share_community(&mut self, org: u32, other: u32) -> Result<bool, ShelfFault> {
         self.may_ask()?;
         let found = share_community(&mut self.conn, self.alloc, org, other);
-        told(&mut self.failures, found)
+        count_failure(&mut self.failures, found)
     }
 
     fn are_connected(&mut self, org: u32, other: u32) -> Result<bool, ShelfFault> {
         self.may_ask()?;
         let found = are_connected(&mut self.conn, self.alloc, org, other);
-        told(&mut self.failures, found)
+        count_failure(&mut self.failures, found)
     }
 
     fn arranged(&mut self, source: u32, org: u32) -> Result<Option<Handling>, ShelfFault> {
         self.may_ask()?;
         let found = arranged(&mut self.conn, self.alloc, source, org);
-        told(&mut self.failures, found)
+        count_failure(&mut self.failures, found)
     }
 
     fn orgs_whose_client(&mut self, client: u32) -> Result<Vec<u32>, ShelfFault> {
         self.may_ask()?;
         let found = orgs_whose_client(&mut self.conn, self.alloc, client);
-        told(&mut self.failures, found)
+        count_failure(&mut self.failures, found)
     }
 
     fn incident_count(&mut self) -> Result<u32, ShelfFault> {
         self.may_ask()?;
         let found = incident_count(&mut self.conn);
-        told(&mut self.failures, found)
+        count_failure(&mut self.failures, found)
     }
 
     fn naming(&mut self, incident: u32) -> Result<Option<Naming>, ShelfFault> {
         self.may_ask()?;
         let found = find_naming(&mut self.conn, self.alloc, incident);
-        told(&mut self.failures, found)
+        count_failure(&mut self.failures, found)
     }
 
     fn stored_document(&mut self, incident: u32) -> Result<Option<Document>, ShelfFault> {
         self.may_ask()?;
         let found = find_document(&mut self.conn, self.alloc, incident);
-        told(&mut self.failures, found)
+        count_failure(&mut self.failures, found)
     }
 
     fn number_of(&mut self, source: u32, ident: &Text) -> Result<Option<u32>, ShelfFault> {
         self.may_ask()?;
         let found = number_of(&mut self.conn, self.alloc, source, ident);
-        told(&mut self.failures, found)
+        count_failure(&mut self.failures, found)
     }
 
     fn gates_of(&mut self, incident: u32) -> Result<Gates, ShelfFault> {
         self.may_ask()?;
         let found = find_gates(&mut self.conn, self.alloc, incident);
-        told(&mut self.failures, found)
+        count_failure(&mut self.failures, found)
     }
 
     fn recipients_of(&mut self, incident: u32) -> Result<Recipients, ShelfFault> {
         self.may_ask()?;
         let found = find_recipients(&mut self.conn, self.alloc, incident);
-        told(&mut self.failures, found)
+        count_failure(&mut self.failures, found)
     }
 
     fn permissions_of(&mut self, incident: u32) -> Result<Permissions, ShelfFault> {
         self.may_ask()?;
         let found = find_permissions(&mut self.conn, self.alloc, incident);
-        told(&mut self.failures, found)
+        count_failure(&mut self.failures, found)
     }
 }

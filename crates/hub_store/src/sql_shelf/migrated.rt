@@ -4,7 +4,7 @@ ghost use Rattle.std.specs.Prelude.{◌≡◌, false, IfOk, IfErr, IsTrue};
 
 use super::{OpenFault, SqlShelf, open_fault};
 use crate::migrate::{is_older, renew};
-use crate::told::fault_of;
+use crate::failures::fault_of;
 use crate::version::{NEWEST, version};
 use sqlite::{Alter, Connection};
 use std::alloc::Global;

@@ -11,7 +11,7 @@ use crate::find_groups::find_groups;
 use crate::find_met::find_met;
 use crate::find_person::find_person;
 use crate::list_entries::list_entries;
-use crate::told::told;
+use crate::failures::count_failure;
 use circle::directory::Person;
 use hub_core::{
     Edit, Entry, Facts, JoinedGroup, Request, Shelf, ShelfFault, facts_by, standing_by,
@@ -41,7 +41,7 @@ impl<S: Alter> Shelf for SqlShelf<S> {
     fn person_by_key(&mut self, key: &[u8; 32]) -> Result<Option<Person>, ShelfFault> {
         self.may_ask()?;
         let found = find_person(&mut self.conn, self.alloc, key);
-        told(&mut self.failures, found)
+        count_failure(&mut self.failures, found)
     }
 
     fn standing(
@@ -56,13 +56,13 @@ impl<S: Alter> Shelf for SqlShelf<S> {
     fn case(&mut self, incident: u32) -> Result<Option<Case>, ShelfFault> {
         self.may_ask()?;
         let found = find_case(&mut self.conn, self.alloc, incident);
-        told(&mut self.failures, found)
+        count_failure(&mut self.failures, found)
     }
 
     fn document(&mut self, incident: u32) -> Result<Option<Document>, ShelfFault> {
         self.may_ask()?;
         let found = find_document(&mut self.conn, self.alloc, incident);
-        told(&mut self.failures, found)
+        count_failure(&mut self.failures, found)
     }
 
     fn excerpt(
@@ -73,7 +73,7 @@ impl<S: Alter> Shelf for SqlShelf<S> {
     ) -> Result<Option<Excerpt>, ShelfFault> {
         self.may_ask()?;
         let found = find_excerpt(&mut self.conn, self.alloc, incident, case, standing);
-        told(&mut self.failures, found)
+        count_failure(&mut self.failures, found)
     }
 
     fn meets(
@@ -85,19 +85,19 @@ impl<S: Alter> Shelf for SqlShelf<S> {
     ) -> Result<bool, ShelfFault> {
         self.may_ask()?;
         let met = find_met(&mut self.conn, self.alloc, incident, case, standing, want);
-        told(&mut self.failures, met)
+        count_failure(&mut self.failures, met)
     }
 
     fn incidents_after(&mut self, number: u32, most: u32) -> Result<Vec<Entry>, ShelfFault> {
         self.may_ask()?;
         let found = list_entries(&mut self.conn, self.alloc, number, most);
-        told(&mut self.failures, found)
+        count_failure(&mut self.failures, found)
     }
 
     fn groups_of(&mut self, person: &Person) -> Result<Vec<JoinedGroup>, ShelfFault> {
         self.may_ask()?;
         let found = find_groups(&mut self.conn, self.alloc, person);
-        told(&mut self.failures, found)
+        count_failure(&mut self.failures, found)
     }
 
     fn facts(&mut self, actor: &Person, request: &Request) -> Result<Facts, ShelfFault> {
@@ -108,6 +108,6 @@ impl<S: Alter> Shelf for SqlShelf<S> {
     fn apply(&mut self, edits: &[Edit]) -> Result<(), ShelfFault> {
         self.may_ask()?;
         let made = apply(&mut self.conn, self.alloc, edits);
-        told(&mut self.failures, made)
+        count_failure(&mut self.failures, made)
     }
 }

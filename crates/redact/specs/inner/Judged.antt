@@ -109,14 +109,14 @@ visible_classes (plain i rest) = visible_classes rest
 visible_classes (class name place j kids rest) = (if j.visible then 1 else 0) + (visible_classes kids + visible_classes rest)
 
 -- what is withheld of the members at home, whose class stands at place q of the excerpt
-abbrev pub told : Surrounding → Tokens → ℕ → Judged → List Withheld
-told h q n none = []
+abbrev pub withheld_below : Surrounding → Tokens → ℕ → Judged → List Withheld
+withheld_below h q n none = []
 told h q n (plain i rest) = told h q (if keeps_plain h then left_with n i.place else left_before n i.place) rest
-told h q n (class name place j kids rest) =
+withheld_below h q n (class name place j kids rest) =
     let r = q ++ steps name (new_place n place) in
-    if j.visible then told (inside true) r 0 kids ++ told h q (left_with n place) rest
-    else (if is_end (cut (inside false) 0 kids) then (q, j.rule) ∷ told h q (left_before n place) rest
-    else (r, j.rule) ∷ (told (inside false) r 0 kids ++ told h q (left_with n place) rest))
+    if j.visible then withheld_below (inside true) r 0 kids ++ withheld_below h q (left_with n place) rest
+    else (if is_end (cut (inside false) 0 kids) then (q, j.rule) ∷ withheld_below h q (left_before n place) rest
+    else (r, j.rule) ∷ (withheld_below (inside false) r 0 kids ++ withheld_below h q (left_with n place) rest))
 
 -- the kept classes of the members of the class at p, whose place is q: the path of each beside its place
 abbrev pub places : Surrounding → Tokens → Tokens → ℕ → Judged → List (Tokens × Tokens)

@@ -9,7 +9,7 @@ use Rattle.policy.specs.declared.rule.Rule.{Rule}
 use Rattle.policy.specs.declared.standing.Standing.{Standing}
 use Rattle.policy.specs.declared.case.Case.{Case}
 use Rattle.redact.specs.Withheld.{Withheld, is_among, at_place, with_rule}
-use Rattle.redact.specs.inner.Judged.{Judgment, Judged, Surrounding, root, inside, keeps_plain, is_end, with_label, cut, visible_classes, told}
+use Rattle.redact.specs.inner.Judged.{Judgment, Judged, Surrounding, root, inside, keeps_plain, is_end, with_label, cut, visible_classes, withheld_below}
 use Rattle.redact.specs.inner.Tokens.{path_of}
 use Rattle.redact.specs.inner.Pass.{judgment_by, pass}
 use Rattle.redact.specs.declared.pass.Surrounding.{Surrounding as Place}
@@ -29,8 +29,8 @@ module _ (c : Case) (s : Standing) where
 
   abbrev pub class_told : Tokens → Tokens → Judgment → Judged → List Withheld
   class_told q r j kids =
-      if j.visible then told (inside true) r 0 kids
-      else (if is_end (cut (inside false) 0 kids) then (q, j.rule) ∷ [] else (r, j.rule) ∷ told (inside false) r 0 kids)
+      if j.visible then withheld_below (inside true) r 0 kids
+      else (if is_end (cut (inside false) 0 kids) then (q, j.rule) ∷ [] else (r, j.rule) ∷ withheld_below (inside false) r 0 kids)
 
   abbrev pub class_count : Judgment → Judged → ℕ
   class_count j kids = (if j.visible then 1 else 0) + visible_classes kids

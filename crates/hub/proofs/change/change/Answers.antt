@@ -1,6 +1,6 @@
 use Rattle.std.proofs.Common.{◌≡◌, Some, inl, inr, sym, ap, subst, ◌∙◌, arith}
 use Rattle.std.proofs.lemmas.Bool.{true≢false}
-use Rattle.hub_core.specs.Edits.{after}
+use Rattle.hub_core.specs.Edits.{with_edits}
 use Rattle.hub_core.specs.Sound.{IsSound}
 use Rattle.hub_core.specs.Refusals.{state_after}
 use Rattle.hub_core.proofs.Kept.{stays_sound}
@@ -21,10 +21,10 @@ returns-in-Ok-apply-clause-step g c = λ clean s has sound org changes.
     let mid : g.Sh.Shelf.doubts c.facts.new.self ≡ 0 = omega (arith, made.doubt) in
     let here = read.kept.content mid s has in
     let told = read.value mid s has in
-    let same : after es s ≡ state_after s p r = judged.made s sound told in
+    let same : with_edits es s ≡ state_after s p r = judged.made s sound told in
     let edits = c.as_slice-2.ensures.value in
-    let done : after c.as_slice-2.result.now s ≡ state_after s p r = ap (λ xs. after xs s) edits ∙ same in
-    let whole : IsSound (after c.as_slice-2.result.now s) = subst IsSound (sym done) (stays_sound s p r sound org) in
+    let done : with_edits c.as_slice-2.result.now s ≡ state_after s p r = ap (λ xs. with_edits xs s) edits ∙ same in
+    let whole : IsSound (with_edits c.as_slice-2.result.now s) = subst IsSound (sym done) (stays_sound s p r sound org) in
     record {
       settled = (
         changed_reply s now p r f es c.in_ok-reply.reply sound changes told judged.edits (judged.allowed s told) (λ fits. c.in_ok-reply.ensures.reply fits ∙ ap (made_reply f r) c.as_slice.ensures.value),
@@ -47,9 +47,9 @@ returns-clause-step g c = λ clean s has sound org changes.
     let mid : g.Sh.Shelf.doubts c.facts.new.self ≡ 0 = omega (arith, made.doubt) in
     let here = read.kept.content mid s has in
     let told = read.value mid s has in
-    let same : after es s ≡ state_after s p r = judged.made s sound told in
-    let done : after c.as_slice-2.result.now s ≡ state_after s p r = ap (λ xs. after xs s) c.as_slice-2.ensures.value ∙ same in
-    let whole : IsSound (after c.as_slice-2.result.now s) = subst IsSound (sym done) (stays_sound s p r sound org) in
+    let same : with_edits es s ≡ state_after s p r = judged.made s sound told in
+    let done : with_edits c.as_slice-2.result.now s ≡ state_after s p r = ap (λ xs. with_edits xs s) c.as_slice-2.ensures.value ∙ same in
+    let whole : IsSound (with_edits c.as_slice-2.result.now s) = subst IsSound (sym done) (stays_sound s p r sound org) in
     record {
       settled = made.none clean s here;
       durable = tt;

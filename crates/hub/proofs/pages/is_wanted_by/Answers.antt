@@ -1,5 +1,5 @@
 use Rattle.std.proofs.Common.{◌≡◌, Bool, IfOk, sym, subst, ◌∙◌, arith}
-use Rattle.hub.specs.inner.Wanted.{is_told}
+use Rattle.hub.specs.inner.PageFilter.{is_told}
 use Rattle.hub_core.specs.State.{incident_of}
 use Rattle.hub_core.specs.Reads.{case_for}
 use Rattle.hub_core.specs.declared.state.Incident.{Incident}

@@ -2,7 +2,7 @@ use Rattle.std.proofs.Common.{◌≡◌, ◌≤◌, ◌++◌, List, [], Some, le
 use Rattle.hub_core.specs.Reads.{entries_after}
 use Rattle.hub_core.specs.declared.reply.Entry.{Entry}
 use Rattle.hub.specs.declared.TheConstants.{PAGE_LIMIT}
-use Rattle.hub.specs.inner.Wanted.{is_wanted, is_wanted_at, number_at_end}
+use Rattle.hub.specs.inner.PageFilter.{is_wanted, is_wanted_at, number_at_end}
 use Rattle.hub.proofs.Keeping.{kept_on, kept_read}
 use Rattle.hub.proofs.Paging.{take_full, no_end, passing_above, page_on, page_end, none_read}
 use Rattle.hub.proofs.pages.page.Goals as goal

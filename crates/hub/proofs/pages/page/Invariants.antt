@@ -3,7 +3,7 @@ use Rattle.hub_core.specs.State.{State}
 use Rattle.hub_core.specs.Sound.{IsSound}
 use Rattle.hub.specs.declared.TheConstants.{PAGE_LIMIT}
 use Rattle.hub.specs.Replies.{page_of}
-use Rattle.hub.specs.inner.Wanted.{is_wanted}
+use Rattle.hub.specs.inner.PageFilter.{is_wanted}
 use Rattle.hub_core.specs.Shelves.{IsKept}
 use Rattle.hub.specs.inner.Asking.{IsThere}
 use Rattle.hub.proofs.Paging.{passing_above}

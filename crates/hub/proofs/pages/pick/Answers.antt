@@ -4,7 +4,7 @@ use Rattle.std.proofs.lemmas.Bool.{cond-true}
 use Rattle.std.proofs.lemmas.List.{length-append}
 use Rattle.hub_core.specs.declared.reply.Entry.{Entry}
 use Rattle.hub.specs.declared.TheConstants.{PAGE_LIMIT}
-use Rattle.hub.specs.inner.Wanted.{is_wanted_at}
+use Rattle.hub.specs.inner.PageFilter.{is_wanted_at}
 use Rattle.hub.proofs.Keeping.{kept_on}
 use Rattle.hub.proofs.Paging.{take_full, picked, passed_over, no_more}
 use Rattle.hub.proofs.pages.pick.Goals as goal

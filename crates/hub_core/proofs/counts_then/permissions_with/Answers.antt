@@ -2,7 +2,7 @@ use Rattle.std.proofs.Common.{◌+◌, ◌-◌, ◌^◌, ◌∙◌, [], sym, ap}
 use Rattle.std.specs.Prelude.{min}
 use Rattle.std.specs.Option.{option_map_or}
 use Rattle.hub_core.specs.Aftermath.{put_permission}
-use Rattle.hub_core.specs.Edits.{after}
+use Rattle.hub_core.specs.Edits.{with_edits}
 use Rattle.hub_core.specs.State.{permissions_of}
 use Rattle.hub_core.proofs.Bounded.{permissions_told, permissions_told_with}
 use Rattle.hub_core.proofs.counts_then.permissions_with.Goals as goal
@@ -12,11 +12,11 @@ returns-in-None c = λ s sound is.
     let r = c.args.asked.now in
     c.capped.ensures
     ∙ (permissions_told s r.incident _ sound is
-    ∙ ap (λ o. permissions_of r.incident (after (option_map_or (λ p. put_permission (record { incident = r.incident; path = p; grantee = r.grantee }) r.until) o []) s).permissions) (sym c.in-None.is ∙ c.in_ok-path_of.ensures))
+    ∙ ap (λ o. permissions_of r.incident (with_edits (option_map_or (λ p. put_permission (record { incident = r.incident; path = p; grantee = r.grantee }) r.until) o []) s).permissions) (sym c.in-None.is ∙ c.in_ok-path_of.ensures))
 
 pub returns-in-Some : goal.returns-in-Some
 returns-in-Some c = λ s sound is.
     let r = c.args.asked.now in
     let capped = c.capped-in-Some.ensures ∙ ap (λ m. min m 4294967295) c.count_permissions_beside-beside.ensures in
     permissions_told_with s (record { incident = r.incident; path = c.in-Some.path; grantee = r.grantee }) r.until _ _ sound is (c.saturating_add.ensures ∙ ap (λ m. min (m + 1) (2 ^ 32 - 1)) capped)
-    ∙ ap (λ o. permissions_of r.incident (after (option_map_or (λ p. put_permission (record { incident = r.incident; path = p; grantee = r.grantee }) r.until) o []) s).permissions) (sym c.in-Some.is ∙ c.in_ok-path_of.ensures)
+    ∙ ap (λ o. permissions_of r.incident (with_edits (option_map_or (λ p. put_permission (record { incident = r.incident; path = p; grantee = r.grantee }) r.until) o []) s).permissions) (sym c.in-Some.is ∙ c.in_ok-path_of.ensures)

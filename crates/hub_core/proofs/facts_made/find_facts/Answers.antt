@@ -4,7 +4,7 @@ use Rattle.circle.specs.declared.command.CircleFacts.{CircleFacts}
 use Rattle.circle.specs.declared.directory.Person.{Person}
 use Rattle.hub_core.specs.Documents.{Lines}
 use Rattle.hub_core.specs.Facts.{circle_facts_of, facts_of, posted_of}
-use Rattle.hub_core.specs.Requests.{incident_asked, known, known_of, looked_up}
+use Rattle.hub_core.specs.Requests.{incident_asked, incident_facts, known_of, looked_up}
 use Rattle.hub_core.specs.inner.Shared.{counts_in}
 use Rattle.hub_core.specs.State.{State}
 use Rattle.hub_core.specs.declared.counts_then.Counts.{Counts}
@@ -13,7 +13,7 @@ use Rattle.hub_core.specs.declared.request.Request.{Request}
 use Rattle.hub_core.specs.declared.state.Incident.{Incident}
 use Rattle.hub_core.proofs.facts_made.find_facts.Goals as goal
 
-is_there : (o : Option Incident) → is_some (option_map known o) ≡ is_some o
+is_there : (o : Option Incident) → is_some (option_map incident_facts o) ≡ is_some o
 is_there None = refl
 is_there (Some i) = refl
 
@@ -32,7 +32,7 @@ returns-clause-value g c = λ clean s has shared.
     let has-2 = c.in_ok-incident.ensures.kept.content second s has-1 in
     let has-3 = c.in_ok-document.ensures.kept.content third s has-2 in
     let asked = c.incident_asked-asked.ensures in
-    let incident = c.in_ok-incident.ensures.value second s has-1 ∙ ap (λ n. option_map known (looked_up s n)) asked in
+    let incident = c.in_ok-incident.ensures.value second s has-1 ∙ ap (λ n. option_map incident_facts (looked_up s n)) asked in
     let there = c.is_some.ensures ∙ (ap is_some incident ∙ is_there _) in
     told s c.args.actor.now c.args.request.now _ _ _ _ _ (c.in_ok-circle.ensures.value first s has shared) incident
     (c.in_ok-document.ensures.value third s has-2 ∙ ap (λ n. option_map (λ (i : Incident). i.document) (looked_up s n)) asked)

@@ -2,7 +2,7 @@ use Rattle.std.proofs.Common.{◌≡◌, take, arith, rules, sym, subst, Ok}
 use Rattle.std.proofs.lemmas.Grind.{common_steps}
 use Rattle.sqlite.specs.Held.{state}
 use Rattle.hub_core.specs.State.{empty}
-use Rattle.hub_core.specs.Edits.{after}
+use Rattle.hub_core.specs.Edits.{with_edits}
 use Rattle.hub_store.specs.Means.{Holds}
 use Rattle.hub_store.specs.inner.Makes.{Makes}
 use Rattle.hub_store.proofs.Runs.{after_more}
@@ -15,17 +15,17 @@ loop-edit-preserved g c = record {
   made = λ s.
       let more = after_more c.args.edits.now c.loop-edit.edit-index c.edit-item.result s c.loop-edit-test.true c.edit-item.is in
       subst (λ t. Makes {T = Unit {0}} (state g.S.Store c.args.tx.now.conn.now) (state g.S.Store c.make_edit.new.tx.conn.now) (λ db. Holds db s) (λ db. Holds db t) (Ok tt)) (sym more)
-      (makes_then _ _ _ _ _ _ tt _ (c.loop-edit.invariant.made s) (c.in_ok-make_edit.ensures.made (after (take c.loop-edit.edit-index c.args.edits.now) s)));
+      (makes_then _ _ _ _ _ _ tt _ (c.loop-edit.invariant.made s) (c.in_ok-make_edit.ensures.made (with_edits (take c.loop-edit.edit-index c.args.edits.now) s)));
 }
 
 pub returns-in_err-make_edit-clause-goes : goal.returns-in_err-make_edit-clause-goes
 returns-in_err-make_edit-clause-goes g c =
-    let whole = makes_then _ _ _ _ _ _ tt _ (c.loop-edit.invariant.made empty) (c.in_err-make_edit.ensures.made (after (take c.loop-edit.edit-index c.args.edits.now) empty)) in
+    let whole = makes_then _ _ _ _ _ _ tt _ (c.loop-edit.invariant.made empty) (c.in_err-make_edit.ensures.made (with_edits (take c.loop-edit.edit-index c.args.edits.now) empty)) in
     record { kept = whole.goes.kept; inside = λ _ inside. search rules; survives = whole.goes.survives }
 
 pub returns-in_err-make_edit-clause-made : goal.returns-in_err-make_edit-clause-made
 returns-in_err-make_edit-clause-made g c s =
-    let whole = makes_then _ _ _ _ _ _ tt _ (c.loop-edit.invariant.made s) (c.in_err-make_edit.ensures.made (after (take c.loop-edit.edit-index c.args.edits.now) s)) in
+    let whole = makes_then _ _ _ _ _ _ tt _ (c.loop-edit.invariant.made s) (c.in_err-make_edit.ensures.made (with_edits (take c.loop-edit.edit-index c.args.edits.now) s)) in
     record { goes = record { kept = whole.goes.kept; inside = λ _ inside. search rules; survives = whole.goes.survives }; made = λ _ _ before. search rules }
 
 pub returns-clause-goes : goal.returns-clause-goes

@@ -1,7 +1,7 @@
 use Rattle.std.proofs.Common.{◌≡◌, take, Ok}
 use Rattle.sqlite.specs.Held.{state}
 use Rattle.hub_core.specs.State.{State}
-use Rattle.hub_core.specs.Edits.{after}
+use Rattle.hub_core.specs.Edits.{with_edits}
 use Rattle.hub_store.specs.Means.{Holds}
 use Rattle.hub_store.specs.inner.Makes.{Makes}
 use Rattle.hub_store.proofs.apply.make_all.Given as goal
@@ -9,5 +9,5 @@ use Rattle.hub_store.proofs.apply.make_all.Given as goal
 abbrev pub invariant-loop-edit : goal.invariant-loop-edit
 invariant-loop-edit g l = record {
   same_reference : l.tx.conn.ghost_name ≡ l.fn.tx.conn.ghost_name;
-  made : (s : State) → Makes {T = Unit {0}} (state g.S.Store l.fn.tx.conn.now) (state g.S.Store l.tx.conn.now) (λ db. Holds db s) (λ db. Holds db (after (take l.edit-index l.edits) s)) (Ok tt);
+  made : (s : State) → Makes {T = Unit {0}} (state g.S.Store l.fn.tx.conn.now) (state g.S.Store l.tx.conn.now) (λ db. Holds db s) (λ db. Holds db (with_edits (take l.edit-index l.edits) s)) (Ok tt);
 }

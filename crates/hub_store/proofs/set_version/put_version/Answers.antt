@@ -1,5 +1,5 @@
 use Rattle.hub_store.specs.Parts.{HoldsParts}
-use Rattle.hub_store.specs.Layout.{tables_2, unversioned_2, renamed_3, unversioned_3}
+use Rattle.hub_store.specs.Layout.{tables_2, unversioned_2, renumbered_3, unversioned_3}
 use Rattle.hub_store.proofs.Steps.{made_by, fails_by}
 use Rattle.hub_store.proofs.Texts.{put_version}
 use Rattle.hub_store.proofs.VersionCauses.{put_fails}
@@ -18,7 +18,7 @@ returns-clause-cause g c s items incidents =
 
 pub returns-clause-made_3 : goal.returns-clause-made_3
 returns-clause-made_3 g c s =
-    made_by g.S.Store put_version _ _ _ (HoldsParts (unversioned_3 s)) (HoldsParts (renamed_3 c.args.version s)) _ c.run.ensures.goes (λ clean inside. rw c.params-to_sql.ensures at (c.run.ensures.ran clean inside)) (λ mid count h held. puts_version_3 mid _ c.args.version s count h held)
+    made_by g.S.Store put_version _ _ _ (HoldsParts (unversioned_3 s)) (HoldsParts (renumbered_3 c.args.version s)) _ c.run.ensures.goes (λ clean inside. rw c.params-to_sql.ensures at (c.run.ensures.ran clean inside)) (λ mid count h held. puts_version_3 mid _ c.args.version s count h held)
 
 pub returns-clause-cause_3 : goal.returns-clause-cause_3
 returns-clause-cause_3 g c s =

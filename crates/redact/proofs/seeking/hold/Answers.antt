@@ -4,7 +4,7 @@ use Rattle.redact.specs.declared.want.Want.{Want}
 use Rattle.policy.specs.declared.standing.Standing.{Standing}
 use Rattle.redact.specs.declared.seeking.Sight.{Sight}
 use Rattle.redact.specs.declared.seeking.Open.{Open}
-use Rattle.redact.specs.Probed.{holding, innermost_holding}
+use Rattle.redact.specs.inner.Seeking.{holding, innermost_holding}
 use Rattle.redact.proofs.seeking.hold.Goals as goal
 
 held-at_end : (k : Sight) (s : Standing) (w : Want) (l : Line) (x : Open) (xs : List Open) (d : Open) → slice_set (x ∷ xs) (length xs) (holding k s w l (slice_index_or (x ∷ xs) (length xs) d)) ≡ innermost_holding k s w l (x ∷ xs)

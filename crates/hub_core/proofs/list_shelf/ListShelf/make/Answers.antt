@@ -2,7 +2,7 @@ use Rattle.std.proofs.Common.{rules, ◌≡◌, ◌∙◌, sym, ap}
 use Rattle.circle.specs.Directory.{Directory}
 use Rattle.circle.specs.Aftermath.{edited_rows}
 use Rattle.hub_core.specs.State.{State}
-use Rattle.hub_core.specs.Edits.{after}
+use Rattle.hub_core.specs.Edits.{with_edits}
 use Rattle.hub_core.specs.inner.Changes.{directory_edits, row_edits}
 use Rattle.hub_core.specs.Lists.{with_directory}
 use Rattle.hub_core.proofs.MadeApart.{made_apart}
@@ -21,7 +21,7 @@ returns-in_err-apply-clause-none c =
 pub returns-clause-made : goal.returns-clause-made
 returns-clause-made c =
     let d : Directory = c.self.inside.directory in
-    let rows = c.make_all.ensures.made d ∙ (ap (λ l. after l (with_directory d c.reserve.new.self)) c.in_ok-changes.ensures.rows ∙ ap (after (row_edits c.args.edits.now)) (c.reserve.ensures.same d)) in
+    let rows = c.make_all.ensures.made d ∙ (ap (λ l. with_edits l (with_directory d c.reserve.new.self)) c.in_ok-changes.ensures.rows ∙ ap (with_edits (row_edits c.args.edits.now)) (c.reserve.ensures.same d)) in
     ap (λ e. with_directory e c.make_all.new.self) (c.in_ok-apply.ensures.made ∙ ap (λ l. edited_rows l d) c.in_ok-changes.ensures.directory)
     ∙ (ap (λ (t : State). record t { directory = edited_rows (directory_edits c.args.edits.now) d }) rows
-    ∙ (sym (made_apart c.args.edits.now (with_directory d c.self.inside.lists)) ∙ ap (after c.args.edits.now) c.self.view_is))
+    ∙ (sym (made_apart c.args.edits.now (with_directory d c.self.inside.lists)) ∙ ap (with_edits c.args.edits.now) c.self.view_is))

@@ -1,5 +1,6 @@
 use Rattle.std.proofs.Common.{rules, ◌≡◌, None, Ok, sym, subst}
-use Rattle.redact.specs.Probed.{ProbeState, ProbesLine, IsSure, IsKnown}
+use Rattle.redact.specs.Probed.{ProbeState, ProbesLine, IsSure}
+use Rattle.redact.specs.inner.Seeking.{IsKnown}
 use Rattle.redact.proofs.Sure.{takes-sure, state, probes}
 use Rattle.redact.proofs.probe.Probe.feed.Goals as goal
 

@@ -16,7 +16,7 @@ use Rattle.iodef_tree.proofs.Views.{forest-made}
 use Rattle.policy.specs.Ahead.{ahead_of}
 use Rattle.marking.specs.Label.{marking_of}
 use Rattle.policy.specs.Inherited.{carried, is_seen, hides}
-use Rattle.redact.specs.inner.Judged.{inside, is_end, cut, told}
+use Rattle.redact.specs.inner.Judged.{inside, is_end, cut, withheld_below}
 use Rattle.redact.specs.inner.Pass.{pass}
 use Rattle.redact.specs.inner.Tokens.{token_of, path_of}
 use Rattle.redact.specs.inner.Left.{home_of, left_at, told_at, count_at, left_member, told_member, count_member, left_members, told_members, count_members, left_items, told_items, count_items, Goes, Leaves}
@@ -25,7 +25,7 @@ use Rattle.redact.specs.declared.trail.Token.{Token}
 use Rattle.redact.proofs.Fronts.{Outcome, of_object}
 use Rattle.redact.proofs.Filling.{object-empty, hidden-left, hidden-filled, hidden-none}
 use Rattle.redact.proofs.Entering.{class-left, class-goes}
-use Rattle.redact.proofs.Going.{goes-step, told-seen, told-hidden, pushed, pushed-left, pushed-all, pushed-none, length-pushed}
+use Rattle.redact.proofs.Going.{goes-step, withheld_below-seen, withheld_below-hidden, pushed, pushed-left, pushed-all, pushed-none, length-pushed}
 use Rattle.redact.proofs.reader.Reader.+cut.Goals as goal
 use Rattle.redact.proofs.reader.Reader.+cut.Goals.{cut_items-in-Some+in_ok-push, cut_items-in_default, cut-in-Some+in_ok-push_member, cut-in_default}
 

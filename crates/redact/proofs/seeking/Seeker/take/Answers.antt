@@ -1,7 +1,7 @@
 use Rattle.std.proofs.Common.{rules, ◌≡◌, true, false, refl, sym, ◌∙◌, ap}
 use Rattle.std.specs.List.{list_any}
 use Rattle.iodef_tree.specs.Outline.{back}
-use Rattle.redact.specs.Probed.{is_settled}
+use Rattle.redact.specs.inner.Seeking.{is_settled}
 use Rattle.redact.proofs.Taking.{more-outline}
 use Rattle.redact.proofs.Sure.{takes-met, takes-more}
 use Rattle.redact.proofs.seeking.Seeker.take.Goals as goal

@@ -2,4 +2,4 @@ use Rattle.hub_store.proofs.Telling.{read_keeps}
 use Rattle.hub_store.proofs.sql_shelf.shelf.SqlShelfShelf.document.Goals as goal
 
 pub returns-clause-kept : goal.returns-clause-kept
-returns-clause-kept g c = read_keeps g.S.Store c.self.inside.conn c.self.inside.failures _ _ _ _ _ c.self.view_is c.find_document-found.ensures.answers c.told.ensures.cause
+returns-clause-kept g c = read_keeps g.S.Store c.self.inside.conn c.self.inside.failures _ _ _ _ _ c.self.view_is c.find_document-found.ensures.answers c.count_failure.ensures.cause

@@ -16,10 +16,10 @@ use Rattle.hub_core.specs.Reads.{case_for}
 use Rattle.hub_core.specs.declared.state.Incident.{Incident}
 use Rattle.hub_core.specs.declared.reply.Entry.{Entry}
 use Rattle.hub.specs.Told.{standing_at}
-use Rattle.hub.specs.declared.wanted.Wanted.{Wanted}
+use Rattle.hub.specs.declared.page_filter.PageFilter.{PageFilter}
 
 -- whether an incident to which a person stands so may be on the page
-abbrev pub admits : Wanted → Standing → Bool
+abbrev pub admits : PageFilter → Standing → Bool
 admits w st = not w.addressed || (st.person || st.addressed)
 
 -- the gate stands at the root and refuses the reader
@@ -36,15 +36,15 @@ pub record HasSameWords (copy want : Want) : Type 0 where
   pub class : option_map string_bytes copy.class ≡ option_map string_bytes want.class
 
 -- whether a page lists what a person is told of so
-abbrev pub is_told : Wanted → Lines → Case → Standing → Bool
+abbrev pub is_told : PageFilter → Lines → Case → Standing → Bool
 is_told w doc c st = admits w st && meets w.want.now doc c st
 
 -- whether a page lists the incident
-abbrev pub is_wanted : State → ℤ → Person → Wanted → Incident → Bool
+abbrev pub is_wanted : State → ℤ → Person → PageFilter → Incident → Bool
 is_wanted s now p w i = is_told w i.document (case_for s i) (standing_at s now p i)
 
 -- whether it lists the incident of this number
-abbrev pub is_wanted_at : State → ℤ → Person → Wanted → ℕ → Bool
+abbrev pub is_wanted_at : State → ℤ → Person → PageFilter → ℕ → Bool
 is_wanted_at s now p w n = option_map_or (is_wanted s now p w) (incident_of n s) false
 
 -- the number of the last entry

@@ -1,6 +1,6 @@
 use Rattle.std.proofs.Common.{sym, ◌∙◌}
 use Rattle.hub.proofs.Served.{served_reading}
-use Rattle.hub.proofs.serving.served.Goals as goal
+use Rattle.hub.proofs.serving.answer_person.Goals as goal
 
 pub returns-in-Some-clause-step : goal.returns-in-Some-clause-step
 returns-in-Some-clause-step g c = λ clean s has sound there org.

@@ -3,7 +3,7 @@ use Rattle.std.specs.Ordering.{is_lt, is_eq}
 use Rattle.std.specs.List.Sorted.{IsPartitionPoint, IsPartitionedBy}
 use Rattle.std.proofs.lemmas.List.Sorted.{IsPartitionPoint-from_clause}
 use Rattle.hub_core.proofs.Ranked.{alike_stretch}
-use Rattle.hub_core.proofs.in_order.stretch_alike.Goals as goal
+use Rattle.hub_core.proofs.sorted_rows.stretch_alike.Goals as goal
 
 pub returns : goal.returns
 returns g c =

@@ -4,7 +4,7 @@ ghost use Rattle.std.specs.Prelude.{◌≡◌};
 ghost use Rattle.std.specs.List.{list_any};
 ghost use Rattle.policy.specs.Laws.{refuses_on as is_refusing_on};
 ghost use Rattle.redact.specs.Sifted.{way};
-ghost use Rattle.redact.specs.Probed.{opens as is_opening, some_opens as some_is_opening, is_opened as is_opened_at};
+ghost use Rattle.redact.specs.inner.Seeking.{permits as is_permitting, some_permits as is_some_permitting, is_permitted as is_permitted_at};
 
 use crate::refusing::is_at;
 use crate::way::Step;
@@ -29,27 +29,27 @@ fn is_refused(case: &Case, standing: &Standing, path: &Path) -> bool
 }
 
 /// Whether the permission holds for the reader, and no gate where it stands or above refuses the reader.
-fn opens(case: &Case, standing: &Standing, permission: &Permission) -> bool
-    ensures { result ≡ is_opening case.now standing.entry.now permission.now }
+fn permits(case: &Case, standing: &Standing, permission: &Permission) -> bool
+    ensures { result ≡ is_permitting case.now standing.entry.now permission.now }
 {
     holds_for(standing, permission) && !is_refused(case, standing, &permission.path)
 }
 
 /// Whether there is such a permission.
-pub(crate) fn some_opens(case: &Case, standing: &Standing) -> bool
-    ensures { result ≡ some_is_opening case.now standing.entry.now }
+pub(crate) fn some_permits(case: &Case, standing: &Standing) -> bool
+    ensures { result ≡ is_some_permitting case.now standing.entry.now }
 {
     case.permissions
         .as_slice()
         .iter()
-        .any(|permission| opens(case, standing, permission))
+        .any(|permission| permits(case, standing, permission))
 }
 
 /// Whether one stands where the steps lead. The path is looked at first: it mostly differs.
-pub(crate) fn is_opened(case: &Case, standing: &Standing, steps: &[Step]) -> bool
-    ensures { result ≡ is_opened_at case.now standing.entry.now (way steps.now) }
+pub(crate) fn is_permitted(case: &Case, standing: &Standing, steps: &[Step]) -> bool
+    ensures { result ≡ is_permitted_at case.now standing.entry.now (way steps.now) }
 {
     case.permissions.as_slice().iter().any(|permission| {
-        is_at(permission.path.tokens(), steps) && opens(case, standing, permission)
+        is_at(permission.path.tokens(), steps) && permits(case, standing, permission)
     })
 }

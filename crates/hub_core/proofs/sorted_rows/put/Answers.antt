@@ -6,8 +6,8 @@ use Rattle.std.proofs.lemmas.List.Sorted.{IsPartitionPoint-from_clause}
 use Rattle.circle.specs.Ordered.{put_by}
 use Rattle.hub_core.specs.InOrder.{IsInOrder}
 use Rattle.hub_core.proofs.Ranked.{partitioned, above_back, put_inserted, put_in_order}
-use Rattle.hub_core.proofs.in_order.put.Given as given
-use Rattle.hub_core.proofs.in_order.put.Goals as goal
+use Rattle.hub_core.proofs.sorted_rows.put.Given as given
+use Rattle.hub_core.proofs.sorted_rows.put.Goals as goal
 
 point : (g : given.Over) (c : goal.Else-is_err g) → IsPartitionPoint (λ y. not (is_lt (g.T.Row.order c.args.row y)) ≡ true) (λ y. not (is_lt (g.T.Row.order c.args.row y)) ≡ false) c.args.rows.now.items c.partition_point-at.result
 point g c =

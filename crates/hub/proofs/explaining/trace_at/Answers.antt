@@ -2,7 +2,7 @@ use Rattle.std.proofs.Common.{◌≡◌, IfOk, Some, string_bytes, ap, subst, �
 use Rattle.explain.specs.Explanation.{explanation}
 use Rattle.explain.specs.Lines.{trace_text}
 use Rattle.hub.proofs.Explained.{text_of_explained}
-use Rattle.hub.proofs.explaining.explained.Goals as goal
+use Rattle.hub.proofs.explaining.trace_at.Goals as goal
 
 pub returns-in_ok-text-in-Ok-clause-told : goal.returns-in_ok-text-in-Ok-clause-told
 returns-in_ok-text-in-Ok-clause-told c =

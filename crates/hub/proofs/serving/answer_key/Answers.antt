@@ -8,7 +8,7 @@ use Rattle.hub.specs.Replies.{caller_of, reply_by}
 use Rattle.hub.specs.Machine.{left_by}
 use Rattle.hub.specs.Serving.{IsServed, due_to}
 use Rattle.hub.proofs.Served.{caller_there, caller_org, served_on}
-use Rattle.hub.proofs.serving.answered.Goals as goal
+use Rattle.hub.proofs.serving.answer_key.Goals as goal
 
 pub returns-in-Some-clause-step : goal.returns-in-Some-clause-step
 returns-in-Some-clause-step g c = λ clean s has sound.
