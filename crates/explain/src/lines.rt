@@ -6,7 +6,7 @@ ghost use Rattle.json.specs.Print.{quoted as in_quotes};
 ghost use Rattle.explain.specs.Explanation.{explanation};
 ghost use Rattle.explain.specs.Lines.{space, newline, path_text, result_text, side_text, rule_in, verdict_line, path_line, community_line, gate_line, site_line, clearance_line, grantee_text, end_text, permission_line, permission_lines, trace_text};
 
-use crate::listing::{PrintedPermission, sort_permissions, kind_name, number_of};
+use crate::listing::{PrintedPermission, kind_name, number_of, sort_permissions};
 use crate::trace::Trace;
 use iodef_tree::{Path, push_quoted};
 use marking::Handling;

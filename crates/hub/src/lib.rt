@@ -32,11 +32,11 @@ mod fault;
 mod hub;
 mod key;
 pub mod laws;
+mod page_filter;
 mod pages;
 mod reading;
 mod serving;
 mod view;
-mod page_filter;
 
 pub use hub::Hub;
 pub use key::Key;

@@ -18,9 +18,9 @@ ghost use Rattle.hub.specs.inner.Asking.{IsThere};
 use crate::asking::Asker;
 use crate::explaining::explain_to;
 use crate::fault::{ample, refuse};
+use crate::page_filter::PageFilter;
 use crate::pages::page;
 use crate::view::view;
-use crate::page_filter::PageFilter;
 use circle::text::Text;
 use hub_core::{
     Code, Entries, JoinedGroups, Refusal, Reply, Request, Search, Shelf, ShelfFault, judge,

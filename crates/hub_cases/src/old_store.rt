@@ -219,7 +219,10 @@ pub fn all(alloc: Global) -> Result<Vec<String>, AllocError> {
     printed(alloc, unread, &UNREAD_TURNS, &mut all)?;
     let second = behind(behind(begun(alloc)?, &TABLES_2), &IN_LINES);
     printed(alloc, behind(second, &ROWS_2), &TURNS_2, &mut all)?;
-    let third = behind(behind(behind(begun(alloc)?, &TABLES_2), &TABLES_3), &IN_LINES);
+    let third = behind(
+        behind(behind(begun(alloc)?, &TABLES_2), &TABLES_3),
+        &IN_LINES,
+    );
     printed(alloc, behind(third, &ROWS_3), &TURNS_3, &mut all)?;
     Ok(all)
 }

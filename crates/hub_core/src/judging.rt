@@ -56,7 +56,10 @@ pub fn judge(
         Request::Circle(command) => judge_command(alloc, actor, &facts.circle, command),
         Request::Post(asked) => stop_as_refusal(alloc, post(alloc, actor, facts, asked)),
         Request::Replace(asked) => stop_as_refusal(alloc, replace(alloc, actor, facts, asked)),
-        Request::Redistribute(asked) => stop_as_refusal(alloc, redistribute(alloc, actor, facts, asked)),
+        Request::Redistribute(asked) => stop_as_refusal(
+            alloc,
+            redistribute(alloc, actor, facts, asked),
+        ),
         Request::Address(asked) => stop_as_refusal(alloc, address(alloc, actor, facts, asked)),
         Request::Unaddress(asked) => stop_as_refusal(alloc, unaddress(alloc, actor, facts, asked)),
         Request::Grant(asked) => stop_as_refusal(alloc, grant(alloc, actor, facts, asked)),

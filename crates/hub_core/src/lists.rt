@@ -8,8 +8,8 @@ ghost use Rattle.hub_core.specs.Lists.{AreInOrder, HasRoom, IsMade, with_directo
 ghost use Rattle.hub_core.specs.declared.edit.Edit.TheVariants as edit;
 
 use crate::change::RowChange;
-use crate::sorted_rows::{put, take, take_all};
 use crate::rows::{Indexed, Named, PlacedGate, PlacedPermission};
+use crate::sorted_rows::{put, take, take_all};
 use crate::state::{Incident, Recipient};
 use std::alloc::{AllocError, Global};
 

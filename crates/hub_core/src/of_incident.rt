@@ -12,11 +12,11 @@ ghost use Rattle.hub_core.specs.declared.state.Recipient.{Recipient};
 ghost use Rattle.hub_core.specs.Reads.{its_gates, its_permissions, its_recipients, entries_after, entry_of, incidents_above};
 
 use crate::copies::{copy_of_gate, copy_of_permission};
-use crate::sorted_rows::{rows_alike, rows_of};
 use crate::lists::Lists;
 use crate::recipients::Recipients;
 use crate::reply::Entry;
 use crate::rows::{Named, PlacedGate, PlacedPermission};
+use crate::sorted_rows::{rows_alike, rows_of};
 use crate::state::{Incident, Recipient};
 use policy::{Gates, Permissions};
 use std::alloc::{AllocError, Global};

@@ -5,9 +5,9 @@ ghost use Rattle.circle.specs.Ordered.{pair_cmp};
 ghost use Rattle.hub_core.specs.State.{grantee_key as key_of_grantee};
 ghost use Rattle.hub_core.specs.Orders.{named};
 
-use crate::sorted_rows::Row;
 use crate::request::Target;
 use crate::row_keys::{grantee_key, target_key};
+use crate::sorted_rows::Row;
 use crate::state::{Gate, Incident, Permission, Recipient};
 use circle::text::Text;
 use policy::Grantee;

@@ -17,7 +17,10 @@ pub(crate) fn fault_of(error: Error) -> ShelfFault
 }
 
 /// Tells want of memory from a failure of the store, which is counted.
-pub(crate) fn count_failure<T: Drop>(failures: &mut u64, outcome: Result<T, Error>) -> Result<T, ShelfFault>
+pub(crate) fn count_failure<T: Drop>(
+    failures: &mut u64,
+    outcome: Result<T, Error>,
+) -> Result<T, ShelfFault>
     requires { failures.old < last_count }
     ensures value { IfOk result (λ x. outcome ≡ Ok x) }
     ensures given { IfOk outcome (λ x. result ≡ Ok x) }

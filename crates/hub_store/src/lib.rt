@@ -38,6 +38,7 @@ mod counts;
 mod create;
 mod directory_edits;
 mod directory_facts;
+mod failures;
 mod feed_rows;
 mod find_arranged;
 mod find_case;
@@ -79,7 +80,6 @@ mod tables;
 mod to_version_2;
 mod to_version_3;
 mod to_version_4;
-mod failures;
 mod version;
 
 pub use sql_shelf::{OpenFault, SqlShelf};

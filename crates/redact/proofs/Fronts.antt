@@ -38,7 +38,7 @@ joined o name place ts m behind = record { left = or_front o name place behind.l
 module _ (c : Case) (s : Standing) (h : Surrounding) (a : Inherited) (q : Tokens) where
   -- what the pass makes of members
   abbrev pub made : ℕ → Forest → Outcome
-  made n f = record { left = cut h n (pass c s a f); pairs = told h q n (pass c s a f); classes = visible_classes (pass c s a f) }
+  made n f = record { left = cut h n (pass c s a f); pairs = withheld_below h q n (pass c s a f); classes = visible_classes (pass c s a f) }
 
   -- how many are left once the sibling is passed
   abbrev passed : ℕ → Option ℕ → Option Body → ℕ
@@ -54,7 +54,7 @@ module _ (c : Case) (s : Standing) (h : Surrounding) (a : Inherited) (q : Tokens
       let L = made (left_with n place) rest in
       let G = made (left_before n place) rest in
       elim (keeps_plain h) as (λ k. ◌≡◌ {A = Outcome}
-      (record { left = if k then leaf (moved n i) L.left else G.left; pairs = told h q (if k then left_with n place else left_before n place) (pass c s a rest); classes = L.classes })
+      (record { left = if k then leaf (moved n i) L.left else G.left; pairs = withheld_below h q (if k then left_with n place else left_before n place) (pass c s a rest); classes = L.classes })
       (joined (if k then Some (says content) else None) name (new_place n place) [] 0 (made (passed n place (if k then Some (says content) else None)) rest))) [ true ↦ rw zero-add | false ↦ rw zero-add ]
   front d t name place enters n (holds kids) rest =
       let k = enter_class c s d t (spelled_in kids) in

@@ -8,8 +8,8 @@ use crate::by_lines::agree_by_lines;
 use crate::documents::report_text;
 use crate::entry::{Entry, located};
 use crate::judged::{
-    Judged, Moved, Sought, Told, count_seen, withheld_in_order, judge, kept_outline, places, search,
-    withheld,
+    Judged, Moved, Sought, Told, count_seen, judge, kept_outline, places, search, withheld,
+    withheld_in_order,
 };
 use crate::readers::{any_case, any_standing};
 use crate::shown::{note_classes, note_places, note_reader, note_withheld};

@@ -3,8 +3,8 @@
 ghost use Rattle.std.specs.Prelude.{◌≡◌, false, IfOk, IfErr, IsTrue};
 
 use super::{OpenFault, SqlShelf, open_fault};
-use crate::migrate::{is_older, renew};
 use crate::failures::fault_of;
+use crate::migrate::{is_older, renew};
 use crate::version::{NEWEST, version};
 use sqlite::{Alter, Connection};
 use std::alloc::Global;

@@ -4,6 +4,7 @@ ghost use Rattle.std.specs.Prelude.{◌<◌};
 
 use super::SqlShelf;
 use crate::apply::apply;
+use crate::failures::count_failure;
 use crate::find_case::find_case;
 use crate::find_document::find_document;
 use crate::find_excerpt::find_excerpt;
@@ -11,7 +12,6 @@ use crate::find_groups::find_groups;
 use crate::find_met::find_met;
 use crate::find_person::find_person;
 use crate::list_entries::list_entries;
-use crate::failures::count_failure;
 use circle::directory::Person;
 use hub_core::{
     Edit, Entry, Facts, JoinedGroup, Request, Shelf, ShelfFault, facts_by, standing_by,

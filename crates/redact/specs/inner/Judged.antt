@@ -111,7 +111,7 @@ visible_classes (class name place j kids rest) = (if j.visible then 1 else 0) + 
 -- what is withheld of the members at home, whose class stands at place q of the excerpt
 abbrev pub withheld_below : Surrounding → Tokens → ℕ → Judged → List Withheld
 withheld_below h q n none = []
-told h q n (plain i rest) = told h q (if keeps_plain h then left_with n i.place else left_before n i.place) rest
+withheld_below h q n (plain i rest) = withheld_below h q (if keeps_plain h then left_with n i.place else left_before n i.place) rest
 withheld_below h q n (class name place j kids rest) =
     let r = q ++ steps name (new_place n place) in
     if j.visible then withheld_below (inside true) r 0 kids ++ withheld_below h q (left_with n place) rest

@@ -49,7 +49,7 @@ returns c =
     let J_is : J ≡ pass C S (at_root C S) f = ap (λ h. pass C S h f) (ap (λ ts. carried (path_of ts) c.at_root-above.result) c.new.ensures.items ∙ c.at_root-above.ensures) in
     let q = path_of c.new-2.result.items in
     let k = c.cut.new.state in
-    let T = told root q 0 J in
+    let T = withheld_below root q 0 J in
     let all : is_among (tells q k ++ []) ≡ is_among T =
     c.in_ok-kept.ensures.goes.withheld
     ∙ ap (λ (ws : List Withheld). is_among ((ws ++ at_place q c.new-4.result.items) ++ T)) c.new-3.ensures.items

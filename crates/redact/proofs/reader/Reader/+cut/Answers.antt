@@ -88,7 +88,7 @@ cut_seen-returns-clause-goes t c = IfOk-weaker c.with_own_label.result _ _ (λ o
     record {
       path = told_all.path ∙ g.path;
       place = told_all.place ∙ g.place;
-      withheld = told-seen q r st b k c.tell_and_leave.new.state (told (inside true) r 0 J) refl (ap (λ v. v.items) c.replace-outside.ensures.after ∙ c.new.ensures.items) g.withheld
+      withheld = told-seen q r st b k c.tell_and_leave.new.state (withheld_below (inside true) r 0 J) refl (ap (λ v. v.items) c.replace-outside.ensures.after ∙ c.new.ensures.items) g.withheld
           (cc (told_all.withheld, g.place)) (cc (told_all.gone, c.replace-outside.ensures.value));
       classes = λ h. let more = c.saturating_add-state.ensures in let e = g.classes (omega (arith, more, h)) in omega (arith, more, e, told_all.classes, h);
     }) c.with_own_label.ensures.left
@@ -126,7 +126,7 @@ cut_hidden-returns-clause-goes t c = IfOk-weaker c.leave_hidden.result _ _ (λ o
     record {
       path = leaves.path ∙ kept.goes.path;
       place = leaves.place ∙ kept.goes.place;
-      withheld = told-hidden q r st b k d (told (inside false) r 0 J) refl (ap (λ v. v.items) c.replace-outside.ensures.after ∙ c.new.ensures.items) kept.goes.withheld
+      withheld = told-hidden q r st b k d (withheld_below (inside false) r 0 J) refl (ap (λ v. v.items) c.replace-outside.ensures.after ∙ c.new.ensures.items) kept.goes.withheld
           rule (is_end (cut (inside false) 0 J)) (ap path_of kept.goes.place) leaves
           (λ empty. kept.quiet (object-empty c.in_ok-kept.kept kept.filled (ap is_end kept.left ∙ empty)));
       classes = λ h. let e = kept.goes.classes h in omega (arith, e, leaves.classes);
