@@ -4,8 +4,8 @@ use crate::bytes::bytes_of;
 use crate::commands::command;
 use hub::Key;
 use hub_core::{
-    Address, Bytes, Distribution, Explain, Grant, Redistribute, Request, Search, Target, Unaddress,
-    WantedGates, Withdraw,
+    Bytes, Distribution, Explain, Grant, Redistribute, Request, Search, Target, WantedGates,
+    Withdraw,
 };
 use hub_http::request_of;
 use std::alloc::{AllocError, Global};
@@ -134,66 +134,42 @@ fn posting(alloc: Global, request: &Request) -> Result<Option<String>, AllocErro
 }
 
 /// A request that changes who sees an incident.
+fn redistribute(alloc: Global, asked: &Redistribute) -> Result<String, AllocError> {
+    let (incident, revision, level) = (asked.incident, asked.revision, asked.level);
+    let path = asked.path.as_str();
+    let group = group(alloc, asked.group)?;
+    format!(in alloc;
+        "Redistribute {incident} revision {revision} {path:?} level {level} group {group}"
+    )
+}
+
+fn addressing(alloc: Global, word: &str, incident: u32, to: Target) -> Result<String, AllocError> {
+    let (kind, number) = target(to);
+    format!(in alloc; "{word} {incident} {kind} {number}")
+}
+
+fn grant(alloc: Global, asked: &Grant) -> Result<String, AllocError> {
+    let (incident, revision) = (asked.incident, asked.revision);
+    let path = asked.path.as_str();
+    let (kind, number) = kind_of(asked.grantee);
+    let end = end_text(alloc, asked.until)?;
+    format!(in alloc; "Grant {incident} revision {revision} {path:?} {kind} {number}{end}")
+}
+
+fn withdraw(alloc: Global, asked: &Withdraw) -> Result<String, AllocError> {
+    let incident = asked.incident;
+    let path = asked.path.as_str();
+    let (kind, number) = kind_of(asked.grantee);
+    format!(in alloc; "Withdraw {incident} {path:?} {kind} {number}")
+}
+
 fn widening(alloc: Global, request: &Request) -> Result<Option<String>, AllocError> {
     let told = match request {
-        Request::Redistribute(
-            Redistribute {
-                incident,
-                revision,
-                path,
-                level,
-                group: wanted,
-            },
-        ) => {
-            let path = path.as_str();
-            let group = group(alloc, *wanted)?;
-            format!(in alloc;
-                "Redistribute {incident} revision {revision} {path:?} level {level} group {group}"
-            )?
-        }
-        Request::Address(
-            Address {
-                incident,
-                target: to,
-            },
-        ) => {
-            let (kind, number) = target(*to);
-            format!(in alloc; "Address {incident} {kind} {number}")?
-        }
-        Request::Unaddress(
-            Unaddress {
-                incident,
-                target: to,
-            },
-        ) => {
-            let (kind, number) = target(*to);
-            format!(in alloc; "Unaddress {incident} {kind} {number}")?
-        }
-        Request::Grant(
-            Grant {
-                incident,
-                revision,
-                path,
-                grantee: to,
-                until,
-            },
-        ) => {
-            let path = path.as_str();
-            let (kind, number) = kind_of(*to);
-            let end = end_text(alloc, *until)?;
-            format!(in alloc; "Grant {incident} revision {revision} {path:?} {kind} {number}{end}")?
-        }
-        Request::Withdraw(
-            Withdraw {
-                incident,
-                path,
-                grantee: from,
-            },
-        ) => {
-            let path = path.as_str();
-            let (kind, number) = kind_of(*from);
-            format!(in alloc; "Withdraw {incident} {path:?} {kind} {number}")?
-        }
+        Request::Redistribute(asked) => redistribute(alloc, asked)?,
+        Request::Address(asked) => addressing(alloc, "Address", asked.incident, asked.target)?,
+        Request::Unaddress(asked) => addressing(alloc, "Unaddress", asked.incident, asked.target)?,
+        Request::Grant(asked) => grant(alloc, asked)?,
+        Request::Withdraw(asked) => withdraw(alloc, asked)?,
         Request::Circle(wanted) => command(alloc, wanted)?,
         _ => return Ok(None),
     };

@@ -111,9 +111,9 @@ module _ (f : Forest) (c : Case) (s : Standing) (sound : IsSound f) (ok : first_
     excerpt-lines = rw judged-is left-lines
 
     -- what is withheld is what the pass tells, in order
-    pub excerpt-withheld_below : (ws : List Withheld) (q : Tokens) → q ≡ [] → is_among (ws ++ []) ≡ is_among (withheld_below root q 0 j) →
+    pub excerpt-told : (ws : List Withheld) (q : Tokens) → q ≡ [] → is_among (ws ++ []) ≡ is_among (withheld_below root q 0 j) →
         withheld_in_order ws ≡ withheld_of (lines 1 f) c s
-    excerpt-withheld_below ws q at told_all =
+    excerpt-told ws q at told_all =
         let all : List Withheld = withheld_pairs v es in
         let pairs : all ≡ withheld_below root [] 0 (judge v [] f) =
         ap (withheld_pairs v) (located-lines f sound)

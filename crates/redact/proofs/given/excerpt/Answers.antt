@@ -13,13 +13,13 @@ use Rattle.redact.specs.inner.Pass.{pass}
 use Rattle.redact.specs.Told.{kept_outline, withheld_of, visible_count}
 use Rattle.redact.specs.inner.Tokens.{path_of}
 use Rattle.redact.specs.Excerpts.{LabelsSurvive}
-use Rattle.redact.proofs.Promised.{excerpt-none, excerpt-some, told_as, withheld_below-is}
+use Rattle.redact.proofs.Promised.{excerpt-none, excerpt-some, told_as, told-is}
 use Rattle.redact.proofs.Survival.{markings-accepted, labels-survive}
-use Rattle.redact.proofs.Whole.{excerpt-sound, excerpt-lines, excerpt-withheld_below, excerpt-count}
+use Rattle.redact.proofs.Whole.{excerpt-sound, excerpt-lines, excerpt-told, excerpt-count}
 use Rattle.redact.proofs.given.excerpt.Goals as goal
 
-pub returns-then-state-eq0-clause-withheld_below : goal.returns-then-state-eq0-clause-withheld_below
-returns-then-state-eq0-clause-withheld_below c =
+pub returns-then-state-eq0-clause-told : goal.returns-then-state-eq0-clause-told
+returns-then-state-eq0-clause-told c =
     let C = c.args.case.now in
     let S = c.args.standing.now in
     let f = forest c.root.result.now in
@@ -60,14 +60,14 @@ returns c =
     let withheld : c.in_ok-withheld.withheld.items ≡ withheld_of c.args.document.now C S =
     c.in_ok-withheld.ensures
     ∙ ap withheld_in_order noted
-    ∙ excerpt-withheld_below f C S sound ok J J_is (tells q k) q (ap path_of c.new-2.ensures.items) all
+    ∙ excerpt-told f C S sound ok J J_is (tells q k) q (ap path_of c.new-2.ensures.items) all
     ∙ ap (λ ls. withheld_of ls C S) doc in
     let classes : k.classes ≡ visible_count c.args.document.now C S =
     excerpt-count f C S sound ok J J_is k.classes c.in_ok-kept.ensures.goes.classes ∙ ap (λ ls. visible_count ls C S) doc in
     let some : 0 < k.classes = omega arith in
     record {
       told = excerpt-some c.args.document.now C S (told_as c.new-document.result c.in_ok-withheld.withheld.items k.classes)
-          (withheld_below-is c.args.document.now C S c.new-document.result c.in_ok-withheld.withheld.items k.classes outline withheld classes) some;
+          (told-is c.args.document.now C S c.new-document.result c.in_ok-withheld.withheld.items k.classes outline withheld classes) some;
       checked = subst (λ ls. first_bad_marking (located ls) ≡ None) (sym outline) (rw doc at (markings-accepted f C S sound ok));
       labels = subst (LabelsSurvive c.args.document.now C S) (sym outline) (rw doc at (labels-survive f C S sound ok));
     }

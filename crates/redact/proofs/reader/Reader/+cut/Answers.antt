@@ -25,7 +25,7 @@ use Rattle.redact.specs.declared.trail.Token.{Token}
 use Rattle.redact.proofs.Fronts.{Outcome, of_object}
 use Rattle.redact.proofs.Filling.{object-empty, hidden-left, hidden-filled, hidden-none}
 use Rattle.redact.proofs.Entering.{class-left, class-goes}
-use Rattle.redact.proofs.Going.{goes-step, withheld_below-seen, withheld_below-hidden, pushed, pushed-left, pushed-all, pushed-none, length-pushed}
+use Rattle.redact.proofs.Going.{goes-step, told-seen, told-hidden, pushed, pushed-left, pushed-all, pushed-none, length-pushed}
 use Rattle.redact.proofs.reader.Reader.+cut.Goals as goal
 use Rattle.redact.proofs.reader.Reader.+cut.Goals.{cut_items-in-Some+in_ok-push, cut_items-in_default, cut-in-Some+in_ok-push_member, cut-in_default}
 
