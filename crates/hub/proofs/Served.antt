@@ -36,7 +36,7 @@ use Rattle.hub.specs.Replies.{if_active, caller_of, view_or_nothing, viewed, cir
 use Rattle.hub.specs.Machine.{Asked, IsGivenUp, IsStep, left_by}
 use Rattle.hub_core.specs.Shelves.{IsKept}
 use Rattle.hub.specs.inner.Asking.{IsThere}
-use Rattle.hub.specs.Serving.{due_to, read_by, is_made, IsServed}
+use Rattle.hub.specs.Serving.{due_to, read_by, is_made, IsDoneAsDue}
 use Rattle.hub.specs.declared.key.Key.{Key}
 use Rattle.hub.specs.declared.key.Key.TheVariants.{Absent, Digest}
 use Rattle.hub.proofs.Numbered.{all_found}
@@ -138,7 +138,7 @@ not_read s now p r h = by_case (is_reading r) h
 
 module _ {D : Type 0} {has : D → State → Type 0} {doubts failed : D → ℕ} {may_remain : D → Option State → Type 0} {old new : D} where
   pub served_reading : IsKept has doubts failed may_remain old new → doubts new ≡ 0 → (s : State) (now : ℤ) (p : Person) (r : Request) (reply : Reply) → has old s → Some reply ≡ read_by s now p r →
-      IsServed has may_remain old new s (due_to s now p r) (state_after s p r) (Ok reply)
+      IsDoneAsDue has may_remain old new s (due_to s now p r) (state_after s p r) (Ok reply)
   served_reading kept clean s now p r reply here is =
       let told = read_is s now p r reply is in
       record {
@@ -148,7 +148,7 @@ module _ {D : Type 0} {has : D → State → Type 0} {doubts failed : D → ℕ}
       }
 
   -- no answer, and nothing done
-  pub served_none : IsKept has doubts failed may_remain old new → doubts new ≡ 0 → (s : State) (due : Reply) (after : State) (fault : ShelfFault) → has old s → IsServed has may_remain old new s due after (Err fault)
+  pub served_none : IsKept has doubts failed may_remain old new → doubts new ≡ 0 → (s : State) (due : Reply) (after : State) (fault : ShelfFault) → has old s → IsDoneAsDue has may_remain old new s due after (Err fault)
   served_none kept clean s due after fault here = record {
     settled = kept.content clean s here;
     durable = tt;
@@ -156,7 +156,7 @@ module _ {D : Type 0} {has : D → State → Type 0} {doubts failed : D → ℕ}
   }
 
   -- a refusal
-  pub served_refusal : IsKept has doubts failed may_remain old new → doubts new ≡ 0 → (s : State) (due : Reply) (after : State) (refusal : Refusal) → has old s → Refused refusal ≡ due → s ≡ after → IsServed has may_remain old new s due after (Ok (Refused refusal))
+  pub served_refusal : IsKept has doubts failed may_remain old new → doubts new ≡ 0 → (s : State) (due : Reply) (after : State) (refusal : Refusal) → has old s → Refused refusal ≡ due → s ≡ after → IsDoneAsDue has may_remain old new s due after (Ok (Refused refusal))
   served_refusal kept clean s due after refusal here is same = record {
     settled = (is, subst (has new) same (kept.content clean s here));
     durable = λ made. absurd (true≢false (sym made));
@@ -166,7 +166,7 @@ module _ {D : Type 0} {has : D → State → Type 0} {doubts failed : D → ℕ}
 -- behind what was read before
 pub served_on : {D : Type 0} {has : D → State → Type 0} {doubts failed : D → ℕ} {may_remain : D → Option State → Type 0} {old mid new : D} → IsKept has doubts failed may_remain old mid → doubts mid ≡ 0 →
     (s : State) (due : Reply) (after : State) (result : Result Reply ShelfFault) →
-    IsServed has may_remain mid new s due after result → IsServed has may_remain old new s due after result
+    IsDoneAsDue has may_remain mid new s due after result → IsDoneAsDue has may_remain old new s due after result
 served_on kept clean s due after result served = record {
   settled = served.settled;
   durable = served.durable;

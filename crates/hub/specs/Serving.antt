@@ -79,7 +79,7 @@ Settles has s due after (Ok reply) = (reply ≡ due) × has after
 Settles has s due after (Err fault) = has s
 
 -- an answer, what it leaves, and what a crash at that moment may leave
-pub record IsServed {D : Type 0} (has : D → State → Type 0) (may_remain : D → Option State → Type 0) (old new : D) (s : State) (due : Reply) (after : State) (result : Result Reply ShelfFault) : Type 0 where
+pub record IsDoneAsDue {D : Type 0} (has : D → State → Type 0) (may_remain : D → Option State → Type 0) (old new : D) (s : State) (due : Reply) (after : State) (result : Result Reply ShelfFault) : Type 0 where
   pub settled : Settles (has new) s due after result
   -- after a change that is answered as made a crash may leave what the request leaves, and nothing else
   pub durable : IfOk result (λ reply. IsTrue (is_made reply) → (left : Option State) → may_remain new left ↔ (left ≡ Some after))

@@ -6,7 +6,7 @@ ghost use Rattle.hub_core.specs.Sound.{IsSound};
 ghost use Rattle.hub_core.specs.Refusals.{state_after, next_revision as revision_after};
 ghost use Rattle.hub_core.specs.Laws.{is_reading};
 ghost use Rattle.hub_core.specs.Shelves.{KeepsContent};
-ghost use Rattle.hub.specs.Serving.{IsCounted, IsServed, due_to, gives_numbers, is_made, is_made_by, made_reply, number_put, numbers_put};
+ghost use Rattle.hub.specs.Serving.{IsCounted, IsDoneAsDue, due_to, gives_numbers, is_made, is_made_by, made_reply, number_put, numbers_put};
 
 use crate::asking::Asker;
 use crate::fault::{ample, refuse};
@@ -97,7 +97,7 @@ pub fn change<Sh: Shelf>(
     request: &Request,
 ) -> Result<Reply, ShelfFault>
     ensures step { Sh.doubts shelf.new ≡ 0 → (s : State) → Sh.has shelf.old s → IsSound s → IsOrg s.directory.orgs asker.entry.person.now.org → is_reading request.now ≡ false →
-        IsServed Sh.has Sh.may_remain shelf.old shelf.new s (due_to s asker.entry.now asker.entry.person.now request.now) (state_after s asker.entry.person.now request.now) result }
+        IsDoneAsDue Sh.has Sh.may_remain shelf.old shelf.new s (due_to s asker.entry.now asker.entry.person.now request.now) (state_after s asker.entry.person.now request.now) result }
     ensures counted { IsCounted Sh.doubts Sh.failed shelf.old shelf.new result }
     ensures kept { is_made_by result ≡ false → KeepsContent Sh.has Sh.doubts Sh.failed Sh.may_remain shelf.old shelf.new }
 {

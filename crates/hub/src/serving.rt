@@ -8,7 +8,7 @@ ghost use Rattle.hub_core.specs.Shelves.{KeepsContent};
 ghost use Rattle.hub.specs.inner.Asking.{IsThere};
 ghost use Rattle.hub.specs.Replies.{reply_of};
 ghost use Rattle.hub.specs.Machine.{state_left};
-ghost use Rattle.hub.specs.Serving.{IsCounted, IsServed, due_to, is_made_by};
+ghost use Rattle.hub.specs.Serving.{IsCounted, IsDoneAsDue, due_to, is_made_by};
 
 use crate::asking::{Asker, caller_by};
 use crate::change::change;
@@ -25,7 +25,7 @@ fn answer_person<Sh: Shelf>(
     request: &Request,
 ) -> Result<Reply, ShelfFault>
     ensures step { Sh.doubts shelf.new ≡ 0 → (s : State) → Sh.has shelf.old s → IsSound s → IsThere s asker.entry.person.now → IsOrg s.directory.orgs asker.entry.person.now.org →
-        IsServed Sh.has Sh.may_remain shelf.old shelf.new s (due_to s asker.entry.now asker.entry.person.now request.now) (state_after s asker.entry.person.now request.now) result }
+        IsDoneAsDue Sh.has Sh.may_remain shelf.old shelf.new s (due_to s asker.entry.now asker.entry.person.now request.now) (state_after s asker.entry.person.now request.now) result }
     ensures counted { IsCounted Sh.doubts Sh.failed shelf.old shelf.new result }
     ensures kept { is_made_by result ≡ false → KeepsContent Sh.has Sh.doubts Sh.failed Sh.may_remain shelf.old shelf.new }
 {
@@ -44,7 +44,7 @@ pub fn answer_key<Sh: Shelf>(
     request: &Request,
 ) -> Result<Reply, ShelfFault>
     ensures step { Sh.doubts shelf.new ≡ 0 → (s : State) → Sh.has shelf.old s → IsSound s →
-        IsServed Sh.has Sh.may_remain shelf.old shelf.new s (reply_of s now key.now request.now) (state_left s key.now request.now) result }
+        IsDoneAsDue Sh.has Sh.may_remain shelf.old shelf.new s (reply_of s now key.now request.now) (state_left s key.now request.now) result }
     ensures counted { IsCounted Sh.doubts Sh.failed shelf.old shelf.new result }
     ensures kept { is_made_by result ≡ false → KeepsContent Sh.has Sh.doubts Sh.failed Sh.may_remain shelf.old shelf.new }
 {

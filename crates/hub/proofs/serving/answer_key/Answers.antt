@@ -6,7 +6,7 @@ use Rattle.hub_core.specs.Refusals.{state_after}
 use Rattle.circle.specs.declared.directory.Person.{Person}
 use Rattle.hub.specs.Replies.{caller_of, reply_by}
 use Rattle.hub.specs.Machine.{left_by}
-use Rattle.hub.specs.Serving.{IsServed, due_to}
+use Rattle.hub.specs.Serving.{IsDoneAsDue, due_to}
 use Rattle.hub.proofs.Served.{caller_there, caller_org, served_on}
 use Rattle.hub.proofs.serving.answer_key.Goals as goal
 
@@ -19,6 +19,6 @@ returns-in-Some-clause-step g c = λ clean s has sound.
     let mid : shelf.doubts c.caller_by.new.shelf ≡ 0 = omega (arith, c.served.ensures.counted.doubt) in
     let here = first.kept.content mid s has in
     let is : caller_of s c.args.key.now ≡ Some p = sym (first.value mid s has) ∙ c.in-Some.is in
-    let P : Option Person → Type 0 = λ o. IsServed shelf.has shelf.may_remain c.args.shelf.now c.served.new.shelf s (reply_by s c.args.now o r) (left_by s o r) c.served.result in
-    let N : ℤ → Type 0 = λ now. IsServed shelf.has shelf.may_remain c.args.shelf.now c.served.new.shelf s (due_to s now p r) (state_after s p r) c.served.result in
+    let P : Option Person → Type 0 = λ o. IsDoneAsDue shelf.has shelf.may_remain c.args.shelf.now c.served.new.shelf s (reply_by s c.args.now o r) (left_by s o r) c.served.result in
+    let N : ℤ → Type 0 = λ now. IsDoneAsDue shelf.has shelf.may_remain c.args.shelf.now c.served.new.shelf s (due_to s now p r) (state_after s p r) c.served.result in
     subst P (sym is) (subst N (to_z-of_z w64 c.args.now c.ranges.now) (served_on first.kept mid s (due_to s (to_z w64 (of_z w64 c.args.now)) p r) (state_after s p r) c.served.result (c.served.ensures.step clean s here sound (caller_there s c.args.key.now p sound is) (caller_org s c.args.key.now p sound is))))
