@@ -1,5 +1,5 @@
 //! Reading what a person's requests are answered by.
-ghost use Rattle.std.specs.Prelude.{◌≡◌, false, IfOk, IsErrOf, option_map};
+ghost use Rattle.std.specs.Prelude.{◌≡◌, false, IfOk, option_map};
 ghost use Rattle.std.specs.Option.{option_map_or};
 ghost use Rattle.hub_core.specs.State.{State, incident_of};
 ghost use Rattle.redact.specs.Excerpts.{told_by};
@@ -11,7 +11,7 @@ ghost use Rattle.circle.specs.Reads.{person_of};
 ghost use Rattle.hub.specs.Told.{standing_at};
 ghost use Rattle.hub.specs.inner.Explaining.{standing_between};
 ghost use Rattle.hub.specs.Replies.{caller_of};
-ghost use Rattle.hub_core.specs.Shelves.{HasFailed, IsKept};
+ghost use Rattle.hub_core.specs.Shelves.{Finds};
 ghost use Rattle.hub.specs.inner.Asking.{IsThere};
 
 use crate::key::Key;
@@ -29,9 +29,8 @@ pub struct Asker<'a> {
 
 /// The active person whose key it is.
 pub fn caller_by<Sh: Shelf>(shelf: &mut Sh, key: &Key) -> Result<Option<Person>, ShelfFault>
-    ensures value { Sh.doubts shelf.new ≡ 0 → (s : State) → Sh.has shelf.old s → IfOk result (λ found. found ≡ caller_of s key.now) }
-    ensures kept { IsKept Sh.has Sh.doubts Sh.failed Sh.may_remain shelf.old shelf.new }
-    ensures cause { IsErrOf result ShelfFault.Failed → HasFailed (Sh.failed shelf.old) (Sh.failed shelf.new) }
+    ensures { Finds Sh.has Sh.doubts Sh.failed Sh.may_remain shelf.old shelf.new result (λ s.
+        IfOk result (λ found. found ≡ caller_of s key.now)) }
 {
     let Key::Digest(digest) = key else {
         return Ok(None);
@@ -48,9 +47,11 @@ pub fn standing<Sh: Shelf>(
     asker: Asker<'_>,
     incident: u32,
 ) -> Result<Option<Standing>, ShelfFault>
-    ensures value { Sh.doubts shelf.new ≡ 0 → (s : State) → Sh.has shelf.old s → IsThere s asker.entry.person.now → IfOk result (λ found. found ≡ option_map (λ (i : Incident). standing_at s asker.entry.now asker.entry.person.now i) (incident_of incident s)) }
-    ensures kept { IsKept Sh.has Sh.doubts Sh.failed Sh.may_remain shelf.old shelf.new }
-    ensures cause { IsErrOf result ShelfFault.Failed → HasFailed (Sh.failed shelf.old) (Sh.failed shelf.new) }
+    ensures { Finds Sh.has Sh.doubts Sh.failed Sh.may_remain shelf.old shelf.new result (λ s.
+        IsThere s asker.entry.person.now →
+        IfOk result (λ found. found ≡
+        option_map (λ (i : Incident).
+        standing_at s asker.entry.now asker.entry.person.now i) (incident_of incident s))) }
 {
     shelf.standing(asker.person.number, incident, asker.now)
 }
@@ -62,18 +63,17 @@ pub fn standing_of_person<Sh: Shelf>(
     person: u32,
     incident: u32,
 ) -> Result<Option<Standing>, ShelfFault>
-    ensures value { Sh.doubts shelf.new ≡ 0 → (s : State) → Sh.has shelf.old s → IfOk result (λ found. found ≡ standing_between s asker.entry.now (person_of person s.directory) (incident_of incident s)) }
-    ensures kept { IsKept Sh.has Sh.doubts Sh.failed Sh.may_remain shelf.old shelf.new }
-    ensures cause { IsErrOf result ShelfFault.Failed → HasFailed (Sh.failed shelf.old) (Sh.failed shelf.new) }
+    ensures { Finds Sh.has Sh.doubts Sh.failed Sh.may_remain shelf.old shelf.new result (λ s.
+        IfOk result (λ found. found ≡
+        standing_between s asker.entry.now (person_of person s.directory) (incident_of incident s))) }
 {
     shelf.standing(person, incident, asker.now)
 }
 
 /// By what an incident is judged, beside its document; none where it is missing.
 pub fn case_of<Sh: Shelf>(shelf: &mut Sh, incident: u32) -> Result<Option<Case>, ShelfFault>
-    ensures value { Sh.doubts shelf.new ≡ 0 → (s : State) → Sh.has shelf.old s → IfOk result (λ found. found ≡ option_map (case_for s) (incident_of incident s)) }
-    ensures kept { IsKept Sh.has Sh.doubts Sh.failed Sh.may_remain shelf.old shelf.new }
-    ensures cause { IsErrOf result ShelfFault.Failed → HasFailed (Sh.failed shelf.old) (Sh.failed shelf.new) }
+    ensures { Finds Sh.has Sh.doubts Sh.failed Sh.may_remain shelf.old shelf.new result (λ s.
+        IfOk result (λ found. found ≡ option_map (case_for s) (incident_of incident s))) }
 {
     shelf.case(incident)
 }
@@ -86,9 +86,9 @@ pub fn excerpt_of<Sh: Shelf>(
     case: Case,
     standing: Standing,
 ) -> Result<Option<Excerpt>, ShelfFault>
-    ensures value { Sh.doubts shelf.new ≡ 0 → (s : State) → Sh.has shelf.old s → IfOk result (λ found. option_map told_by found ≡ served_of_incident incident case standing s) }
-    ensures kept { IsKept Sh.has Sh.doubts Sh.failed Sh.may_remain shelf.old shelf.new }
-    ensures cause { IsErrOf result ShelfFault.Failed → HasFailed (Sh.failed shelf.old) (Sh.failed shelf.new) }
+    ensures { Finds Sh.has Sh.doubts Sh.failed Sh.may_remain shelf.old shelf.new result (λ s.
+        IfOk result (λ found.
+        option_map told_by found ≡ served_of_incident incident case standing s)) }
 {
     shelf.excerpt(incident, case, standing)
 }
@@ -101,9 +101,10 @@ pub fn is_met<Sh: Shelf>(
     standing: Standing,
     want: Want,
 ) -> Result<bool, ShelfFault>
-    ensures value { Sh.doubts shelf.new ≡ 0 → (s : State) → Sh.has shelf.old s → IsSound s → IfOk result (λ met. met ≡ option_map_or (λ (i : Incident). meets want i.document case standing) (incident_of incident s) false) }
-    ensures kept { IsKept Sh.has Sh.doubts Sh.failed Sh.may_remain shelf.old shelf.new }
-    ensures cause { IsErrOf result ShelfFault.Failed → HasFailed (Sh.failed shelf.old) (Sh.failed shelf.new) }
+    ensures { Finds Sh.has Sh.doubts Sh.failed Sh.may_remain shelf.old shelf.new result (λ s.
+        IsSound s → IfOk result (λ met. met ≡
+        option_map_or (λ (i : Incident).
+        meets want i.document case standing) (incident_of incident s) false)) }
 {
     shelf.meets(incident, case, standing, want)
 }

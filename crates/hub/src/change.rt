@@ -58,7 +58,8 @@ fn tells_numbers(request: &Request) -> bool
 }
 
 fn next_revision(facts: &Facts) -> u32
-    ensures { revision_after facts.now.incident < 2 ^ 32 → result ≡ revision_after facts.now.incident }
+    ensures { revision_after facts.now.incident < 2 ^ 32 →
+        result ≡ revision_after facts.now.incident }
 {
     match &facts.incident {
         None => 1,
@@ -73,7 +74,8 @@ fn reply_to(
     request: &Request,
     edits: &[Edit],
 ) -> Result<Reply, ShelfFault>
-    ensures reply { revision_after facts.now.incident < 2 ^ 32 → IfOk result (λ reply. reply ≡ made_reply facts.now request.now edits.now) }
+    ensures reply { revision_after facts.now.incident < 2 ^ 32 →
+        IfOk result (λ reply. reply ≡ made_reply facts.now request.now edits.now) }
     ensures made { IfOk result (λ reply. is_made reply ≡ true) }
     ensures fault { IfErr result (λ e. e ≡ ShelfFault.NoMemory) }
 {
@@ -99,7 +101,8 @@ pub fn change<Sh: Shelf>(
     ensures step { Sh.doubts shelf.new ≡ 0 → (s : State) → Sh.has shelf.old s → IsSound s → IsOrg s.directory.orgs asker.entry.person.now.org → is_reading request.now ≡ false →
         IsDoneAsDue Sh.has Sh.may_remain shelf.old shelf.new s (due_to s asker.entry.now asker.entry.person.now request.now) (state_after s asker.entry.person.now request.now) result }
     ensures counted { IsCounted Sh.doubts Sh.failed shelf.old shelf.new result }
-    ensures kept { is_made_by result ≡ false → KeepsContent Sh.has Sh.doubts Sh.failed Sh.may_remain shelf.old shelf.new }
+    ensures kept { is_made_by result ≡ false →
+        KeepsContent Sh.has Sh.doubts Sh.failed Sh.may_remain shelf.old shelf.new }
 {
     // Who may not post makes the hub read no body.
     if lacks_role(asker.person, request) {

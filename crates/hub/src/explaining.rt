@@ -1,5 +1,5 @@
 //! Why a person sees a class of an incident, or doesn't.
-ghost use Rattle.std.specs.Prelude.{◌≡◌, ℕ, List, None, Some, IfOk, IfErr, IsErrOf};
+ghost use Rattle.std.specs.Prelude.{◌≡◌, ℕ, List, None, Some, IfOk, IfErr};
 ghost use Rattle.iodef_tree.specs.Paths.{located};
 ghost use Rattle.iodef_tree.specs.Pointer.{pointer_tokens};
 ghost use Rattle.marking.specs.Marks.{first_bad_marking};
@@ -10,7 +10,7 @@ ghost use Rattle.hub_core.specs.Facts.{facts_of};
 ghost use Rattle.hub_core.specs.Refusals.{refusal_of};
 ghost use Rattle.hub_core.specs.declared.reply.Reply.TheVariants.{Trace};
 ghost use Rattle.hub_core.specs.declared.request.Request.TheVariants as ask;
-ghost use Rattle.hub_core.specs.Shelves.{HasFailed, IsKept};
+ghost use Rattle.hub_core.specs.Shelves.{Finds};
 ghost use Rattle.hub.specs.inner.Explaining.{text_at, text_of as text_told};
 ghost use Rattle.hub.specs.Replies.{refused_or};
 ghost use Rattle.hub.specs.Told.{trace_of};
@@ -34,7 +34,8 @@ fn text_of(
     standing: &Standing,
     path: &Path,
 ) -> Result<Option<Text>, ShelfFault>
-    ensures told { first_bad_marking (located document.now) ≡ None → IfOk result (λ text. text ≡ text_at document.now case.now standing.entry.now path.now) }
+    ensures told { first_bad_marking (located document.now) ≡ None →
+        IfOk result (λ text. text ≡ text_at document.now case.now standing.entry.now path.now) }
     ensures fault { IfErr result (λ e. e ≡ ShelfFault.NoMemory) }
 {
     match check(alloc, document) {
@@ -52,7 +53,8 @@ fn trace_at(
     path: &Path,
 ) -> Result<Option<Text>, ShelfFault>
     requires { first_bad_marking (located document.now) ≡ None }
-    ensures told { IfOk result (λ text. text ≡ text_at document.now case.now standing.entry.now path.now) }
+    ensures told { IfOk result (λ text. text ≡
+        text_at document.now case.now standing.entry.now path.now) }
     ensures fault { IfErr result (λ e. e ≡ ShelfFault.NoMemory) }
 {
     match explain(alloc, document, case, standing, path) {
@@ -84,9 +86,11 @@ fn find_text<Sh: Shelf>(
     facts: &Facts,
     asked: &Explain,
 ) -> Result<Option<Text>, ShelfFault>
-    ensures value { Sh.doubts shelf.new ≡ 0 → (s : State) → Sh.has shelf.old s → IsSound s → facts.now ≡ facts_of s asker.entry.person.now (ask.Explain asked.now) → IfOk result (λ text. text ≡ text_told s asker.entry.now (person_of asked.now.person s.directory) (incident_of asked.now.incident s) (pointer_tokens asked.now.path)) }
-    ensures kept { IsKept Sh.has Sh.doubts Sh.failed Sh.may_remain shelf.old shelf.new }
-    ensures cause { IsErrOf result ShelfFault.Failed → HasFailed (Sh.failed shelf.old) (Sh.failed shelf.new) }
+    ensures { Finds Sh.has Sh.doubts Sh.failed Sh.may_remain shelf.old shelf.new result (λ s.
+        IsSound s → facts.now ≡ facts_of s asker.entry.person.now (ask.Explain asked.now) →
+        IfOk result (λ text. text ≡
+        text_told s asker.entry.now (person_of asked.now.person s.directory)
+        (incident_of asked.now.incident s) (pointer_tokens asked.now.path))) }
 {
     let Some(standing) = standing_of_person(shelf, asker, asked.person, asked.incident)? else {
         return Ok(None);
@@ -121,9 +125,12 @@ pub fn explain_to<Sh: Shelf>(
     request: &Request,
     asked: &Explain,
 ) -> Result<Reply, ShelfFault>
-    ensures value { Sh.doubts shelf.new ≡ 0 → (s : State) → Sh.has shelf.old s → IsSound s → request.now ≡ ask.Explain asked.now → IfOk result (λ reply. reply ≡ refused_or (refusal_of s asker.entry.person.now request.now) (Trace (trace_of s asker.entry.now (person_of asked.now.person s.directory) (incident_of asked.now.incident s) (pointer_tokens asked.now.path)))) }
-    ensures kept { IsKept Sh.has Sh.doubts Sh.failed Sh.may_remain shelf.old shelf.new }
-    ensures cause { IsErrOf result ShelfFault.Failed → HasFailed (Sh.failed shelf.old) (Sh.failed shelf.new) }
+    ensures { Finds Sh.has Sh.doubts Sh.failed Sh.may_remain shelf.old shelf.new result (λ s.
+        IsSound s → request.now ≡ ask.Explain asked.now →
+        IfOk result (λ reply. reply ≡
+        refused_or (refusal_of s asker.entry.person.now request.now)
+        (Trace (trace_of s asker.entry.now (person_of asked.now.person s.directory)
+        (incident_of asked.now.incident s) (pointer_tokens asked.now.path))))) }
 {
     let facts = shelf.facts(asker.person, request)?;
     match judge(alloc, asker.person, &facts, request) {

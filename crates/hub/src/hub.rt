@@ -61,12 +61,21 @@ impl<Sh: Shelf> Hub<Sh> {
     /// To a request that tells of incidents, of groups or of the caller, the reply is the one that is due in every world alike
     /// for who asks, unless the request is given up: it tells nothing of what differs there.
     pub fn answer(&mut self, alloc: Global, now: i64, key: &Key, request: &Request) -> Reply
-        ensures kept { is_made result ≡ false → KeepsContent Sh.has Sh.doubts Sh.failed Sh.may_remain self.old self.new }
-        ensures step { Sh.doubts self.new ≡ 0 → (s : State) → Sh.has self.old s → IsSound s → (left : State) × IsStep s (now, key.now, request.now) result left × Sh.has self.new left }
-        ensures alike { Sh.doubts self.new ≡ 0 → (s t : State) (a : Account) → Sh.has self.old s → IsAlike now a s t → key.now ≡ Digest a.key → is_told request.now ≡ true → (result ≡ reply_of t now key.now request.now) ⊎ IsGivenUp result }
-        ensures cause { Sh.doubts self.new ≡ 0 → (s : State) → Sh.has self.old s → IsSound s → result ≡ Refused (bare F1) → HasFailed (Sh.failed self.old) (Sh.failed self.new) }
-        ensures durable { Sh.doubts self.new ≡ 0 → (s : State) → Sh.has self.old s → IsSound s → IsTrue (is_made result) → (left : Option State) → Sh.may_remain self.new left ↔ (left ≡ Some (state_left s key.now request.now)) }
-        ensures crash { Sh.doubts self.new ≡ 0 → (s : State) → Sh.has self.old s → IsSound s → (left : Option State) → Sh.may_remain self.new left → Sh.may_remain self.old left ⊎ (left ≡ Some (state_left s key.now request.now)) }
+        ensures kept { is_made result ≡ false →
+            KeepsContent Sh.has Sh.doubts Sh.failed Sh.may_remain self.old self.new }
+        ensures step { Sh.doubts self.new ≡ 0 → (s : State) → Sh.has self.old s → IsSound s →
+            (left : State) × IsStep s (now, key.now, request.now) result left × Sh.has self.new left }
+        ensures alike { Sh.doubts self.new ≡ 0 → (s t : State) (a : Account) → Sh.has self.old s →
+            IsAlike now a s t → key.now ≡ Digest a.key → is_told request.now ≡ true →
+            (result ≡ reply_of t now key.now request.now) ⊎ IsGivenUp result }
+        ensures cause { Sh.doubts self.new ≡ 0 → (s : State) → Sh.has self.old s → IsSound s →
+            result ≡ Refused (bare F1) → HasFailed (Sh.failed self.old) (Sh.failed self.new) }
+        ensures durable { Sh.doubts self.new ≡ 0 → (s : State) → Sh.has self.old s → IsSound s →
+            IsTrue (is_made result) → (left : Option State) →
+            Sh.may_remain self.new left ↔ (left ≡ Some (state_left s key.now request.now)) }
+        ensures crash { Sh.doubts self.new ≡ 0 → (s : State) → Sh.has self.old s → IsSound s →
+            (left : Option State) → Sh.may_remain self.new left →
+            Sh.may_remain self.old left ⊎ (left ≡ Some (state_left s key.now request.now)) }
         ensures later { Sh.failed self.old ≤ Sh.failed self.new }
         ensures doubt { Sh.doubts self.old ≤ Sh.doubts self.new }
     {
@@ -77,10 +86,16 @@ impl<Sh: Shelf> Hub<Sh> {
     }
 
     fn step(&mut self, alloc: Global, asked: &(i64, Key, Request)) -> Reply
-        ensures step { Sh.doubts self.new ≡ 0 → (s : State) → Sh.has self.old s → IsSound s → (left : State) × IsStep s asked.now result left × Sh.has self.new left }
-        ensures cause { Sh.doubts self.new ≡ 0 → (s : State) → Sh.has self.old s → IsSound s → result ≡ Refused (bare F1) → HasFailed (Sh.failed self.old) (Sh.failed self.new) }
-        ensures durable { Sh.doubts self.new ≡ 0 → (s : State) → Sh.has self.old s → IsSound s → IsTrue (is_made result) → (left : Option State) → Sh.may_remain self.new left ↔ (left ≡ Some (state_left s asked.now.1 asked.now.2)) }
-        ensures crash { Sh.doubts self.new ≡ 0 → (s : State) → Sh.has self.old s → IsSound s → (left : Option State) → Sh.may_remain self.new left → Sh.may_remain self.old left ⊎ (left ≡ Some (state_left s asked.now.1 asked.now.2)) }
+        ensures step { Sh.doubts self.new ≡ 0 → (s : State) → Sh.has self.old s → IsSound s →
+            (left : State) × IsStep s asked.now result left × Sh.has self.new left }
+        ensures cause { Sh.doubts self.new ≡ 0 → (s : State) → Sh.has self.old s → IsSound s →
+            result ≡ Refused (bare F1) → HasFailed (Sh.failed self.old) (Sh.failed self.new) }
+        ensures durable { Sh.doubts self.new ≡ 0 → (s : State) → Sh.has self.old s → IsSound s →
+            IsTrue (is_made result) → (left : Option State) →
+            Sh.may_remain self.new left ↔ (left ≡ Some (state_left s asked.now.1 asked.now.2)) }
+        ensures crash { Sh.doubts self.new ≡ 0 → (s : State) → Sh.has self.old s → IsSound s →
+            (left : Option State) → Sh.may_remain self.new left →
+            Sh.may_remain self.old left ⊎ (left ≡ Some (state_left s asked.now.1 asked.now.2)) }
         ensures later { Sh.failed self.old ≤ Sh.failed self.new }
         ensures doubt { Sh.doubts self.old ≤ Sh.doubts self.new }
     {
@@ -99,9 +114,17 @@ impl<Sh: Shelf> Hub<Sh> {
         alloc: Global,
         asked: &[(i64, Key, Request)],
     ) -> Result<Vec<Reply>, AllocError>
-        ensures run { Sh.doubts self.new ≡ 0 → (s : State) → Sh.has self.old s → IsSound s → IfOk result (λ replies. (end : State) × IsRun s asked.now replies.items end × Sh.has self.new end) }
-        ensures cause { Sh.doubts self.new ≡ 0 → (s : State) → Sh.has self.old s → IsSound s → IfOk result (λ replies. AreCounted (failures_told replies.items) (Sh.failed self.old) (Sh.failed self.new)) }
-        ensures crash { Sh.doubts self.new ≡ 0 → (s : State) → Sh.has self.old s → IsSound s → IfOk result (λ replies. (left : Option State) → Sh.may_remain self.new left → (Sh.may_remain self.old left × (any_made replies.items ≡ false)) ⊎ IsSomeAnd left (λ content. MayBeLeft s asked.now replies.items content)) }
+        ensures run { Sh.doubts self.new ≡ 0 → (s : State) → Sh.has self.old s → IsSound s →
+            IfOk result (λ replies.
+            (end : State) × IsRun s asked.now replies.items end × Sh.has self.new end) }
+        ensures cause { Sh.doubts self.new ≡ 0 → (s : State) → Sh.has self.old s → IsSound s →
+            IfOk result (λ replies.
+            AreCounted (failures_told replies.items) (Sh.failed self.old) (Sh.failed self.new)) }
+        ensures crash { Sh.doubts self.new ≡ 0 → (s : State) → Sh.has self.old s → IsSound s →
+            IfOk result (λ replies.
+            (left : Option State) → Sh.may_remain self.new left →
+            (Sh.may_remain self.old left × (any_made replies.items ≡ false)) ⊎
+            IsSomeAnd left (λ content. MayBeLeft s asked.now replies.items content)) }
         ensures none { OnErr result (self.new ≡ self.old) }
         ensures later { Sh.failed self.old ≤ Sh.failed self.new }
         ensures doubt { Sh.doubts self.old ≤ Sh.doubts self.new }

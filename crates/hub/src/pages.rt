@@ -1,5 +1,5 @@
 //! Pages: the incidents of which something holds, by number.
-ghost use Rattle.std.specs.Prelude.{◌≡◌, ◌≤◌, ◌++◌, false, not, IfOk, OnOk, IfErr, IsErrOf, filter, take, length, option_map, string_bytes};
+ghost use Rattle.std.specs.Prelude.{◌≡◌, ◌≤◌, ◌++◌, false, not, IfOk, OnOk, IfErr, filter, take, length, option_map, string_bytes};
 ghost use Rattle.std.specs.List.{list_any};
 ghost use Rattle.std.specs.Option.{option_map_or};
 ghost use Rattle.hub_core.specs.State.{State, incident_of};
@@ -9,7 +9,7 @@ ghost use Rattle.hub_core.specs.declared.state.Incident.{Incident};
 ghost use Rattle.hub_core.specs.declared.reply.Entry.{Entry as Listed};
 ghost use Rattle.hub.specs.Replies.{page_of};
 ghost use Rattle.hub.specs.inner.PageFilter.{HasSameWords, admits, shuts_out, is_shut_out, is_told, is_wanted, is_wanted_at, number_at_end};
-ghost use Rattle.hub_core.specs.Shelves.{HasFailed, IsKept};
+ghost use Rattle.hub_core.specs.Shelves.{Finds};
 ghost use Rattle.hub.specs.inner.Asking.{IsThere};
 
 use crate::PAGE_LIMIT;
@@ -45,7 +45,8 @@ fn is_shut(case: &Case, standing: &Standing) -> bool
 }
 
 fn copied_text(alloc: Global, text: &Option<String>) -> Result<Option<String>, ShelfFault>
-    ensures value { IfOk result (λ copy. option_map string_bytes copy ≡ option_map string_bytes text.now) }
+    ensures value { IfOk result (λ copy.
+        option_map string_bytes copy ≡ option_map string_bytes text.now) }
     ensures fault { IfErr result (λ e. e ≡ ShelfFault.NoMemory) }
 {
     match text {
@@ -84,9 +85,10 @@ fn is_wanted_by<Sh: Shelf>(
     standing: Standing,
     incident: u32,
 ) -> Result<bool, ShelfFault>
-    ensures value { Sh.doubts shelf.new ≡ 0 → (s : State) → Sh.has shelf.old s → IsSound s → IfOk result (λ b. b ≡ option_map_or (λ (i : Incident). is_told wanted.entry i.document (case_for s i) standing) (incident_of incident s) false) }
-    ensures kept { IsKept Sh.has Sh.doubts Sh.failed Sh.may_remain shelf.old shelf.new }
-    ensures cause { IsErrOf result ShelfFault.Failed → HasFailed (Sh.failed shelf.old) (Sh.failed shelf.new) }
+    ensures { Finds Sh.has Sh.doubts Sh.failed Sh.may_remain shelf.old shelf.new result (λ s.
+        IsSound s → IfOk result (λ b. b ≡
+        option_map_or (λ (i : Incident).
+        is_told wanted.entry i.document (case_for s i) standing) (incident_of incident s) false)) }
 {
     if is_ruled_out(wanted, &standing) {
         return Ok(false);
@@ -109,9 +111,10 @@ fn lists<Sh: Shelf>(
     wanted: PageFilter<'_>,
     incident: u32,
 ) -> Result<bool, ShelfFault>
-    ensures value { Sh.doubts shelf.new ≡ 0 → (s : State) → Sh.has shelf.old s → IsSound s → IsThere s asker.entry.person.now → IfOk result (λ b. b ≡ is_wanted_at s asker.entry.now asker.entry.person.now wanted.entry incident) }
-    ensures kept { IsKept Sh.has Sh.doubts Sh.failed Sh.may_remain shelf.old shelf.new }
-    ensures cause { IsErrOf result ShelfFault.Failed → HasFailed (Sh.failed shelf.old) (Sh.failed shelf.new) }
+    ensures { Finds Sh.has Sh.doubts Sh.failed Sh.may_remain shelf.old shelf.new result (λ s.
+        IsSound s → IsThere s asker.entry.person.now →
+        IfOk result (λ b. b ≡
+        is_wanted_at s asker.entry.now asker.entry.person.now wanted.entry incident)) }
 {
     match standing(shelf, asker, incident)? {
         None => Ok(false),
@@ -130,9 +133,12 @@ fn pick<Sh: Shelf>(
 ) -> Result<(), ShelfFault>
     requires { length listed.old.items ≤ PAGE_LIMIT }
     ensures room { OnOk result (length listed.new.items ≤ PAGE_LIMIT) }
-    ensures value { Sh.doubts shelf.new ≡ 0 → (s : State) → Sh.has shelf.old s → IsSound s → IsThere s asker.entry.person.now → OnOk result (listed.new.items ≡ take PAGE_LIMIT (listed.old.items ++ filter (λ (e : Listed). is_wanted_at s asker.entry.now asker.entry.person.now wanted.entry e.number) entries.now)) }
-    ensures kept { IsKept Sh.has Sh.doubts Sh.failed Sh.may_remain shelf.old shelf.new }
-    ensures cause { IsErrOf result ShelfFault.Failed → HasFailed (Sh.failed shelf.old) (Sh.failed shelf.new) }
+    ensures found { Finds Sh.has Sh.doubts Sh.failed Sh.may_remain shelf.old shelf.new result (λ s.
+        IsSound s → IsThere s asker.entry.person.now →
+        OnOk result (listed.new.items ≡
+        take PAGE_LIMIT
+        (listed.old.items ++ filter (λ (e : Listed).
+        is_wanted_at s asker.entry.now asker.entry.person.now wanted.entry e.number) entries.now))) }
 {
     for entry in entries {
         if listed.len() == PAGE_LIMIT {
@@ -164,9 +170,11 @@ pub fn page<Sh: Shelf>(
     wanted: PageFilter<'_>,
     after: u32,
 ) -> Result<Vec<Entry>, ShelfFault>
-    ensures value { Sh.doubts shelf.new ≡ 0 → (s : State) → Sh.has shelf.old s → IsSound s → IsThere s asker.entry.person.now → IfOk result (λ listed. listed.items ≡ page_of (is_wanted s asker.entry.now asker.entry.person.now wanted.entry) after s) }
-    ensures kept { IsKept Sh.has Sh.doubts Sh.failed Sh.may_remain shelf.old shelf.new }
-    ensures cause { IsErrOf result ShelfFault.Failed → HasFailed (Sh.failed shelf.old) (Sh.failed shelf.new) }
+    ensures { Finds Sh.has Sh.doubts Sh.failed Sh.may_remain shelf.old shelf.new result (λ s.
+        IsSound s → IsThere s asker.entry.person.now →
+        IfOk result (λ listed.
+        listed.items ≡
+        page_of (is_wanted s asker.entry.now asker.entry.person.now wanted.entry) after s)) }
 {
     let mut listed = Vec::new(alloc);
     let mut above = after;

@@ -1,5 +1,5 @@
 //! Requests that only read.
-ghost use Rattle.std.specs.Prelude.{◌≡◌, ◌&&◌, ◌||◌, not, Some, IfOk, IfErr, IsErrOf, option_map, string_bytes};
+ghost use Rattle.std.specs.Prelude.{◌≡◌, ◌&&◌, ◌||◌, not, Some, IfOk, IfErr, option_map, string_bytes};
 ghost use Rattle.hub_core.specs.State.{State};
 ghost use Rattle.hub_core.specs.Sound.{IsSound};
 ghost use Rattle.hub_core.specs.Refusals.{refusal_of};
@@ -12,7 +12,7 @@ ghost use Rattle.hub.specs.Told.{is_served, is_addressed};
 ghost use Rattle.hub.specs.Replies.{page_of, viewed};
 ghost use Rattle.hub.specs.inner.PageFilter.{is_wanted};
 ghost use Rattle.hub.specs.Serving.{read_by, searched};
-ghost use Rattle.hub_core.specs.Shelves.{HasFailed, IsKept};
+ghost use Rattle.hub_core.specs.Shelves.{Finds};
 ghost use Rattle.hub.specs.inner.Asking.{IsThere};
 
 use crate::asking::Asker;
@@ -36,9 +36,11 @@ fn list<Sh: Shelf>(
     wanted: PageFilter<'_>,
     after: u32,
 ) -> Result<Reply, ShelfFault>
-    ensures value { Sh.doubts shelf.new ≡ 0 → (s : State) → Sh.has shelf.old s → IsSound s → IsThere s asker.entry.person.now → IfOk result (λ reply. reply ≡ Incidents (page_of (is_wanted s asker.entry.now asker.entry.person.now wanted.entry) after s)) }
-    ensures kept { IsKept Sh.has Sh.doubts Sh.failed Sh.may_remain shelf.old shelf.new }
-    ensures cause { IsErrOf result ShelfFault.Failed → HasFailed (Sh.failed shelf.old) (Sh.failed shelf.new) }
+    ensures { Finds Sh.has Sh.doubts Sh.failed Sh.may_remain shelf.old shelf.new result (λ s.
+        IsSound s → IsThere s asker.entry.person.now →
+        IfOk result (λ reply. reply ≡
+        Incidents (page_of
+        (is_wanted s asker.entry.now asker.entry.person.now wanted.entry) after s))) }
 {
     let listed = page(shelf, alloc, asker, wanted, after)?;
     Ok(Reply::Incidents(Entries::new(listed)))
@@ -53,9 +55,12 @@ fn list_shown<Sh: Shelf>(
     addressed: bool,
     after: u32,
 ) -> Result<Reply, ShelfFault>
-    ensures value { Sh.doubts shelf.new ≡ 0 → (s : State) → Sh.has shelf.old s → IsSound s → IsThere s asker.entry.person.now → IfOk result (λ reply. reply ≡ Incidents (page_of (λ (i : Incident). (not addressed || is_addressed s asker.entry.now asker.entry.person.now i) && is_served s asker.entry.now asker.entry.person.now i) after s)) }
-    ensures kept { IsKept Sh.has Sh.doubts Sh.failed Sh.may_remain shelf.old shelf.new }
-    ensures cause { IsErrOf result ShelfFault.Failed → HasFailed (Sh.failed shelf.old) (Sh.failed shelf.new) }
+    ensures { Finds Sh.has Sh.doubts Sh.failed Sh.may_remain shelf.old shelf.new result (λ s.
+        IsSound s → IsThere s asker.entry.person.now →
+        IfOk result (λ reply. reply ≡
+        Incidents (page_of (λ (i : Incident).
+        (not addressed || is_addressed s asker.entry.now asker.entry.person.now i) &&
+        is_served s asker.entry.now asker.entry.person.now i) after s))) }
 {
     let want = Want {
         needle: None,
@@ -83,7 +88,8 @@ fn string_of(alloc: Global, text: &Option<Text>) -> Result<Option<String>, Shelf
 
 /// What a search looks for.
 fn want_of(alloc: Global, asked: &Search) -> Result<Want, ShelfFault>
-    ensures needle { IfOk result (λ want. option_map string_bytes want.needle ≡ Some asked.now.needle) }
+    ensures needle { IfOk result (λ want.
+        option_map string_bytes want.needle ≡ Some asked.now.needle) }
     ensures class { IfOk result (λ want. option_map string_bytes want.class ≡ asked.now.class) }
     ensures fault { IfErr result (λ e. e ≡ ShelfFault.NoMemory) }
 {
@@ -103,9 +109,10 @@ fn search<Sh: Shelf>(
     request: &Request,
     asked: &Search,
 ) -> Result<Reply, ShelfFault>
-    ensures refused { Sh.doubts shelf.new ≡ 0 → (s : State) → Sh.has shelf.old s → IsSound s → IsThere s asker.entry.person.now → IfOk result (λ reply. reply ≡ searched (refusal_of s asker.entry.person.now request.now) s asker.entry.now asker.entry.person.now asked.now) }
-    ensures kept { IsKept Sh.has Sh.doubts Sh.failed Sh.may_remain shelf.old shelf.new }
-    ensures cause { IsErrOf result ShelfFault.Failed → HasFailed (Sh.failed shelf.old) (Sh.failed shelf.new) }
+    ensures { Finds Sh.has Sh.doubts Sh.failed Sh.may_remain shelf.old shelf.new result (λ s.
+        IsSound s → IsThere s asker.entry.person.now →
+        IfOk result (λ reply. reply ≡
+        searched (refusal_of s asker.entry.person.now request.now) s asker.entry.now asker.entry.person.now asked.now)) }
 {
     let facts = shelf.facts(asker.person, request)?;
     match judge(alloc, asker.person, &facts, request) {
@@ -128,9 +135,10 @@ fn look<Sh: Shelf>(
     asker: Asker<'_>,
     incident: u32,
 ) -> Result<Reply, ShelfFault>
-    ensures value { Sh.doubts shelf.new ≡ 0 → (s : State) → Sh.has shelf.old s → IsSound s → IsThere s asker.entry.person.now → IfOk result (λ reply. reply ≡ viewed s asker.entry.now asker.entry.person.now (incident_of incident s)) }
-    ensures kept { IsKept Sh.has Sh.doubts Sh.failed Sh.may_remain shelf.old shelf.new }
-    ensures cause { IsErrOf result ShelfFault.Failed → HasFailed (Sh.failed shelf.old) (Sh.failed shelf.new) }
+    ensures { Finds Sh.has Sh.doubts Sh.failed Sh.may_remain shelf.old shelf.new result (λ s.
+        IsSound s → IsThere s asker.entry.person.now →
+        IfOk result (λ reply. reply ≡
+        viewed s asker.entry.now asker.entry.person.now (incident_of incident s))) }
 {
     match view(shelf, asker, incident)? {
         Some(view) => Ok(Reply::View(view)),
@@ -139,9 +147,8 @@ fn look<Sh: Shelf>(
 }
 
 fn groups<Sh: Shelf>(shelf: &mut Sh, asker: Asker<'_>) -> Result<Reply, ShelfFault>
-    ensures value { Sh.doubts shelf.new ≡ 0 → (s : State) → Sh.has shelf.old s → IfOk result (λ reply. reply ≡ Groups (groups_joined_by asker.entry.person.now s)) }
-    ensures kept { IsKept Sh.has Sh.doubts Sh.failed Sh.may_remain shelf.old shelf.new }
-    ensures cause { IsErrOf result ShelfFault.Failed → HasFailed (Sh.failed shelf.old) (Sh.failed shelf.new) }
+    ensures { Finds Sh.has Sh.doubts Sh.failed Sh.may_remain shelf.old shelf.new result (λ s.
+        IfOk result (λ reply. reply ≡ Groups (groups_joined_by asker.entry.person.now s))) }
 {
     let groups = shelf.groups_of(asker.person)?;
     Ok(Reply::Groups(JoinedGroups::new(groups)))
@@ -154,9 +161,9 @@ pub fn read<Sh: Shelf>(
     asker: Asker<'_>,
     request: &Request,
 ) -> Result<Option<Reply>, ShelfFault>
-    ensures value { Sh.doubts shelf.new ≡ 0 → (s : State) → Sh.has shelf.old s → IsSound s → IsThere s asker.entry.person.now → IfOk result (λ reply. reply ≡ read_by s asker.entry.now asker.entry.person.now request.now) }
-    ensures kept { IsKept Sh.has Sh.doubts Sh.failed Sh.may_remain shelf.old shelf.new }
-    ensures cause { IsErrOf result ShelfFault.Failed → HasFailed (Sh.failed shelf.old) (Sh.failed shelf.new) }
+    ensures { Finds Sh.has Sh.doubts Sh.failed Sh.may_remain shelf.old shelf.new result (λ s.
+        IsSound s → IsThere s asker.entry.person.now →
+        IfOk result (λ reply. reply ≡ read_by s asker.entry.now asker.entry.person.now request.now)) }
 {
     let reply = match request {
         Request::View { incident } => look(shelf, alloc, asker, *incident)?,

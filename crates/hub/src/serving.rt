@@ -27,7 +27,8 @@ fn answer_person<Sh: Shelf>(
     ensures step { Sh.doubts shelf.new ≡ 0 → (s : State) → Sh.has shelf.old s → IsSound s → IsThere s asker.entry.person.now → IsOrg s.directory.orgs asker.entry.person.now.org →
         IsDoneAsDue Sh.has Sh.may_remain shelf.old shelf.new s (due_to s asker.entry.now asker.entry.person.now request.now) (state_after s asker.entry.person.now request.now) result }
     ensures counted { IsCounted Sh.doubts Sh.failed shelf.old shelf.new result }
-    ensures kept { is_made_by result ≡ false → KeepsContent Sh.has Sh.doubts Sh.failed Sh.may_remain shelf.old shelf.new }
+    ensures kept { is_made_by result ≡ false →
+        KeepsContent Sh.has Sh.doubts Sh.failed Sh.may_remain shelf.old shelf.new }
 {
     match read(shelf, alloc, asker, request)? {
         Some(reply) => Ok(reply),
@@ -46,7 +47,8 @@ pub fn answer_key<Sh: Shelf>(
     ensures step { Sh.doubts shelf.new ≡ 0 → (s : State) → Sh.has shelf.old s → IsSound s →
         IsDoneAsDue Sh.has Sh.may_remain shelf.old shelf.new s (reply_of s now key.now request.now) (state_left s key.now request.now) result }
     ensures counted { IsCounted Sh.doubts Sh.failed shelf.old shelf.new result }
-    ensures kept { is_made_by result ≡ false → KeepsContent Sh.has Sh.doubts Sh.failed Sh.may_remain shelf.old shelf.new }
+    ensures kept { is_made_by result ≡ false →
+        KeepsContent Sh.has Sh.doubts Sh.failed Sh.may_remain shelf.old shelf.new }
 {
     match caller_by(shelf, key)? {
         None => Ok(Reply::Refused(Refusal::bare(alloc, Code::K1))),

@@ -1,12 +1,12 @@
 //! The excerpt of one incident.
-ghost use Rattle.std.specs.Prelude.{◌≡◌, option_map, option_and_then, IfOk, IsErrOf};
+ghost use Rattle.std.specs.Prelude.{◌≡◌, option_map, option_and_then, IfOk};
 ghost use Rattle.redact.specs.Excerpts.{told_by};
 ghost use Rattle.hub_core.specs.State.{State, incident_of};
 ghost use Rattle.hub_core.specs.Sound.{IsSound};
 ghost use Rattle.hub_core.specs.Reads.{entry_of};
 ghost use Rattle.hub.specs.Told.{view_of};
 ghost use Rattle.hub.specs.inner.Viewing.{first_being, view_made};
-ghost use Rattle.hub_core.specs.Shelves.{HasFailed, IsKept};
+ghost use Rattle.hub_core.specs.Shelves.{Finds};
 ghost use Rattle.hub.specs.inner.Asking.{IsThere};
 
 use crate::asking::{Asker, case_of, excerpt_of, standing};
@@ -25,9 +25,8 @@ fn first_of(entries: &[Entry], incident: u32) -> Option<Entry>
 
 /// The incident as it is listed; none where it is missing.
 fn entry<Sh: Shelf>(shelf: &mut Sh, incident: u32) -> Result<Option<Entry>, ShelfFault>
-    ensures value { Sh.doubts shelf.new ≡ 0 → (s : State) → Sh.has shelf.old s → IsSound s → IfOk result (λ found. found ≡ option_map entry_of (incident_of incident s)) }
-    ensures kept { IsKept Sh.has Sh.doubts Sh.failed Sh.may_remain shelf.old shelf.new }
-    ensures cause { IsErrOf result ShelfFault.Failed → HasFailed (Sh.failed shelf.old) (Sh.failed shelf.new) }
+    ensures { Finds Sh.has Sh.doubts Sh.failed Sh.may_remain shelf.old shelf.new result (λ s.
+        IsSound s → IfOk result (λ found. found ≡ option_map entry_of (incident_of incident s))) }
 {
     let entries = shelf.incidents_after(incident.saturating_sub(1), 1)?;
     Ok(first_of(entries.as_slice(), incident))
@@ -52,9 +51,11 @@ pub fn view<Sh: Shelf>(
     asker: Asker<'_>,
     incident: u32,
 ) -> Result<Option<View>, ShelfFault>
-    ensures value { Sh.doubts shelf.new ≡ 0 → (s : State) → Sh.has shelf.old s → IsSound s → IsThere s asker.entry.person.now → IfOk result (λ view. view ≡ option_and_then (view_of s asker.entry.now asker.entry.person.now) (incident_of incident s)) }
-    ensures kept { IsKept Sh.has Sh.doubts Sh.failed Sh.may_remain shelf.old shelf.new }
-    ensures cause { IsErrOf result ShelfFault.Failed → HasFailed (Sh.failed shelf.old) (Sh.failed shelf.new) }
+    ensures { Finds Sh.has Sh.doubts Sh.failed Sh.may_remain shelf.old shelf.new result (λ s.
+        IsSound s → IsThere s asker.entry.person.now →
+        IfOk result (λ view. view ≡
+        option_and_then (view_of s asker.entry.now asker.entry.person.now)
+        (incident_of incident s))) }
 {
     let Some(standing) = standing(shelf, asker, incident)? else {
         return Ok(None);

@@ -191,8 +191,8 @@ IsPlain (PutGate g) = Unit {0}
 IsPlain _ = ⊥
 
 record Keeps (before after : State) : Type 0 where
-  recipients : with_edits.recipients ≡ before.recipients
-  permissions : with_edits.permissions ≡ before.permissions
+  recipients : after.recipients ≡ before.recipients
+  permissions : after.permissions ≡ before.permissions
 
 keeps_by : (edit : Edit) (s : State) → IsPlain edit → Keeps s (edited edit s)
 keeps_by (Directory edit) s h = absurd h

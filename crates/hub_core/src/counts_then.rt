@@ -31,7 +31,12 @@ pub(crate) struct Counts {
 
 /// How many class gates there would be with the gate asked for, if its text is the pointer of a path.
 fn gates_with(alloc: Global, asked: &Redistribute, gates: &[Gate]) -> Result<u32, AllocError>
-    ensures { (s : State) → IsSound s → gates.now ≡ its_gates asked.now.incident s.gates → IfOk result (λ k. k ≡ class_gates asked.now.incident (with_edits (made_at (λ p. edit.TakeGate (record { incident = asked.now.incident; path = p }) ∷ put_gate asked.now.incident asked.now.level asked.now.group p) asked.now.path) s).gates) }
+    ensures { (s : State) → IsSound s → gates.now ≡ its_gates asked.now.incident s.gates →
+        IfOk result (λ k. k ≡
+        class_gates asked.now.incident
+        (with_edits (made_at (λ p.
+        edit.TakeGate
+        (record { incident = asked.now.incident; path = p }) ∷ put_gate asked.now.incident asked.now.level asked.now.group p) asked.now.path) s).gates) }
 {
     match path_of(alloc, &asked.path)? {
         None => Ok(capped(count_class_gates(gates))),
@@ -45,7 +50,13 @@ fn permissions_with(
     asked: &Grant,
     permissions: &[Permission],
 ) -> Result<u32, AllocError>
-    ensures { (s : State) → IsSound s → permissions.now ≡ its_permissions asked.now.incident s.permissions → IfOk result (λ k. k ≡ permissions_of asked.now.incident (with_edits (made_at (λ p. put_permission (record { incident = asked.now.incident; path = p; grantee = asked.now.grantee }) asked.now.until) asked.now.path) s).permissions) }
+    ensures { (s : State) → IsSound s →
+        permissions.now ≡ its_permissions asked.now.incident s.permissions →
+        IfOk result (λ k. k ≡
+        permissions_of asked.now.incident
+        (with_edits (made_at (λ p.
+        put_permission
+        (record { incident = asked.now.incident; path = p; grantee = asked.now.grantee }) asked.now.until) asked.now.path) s).permissions) }
 {
     match path_of(alloc, &asked.path)? {
         None => Ok(capped(permissions.len())),
@@ -62,7 +73,13 @@ fn permissions_without(
     asked: &Withdraw,
     permissions: &[Permission],
 ) -> Result<u32, AllocError>
-    ensures { (s : State) → IsSound s → permissions.now ≡ its_permissions asked.now.incident s.permissions → IfOk result (λ k. k ≡ permissions_of asked.now.incident (with_edits (made_at (λ p. edit.TakePermission (record { incident = asked.now.incident; path = p; grantee = asked.now.grantee }) ∷ []) asked.now.path) s).permissions) }
+    ensures { (s : State) → IsSound s →
+        permissions.now ≡ its_permissions asked.now.incident s.permissions →
+        IfOk result (λ k. k ≡
+        permissions_of asked.now.incident
+        (with_edits (made_at (λ p.
+        edit.TakePermission
+        (record { incident = asked.now.incident; path = p; grantee = asked.now.grantee }) ∷ []) asked.now.path) s).permissions) }
 {
     match path_of(alloc, &asked.path)? {
         None => Ok(capped(permissions.len())),
@@ -75,7 +92,8 @@ fn permissions_without(
 
 /// How many stand.
 fn standing_counts(sharing: &Sharing) -> Counts
-    ensures { (s : State) → (n : ℕ) → IsSound s → sharing.now ≡ sharing_of n s → result ≡ counts_of n s }
+    ensures { (s : State) → (n : ℕ) → IsSound s → sharing.now ≡ sharing_of n s →
+        result ≡ counts_of n s }
 {
     Counts {
         gates: capped(count_class_gates(sharing.gates.as_slice())),
@@ -86,7 +104,9 @@ fn standing_counts(sharing: &Sharing) -> Counts
 
 /// How many would stand of the incident that the request names, which is there.
 fn counts_there(alloc: Global, request: &Request, sharing: &Sharing) -> Result<Counts, AllocError>
-    ensures { (s : State) → IsSound s → sharing.now ≡ sharing_asked (incident_asked request.now) s → is_some (looked_up s (incident_asked request.now)) ≡ true → (actor : Actor) → IfOk result (λ found. found ≡ counts_in s actor request.now) }
+    ensures { (s : State) → IsSound s → sharing.now ≡ sharing_asked (incident_asked request.now) s →
+        is_some (looked_up s (incident_asked request.now)) ≡ true → (actor : Actor) →
+        IfOk result (λ found. found ≡ counts_in s actor request.now) }
 {
     let counts = standing_counts(sharing);
     let targets = sharing.recipients.as_slice();
@@ -125,7 +145,9 @@ fn counts_there(alloc: Global, request: &Request, sharing: &Sharing) -> Result<C
 /// How many would stand where no incident that is there is named: each incident of a Post would have as many class gates
 /// as are asked for.
 fn counts_apart(request: &Request) -> Counts
-    ensures { (s : State) → (actor : Actor) → is_some (looked_up s (incident_asked request.now)) ≡ false → result ≡ counts_in s actor request.now }
+    ensures { (s : State) → (actor : Actor) →
+        is_some (looked_up s (incident_asked request.now)) ≡ false →
+        result ≡ counts_in s actor request.now }
 {
     let gates = match request {
         Request::Post(asked) => capped(asked.distribution.gates.as_slice().len()),
@@ -145,7 +167,9 @@ pub(crate) fn counts_then(
     sharing: &Sharing,
     is_there: bool,
 ) -> Result<Counts, AllocError>
-    ensures { (s : State) → IsSound s → sharing.now ≡ sharing_asked (incident_asked request.now) s → is_there ≡ is_some (looked_up s (incident_asked request.now)) → (actor : Actor) → IfOk result (λ found. found ≡ counts_in s actor request.now) }
+    ensures { (s : State) → IsSound s → sharing.now ≡ sharing_asked (incident_asked request.now) s →
+        is_there ≡ is_some (looked_up s (incident_asked request.now)) → (actor : Actor) →
+        IfOk result (λ found. found ≡ counts_in s actor request.now) }
 {
     if is_there {
         counts_there(alloc, request, sharing)

@@ -1,9 +1,9 @@
 //! What there is to know about a request, made of what a shelf looks up.
-ghost use Rattle.std.specs.Prelude.{◌≡◌, IfOk, IsErrOf, option_map};
+ghost use Rattle.std.specs.Prelude.{◌≡◌, IfOk, option_map};
 ghost use Rattle.hub_core.specs.Facts.{plain_facts, exists_in, stands_in, count_in, circle_facts_of, facts_of};
 ghost use Rattle.hub_core.specs.Requests.{incident_facts, looked_up, incident_asked as incident_named_by};
 ghost use Rattle.hub_core.specs.inner.Shared.{sharing_asked};
-ghost use Rattle.hub_core.specs.Shelves.{HasFailed, IsKept, IsRead};
+ghost use Rattle.hub_core.specs.Shelves.{Finds, Reads};
 ghost use Rattle.hub_core.specs.State.{State};
 ghost use Rattle.hub_core.specs.declared.state.Incident.{Incident};
 
@@ -60,9 +60,8 @@ fn find_exists<L: LookUps>(
     actor: &Person,
     request: &Request,
 ) -> Result<bool, ShelfFault>
-    ensures value { L.doubts shelf.new ≡ 0 → (s : State) → L.has shelf.old s → IfOk result (λ b. b ≡ exists_in s actor.now request.now) }
-    ensures kept { IsKept L.has L.doubts L.failed L.may_remain shelf.old shelf.new }
-    ensures cause { IsErrOf result ShelfFault.Failed → HasFailed (L.failed shelf.old) (L.failed shelf.new) }
+    ensures { Finds L.has L.doubts L.failed L.may_remain shelf.old shelf.new result (λ s.
+        IfOk result (λ b. b ≡ exists_in s actor.now request.now)) }
 {
     match request {
         Request::Post(asked) => has_joined_all(shelf, actor, &asked.distribution),
@@ -77,9 +76,8 @@ fn find_exists<L: LookUps>(
 
 /// How many incidents there are, where more are to be posted.
 fn find_count<L: LookUps>(shelf: &mut L, request: &Request) -> Result<u32, ShelfFault>
-    ensures value { L.doubts shelf.new ≡ 0 → (s : State) → L.has shelf.old s → IfOk result (λ n. n ≡ count_in s request.now) }
-    ensures kept { IsKept L.has L.doubts L.failed L.may_remain shelf.old shelf.new }
-    ensures cause { IsErrOf result ShelfFault.Failed → HasFailed (L.failed shelf.old) (L.failed shelf.new) }
+    ensures { Finds L.has L.doubts L.failed L.may_remain shelf.old shelf.new result (λ s.
+        IfOk result (λ n. n ≡ count_in s request.now)) }
 {
     match request {
         Request::Post(_) => shelf.incident_count(),
@@ -95,9 +93,11 @@ fn find_plain_facts<L: LookUps>(
     request: &Request,
     sharing: &Sharing,
 ) -> Result<CircleFacts, ShelfFault>
-    ensures value { L.doubts shelf.new ≡ 0 → (s : State) → L.has shelf.old s → sharing.now ≡ sharing_asked (incident_named_by request.now) s → IfOk result (λ facts. facts ≡ plain_facts (exists_in s actor.now request.now) (stands_in s request.now) (count_in s request.now)) }
-    ensures kept { IsKept L.has L.doubts L.failed L.may_remain shelf.old shelf.new }
-    ensures cause { IsErrOf result ShelfFault.Failed → HasFailed (L.failed shelf.old) (L.failed shelf.new) }
+    ensures { Finds L.has L.doubts L.failed L.may_remain shelf.old shelf.new result (λ s.
+        sharing.now ≡ sharing_asked (incident_named_by request.now) s →
+        IfOk result (λ facts. facts ≡
+        plain_facts (exists_in s actor.now request.now) (stands_in s request.now)
+        (count_in s request.now))) }
 {
     let stands = stands(alloc, request, sharing)?;
     let exists = find_exists(shelf, actor, request)?;
@@ -113,9 +113,9 @@ fn find_circle_facts<L: LookUps>(
     request: &Request,
     sharing: &Sharing,
 ) -> Result<CircleFacts, ShelfFault>
-    ensures value { L.doubts shelf.new ≡ 0 → (s : State) → L.has shelf.old s → sharing.now ≡ sharing_asked (incident_named_by request.now) s → IfOk result (λ facts. facts ≡ circle_facts_of s actor.now request.now) }
-    ensures kept { IsKept L.has L.doubts L.failed L.may_remain shelf.old shelf.new }
-    ensures cause { IsErrOf result ShelfFault.Failed → HasFailed (L.failed shelf.old) (L.failed shelf.new) }
+    ensures { Finds L.has L.doubts L.failed L.may_remain shelf.old shelf.new result (λ s.
+        sharing.now ≡ sharing_asked (incident_named_by request.now) s →
+        IfOk result (λ facts. facts ≡ circle_facts_of s actor.now request.now)) }
 {
     match request {
         Request::Circle(command) => shelf.circle_facts(actor, command),
@@ -137,9 +137,8 @@ fn known_asked<L: LookUps>(
     shelf: &mut L,
     incident: Option<u32>,
 ) -> Result<Option<IncidentFacts>, ShelfFault>
-    ensures value { L.doubts shelf.new ≡ 0 → (s : State) → L.has shelf.old s → IfOk result (λ found. found ≡ option_map incident_facts (looked_up s incident)) }
-    ensures kept { IsKept L.has L.doubts L.failed L.may_remain shelf.old shelf.new }
-    ensures cause { IsErrOf result ShelfFault.Failed → HasFailed (L.failed shelf.old) (L.failed shelf.new) }
+    ensures { Finds L.has L.doubts L.failed L.may_remain shelf.old shelf.new result (λ s.
+        IfOk result (λ found. found ≡ option_map incident_facts (looked_up s incident))) }
 {
     let Some(number) = incident else {
         return Ok(None);
@@ -154,9 +153,9 @@ fn document_asked<L: LookUps>(
     shelf: &mut L,
     incident: Option<u32>,
 ) -> Result<Option<Document>, ShelfFault>
-    ensures value { L.doubts shelf.new ≡ 0 → (s : State) → L.has shelf.old s → IfOk result (λ found. found ≡ option_map (λ (i : Incident). i.document) (looked_up s incident)) }
-    ensures kept { IsKept L.has L.doubts L.failed L.may_remain shelf.old shelf.new }
-    ensures cause { IsErrOf result ShelfFault.Failed → HasFailed (L.failed shelf.old) (L.failed shelf.new) }
+    ensures { Finds L.has L.doubts L.failed L.may_remain shelf.old shelf.new result (λ s.
+        IfOk result (λ found. found ≡
+        option_map (λ (i : Incident). i.document) (looked_up s incident))) }
 {
     match incident {
         None => Ok(None),
@@ -172,9 +171,9 @@ fn find_facts<L: LookUps>(
     request: &Request,
     sharing: &Sharing,
 ) -> Result<Facts, ShelfFault>
-    ensures value { L.doubts shelf.new ≡ 0 → (s : State) → L.has shelf.old s → sharing.now ≡ sharing_asked (incident_named_by request.now) s → IfOk result (λ facts. facts ≡ facts_of s actor.now request.now) }
-    ensures kept { IsKept L.has L.doubts L.failed L.may_remain shelf.old shelf.new }
-    ensures cause { IsErrOf result ShelfFault.Failed → HasFailed (L.failed shelf.old) (L.failed shelf.new) }
+    ensures { Finds L.has L.doubts L.failed L.may_remain shelf.old shelf.new result (λ s.
+        sharing.now ≡ sharing_asked (incident_named_by request.now) s →
+        IfOk result (λ facts. facts ≡ facts_of s actor.now request.now)) }
 {
     let asked = incident_asked(request);
     let circle = find_circle_facts(shelf, alloc, actor, request, sharing)?;
@@ -199,9 +198,8 @@ fn find_facts_asked<L: LookUps>(
     actor: &Person,
     request: &Request,
 ) -> Result<Facts, ShelfFault>
-    ensures value { L.doubts shelf.new ≡ 0 → (s : State) → L.has shelf.old s → IfOk result (λ facts. facts ≡ facts_of s actor.now request.now) }
-    ensures kept { IsKept L.has L.doubts L.failed L.may_remain shelf.old shelf.new }
-    ensures cause { IsErrOf result ShelfFault.Failed → HasFailed (L.failed shelf.old) (L.failed shelf.new) }
+    ensures { Finds L.has L.doubts L.failed L.may_remain shelf.old shelf.new result (λ s.
+        IfOk result (λ facts. facts ≡ facts_of s actor.now request.now)) }
 {
     let sharing = find_sharing(shelf, alloc, incident_asked(request))?;
     find_facts(shelf, alloc, actor, request, &sharing)
@@ -214,8 +212,8 @@ pub fn facts_by<L: LookUps>(
     actor: &Person,
     request: &Request,
 ) -> Result<Facts, ShelfFault>
-    ensures value { L.doubts shelf.new ≡ 0 → (s : State) → L.has shelf.old s → IfOk result (λ facts. facts ≡ facts_of s actor.now request.now) }
-    ensures kept { IsRead L.has L.doubts L.failed L.may_remain shelf.old shelf.new result }
+    ensures { Reads L.has L.doubts L.failed L.may_remain shelf.old shelf.new (λ s facts. facts ≡
+        facts_of s actor.now request.now) result }
 {
     if shelf.has_ended() {
         return Err(ShelfFault::Failed);

@@ -47,10 +47,14 @@ pub fn judge(
     facts: &Facts,
     request: &Request,
 ) -> Result<Vec<Edit>, Refusal>
-    ensures refused { (s : State) → facts.now ≡ facts_of s actor.now request.now → IfErr result (RefusedAs (refusal_of s actor.now request.now)) }
-    ensures allowed { (s : State) → facts.now ≡ facts_of s actor.now request.now → OnOk result (refusal_of s actor.now request.now ≡ None) }
-    ensures edits { facts.now.circle.count < 4294967295 → IfOk result (λ edits. edits.items ≡ edits_by facts.now actor.now request.now) }
-    ensures made { (s : State) → IsSound s → facts.now ≡ facts_of s actor.now request.now → IfOk result (λ edits. state_with_edits edits.items s ≡ state_after s actor.now request.now) }
+    ensures refused { (s : State) → facts.now ≡ facts_of s actor.now request.now →
+        IfErr result (RefusedAs (refusal_of s actor.now request.now)) }
+    ensures allowed { (s : State) → facts.now ≡ facts_of s actor.now request.now →
+        OnOk result (refusal_of s actor.now request.now ≡ None) }
+    ensures edits { facts.now.circle.count < 4294967295 →
+        IfOk result (λ edits. edits.items ≡ edits_by facts.now actor.now request.now) }
+    ensures made { (s : State) → IsSound s → facts.now ≡ facts_of s actor.now request.now →
+        IfOk result (λ edits. state_with_edits edits.items s ≡ state_after s actor.now request.now) }
 {
     match request {
         Request::Circle(command) => judge_command(alloc, actor, &facts.circle, command),
@@ -72,7 +76,8 @@ pub fn judge(
 
 /// Want of memory as a refusal.
 fn stop_as_refusal(alloc: Global, judged: Result<Vec<Edit>, Stop>) -> Result<Vec<Edit>, Refusal>
-    ensures refused { (grounds : List Ground) → Asks grounds judged → IfErr result (RefusedAs (first_answer grounds)) }
+    ensures refused { (grounds : List Ground) → Asks grounds judged →
+        IfErr result (RefusedAs (first_answer grounds)) }
     ensures edits { IfOk result (λ edits. judged ≡ Ok edits) }
 {
     match judged {

@@ -67,7 +67,9 @@ impl ListShelf {
         case: &Case,
         standing: &Standing,
     ) -> Result<Option<Excerpt>, AllocError>
-        ensures { IfOk result (λ found. option_map told_by found ≡ served_of_incident incident case.now standing.entry.now self.now) }
+        ensures { IfOk result (λ found.
+            option_map told_by found ≡
+            served_of_incident incident case.now standing.entry.now self.now) }
     {
         match self.incident(incident) {
             None => Ok(None),
@@ -84,7 +86,9 @@ impl ListShelf {
         standing: &Standing,
         want: &Want,
     ) -> Result<bool, AllocError>
-        ensures { IsSound self.now → IfOk result (λ met. met ≡ met_by_incident incident case.now standing.entry.now want.now self.now) }
+        ensures { IsSound self.now →
+            IfOk result (λ met. met ≡
+            met_by_incident incident case.now standing.entry.now want.now self.now) }
     {
         match self.incident(incident) {
             None => Ok(false),

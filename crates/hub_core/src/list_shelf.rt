@@ -83,7 +83,9 @@ impl ListShelf {
 
     /// The number of the incident that a source has posted under an ident.
     pub(crate) fn number_of(&self, name: &Named) -> Option<u32>
-        ensures { IsSound self.now → result ≡ option_map incident_number (incident_named name.now.source name.now.ident self.now) }
+        ensures { IsSound self.now →
+            result ≡ option_map incident_number
+            (incident_named name.now.source name.now.ident self.now) }
     {
         self.lists.number_of(name)
     }

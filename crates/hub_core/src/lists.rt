@@ -55,7 +55,9 @@ impl Lists {
     pub(crate) fn make_all(&mut self, changes: Vec<RowChange>)
         requires in_order { AreInOrder self.old }
         requires room { HasRoom (length changes.items) self.old }
-        ensures made { (d : Directory) → with_directory d self.new ≡ with_edits (map row_edit changes.items) (with_directory d self.old) }
+        ensures made { (d : Directory) →
+            with_directory d self.new ≡
+            with_edits (map row_edit changes.items) (with_directory d self.old) }
         ensures in_order { AreInOrder self.new }
     {
         for change in changes {

@@ -1,10 +1,10 @@
 //! What a shelf looks up in its rows.
-ghost use Rattle.std.specs.Prelude.{◌≡◌, ◌==◌, ℕ, Option, IfOk, option_map, length};
+ghost use Rattle.std.specs.Prelude.{◌≡◌, ◌==◌, ℕ, Option, option_map, length};
 ghost use Rattle.circle.specs.Directory.{has_org as is_org, has_person as is_person, has_community as is_community, has_membership as is_membership, has_group_member as is_group_member};
 ghost use Rattle.circle.specs.Facts.{facts_of as directory_facts};
 ghost use Rattle.circle.specs.Reads.{person_of as person_numbered, communities_of as communities_joined, groups_joined as groups_joined_by, active_groups_joined as active_groups_joined_by, share_community as are_in_one_community, are_connected as are_in_connected, arranged as arranged_with, orgs_whose_client as organisations_whose_client};
 ghost use Rattle.hub_core.specs.Reads.{document_of, its_gates, its_permissions, its_recipients, naming_of};
-ghost use Rattle.hub_core.specs.Shelves.{IsRead, last_count};
+ghost use Rattle.hub_core.specs.Shelves.{Reads, last_count};
 ghost use Rattle.hub_core.specs.Sound.{IsSound};
 ghost use Rattle.hub_core.specs.State.{State, incident_named, incident_number};
 
@@ -46,103 +46,103 @@ pub trait LookUps {
         actor: &Person,
         command: &CircleCommand,
     ) -> Result<CircleFacts, ShelfFault>
-        ensures value { doubts self.new ≡ 0 → (s : State) → has self.old s → IfOk result (λ found. found ≡ directory_facts s.directory actor.now command.now) }
-        ensures kept { IsRead has doubts failed may_remain self.old self.new result };
+        ensures { Reads has doubts failed may_remain self.old self.new (λ s found. found ≡
+            directory_facts s.directory actor.now command.now) result };
 
     /// The person with this number, active or not.
     fn person_of(&mut self, number: u32) -> Result<Option<Person>, ShelfFault>
-        ensures value { doubts self.new ≡ 0 → (s : State) → has self.old s → IfOk result (λ found. found ≡ person_numbered number s.directory) }
-        ensures kept { IsRead has doubts failed may_remain self.old self.new result };
+        ensures { Reads has doubts failed may_remain self.old self.new (λ s found. found ≡
+            person_numbered number s.directory) result };
 
     /// Whether there is a person with this number, active or not.
     fn has_person(&mut self, number: u32) -> Result<bool, ShelfFault>
-        ensures value { doubts self.new ≡ 0 → (s : State) → has self.old s → IfOk result (λ found. found ≡ is_person number s.directory) }
-        ensures kept { IsRead has doubts failed may_remain self.old self.new result };
+        ensures { Reads has doubts failed may_remain self.old self.new (λ s found. found ≡
+            is_person number s.directory) result };
 
     /// Whether there is an organisation with this number.
     fn has_org(&mut self, number: u32) -> Result<bool, ShelfFault>
-        ensures value { doubts self.new ≡ 0 → (s : State) → has self.old s → IfOk result (λ found. found ≡ is_org number s.directory) }
-        ensures kept { IsRead has doubts failed may_remain self.old self.new result };
+        ensures { Reads has doubts failed may_remain self.old self.new (λ s found. found ≡
+            is_org number s.directory) result };
 
     /// Whether there is a community with this number.
     fn has_community(&mut self, number: u32) -> Result<bool, ShelfFault>
-        ensures value { doubts self.new ≡ 0 → (s : State) → has self.old s → IfOk result (λ found. found ≡ is_community number s.directory) }
-        ensures kept { IsRead has doubts failed may_remain self.old self.new result };
+        ensures { Reads has doubts failed may_remain self.old self.new (λ s found. found ≡
+            is_community number s.directory) result };
 
     /// Whether an organisation is a member of a community.
     fn has_membership(&mut self, community: u32, org: u32) -> Result<bool, ShelfFault>
-        ensures value { doubts self.new ≡ 0 → (s : State) → has self.old s → IfOk result (λ found. found ≡ is_membership community org s.directory) }
-        ensures kept { IsRead has doubts failed may_remain self.old self.new result };
+        ensures { Reads has doubts failed may_remain self.old self.new (λ s found. found ≡
+            is_membership community org s.directory) result };
 
     /// Whether an organisation is a member of a group.
     fn has_group_member(&mut self, group: u32, org: u32) -> Result<bool, ShelfFault>
-        ensures value { doubts self.new ≡ 0 → (s : State) → has self.old s → IfOk result (λ found. found ≡ is_group_member group org s.directory) }
-        ensures kept { IsRead has doubts failed may_remain self.old self.new result };
+        ensures { Reads has doubts failed may_remain self.old self.new (λ s found. found ≡
+            is_group_member group org s.directory) result };
 
     /// The groups of which an organisation is a member, and those of them that are active.
     fn groups_joined(&mut self, org: u32) -> Result<GroupsJoined, ShelfFault>
-        ensures value { doubts self.new ≡ 0 → (s : State) → has self.old s → IfOk result (λ found. found ≡ record { all = groups_joined_by org s.directory; active = active_groups_joined_by org s.directory }) }
-        ensures kept { IsRead has doubts failed may_remain self.old self.new result };
+        ensures { Reads has doubts failed may_remain self.old self.new (λ s found. found ≡
+            record { all = groups_joined_by org s.directory; active = active_groups_joined_by org s.directory }) result };
 
     /// The communities of which an organisation is a member, by number.
     fn communities_of(&mut self, org: u32) -> Result<Vec<u32>, ShelfFault>
-        ensures value { doubts self.new ≡ 0 → (s : State) → has self.old s → IfOk result (λ found. found.items ≡ communities_joined org s.directory) }
-        ensures kept { IsRead has doubts failed may_remain self.old self.new result };
+        ensures { Reads has doubts failed may_remain self.old self.new (λ s found.
+            found.items ≡ communities_joined org s.directory) result };
 
     /// Whether they are in one community.
     fn share_community(&mut self, org: u32, other: u32) -> Result<bool, ShelfFault>
-        ensures value { doubts self.new ≡ 0 → (s : State) → has self.old s → IfOk result (λ found. found ≡ are_in_one_community org other s.directory) }
-        ensures kept { IsRead has doubts failed may_remain self.old self.new result };
+        ensures { Reads has doubts failed may_remain self.old self.new (λ s found. found ≡
+            are_in_one_community org other s.directory) result };
 
     /// Whether they are in communities that are connected.
     fn are_connected(&mut self, org: u32, other: u32) -> Result<bool, ShelfFault>
-        ensures value { doubts self.new ≡ 0 → (s : State) → has self.old s → IfOk result (λ found. found ≡ are_in_connected org other s.directory) }
-        ensures kept { IsRead has doubts failed may_remain self.old self.new result };
+        ensures { Reads has doubts failed may_remain self.old self.new (λ s found. found ≡
+            are_in_connected org other s.directory) result };
 
     /// What a source arranged with an organisation.
     fn arranged(&mut self, source: u32, org: u32) -> Result<Option<Handling>, ShelfFault>
-        ensures value { doubts self.new ≡ 0 → (s : State) → has self.old s → IfOk result (λ found. found ≡ arranged_with source org s.directory) }
-        ensures kept { IsRead has doubts failed may_remain self.old self.new result };
+        ensures { Reads has doubts failed may_remain self.old self.new (λ s found. found ≡
+            arranged_with source org s.directory) result };
 
     /// The organisations whose client one is.
     fn orgs_whose_client(&mut self, client: u32) -> Result<Vec<u32>, ShelfFault>
-        ensures value { doubts self.new ≡ 0 → (s : State) → has self.old s → IfOk result (λ found. found.items ≡ organisations_whose_client client s.directory) }
-        ensures kept { IsRead has doubts failed may_remain self.old self.new result };
+        ensures { Reads has doubts failed may_remain self.old self.new (λ s found.
+            found.items ≡ organisations_whose_client client s.directory) result };
 
     /// How many incidents there are.
     fn incident_count(&mut self) -> Result<u32, ShelfFault>
-        ensures value { doubts self.new ≡ 0 → (s : State) → has self.old s → IfOk result (λ found. found ≡ length s.incidents) }
-        ensures kept { IsRead has doubts failed may_remain self.old self.new result };
+        ensures { Reads has doubts failed may_remain self.old self.new (λ s found. found ≡
+            length s.incidents) result };
 
     /// What an incident is known by, beside its document.
     fn naming(&mut self, incident: u32) -> Result<Option<Naming>, ShelfFault>
-        ensures value { doubts self.new ≡ 0 → (s : State) → has self.old s → IfOk result (λ found. found ≡ naming_of incident s) }
-        ensures kept { IsRead has doubts failed may_remain self.old self.new result };
+        ensures { Reads has doubts failed may_remain self.old self.new (λ s found. found ≡
+            naming_of incident s) result };
 
     /// The document of an incident.
     fn stored_document(&mut self, incident: u32) -> Result<Option<Document>, ShelfFault>
-        ensures value { doubts self.new ≡ 0 → (s : State) → has self.old s → IfOk result (λ found. found ≡ document_of incident s) }
-        ensures kept { IsRead has doubts failed may_remain self.old self.new result };
+        ensures { Reads has doubts failed may_remain self.old self.new (λ s found. found ≡
+            document_of incident s) result };
 
     /// The number of the incident that a source has posted under an ident.
     fn number_of(&mut self, source: u32, ident: &Text) -> Result<Option<u32>, ShelfFault>
-        ensures value { doubts self.new ≡ 0 → (s : State) → has self.old s → IfOk result (λ found. found ≡ option_map incident_number (incident_named source ident.now s)) }
-        ensures kept { IsRead has doubts failed may_remain self.old self.new result };
+        ensures { Reads has doubts failed may_remain self.old self.new (λ s found. found ≡
+            option_map incident_number (incident_named source ident.now s)) result };
 
     /// The gates of an incident.
     fn gates_of(&mut self, incident: u32) -> Result<Gates, ShelfFault>
-        ensures value { doubts self.new ≡ 0 → (s : State) → has self.old s → IfOk result (λ found. found ≡ its_gates incident s.gates) }
-        ensures kept { IsRead has doubts failed may_remain self.old self.new result };
+        ensures { Reads has doubts failed may_remain self.old self.new (λ s found. found ≡
+            its_gates incident s.gates) result };
 
     /// To whom an incident is addressed.
     fn recipients_of(&mut self, incident: u32) -> Result<Recipients, ShelfFault>
-        ensures value { doubts self.new ≡ 0 → (s : State) → has self.old s → IfOk result (λ found. found ≡ its_recipients incident s.recipients) }
-        ensures kept { IsRead has doubts failed may_remain self.old self.new result };
+        ensures { Reads has doubts failed may_remain self.old self.new (λ s found. found ≡
+            its_recipients incident s.recipients) result };
 
     /// The permissions of an incident.
     fn permissions_of(&mut self, incident: u32) -> Result<Permissions, ShelfFault>
-        ensures value { doubts self.new ≡ 0 → (s : State) → has self.old s → IfOk result (λ found. found ≡ its_permissions incident s.permissions) }
-        ensures kept { IsRead has doubts failed may_remain self.old self.new result };
+        ensures { Reads has doubts failed may_remain self.old self.new (λ s found. found ≡
+            its_permissions incident s.permissions) result };
 
     // what a shelf has is sound
     ghost sound: { (self : Self) (s : State) → has self s → IsSound s };

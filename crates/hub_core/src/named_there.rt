@@ -1,9 +1,9 @@
 //! Whether what a request names is there, by a shelf's look-ups.
-ghost use Rattle.std.specs.Prelude.{◌≡◌, IfOk, IsErrOf};
+ghost use Rattle.std.specs.Prelude.{◌≡◌, IfOk};
 ghost use Rattle.std.specs.List.{list_all};
 ghost use Rattle.iodef_tree.specs.Pointer.{pointer_tokens};
 ghost use Rattle.hub_core.specs.Requests.{is_own_community, is_own_group, are_own_groups, has_joined_all, is_target, is_grantee, is_active};
-ghost use Rattle.hub_core.specs.Shelves.{HasFailed, IsKept};
+ghost use Rattle.hub_core.specs.Shelves.{Finds};
 ghost use Rattle.hub_core.specs.State.{State};
 
 use crate::look_ups::LookUps;
@@ -31,9 +31,8 @@ fn is_own_community<L: LookUps>(
     actor: &Person,
     community: Option<u32>,
 ) -> Result<bool, ShelfFault>
-    ensures value { L.doubts shelf.new ≡ 0 → (s : State) → L.has shelf.old s → IfOk result (λ b. b ≡ is_own_community s actor.now community) }
-    ensures kept { IsKept L.has L.doubts L.failed L.may_remain shelf.old shelf.new }
-    ensures cause { IsErrOf result ShelfFault.Failed → HasFailed (L.failed shelf.old) (L.failed shelf.new) }
+    ensures { Finds L.has L.doubts L.failed L.may_remain shelf.old shelf.new result (λ s.
+        IfOk result (λ b. b ≡ is_own_community s actor.now community)) }
 {
     match community {
         None => Ok(true),
@@ -46,9 +45,8 @@ pub(crate) fn is_own_group<L: LookUps>(
     actor: &Person,
     group: Option<u32>,
 ) -> Result<bool, ShelfFault>
-    ensures value { L.doubts shelf.new ≡ 0 → (s : State) → L.has shelf.old s → IfOk result (λ b. b ≡ is_own_group s actor.now group) }
-    ensures kept { IsKept L.has L.doubts L.failed L.may_remain shelf.old shelf.new }
-    ensures cause { IsErrOf result ShelfFault.Failed → HasFailed (L.failed shelf.old) (L.failed shelf.new) }
+    ensures { Finds L.has L.doubts L.failed L.may_remain shelf.old shelf.new result (λ s.
+        IfOk result (λ b. b ≡ is_own_group s actor.now group)) }
 {
     match group {
         None => Ok(true),
@@ -61,9 +59,8 @@ fn are_all_own<L: LookUps>(
     actor: &Person,
     gates: &[WantedGate],
 ) -> Result<bool, ShelfFault>
-    ensures value { L.doubts shelf.new ≡ 0 → (s : State) → L.has shelf.old s → IfOk result (λ b. b ≡ list_all (λ g. is_own_group s actor.now g.group) gates.now) }
-    ensures kept { IsKept L.has L.doubts L.failed L.may_remain shelf.old shelf.new }
-    ensures cause { IsErrOf result ShelfFault.Failed → HasFailed (L.failed shelf.old) (L.failed shelf.new) }
+    ensures { Finds L.has L.doubts L.failed L.may_remain shelf.old shelf.new result (λ s.
+        IfOk result (λ b. b ≡ list_all (λ g. is_own_group s actor.now g.group) gates.now)) }
 {
     for gate in gates {
         if !is_own_group(shelf, actor, gate.group)? {
@@ -78,9 +75,8 @@ fn are_own_groups<L: LookUps>(
     actor: &Person,
     distribution: &Distribution,
 ) -> Result<bool, ShelfFault>
-    ensures value { L.doubts shelf.new ≡ 0 → (s : State) → L.has shelf.old s → IfOk result (λ b. b ≡ are_own_groups s actor.now distribution.now) }
-    ensures kept { IsKept L.has L.doubts L.failed L.may_remain shelf.old shelf.new }
-    ensures cause { IsErrOf result ShelfFault.Failed → HasFailed (L.failed shelf.old) (L.failed shelf.new) }
+    ensures { Finds L.has L.doubts L.failed L.may_remain shelf.old shelf.new result (λ s.
+        IfOk result (λ b. b ≡ are_own_groups s actor.now distribution.now)) }
 {
     if is_own_group(shelf, actor, distribution.group)? {
         are_all_own(shelf, actor, distribution.gates.as_slice())
@@ -95,9 +91,8 @@ pub(crate) fn has_joined_all<L: LookUps>(
     actor: &Person,
     distribution: &Distribution,
 ) -> Result<bool, ShelfFault>
-    ensures value { L.doubts shelf.new ≡ 0 → (s : State) → L.has shelf.old s → IfOk result (λ b. b ≡ has_joined_all s actor.now distribution.now) }
-    ensures kept { IsKept L.has L.doubts L.failed L.may_remain shelf.old shelf.new }
-    ensures cause { IsErrOf result ShelfFault.Failed → HasFailed (L.failed shelf.old) (L.failed shelf.new) }
+    ensures { Finds L.has L.doubts L.failed L.may_remain shelf.old shelf.new result (λ s.
+        IfOk result (λ b. b ≡ has_joined_all s actor.now distribution.now)) }
 {
     if is_own_community(shelf, actor, distribution.community)? {
         are_own_groups(shelf, actor, distribution)
@@ -107,9 +102,8 @@ pub(crate) fn has_joined_all<L: LookUps>(
 }
 
 pub(crate) fn is_target<L: LookUps>(shelf: &mut L, target: Target) -> Result<bool, ShelfFault>
-    ensures value { L.doubts shelf.new ≡ 0 → (s : State) → L.has shelf.old s → IfOk result (λ b. b ≡ is_target s.directory target) }
-    ensures kept { IsKept L.has L.doubts L.failed L.may_remain shelf.old shelf.new }
-    ensures cause { IsErrOf result ShelfFault.Failed → HasFailed (L.failed shelf.old) (L.failed shelf.new) }
+    ensures { Finds L.has L.doubts L.failed L.may_remain shelf.old shelf.new result (λ s.
+        IfOk result (λ b. b ≡ is_target s.directory target)) }
 {
     match target {
         Target::Person(number) => shelf.has_person(number),
@@ -122,9 +116,8 @@ pub(crate) fn is_grantee<L: LookUps>(
     org: u32,
     grantee: Grantee,
 ) -> Result<bool, ShelfFault>
-    ensures value { L.doubts shelf.new ≡ 0 → (s : State) → L.has shelf.old s → IfOk result (λ b. b ≡ is_grantee s.directory org grantee) }
-    ensures kept { IsKept L.has L.doubts L.failed L.may_remain shelf.old shelf.new }
-    ensures cause { IsErrOf result ShelfFault.Failed → HasFailed (L.failed shelf.old) (L.failed shelf.new) }
+    ensures { Finds L.has L.doubts L.failed L.may_remain shelf.old shelf.new result (λ s.
+        IfOk result (λ b. b ≡ is_grantee s.directory org grantee)) }
 {
     match grantee {
         Grantee::Person(number) => shelf.has_person(number),
@@ -136,9 +129,8 @@ pub(crate) fn is_grantee<L: LookUps>(
 
 /// Whether the person is there, and active.
 pub(crate) fn is_active<L: LookUps>(shelf: &mut L, person: u32) -> Result<bool, ShelfFault>
-    ensures value { L.doubts shelf.new ≡ 0 → (s : State) → L.has shelf.old s → IfOk result (λ b. b ≡ is_active s.directory person) }
-    ensures kept { IsKept L.has L.doubts L.failed L.may_remain shelf.old shelf.new }
-    ensures cause { IsErrOf result ShelfFault.Failed → HasFailed (L.failed shelf.old) (L.failed shelf.new) }
+    ensures { Finds L.has L.doubts L.failed L.may_remain shelf.old shelf.new result (λ s.
+        IfOk result (λ b. b ≡ is_active s.directory person)) }
 {
     match shelf.person_of(person)? {
         None => Ok(false),

@@ -54,7 +54,11 @@ impl Lists {
     /// said.
     pub(crate) fn number_of(&self, name: &Named) -> Option<u32>
         requires { AreInOrder self.now }
-        ensures { (d : Directory) → Differ {K = ℕ × List ℕ} (λ (i : Incident). (i.naming.source, i.naming.ident)) self.now.incidents.items → result ≡ option_map incident_number (incident_named name.now.source name.now.ident (with_directory d self.now)) }
+        ensures { (d : Directory) →
+            Differ {K = ℕ × List ℕ} (λ (i : Incident).
+            (i.naming.source, i.naming.ident)) self.now.incidents.items →
+            result ≡ option_map incident_number
+            (incident_named name.now.source name.now.ident (with_directory d self.now)) }
     {
         match rows_alike(&self.names, name).first() {
             None => None,
@@ -114,7 +118,8 @@ impl Lists {
         most: u32,
     ) -> Result<Vec<Entry>, AllocError>
         requires { AreInOrder self.now }
-        ensures { IfOk result (λ v. (d : Directory) → v.items ≡ entries_after number most (with_directory d self.now)) }
+        ensures { IfOk result (λ v.
+            (d : Directory) → v.items ≡ entries_after number most (with_directory d self.now)) }
     {
         entries_of(alloc, first_of(self.incidents_above(number), most))
     }

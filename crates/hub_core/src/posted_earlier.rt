@@ -1,8 +1,8 @@
 //! What a body's source has posted before, by a shelf's look-ups.
-ghost use Rattle.std.specs.Prelude.{◌≡◌, IfOk, IsErrOf, option_map};
+ghost use Rattle.std.specs.Prelude.{◌≡◌, IfOk, option_map};
 ghost use Rattle.hub_core.specs.Documents.{documents_in, ident_of};
 ghost use Rattle.hub_core.specs.Facts.{posted_of, posted_in};
-ghost use Rattle.hub_core.specs.Shelves.{HasFailed, IsKept};
+ghost use Rattle.hub_core.specs.Shelves.{Finds};
 ghost use Rattle.hub_core.specs.State.{State, incident_named, incident_number};
 
 use crate::bytes::Bytes;
@@ -30,9 +30,9 @@ fn posted_as<L: LookUps>(
     source: u32,
     document: &Document,
 ) -> Result<Option<u32>, ShelfFault>
-    ensures value { L.doubts shelf.new ≡ 0 → (s : State) → L.has shelf.old s → IfOk result (λ number. number ≡ option_map incident_number (incident_named source (ident_of document.now) s)) }
-    ensures kept { IsKept L.has L.doubts L.failed L.may_remain shelf.old shelf.new }
-    ensures cause { IsErrOf result ShelfFault.Failed → HasFailed (L.failed shelf.old) (L.failed shelf.new) }
+    ensures { Finds L.has L.doubts L.failed L.may_remain shelf.old shelf.new result (λ s.
+        IfOk result (λ number. number ≡
+        option_map incident_number (incident_named source (ident_of document.now) s))) }
 {
     let ident = ident_in(alloc, document)?;
     shelf.number_of(source, &ident)
@@ -45,9 +45,8 @@ fn posted_among<L: LookUps>(
     source: u32,
     documents: &[Document],
 ) -> Result<Option<u32>, ShelfFault>
-    ensures value { L.doubts shelf.new ≡ 0 → (s : State) → L.has shelf.old s → IfOk result (λ number. number ≡ posted_in s source documents.now) }
-    ensures kept { IsKept L.has L.doubts L.failed L.may_remain shelf.old shelf.new }
-    ensures cause { IsErrOf result ShelfFault.Failed → HasFailed (L.failed shelf.old) (L.failed shelf.new) }
+    ensures { Finds L.has L.doubts L.failed L.may_remain shelf.old shelf.new result (λ s.
+        IfOk result (λ number. number ≡ posted_in s source documents.now)) }
 {
     for document in documents {
         let posted = posted_as(shelf, alloc, source, document)?;
@@ -65,9 +64,8 @@ fn posted_in<L: LookUps>(
     source: u32,
     body: &Bytes,
 ) -> Result<Option<u32>, ShelfFault>
-    ensures value { L.doubts shelf.new ≡ 0 → (s : State) → L.has shelf.old s → IfOk result (λ number. number ≡ posted_in s source (documents_in body.now)) }
-    ensures kept { IsKept L.has L.doubts L.failed L.may_remain shelf.old shelf.new }
-    ensures cause { IsErrOf result ShelfFault.Failed → HasFailed (L.failed shelf.old) (L.failed shelf.new) }
+    ensures { Finds L.has L.doubts L.failed L.may_remain shelf.old shelf.new result (λ s.
+        IfOk result (λ number. number ≡ posted_in s source (documents_in body.now))) }
 {
     match Document::read(alloc, body.as_slice()) {
         Ok(documents) => posted_among(shelf, alloc, source, &documents),
@@ -83,9 +81,8 @@ pub(crate) fn find_posted<L: LookUps>(
     actor: &Person,
     request: &Request,
 ) -> Result<Option<u32>, ShelfFault>
-    ensures value { L.doubts shelf.new ≡ 0 → (s : State) → L.has shelf.old s → IfOk result (λ number. number ≡ posted_of s actor.now request.now) }
-    ensures kept { IsKept L.has L.doubts L.failed L.may_remain shelf.old shelf.new }
-    ensures cause { IsErrOf result ShelfFault.Failed → HasFailed (L.failed shelf.old) (L.failed shelf.new) }
+    ensures { Finds L.has L.doubts L.failed L.may_remain shelf.old shelf.new result (λ s.
+        IfOk result (λ number. number ≡ posted_of s actor.now request.now)) }
 {
     match request {
         Request::Post(asked) => posted_in(shelf, alloc, actor.org, &asked.document),

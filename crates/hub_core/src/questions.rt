@@ -72,7 +72,8 @@ fn is_at_other_class(gate: &Gate, path: &Path) -> bool
 }
 
 fn count_class_gates_beside(gates: &[Gate], path: &Path) -> usize
-    ensures count { result ≡ count_by (λ g. not (same_path g.path path.now) && not (is_root g.path)) gates.now }
+    ensures count { result ≡ count_by (λ g.
+        not (same_path g.path path.now) && not (is_root g.path)) gates.now }
     ensures fits { result ≤ length gates.now }
 {
     gates

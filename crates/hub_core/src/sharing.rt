@@ -1,11 +1,11 @@
 //! How an incident is shared, as a shelf looks it up, and whether what a request would put or take stands there.
-ghost use Rattle.std.specs.Prelude.{◌≡◌, [], IfOk, IsErrOf};
+ghost use Rattle.std.specs.Prelude.{◌≡◌, [], IfOk};
 ghost use Rattle.hub_core.specs.Documents.{at_pointer};
 ghost use Rattle.hub_core.specs.Facts.{stands_in};
 ghost use Rattle.hub_core.specs.inner.Questions as spec;
 ghost use Rattle.hub_core.specs.Requests.{incident_asked};
 ghost use Rattle.hub_core.specs.inner.Shared.{sharing_asked, sharing_of};
-ghost use Rattle.hub_core.specs.Shelves.{HasFailed, IsKept};
+ghost use Rattle.hub_core.specs.Shelves.{Finds};
 ghost use Rattle.hub_core.specs.State.{State};
 
 use crate::look_ups::LookUps;
@@ -38,9 +38,8 @@ fn nothing_shared(alloc: Global) -> Sharing
 }
 
 fn find_sharing_of<L: LookUps>(shelf: &mut L, incident: u32) -> Result<Sharing, ShelfFault>
-    ensures value { L.doubts shelf.new ≡ 0 → (s : State) → L.has shelf.old s → IfOk result (λ found. found ≡ sharing_of incident s) }
-    ensures kept { IsKept L.has L.doubts L.failed L.may_remain shelf.old shelf.new }
-    ensures cause { IsErrOf result ShelfFault.Failed → HasFailed (L.failed shelf.old) (L.failed shelf.new) }
+    ensures { Finds L.has L.doubts L.failed L.may_remain shelf.old shelf.new result (λ s.
+        IfOk result (λ found. found ≡ sharing_of incident s)) }
 {
     let gates = shelf.gates_of(incident)?;
     let recipients = shelf.recipients_of(incident)?;
@@ -58,9 +57,8 @@ pub(crate) fn find_sharing<L: LookUps>(
     alloc: Global,
     incident: Option<u32>,
 ) -> Result<Sharing, ShelfFault>
-    ensures value { L.doubts shelf.new ≡ 0 → (s : State) → L.has shelf.old s → IfOk result (λ found. found ≡ sharing_asked incident s) }
-    ensures kept { IsKept L.has L.doubts L.failed L.may_remain shelf.old shelf.new }
-    ensures cause { IsErrOf result ShelfFault.Failed → HasFailed (L.failed shelf.old) (L.failed shelf.new) }
+    ensures { Finds L.has L.doubts L.failed L.may_remain shelf.old shelf.new result (λ s.
+        IfOk result (λ found. found ≡ sharing_asked incident s)) }
 {
     match incident {
         None => Ok(nothing_shared(alloc)),
@@ -69,7 +67,9 @@ pub(crate) fn find_sharing<L: LookUps>(
 }
 
 fn stands_gate(alloc: Global, asked: &Redistribute, gates: &[Gate]) -> Result<bool, AllocError>
-    ensures { IfOk result (λ b. b ≡ at_pointer (λ p. spec.is_gate_among p asked.now.level asked.now.group gates.now) asked.now.path) }
+    ensures { IfOk result (λ b. b ≡
+        at_pointer (λ p.
+        spec.is_gate_among p asked.now.level asked.now.group gates.now) asked.now.path) }
 {
     match path_of(alloc, &asked.path)? {
         None => Ok(false),
@@ -83,7 +83,9 @@ fn stands_granted(
     asked: &Grant,
     permissions: &[Permission],
 ) -> Result<bool, AllocError>
-    ensures { IfOk result (λ b. b ≡ at_pointer (λ p. spec.is_permission_among_until p asked.now.grantee asked.now.until permissions.now) asked.now.path) }
+    ensures { IfOk result (λ b. b ≡
+        at_pointer (λ p.
+        spec.is_permission_among_until p asked.now.grantee asked.now.until permissions.now) asked.now.path) }
 {
     match path_of(alloc, &asked.path)? {
         None => Ok(false),
@@ -97,7 +99,9 @@ fn stands_permission(
     asked: &Withdraw,
     permissions: &[Permission],
 ) -> Result<bool, AllocError>
-    ensures { IfOk result (λ b. b ≡ at_pointer (λ p. spec.is_permission_among p asked.now.grantee permissions.now) asked.now.path) }
+    ensures { IfOk result (λ b. b ≡
+        at_pointer (λ p.
+        spec.is_permission_among p asked.now.grantee permissions.now) asked.now.path) }
 {
     match path_of(alloc, &asked.path)? {
         None => Ok(false),
@@ -111,7 +115,8 @@ pub(crate) fn stands(
     request: &Request,
     sharing: &Sharing,
 ) -> Result<bool, AllocError>
-    ensures { (s : State) → sharing.now ≡ sharing_asked (incident_asked request.now) s → IfOk result (λ b. b ≡ stands_in s request.now) }
+    ensures { (s : State) → sharing.now ≡ sharing_asked (incident_asked request.now) s →
+        IfOk result (λ b. b ≡ stands_in s request.now) }
 {
     let targets = sharing.recipients.as_slice();
     let permissions = sharing.permissions.as_slice();

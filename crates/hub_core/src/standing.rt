@@ -1,12 +1,12 @@
 //! How a person stands to an incident, made of what a shelf looks up.
-ghost use Rattle.std.specs.Prelude.{◌≡◌, ◌==◌, ◌||◌, IfOk, IsErrOf};
+ghost use Rattle.std.specs.Prelude.{◌≡◌, ◌==◌, ◌||◌, IfOk};
 ghost use Rattle.std.specs.List.{list_any};
 ghost use Rattle.std.specs.Option.{option_map_or};
 ghost use Rattle.circle.specs.Directory.{has_membership as is_membership};
 ghost use Rattle.circle.specs.Reads.{communities_of, groups_joined, active_groups_joined, share_community, are_connected};
 ghost use Rattle.hub_core.specs.inner.Questions as spec;
 ghost use Rattle.hub_core.specs.Reads.{standing_of, standing_for, is_client_for, is_peer, arranged as arranged_with};
-ghost use Rattle.hub_core.specs.Shelves.{HasFailed, IsKept, IsRead};
+ghost use Rattle.hub_core.specs.Shelves.{Finds, Reads};
 ghost use Rattle.hub_core.specs.State.{State, has_recipient};
 ghost use Rattle.hub_core.specs.declared.request.Target.TheVariants as target;
 ghost use Rattle.hub_core.specs.declared.state.Incident.{Incident};
@@ -39,9 +39,9 @@ struct Ties {
 }
 
 fn find_joined<L: LookUps>(shelf: &mut L, org: u32) -> Result<Joined, ShelfFault>
-    ensures value { L.doubts shelf.new ≡ 0 → (s : State) → L.has shelf.old s → IfOk result (λ found. found ≡ record { groups = groups_joined org s.directory; active_groups = active_groups_joined org s.directory; communities = communities_of org s.directory }) }
-    ensures kept { IsKept L.has L.doubts L.failed L.may_remain shelf.old shelf.new }
-    ensures cause { IsErrOf result ShelfFault.Failed → HasFailed (L.failed shelf.old) (L.failed shelf.new) }
+    ensures { Finds L.has L.doubts L.failed L.may_remain shelf.old shelf.new result (λ s.
+        IfOk result (λ found. found ≡
+        record { groups = groups_joined org s.directory; active_groups = active_groups_joined org s.directory; communities = communities_of org s.directory })) }
 {
     let groups = shelf.groups_joined(org)?;
     let communities = shelf.communities_of(org)?;
@@ -57,9 +57,8 @@ fn find_arranged<L: LookUps>(
     source: u32,
     org: u32,
 ) -> Result<Option<Handling>, ShelfFault>
-    ensures value { L.doubts shelf.new ≡ 0 → (s : State) → L.has shelf.old s → IfOk result (λ found. found ≡ arranged_with source org s.directory) }
-    ensures kept { IsKept L.has L.doubts L.failed L.may_remain shelf.old shelf.new }
-    ensures cause { IsErrOf result ShelfFault.Failed → HasFailed (L.failed shelf.old) (L.failed shelf.new) }
+    ensures { Finds L.has L.doubts L.failed L.may_remain shelf.old shelf.new result (λ s.
+        IfOk result (λ found. found ≡ arranged_with source org s.directory)) }
 {
     match shelf.arranged(source, org)? {
         None => Ok(None),
@@ -74,9 +73,9 @@ fn find_peer<L: LookUps>(
     community: Option<u32>,
     shares: bool,
 ) -> Result<bool, ShelfFault>
-    ensures value { L.doubts shelf.new ≡ 0 → (s : State) → L.has shelf.old s → IfOk result (λ b. b ≡ option_map_or (λ c. is_membership c org s.directory) community shares) }
-    ensures kept { IsKept L.has L.doubts L.failed L.may_remain shelf.old shelf.new }
-    ensures cause { IsErrOf result ShelfFault.Failed → HasFailed (L.failed shelf.old) (L.failed shelf.new) }
+    ensures { Finds L.has L.doubts L.failed L.may_remain shelf.old shelf.new result (λ s.
+        IfOk result (λ b. b ≡
+        option_map_or (λ c. is_membership c org s.directory) community shares)) }
 {
     match community {
         None => Ok(shares),
@@ -90,9 +89,9 @@ fn find_ties<L: LookUps>(
     source: u32,
     named: Option<u32>,
 ) -> Result<Ties, ShelfFault>
-    ensures value { L.doubts shelf.new ≡ 0 → (s : State) → L.has shelf.old s → IfOk result (λ found. found ≡ record { community = share_community org source s.directory; peer = is_peer org source named s.directory; connected = are_connected org source s.directory; arrangement = arranged_with source org s.directory }) }
-    ensures kept { IsKept L.has L.doubts L.failed L.may_remain shelf.old shelf.new }
-    ensures cause { IsErrOf result ShelfFault.Failed → HasFailed (L.failed shelf.old) (L.failed shelf.new) }
+    ensures { Finds L.has L.doubts L.failed L.may_remain shelf.old shelf.new result (λ s.
+        IfOk result (λ found. found ≡
+        record { community = share_community org source s.directory; peer = is_peer org source named s.directory; connected = are_connected org source s.directory; arrangement = arranged_with source org s.directory })) }
 {
     let community = shelf.share_community(org, source)?;
     let peer = find_peer(shelf, org, named, community)?;
@@ -115,7 +114,8 @@ fn is_reached(org: u32, source: u32, recipients: &[Target]) -> bool
 
 /// Whether one of the organisations is the source, or among the recipients.
 fn is_client(served: &[u32], source: u32, recipients: &[Target]) -> bool
-    ensures { result ≡ list_any (λ org. org == source || spec.is_target_among (target.Org org) recipients.now) served.now }
+    ensures { result ≡ list_any (λ org.
+        org == source || spec.is_target_among (target.Org org) recipients.now) served.now }
 {
     served
         .iter()
@@ -136,9 +136,16 @@ fn find_addressed<L: LookUps>(
     incident: u32,
     source: u32,
 ) -> Result<Addressed, ShelfFault>
-    ensures value { L.doubts shelf.new ≡ 0 → (s : State) → L.has shelf.old s → (i : Incident) → i.naming.number ≡ incident → i.naming.source ≡ source → IfOk result (λ found. found ≡ record { person = has_recipient incident (target.Person reader.now.number) s; org = has_recipient incident (target.Org reader.now.org) s; client = is_client_for s i reader.now.org }) }
-    ensures kept { IsKept L.has L.doubts L.failed L.may_remain shelf.old shelf.new }
-    ensures cause { IsErrOf result ShelfFault.Failed → HasFailed (L.failed shelf.old) (L.failed shelf.new) }
+    ensures { Finds L.has L.doubts L.failed L.may_remain shelf.old shelf.new result (λ s.
+        (i : Incident) → i.naming.number ≡ incident → i.naming.source ≡ source →
+        IfOk result (λ found. found ≡
+        record {
+          person = has_recipient incident
+              (target.Person reader.now.number) s;
+          org = has_recipient incident
+              (target.Org reader.now.org) s;
+          client = is_client_for s i reader.now.org;
+        })) }
 {
     let served = shelf.orgs_whose_client(reader.org)?;
     let recipients = shelf.recipients_of(incident)?;
@@ -156,9 +163,9 @@ fn standing_to<L: LookUps>(
     naming: &Naming,
     now: i64,
 ) -> Result<Standing, ShelfFault>
-    ensures value { L.doubts shelf.new ≡ 0 → (s : State) → L.has shelf.old s → (i : Incident) → i.naming ≡ naming.now → IfOk result (λ found. found ≡ standing_for s now reader.now i) }
-    ensures kept { IsKept L.has L.doubts L.failed L.may_remain shelf.old shelf.new }
-    ensures cause { IsErrOf result ShelfFault.Failed → HasFailed (L.failed shelf.old) (L.failed shelf.new) }
+    ensures { Finds L.has L.doubts L.failed L.may_remain shelf.old shelf.new result (λ s.
+        (i : Incident) → i.naming ≡ naming.now →
+        IfOk result (λ found. found ≡ standing_for s now reader.now i)) }
 {
     let source = naming.source;
     let addressed = find_addressed(shelf, reader, naming.number, source)?;
@@ -190,9 +197,8 @@ fn find_standing<L: LookUps>(
     incident: u32,
     now: i64,
 ) -> Result<Option<Standing>, ShelfFault>
-    ensures value { L.doubts shelf.new ≡ 0 → (s : State) → L.has shelf.old s → IfOk result (λ found. found ≡ standing_of person incident now s) }
-    ensures kept { IsKept L.has L.doubts L.failed L.may_remain shelf.old shelf.new }
-    ensures cause { IsErrOf result ShelfFault.Failed → HasFailed (L.failed shelf.old) (L.failed shelf.new) }
+    ensures { Finds L.has L.doubts L.failed L.may_remain shelf.old shelf.new result (λ s.
+        IfOk result (λ found. found ≡ standing_of person incident now s)) }
 {
     let Some(reader) = shelf.person_of(person)? else {
         return Ok(None);
@@ -212,8 +218,8 @@ pub fn standing_by<L: LookUps>(
     incident: u32,
     now: i64,
 ) -> Result<Option<Standing>, ShelfFault>
-    ensures value { L.doubts shelf.new ≡ 0 → (s : State) → L.has shelf.old s → IfOk result (λ found. found ≡ standing_of person incident now s) }
-    ensures kept { IsRead L.has L.doubts L.failed L.may_remain shelf.old shelf.new result }
+    ensures { Reads L.has L.doubts L.failed L.may_remain shelf.old shelf.new (λ s found. found ≡
+        standing_of person incident now s) result }
 {
     if shelf.has_ended() {
         return Err(ShelfFault::Failed);

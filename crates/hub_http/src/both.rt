@@ -21,7 +21,8 @@ fn bytes_of_both(
     one: &Reply,
     other: &Reply,
 ) -> Result<(Vec<u8>, Vec<u8>), AllocError>
-    ensures { IfOk result (λ both. (both.0.items ≡ reply_text one.now) × (both.1.items ≡ reply_text other.now)) }
+    ensures { IfOk result (λ both.
+        (both.0.items ≡ reply_text one.now) × (both.1.items ≡ reply_text other.now)) }
 {
     Ok((reply_bytes(alloc, one)?, reply_bytes(alloc, other)?))
 }

@@ -68,7 +68,8 @@ fn capped_value(text: &[u8]) -> u32
 /// The text of the one Content-Length, if there is any.
 #[tactic(auto, unfolding(crate::specs::Fields::length_text))]
 fn read_length_text<'a>(fields: &[Header<'a>]) -> Result<Option<&'a [u8]>, WireFault>
-    ensures value { IsText result (length_text (field_values (codes "content-length") (map header_parts fields.now))) }
+    ensures value { IsText result
+        (length_text (field_values (codes "content-length") (map header_parts fields.now))) }
     ensures whole { IfErr result (λ e. e ≢ WireFault.Truncated) }
     ensures digits { IfOk result (λ o. IfSome o (λ t. IsTrue (is_digits t.now))) }
 {

@@ -172,7 +172,8 @@ const ENTRIES: [(&str, Resource); 30] = [
 /// Puts in one more pattern.
 fn add(router: &mut Router<Resource>, pattern: &str, resource: Resource) -> Result<(), InsertError>
     ensures added { OnOk result (router.new ≡ spec.with_entry router.old (pattern.now, resource)) }
-    ensures fault { spec.has_room (parse_route pattern.now) router.old ≡ true → IfErr result (λ e. e ≡ OutOfMemory) }
+    ensures fault { spec.has_room (parse_route pattern.now) router.old ≡ true →
+        IfErr result (λ e. e ≡ OutOfMemory) }
 {
     router.insert(pattern, resource)
 }
@@ -180,7 +181,8 @@ fn add(router: &mut Router<Resource>, pattern: &str, resource: Resource) -> Resu
 /// The router of these patterns.
 fn router_of(alloc: Global, entries: &[(&str, Resource)]) -> Result<Router<Resource>, InsertError>
     ensures all { IfOk result (λ r. r ≡ fold spec.with_entry [] (map entry_view entries.now)) }
-    ensures fault { spec.take_all [] (map entry_view entries.now) ≡ true → IfErr result (λ e. e ≡ OutOfMemory) }
+    ensures fault { spec.take_all [] (map entry_view entries.now) ≡ true →
+        IfErr result (λ e. e ≡ OutOfMemory) }
 {
     let mut router = Router::new(alloc);
     for entry in entries {
@@ -323,7 +325,8 @@ fn route_at(verb: Verb, resource: Option<Resource>, path: &str) -> Result<Route,
 
 /// The route of a method at a path.
 pub(crate) fn read_route(alloc: Global, method: &str, path: &str) -> Result<Route, RequestFault>
-    ensures { Yields result (spec.route_at (spec.verb_of method.now) (spec.resource_at path.now) path.now) }
+    ensures { Yields result
+        (spec.route_at (spec.verb_of method.now) (spec.resource_at path.now) path.now) }
 {
     let resource = read_resource(alloc, path)?;
     route_at(read_verb(method), resource, path)

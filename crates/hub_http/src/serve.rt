@@ -60,7 +60,8 @@ fn read_more<R: Read>(
     piece: &mut [u8; PIECE],
     bytes: &mut Vec<u8>,
 ) -> Result<usize, GatherFault>
-    ensures grows { IfOk result (λ n. Extends (R.remaining reader.old) (R.remaining reader.new) bytes.old.items bytes.new.items) }
+    ensures grows { IfOk result (λ n.
+        Extends (R.remaining reader.old) (R.remaining reader.new) bytes.old.items bytes.new.items) }
     ensures end { IfOk result (λ n. n ≡ 0 → IsAtEnd (R.remaining reader.new)) }
     ensures fault { IfErr result (λ e. (e ≡ GatherFault.ReadFailed) ⊎ (e ≡ GatherFault.NoMemory)) }
 {

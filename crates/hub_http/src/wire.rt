@@ -49,7 +49,8 @@ fn after_head(
     rest: &[u8],
 ) -> Arrival
     requires { head ≤ HEAD_LIMIT }
-    ensures { Stands (asked_by method.now target.now (map header_parts fields.now) rest.now) (head + length rest.now) result }
+    ensures { Stands (asked_by method.now target.now (map header_parts fields.now) rest.now)
+        (head + length rest.now) result }
 {
     if fields.len() > FIELD_LIMIT {
         return Arrival::Refused(WireFault::HeadTooLong);

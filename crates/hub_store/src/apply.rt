@@ -23,7 +23,9 @@ fn make_all<S: Alter>(
 ) -> Result<(), Error>
     ensures same_reference { tx.new.conn.ghost_name ≡ tx.old.conn.ghost_name }
     ensures goes { Goes (state S.Store tx.old.conn.now) (state S.Store tx.new.conn.now) result }
-    ensures made { (s : State) → Makes (state S.Store tx.old.conn.now) (state S.Store tx.new.conn.now) (λ db. Holds db s) (λ db. Holds db (with_edits edits.now s)) result }
+    ensures made { (s : State) →
+        Makes (state S.Store tx.old.conn.now) (state S.Store tx.new.conn.now) (λ db.
+        Holds db s) (λ db. Holds db (with_edits edits.now s)) result }
 {
     for edit in edits {
         make_edit(tx, alloc, edit)?;
@@ -39,9 +41,13 @@ pub(crate) fn apply<S: Alter>(
 ) -> Result<(), Error>
     requires { conn.old.in_transaction ≡ false }
     ensures idle { conn.new.in_transaction ≡ false }
-    ensures made { HasCleanDisk (state S.Store conn.new) → (s : State) → Has (state S.Store conn.old) s → OnOk result (CommitsState (state S.Store conn.new) (with_edits edits.now s)) }
-    ensures none { HasCleanDisk (state S.Store conn.new) → OnErr result (KeepsCommitted (state S.Store conn.old) (state S.Store conn.new)) }
-    ensures survives { Survives (state S.Store conn.old) (state S.Store conn.new) (λ left. (s : State) → Has (state S.Store conn.old) s → TreesHold left (with_edits edits.now s)) }
+    ensures made { HasCleanDisk (state S.Store conn.new) → (s : State) →
+        Has (state S.Store conn.old) s →
+        OnOk result (CommitsState (state S.Store conn.new) (with_edits edits.now s)) }
+    ensures none { HasCleanDisk (state S.Store conn.new) →
+        OnErr result (KeepsCommitted (state S.Store conn.old) (state S.Store conn.new)) }
+    ensures survives { Survives (state S.Store conn.old) (state S.Store conn.new) (λ left.
+        (s : State) → Has (state S.Store conn.old) s → TreesHold left (with_edits edits.now s)) }
 {
     let mut tx = conn.transaction();
     // a store that is shut is not asked to commit

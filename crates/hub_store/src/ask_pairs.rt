@@ -18,7 +18,9 @@ pub(crate) fn ask_between<S: Alter>(
     b: u32,
 ) -> Result<Vec<Row>, Error>
     ensures same_reference { tx.new.conn.ghost_name ≡ tx.old.conn.ghost_name }
-    ensures read { IsReadInside (state S.Store tx.old.conn.now) (state S.Store tx.new.conn.now) (λ s rows. rows.items ≡ map value_shown (option_to_list (pair_between kind a b s.directory))) result }
+    ensures read { IsReadInside (state S.Store tx.old.conn.now)
+        (state S.Store tx.new.conn.now) (λ s rows.
+        rows.items ≡ map value_shown (option_to_list (pair_between kind a b s.directory))) result }
 {
     let rows = ask(
         tx,
@@ -35,7 +37,9 @@ pub(crate) fn ask_from<S: Alter>(
     a: u32,
 ) -> Result<Vec<Row>, Error>
     ensures same_reference { tx.new.conn.ghost_name ≡ tx.old.conn.ghost_name }
-    ensures read { IsReadInside (state S.Store tx.old.conn.now) (state S.Store tx.new.conn.now) (λ s rows. rows.items ≡ map second_shown (pairs_from kind a s.directory)) result }
+    ensures read { IsReadInside (state S.Store tx.old.conn.now)
+        (state S.Store tx.new.conn.now) (λ s rows.
+        rows.items ≡ map second_shown (pairs_from kind a s.directory)) result }
 {
     let rows = ask(
         tx,
@@ -52,7 +56,9 @@ pub(crate) fn ask_to<S: Alter>(
     b: u32,
 ) -> Result<Vec<Row>, Error>
     ensures same_reference { tx.new.conn.ghost_name ≡ tx.old.conn.ghost_name }
-    ensures read { IsReadInside (state S.Store tx.old.conn.now) (state S.Store tx.new.conn.now) (λ s rows. rows.items ≡ map first_shown (pairs_to kind b s.directory)) result }
+    ensures read { IsReadInside (state S.Store tx.old.conn.now)
+        (state S.Store tx.new.conn.now) (λ s rows.
+        rows.items ≡ map first_shown (pairs_to kind b s.directory)) result }
 {
     let rows = ask(
         tx,

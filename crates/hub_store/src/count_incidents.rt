@@ -11,7 +11,8 @@ use sqlite::{Alter, Connection, Error, Transaction};
 /// How many incidents there are, in a transaction. They are numbered without a gap.
 pub(crate) fn read_incident_count<S: Alter>(tx: &mut Transaction<'_, S>) -> Result<u32, Error>
     ensures same_reference { tx.new.conn.ghost_name ≡ tx.old.conn.ghost_name }
-    ensures read { IsReadInside (state S.Store tx.old.conn.now) (state S.Store tx.new.conn.now) (λ s found. found ≡ length s.incidents) result }
+    ensures read { IsReadInside (state S.Store tx.old.conn.now)
+        (state S.Store tx.new.conn.now) (λ s found. found ≡ length s.incidents) result }
 {
     let rows = ask(
         tx,
@@ -25,7 +26,8 @@ pub(crate) fn read_incident_count<S: Alter>(tx: &mut Transaction<'_, S>) -> Resu
 pub(crate) fn incident_count<S: Alter>(conn: &mut Connection<S>) -> Result<u32, Error>
     requires { conn.old.in_transaction ≡ false }
     ensures idle { conn.new.in_transaction ≡ false }
-    ensures answers { IsReadOutside (state S.Store conn.old) (state S.Store conn.new) (λ s found. found ≡ length s.incidents) result }
+    ensures answers { IsReadOutside (state S.Store conn.old)
+        (state S.Store conn.new) (λ s found. found ≡ length s.incidents) result }
 {
     let mut tx = conn.transaction();
     let found = read_incident_count(&mut tx);

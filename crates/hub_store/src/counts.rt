@@ -20,7 +20,8 @@ pub(crate) fn number_in(rows: &[Row]) -> Result<u32, Error>
 
 pub(crate) fn count_orgs<S: Alter>(tx: &mut Transaction<'_, S>) -> Result<u32, Error>
     ensures same_reference { tx.new.conn.ghost_name ≡ tx.old.conn.ghost_name }
-    ensures read { IsReadInside (state S.Store tx.old.conn.now) (state S.Store tx.new.conn.now) (λ s count. count ≡ length s.directory.orgs) result }
+    ensures read { IsReadInside (state S.Store tx.old.conn.now)
+        (state S.Store tx.new.conn.now) (λ s count. count ≡ length s.directory.orgs) result }
 {
     let rows = ask(
         tx,
@@ -32,7 +33,8 @@ pub(crate) fn count_orgs<S: Alter>(tx: &mut Transaction<'_, S>) -> Result<u32, E
 
 pub(crate) fn count_persons<S: Alter>(tx: &mut Transaction<'_, S>) -> Result<u32, Error>
     ensures same_reference { tx.new.conn.ghost_name ≡ tx.old.conn.ghost_name }
-    ensures read { IsReadInside (state S.Store tx.old.conn.now) (state S.Store tx.new.conn.now) (λ s count. count ≡ length s.directory.accounts) result }
+    ensures read { IsReadInside (state S.Store tx.old.conn.now)
+        (state S.Store tx.new.conn.now) (λ s count. count ≡ length s.directory.accounts) result }
 {
     let rows = ask(
         tx,
@@ -44,7 +46,8 @@ pub(crate) fn count_persons<S: Alter>(tx: &mut Transaction<'_, S>) -> Result<u32
 
 pub(crate) fn count_communities<S: Alter>(tx: &mut Transaction<'_, S>) -> Result<u32, Error>
     ensures same_reference { tx.new.conn.ghost_name ≡ tx.old.conn.ghost_name }
-    ensures read { IsReadInside (state S.Store tx.old.conn.now) (state S.Store tx.new.conn.now) (λ s count. count ≡ length s.directory.communities) result }
+    ensures read { IsReadInside (state S.Store tx.old.conn.now)
+        (state S.Store tx.new.conn.now) (λ s count. count ≡ length s.directory.communities) result }
 {
     let rows = ask(
         tx,
@@ -56,7 +59,8 @@ pub(crate) fn count_communities<S: Alter>(tx: &mut Transaction<'_, S>) -> Result
 
 pub(crate) fn count_groups<S: Alter>(tx: &mut Transaction<'_, S>) -> Result<u32, Error>
     ensures same_reference { tx.new.conn.ghost_name ≡ tx.old.conn.ghost_name }
-    ensures read { IsReadInside (state S.Store tx.old.conn.now) (state S.Store tx.new.conn.now) (λ s count. count ≡ length s.directory.groups) result }
+    ensures read { IsReadInside (state S.Store tx.old.conn.now)
+        (state S.Store tx.new.conn.now) (λ s count. count ≡ length s.directory.groups) result }
 {
     let rows = ask(
         tx,

@@ -21,14 +21,16 @@ use sqlite::{Alter, Connection, Error, ErrorCode, Transaction, params};
 
 fn put_version<S: Alter>(tx: &mut Transaction<'_, S>) -> Result<(), Error>
     ensures same_reference { tx.new.conn.ghost_name ≡ tx.old.conn.ghost_name }
-    ensures made { Creates (state S.Store tx.old.conn.now) (state S.Store tx.new.conn.now) (HasEmpty hub_schema) (λ db. Holds db empty) result }
+    ensures made { Creates (state S.Store tx.old.conn.now) (state S.Store tx.new.conn.now)
+        (HasEmpty hub_schema) (λ db. Holds db empty) result }
 {
     run(tx, "INSERT INTO hub (version) VALUES (?1)", params![NEWEST])
 }
 
 fn make_in<S: Alter>(tx: &mut Transaction<'_, S>) -> Result<(), Error>
     ensures same_reference { tx.new.conn.ghost_name ≡ tx.old.conn.ghost_name }
-    ensures made { Creates (state S.Store tx.old.conn.now) (state S.Store tx.new.conn.now) (HasEmpty no_schema) (λ db. Holds db empty) result }
+    ensures made { Creates (state S.Store tx.old.conn.now) (state S.Store tx.new.conn.now)
+        (HasEmpty no_schema) (λ db. Holds db empty) result }
 {
     make_tables(tx)?;
     make_tables_2(tx)?;
@@ -41,10 +43,18 @@ fn make_in<S: Alter>(tx: &mut Transaction<'_, S>) -> Result<(), Error>
 pub(crate) fn make_store<S: Alter>(conn: &mut Connection<S>) -> Result<(), Error>
     requires { conn.old.in_transaction ≡ false }
     ensures idle { conn.new.in_transaction ≡ false }
-    ensures made { HasCleanDisk (state S.Store conn.new) → (state S.Store conn.old).now.schema ≡ no_schema → OnOk result (CommitsState (state S.Store conn.new) empty) }
-    ensures none { HasCleanDisk (state S.Store conn.new) → OnErr result (KeepsCommitted (state S.Store conn.old) (state S.Store conn.new)) }
-    ensures cause { HasCleanDisk (state S.Store conn.new) → (state S.Store conn.old).now.schema ≡ no_schema → IfErr result (λ e. e ≢ Error.SqliteFailure ErrorCode.OutOfMemory → HasReason (state S.Store conn.old) (state S.Store conn.new)) }
-    ensures survives { (state S.Store conn.old).now.schema ≡ no_schema → Survives (state S.Store conn.old) (state S.Store conn.new) (λ left. TreesHold left empty) }
+    ensures made { HasCleanDisk (state S.Store conn.new) →
+        (state S.Store conn.old).now.schema ≡ no_schema →
+        OnOk result (CommitsState (state S.Store conn.new) empty) }
+    ensures none { HasCleanDisk (state S.Store conn.new) →
+        OnErr result (KeepsCommitted (state S.Store conn.old) (state S.Store conn.new)) }
+    ensures cause { HasCleanDisk (state S.Store conn.new) →
+        (state S.Store conn.old).now.schema ≡ no_schema →
+        IfErr result (λ e.
+        e ≢ Error.SqliteFailure ErrorCode.OutOfMemory →
+        HasReason (state S.Store conn.old) (state S.Store conn.new)) }
+    ensures survives { (state S.Store conn.old).now.schema ≡ no_schema →
+        Survives (state S.Store conn.old) (state S.Store conn.new) (λ left. TreesHold left empty) }
 {
     let mut tx = conn.transaction();
     make_in(&mut tx)?;

@@ -25,7 +25,9 @@ use sqlite::{Alter, Error, Transaction, params};
 
 fn put_org<S: Alter>(tx: &mut Transaction<'_, S>, org: &Org) -> Result<(), Error>
     ensures same_reference { tx.new.conn.ghost_name ≡ tx.old.conn.ghost_name }
-    ensures made { (s : State) → Makes (state S.Store tx.old.conn.now) (state S.Store tx.new.conn.now) (λ db. Holds db s) (λ db. Holds db (edited (Directory (PutOrg org.now)) s)) result }
+    ensures made { (s : State) →
+        Makes (state S.Store tx.old.conn.now) (state S.Store tx.new.conn.now) (λ db.
+        Holds db s) (λ db. Holds db (edited (Directory (PutOrg org.now)) s)) result }
 {
     run(
         tx,
@@ -36,7 +38,9 @@ fn put_org<S: Alter>(tx: &mut Transaction<'_, S>, org: &Org) -> Result<(), Error
 
 fn put_person<S: Alter>(tx: &mut Transaction<'_, S>, account: &Account) -> Result<(), Error>
     ensures same_reference { tx.new.conn.ghost_name ≡ tx.old.conn.ghost_name }
-    ensures made { (s : State) → Makes (state S.Store tx.old.conn.now) (state S.Store tx.new.conn.now) (λ db. Holds db s) (λ db. Holds db (edited (Directory (PutAccount account.now)) s)) result }
+    ensures made { (s : State) →
+        Makes (state S.Store tx.old.conn.now) (state S.Store tx.new.conn.now) (λ db.
+        Holds db s) (λ db. Holds db (edited (Directory (PutAccount account.now)) s)) result }
 {
     let person = &account.person;
     run(
@@ -56,7 +60,9 @@ fn put_person<S: Alter>(tx: &mut Transaction<'_, S>, account: &Account) -> Resul
 
 fn put_community<S: Alter>(tx: &mut Transaction<'_, S>, community: &Community) -> Result<(), Error>
     ensures same_reference { tx.new.conn.ghost_name ≡ tx.old.conn.ghost_name }
-    ensures made { (s : State) → Makes (state S.Store tx.old.conn.now) (state S.Store tx.new.conn.now) (λ db. Holds db s) (λ db. Holds db (edited (Directory (PutCommunity community.now)) s)) result }
+    ensures made { (s : State) →
+        Makes (state S.Store tx.old.conn.now) (state S.Store tx.new.conn.now) (λ db.
+        Holds db s) (λ db. Holds db (edited (Directory (PutCommunity community.now)) s)) result }
 {
     run(
         tx,
@@ -67,7 +73,9 @@ fn put_community<S: Alter>(tx: &mut Transaction<'_, S>, community: &Community) -
 
 fn put_group<S: Alter>(tx: &mut Transaction<'_, S>, group: &Group) -> Result<(), Error>
     ensures same_reference { tx.new.conn.ghost_name ≡ tx.old.conn.ghost_name }
-    ensures made { (s : State) → Makes (state S.Store tx.old.conn.now) (state S.Store tx.new.conn.now) (λ db. Holds db s) (λ db. Holds db (edited (Directory (PutGroup group.now)) s)) result }
+    ensures made { (s : State) →
+        Makes (state S.Store tx.old.conn.now) (state S.Store tx.new.conn.now) (λ db.
+        Holds db s) (λ db. Holds db (edited (Directory (PutGroup group.now)) s)) result }
 {
     run(
         tx,
@@ -84,7 +92,9 @@ fn put_group<S: Alter>(tx: &mut Transaction<'_, S>, group: &Group) -> Result<(),
 
 fn suspend<S: Alter>(tx: &mut Transaction<'_, S>, person: u32) -> Result<(), Error>
     ensures same_reference { tx.new.conn.ghost_name ≡ tx.old.conn.ghost_name }
-    ensures made { (s : State) → Makes (state S.Store tx.old.conn.now) (state S.Store tx.new.conn.now) (λ db. Holds db s) (λ db. Holds db (edited (Directory (Suspend person)) s)) result }
+    ensures made { (s : State) →
+        Makes (state S.Store tx.old.conn.now) (state S.Store tx.new.conn.now) (λ db.
+        Holds db s) (λ db. Holds db (edited (Directory (Suspend person)) s)) result }
 {
     run(
         tx,
@@ -99,7 +109,9 @@ fn nominate<S: Alter>(
     nominated: bool,
 ) -> Result<(), Error>
     ensures same_reference { tx.new.conn.ghost_name ≡ tx.old.conn.ghost_name }
-    ensures made { (s : State) → Makes (state S.Store tx.old.conn.now) (state S.Store tx.new.conn.now) (λ db. Holds db s) (λ db. Holds db (edited (Directory (SetNominated person nominated)) s)) result }
+    ensures made { (s : State) →
+        Makes (state S.Store tx.old.conn.now) (state S.Store tx.new.conn.now) (λ db.
+        Holds db s) (λ db. Holds db (edited (Directory (SetNominated person nominated)) s)) result }
 {
     run(
         tx,
@@ -110,7 +122,9 @@ fn nominate<S: Alter>(
 
 fn switch<S: Alter>(tx: &mut Transaction<'_, S>, group: u32, active: bool) -> Result<(), Error>
     ensures same_reference { tx.new.conn.ghost_name ≡ tx.old.conn.ghost_name }
-    ensures made { (s : State) → Makes (state S.Store tx.old.conn.now) (state S.Store tx.new.conn.now) (λ db. Holds db s) (λ db. Holds db (edited (Directory (SetGroupActive group active)) s)) result }
+    ensures made { (s : State) →
+        Makes (state S.Store tx.old.conn.now) (state S.Store tx.new.conn.now) (λ db.
+        Holds db s) (λ db. Holds db (edited (Directory (SetGroupActive group active)) s)) result }
 {
     run(
         tx,
@@ -128,7 +142,10 @@ fn insert_pair<S: Alter>(
 ) -> Result<(), Error>
     ensures same_reference { tx.new.conn.ghost_name ≡ tx.old.conn.ghost_name }
     ensures goes { Goes (state S.Store tx.old.conn.now) (state S.Store tx.new.conn.now) result }
-    ensures ran { HasCleanDisk (state S.Store tx.new.conn.now) → IsTrue (state S.Store tx.old.conn.now).in_transaction → OnOk result (HasRun S.Store put_pair (pair_row (kind_name kind) ((a, b), value)) tx.old.conn.now tx.new.conn.now) }
+    ensures ran { HasCleanDisk (state S.Store tx.new.conn.now) →
+        IsTrue (state S.Store tx.old.conn.now).in_transaction →
+        OnOk result (HasRun S.Store put_pair
+        (pair_row (kind_name kind) ((a, b), value)) tx.old.conn.now tx.new.conn.now) }
 {
     run(
         tx,
@@ -145,7 +162,10 @@ fn remove_pair<S: Alter>(
 ) -> Result<(), Error>
     ensures same_reference { tx.new.conn.ghost_name ≡ tx.old.conn.ghost_name }
     ensures goes { Goes (state S.Store tx.old.conn.now) (state S.Store tx.new.conn.now) result }
-    ensures ran { HasCleanDisk (state S.Store tx.new.conn.now) → IsTrue (state S.Store tx.old.conn.now).in_transaction → OnOk result (HasRun S.Store take_pair (Text (kind_name kind) ∷ Int (pos a) ∷ Int (pos b) ∷ []) tx.old.conn.now tx.new.conn.now) }
+    ensures ran { HasCleanDisk (state S.Store tx.new.conn.now) →
+        IsTrue (state S.Store tx.old.conn.now).in_transaction →
+        OnOk result (HasRun S.Store take_pair
+        (Text (kind_name kind) ∷ Int (pos a) ∷ Int (pos b) ∷ []) tx.old.conn.now tx.new.conn.now) }
 {
     run(
         tx,
@@ -156,28 +176,36 @@ fn remove_pair<S: Alter>(
 
 fn put_client<S: Alter>(tx: &mut Transaction<'_, S>, row: &Client) -> Result<(), Error>
     ensures same_reference { tx.new.conn.ghost_name ≡ tx.old.conn.ghost_name }
-    ensures made { (s : State) → Makes (state S.Store tx.old.conn.now) (state S.Store tx.new.conn.now) (λ db. Holds db s) (λ db. Holds db (edited (Directory (PutClient row.now)) s)) result }
+    ensures made { (s : State) →
+        Makes (state S.Store tx.old.conn.now) (state S.Store tx.new.conn.now) (λ db.
+        Holds db s) (λ db. Holds db (edited (Directory (PutClient row.now)) s)) result }
 {
     insert_pair(tx, PairKind::Client, row.org, row.client, None)
 }
 
 fn put_membership<S: Alter>(tx: &mut Transaction<'_, S>, row: &Membership) -> Result<(), Error>
     ensures same_reference { tx.new.conn.ghost_name ≡ tx.old.conn.ghost_name }
-    ensures made { (s : State) → Makes (state S.Store tx.old.conn.now) (state S.Store tx.new.conn.now) (λ db. Holds db s) (λ db. Holds db (edited (Directory (PutMembership row.now)) s)) result }
+    ensures made { (s : State) →
+        Makes (state S.Store tx.old.conn.now) (state S.Store tx.new.conn.now) (λ db.
+        Holds db s) (λ db. Holds db (edited (Directory (PutMembership row.now)) s)) result }
 {
     insert_pair(tx, PairKind::Membership, row.community, row.org, None)
 }
 
 fn put_connection<S: Alter>(tx: &mut Transaction<'_, S>, row: &Connection) -> Result<(), Error>
     ensures same_reference { tx.new.conn.ghost_name ≡ tx.old.conn.ghost_name }
-    ensures made { (s : State) → Makes (state S.Store tx.old.conn.now) (state S.Store tx.new.conn.now) (λ db. Holds db s) (λ db. Holds db (edited (Directory (PutConnection row.now)) s)) result }
+    ensures made { (s : State) →
+        Makes (state S.Store tx.old.conn.now) (state S.Store tx.new.conn.now) (λ db.
+        Holds db s) (λ db. Holds db (edited (Directory (PutConnection row.now)) s)) result }
 {
     insert_pair(tx, PairKind::Connection, row.low, row.high, None)
 }
 
 fn put_group_member<S: Alter>(tx: &mut Transaction<'_, S>, row: &GroupMember) -> Result<(), Error>
     ensures same_reference { tx.new.conn.ghost_name ≡ tx.old.conn.ghost_name }
-    ensures made { (s : State) → Makes (state S.Store tx.old.conn.now) (state S.Store tx.new.conn.now) (λ db. Holds db s) (λ db. Holds db (edited (Directory (PutGroupMember row.now)) s)) result }
+    ensures made { (s : State) →
+        Makes (state S.Store tx.old.conn.now) (state S.Store tx.new.conn.now) (λ db.
+        Holds db s) (λ db. Holds db (edited (Directory (PutGroupMember row.now)) s)) result }
 {
     insert_pair(
         tx,
@@ -190,7 +218,9 @@ fn put_group_member<S: Alter>(tx: &mut Transaction<'_, S>, row: &GroupMember) ->
 
 fn put_arrangement<S: Alter>(tx: &mut Transaction<'_, S>, row: &Arrangement) -> Result<(), Error>
     ensures same_reference { tx.new.conn.ghost_name ≡ tx.old.conn.ghost_name }
-    ensures made { (s : State) → Makes (state S.Store tx.old.conn.now) (state S.Store tx.new.conn.now) (λ db. Holds db s) (λ db. Holds db (edited (Directory (PutArrangement row.now)) s)) result }
+    ensures made { (s : State) →
+        Makes (state S.Store tx.old.conn.now) (state S.Store tx.new.conn.now) (λ db.
+        Holds db s) (λ db. Holds db (edited (Directory (PutArrangement row.now)) s)) result }
 {
     insert_pair(
         tx,
@@ -203,21 +233,27 @@ fn put_arrangement<S: Alter>(tx: &mut Transaction<'_, S>, row: &Arrangement) -> 
 
 fn take_client<S: Alter>(tx: &mut Transaction<'_, S>, row: &Client) -> Result<(), Error>
     ensures same_reference { tx.new.conn.ghost_name ≡ tx.old.conn.ghost_name }
-    ensures made { (s : State) → Makes (state S.Store tx.old.conn.now) (state S.Store tx.new.conn.now) (λ db. Holds db s) (λ db. Holds db (edited (Directory (TakeClient row.now)) s)) result }
+    ensures made { (s : State) →
+        Makes (state S.Store tx.old.conn.now) (state S.Store tx.new.conn.now) (λ db.
+        Holds db s) (λ db. Holds db (edited (Directory (TakeClient row.now)) s)) result }
 {
     remove_pair(tx, PairKind::Client, row.org, row.client)
 }
 
 fn take_membership<S: Alter>(tx: &mut Transaction<'_, S>, row: &Membership) -> Result<(), Error>
     ensures same_reference { tx.new.conn.ghost_name ≡ tx.old.conn.ghost_name }
-    ensures made { (s : State) → Makes (state S.Store tx.old.conn.now) (state S.Store tx.new.conn.now) (λ db. Holds db s) (λ db. Holds db (edited (Directory (TakeMembership row.now)) s)) result }
+    ensures made { (s : State) →
+        Makes (state S.Store tx.old.conn.now) (state S.Store tx.new.conn.now) (λ db.
+        Holds db s) (λ db. Holds db (edited (Directory (TakeMembership row.now)) s)) result }
 {
     remove_pair(tx, PairKind::Membership, row.community, row.org)
 }
 
 fn take_connection<S: Alter>(tx: &mut Transaction<'_, S>, row: &Connection) -> Result<(), Error>
     ensures same_reference { tx.new.conn.ghost_name ≡ tx.old.conn.ghost_name }
-    ensures made { (s : State) → Makes (state S.Store tx.old.conn.now) (state S.Store tx.new.conn.now) (λ db. Holds db s) (λ db. Holds db (edited (Directory (TakeConnection row.now)) s)) result }
+    ensures made { (s : State) →
+        Makes (state S.Store tx.old.conn.now) (state S.Store tx.new.conn.now) (λ db.
+        Holds db s) (λ db. Holds db (edited (Directory (TakeConnection row.now)) s)) result }
 {
     remove_pair(tx, PairKind::Connection, row.low, row.high)
 }
@@ -228,7 +264,9 @@ fn take_group_member<S: Alter>(
     org: u32,
 ) -> Result<(), Error>
     ensures same_reference { tx.new.conn.ghost_name ≡ tx.old.conn.ghost_name }
-    ensures made { (s : State) → Makes (state S.Store tx.old.conn.now) (state S.Store tx.new.conn.now) (λ db. Holds db s) (λ db. Holds db (edited (Directory (TakeGroupMember group org)) s)) result }
+    ensures made { (s : State) →
+        Makes (state S.Store tx.old.conn.now) (state S.Store tx.new.conn.now) (λ db.
+        Holds db s) (λ db. Holds db (edited (Directory (TakeGroupMember group org)) s)) result }
 {
     remove_pair(tx, PairKind::GroupMember, group, org)
 }
@@ -239,7 +277,9 @@ fn take_arrangement<S: Alter>(
     org: u32,
 ) -> Result<(), Error>
     ensures same_reference { tx.new.conn.ghost_name ≡ tx.old.conn.ghost_name }
-    ensures made { (s : State) → Makes (state S.Store tx.old.conn.now) (state S.Store tx.new.conn.now) (λ db. Holds db s) (λ db. Holds db (edited (Directory (TakeArrangement source org)) s)) result }
+    ensures made { (s : State) →
+        Makes (state S.Store tx.old.conn.now) (state S.Store tx.new.conn.now) (λ db.
+        Holds db s) (λ db. Holds db (edited (Directory (TakeArrangement source org)) s)) result }
 {
     remove_pair(tx, PairKind::Arrangement, source, org)
 }
@@ -247,7 +287,9 @@ fn take_arrangement<S: Alter>(
 /// Makes one edit of the directory.
 pub(crate) fn make_row<S: Alter>(tx: &mut Transaction<'_, S>, edit: &RowEdit) -> Result<(), Error>
     ensures same_reference { tx.new.conn.ghost_name ≡ tx.old.conn.ghost_name }
-    ensures made { (s : State) → Makes (state S.Store tx.old.conn.now) (state S.Store tx.new.conn.now) (λ db. Holds db s) (λ db. Holds db (edited (Directory edit.now) s)) result }
+    ensures made { (s : State) →
+        Makes (state S.Store tx.old.conn.now) (state S.Store tx.new.conn.now) (λ db.
+        Holds db s) (λ db. Holds db (edited (Directory edit.now) s)) result }
 {
     match edit {
         RowEdit::PutOrg(org) => put_org(tx, org),

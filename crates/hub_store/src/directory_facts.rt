@@ -25,7 +25,9 @@ use std::alloc::Global;
 
 fn has_both_orgs<S: Alter>(tx: &mut Transaction<'_, S>, org: u32, other: u32) -> Result<bool, Error>
     ensures same_reference { tx.new.conn.ghost_name ≡ tx.old.conn.ghost_name }
-    ensures read { IsReadInside (state S.Store tx.old.conn.now) (state S.Store tx.new.conn.now) (λ s found. found ≡ (has_org org s.directory && has_org other s.directory)) result }
+    ensures read { IsReadInside (state S.Store tx.old.conn.now)
+        (state S.Store tx.new.conn.now) (λ s found. found ≡
+        (has_org org s.directory && has_org other s.directory)) result }
 {
     let first = read_has_org(tx, org)?;
     if !first {
@@ -40,7 +42,9 @@ fn has_both_communities<S: Alter>(
     other: u32,
 ) -> Result<bool, Error>
     ensures same_reference { tx.new.conn.ghost_name ≡ tx.old.conn.ghost_name }
-    ensures read { IsReadInside (state S.Store tx.old.conn.now) (state S.Store tx.new.conn.now) (λ s found. found ≡ (has_community community s.directory && has_community other s.directory)) result }
+    ensures read { IsReadInside (state S.Store tx.old.conn.now)
+        (state S.Store tx.new.conn.now) (λ s found. found ≡
+        (has_community community s.directory && has_community other s.directory)) result }
 {
     let first = read_has_community(tx, community)?;
     if !first {
@@ -55,7 +59,9 @@ fn has_community_and_org<S: Alter>(
     org: u32,
 ) -> Result<bool, Error>
     ensures same_reference { tx.new.conn.ghost_name ≡ tx.old.conn.ghost_name }
-    ensures read { IsReadInside (state S.Store tx.old.conn.now) (state S.Store tx.new.conn.now) (λ s found. found ≡ (has_community community s.directory && has_org org s.directory)) result }
+    ensures read { IsReadInside (state S.Store tx.old.conn.now)
+        (state S.Store tx.new.conn.now) (λ s found. found ≡
+        (has_community community s.directory && has_org org s.directory)) result }
 {
     let first = read_has_community(tx, community)?;
     if !first {
@@ -71,7 +77,9 @@ fn has_member_and_org<S: Alter>(
     org: u32,
 ) -> Result<bool, Error>
     ensures same_reference { tx.new.conn.ghost_name ≡ tx.old.conn.ghost_name }
-    ensures read { IsReadInside (state S.Store tx.old.conn.now) (state S.Store tx.new.conn.now) (λ s found. found ≡ (has_group_member group member s.directory && has_org org s.directory)) result }
+    ensures read { IsReadInside (state S.Store tx.old.conn.now)
+        (state S.Store tx.new.conn.now) (λ s found. found ≡
+        (has_group_member group member s.directory && has_org org s.directory)) result }
 {
     let first = read_has_group_member(tx, group, member)?;
     if !first {
@@ -87,7 +95,9 @@ fn knows<S: Alter>(
     command: &CircleCommand,
 ) -> Result<bool, Error>
     ensures same_reference { tx.new.conn.ghost_name ≡ tx.old.conn.ghost_name }
-    ensures look { IsLook (state S.Store tx.old.conn.now) (state S.Store tx.new.conn.now) (λ s known. known ≡ exists_in s.directory actor.now command.now) result }
+    ensures look { IsLook (state S.Store tx.old.conn.now)
+        (state S.Store tx.new.conn.now) (λ s known. known ≡
+        exists_in s.directory actor.now command.now) result }
 {
     match command {
         CircleCommand::AddPerson { org, .. }
@@ -121,7 +131,9 @@ fn lets_extend<S: Alter>(
     command: &CircleCommand,
 ) -> Result<bool, Error>
     ensures same_reference { tx.new.conn.ghost_name ≡ tx.old.conn.ghost_name }
-    ensures look { IsLook (state S.Store tx.old.conn.now) (state S.Store tx.new.conn.now) (λ s may. may ≡ may_extend_in s.directory actor.now command.now) result }
+    ensures look { IsLook (state S.Store tx.old.conn.now)
+        (state S.Store tx.new.conn.now) (λ s may. may ≡
+        may_extend_in s.directory actor.now command.now) result }
 {
     match command {
         CircleCommand::GroupAdd { group, .. }
@@ -138,7 +150,9 @@ fn is_owned<S: Alter>(
     command: &CircleCommand,
 ) -> Result<bool, Error>
     ensures same_reference { tx.new.conn.ghost_name ≡ tx.old.conn.ghost_name }
-    ensures look { IsLook (state S.Store tx.old.conn.now) (state S.Store tx.new.conn.now) (λ s owned. owned ≡ owns_in s.directory actor.now command.now) result }
+    ensures look { IsLook (state S.Store tx.old.conn.now)
+        (state S.Store tx.new.conn.now) (λ s owned. owned ≡
+        owns_in s.directory actor.now command.now) result }
 {
     match command {
         CircleCommand::GroupAdd { group, .. }
@@ -156,7 +170,9 @@ fn is_targets<S: Alter>(
     command: &CircleCommand,
 ) -> Result<bool, Error>
     ensures same_reference { tx.new.conn.ghost_name ≡ tx.old.conn.ghost_name }
-    ensures look { IsLook (state S.Store tx.old.conn.now) (state S.Store tx.new.conn.now) (λ s owned. owned ≡ target_owns_in s.directory command.now) result }
+    ensures look { IsLook (state S.Store tx.old.conn.now)
+        (state S.Store tx.new.conn.now) (λ s owned. owned ≡
+        target_owns_in s.directory command.now) result }
 {
     match command {
         CircleCommand::GroupRemove { group, org } => read_has_group_of(tx, alloc, *group, *org),
@@ -171,7 +187,9 @@ fn is_persons_own<S: Alter>(
     command: &CircleCommand,
 ) -> Result<bool, Error>
     ensures same_reference { tx.new.conn.ghost_name ≡ tx.old.conn.ghost_name }
-    ensures look { IsLook (state S.Store tx.old.conn.now) (state S.Store tx.new.conn.now) (λ s own. own ≡ is_own_person s.directory actor.now command.now) result }
+    ensures look { IsLook (state S.Store tx.old.conn.now)
+        (state S.Store tx.new.conn.now) (λ s own. own ≡
+        is_own_person s.directory actor.now command.now) result }
 {
     match command {
         CircleCommand::Nominate { person } | CircleCommand::Unnominate { person } => {
@@ -188,7 +206,9 @@ fn stands<S: Alter>(
     command: &CircleCommand,
 ) -> Result<bool, Error>
     ensures same_reference { tx.new.conn.ghost_name ≡ tx.old.conn.ghost_name }
-    ensures read { IsReadInside (state S.Store tx.old.conn.now) (state S.Store tx.new.conn.now) (λ s stands. stands ≡ stands_in s.directory actor.now command.now) result }
+    ensures read { IsReadInside (state S.Store tx.old.conn.now)
+        (state S.Store tx.new.conn.now) (λ s stands. stands ≡
+        stands_in s.directory actor.now command.now) result }
 {
     match command {
         CircleCommand::AddOrg { name } => read_has_org_named(tx, name.as_str()),
@@ -224,7 +244,8 @@ fn stands<S: Alter>(
 
 fn count<S: Alter>(tx: &mut Transaction<'_, S>, command: &CircleCommand) -> Result<u32, Error>
     ensures same_reference { tx.new.conn.ghost_name ≡ tx.old.conn.ghost_name }
-    ensures look { IsLook (state S.Store tx.old.conn.now) (state S.Store tx.new.conn.now) (λ s count. count ≡ count_in s.directory command.now) result }
+    ensures look { IsLook (state S.Store tx.old.conn.now)
+        (state S.Store tx.new.conn.now) (λ s count. count ≡ count_in s.directory command.now) result }
 {
     match command {
         CircleCommand::AddOrg { .. } => count_orgs(tx),
@@ -243,7 +264,9 @@ fn read_facts<S: Alter>(
     command: &CircleCommand,
 ) -> Result<CircleFacts, Error>
     ensures same_reference { tx.new.conn.ghost_name ≡ tx.old.conn.ghost_name }
-    ensures read { IsReadInside (state S.Store tx.old.conn.now) (state S.Store tx.new.conn.now) (λ s facts. facts ≡ facts_of s.directory actor.now command.now) result }
+    ensures read { IsReadInside (state S.Store tx.old.conn.now)
+        (state S.Store tx.new.conn.now) (λ s facts. facts ≡
+        facts_of s.directory actor.now command.now) result }
 {
     let stands = stands(tx, alloc, actor, command)?;
     let exists = knows(tx, alloc, actor, command)?;
@@ -272,7 +295,9 @@ pub(crate) fn find_circle_facts<S: Alter>(
 ) -> Result<CircleFacts, Error>
     requires { conn.old.in_transaction ≡ false }
     ensures idle { conn.new.in_transaction ≡ false }
-    ensures answers { IsReadOutside (state S.Store conn.old) (state S.Store conn.new) (λ s facts. facts ≡ facts_of s.directory actor.now command.now) result }
+    ensures answers { IsReadOutside (state S.Store conn.old)
+        (state S.Store conn.new) (λ s facts. facts ≡
+        facts_of s.directory actor.now command.now) result }
 {
     let mut tx = conn.transaction();
     let found = read_facts(&mut tx, alloc, actor, command);

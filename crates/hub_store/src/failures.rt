@@ -25,7 +25,8 @@ pub(crate) fn count_failure<T: Drop>(
     ensures value { IfOk result (λ x. outcome ≡ Ok x) }
     ensures given { IfOk outcome (λ x. result ≡ Ok x) }
     ensures cause { HasCause failures.old failures.new result }
-    ensures memory { (result ≡ Err ShelfFault.NoMemory) ↔ (outcome ≡ Err (Error.SqliteFailure ErrorCode.OutOfMemory)) }
+    ensures memory { (result ≡ Err ShelfFault.NoMemory) ↔
+        (outcome ≡ Err (Error.SqliteFailure ErrorCode.OutOfMemory)) }
     ensures counted { IsErrOf result ShelfFault.Failed → failures.new ≡ failures.old + 1 }
     ensures uncounted { ¬ IsErrOf result ShelfFault.Failed → failures.new ≡ failures.old }
 {

@@ -32,11 +32,13 @@ pub(crate) fn feed_rows<S: Alter>(
     pass: &mut RowPass,
 ) -> Result<(), Error>
     requires idle { conn.old.in_transaction ≡ false }
-    requires settled { IsTrue (state S.Store conn.old).is_open → (state S.Store conn.old).now ≡ (state S.Store conn.old).committed }
+    requires settled { IsTrue (state S.Store conn.old).is_open →
+        (state S.Store conn.old).now ≡ (state S.Store conn.old).committed }
     requires unfed { IsUnfed pass.old }
     ensures idle { conn.new.in_transaction ≡ false }
     ensures fed { OnOk result (HasTaken pass.old pass.new) }
-    ensures answers { IsReadOutside (state S.Store conn.old) (state S.Store conn.new) (λ s _. pass.new.fed.lines ≡ lines_of incident s) result }
+    ensures answers { IsReadOutside (state S.Store conn.old) (state S.Store conn.new) (λ s _.
+        pass.new.fed.lines ≡ lines_of incident s) result }
 {
     let mut rows = conn.query(
         "SELECT place, depth, name, in_array, kind, text FROM item WHERE incident = ?1 ORDER BY place",

@@ -20,7 +20,9 @@ fn read_arranged<S: Alter>(
     org: u32,
 ) -> Result<Option<Handling>, Error>
     ensures same_reference { tx.new.conn.ghost_name ≡ tx.old.conn.ghost_name }
-    ensures read { IsReadInside (state S.Store tx.old.conn.now) (state S.Store tx.new.conn.now) (λ s found. found ≡ arranged_with source org s.directory) result }
+    ensures read { IsReadInside (state S.Store tx.old.conn.now)
+        (state S.Store tx.new.conn.now) (λ s found. found ≡
+        arranged_with source org s.directory) result }
 {
     let rows = ask_between(tx, PairKind::Arrangement, source, org)?;
     first(alloc, &rows)
@@ -32,7 +34,9 @@ fn read_orgs_whose_client<S: Alter>(
     client: u32,
 ) -> Result<Vec<u32>, Error>
     ensures same_reference { tx.new.conn.ghost_name ≡ tx.old.conn.ghost_name }
-    ensures read { IsReadInside (state S.Store tx.old.conn.now) (state S.Store tx.new.conn.now) (λ s found. found.items ≡ organisations_whose_client client s.directory) result }
+    ensures read { IsReadInside (state S.Store tx.old.conn.now)
+        (state S.Store tx.new.conn.now) (λ s found.
+        found.items ≡ organisations_whose_client client s.directory) result }
 {
     read_firsts(tx, alloc, PairKind::Client, client)
 }
@@ -46,7 +50,8 @@ pub(crate) fn arranged<S: Alter>(
 ) -> Result<Option<Handling>, Error>
     requires { conn.old.in_transaction ≡ false }
     ensures idle { conn.new.in_transaction ≡ false }
-    ensures answers { IsReadOutside (state S.Store conn.old) (state S.Store conn.new) (λ s found. found ≡ arranged_with source org s.directory) result }
+    ensures answers { IsReadOutside (state S.Store conn.old)
+        (state S.Store conn.new) (λ s found. found ≡ arranged_with source org s.directory) result }
 {
     let mut tx = conn.transaction();
     let found = read_arranged(&mut tx, alloc, source, org);
@@ -62,7 +67,8 @@ pub(crate) fn orgs_whose_client<S: Alter>(
 ) -> Result<Vec<u32>, Error>
     requires { conn.old.in_transaction ≡ false }
     ensures idle { conn.new.in_transaction ≡ false }
-    ensures answers { IsReadOutside (state S.Store conn.old) (state S.Store conn.new) (λ s found. found.items ≡ organisations_whose_client client s.directory) result }
+    ensures answers { IsReadOutside (state S.Store conn.old) (state S.Store conn.new) (λ s found.
+        found.items ≡ organisations_whose_client client s.directory) result }
 {
     let mut tx = conn.transaction();
     let found = read_orgs_whose_client(&mut tx, alloc, client);

@@ -22,7 +22,8 @@ fn read_policy<S: Alter>(
     incident: u32,
 ) -> Result<Case, Error>
     ensures same_reference { tx.new.conn.ghost_name ≡ tx.old.conn.ghost_name }
-    ensures read { IsReadInside (state S.Store tx.old.conn.now) (state S.Store tx.new.conn.now) (λ s case. IsCase naming.now incident s case) result }
+    ensures read { IsReadInside (state S.Store tx.old.conn.now)
+        (state S.Store tx.new.conn.now) (λ s case. IsCase naming.now incident s case) result }
 {
     let gates = read_gates(tx, alloc, incident)?;
     let permissions = read_permissions(tx, alloc, incident)?;
@@ -40,7 +41,8 @@ fn read_case<S: Alter>(
     incident: u32,
 ) -> Result<Option<Case>, Error>
     ensures same_reference { tx.new.conn.ghost_name ≡ tx.old.conn.ghost_name }
-    ensures read { IsReadInside (state S.Store tx.old.conn.now) (state S.Store tx.new.conn.now) (λ s found. found ≡ case_of incident s) result }
+    ensures read { IsReadInside (state S.Store tx.old.conn.now)
+        (state S.Store tx.new.conn.now) (λ s found. found ≡ case_of incident s) result }
 {
     let naming = read_naming(tx, alloc, incident)?;
     match naming {
@@ -60,7 +62,8 @@ pub(crate) fn find_case<S: Alter>(
 ) -> Result<Option<Case>, Error>
     requires { conn.old.in_transaction ≡ false }
     ensures idle { conn.new.in_transaction ≡ false }
-    ensures answers { IsReadOutside (state S.Store conn.old) (state S.Store conn.new) (λ s found. found ≡ case_of incident s) result }
+    ensures answers { IsReadOutside (state S.Store conn.old)
+        (state S.Store conn.new) (λ s found. found ≡ case_of incident s) result }
 {
     let mut tx = conn.transaction();
     let found = read_case(&mut tx, alloc, incident);

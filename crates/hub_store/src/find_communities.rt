@@ -21,7 +21,9 @@ fn read_communities<S: Alter>(
     org: u32,
 ) -> Result<Vec<u32>, Error>
     ensures same_reference { tx.new.conn.ghost_name ≡ tx.old.conn.ghost_name }
-    ensures read { IsReadInside (state S.Store tx.old.conn.now) (state S.Store tx.new.conn.now) (λ s found. found.items ≡ communities_joined org s.directory) result }
+    ensures read { IsReadInside (state S.Store tx.old.conn.now)
+        (state S.Store tx.new.conn.now) (λ s found.
+        found.items ≡ communities_joined org s.directory) result }
 {
     read_firsts(tx, alloc, PairKind::Membership, org)
 }
@@ -33,7 +35,9 @@ fn read_share<S: Alter>(
     other: u32,
 ) -> Result<bool, Error>
     ensures same_reference { tx.new.conn.ghost_name ≡ tx.old.conn.ghost_name }
-    ensures read { IsReadInside (state S.Store tx.old.conn.now) (state S.Store tx.new.conn.now) (λ s found. found ≡ are_in_one_community org other s.directory) result }
+    ensures read { IsReadInside (state S.Store tx.old.conn.now)
+        (state S.Store tx.new.conn.now) (λ s found. found ≡
+        are_in_one_community org other s.directory) result }
 {
     let own = read_communities(tx, alloc, org)?;
     let others = read_communities(tx, alloc, other)?;
@@ -48,7 +52,10 @@ fn read_linked<S: Alter>(
     others: &[u32],
 ) -> Result<bool, Error>
     ensures same_reference { tx.new.conn.ghost_name ≡ tx.old.conn.ghost_name }
-    ensures read { IsReadInside (state S.Store tx.old.conn.now) (state S.Store tx.new.conn.now) (λ s found. AreRising others.now → found ≡ list_any (is_one_of others.now) (linked_with community s.directory)) result }
+    ensures read { IsReadInside (state S.Store tx.old.conn.now)
+        (state S.Store tx.new.conn.now) (λ s found.
+        AreRising others.now →
+        found ≡ list_any (is_one_of others.now) (linked_with community s.directory)) result }
 {
     let above = read_seconds(tx, alloc, PairKind::Connection, community)?;
     if have_common(&above, others) {
@@ -65,7 +72,9 @@ fn read_connected<S: Alter>(
     other: u32,
 ) -> Result<bool, Error>
     ensures same_reference { tx.new.conn.ghost_name ≡ tx.old.conn.ghost_name }
-    ensures read { IsReadInside (state S.Store tx.old.conn.now) (state S.Store tx.new.conn.now) (λ s found. found ≡ are_in_connected org other s.directory) result }
+    ensures read { IsReadInside (state S.Store tx.old.conn.now)
+        (state S.Store tx.new.conn.now) (λ s found. found ≡
+        are_in_connected org other s.directory) result }
 {
     let own = read_communities(tx, alloc, org)?;
     let others = read_communities(tx, alloc, other)?;
@@ -85,7 +94,8 @@ pub(crate) fn communities_of<S: Alter>(
 ) -> Result<Vec<u32>, Error>
     requires { conn.old.in_transaction ≡ false }
     ensures idle { conn.new.in_transaction ≡ false }
-    ensures answers { IsReadOutside (state S.Store conn.old) (state S.Store conn.new) (λ s found. found.items ≡ communities_joined org s.directory) result }
+    ensures answers { IsReadOutside (state S.Store conn.old) (state S.Store conn.new) (λ s found.
+        found.items ≡ communities_joined org s.directory) result }
 {
     let mut tx = conn.transaction();
     let found = read_communities(&mut tx, alloc, org);
@@ -102,7 +112,9 @@ pub(crate) fn share_community<S: Alter>(
 ) -> Result<bool, Error>
     requires { conn.old.in_transaction ≡ false }
     ensures idle { conn.new.in_transaction ≡ false }
-    ensures answers { IsReadOutside (state S.Store conn.old) (state S.Store conn.new) (λ s found. found ≡ are_in_one_community org other s.directory) result }
+    ensures answers { IsReadOutside (state S.Store conn.old)
+        (state S.Store conn.new) (λ s found. found ≡
+        are_in_one_community org other s.directory) result }
 {
     let mut tx = conn.transaction();
     let found = read_share(&mut tx, alloc, org, other);
@@ -119,7 +131,8 @@ pub(crate) fn are_connected<S: Alter>(
 ) -> Result<bool, Error>
     requires { conn.old.in_transaction ≡ false }
     ensures idle { conn.new.in_transaction ≡ false }
-    ensures answers { IsReadOutside (state S.Store conn.old) (state S.Store conn.new) (λ s found. found ≡ are_in_connected org other s.directory) result }
+    ensures answers { IsReadOutside (state S.Store conn.old)
+        (state S.Store conn.new) (λ s found. found ≡ are_in_connected org other s.directory) result }
 {
     let mut tx = conn.transaction();
     let found = read_connected(&mut tx, alloc, org, other);
@@ -135,7 +148,8 @@ pub(crate) fn has_membership<S: Alter>(
 ) -> Result<bool, Error>
     requires { conn.old.in_transaction ≡ false }
     ensures idle { conn.new.in_transaction ≡ false }
-    ensures answers { IsReadOutside (state S.Store conn.old) (state S.Store conn.new) (λ s found. found ≡ is_membership community org s.directory) result }
+    ensures answers { IsReadOutside (state S.Store conn.old)
+        (state S.Store conn.new) (λ s found. found ≡ is_membership community org s.directory) result }
 {
     let mut tx = conn.transaction();
     let found = read_has_membership(&mut tx, community, org);

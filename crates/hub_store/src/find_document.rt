@@ -17,7 +17,8 @@ fn read_document<S: Alter>(
     incident: u32,
 ) -> Result<Option<Document>, Error>
     ensures same_reference { tx.new.conn.ghost_name ≡ tx.old.conn.ghost_name }
-    ensures read { IsReadInside (state S.Store tx.old.conn.now) (state S.Store tx.new.conn.now) (λ s found. found ≡ document_of incident s) result }
+    ensures read { IsReadInside (state S.Store tx.old.conn.now)
+        (state S.Store tx.new.conn.now) (λ s found. found ≡ document_of incident s) result }
 {
     let rows = ask(
         tx,
@@ -35,7 +36,8 @@ pub(crate) fn find_document<S: Alter>(
 ) -> Result<Option<Document>, Error>
     requires { conn.old.in_transaction ≡ false }
     ensures idle { conn.new.in_transaction ≡ false }
-    ensures answers { IsReadOutside (state S.Store conn.old) (state S.Store conn.new) (λ s found. found ≡ document_of incident s) result }
+    ensures answers { IsReadOutside (state S.Store conn.old)
+        (state S.Store conn.new) (λ s found. found ≡ document_of incident s) result }
 {
     let mut tx = conn.transaction();
     let found = read_document(&mut tx, alloc, incident);

@@ -16,7 +16,8 @@ use std::alloc::Global;
 /// What a reader is served of the lines that came to a pass.
 fn finish_pass(pass: RowPass) -> Result<Option<Excerpt>, Error>
     requires { pass.fed.fault ≡ None }
-    ensures { IfOk result (λ found. option_map told_by found ≡ served_of pass.fed.lines pass.case pass.standing) }
+    ensures { IfOk result (λ found.
+        option_map told_by found ≡ served_of pass.fed.lines pass.case pass.standing) }
 {
     match pass.finish() {
         Ok(found) => Ok(found),
@@ -34,7 +35,8 @@ pub(crate) fn find_excerpt<S: Alter>(
 ) -> Result<Option<Excerpt>, Error>
     requires { conn.old.in_transaction ≡ false }
     ensures idle { conn.new.in_transaction ≡ false }
-    ensures answers { IsReadOutside (state S.Store conn.old) (state S.Store conn.new) (λ s found. option_map told_by found ≡ served_of_incident incident case standing s) result }
+    ensures answers { IsReadOutside (state S.Store conn.old) (state S.Store conn.new) (λ s found.
+        option_map told_by found ≡ served_of_incident incident case standing s) result }
 {
     // outside a transaction what is seen is what was committed
     let settled = conn.is_autocommit();

@@ -18,7 +18,8 @@ pub(crate) fn read_gates<S: Alter>(
     incident: u32,
 ) -> Result<Gates, Error>
     ensures same_reference { tx.new.conn.ghost_name ≡ tx.old.conn.ghost_name }
-    ensures read { IsReadInside (state S.Store tx.old.conn.now) (state S.Store tx.new.conn.now) (λ s found. found ≡ its_gates incident s.gates) result }
+    ensures read { IsReadInside (state S.Store tx.old.conn.now)
+        (state S.Store tx.new.conn.now) (λ s found. found ≡ its_gates incident s.gates) result }
 {
     let rows = ask(
         tx,
@@ -37,7 +38,8 @@ pub(crate) fn find_gates<S: Alter>(
 ) -> Result<Gates, Error>
     requires { conn.old.in_transaction ≡ false }
     ensures idle { conn.new.in_transaction ≡ false }
-    ensures answers { IsReadOutside (state S.Store conn.old) (state S.Store conn.new) (λ s found. found ≡ its_gates incident s.gates) result }
+    ensures answers { IsReadOutside (state S.Store conn.old)
+        (state S.Store conn.new) (λ s found. found ≡ its_gates incident s.gates) result }
 {
     let mut tx = conn.transaction();
     let found = read_gates(&mut tx, alloc, incident);

@@ -27,7 +27,9 @@ pub(crate) fn read_has_group_member<S: Alter>(
     org: u32,
 ) -> Result<bool, Error>
     ensures same_reference { tx.new.conn.ghost_name ≡ tx.old.conn.ghost_name }
-    ensures read { IsReadInside (state S.Store tx.old.conn.now) (state S.Store tx.new.conn.now) (λ s found. found ≡ is_group_member group org s.directory) result }
+    ensures read { IsReadInside (state S.Store tx.old.conn.now)
+        (state S.Store tx.new.conn.now) (λ s found. found ≡
+        is_group_member group org s.directory) result }
 {
     read_has_pair(tx, PairKind::GroupMember, group, org)
 }
@@ -39,7 +41,9 @@ fn read_memberships<S: Alter>(
     org: u32,
 ) -> Result<Vec<Joined>, Error>
     ensures same_reference { tx.new.conn.ghost_name ≡ tx.old.conn.ghost_name }
-    ensures read { IsReadInside (state S.Store tx.old.conn.now) (state S.Store tx.new.conn.now) (λ s found. found.items ≡ map joined_of (memberships_in_groups org s.directory)) result }
+    ensures read { IsReadInside (state S.Store tx.old.conn.now)
+        (state S.Store tx.new.conn.now) (λ s found.
+        found.items ≡ map joined_of (memberships_in_groups org s.directory)) result }
 {
     let rows = ask_to(tx, PairKind::GroupMember, org)?;
     all(alloc, &rows)
@@ -51,7 +55,8 @@ pub(crate) fn read_group<S: Alter>(
     number: u32,
 ) -> Result<Option<Group>, Error>
     ensures same_reference { tx.new.conn.ghost_name ≡ tx.old.conn.ghost_name }
-    ensures read { IsReadInside (state S.Store tx.old.conn.now) (state S.Store tx.new.conn.now) (λ s found. found ≡ group_of number s.directory) result }
+    ensures read { IsReadInside (state S.Store tx.old.conn.now)
+        (state S.Store tx.new.conn.now) (λ s found. found ≡ group_of number s.directory) result }
 {
     let rows = ask(
         tx,
@@ -79,7 +84,8 @@ fn push_joined(
     member: Joined,
     group: Option<Group>,
 ) -> Result<(), AllocError>
-    ensures { OnOk result (groups.new.items ≡ groups.old.items ++ cons_option (option_map (joined_with member) group) []) }
+    ensures { OnOk result (groups.new.items ≡
+        groups.old.items ++ cons_option (option_map (joined_with member) group) []) }
 {
     if let Some(group) = group {
         groups.push(joined_group(member, group))?;
@@ -94,7 +100,8 @@ fn read_groups<S: Alter>(
     org: u32,
 ) -> Result<Vec<JoinedGroup>, Error>
     ensures same_reference { tx.new.conn.ghost_name ≡ tx.old.conn.ghost_name }
-    ensures read { IsReadInside (state S.Store tx.old.conn.now) (state S.Store tx.new.conn.now) (λ s found. found.items ≡ groups_in org s.directory) result }
+    ensures read { IsReadInside (state S.Store tx.old.conn.now)
+        (state S.Store tx.new.conn.now) (λ s found. found.items ≡ groups_in org s.directory) result }
 {
     let members = read_memberships(tx, alloc, org)?;
     let mut groups = Vec::new(alloc);
@@ -112,7 +119,8 @@ fn all_numbers(alloc: Global, groups: &[JoinedGroup]) -> Result<Vec<u32>, AllocE
 }
 
 fn active_numbers(alloc: Global, groups: &[JoinedGroup]) -> Result<Vec<u32>, AllocError>
-    ensures { IfOk result (λ found. found.items ≡ map (λ g. g.number) (filter (λ g. g.active) groups.now)) }
+    ensures { IfOk result (λ found.
+        found.items ≡ map (λ g. g.number) (filter (λ g. g.active) groups.now)) }
 {
     groups
         .iter()
@@ -127,7 +135,9 @@ fn read_groups_joined<S: Alter>(
     org: u32,
 ) -> Result<GroupsJoined, Error>
     ensures same_reference { tx.new.conn.ghost_name ≡ tx.old.conn.ghost_name }
-    ensures read { IsReadInside (state S.Store tx.old.conn.now) (state S.Store tx.new.conn.now) (λ s found. found ≡ record { all = groups_joined_by org s.directory; active = active_groups_joined_by org s.directory }) result }
+    ensures read { IsReadInside (state S.Store tx.old.conn.now)
+        (state S.Store tx.new.conn.now) (λ s found. found ≡
+        record { all = groups_joined_by org s.directory; active = active_groups_joined_by org s.directory }) result }
 {
     let groups = read_groups(tx, alloc, org)?;
     let all = all_numbers(alloc, &groups)?;
@@ -146,7 +156,8 @@ pub(crate) fn has_group_member<S: Alter>(
 ) -> Result<bool, Error>
     requires { conn.old.in_transaction ≡ false }
     ensures idle { conn.new.in_transaction ≡ false }
-    ensures answers { IsReadOutside (state S.Store conn.old) (state S.Store conn.new) (λ s found. found ≡ is_group_member group org s.directory) result }
+    ensures answers { IsReadOutside (state S.Store conn.old)
+        (state S.Store conn.new) (λ s found. found ≡ is_group_member group org s.directory) result }
 {
     let mut tx = conn.transaction();
     let found = read_has_group_member(&mut tx, group, org);
@@ -162,7 +173,9 @@ pub(crate) fn groups_joined<S: Alter>(
 ) -> Result<GroupsJoined, Error>
     requires { conn.old.in_transaction ≡ false }
     ensures idle { conn.new.in_transaction ≡ false }
-    ensures answers { IsReadOutside (state S.Store conn.old) (state S.Store conn.new) (λ s found. found ≡ record { all = groups_joined_by org s.directory; active = active_groups_joined_by org s.directory }) result }
+    ensures answers { IsReadOutside (state S.Store conn.old)
+        (state S.Store conn.new) (λ s found. found ≡
+        record { all = groups_joined_by org s.directory; active = active_groups_joined_by org s.directory }) result }
 {
     let mut tx = conn.transaction();
     let found = read_groups_joined(&mut tx, alloc, org);
@@ -178,7 +191,8 @@ pub(crate) fn find_groups<S: Alter>(
 ) -> Result<Vec<JoinedGroup>, Error>
     requires { conn.old.in_transaction ≡ false }
     ensures idle { conn.new.in_transaction ≡ false }
-    ensures answers { IsReadOutside (state S.Store conn.old) (state S.Store conn.new) (λ s found. found.items ≡ groups_of person.now s) result }
+    ensures answers { IsReadOutside (state S.Store conn.old) (state S.Store conn.new) (λ s found.
+        found.items ≡ groups_of person.now s) result }
 {
     let mut tx = conn.transaction();
     let found = read_groups(&mut tx, alloc, person.org);

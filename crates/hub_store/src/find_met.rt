@@ -21,7 +21,9 @@ use std::alloc::Global;
 fn is_met(probe: Probe) -> Result<bool, Error>
     requires unfaulted { probe.fed.fault ≡ None }
     requires sure { probe.met ≡ true → IsSure probe.want probe.fed.lines probe.case probe.standing }
-    ensures { IfOk result (λ met. (n : ℕ) (s : State) → IsSound s → AreFirst n s probe → met ≡ met_by_incident n probe.case probe.standing probe.want s) }
+    ensures { IfOk result (λ met.
+        (n : ℕ) (s : State) → IsSound s → AreFirst n s probe →
+        met ≡ met_by_incident n probe.case probe.standing probe.want s) }
 {
     // what is sure of the lines that came is so of the document, whose lines are an outline
     lines_are_an_outline();
@@ -42,7 +44,9 @@ pub(crate) fn find_met<S: Alter>(
 ) -> Result<bool, Error>
     requires { conn.old.in_transaction ≡ false }
     ensures idle { conn.new.in_transaction ≡ false }
-    ensures answers { IsReadOutside (state S.Store conn.old) (state S.Store conn.new) (λ s met. met ≡ met_by_incident incident case standing want s) result }
+    ensures answers { IsReadOutside (state S.Store conn.old)
+        (state S.Store conn.new) (λ s met. met ≡
+        met_by_incident incident case standing want s) result }
 {
     // outside a transaction what is seen is what was committed
     let settled = conn.is_autocommit();

@@ -18,7 +18,8 @@ pub(crate) fn read_naming<S: Alter>(
     incident: u32,
 ) -> Result<Option<Naming>, Error>
     ensures same_reference { tx.new.conn.ghost_name ≡ tx.old.conn.ghost_name }
-    ensures read { IsReadInside (state S.Store tx.old.conn.now) (state S.Store tx.new.conn.now) (λ s found. found ≡ naming_of incident s) result }
+    ensures read { IsReadInside (state S.Store tx.old.conn.now)
+        (state S.Store tx.new.conn.now) (λ s found. found ≡ naming_of incident s) result }
 {
     let rows = ask(
         tx,
@@ -36,7 +37,8 @@ pub(crate) fn find_naming<S: Alter>(
 ) -> Result<Option<Naming>, Error>
     requires { conn.old.in_transaction ≡ false }
     ensures idle { conn.new.in_transaction ≡ false }
-    ensures answers { IsReadOutside (state S.Store conn.old) (state S.Store conn.new) (λ s found. found ≡ naming_of incident s) result }
+    ensures answers { IsReadOutside (state S.Store conn.old)
+        (state S.Store conn.new) (λ s found. found ≡ naming_of incident s) result }
 {
     let mut tx = conn.transaction();
     let found = read_naming(&mut tx, alloc, incident);

@@ -19,7 +19,9 @@ pub(crate) fn read_number_of<S: Alter>(
     ident: &Text,
 ) -> Result<Option<u32>, Error>
     ensures same_reference { tx.new.conn.ghost_name ≡ tx.old.conn.ghost_name }
-    ensures read { IsReadInside (state S.Store tx.old.conn.now) (state S.Store tx.new.conn.now) (λ s found. found ≡ option_map incident_number (incident_named source ident.now s)) result }
+    ensures read { IsReadInside (state S.Store tx.old.conn.now)
+        (state S.Store tx.new.conn.now) (λ s found. found ≡
+        option_map incident_number (incident_named source ident.now s)) result }
 {
     let rows = ask(
         tx,
@@ -38,7 +40,9 @@ pub(crate) fn number_of<S: Alter>(
 ) -> Result<Option<u32>, Error>
     requires { conn.old.in_transaction ≡ false }
     ensures idle { conn.new.in_transaction ≡ false }
-    ensures answers { IsReadOutside (state S.Store conn.old) (state S.Store conn.new) (λ s found. found ≡ option_map incident_number (incident_named source ident.now s)) result }
+    ensures answers { IsReadOutside (state S.Store conn.old)
+        (state S.Store conn.new) (λ s found. found ≡
+        option_map incident_number (incident_named source ident.now s)) result }
 {
     let mut tx = conn.transaction();
     let found = read_number_of(&mut tx, alloc, source, ident);

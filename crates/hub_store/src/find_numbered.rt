@@ -18,7 +18,8 @@ pub(crate) fn read_has_org<S: Alter>(
     number: u32,
 ) -> Result<bool, Error>
     ensures same_reference { tx.new.conn.ghost_name ≡ tx.old.conn.ghost_name }
-    ensures read { IsReadInside (state S.Store tx.old.conn.now) (state S.Store tx.new.conn.now) (λ s found. found ≡ is_org number s.directory) result }
+    ensures read { IsReadInside (state S.Store tx.old.conn.now)
+        (state S.Store tx.new.conn.now) (λ s found. found ≡ is_org number s.directory) result }
 {
     let rows = ask(
         tx,
@@ -33,7 +34,8 @@ pub(crate) fn read_has_community<S: Alter>(
     number: u32,
 ) -> Result<bool, Error>
     ensures same_reference { tx.new.conn.ghost_name ≡ tx.old.conn.ghost_name }
-    ensures read { IsReadInside (state S.Store tx.old.conn.now) (state S.Store tx.new.conn.now) (λ s found. found ≡ is_community number s.directory) result }
+    ensures read { IsReadInside (state S.Store tx.old.conn.now)
+        (state S.Store tx.new.conn.now) (λ s found. found ≡ is_community number s.directory) result }
 {
     let rows = ask(
         tx,
@@ -49,7 +51,9 @@ pub(crate) fn read_person_of<S: Alter>(
     number: u32,
 ) -> Result<Option<Person>, Error>
     ensures same_reference { tx.new.conn.ghost_name ≡ tx.old.conn.ghost_name }
-    ensures read { IsReadInside (state S.Store tx.old.conn.now) (state S.Store tx.new.conn.now) (λ s found. found ≡ person_numbered number s.directory) result }
+    ensures read { IsReadInside (state S.Store tx.old.conn.now)
+        (state S.Store tx.new.conn.now) (λ s found. found ≡
+        person_numbered number s.directory) result }
 {
     let rows = ask(
         tx,
@@ -65,7 +69,8 @@ pub(crate) fn read_has_person<S: Alter>(
     number: u32,
 ) -> Result<bool, Error>
     ensures same_reference { tx.new.conn.ghost_name ≡ tx.old.conn.ghost_name }
-    ensures read { IsReadInside (state S.Store tx.old.conn.now) (state S.Store tx.new.conn.now) (λ s found. found ≡ is_person number s.directory) result }
+    ensures read { IsReadInside (state S.Store tx.old.conn.now)
+        (state S.Store tx.new.conn.now) (λ s found. found ≡ is_person number s.directory) result }
 {
     let found = read_person_of(tx, alloc, number)?;
     Ok(found.is_some())
@@ -75,7 +80,8 @@ pub(crate) fn read_has_person<S: Alter>(
 pub(crate) fn has_org<S: Alter>(conn: &mut Connection<S>, number: u32) -> Result<bool, Error>
     requires { conn.old.in_transaction ≡ false }
     ensures idle { conn.new.in_transaction ≡ false }
-    ensures answers { IsReadOutside (state S.Store conn.old) (state S.Store conn.new) (λ s found. found ≡ is_org number s.directory) result }
+    ensures answers { IsReadOutside (state S.Store conn.old)
+        (state S.Store conn.new) (λ s found. found ≡ is_org number s.directory) result }
 {
     let mut tx = conn.transaction();
     let found = read_has_org(&mut tx, number);
@@ -87,7 +93,8 @@ pub(crate) fn has_org<S: Alter>(conn: &mut Connection<S>, number: u32) -> Result
 pub(crate) fn has_community<S: Alter>(conn: &mut Connection<S>, number: u32) -> Result<bool, Error>
     requires { conn.old.in_transaction ≡ false }
     ensures idle { conn.new.in_transaction ≡ false }
-    ensures answers { IsReadOutside (state S.Store conn.old) (state S.Store conn.new) (λ s found. found ≡ is_community number s.directory) result }
+    ensures answers { IsReadOutside (state S.Store conn.old)
+        (state S.Store conn.new) (λ s found. found ≡ is_community number s.directory) result }
 {
     let mut tx = conn.transaction();
     let found = read_has_community(&mut tx, number);
@@ -103,7 +110,8 @@ pub(crate) fn person_of<S: Alter>(
 ) -> Result<Option<Person>, Error>
     requires { conn.old.in_transaction ≡ false }
     ensures idle { conn.new.in_transaction ≡ false }
-    ensures answers { IsReadOutside (state S.Store conn.old) (state S.Store conn.new) (λ s found. found ≡ person_numbered number s.directory) result }
+    ensures answers { IsReadOutside (state S.Store conn.old)
+        (state S.Store conn.new) (λ s found. found ≡ person_numbered number s.directory) result }
 {
     let mut tx = conn.transaction();
     let found = read_person_of(&mut tx, alloc, number);
@@ -119,7 +127,8 @@ pub(crate) fn has_person<S: Alter>(
 ) -> Result<bool, Error>
     requires { conn.old.in_transaction ≡ false }
     ensures idle { conn.new.in_transaction ≡ false }
-    ensures answers { IsReadOutside (state S.Store conn.old) (state S.Store conn.new) (λ s found. found ≡ is_person number s.directory) result }
+    ensures answers { IsReadOutside (state S.Store conn.old)
+        (state S.Store conn.new) (λ s found. found ≡ is_person number s.directory) result }
 {
     let mut tx = conn.transaction();
     let found = read_has_person(&mut tx, alloc, number);

@@ -17,7 +17,8 @@ pub(crate) fn read_person<S: Alter>(
     key: &[u8; 32],
 ) -> Result<Option<Person>, Error>
     ensures same_reference { tx.new.conn.ghost_name ≡ tx.old.conn.ghost_name }
-    ensures read { IsReadInside (state S.Store tx.old.conn.now) (state S.Store tx.new.conn.now) (λ s found. found ≡ person_by_key key.now s) result }
+    ensures read { IsReadInside (state S.Store tx.old.conn.now)
+        (state S.Store tx.new.conn.now) (λ s found. found ≡ person_by_key key.now s) result }
 {
     let rows = ask(
         tx,
@@ -35,7 +36,8 @@ pub(crate) fn find_person<S: Alter>(
 ) -> Result<Option<Person>, Error>
     requires { conn.old.in_transaction ≡ false }
     ensures idle { conn.new.in_transaction ≡ false }
-    ensures answers { IsReadOutside (state S.Store conn.old) (state S.Store conn.new) (λ s found. found ≡ person_by_key key.now s) result }
+    ensures answers { IsReadOutside (state S.Store conn.old)
+        (state S.Store conn.new) (λ s found. found ≡ person_by_key key.now s) result }
 {
     let mut tx = conn.transaction();
     let found = read_person(&mut tx, alloc, key);

@@ -18,7 +18,9 @@ fn read_recipients<S: Alter>(
     incident: u32,
 ) -> Result<Recipients, Error>
     ensures same_reference { tx.new.conn.ghost_name ≡ tx.old.conn.ghost_name }
-    ensures read { IsReadInside (state S.Store tx.old.conn.now) (state S.Store tx.new.conn.now) (λ s found. found ≡ its_recipients incident s.recipients) result }
+    ensures read { IsReadInside (state S.Store tx.old.conn.now)
+        (state S.Store tx.new.conn.now) (λ s found. found ≡
+        its_recipients incident s.recipients) result }
 {
     let rows = ask(
         tx,
@@ -37,7 +39,8 @@ pub(crate) fn find_recipients<S: Alter>(
 ) -> Result<Recipients, Error>
     requires { conn.old.in_transaction ≡ false }
     ensures idle { conn.new.in_transaction ≡ false }
-    ensures answers { IsReadOutside (state S.Store conn.old) (state S.Store conn.new) (λ s found. found ≡ its_recipients incident s.recipients) result }
+    ensures answers { IsReadOutside (state S.Store conn.old)
+        (state S.Store conn.new) (λ s found. found ≡ its_recipients incident s.recipients) result }
 {
     let mut tx = conn.transaction();
     let found = read_recipients(&mut tx, alloc, incident);

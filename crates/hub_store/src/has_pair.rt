@@ -17,7 +17,9 @@ pub(crate) fn read_has_client<S: Alter>(
     client: u32,
 ) -> Result<bool, Error>
     ensures same_reference { tx.new.conn.ghost_name ≡ tx.old.conn.ghost_name }
-    ensures read { IsReadInside (state S.Store tx.old.conn.now) (state S.Store tx.new.conn.now) (λ s found. found ≡ has_client org client s.directory) result }
+    ensures read { IsReadInside (state S.Store tx.old.conn.now)
+        (state S.Store tx.new.conn.now) (λ s found. found ≡
+        has_client org client s.directory) result }
 {
     read_has_pair(tx, PairKind::Client, org, client)
 }
@@ -28,7 +30,9 @@ pub(crate) fn read_has_membership<S: Alter>(
     org: u32,
 ) -> Result<bool, Error>
     ensures same_reference { tx.new.conn.ghost_name ≡ tx.old.conn.ghost_name }
-    ensures read { IsReadInside (state S.Store tx.old.conn.now) (state S.Store tx.new.conn.now) (λ s found. found ≡ has_membership community org s.directory) result }
+    ensures read { IsReadInside (state S.Store tx.old.conn.now)
+        (state S.Store tx.new.conn.now) (λ s found. found ≡
+        has_membership community org s.directory) result }
 {
     read_has_pair(tx, PairKind::Membership, community, org)
 }
@@ -39,7 +43,9 @@ pub(crate) fn read_has_connection<S: Alter>(
     high: u32,
 ) -> Result<bool, Error>
     ensures same_reference { tx.new.conn.ghost_name ≡ tx.old.conn.ghost_name }
-    ensures read { IsReadInside (state S.Store tx.old.conn.now) (state S.Store tx.new.conn.now) (λ s found. found ≡ has_connection low high s.directory) result }
+    ensures read { IsReadInside (state S.Store tx.old.conn.now)
+        (state S.Store tx.new.conn.now) (λ s found. found ≡
+        has_connection low high s.directory) result }
 {
     read_has_pair(tx, PairKind::Connection, low, high)
 }
@@ -50,7 +56,9 @@ pub(crate) fn read_has_arrangement<S: Alter>(
     org: u32,
 ) -> Result<bool, Error>
     ensures same_reference { tx.new.conn.ghost_name ≡ tx.old.conn.ghost_name }
-    ensures read { IsReadInside (state S.Store tx.old.conn.now) (state S.Store tx.new.conn.now) (λ s found. found ≡ has_arrangement source org s.directory) result }
+    ensures read { IsReadInside (state S.Store tx.old.conn.now)
+        (state S.Store tx.new.conn.now) (λ s found. found ≡
+        has_arrangement source org s.directory) result }
 {
     read_has_pair(tx, PairKind::Arrangement, source, org)
 }
@@ -70,7 +78,9 @@ pub(crate) fn read_has_extender<S: Alter>(
     org: u32,
 ) -> Result<bool, Error>
     ensures same_reference { tx.new.conn.ghost_name ≡ tx.old.conn.ghost_name }
-    ensures read { IsReadInside (state S.Store tx.old.conn.now) (state S.Store tx.new.conn.now) (λ s found. found ≡ has_extender group org s.directory) result }
+    ensures read { IsReadInside (state S.Store tx.old.conn.now)
+        (state S.Store tx.new.conn.now) (λ s found. found ≡
+        has_extender group org s.directory) result }
 {
     let rows = ask_between(tx, PairKind::GroupMember, group, org)?;
     is_flagged(&rows)

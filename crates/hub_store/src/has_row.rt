@@ -20,7 +20,9 @@ pub(crate) fn read_has_org_named<S: Alter>(
     name: &str,
 ) -> Result<bool, Error>
     ensures same_reference { tx.new.conn.ghost_name ≡ tx.old.conn.ghost_name }
-    ensures read { IsReadInside (state S.Store tx.old.conn.now) (state S.Store tx.new.conn.now) (λ s found. found ≡ has_org_named name.now s.directory) result }
+    ensures read { IsReadInside (state S.Store tx.old.conn.now)
+        (state S.Store tx.new.conn.now) (λ s found. found ≡
+        has_org_named name.now s.directory) result }
 {
     let rows = ask(tx, "SELECT number FROM org WHERE name = ?1", params![name])?;
     Ok(is_any(&rows))
@@ -31,7 +33,9 @@ pub(crate) fn read_has_community_named<S: Alter>(
     name: &str,
 ) -> Result<bool, Error>
     ensures same_reference { tx.new.conn.ghost_name ≡ tx.old.conn.ghost_name }
-    ensures read { IsReadInside (state S.Store tx.old.conn.now) (state S.Store tx.new.conn.now) (λ s found. found ≡ has_community_named name.now s.directory) result }
+    ensures read { IsReadInside (state S.Store tx.old.conn.now)
+        (state S.Store tx.new.conn.now) (λ s found. found ≡
+        has_community_named name.now s.directory) result }
 {
     let rows = ask(
         tx,
@@ -47,7 +51,9 @@ pub(crate) fn read_has_group_named<S: Alter>(
     name: &str,
 ) -> Result<bool, Error>
     ensures same_reference { tx.new.conn.ghost_name ≡ tx.old.conn.ghost_name }
-    ensures read { IsReadInside (state S.Store tx.old.conn.now) (state S.Store tx.new.conn.now) (λ s found. found ≡ has_group_named owner name.now s.directory) result }
+    ensures read { IsReadInside (state S.Store tx.old.conn.now)
+        (state S.Store tx.new.conn.now) (λ s found. found ≡
+        has_group_named owner name.now s.directory) result }
 {
     let rows = ask(
         tx,
@@ -63,7 +69,8 @@ pub(crate) fn read_has_key<S: Alter>(
     key: &[u8; 32],
 ) -> Result<bool, Error>
     ensures same_reference { tx.new.conn.ghost_name ≡ tx.old.conn.ghost_name }
-    ensures read { IsReadInside (state S.Store tx.old.conn.now) (state S.Store tx.new.conn.now) (λ s found. found ≡ has_key key.now s.directory) result }
+    ensures read { IsReadInside (state S.Store tx.old.conn.now)
+        (state S.Store tx.new.conn.now) (λ s found. found ≡ has_key key.now s.directory) result }
 {
     let found = read_person(tx, alloc, key)?;
     Ok(found.is_some())
@@ -84,7 +91,8 @@ pub(crate) fn read_has_suspended<S: Alter>(
     person: u32,
 ) -> Result<bool, Error>
     ensures same_reference { tx.new.conn.ghost_name ≡ tx.old.conn.ghost_name }
-    ensures read { IsReadInside (state S.Store tx.old.conn.now) (state S.Store tx.new.conn.now) (λ s found. found ≡ has_suspended person s.directory) result }
+    ensures read { IsReadInside (state S.Store tx.old.conn.now)
+        (state S.Store tx.new.conn.now) (λ s found. found ≡ has_suspended person s.directory) result }
 {
     let found = read_person_of(tx, alloc, person)?;
     Ok(is_suspended(&found))
@@ -105,7 +113,8 @@ pub(crate) fn read_has_nominated<S: Alter>(
     person: u32,
 ) -> Result<bool, Error>
     ensures same_reference { tx.new.conn.ghost_name ≡ tx.old.conn.ghost_name }
-    ensures read { IsReadInside (state S.Store tx.old.conn.now) (state S.Store tx.new.conn.now) (λ s found. found ≡ has_nominated person s.directory) result }
+    ensures read { IsReadInside (state S.Store tx.old.conn.now)
+        (state S.Store tx.new.conn.now) (λ s found. found ≡ has_nominated person s.directory) result }
 {
     let found = read_person_of(tx, alloc, person)?;
     Ok(is_nominated(&found))
@@ -127,7 +136,9 @@ pub(crate) fn read_has_person_of<S: Alter>(
     org: u32,
 ) -> Result<bool, Error>
     ensures same_reference { tx.new.conn.ghost_name ≡ tx.old.conn.ghost_name }
-    ensures read { IsReadInside (state S.Store tx.old.conn.now) (state S.Store tx.new.conn.now) (λ s found. found ≡ has_person_of person org s.directory) result }
+    ensures read { IsReadInside (state S.Store tx.old.conn.now)
+        (state S.Store tx.new.conn.now) (λ s found. found ≡
+        has_person_of person org s.directory) result }
 {
     let found = read_person_of(tx, alloc, person)?;
     Ok(is_of(&found, org))
@@ -149,7 +160,9 @@ pub(crate) fn read_has_group_of<S: Alter>(
     owner: u32,
 ) -> Result<bool, Error>
     ensures same_reference { tx.new.conn.ghost_name ≡ tx.old.conn.ghost_name }
-    ensures read { IsReadInside (state S.Store tx.old.conn.now) (state S.Store tx.new.conn.now) (λ s found. found ≡ has_group_of group owner s.directory) result }
+    ensures read { IsReadInside (state S.Store tx.old.conn.now)
+        (state S.Store tx.new.conn.now) (λ s found. found ≡
+        has_group_of group owner s.directory) result }
 {
     let found = read_group(tx, alloc, group)?;
     Ok(is_owned(&found, owner))
@@ -171,7 +184,9 @@ pub(crate) fn read_has_group_being<S: Alter>(
     active: bool,
 ) -> Result<bool, Error>
     ensures same_reference { tx.new.conn.ghost_name ≡ tx.old.conn.ghost_name }
-    ensures read { IsReadInside (state S.Store tx.old.conn.now) (state S.Store tx.new.conn.now) (λ s found. found ≡ has_group_being group active s.directory) result }
+    ensures read { IsReadInside (state S.Store tx.old.conn.now)
+        (state S.Store tx.new.conn.now) (λ s found. found ≡
+        has_group_being group active s.directory) result }
 {
     let found = read_group(tx, alloc, group)?;
     Ok(is_being(&found, active))

@@ -25,7 +25,11 @@ use std::alloc::Global;
 /// The incident without its lines.
 fn insert_incident<S: Alter>(tx: &mut Transaction<'_, S>, incident: &Incident) -> Result<(), Error>
     ensures same_reference { tx.new.conn.ghost_name ≡ tx.old.conn.ghost_name }
-    ensures made { (s : State) → Makes (state S.Store tx.old.conn.now) (state S.Store tx.new.conn.now) (λ db. Holds db s) (λ db. HoldsBetween (map item_row (items_of s)) (map named_row (edited (PutIncident incident.now) s).incidents) db s) result }
+    ensures made { (s : State) →
+        Makes (state S.Store tx.old.conn.now) (state S.Store tx.new.conn.now) (λ db.
+        Holds db s) (λ db.
+        HoldsBetween (map item_row (items_of s))
+        (map named_row (edited (PutIncident incident.now) s).incidents) db s) result }
 {
     put_naming(tx, &incident.naming)
 }
@@ -36,7 +40,9 @@ fn put_incident<S: Alter>(
     incident: &Incident,
 ) -> Result<(), Error>
     ensures same_reference { tx.new.conn.ghost_name ≡ tx.old.conn.ghost_name }
-    ensures made { (s : State) → Makes (state S.Store tx.old.conn.now) (state S.Store tx.new.conn.now) (λ db. Holds db s) (λ db. Holds db (edited (PutIncident incident.now) s)) result }
+    ensures made { (s : State) →
+        Makes (state S.Store tx.old.conn.now) (state S.Store tx.new.conn.now) (λ db.
+        Holds db s) (λ db. Holds db (edited (PutIncident incident.now) s)) result }
 {
     let lines = incident.document.outline(alloc)?;
     insert_incident(tx, incident)?;
@@ -45,7 +51,12 @@ fn put_incident<S: Alter>(
 
 fn take_lines<S: Alter>(tx: &mut Transaction<'_, S>, incident: u32) -> Result<(), Error>
     ensures same_reference { tx.new.conn.ghost_name ≡ tx.old.conn.ghost_name }
-    ensures made { (s : State) → Makes (state S.Store tx.old.conn.now) (state S.Store tx.new.conn.now) (λ db. Holds db s) (λ db. HoldsBetween (map item_row (filter (λ (x : Item). not (x.incident == incident)) (items_of s))) (map named_row s.incidents) db s) result }
+    ensures made { (s : State) →
+        Makes (state S.Store tx.old.conn.now) (state S.Store tx.new.conn.now) (λ db.
+        Holds db s) (λ db.
+        HoldsBetween
+        (map item_row (filter (λ (x : Item). not (x.incident == incident)) (items_of s)))
+        (map named_row s.incidents) db s) result }
 {
     run(
         tx,
@@ -57,7 +68,10 @@ fn take_lines<S: Alter>(tx: &mut Transaction<'_, S>, incident: u32) -> Result<()
 /// The incident, once its lines are gone.
 fn remove_incident<S: Alter>(tx: &mut Transaction<'_, S>, number: u32) -> Result<(), Error>
     ensures same_reference { tx.new.conn.ghost_name ≡ tx.old.conn.ghost_name }
-    ensures made { (s : State) → Makes (state S.Store tx.old.conn.now) (state S.Store tx.new.conn.now) (λ db. HoldsBetween (map item_row (filter (λ (x : Item). not (x.incident == number)) (items_of s))) (map named_row s.incidents) db s) (λ db. Holds db (edited (TakeIncident number) s)) result }
+    ensures made { (s : State) →
+        Makes (state S.Store tx.old.conn.now) (state S.Store tx.new.conn.now) (λ db.
+        HoldsBetween (map item_row (filter (λ (x : Item). not (x.incident == number)) (items_of s)))
+        (map named_row s.incidents) db s) (λ db. Holds db (edited (TakeIncident number) s)) result }
 {
     run(
         tx,
@@ -68,7 +82,9 @@ fn remove_incident<S: Alter>(tx: &mut Transaction<'_, S>, number: u32) -> Result
 
 fn take_incident<S: Alter>(tx: &mut Transaction<'_, S>, number: u32) -> Result<(), Error>
     ensures same_reference { tx.new.conn.ghost_name ≡ tx.old.conn.ghost_name }
-    ensures made { (s : State) → Makes (state S.Store tx.old.conn.now) (state S.Store tx.new.conn.now) (λ db. Holds db s) (λ db. Holds db (edited (TakeIncident number) s)) result }
+    ensures made { (s : State) →
+        Makes (state S.Store tx.old.conn.now) (state S.Store tx.new.conn.now) (λ db.
+        Holds db s) (λ db. Holds db (edited (TakeIncident number) s)) result }
 {
     take_lines(tx, number)?;
     remove_incident(tx, number)
@@ -76,7 +92,9 @@ fn take_incident<S: Alter>(tx: &mut Transaction<'_, S>, number: u32) -> Result<(
 
 fn take_gates<S: Alter>(tx: &mut Transaction<'_, S>, incident: u32) -> Result<(), Error>
     ensures same_reference { tx.new.conn.ghost_name ≡ tx.old.conn.ghost_name }
-    ensures made { (s : State) → Makes (state S.Store tx.old.conn.now) (state S.Store tx.new.conn.now) (λ db. Holds db s) (λ db. Holds db (without_gates incident s)) result }
+    ensures made { (s : State) →
+        Makes (state S.Store tx.old.conn.now) (state S.Store tx.new.conn.now) (λ db.
+        Holds db s) (λ db. Holds db (without_gates incident s)) result }
 {
     run(
         tx,
@@ -87,7 +105,10 @@ fn take_gates<S: Alter>(tx: &mut Transaction<'_, S>, incident: u32) -> Result<()
 
 fn take_permissions<S: Alter>(tx: &mut Transaction<'_, S>, incident: u32) -> Result<(), Error>
     ensures same_reference { tx.new.conn.ghost_name ≡ tx.old.conn.ghost_name }
-    ensures made { (s : State) → Makes (state S.Store tx.old.conn.now) (state S.Store tx.new.conn.now) (λ db. Holds db (without_gates incident s)) (λ db. Holds db (edited (TakePolicy incident) s)) result }
+    ensures made { (s : State) →
+        Makes (state S.Store tx.old.conn.now) (state S.Store tx.new.conn.now) (λ db.
+        Holds db (without_gates incident s)) (λ db.
+        Holds db (edited (TakePolicy incident) s)) result }
 {
     run(
         tx,
@@ -98,7 +119,9 @@ fn take_permissions<S: Alter>(tx: &mut Transaction<'_, S>, incident: u32) -> Res
 
 fn take_policy<S: Alter>(tx: &mut Transaction<'_, S>, incident: u32) -> Result<(), Error>
     ensures same_reference { tx.new.conn.ghost_name ≡ tx.old.conn.ghost_name }
-    ensures made { (s : State) → Makes (state S.Store tx.old.conn.now) (state S.Store tx.new.conn.now) (λ db. Holds db s) (λ db. Holds db (edited (TakePolicy incident) s)) result }
+    ensures made { (s : State) →
+        Makes (state S.Store tx.old.conn.now) (state S.Store tx.new.conn.now) (λ db.
+        Holds db s) (λ db. Holds db (edited (TakePolicy incident) s)) result }
 {
     take_gates(tx, incident)?;
     take_permissions(tx, incident)
@@ -106,7 +129,9 @@ fn take_policy<S: Alter>(tx: &mut Transaction<'_, S>, incident: u32) -> Result<(
 
 fn insert_gate<S: Alter>(tx: &mut Transaction<'_, S>, gate: &Gate, path: &str) -> Result<(), Error>
     ensures same_reference { tx.new.conn.ghost_name ≡ tx.old.conn.ghost_name }
-    ensures made { path.now ≡ pointer_text gate.now.gate.path → (s : State) → Makes (state S.Store tx.old.conn.now) (state S.Store tx.new.conn.now) (λ db. Holds db s) (λ db. Holds db (edited (PutGate gate.now) s)) result }
+    ensures made { path.now ≡ pointer_text gate.now.gate.path → (s : State) →
+        Makes (state S.Store tx.old.conn.now) (state S.Store tx.new.conn.now) (λ db.
+        Holds db s) (λ db. Holds db (edited (PutGate gate.now) s)) result }
 {
     run(
         tx,
@@ -122,7 +147,9 @@ fn insert_gate<S: Alter>(tx: &mut Transaction<'_, S>, gate: &Gate, path: &str) -
 
 fn put_gate<S: Alter>(tx: &mut Transaction<'_, S>, alloc: Global, gate: &Gate) -> Result<(), Error>
     ensures same_reference { tx.new.conn.ghost_name ≡ tx.old.conn.ghost_name }
-    ensures made { (s : State) → Makes (state S.Store tx.old.conn.now) (state S.Store tx.new.conn.now) (λ db. Holds db s) (λ db. Holds db (edited (PutGate gate.now) s)) result }
+    ensures made { (s : State) →
+        Makes (state S.Store tx.old.conn.now) (state S.Store tx.new.conn.now) (λ db.
+        Holds db s) (λ db. Holds db (edited (PutGate gate.now) s)) result }
 {
     let path = gate.gate.path.print(alloc)?;
     insert_gate(tx, gate, &path)
@@ -134,7 +161,9 @@ fn remove_gate<S: Alter>(
     path: &str,
 ) -> Result<(), Error>
     ensures same_reference { tx.new.conn.ghost_name ≡ tx.old.conn.ghost_name }
-    ensures made { path.now ≡ pointer_text key.now.path → (s : State) → Makes (state S.Store tx.old.conn.now) (state S.Store tx.new.conn.now) (λ db. Holds db s) (λ db. Holds db (edited (TakeGate key.now) s)) result }
+    ensures made { path.now ≡ pointer_text key.now.path → (s : State) →
+        Makes (state S.Store tx.old.conn.now) (state S.Store tx.new.conn.now) (λ db.
+        Holds db s) (λ db. Holds db (edited (TakeGate key.now) s)) result }
 {
     run(
         tx,
@@ -149,7 +178,9 @@ fn take_gate<S: Alter>(
     key: &GateKey,
 ) -> Result<(), Error>
     ensures same_reference { tx.new.conn.ghost_name ≡ tx.old.conn.ghost_name }
-    ensures made { (s : State) → Makes (state S.Store tx.old.conn.now) (state S.Store tx.new.conn.now) (λ db. Holds db s) (λ db. Holds db (edited (TakeGate key.now) s)) result }
+    ensures made { (s : State) →
+        Makes (state S.Store tx.old.conn.now) (state S.Store tx.new.conn.now) (λ db.
+        Holds db s) (λ db. Holds db (edited (TakeGate key.now) s)) result }
 {
     let path = key.path.print(alloc)?;
     remove_gate(tx, key, &path)
@@ -157,7 +188,9 @@ fn take_gate<S: Alter>(
 
 fn put_recipient<S: Alter>(tx: &mut Transaction<'_, S>, recipient: &Recipient) -> Result<(), Error>
     ensures same_reference { tx.new.conn.ghost_name ≡ tx.old.conn.ghost_name }
-    ensures made { (s : State) → Makes (state S.Store tx.old.conn.now) (state S.Store tx.new.conn.now) (λ db. Holds db s) (λ db. Holds db (edited (PutRecipient recipient.now) s)) result }
+    ensures made { (s : State) →
+        Makes (state S.Store tx.old.conn.now) (state S.Store tx.new.conn.now) (λ db.
+        Holds db s) (λ db. Holds db (edited (PutRecipient recipient.now) s)) result }
 {
     let (kind, target) = target_key(recipient.target);
     run(
@@ -169,7 +202,9 @@ fn put_recipient<S: Alter>(tx: &mut Transaction<'_, S>, recipient: &Recipient) -
 
 fn take_recipient<S: Alter>(tx: &mut Transaction<'_, S>, recipient: &Recipient) -> Result<(), Error>
     ensures same_reference { tx.new.conn.ghost_name ≡ tx.old.conn.ghost_name }
-    ensures made { (s : State) → Makes (state S.Store tx.old.conn.now) (state S.Store tx.new.conn.now) (λ db. Holds db s) (λ db. Holds db (edited (TakeRecipient recipient.now) s)) result }
+    ensures made { (s : State) →
+        Makes (state S.Store tx.old.conn.now) (state S.Store tx.new.conn.now) (λ db.
+        Holds db s) (λ db. Holds db (edited (TakeRecipient recipient.now) s)) result }
 {
     let (kind, target) = target_key(recipient.target);
     run(
@@ -185,7 +220,9 @@ fn insert_permission<S: Alter>(
     path: &str,
 ) -> Result<(), Error>
     ensures same_reference { tx.new.conn.ghost_name ≡ tx.old.conn.ghost_name }
-    ensures made { path.now ≡ pointer_text permission.now.permission.path → (s : State) → Makes (state S.Store tx.old.conn.now) (state S.Store tx.new.conn.now) (λ db. Holds db s) (λ db. Holds db (edited (PutPermission permission.now) s)) result }
+    ensures made { path.now ≡ pointer_text permission.now.permission.path → (s : State) →
+        Makes (state S.Store tx.old.conn.now) (state S.Store tx.new.conn.now) (λ db.
+        Holds db s) (λ db. Holds db (edited (PutPermission permission.now) s)) result }
 {
     let (kind, target) = grantee_key(permission.permission.grantee);
     run(
@@ -207,7 +244,9 @@ fn put_permission<S: Alter>(
     permission: &Permission,
 ) -> Result<(), Error>
     ensures same_reference { tx.new.conn.ghost_name ≡ tx.old.conn.ghost_name }
-    ensures made { (s : State) → Makes (state S.Store tx.old.conn.now) (state S.Store tx.new.conn.now) (λ db. Holds db s) (λ db. Holds db (edited (PutPermission permission.now) s)) result }
+    ensures made { (s : State) →
+        Makes (state S.Store tx.old.conn.now) (state S.Store tx.new.conn.now) (λ db.
+        Holds db s) (λ db. Holds db (edited (PutPermission permission.now) s)) result }
 {
     let path = permission.permission.path.print(alloc)?;
     insert_permission(tx, permission, &path)
@@ -219,7 +258,9 @@ fn remove_permission<S: Alter>(
     path: &str,
 ) -> Result<(), Error>
     ensures same_reference { tx.new.conn.ghost_name ≡ tx.old.conn.ghost_name }
-    ensures made { path.now ≡ pointer_text key.now.path → (s : State) → Makes (state S.Store tx.old.conn.now) (state S.Store tx.new.conn.now) (λ db. Holds db s) (λ db. Holds db (edited (TakePermission key.now) s)) result }
+    ensures made { path.now ≡ pointer_text key.now.path → (s : State) →
+        Makes (state S.Store tx.old.conn.now) (state S.Store tx.new.conn.now) (λ db.
+        Holds db s) (λ db. Holds db (edited (TakePermission key.now) s)) result }
 {
     let (kind, target) = grantee_key(key.grantee);
     run(
@@ -235,7 +276,9 @@ fn take_permission<S: Alter>(
     key: &PermissionKey,
 ) -> Result<(), Error>
     ensures same_reference { tx.new.conn.ghost_name ≡ tx.old.conn.ghost_name }
-    ensures made { (s : State) → Makes (state S.Store tx.old.conn.now) (state S.Store tx.new.conn.now) (λ db. Holds db s) (λ db. Holds db (edited (TakePermission key.now) s)) result }
+    ensures made { (s : State) →
+        Makes (state S.Store tx.old.conn.now) (state S.Store tx.new.conn.now) (λ db.
+        Holds db s) (λ db. Holds db (edited (TakePermission key.now) s)) result }
 {
     let path = key.path.print(alloc)?;
     remove_permission(tx, key, &path)
@@ -248,7 +291,9 @@ pub(crate) fn make_edit<S: Alter>(
     edit: &Edit,
 ) -> Result<(), Error>
     ensures same_reference { tx.new.conn.ghost_name ≡ tx.old.conn.ghost_name }
-    ensures made { (s : State) → Makes (state S.Store tx.old.conn.now) (state S.Store tx.new.conn.now) (λ db. Holds db s) (λ db. Holds db (edited edit.now s)) result }
+    ensures made { (s : State) →
+        Makes (state S.Store tx.old.conn.now) (state S.Store tx.new.conn.now) (λ db.
+        Holds db s) (λ db. Holds db (edited edit.now s)) result }
 {
     match edit {
         Edit::Directory(row) => make_row(tx, row),

@@ -58,13 +58,15 @@ fn level_of(number: u32) -> Result<u8, Error>
 }
 
 fn number_if_any(row: &Row, at: usize) -> Result<Option<u32>, Error>
-    ensures { IfOk result (λ found. (number : Option ℕ) → column row.now at ≡ number_or_null number → found ≡ number) }
+    ensures { IfOk result (λ found.
+        (number : Option ℕ) → column row.now at ≡ number_or_null number → found ≡ number) }
 {
     row.get(at)
 }
 
 fn moment_if_any(row: &Row, at: usize) -> Result<Option<i64>, Error>
-    ensures { IfOk result (λ found. (moment : Option ℤ) → column row.now at ≡ moment_or_null moment → found ≡ moment) }
+    ensures { IfOk result (λ found.
+        (moment : Option ℤ) → column row.now at ≡ moment_or_null moment → found ≡ moment) }
 {
     row.get(at)
 }

@@ -18,7 +18,9 @@ fn read_entries<S: Alter>(
     most: u32,
 ) -> Result<Vec<Entry>, Error>
     ensures same_reference { tx.new.conn.ghost_name ≡ tx.old.conn.ghost_name }
-    ensures read { IsReadInside (state S.Store tx.old.conn.now) (state S.Store tx.new.conn.now) (λ s found. found.items ≡ entries_after number most s) result }
+    ensures read { IsReadInside (state S.Store tx.old.conn.now)
+        (state S.Store tx.new.conn.now) (λ s found.
+        found.items ≡ entries_after number most s) result }
 {
     let rows = ask(
         tx,
@@ -37,7 +39,8 @@ pub(crate) fn list_entries<S: Alter>(
 ) -> Result<Vec<Entry>, Error>
     requires { conn.old.in_transaction ≡ false }
     ensures idle { conn.new.in_transaction ≡ false }
-    ensures answers { IsReadOutside (state S.Store conn.old) (state S.Store conn.new) (λ s found. found.items ≡ entries_after number most s) result }
+    ensures answers { IsReadOutside (state S.Store conn.old) (state S.Store conn.new) (λ s found.
+        found.items ≡ entries_after number most s) result }
 {
     let mut tx = conn.transaction();
     let found = read_entries(&mut tx, alloc, number, most);

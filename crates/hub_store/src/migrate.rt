@@ -49,9 +49,15 @@ fn read_next<S: Alter>(
 ) -> Result<Option<Incident>, Error>
     ensures same_reference { tx.new.conn.ghost_name ≡ tx.old.conn.ghost_name }
     ensures goes { Goes (state S.Store tx.old.conn.now) (state S.Store tx.new.conn.now) result }
-    ensures same { (s : State) → (items : List Row) → Makes (state S.Store tx.old.conn.now) (state S.Store tx.new.conn.now) (HoldsBeside items s) (HoldsBeside items s) result }
-    ensures read { HasCleanDisk (state S.Store tx.new.conn.now) → (s : State) → (items : List Row) → HasTexts s → HoldsBeside items s (state S.Store tx.old.conn.now).now → IfOk result (λ found. found ≡ incident_above number s) }
-    ensures cause { (s : State) → (items : List Row) → HasTexts s → AreTaken s → FailsOnly (state S.Store tx.old.conn.now) (state S.Store tx.new.conn.now) (HoldsBeside items s) result }
+    ensures same { (s : State) → (items : List Row) →
+        Makes (state S.Store tx.old.conn.now) (state S.Store tx.new.conn.now) (HoldsBeside items s)
+        (HoldsBeside items s) result }
+    ensures read { HasCleanDisk (state S.Store tx.new.conn.now) → (s : State) → (items : List Row) →
+        HasTexts s → HoldsBeside items s (state S.Store tx.old.conn.now).now →
+        IfOk result (λ found. found ≡ incident_above number s) }
+    ensures cause { (s : State) → (items : List Row) → HasTexts s → AreTaken s →
+        FailsOnly (state S.Store tx.old.conn.now) (state S.Store tx.new.conn.now)
+        (HoldsBeside items s) result }
 {
     let rows = ask(
         tx,
@@ -71,8 +77,14 @@ fn move_next<S: Alter>(
 ) -> Result<Option<u32>, Error>
     ensures same_reference { tx.new.conn.ghost_name ≡ tx.old.conn.ghost_name }
     ensures goes { Goes (state S.Store tx.old.conn.now) (state S.Store tx.new.conn.now) result }
-    ensures moved { HasCleanDisk (state S.Store tx.new.conn.now) → IsTrue (state S.Store tx.old.conn.now).in_transaction → (s : State) → HasTexts s → HoldsMoved number kept.old.items (state S.Store tx.old.conn.now).now s → IfOk result (λ found. HoldsNext number kept.new.items found (state S.Store tx.new.conn.now).now s) }
-    ensures cause { (s : State) → HasTexts s → AreTaken s → FailsOnly (state S.Store tx.old.conn.now) (state S.Store tx.new.conn.now) (λ db. HoldsMoved number kept.old.items db s) result }
+    ensures moved { HasCleanDisk (state S.Store tx.new.conn.now) →
+        IsTrue (state S.Store tx.old.conn.now).in_transaction → (s : State) → HasTexts s →
+        HoldsMoved number kept.old.items (state S.Store tx.old.conn.now).now s →
+        IfOk result (λ found.
+        HoldsNext number kept.new.items found (state S.Store tx.new.conn.now).now s) }
+    ensures cause { (s : State) → HasTexts s → AreTaken s →
+        FailsOnly (state S.Store tx.old.conn.now) (state S.Store tx.new.conn.now) (λ db.
+        HoldsMoved number kept.old.items db s) result }
 {
     let Some(incident) = read_next(tx, alloc, number)? else {
         return Ok(None);
@@ -91,8 +103,15 @@ fn move_documents<S: Alter>(
 ) -> Result<Vec<Naming>, Error>
     ensures same_reference { tx.new.conn.ghost_name ≡ tx.old.conn.ghost_name }
     ensures goes { Goes (state S.Store tx.old.conn.now) (state S.Store tx.new.conn.now) result }
-    ensures moved { HasCleanDisk (state S.Store tx.new.conn.now) → IsTrue (state S.Store tx.old.conn.now).in_transaction → (s : State) → HasTexts s → HoldsBeside [] s (state S.Store tx.old.conn.now).now → IfOk result (λ kept. HoldsBeside (map item_row (items_of s)) s (state S.Store tx.new.conn.now).now × (kept.items ≡ naming_in s.incidents)) }
-    ensures cause { (s : State) → HasTexts s → AreTaken s → FailsOnly (state S.Store tx.old.conn.now) (state S.Store tx.new.conn.now) (HoldsBeside [] s) result }
+    ensures moved { HasCleanDisk (state S.Store tx.new.conn.now) →
+        IsTrue (state S.Store tx.old.conn.now).in_transaction → (s : State) → HasTexts s →
+        HoldsBeside [] s (state S.Store tx.old.conn.now).now →
+        IfOk result (λ kept.
+        HoldsBeside (map item_row (items_of s)) s (state S.Store tx.new.conn.now).now ×
+        (kept.items ≡ naming_in s.incidents)) }
+    ensures cause { (s : State) → HasTexts s → AreTaken s →
+        FailsOnly (state S.Store tx.old.conn.now) (state S.Store tx.new.conn.now)
+        (HoldsBeside [] s) result }
 {
     let mut kept = Vec::new(alloc);
     let mut number = 0;
@@ -109,8 +128,15 @@ fn move_documents<S: Alter>(
 fn move_lines<S: Alter>(tx: &mut Transaction<'_, S>, alloc: Global) -> Result<Vec<Naming>, Error>
     ensures same_reference { tx.new.conn.ghost_name ≡ tx.old.conn.ghost_name }
     ensures goes { Goes (state S.Store tx.old.conn.now) (state S.Store tx.new.conn.now) result }
-    ensures moved { HasCleanDisk (state S.Store tx.new.conn.now) → IsTrue (state S.Store tx.old.conn.now).in_transaction → (s : State) → HasTexts s → HoldsParts (parts_1 s) (state S.Store tx.old.conn.now).now → IfOk result (λ kept. HoldsParts (without_incidents (map item_row (items_of s)) s) (state S.Store tx.new.conn.now).now × (kept.items ≡ naming_in s.incidents)) }
-    ensures cause { (s : State) → HasTexts s → AreTaken s → FailsOnly (state S.Store tx.old.conn.now) (state S.Store tx.new.conn.now) (HoldsParts (parts_1 s)) result }
+    ensures moved { HasCleanDisk (state S.Store tx.new.conn.now) →
+        IsTrue (state S.Store tx.old.conn.now).in_transaction → (s : State) → HasTexts s →
+        HoldsParts (parts_1 s) (state S.Store tx.old.conn.now).now →
+        IfOk result (λ kept.
+        HoldsParts (without_incidents (map item_row (items_of s)) s)
+        (state S.Store tx.new.conn.now).now × (kept.items ≡ naming_in s.incidents)) }
+    ensures cause { (s : State) → HasTexts s → AreTaken s →
+        FailsOnly (state S.Store tx.old.conn.now) (state S.Store tx.new.conn.now)
+        (HoldsParts (parts_1 s)) result }
 {
     create_item(tx)?;
     let kept = move_documents(tx, alloc)?;
@@ -121,8 +147,14 @@ fn move_lines<S: Alter>(tx: &mut Transaction<'_, S>, alloc: Global) -> Result<Ve
 fn put_back<S: Alter>(tx: &mut Transaction<'_, S>, kept: &[Naming]) -> Result<(), Error>
     ensures same_reference { tx.new.conn.ghost_name ≡ tx.old.conn.ghost_name }
     ensures goes { Goes (state S.Store tx.old.conn.now) (state S.Store tx.new.conn.now) result }
-    ensures made { (s : State) → (items : List Row) → Makes (state S.Store tx.old.conn.now) (state S.Store tx.new.conn.now) (HoldsParts (tables_2 1 items [] s)) (HoldsParts (tables_2 1 items (map naming_row_2 kept.now) s)) result }
-    ensures cause { (s : State) → (items : List Row) → CanName naming_row_2 (map naming_row_2 kept.now) → FailsOnly (state S.Store tx.old.conn.now) (state S.Store tx.new.conn.now) (HoldsParts (tables_2 1 items [] s)) result }
+    ensures made { (s : State) → (items : List Row) →
+        Makes (state S.Store tx.old.conn.now) (state S.Store tx.new.conn.now)
+        (HoldsParts (tables_2 1 items [] s))
+        (HoldsParts (tables_2 1 items (map naming_row_2 kept.now) s)) result }
+    ensures cause { (s : State) → (items : List Row) →
+        CanName naming_row_2 (map naming_row_2 kept.now) →
+        FailsOnly (state S.Store tx.old.conn.now) (state S.Store tx.new.conn.now)
+        (HoldsParts (tables_2 1 items [] s)) result }
 {
     for naming in kept {
         put_naming_2(tx, naming)?;
@@ -134,8 +166,14 @@ fn put_back<S: Alter>(tx: &mut Transaction<'_, S>, kept: &[Naming]) -> Result<()
 fn move_incidents<S: Alter>(tx: &mut Transaction<'_, S>, kept: &[Naming]) -> Result<(), Error>
     ensures same_reference { tx.new.conn.ghost_name ≡ tx.old.conn.ghost_name }
     ensures goes { Goes (state S.Store tx.old.conn.now) (state S.Store tx.new.conn.now) result }
-    ensures made { (s : State) → (items : List Row) → Makes (state S.Store tx.old.conn.now) (state S.Store tx.new.conn.now) (HoldsParts (without_incidents items s)) (HoldsParts (tables_2 1 items (map naming_row_2 kept.now) s)) result }
-    ensures cause { (s : State) → (items : List Row) → CanName naming_row_2 (map naming_row_2 kept.now) → FailsOnly (state S.Store tx.old.conn.now) (state S.Store tx.new.conn.now) (HoldsParts (without_incidents items s)) result }
+    ensures made { (s : State) → (items : List Row) →
+        Makes (state S.Store tx.old.conn.now) (state S.Store tx.new.conn.now)
+        (HoldsParts (without_incidents items s))
+        (HoldsParts (tables_2 1 items (map naming_row_2 kept.now) s)) result }
+    ensures cause { (s : State) → (items : List Row) →
+        CanName naming_row_2 (map naming_row_2 kept.now) →
+        FailsOnly (state S.Store tx.old.conn.now) (state S.Store tx.new.conn.now)
+        (HoldsParts (without_incidents items s)) result }
 {
     create_incident(tx)?;
     put_back(tx, kept)
@@ -145,8 +183,12 @@ fn move_incidents<S: Alter>(tx: &mut Transaction<'_, S>, kept: &[Naming]) -> Res
 fn to_version_2<S: Alter>(tx: &mut Transaction<'_, S>, alloc: Global) -> Result<(), Error>
     ensures same_reference { tx.new.conn.ghost_name ≡ tx.old.conn.ghost_name }
     ensures goes { Goes (state S.Store tx.old.conn.now) (state S.Store tx.new.conn.now) result }
-    ensures made { (s : State) → IsSound s → Makes (state S.Store tx.old.conn.now) (state S.Store tx.new.conn.now) (λ db. HoldsAs 1 db s) (λ db. HoldsAs 2 db s) result }
-    ensures cause { (s : State) → IsSound s → AreTaken s → FailsOnly (state S.Store tx.old.conn.now) (state S.Store tx.new.conn.now) (λ db. HoldsAs 1 db s) result }
+    ensures made { (s : State) → IsSound s →
+        Makes (state S.Store tx.old.conn.now) (state S.Store tx.new.conn.now) (λ db.
+        HoldsAs 1 db s) (λ db. HoldsAs 2 db s) result }
+    ensures cause { (s : State) → IsSound s → AreTaken s →
+        FailsOnly (state S.Store tx.old.conn.now) (state S.Store tx.new.conn.now) (λ db.
+        HoldsAs 1 db s) result }
 {
     let kept = move_lines(tx, alloc)?;
     move_incidents(tx, &kept)?;
@@ -161,8 +203,12 @@ fn to_version_3_from<S: Alter>(
 ) -> Result<(), Error>
     ensures same_reference { tx.new.conn.ghost_name ≡ tx.old.conn.ghost_name }
     ensures goes { Goes (state S.Store tx.old.conn.now) (state S.Store tx.new.conn.now) result }
-    ensures made { 0 < version → version < 3 → (s : State) → IsSound s → Makes (state S.Store tx.old.conn.now) (state S.Store tx.new.conn.now) (λ db. HoldsAs version db s) (λ db. HoldsAs 3 db s) result }
-    ensures cause { 0 < version → version < 3 → (s : State) → IsSound s → AreTaken s → FailsOnly (state S.Store tx.old.conn.now) (state S.Store tx.new.conn.now) (λ db. HoldsAs version db s) result }
+    ensures made { 0 < version → version < 3 → (s : State) → IsSound s →
+        Makes (state S.Store tx.old.conn.now) (state S.Store tx.new.conn.now) (λ db.
+        HoldsAs version db s) (λ db. HoldsAs 3 db s) result }
+    ensures cause { 0 < version → version < 3 → (s : State) → IsSound s → AreTaken s →
+        FailsOnly (state S.Store tx.old.conn.now) (state S.Store tx.new.conn.now) (λ db.
+        HoldsAs version db s) result }
 {
     if version < 2 {
         to_version_2(tx, alloc)?;
@@ -174,8 +220,12 @@ fn to_version_3_from<S: Alter>(
 fn go_steps<S: Alter>(tx: &mut Transaction<'_, S>, alloc: Global, version: u32) -> Result<(), Error>
     ensures same_reference { tx.new.conn.ghost_name ≡ tx.old.conn.ghost_name }
     ensures goes { Goes (state S.Store tx.old.conn.now) (state S.Store tx.new.conn.now) result }
-    ensures made { IsTrue (is_older_version version) → (s : State) → IsSound s → Makes (state S.Store tx.old.conn.now) (state S.Store tx.new.conn.now) (λ db. HoldsAs version db s) (λ db. Holds db s) result }
-    ensures cause { IsTrue (is_older_version version) → (s : State) → IsSound s → AreTaken s → FailsOnly (state S.Store tx.old.conn.now) (state S.Store tx.new.conn.now) (λ db. HoldsAs version db s) result }
+    ensures made { IsTrue (is_older_version version) → (s : State) → IsSound s →
+        Makes (state S.Store tx.old.conn.now) (state S.Store tx.new.conn.now) (λ db.
+        HoldsAs version db s) (λ db. Holds db s) result }
+    ensures cause { IsTrue (is_older_version version) → (s : State) → IsSound s → AreTaken s →
+        FailsOnly (state S.Store tx.old.conn.now) (state S.Store tx.new.conn.now) (λ db.
+        HoldsAs version db s) result }
 {
     if version < 3 {
         to_version_3_from(tx, alloc, version)?;
@@ -192,11 +242,21 @@ pub(crate) fn renew<S: Alter>(
 ) -> Result<(), Error>
     requires { conn.old.in_transaction ≡ false }
     ensures idle { conn.new.in_transaction ≡ false }
-    ensures asked { HasCleanDisk (state S.Store conn.new) → OnOk result (IsTrue (state S.Store conn.old).is_open) }
-    ensures made { HasCleanDisk (state S.Store conn.new) → IsTrue (is_older_version version) → (s : State) → HasAs version (state S.Store conn.old) s → OnOk result (CommitsState (state S.Store conn.new) s) }
-    ensures none { HasCleanDisk (state S.Store conn.new) → OnErr result (KeepsCommitted (state S.Store conn.old) (state S.Store conn.new)) }
-    ensures survives { IsTrue (is_older_version version) → Survives (state S.Store conn.old) (state S.Store conn.new) (λ left. (s : State) → HasAs version (state S.Store conn.old) s → TreesHold left s) }
-    ensures cause { HasCleanDisk (state S.Store conn.new) → IsTrue (is_older_version version) → (s : State) → HasAs version (state S.Store conn.old) s → AreTaken s → IfErr result (λ e. e ≢ Error.SqliteFailure ErrorCode.OutOfMemory → HasReason (state S.Store conn.old) (state S.Store conn.new)) }
+    ensures asked { HasCleanDisk (state S.Store conn.new) →
+        OnOk result (IsTrue (state S.Store conn.old).is_open) }
+    ensures made { HasCleanDisk (state S.Store conn.new) → IsTrue (is_older_version version) →
+        (s : State) → HasAs version (state S.Store conn.old) s →
+        OnOk result (CommitsState (state S.Store conn.new) s) }
+    ensures none { HasCleanDisk (state S.Store conn.new) →
+        OnErr result (KeepsCommitted (state S.Store conn.old) (state S.Store conn.new)) }
+    ensures survives { IsTrue (is_older_version version) →
+        Survives (state S.Store conn.old) (state S.Store conn.new) (λ left.
+        (s : State) → HasAs version (state S.Store conn.old) s → TreesHold left s) }
+    ensures cause { HasCleanDisk (state S.Store conn.new) → IsTrue (is_older_version version) →
+        (s : State) → HasAs version (state S.Store conn.old) s → AreTaken s →
+        IfErr result (λ e.
+        e ≢ Error.SqliteFailure ErrorCode.OutOfMemory →
+        HasReason (state S.Store conn.old) (state S.Store conn.new)) }
 {
     let mut tx = conn.transaction();
     // a store that is shut is not asked to commit

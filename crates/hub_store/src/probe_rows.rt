@@ -33,11 +33,13 @@ pub(crate) fn probe_rows<S: Alter>(
     probe: &mut Probe,
 ) -> Result<(), Error>
     requires idle { conn.old.in_transaction ≡ false }
-    requires settled { IsTrue (state S.Store conn.old).is_open → (state S.Store conn.old).now ≡ (state S.Store conn.old).committed }
+    requires settled { IsTrue (state S.Store conn.old).is_open →
+        (state S.Store conn.old).now ≡ (state S.Store conn.old).committed }
     requires unprobed { IsUnprobed probe.old }
     ensures idle { conn.new.in_transaction ≡ false }
     ensures probed { OnOk result (HasProbed probe.old probe.new) }
-    ensures answers { IsReadOutside (state S.Store conn.old) (state S.Store conn.new) (λ s _. AreFirst incident s probe.new) result }
+    ensures answers { IsReadOutside (state S.Store conn.old) (state S.Store conn.new) (λ s _.
+        AreFirst incident s probe.new) result }
 {
     let mut rows = conn.query(
         "SELECT place, depth, name, in_array, kind, text FROM item WHERE incident = ?1 ORDER BY place",

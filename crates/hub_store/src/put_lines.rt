@@ -24,7 +24,8 @@ fn push_line<'a>(
     line: &'a Line,
 ) -> Result<(), AllocError>
     requires { place < 2 ^ 63 }
-    ensures { IfOk result (λ _. bound params.new.items ≡ bound params.old.items ++ placed_lines place (line.now ∷ [])) }
+    ensures { IfOk result (λ _.
+        bound params.new.items ≡ bound params.old.items ++ placed_lines place (line.now ∷ [])) }
 {
     params.extend_from_slice(params![
         place as i64,
@@ -44,7 +45,8 @@ fn params_of<'a>(
     lines: &'a [Line],
 ) -> Result<Vec<ValueRef<'a>>, AllocError>
     requires { place + length lines.now < 2 ^ 63 }
-    ensures { IfOk result (λ params. bound params.items ≡ Int (pos incident) ∷ placed_lines place lines.now) }
+    ensures { IfOk result (λ params.
+        bound params.items ≡ Int (pos incident) ∷ placed_lines place lines.now) }
 {
     let mut params = Vec::new(alloc);
     params.extend_from_slice(params![incident])?;
@@ -66,7 +68,8 @@ fn put_twenty<S: Alter>(
     requires room { place + length lines.now < 2 ^ 63 }
     requires many { length lines.now ≡ AT_ONCE }
     ensures same_reference { tx.new.conn.ghost_name ≡ tx.old.conn.ghost_name }
-    ensures puts { PutsLines incident place lines.now (state S.Store tx.old.conn.now) (state S.Store tx.new.conn.now) result }
+    ensures puts { PutsLines incident place lines.now (state S.Store tx.old.conn.now)
+        (state S.Store tx.new.conn.now) result }
 {
     let params = params_of(alloc, incident, place, lines)?;
     run(
@@ -84,7 +87,8 @@ fn put_one<S: Alter>(
 ) -> Result<(), Error>
     requires { place < 2 ^ 63 }
     ensures same_reference { tx.new.conn.ghost_name ≡ tx.old.conn.ghost_name }
-    ensures puts { PutsLines incident place (line.now ∷ []) (state S.Store tx.old.conn.now) (state S.Store tx.new.conn.now) result }
+    ensures puts { PutsLines incident place (line.now ∷ []) (state S.Store tx.old.conn.now)
+        (state S.Store tx.new.conn.now) result }
 {
     run(
         tx,
@@ -109,7 +113,8 @@ fn put_each<S: Alter>(
 ) -> Result<(), Error>
     requires { place + length lines.now < 2 ^ 63 }
     ensures same_reference { tx.new.conn.ghost_name ≡ tx.old.conn.ghost_name }
-    ensures puts { PutsLines incident place lines.now (state S.Store tx.old.conn.now) (state S.Store tx.new.conn.now) result }
+    ensures puts { PutsLines incident place lines.now (state S.Store tx.old.conn.now)
+        (state S.Store tx.new.conn.now) result }
 {
     let mut at = place;
     for line in lines {
@@ -129,7 +134,8 @@ fn put_some<S: Alter>(
 ) -> Result<(), Error>
     requires { place + length lines.now < 2 ^ 63 }
     ensures same_reference { tx.new.conn.ghost_name ≡ tx.old.conn.ghost_name }
-    ensures puts { PutsLines incident place lines.now (state S.Store tx.old.conn.now) (state S.Store tx.new.conn.now) result }
+    ensures puts { PutsLines incident place lines.now (state S.Store tx.old.conn.now)
+        (state S.Store tx.new.conn.now) result }
 {
     if lines.len() == AT_ONCE {
         put_twenty(tx, alloc, incident, place, lines)
@@ -146,7 +152,8 @@ pub(crate) fn put_lines<S: Alter>(
     lines: &[Line],
 ) -> Result<(), Error>
     ensures same_reference { tx.new.conn.ghost_name ≡ tx.old.conn.ghost_name }
-    ensures puts { PutsLines incident 1 lines.now (state S.Store tx.old.conn.now) (state S.Store tx.new.conn.now) result }
+    ensures puts { PutsLines incident 1 lines.now (state S.Store tx.old.conn.now)
+        (state S.Store tx.new.conn.now) result }
 {
     let mut place = 1;
     for some in lines.chunks(AT_ONCE) {

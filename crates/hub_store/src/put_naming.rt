@@ -21,7 +21,10 @@ pub(crate) fn put_naming<S: Alter>(
     naming: &Naming,
 ) -> Result<(), Error>
     ensures same_reference { tx.new.conn.ghost_name ≡ tx.old.conn.ghost_name }
-    ensures edited { (s : State) → (items incidents more : List Row) → IsPermutation (naming_row naming.now ∷ incidents) more → Makes (state S.Store tx.old.conn.now) (state S.Store tx.new.conn.now) (λ db. HoldsBetween items incidents db s) (λ db. HoldsBetween items more db s) result }
+    ensures edited { (s : State) → (items incidents more : List Row) →
+        IsPermutation (naming_row naming.now ∷ incidents) more →
+        Makes (state S.Store tx.old.conn.now) (state S.Store tx.new.conn.now) (λ db.
+        HoldsBetween items incidents db s) (λ db. HoldsBetween items more db s) result }
 {
     run(
         tx,
@@ -42,8 +45,14 @@ pub(crate) fn put_naming_2<S: Alter>(
     naming: &Naming,
 ) -> Result<(), Error>
     ensures same_reference { tx.new.conn.ghost_name ≡ tx.old.conn.ghost_name }
-    ensures moved { (s : State) → (items incidents more : List Row) → IsPermutation (naming_row_2 naming.now ∷ incidents) more → Makes (state S.Store tx.old.conn.now) (state S.Store tx.new.conn.now) (HoldsParts (tables_2 1 items incidents s)) (HoldsParts (tables_2 1 items more s)) result }
-    ensures cause { (s : State) → (items incidents : List Row) → CanName naming_row_2 (naming_row_2 naming.now ∷ incidents) → FailsOnly (state S.Store tx.old.conn.now) (state S.Store tx.new.conn.now) (HoldsParts (tables_2 1 items incidents s)) result }
+    ensures moved { (s : State) → (items incidents more : List Row) →
+        IsPermutation (naming_row_2 naming.now ∷ incidents) more →
+        Makes (state S.Store tx.old.conn.now) (state S.Store tx.new.conn.now)
+        (HoldsParts (tables_2 1 items incidents s)) (HoldsParts (tables_2 1 items more s)) result }
+    ensures cause { (s : State) → (items incidents : List Row) →
+        CanName naming_row_2 (naming_row_2 naming.now ∷ incidents) →
+        FailsOnly (state S.Store tx.old.conn.now) (state S.Store tx.new.conn.now)
+        (HoldsParts (tables_2 1 items incidents s)) result }
 {
     run(
         tx,

@@ -14,10 +14,19 @@ use sqlite::{Alter, Error, ErrorCode, Row, Transaction};
 /// Asks the store for nothing but whether it answers.
 pub(crate) fn probe<S: Alter>(tx: &mut Transaction<'_, S>) -> Result<(), Error>
     ensures same_reference { tx.new.conn.ghost_name ≡ tx.old.conn.ghost_name }
-    ensures same { HasCleanDisk (state S.Store tx.new.conn.now) → OnOk result (IsTrue (state S.Store tx.old.conn.now).is_open × IsUnchanged (state S.Store tx.old.conn.now) (state S.Store tx.new.conn.now)) }
-    ensures kept { HasCleanDisk (state S.Store tx.new.conn.now) → KeepsCommit (state S.Store tx.old.conn.now) (state S.Store tx.new.conn.now) }
-    ensures survives { Survives (state S.Store tx.old.conn.now) (state S.Store tx.new.conn.now) (λ _. ⊥) }
-    ensures cause { HasCleanDisk (state S.Store tx.new.conn.now) → IsTrue (is_some (version_column (state S.Store tx.old.conn.now).now.schema)) → IsLive (state S.Store tx.old.conn.now) → IfErr result (λ e. e ≢ Error.SqliteFailure ErrorCode.OutOfMemory → HasReason (state S.Store tx.old.conn.now) (state S.Store tx.new.conn.now)) }
+    ensures same { HasCleanDisk (state S.Store tx.new.conn.now) →
+        OnOk result (IsTrue (state S.Store tx.old.conn.now).is_open ×
+        IsUnchanged (state S.Store tx.old.conn.now) (state S.Store tx.new.conn.now)) }
+    ensures kept { HasCleanDisk (state S.Store tx.new.conn.now) →
+        KeepsCommit (state S.Store tx.old.conn.now) (state S.Store tx.new.conn.now) }
+    ensures survives { Survives (state S.Store tx.old.conn.now)
+        (state S.Store tx.new.conn.now) (λ _. ⊥) }
+    ensures cause { HasCleanDisk (state S.Store tx.new.conn.now) →
+        IsTrue (is_some (version_column (state S.Store tx.old.conn.now).now.schema)) →
+        IsLive (state S.Store tx.old.conn.now) →
+        IfErr result (λ e.
+        e ≢ Error.SqliteFailure ErrorCode.OutOfMemory →
+        HasReason (state S.Store tx.old.conn.now) (state S.Store tx.new.conn.now)) }
 {
     tx.query_all("SELECT version FROM hub LIMIT 2", &[])?;
     Ok(())
@@ -30,10 +39,16 @@ pub(crate) fn ask<S: Alter>(
     params: &[ValueRef<'_>],
 ) -> Result<Vec<Row>, Error>
     ensures same_reference { tx.new.conn.ghost_name ≡ tx.old.conn.ghost_name }
-    ensures survives { Survives (state S.Store tx.old.conn.now) (state S.Store tx.new.conn.now) (λ _. ⊥) }
-    ensures shown { HasCleanDisk (state S.Store tx.new.conn.now) → IfOk result (λ rows. HasShown S.Store text.now (bound params.now) tx.old.conn.now tx.new.conn.now rows.items) }
-    ensures failed { HasCleanDisk (state S.Store tx.new.conn.now) → OnErr result (KeepsCommit (state S.Store tx.old.conn.now) (state S.Store tx.new.conn.now)) }
-    ensures refused { HasCleanDisk (state S.Store tx.new.conn.now) → IfErr result (HasRefused S.Store text.now (bound params.now) tx.old.conn.now tx.new.conn.now) }
+    ensures survives { Survives (state S.Store tx.old.conn.now)
+        (state S.Store tx.new.conn.now) (λ _. ⊥) }
+    ensures shown { HasCleanDisk (state S.Store tx.new.conn.now) →
+        IfOk result (λ rows.
+        HasShown S.Store text.now (bound params.now) tx.old.conn.now tx.new.conn.now rows.items) }
+    ensures failed { HasCleanDisk (state S.Store tx.new.conn.now) →
+        OnErr result (KeepsCommit (state S.Store tx.old.conn.now) (state S.Store tx.new.conn.now)) }
+    ensures refused { HasCleanDisk (state S.Store tx.new.conn.now) →
+        IfErr result
+        (HasRefused S.Store text.now (bound params.now) tx.old.conn.now tx.new.conn.now) }
 {
     let statement = tx.prepare(text)?;
     let rows = tx.query_all_prepared(&statement, params)?;

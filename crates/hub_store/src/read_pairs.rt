@@ -20,7 +20,9 @@ pub(crate) fn read_has_pair<S: Alter>(
     b: u32,
 ) -> Result<bool, Error>
     ensures same_reference { tx.new.conn.ghost_name ≡ tx.old.conn.ghost_name }
-    ensures read { IsReadInside (state S.Store tx.old.conn.now) (state S.Store tx.new.conn.now) (λ s found. found ≡ is_some (pair_between kind a b s.directory)) result }
+    ensures read { IsReadInside (state S.Store tx.old.conn.now)
+        (state S.Store tx.new.conn.now) (λ s found. found ≡
+        is_some (pair_between kind a b s.directory)) result }
 {
     let rows = ask_between(tx, kind, a, b)?;
     Ok(is_any(&rows))
@@ -34,7 +36,9 @@ pub(crate) fn read_seconds<S: Alter>(
     a: u32,
 ) -> Result<Vec<u32>, Error>
     ensures same_reference { tx.new.conn.ghost_name ≡ tx.old.conn.ghost_name }
-    ensures read { IsReadInside (state S.Store tx.old.conn.now) (state S.Store tx.new.conn.now) (λ s found. found.items ≡ map (λ p. p.0.1) (pairs_from kind a s.directory)) result }
+    ensures read { IsReadInside (state S.Store tx.old.conn.now)
+        (state S.Store tx.new.conn.now) (λ s found.
+        found.items ≡ map (λ p. p.0.1) (pairs_from kind a s.directory)) result }
 {
     let rows = ask_from(tx, kind, a)?;
     all(alloc, &rows)
@@ -48,7 +52,9 @@ pub(crate) fn read_firsts<S: Alter>(
     b: u32,
 ) -> Result<Vec<u32>, Error>
     ensures same_reference { tx.new.conn.ghost_name ≡ tx.old.conn.ghost_name }
-    ensures read { IsReadInside (state S.Store tx.old.conn.now) (state S.Store tx.new.conn.now) (λ s found. found.items ≡ map (λ p. p.0.0) (pairs_to kind b s.directory)) result }
+    ensures read { IsReadInside (state S.Store tx.old.conn.now)
+        (state S.Store tx.new.conn.now) (λ s found.
+        found.items ≡ map (λ p. p.0.0) (pairs_to kind b s.directory)) result }
 {
     let rows = ask_to(tx, kind, b)?;
     all(alloc, &rows)

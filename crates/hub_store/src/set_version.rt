@@ -13,20 +13,38 @@ use sqlite::{Alter, Error, Transaction, params};
 
 fn take_version<S: Alter>(tx: &mut Transaction<'_, S>) -> Result<(), Error>
     ensures same_reference { tx.new.conn.ghost_name ≡ tx.old.conn.ghost_name }
-    ensures made { (s : State) → (items incidents : List Row) → (before : ℕ) → Makes (state S.Store tx.old.conn.now) (state S.Store tx.new.conn.now) (HoldsParts (tables_2 before items incidents s)) (HoldsParts (unversioned_2 items incidents s)) result }
-    ensures cause { (s : State) → (items incidents : List Row) → (before : ℕ) → FailsOnly (state S.Store tx.old.conn.now) (state S.Store tx.new.conn.now) (HoldsParts (tables_2 before items incidents s)) result }
-    ensures made_3 { (s : State) → (before : ℕ) → Makes (state S.Store tx.old.conn.now) (state S.Store tx.new.conn.now) (HoldsParts (renumbered_3 before s)) (HoldsParts (unversioned_3 s)) result }
-    ensures cause_3 { (s : State) → (before : ℕ) → FailsOnly (state S.Store tx.old.conn.now) (state S.Store tx.new.conn.now) (HoldsParts (renumbered_3 before s)) result }
+    ensures made { (s : State) → (items incidents : List Row) → (before : ℕ) →
+        Makes (state S.Store tx.old.conn.now) (state S.Store tx.new.conn.now)
+        (HoldsParts (tables_2 before items incidents s))
+        (HoldsParts (unversioned_2 items incidents s)) result }
+    ensures cause { (s : State) → (items incidents : List Row) → (before : ℕ) →
+        FailsOnly (state S.Store tx.old.conn.now) (state S.Store tx.new.conn.now)
+        (HoldsParts (tables_2 before items incidents s)) result }
+    ensures made_3 { (s : State) → (before : ℕ) →
+        Makes (state S.Store tx.old.conn.now) (state S.Store tx.new.conn.now)
+        (HoldsParts (renumbered_3 before s)) (HoldsParts (unversioned_3 s)) result }
+    ensures cause_3 { (s : State) → (before : ℕ) →
+        FailsOnly (state S.Store tx.old.conn.now) (state S.Store tx.new.conn.now)
+        (HoldsParts (renumbered_3 before s)) result }
 {
     run(tx, "DELETE FROM hub", &[])
 }
 
 fn put_version<S: Alter>(tx: &mut Transaction<'_, S>, version: u32) -> Result<(), Error>
     ensures same_reference { tx.new.conn.ghost_name ≡ tx.old.conn.ghost_name }
-    ensures made { (s : State) → (items incidents : List Row) → Makes (state S.Store tx.old.conn.now) (state S.Store tx.new.conn.now) (HoldsParts (unversioned_2 items incidents s)) (HoldsParts (tables_2 version items incidents s)) result }
-    ensures cause { (s : State) → (items incidents : List Row) → FailsOnly (state S.Store tx.old.conn.now) (state S.Store tx.new.conn.now) (HoldsParts (unversioned_2 items incidents s)) result }
-    ensures made_3 { (s : State) → Makes (state S.Store tx.old.conn.now) (state S.Store tx.new.conn.now) (HoldsParts (unversioned_3 s)) (HoldsParts (renumbered_3 version s)) result }
-    ensures cause_3 { (s : State) → FailsOnly (state S.Store tx.old.conn.now) (state S.Store tx.new.conn.now) (HoldsParts (unversioned_3 s)) result }
+    ensures made { (s : State) → (items incidents : List Row) →
+        Makes (state S.Store tx.old.conn.now) (state S.Store tx.new.conn.now)
+        (HoldsParts (unversioned_2 items incidents s))
+        (HoldsParts (tables_2 version items incidents s)) result }
+    ensures cause { (s : State) → (items incidents : List Row) →
+        FailsOnly (state S.Store tx.old.conn.now) (state S.Store tx.new.conn.now)
+        (HoldsParts (unversioned_2 items incidents s)) result }
+    ensures made_3 { (s : State) →
+        Makes (state S.Store tx.old.conn.now) (state S.Store tx.new.conn.now)
+        (HoldsParts (unversioned_3 s)) (HoldsParts (renumbered_3 version s)) result }
+    ensures cause_3 { (s : State) →
+        FailsOnly (state S.Store tx.old.conn.now) (state S.Store tx.new.conn.now)
+        (HoldsParts (unversioned_3 s)) result }
 {
     run(
         tx,
@@ -39,10 +57,19 @@ fn put_version<S: Alter>(tx: &mut Transaction<'_, S>, version: u32) -> Result<()
 /// which it would be exchanged.
 pub(crate) fn set_version<S: Alter>(tx: &mut Transaction<'_, S>, version: u32) -> Result<(), Error>
     ensures same_reference { tx.new.conn.ghost_name ≡ tx.old.conn.ghost_name }
-    ensures made { (s : State) → (items incidents : List Row) → (before : ℕ) → Makes (state S.Store tx.old.conn.now) (state S.Store tx.new.conn.now) (HoldsParts (tables_2 before items incidents s)) (HoldsParts (tables_2 version items incidents s)) result }
-    ensures cause { (s : State) → (items incidents : List Row) → (before : ℕ) → FailsOnly (state S.Store tx.old.conn.now) (state S.Store tx.new.conn.now) (HoldsParts (tables_2 before items incidents s)) result }
-    ensures made_3 { (s : State) → (before : ℕ) → Makes (state S.Store tx.old.conn.now) (state S.Store tx.new.conn.now) (HoldsParts (renumbered_3 before s)) (HoldsParts (renumbered_3 version s)) result }
-    ensures cause_3 { (s : State) → (before : ℕ) → FailsOnly (state S.Store tx.old.conn.now) (state S.Store tx.new.conn.now) (HoldsParts (renumbered_3 before s)) result }
+    ensures made { (s : State) → (items incidents : List Row) → (before : ℕ) →
+        Makes (state S.Store tx.old.conn.now) (state S.Store tx.new.conn.now)
+        (HoldsParts (tables_2 before items incidents s))
+        (HoldsParts (tables_2 version items incidents s)) result }
+    ensures cause { (s : State) → (items incidents : List Row) → (before : ℕ) →
+        FailsOnly (state S.Store tx.old.conn.now) (state S.Store tx.new.conn.now)
+        (HoldsParts (tables_2 before items incidents s)) result }
+    ensures made_3 { (s : State) → (before : ℕ) →
+        Makes (state S.Store tx.old.conn.now) (state S.Store tx.new.conn.now)
+        (HoldsParts (renumbered_3 before s)) (HoldsParts (renumbered_3 version s)) result }
+    ensures cause_3 { (s : State) → (before : ℕ) →
+        FailsOnly (state S.Store tx.old.conn.now) (state S.Store tx.new.conn.now)
+        (HoldsParts (renumbered_3 before s)) result }
 {
     take_version(tx)?;
     put_version(tx, version)

@@ -92,7 +92,8 @@ impl<S: Alter> SqlShelf<S> {
     /// At its last value the count of failures can't rise, so nothing more is asked of the store.
     fn may_ask(&self) -> Result<(), ShelfFault>
         ensures asked { OnOk result (self.now.failures < last_count) }
-        ensures ended { IfErr result (λ fault. (fault ≡ ShelfFault.Failed) × (self.now.failures ≡ last_count)) }
+        ensures ended { IfErr result (λ fault.
+            (fault ≡ ShelfFault.Failed) × (self.now.failures ≡ last_count)) }
     {
         if self.failures == u64::MAX {
             return Err(ShelfFault::Failed);
@@ -107,17 +108,30 @@ impl<S: Alter> SqlShelf<S> {
         mut conn: Connection<S>,
     ) -> Result<SqlShelf<S>, (ShelfFault, Connection<S>)>
         requires { conn.in_transaction ≡ false }
-        ensures made { IfOk result (λ shelf. HasCleanDisk (state S.Store shelf.conn) → Has (state S.Store shelf.conn) empty) }
+        ensures made { IfOk result (λ shelf.
+            HasCleanDisk (state S.Store shelf.conn) → Has (state S.Store shelf.conn) empty) }
         ensures begun { IfOk result (λ shelf. shelf.failures ≡ 0) }
-        ensures taken { (state S.Store conn).now.schema ≢ no_schema → result ≡ Err (ShelfFault.Failed, conn) }
-        ensures cause { (state S.Store conn).now.schema ≡ no_schema → IfErr result (λ e. HasCleanDisk (state S.Store e.1) → e.0 ≡ ShelfFault.Failed → HasReason (state S.Store conn) (state S.Store e.1)) }
-        ensures kept { IfErr result (λ e. HasCleanDisk (state S.Store e.1) → KeepsCommitted (state S.Store conn) (state S.Store e.1)) }
-        ensures back { IfErr result (λ e. HasCleanDisk (state S.Store e.1) → (s : State) → Has (state S.Store conn) s → Has (state S.Store e.1) s) }
+        ensures taken { (state S.Store conn).now.schema ≢ no_schema →
+            result ≡ Err (ShelfFault.Failed, conn) }
+        ensures cause { (state S.Store conn).now.schema ≡ no_schema →
+            IfErr result (λ e.
+            HasCleanDisk (state S.Store e.1) → e.0 ≡ ShelfFault.Failed →
+            HasReason (state S.Store conn) (state S.Store e.1)) }
+        ensures kept { IfErr result (λ e.
+            HasCleanDisk (state S.Store e.1) →
+            KeepsCommitted (state S.Store conn) (state S.Store e.1)) }
+        ensures back { IfErr result (λ e.
+            HasCleanDisk (state S.Store e.1) → (s : State) → Has (state S.Store conn) s →
+            Has (state S.Store e.1) s) }
         ensures idle { IfErr result (λ e. e.1.in_transaction ≡ false) }
         // After Ok a crash may leave the empty state, and nothing else; otherwise what it could have left before, or that state.
-        ensures durable { IfOk result (λ shelf. HasCleanDisk (state S.Store shelf.conn) → (left : Option State) → MayLeave (state S.Store shelf.conn) left ↔ (left ≡ Some empty)) }
-        ensures survives { IfOk result (λ shelf. Survives (state S.Store conn) (state S.Store shelf.conn) (λ left. TreesHold left empty)) }
-        ensures crash { IfErr result (λ e. Survives (state S.Store conn) (state S.Store e.1) (λ left. TreesHold left empty)) }
+        ensures durable { IfOk result (λ shelf.
+            HasCleanDisk (state S.Store shelf.conn) → (left : Option State) →
+            MayLeave (state S.Store shelf.conn) left ↔ (left ≡ Some empty)) }
+        ensures survives { IfOk result (λ shelf.
+            Survives (state S.Store conn) (state S.Store shelf.conn) (λ left. TreesHold left empty)) }
+        ensures crash { IfErr result (λ e.
+            Survives (state S.Store conn) (state S.Store e.1) (λ left. TreesHold left empty)) }
     {
         prove!(conn.is_autocommit());
         if !is_blank(conn.schema()) {
@@ -136,7 +150,8 @@ impl<S: Alter> SqlShelf<S> {
         mut conn: Connection<S>,
     ) -> Result<SqlShelf<S>, (OpenFault, Connection<S>)>
         requires { conn.in_transaction ≡ false }
-        ensures opened { IfOk result (λ shelf. IsOpened (state S.Store conn) (state S.Store shelf.conn) shelf.failures) }
+        ensures opened { IfOk result (λ shelf.
+            IsOpened (state S.Store conn) (state S.Store shelf.conn) shelf.failures) }
         ensures refused { IfErr result (λ e. IsRefused (state S.Store conn) (state S.Store e.1) e.0) }
         ensures idle { IfErr result (λ e. e.1.in_transaction ≡ false) }
     {
@@ -153,8 +168,11 @@ impl<S: Alter> SqlShelf<S> {
     /// steps is a failure of the store, and changes nothing.
     pub fn limit_steps(&mut self, steps: u64)
         ensures limited { self.new.conn ≡ record self.old.conn { step_limit = limit_of steps } }
-        ensures content { (s : State) → Has (state S.Store self.old.conn) s → Has (state S.Store self.new.conn) s }
-        ensures crash { (left : Option State) → MayLeave (state S.Store self.new.conn) left ↔ MayLeave (state S.Store self.old.conn) left }
+        ensures content { (s : State) → Has (state S.Store self.old.conn) s →
+            Has (state S.Store self.new.conn) s }
+        ensures crash { (left : Option State) →
+            MayLeave (state S.Store self.new.conn) left ↔ MayLeave
+            (state S.Store self.old.conn) left }
         ensures failures { self.new.failures ≡ self.old.failures }
     {
         let limit = if steps == 0 { None } else { Some(steps) };

@@ -17,8 +17,12 @@ pub(crate) fn run<S: Alter>(
 ) -> Result<(), Error>
     ensures same_reference { tx.new.conn.ghost_name ≡ tx.old.conn.ghost_name }
     ensures goes { Goes (state S.Store tx.old.conn.now) (state S.Store tx.new.conn.now) result }
-    ensures ran { HasCleanDisk (state S.Store tx.new.conn.now) → IsTrue (state S.Store tx.old.conn.now).in_transaction → OnOk result (HasRun S.Store text.now (bound params.now) tx.old.conn.now tx.new.conn.now) }
-    ensures failed { HasCleanDisk (state S.Store tx.new.conn.now) → IsTrue (state S.Store tx.old.conn.now).in_transaction → IfErr result (HasFailed S.Store text.now (bound params.now) tx.old.conn.now tx.new.conn.now) }
+    ensures ran { HasCleanDisk (state S.Store tx.new.conn.now) →
+        IsTrue (state S.Store tx.old.conn.now).in_transaction →
+        OnOk result (HasRun S.Store text.now (bound params.now) tx.old.conn.now tx.new.conn.now) }
+    ensures failed { HasCleanDisk (state S.Store tx.new.conn.now) →
+        IsTrue (state S.Store tx.old.conn.now).in_transaction →
+        IfErr result (HasFailed S.Store text.now (bound params.now) tx.old.conn.now tx.new.conn.now) }
 {
     let statement = tx.prepare(text)?;
     tx.execute_prepared(&statement, params)?;

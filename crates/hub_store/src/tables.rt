@@ -10,7 +10,8 @@ use sqlite::{Alter, Error, Transaction};
 
 fn make_hub<S: Alter>(tx: &mut Transaction<'_, S>) -> Result<(), Error>
     ensures same_reference { tx.new.conn.ghost_name ≡ tx.old.conn.ghost_name }
-    ensures made { Creates (state S.Store tx.old.conn.now) (state S.Store tx.new.conn.now) (HasEmpty no_schema) (HasEmpty up_to_hub) result }
+    ensures made { Creates (state S.Store tx.old.conn.now) (state S.Store tx.new.conn.now)
+        (HasEmpty no_schema) (HasEmpty up_to_hub) result }
 {
     run(
         tx,
@@ -21,7 +22,8 @@ fn make_hub<S: Alter>(tx: &mut Transaction<'_, S>) -> Result<(), Error>
 
 fn make_org<S: Alter>(tx: &mut Transaction<'_, S>) -> Result<(), Error>
     ensures same_reference { tx.new.conn.ghost_name ≡ tx.old.conn.ghost_name }
-    ensures made { Creates (state S.Store tx.old.conn.now) (state S.Store tx.new.conn.now) (HasEmpty up_to_hub) (HasEmpty up_to_org) result }
+    ensures made { Creates (state S.Store tx.old.conn.now) (state S.Store tx.new.conn.now)
+        (HasEmpty up_to_hub) (HasEmpty up_to_org) result }
 {
     run(
         tx,
@@ -32,7 +34,8 @@ fn make_org<S: Alter>(tx: &mut Transaction<'_, S>) -> Result<(), Error>
 
 fn make_person<S: Alter>(tx: &mut Transaction<'_, S>) -> Result<(), Error>
     ensures same_reference { tx.new.conn.ghost_name ≡ tx.old.conn.ghost_name }
-    ensures made { Creates (state S.Store tx.old.conn.now) (state S.Store tx.new.conn.now) (HasEmpty up_to_org) (HasEmpty up_to_person) result }
+    ensures made { Creates (state S.Store tx.old.conn.now) (state S.Store tx.new.conn.now)
+        (HasEmpty up_to_org) (HasEmpty up_to_person) result }
 {
     run(
         tx,
@@ -43,7 +46,8 @@ fn make_person<S: Alter>(tx: &mut Transaction<'_, S>) -> Result<(), Error>
 
 fn make_community<S: Alter>(tx: &mut Transaction<'_, S>) -> Result<(), Error>
     ensures same_reference { tx.new.conn.ghost_name ≡ tx.old.conn.ghost_name }
-    ensures made { Creates (state S.Store tx.old.conn.now) (state S.Store tx.new.conn.now) (HasEmpty up_to_person) (HasEmpty up_to_community) result }
+    ensures made { Creates (state S.Store tx.old.conn.now) (state S.Store tx.new.conn.now)
+        (HasEmpty up_to_person) (HasEmpty up_to_community) result }
 {
     run(
         tx,
@@ -54,7 +58,8 @@ fn make_community<S: Alter>(tx: &mut Transaction<'_, S>) -> Result<(), Error>
 
 fn make_grp<S: Alter>(tx: &mut Transaction<'_, S>) -> Result<(), Error>
     ensures same_reference { tx.new.conn.ghost_name ≡ tx.old.conn.ghost_name }
-    ensures made { Creates (state S.Store tx.old.conn.now) (state S.Store tx.new.conn.now) (HasEmpty up_to_community) (HasEmpty up_to_grp) result }
+    ensures made { Creates (state S.Store tx.old.conn.now) (state S.Store tx.new.conn.now)
+        (HasEmpty up_to_community) (HasEmpty up_to_grp) result }
 {
     run(
         tx,
@@ -65,7 +70,8 @@ fn make_grp<S: Alter>(tx: &mut Transaction<'_, S>) -> Result<(), Error>
 
 fn make_pair<S: Alter>(tx: &mut Transaction<'_, S>) -> Result<(), Error>
     ensures same_reference { tx.new.conn.ghost_name ≡ tx.old.conn.ghost_name }
-    ensures made { Creates (state S.Store tx.old.conn.now) (state S.Store tx.new.conn.now) (HasEmpty up_to_grp) (HasEmpty up_to_pair) result }
+    ensures made { Creates (state S.Store tx.old.conn.now) (state S.Store tx.new.conn.now)
+        (HasEmpty up_to_grp) (HasEmpty up_to_pair) result }
 {
     run(
         tx,
@@ -76,7 +82,8 @@ fn make_pair<S: Alter>(tx: &mut Transaction<'_, S>) -> Result<(), Error>
 
 fn make_gate<S: Alter>(tx: &mut Transaction<'_, S>) -> Result<(), Error>
     ensures same_reference { tx.new.conn.ghost_name ≡ tx.old.conn.ghost_name }
-    ensures made { Creates (state S.Store tx.old.conn.now) (state S.Store tx.new.conn.now) (HasEmpty up_to_pair) (HasEmpty up_to_gate) result }
+    ensures made { Creates (state S.Store tx.old.conn.now) (state S.Store tx.new.conn.now)
+        (HasEmpty up_to_pair) (HasEmpty up_to_gate) result }
 {
     run(
         tx,
@@ -87,7 +94,8 @@ fn make_gate<S: Alter>(tx: &mut Transaction<'_, S>) -> Result<(), Error>
 
 fn make_recipient<S: Alter>(tx: &mut Transaction<'_, S>) -> Result<(), Error>
     ensures same_reference { tx.new.conn.ghost_name ≡ tx.old.conn.ghost_name }
-    ensures made { Creates (state S.Store tx.old.conn.now) (state S.Store tx.new.conn.now) (HasEmpty up_to_gate) (HasEmpty up_to_recipient) result }
+    ensures made { Creates (state S.Store tx.old.conn.now) (state S.Store tx.new.conn.now)
+        (HasEmpty up_to_gate) (HasEmpty up_to_recipient) result }
 {
     run(
         tx,
@@ -98,7 +106,8 @@ fn make_recipient<S: Alter>(tx: &mut Transaction<'_, S>) -> Result<(), Error>
 
 fn make_permission<S: Alter>(tx: &mut Transaction<'_, S>) -> Result<(), Error>
     ensures same_reference { tx.new.conn.ghost_name ≡ tx.old.conn.ghost_name }
-    ensures made { Creates (state S.Store tx.old.conn.now) (state S.Store tx.new.conn.now) (HasEmpty up_to_recipient) (HasEmpty up_to_permission) result }
+    ensures made { Creates (state S.Store tx.old.conn.now) (state S.Store tx.new.conn.now)
+        (HasEmpty up_to_recipient) (HasEmpty up_to_permission) result }
 {
     run(
         tx,
@@ -109,7 +118,8 @@ fn make_permission<S: Alter>(tx: &mut Transaction<'_, S>) -> Result<(), Error>
 
 fn make_incident<S: Alter>(tx: &mut Transaction<'_, S>) -> Result<(), Error>
     ensures same_reference { tx.new.conn.ghost_name ≡ tx.old.conn.ghost_name }
-    ensures made { Creates (state S.Store tx.old.conn.now) (state S.Store tx.new.conn.now) (HasEmpty up_to_permission) (HasEmpty (schema_by 1)) result }
+    ensures made { Creates (state S.Store tx.old.conn.now) (state S.Store tx.new.conn.now)
+        (HasEmpty up_to_permission) (HasEmpty (schema_by 1)) result }
 {
     run(
         tx,
@@ -121,7 +131,8 @@ fn make_incident<S: Alter>(tx: &mut Transaction<'_, S>) -> Result<(), Error>
 /// The tables of the directory.
 fn make_directory<S: Alter>(tx: &mut Transaction<'_, S>) -> Result<(), Error>
     ensures same_reference { tx.new.conn.ghost_name ≡ tx.old.conn.ghost_name }
-    ensures made { Creates (state S.Store tx.old.conn.now) (state S.Store tx.new.conn.now) (HasEmpty no_schema) (HasEmpty up_to_grp) result }
+    ensures made { Creates (state S.Store tx.old.conn.now) (state S.Store tx.new.conn.now)
+        (HasEmpty no_schema) (HasEmpty up_to_grp) result }
 {
     make_hub(tx)?;
     make_org(tx)?;
@@ -133,7 +144,8 @@ fn make_directory<S: Alter>(tx: &mut Transaction<'_, S>) -> Result<(), Error>
 /// The others: those that a later version changes stand last.
 fn make_incidents<S: Alter>(tx: &mut Transaction<'_, S>) -> Result<(), Error>
     ensures same_reference { tx.new.conn.ghost_name ≡ tx.old.conn.ghost_name }
-    ensures made { Creates (state S.Store tx.old.conn.now) (state S.Store tx.new.conn.now) (HasEmpty up_to_grp) (HasEmpty (schema_by 1)) result }
+    ensures made { Creates (state S.Store tx.old.conn.now) (state S.Store tx.new.conn.now)
+        (HasEmpty up_to_grp) (HasEmpty (schema_by 1)) result }
 {
     make_pair(tx)?;
     make_gate(tx)?;
@@ -145,7 +157,8 @@ fn make_incidents<S: Alter>(tx: &mut Transaction<'_, S>) -> Result<(), Error>
 /// Makes all tables of version 1, with no row.
 pub(crate) fn make_tables<S: Alter>(tx: &mut Transaction<'_, S>) -> Result<(), Error>
     ensures same_reference { tx.new.conn.ghost_name ≡ tx.old.conn.ghost_name }
-    ensures made { Creates (state S.Store tx.old.conn.now) (state S.Store tx.new.conn.now) (HasEmpty no_schema) (HasEmpty (schema_by 1)) result }
+    ensures made { Creates (state S.Store tx.old.conn.now) (state S.Store tx.new.conn.now)
+        (HasEmpty no_schema) (HasEmpty (schema_by 1)) result }
 {
     make_directory(tx)?;
     make_incidents(tx)

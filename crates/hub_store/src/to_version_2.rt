@@ -17,9 +17,14 @@ use sqlite::{Alter, Error, Transaction};
 
 pub(crate) fn create_item<S: Alter>(tx: &mut Transaction<'_, S>) -> Result<(), Error>
     ensures same_reference { tx.new.conn.ghost_name ≡ tx.old.conn.ghost_name }
-    ensures empty { Creates (state S.Store tx.old.conn.now) (state S.Store tx.new.conn.now) (HasEmpty (schema_by 1)) (HasEmpty beside_item) result }
-    ensures made { (s : State) → Makes (state S.Store tx.old.conn.now) (state S.Store tx.new.conn.now) (HoldsParts (parts_1 s)) (HoldsBeside [] s) result }
-    ensures cause { (s : State) → FailsOnly (state S.Store tx.old.conn.now) (state S.Store tx.new.conn.now) (HoldsParts (parts_1 s)) result }
+    ensures empty { Creates (state S.Store tx.old.conn.now) (state S.Store tx.new.conn.now)
+        (HasEmpty (schema_by 1)) (HasEmpty beside_item) result }
+    ensures made { (s : State) →
+        Makes (state S.Store tx.old.conn.now) (state S.Store tx.new.conn.now)
+        (HoldsParts (parts_1 s)) (HoldsBeside [] s) result }
+    ensures cause { (s : State) →
+        FailsOnly (state S.Store tx.old.conn.now) (state S.Store tx.new.conn.now)
+        (HoldsParts (parts_1 s)) result }
 {
     run(
         tx,
@@ -31,18 +36,28 @@ pub(crate) fn create_item<S: Alter>(tx: &mut Transaction<'_, S>) -> Result<(), E
 /// The rows of the other tables stay.
 pub(crate) fn drop_incident<S: Alter>(tx: &mut Transaction<'_, S>) -> Result<(), Error>
     ensures same_reference { tx.new.conn.ghost_name ≡ tx.old.conn.ghost_name }
-    ensures empty { Creates (state S.Store tx.old.conn.now) (state S.Store tx.new.conn.now) (HasEmpty beside_item) (HasEmpty without_incident) result }
-    ensures made { (s : State) → (items : List Row) → Makes (state S.Store tx.old.conn.now) (state S.Store tx.new.conn.now) (HoldsBeside items s) (HoldsParts (without_incidents items s)) result }
-    ensures cause { (s : State) → (items : List Row) → FailsOnly (state S.Store tx.old.conn.now) (state S.Store tx.new.conn.now) (HoldsBeside items s) result }
+    ensures empty { Creates (state S.Store tx.old.conn.now) (state S.Store tx.new.conn.now)
+        (HasEmpty beside_item) (HasEmpty without_incident) result }
+    ensures made { (s : State) → (items : List Row) →
+        Makes (state S.Store tx.old.conn.now) (state S.Store tx.new.conn.now) (HoldsBeside items s)
+        (HoldsParts (without_incidents items s)) result }
+    ensures cause { (s : State) → (items : List Row) →
+        FailsOnly (state S.Store tx.old.conn.now) (state S.Store tx.new.conn.now)
+        (HoldsBeside items s) result }
 {
     run(tx, "DROP TABLE incident", &[])
 }
 
 pub(crate) fn create_incident<S: Alter>(tx: &mut Transaction<'_, S>) -> Result<(), Error>
     ensures same_reference { tx.new.conn.ghost_name ≡ tx.old.conn.ghost_name }
-    ensures empty { Creates (state S.Store tx.old.conn.now) (state S.Store tx.new.conn.now) (HasEmpty without_incident) (HasEmpty (schema_by 2)) result }
-    ensures made { (s : State) → (items : List Row) → Makes (state S.Store tx.old.conn.now) (state S.Store tx.new.conn.now) (HoldsParts (without_incidents items s)) (HoldsParts (tables_2 1 items [] s)) result }
-    ensures cause { (s : State) → (items : List Row) → FailsOnly (state S.Store tx.old.conn.now) (state S.Store tx.new.conn.now) (HoldsParts (without_incidents items s)) result }
+    ensures empty { Creates (state S.Store tx.old.conn.now) (state S.Store tx.new.conn.now)
+        (HasEmpty without_incident) (HasEmpty (schema_by 2)) result }
+    ensures made { (s : State) → (items : List Row) →
+        Makes (state S.Store tx.old.conn.now) (state S.Store tx.new.conn.now)
+        (HoldsParts (without_incidents items s)) (HoldsParts (tables_2 1 items [] s)) result }
+    ensures cause { (s : State) → (items : List Row) →
+        FailsOnly (state S.Store tx.old.conn.now) (state S.Store tx.new.conn.now)
+        (HoldsParts (without_incidents items s)) result }
 {
     run(
         tx,
@@ -54,7 +69,8 @@ pub(crate) fn create_incident<S: Alter>(tx: &mut Transaction<'_, S>) -> Result<(
 /// The tables of version 2 where those of version 1 have no row.
 pub(crate) fn make_tables_2<S: Alter>(tx: &mut Transaction<'_, S>) -> Result<(), Error>
     ensures same_reference { tx.new.conn.ghost_name ≡ tx.old.conn.ghost_name }
-    ensures made { Creates (state S.Store tx.old.conn.now) (state S.Store tx.new.conn.now) (HasEmpty (schema_by 1)) (HasEmpty (schema_by 2)) result }
+    ensures made { Creates (state S.Store tx.old.conn.now) (state S.Store tx.new.conn.now)
+        (HasEmpty (schema_by 1)) (HasEmpty (schema_by 2)) result }
 {
     create_item(tx)?;
     drop_incident(tx)?;

@@ -26,18 +26,28 @@ use sqlite::{Alter, Error, Row, Transaction};
 /// The rows of the other tables stay.
 fn drop_permission<S: Alter>(tx: &mut Transaction<'_, S>) -> Result<(), Error>
     ensures same_reference { tx.new.conn.ghost_name ≡ tx.old.conn.ghost_name }
-    ensures empty { Creates (state S.Store tx.old.conn.now) (state S.Store tx.new.conn.now) (HasEmpty (schema_by 2)) (HasEmpty without_permission) result }
-    ensures made { (s : State) → Makes (state S.Store tx.old.conn.now) (state S.Store tx.new.conn.now) (HoldsParts (renumbered_2 s)) (HoldsParts (without_permissions s)) result }
-    ensures cause { (s : State) → FailsOnly (state S.Store tx.old.conn.now) (state S.Store tx.new.conn.now) (HoldsParts (renumbered_2 s)) result }
+    ensures empty { Creates (state S.Store tx.old.conn.now) (state S.Store tx.new.conn.now)
+        (HasEmpty (schema_by 2)) (HasEmpty without_permission) result }
+    ensures made { (s : State) →
+        Makes (state S.Store tx.old.conn.now) (state S.Store tx.new.conn.now)
+        (HoldsParts (renumbered_2 s)) (HoldsParts (without_permissions s)) result }
+    ensures cause { (s : State) →
+        FailsOnly (state S.Store tx.old.conn.now) (state S.Store tx.new.conn.now)
+        (HoldsParts (renumbered_2 s)) result }
 {
     run(tx, "DROP TABLE permission", &[])
 }
 
 fn create_permission<S: Alter>(tx: &mut Transaction<'_, S>) -> Result<(), Error>
     ensures same_reference { tx.new.conn.ghost_name ≡ tx.old.conn.ghost_name }
-    ensures empty { Creates (state S.Store tx.old.conn.now) (state S.Store tx.new.conn.now) (HasEmpty without_permission) (HasEmpty (schema_by 3)) result }
-    ensures made { (s : State) → Makes (state S.Store tx.old.conn.now) (state S.Store tx.new.conn.now) (HoldsParts (without_permissions s)) (HoldsGranted [] s) result }
-    ensures cause { (s : State) → FailsOnly (state S.Store tx.old.conn.now) (state S.Store tx.new.conn.now) (HoldsParts (without_permissions s)) result }
+    ensures empty { Creates (state S.Store tx.old.conn.now) (state S.Store tx.new.conn.now)
+        (HasEmpty without_permission) (HasEmpty (schema_by 3)) result }
+    ensures made { (s : State) →
+        Makes (state S.Store tx.old.conn.now) (state S.Store tx.new.conn.now)
+        (HoldsParts (without_permissions s)) (HoldsGranted [] s) result }
+    ensures cause { (s : State) →
+        FailsOnly (state S.Store tx.old.conn.now) (state S.Store tx.new.conn.now)
+        (HoldsParts (without_permissions s)) result }
 {
     run(
         tx,
@@ -49,7 +59,8 @@ fn create_permission<S: Alter>(tx: &mut Transaction<'_, S>) -> Result<(), Error>
 /// The tables of version 3 where those of version 2 have no row.
 pub(crate) fn make_tables_3<S: Alter>(tx: &mut Transaction<'_, S>) -> Result<(), Error>
     ensures same_reference { tx.new.conn.ghost_name ≡ tx.old.conn.ghost_name }
-    ensures made { Creates (state S.Store tx.old.conn.now) (state S.Store tx.new.conn.now) (HasEmpty (schema_by 2)) (HasEmpty (schema_by 3)) result }
+    ensures made { Creates (state S.Store tx.old.conn.now) (state S.Store tx.new.conn.now)
+        (HasEmpty (schema_by 2)) (HasEmpty (schema_by 3)) result }
 {
     drop_permission(tx)?;
     create_permission(tx)
@@ -59,9 +70,15 @@ pub(crate) fn make_tables_3<S: Alter>(tx: &mut Transaction<'_, S>) -> Result<(),
 fn read_rows<S: Alter>(tx: &mut Transaction<'_, S>) -> Result<Vec<Row>, Error>
     ensures same_reference { tx.new.conn.ghost_name ≡ tx.old.conn.ghost_name }
     ensures goes { Goes (state S.Store tx.old.conn.now) (state S.Store tx.new.conn.now) result }
-    ensures same { (s : State) → Makes (state S.Store tx.old.conn.now) (state S.Store tx.new.conn.now) (HoldsParts (parts_2 s)) (HoldsParts (parts_2 s)) result }
-    ensures read { HasCleanDisk (state S.Store tx.new.conn.now) → (s : State) → HoldsParts (parts_2 s) (state S.Store tx.old.conn.now).now → IfOk result (λ rows. IsPermutation (map endless_row s.permissions) rows.items) }
-    ensures cause { (s : State) → FailsOnly (state S.Store tx.old.conn.now) (state S.Store tx.new.conn.now) (HoldsParts (parts_2 s)) result }
+    ensures same { (s : State) →
+        Makes (state S.Store tx.old.conn.now) (state S.Store tx.new.conn.now)
+        (HoldsParts (parts_2 s)) (HoldsParts (parts_2 s)) result }
+    ensures read { HasCleanDisk (state S.Store tx.new.conn.now) → (s : State) →
+        HoldsParts (parts_2 s) (state S.Store tx.old.conn.now).now →
+        IfOk result (λ rows. IsPermutation (map endless_row s.permissions) rows.items) }
+    ensures cause { (s : State) →
+        FailsOnly (state S.Store tx.old.conn.now) (state S.Store tx.new.conn.now)
+        (HoldsParts (parts_2 s)) result }
 {
     ask(
         tx,
@@ -74,8 +91,14 @@ fn read_rows<S: Alter>(tx: &mut Transaction<'_, S>) -> Result<Vec<Row>, Error>
 fn put_row<S: Alter>(tx: &mut Transaction<'_, S>, row: &Row) -> Result<(), Error>
     ensures same_reference { tx.new.conn.ghost_name ≡ tx.old.conn.ghost_name }
     ensures goes { Goes (state S.Store tx.old.conn.now) (state S.Store tx.new.conn.now) result }
-    ensures made { IsEndlessRow row.now → (s : State) → (rows more : List Columns) → IsPermutation (without_end row.now ∷ rows) more → Makes (state S.Store tx.old.conn.now) (state S.Store tx.new.conn.now) (HoldsGranted rows s) (HoldsGranted more s) result }
-    ensures cause { IsEndlessRow row.now → (s : State) → (rows : List Columns) → CanGrant (without_end row.now ∷ rows) → FailsOnly (state S.Store tx.old.conn.now) (state S.Store tx.new.conn.now) (HoldsGranted rows s) result }
+    ensures made { IsEndlessRow row.now → (s : State) → (rows more : List Columns) →
+        IsPermutation (without_end row.now ∷ rows) more →
+        Makes (state S.Store tx.old.conn.now) (state S.Store tx.new.conn.now) (HoldsGranted rows s)
+        (HoldsGranted more s) result }
+    ensures cause { IsEndlessRow row.now → (s : State) → (rows : List Columns) →
+        CanGrant (without_end row.now ∷ rows) →
+        FailsOnly (state S.Store tx.old.conn.now) (state S.Store tx.new.conn.now)
+        (HoldsGranted rows s) result }
 {
     let incident = row.get_ref(0)?;
     let path = row.get_ref(1)?;
@@ -91,8 +114,13 @@ fn put_row<S: Alter>(tx: &mut Transaction<'_, S>, row: &Row) -> Result<(), Error
 fn put_rows<S: Alter>(tx: &mut Transaction<'_, S>, rows: &[Row]) -> Result<(), Error>
     ensures same_reference { tx.new.conn.ghost_name ≡ tx.old.conn.ghost_name }
     ensures goes { Goes (state S.Store tx.old.conn.now) (state S.Store tx.new.conn.now) result }
-    ensures made { AllByRecursion IsEndlessRow rows.now → (s : State) → Makes (state S.Store tx.old.conn.now) (state S.Store tx.new.conn.now) (HoldsGranted [] s) (HoldsGranted (map without_end rows.now) s) result }
-    ensures cause { AllByRecursion IsEndlessRow rows.now → (s : State) → CanGrant (map without_end rows.now) → FailsOnly (state S.Store tx.old.conn.now) (state S.Store tx.new.conn.now) (HoldsGranted [] s) result }
+    ensures made { AllByRecursion IsEndlessRow rows.now → (s : State) →
+        Makes (state S.Store tx.old.conn.now) (state S.Store tx.new.conn.now) (HoldsGranted [] s)
+        (HoldsGranted (map without_end rows.now) s) result }
+    ensures cause { AllByRecursion IsEndlessRow rows.now → (s : State) →
+        CanGrant (map without_end rows.now) →
+        FailsOnly (state S.Store tx.old.conn.now) (state S.Store tx.new.conn.now)
+        (HoldsGranted [] s) result }
 {
     for row in rows {
         put_row(tx, row)?;
@@ -104,8 +132,13 @@ fn put_rows<S: Alter>(tx: &mut Transaction<'_, S>, rows: &[Row]) -> Result<(), E
 fn move_rows<S: Alter>(tx: &mut Transaction<'_, S>, rows: &[Row]) -> Result<(), Error>
     ensures same_reference { tx.new.conn.ghost_name ≡ tx.old.conn.ghost_name }
     ensures goes { Goes (state S.Store tx.old.conn.now) (state S.Store tx.new.conn.now) result }
-    ensures made { AllByRecursion IsEndlessRow rows.now → (s : State) → Makes (state S.Store tx.old.conn.now) (state S.Store tx.new.conn.now) (HoldsParts (renumbered_2 s)) (HoldsGranted (map without_end rows.now) s) result }
-    ensures cause { AllByRecursion IsEndlessRow rows.now → (s : State) → CanGrant (map without_end rows.now) → FailsOnly (state S.Store tx.old.conn.now) (state S.Store tx.new.conn.now) (HoldsParts (renumbered_2 s)) result }
+    ensures made { AllByRecursion IsEndlessRow rows.now → (s : State) →
+        Makes (state S.Store tx.old.conn.now) (state S.Store tx.new.conn.now)
+        (HoldsParts (renumbered_2 s)) (HoldsGranted (map without_end rows.now) s) result }
+    ensures cause { AllByRecursion IsEndlessRow rows.now → (s : State) →
+        CanGrant (map without_end rows.now) →
+        FailsOnly (state S.Store tx.old.conn.now) (state S.Store tx.new.conn.now)
+        (HoldsParts (renumbered_2 s)) result }
 {
     drop_permission(tx)?;
     create_permission(tx)?;
@@ -116,8 +149,12 @@ fn move_rows<S: Alter>(tx: &mut Transaction<'_, S>, rows: &[Row]) -> Result<(), 
 pub(crate) fn to_version_3<S: Alter>(tx: &mut Transaction<'_, S>) -> Result<(), Error>
     ensures same_reference { tx.new.conn.ghost_name ≡ tx.old.conn.ghost_name }
     ensures goes { Goes (state S.Store tx.old.conn.now) (state S.Store tx.new.conn.now) result }
-    ensures made { (s : State) → Makes (state S.Store tx.old.conn.now) (state S.Store tx.new.conn.now) (λ db. HoldsAs 2 db s) (λ db. HoldsAs 3 db s) result }
-    ensures cause { (s : State) → IsSound s → AreTaken s → FailsOnly (state S.Store tx.old.conn.now) (state S.Store tx.new.conn.now) (λ db. HoldsAs 2 db s) result }
+    ensures made { (s : State) →
+        Makes (state S.Store tx.old.conn.now) (state S.Store tx.new.conn.now) (λ db.
+        HoldsAs 2 db s) (λ db. HoldsAs 3 db s) result }
+    ensures cause { (s : State) → IsSound s → AreTaken s →
+        FailsOnly (state S.Store tx.old.conn.now) (state S.Store tx.new.conn.now) (λ db.
+        HoldsAs 2 db s) result }
 {
     let rows = read_rows(tx)?;
     set_version(tx, 3)?;

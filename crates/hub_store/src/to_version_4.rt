@@ -27,18 +27,28 @@ use sqlite::{Alter, Error, Row, Transaction};
 /// The rows of the other tables stay.
 fn drop_incident<S: Alter>(tx: &mut Transaction<'_, S>) -> Result<(), Error>
     ensures same_reference { tx.new.conn.ghost_name ≡ tx.old.conn.ghost_name }
-    ensures empty { Creates (state S.Store tx.old.conn.now) (state S.Store tx.new.conn.now) (HasEmpty (schema_by 3)) (HasEmpty without_naming) result }
-    ensures made { (s : State) → Makes (state S.Store tx.old.conn.now) (state S.Store tx.new.conn.now) (HoldsParts (renumbered_3 4 s)) (HoldsParts (without_namings s)) result }
-    ensures cause { (s : State) → FailsOnly (state S.Store tx.old.conn.now) (state S.Store tx.new.conn.now) (HoldsParts (renumbered_3 4 s)) result }
+    ensures empty { Creates (state S.Store tx.old.conn.now) (state S.Store tx.new.conn.now)
+        (HasEmpty (schema_by 3)) (HasEmpty without_naming) result }
+    ensures made { (s : State) →
+        Makes (state S.Store tx.old.conn.now) (state S.Store tx.new.conn.now)
+        (HoldsParts (renumbered_3 4 s)) (HoldsParts (without_namings s)) result }
+    ensures cause { (s : State) →
+        FailsOnly (state S.Store tx.old.conn.now) (state S.Store tx.new.conn.now)
+        (HoldsParts (renumbered_3 4 s)) result }
 {
     run(tx, "DROP TABLE incident", &[])
 }
 
 fn create_incident<S: Alter>(tx: &mut Transaction<'_, S>) -> Result<(), Error>
     ensures same_reference { tx.new.conn.ghost_name ≡ tx.old.conn.ghost_name }
-    ensures empty { Creates (state S.Store tx.old.conn.now) (state S.Store tx.new.conn.now) (HasEmpty without_naming) (HasEmpty hub_schema) result }
-    ensures made { (s : State) → Makes (state S.Store tx.old.conn.now) (state S.Store tx.new.conn.now) (HoldsParts (without_namings s)) (HoldsParts (with_namings [] s)) result }
-    ensures cause { (s : State) → FailsOnly (state S.Store tx.old.conn.now) (state S.Store tx.new.conn.now) (HoldsParts (without_namings s)) result }
+    ensures empty { Creates (state S.Store tx.old.conn.now) (state S.Store tx.new.conn.now)
+        (HasEmpty without_naming) (HasEmpty hub_schema) result }
+    ensures made { (s : State) →
+        Makes (state S.Store tx.old.conn.now) (state S.Store tx.new.conn.now)
+        (HoldsParts (without_namings s)) (HoldsParts (with_namings [] s)) result }
+    ensures cause { (s : State) →
+        FailsOnly (state S.Store tx.old.conn.now) (state S.Store tx.new.conn.now)
+        (HoldsParts (without_namings s)) result }
 {
     run(
         tx,
@@ -50,7 +60,8 @@ fn create_incident<S: Alter>(tx: &mut Transaction<'_, S>) -> Result<(), Error>
 /// The tables of version 4 where those of version 3 have no row.
 pub(crate) fn make_tables_4<S: Alter>(tx: &mut Transaction<'_, S>) -> Result<(), Error>
     ensures same_reference { tx.new.conn.ghost_name ≡ tx.old.conn.ghost_name }
-    ensures made { Creates (state S.Store tx.old.conn.now) (state S.Store tx.new.conn.now) (HasEmpty (schema_by 3)) (HasEmpty hub_schema) result }
+    ensures made { Creates (state S.Store tx.old.conn.now) (state S.Store tx.new.conn.now)
+        (HasEmpty (schema_by 3)) (HasEmpty hub_schema) result }
 {
     drop_incident(tx)?;
     create_incident(tx)
@@ -60,9 +71,15 @@ pub(crate) fn make_tables_4<S: Alter>(tx: &mut Transaction<'_, S>) -> Result<(),
 fn read_rows<S: Alter>(tx: &mut Transaction<'_, S>) -> Result<Vec<Row>, Error>
     ensures same_reference { tx.new.conn.ghost_name ≡ tx.old.conn.ghost_name }
     ensures goes { Goes (state S.Store tx.old.conn.now) (state S.Store tx.new.conn.now) result }
-    ensures same { (s : State) → Makes (state S.Store tx.old.conn.now) (state S.Store tx.new.conn.now) (HoldsParts (parts_3 s)) (HoldsParts (parts_3 s)) result }
-    ensures read { HasCleanDisk (state S.Store tx.new.conn.now) → (s : State) → HoldsParts (parts_3 s) (state S.Store tx.old.conn.now).now → IfOk result (λ rows. IsPermutation (map naming_shown_2 (naming_in s.incidents)) rows.items) }
-    ensures cause { (s : State) → FailsOnly (state S.Store tx.old.conn.now) (state S.Store tx.new.conn.now) (HoldsParts (parts_3 s)) result }
+    ensures same { (s : State) →
+        Makes (state S.Store tx.old.conn.now) (state S.Store tx.new.conn.now)
+        (HoldsParts (parts_3 s)) (HoldsParts (parts_3 s)) result }
+    ensures read { HasCleanDisk (state S.Store tx.new.conn.now) → (s : State) →
+        HoldsParts (parts_3 s) (state S.Store tx.old.conn.now).now →
+        IfOk result (λ rows. IsPermutation (map naming_shown_2 (naming_in s.incidents)) rows.items) }
+    ensures cause { (s : State) →
+        FailsOnly (state S.Store tx.old.conn.now) (state S.Store tx.new.conn.now)
+        (HoldsParts (parts_3 s)) result }
 {
     ask(
         tx,
@@ -75,8 +92,14 @@ fn read_rows<S: Alter>(tx: &mut Transaction<'_, S>) -> Result<Vec<Row>, Error>
 fn put_row<S: Alter>(tx: &mut Transaction<'_, S>, row: &Row) -> Result<(), Error>
     ensures same_reference { tx.new.conn.ghost_name ≡ tx.old.conn.ghost_name }
     ensures goes { Goes (state S.Store tx.old.conn.now) (state S.Store tx.new.conn.now) result }
-    ensures made { IsUnnamedRow row.now → (s : State) → (rows more : List Columns) → IsPermutation (without_community row.now ∷ rows) more → Makes (state S.Store tx.old.conn.now) (state S.Store tx.new.conn.now) (HoldsParts (with_namings rows s)) (HoldsParts (with_namings more s)) result }
-    ensures cause { IsUnnamedRow row.now → (s : State) → (rows : List Columns) → CanName unnamed_row (without_community row.now ∷ rows) → FailsOnly (state S.Store tx.old.conn.now) (state S.Store tx.new.conn.now) (HoldsParts (with_namings rows s)) result }
+    ensures made { IsUnnamedRow row.now → (s : State) → (rows more : List Columns) →
+        IsPermutation (without_community row.now ∷ rows) more →
+        Makes (state S.Store tx.old.conn.now) (state S.Store tx.new.conn.now)
+        (HoldsParts (with_namings rows s)) (HoldsParts (with_namings more s)) result }
+    ensures cause { IsUnnamedRow row.now → (s : State) → (rows : List Columns) →
+        CanName unnamed_row (without_community row.now ∷ rows) →
+        FailsOnly (state S.Store tx.old.conn.now) (state S.Store tx.new.conn.now)
+        (HoldsParts (with_namings rows s)) result }
 {
     let number = row.get_ref(0)?;
     let source = row.get_ref(1)?;
@@ -92,8 +115,14 @@ fn put_row<S: Alter>(tx: &mut Transaction<'_, S>, row: &Row) -> Result<(), Error
 fn put_rows<S: Alter>(tx: &mut Transaction<'_, S>, rows: &[Row]) -> Result<(), Error>
     ensures same_reference { tx.new.conn.ghost_name ≡ tx.old.conn.ghost_name }
     ensures goes { Goes (state S.Store tx.old.conn.now) (state S.Store tx.new.conn.now) result }
-    ensures made { AllByRecursion IsUnnamedRow rows.now → (s : State) → Makes (state S.Store tx.old.conn.now) (state S.Store tx.new.conn.now) (HoldsParts (with_namings [] s)) (HoldsParts (with_namings (map without_community rows.now) s)) result }
-    ensures cause { AllByRecursion IsUnnamedRow rows.now → (s : State) → CanName unnamed_row (map without_community rows.now) → FailsOnly (state S.Store tx.old.conn.now) (state S.Store tx.new.conn.now) (HoldsParts (with_namings [] s)) result }
+    ensures made { AllByRecursion IsUnnamedRow rows.now → (s : State) →
+        Makes (state S.Store tx.old.conn.now) (state S.Store tx.new.conn.now)
+        (HoldsParts (with_namings [] s))
+        (HoldsParts (with_namings (map without_community rows.now) s)) result }
+    ensures cause { AllByRecursion IsUnnamedRow rows.now → (s : State) →
+        CanName unnamed_row (map without_community rows.now) →
+        FailsOnly (state S.Store tx.old.conn.now) (state S.Store tx.new.conn.now)
+        (HoldsParts (with_namings [] s)) result }
 {
     for row in rows {
         put_row(tx, row)?;
@@ -105,8 +134,14 @@ fn put_rows<S: Alter>(tx: &mut Transaction<'_, S>, rows: &[Row]) -> Result<(), E
 fn move_rows<S: Alter>(tx: &mut Transaction<'_, S>, rows: &[Row]) -> Result<(), Error>
     ensures same_reference { tx.new.conn.ghost_name ≡ tx.old.conn.ghost_name }
     ensures goes { Goes (state S.Store tx.old.conn.now) (state S.Store tx.new.conn.now) result }
-    ensures made { AllByRecursion IsUnnamedRow rows.now → (s : State) → Makes (state S.Store tx.old.conn.now) (state S.Store tx.new.conn.now) (HoldsParts (renumbered_3 4 s)) (HoldsParts (with_namings (map without_community rows.now) s)) result }
-    ensures cause { AllByRecursion IsUnnamedRow rows.now → (s : State) → CanName unnamed_row (map without_community rows.now) → FailsOnly (state S.Store tx.old.conn.now) (state S.Store tx.new.conn.now) (HoldsParts (renumbered_3 4 s)) result }
+    ensures made { AllByRecursion IsUnnamedRow rows.now → (s : State) →
+        Makes (state S.Store tx.old.conn.now) (state S.Store tx.new.conn.now)
+        (HoldsParts (renumbered_3 4 s))
+        (HoldsParts (with_namings (map without_community rows.now) s)) result }
+    ensures cause { AllByRecursion IsUnnamedRow rows.now → (s : State) →
+        CanName unnamed_row (map without_community rows.now) →
+        FailsOnly (state S.Store tx.old.conn.now) (state S.Store tx.new.conn.now)
+        (HoldsParts (renumbered_3 4 s)) result }
 {
     drop_incident(tx)?;
     create_incident(tx)?;
@@ -117,8 +152,12 @@ fn move_rows<S: Alter>(tx: &mut Transaction<'_, S>, rows: &[Row]) -> Result<(), 
 pub(crate) fn to_version_4<S: Alter>(tx: &mut Transaction<'_, S>) -> Result<(), Error>
     ensures same_reference { tx.new.conn.ghost_name ≡ tx.old.conn.ghost_name }
     ensures goes { Goes (state S.Store tx.old.conn.now) (state S.Store tx.new.conn.now) result }
-    ensures made { (s : State) → Makes (state S.Store tx.old.conn.now) (state S.Store tx.new.conn.now) (λ db. HoldsAs 3 db s) (λ db. HoldsAs 4 db s) result }
-    ensures cause { (s : State) → IsSound s → AreTaken s → FailsOnly (state S.Store tx.old.conn.now) (state S.Store tx.new.conn.now) (λ db. HoldsAs 3 db s) result }
+    ensures made { (s : State) →
+        Makes (state S.Store tx.old.conn.now) (state S.Store tx.new.conn.now) (λ db.
+        HoldsAs 3 db s) (λ db. HoldsAs 4 db s) result }
+    ensures cause { (s : State) → IsSound s → AreTaken s →
+        FailsOnly (state S.Store tx.old.conn.now) (state S.Store tx.new.conn.now) (λ db.
+        HoldsAs 3 db s) result }
 {
     let rows = read_rows(tx)?;
     set_version(tx, 4)?;

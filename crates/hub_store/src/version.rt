@@ -62,11 +62,21 @@ fn read_version<S: Alter>(
     has_column: bool,
 ) -> Result<Option<u32>, Error>
     ensures same_reference { tx.new.conn.ghost_name ≡ tx.old.conn.ghost_name }
-    ensures kept { HasCleanDisk (state S.Store tx.new.conn.now) → KeepsCommit (state S.Store tx.old.conn.now) (state S.Store tx.new.conn.now) }
-    ensures survives { Survives (state S.Store tx.old.conn.now) (state S.Store tx.new.conn.now) (λ _. ⊥) }
-    ensures exact { HasCleanDisk (state S.Store tx.new.conn.now) → has_column ≡ is_some (version_column (state S.Store tx.old.conn.now).now.schema) → IfOk result (λ found. found ≡ version_of (state S.Store tx.old.conn.now).now) }
-    ensures asked { HasCleanDisk (state S.Store tx.new.conn.now) → IfOk result (λ found. IfSome found (λ _. IsTrue (state S.Store tx.old.conn.now).is_open)) }
-    ensures cause { HasCleanDisk (state S.Store tx.new.conn.now) → has_column ≡ is_some (version_column (state S.Store tx.old.conn.now).now.schema) → IsLive (state S.Store tx.old.conn.now) → IfErr result (λ e. e ≢ Error.SqliteFailure ErrorCode.OutOfMemory → HasReason (state S.Store tx.old.conn.now) (state S.Store tx.new.conn.now)) }
+    ensures kept { HasCleanDisk (state S.Store tx.new.conn.now) →
+        KeepsCommit (state S.Store tx.old.conn.now) (state S.Store tx.new.conn.now) }
+    ensures survives { Survives (state S.Store tx.old.conn.now)
+        (state S.Store tx.new.conn.now) (λ _. ⊥) }
+    ensures exact { HasCleanDisk (state S.Store tx.new.conn.now) →
+        has_column ≡ is_some (version_column (state S.Store tx.old.conn.now).now.schema) →
+        IfOk result (λ found. found ≡ version_of (state S.Store tx.old.conn.now).now) }
+    ensures asked { HasCleanDisk (state S.Store tx.new.conn.now) →
+        IfOk result (λ found. IfSome found (λ _. IsTrue (state S.Store tx.old.conn.now).is_open)) }
+    ensures cause { HasCleanDisk (state S.Store tx.new.conn.now) →
+        has_column ≡ is_some (version_column (state S.Store tx.old.conn.now).now.schema) →
+        IsLive (state S.Store tx.old.conn.now) →
+        IfErr result (λ e.
+        e ≢ Error.SqliteFailure ErrorCode.OutOfMemory →
+        HasReason (state S.Store tx.old.conn.now) (state S.Store tx.new.conn.now)) }
 {
     if !has_column {
         return Ok(None);
@@ -82,11 +92,17 @@ fn read_version<S: Alter>(
 fn ask_version<S: Alter>(conn: &mut Connection<S>) -> Result<Option<u32>, Error>
     requires { conn.old.in_transaction ≡ false }
     ensures idle { conn.new.in_transaction ≡ false }
-    ensures kept { HasCleanDisk (state S.Store conn.new) → KeepsCommitted (state S.Store conn.old) (state S.Store conn.new) }
+    ensures kept { HasCleanDisk (state S.Store conn.new) →
+        KeepsCommitted (state S.Store conn.old) (state S.Store conn.new) }
     ensures survives { Survives (state S.Store conn.old) (state S.Store conn.new) (λ _. ⊥) }
-    ensures exact { HasCleanDisk (state S.Store conn.new) → IfOk result (λ found. found ≡ version_of (state S.Store conn.old).now) }
-    ensures asked { HasCleanDisk (state S.Store conn.new) → IfOk result (λ found. IfSome found (λ _. IsTrue (state S.Store conn.old).is_open)) }
-    ensures cause { HasCleanDisk (state S.Store conn.new) → IfErr result (λ e. e ≢ Error.SqliteFailure ErrorCode.OutOfMemory → HasReason (state S.Store conn.old) (state S.Store conn.new)) }
+    ensures exact { HasCleanDisk (state S.Store conn.new) →
+        IfOk result (λ found. found ≡ version_of (state S.Store conn.old).now) }
+    ensures asked { HasCleanDisk (state S.Store conn.new) →
+        IfOk result (λ found. IfSome found (λ _. IsTrue (state S.Store conn.old).is_open)) }
+    ensures cause { HasCleanDisk (state S.Store conn.new) →
+        IfErr result (λ e.
+        e ≢ Error.SqliteFailure ErrorCode.OutOfMemory →
+        HasReason (state S.Store conn.old) (state S.Store conn.new)) }
 {
     let has_column = has_version_column(conn.schema());
     let mut tx = conn.transaction();
@@ -100,11 +116,16 @@ fn ask_version<S: Alter>(conn: &mut Connection<S>) -> Result<Option<u32>, Error>
 pub(crate) fn version<S: Alter>(conn: &mut Connection<S>) -> Result<Option<u32>, ShelfFault>
     requires { conn.old.in_transaction ≡ false }
     ensures idle { conn.new.in_transaction ≡ false }
-    ensures kept { HasCleanDisk (state S.Store conn.new) → KeepsCommitted (state S.Store conn.old) (state S.Store conn.new) }
+    ensures kept { HasCleanDisk (state S.Store conn.new) →
+        KeepsCommitted (state S.Store conn.old) (state S.Store conn.new) }
     ensures survives { Survives (state S.Store conn.old) (state S.Store conn.new) (λ _. ⊥) }
-    ensures exact { HasCleanDisk (state S.Store conn.new) → IfOk result (λ found. found ≡ version_of (state S.Store conn.old).now) }
-    ensures asked { HasCleanDisk (state S.Store conn.new) → IfOk result (λ found. IfSome found (λ _. IsTrue (state S.Store conn.old).is_open)) }
-    ensures cause { HasCleanDisk (state S.Store conn.new) → IfErr result (λ fault. fault ≡ ShelfFault.Failed → HasReason (state S.Store conn.old) (state S.Store conn.new)) }
+    ensures exact { HasCleanDisk (state S.Store conn.new) →
+        IfOk result (λ found. found ≡ version_of (state S.Store conn.old).now) }
+    ensures asked { HasCleanDisk (state S.Store conn.new) →
+        IfOk result (λ found. IfSome found (λ _. IsTrue (state S.Store conn.old).is_open)) }
+    ensures cause { HasCleanDisk (state S.Store conn.new) →
+        IfErr result (λ fault. fault ≡
+        ShelfFault.Failed → HasReason (state S.Store conn.old) (state S.Store conn.new)) }
 {
     match ask_version(conn) {
         Ok(found) => Ok(found),

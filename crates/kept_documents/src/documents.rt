@@ -109,7 +109,8 @@ impl<const MOST: usize> Documents<MOST> {
     /// Keeps a document, if it can be: those that were read longest ago make room for it.
     #[tactic(auto, using(crate::proofs::Lines::put_lines))]
     pub(crate) fn keep(&mut self, incident: u32, document: Document)
-        ensures { (e : Entry) → Contains self.new e → Contains self.old e ⊎ (e ≡ (incident, document)) }
+        ensures { (e : Entry) → Contains self.new e →
+            Contains self.old e ⊎ (e ≡ (incident, document)) }
     {
         self.waited = 0;
         let Some(kept) = Kept::within(self.alloc, document, MOST) else {
@@ -125,7 +126,8 @@ impl<const MOST: usize> Documents<MOST> {
 
     #[tactic(auto, using(crate::proofs::Lines::gone))]
     fn let_go_of(&mut self, incident: u32)
-        ensures { (e : Entry) → Contains self.new e → Contains self.old e × (nat_eq incident e.0 ≡ false) }
+        ensures { (e : Entry) → Contains self.new e →
+            Contains self.old e × (nat_eq incident e.0 ≡ false) }
     {
         // Its contract says that no number stands there twice.
         let _count = self.kept.len();
@@ -136,7 +138,8 @@ impl<const MOST: usize> Documents<MOST> {
 
     /// Lets go of what the edit puts or takes.
     fn let_go_by(&mut self, edit: &Edit)
-        ensures { (e : Entry) → Contains self.new e → Contains self.old e × (is_of e.0 edit.now ≡ false) }
+        ensures { (e : Entry) → Contains self.new e →
+            Contains self.old e × (is_of e.0 edit.now ≡ false) }
     {
         match edit {
             Edit::PutIncident(incident) => self.let_go_of(incident.naming.number),

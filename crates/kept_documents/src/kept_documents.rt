@@ -56,7 +56,8 @@ impl<Sh: Shelf, const MOST: usize> KeptDocuments<Sh, MOST> {
     /// answers no more is asked for nothing.
     fn prepare(&mut self, incident: u32) -> Result<(), ShelfFault>
         ensures shelf { IsRead Sh.has Sh.doubts Sh.failed Sh.may_remain self.old.shelf self.new.shelf result }
-        ensures documents { Sh.doubts self.new.shelf ≡ 0 → (s : State) → Sh.has self.old.shelf s → AreDocuments self.old.documents s → AreDocuments self.new.documents s }
+        ensures documents { Sh.doubts self.new.shelf ≡ 0 → (s : State) → Sh.has self.old.shelf s →
+            AreDocuments self.old.documents s → AreDocuments self.new.documents s }
     {
         if self.shelf.failures() == u64::MAX {
             return Err(ShelfFault::Failed);

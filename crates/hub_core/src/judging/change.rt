@@ -35,7 +35,8 @@ pub fn address(
     request: &Address,
 ) -> Result<Vec<Edit>, Stop>
     ensures asked { Asks (grounds_by facts.now actor.now (ask.Address request.now)) result }
-    ensures made { IfOk result (λ edits. edits.items ≡ edits_by facts.now actor.now (ask.Address request.now)) }
+    ensures made { IfOk result (λ edits.
+        edits.items ≡ edits_by facts.now actor.now (ask.Address request.now)) }
 {
     poster(alloc, actor)?;
     own(alloc, actor, facts)?;
@@ -59,7 +60,8 @@ pub fn unaddress(
     request: &Unaddress,
 ) -> Result<Vec<Edit>, Stop>
     ensures asked { Asks (grounds_by facts.now actor.now (ask.Unaddress request.now)) result }
-    ensures made { IfOk result (λ edits. edits.items ≡ edits_by facts.now actor.now (ask.Unaddress request.now)) }
+    ensures made { IfOk result (λ edits.
+        edits.items ≡ edits_by facts.now actor.now (ask.Unaddress request.now)) }
 {
     poster(alloc, actor)?;
     own(alloc, actor, facts)?;
@@ -81,7 +83,8 @@ pub fn grant(
     request: &Grant,
 ) -> Result<Vec<Edit>, Stop>
     ensures asked { Asks (grounds_by facts.now actor.now (ask.Grant request.now)) result }
-    ensures made { IfOk result (λ edits. edits.items ≡ edits_by facts.now actor.now (ask.Grant request.now)) }
+    ensures made { IfOk result (λ edits.
+        edits.items ≡ edits_by facts.now actor.now (ask.Grant request.now)) }
 {
     poster(alloc, actor)?;
     let path = path_of(alloc, request.path.as_str(), "path")?;
@@ -100,7 +103,10 @@ pub fn grant(
 
 /// The permission asked for at a class, and before it what takes out one with another end.
 fn put_in_place(alloc: Global, request: &Grant, path: Path) -> Result<Vec<Edit>, AllocError>
-    ensures { IfOk result (λ edits. edits.items ≡ put_permission (record { incident = request.now.incident; path = path; grantee = request.now.grantee }) request.now.until) }
+    ensures { IfOk result (λ edits.
+        edits.items ≡
+        put_permission
+        (record { incident = request.now.incident; path = path; grantee = request.now.grantee }) request.now.until) }
 {
     let (incident, grantee) = (request.incident, request.grantee);
     let mut edits = Vec::with_capacity(alloc, 2)?;
@@ -128,7 +134,8 @@ pub fn withdraw(
     request: &Withdraw,
 ) -> Result<Vec<Edit>, Stop>
     ensures asked { Asks (grounds_by facts.now actor.now (ask.Withdraw request.now)) result }
-    ensures made { IfOk result (λ edits. edits.items ≡ edits_by facts.now actor.now (ask.Withdraw request.now)) }
+    ensures made { IfOk result (λ edits.
+        edits.items ≡ edits_by facts.now actor.now (ask.Withdraw request.now)) }
 {
     poster(alloc, actor)?;
     let path = path_of(alloc, request.path.as_str(), "path")?;
@@ -152,7 +159,8 @@ pub fn redistribute(
     request: &Redistribute,
 ) -> Result<Vec<Edit>, Stop>
     ensures asked { Asks (grounds_by facts.now actor.now (ask.Redistribute request.now)) result }
-    ensures made { IfOk result (λ edits. edits.items ≡ edits_by facts.now actor.now (ask.Redistribute request.now)) }
+    ensures made { IfOk result (λ edits.
+        edits.items ≡ edits_by facts.now actor.now (ask.Redistribute request.now)) }
 {
     poster(alloc, actor)?;
     let path = path_of(alloc, request.path.as_str(), "path")?;

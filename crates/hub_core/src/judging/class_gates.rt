@@ -70,7 +70,9 @@ impl ClassGates {
         level: u8,
         group: Option<u32>,
     ) -> Result<(), AllocError>
-        ensures { OnOk result (edits.new.items ≡ edits.old.items ++ put_gates incident (record { community = None; level = level; group = group; gates = self.now })) }
+        ensures { OnOk result (edits.new.items ≡
+            edits.old.items ++ put_gates incident
+            (record { community = None; level = level; group = group; gates = self.now })) }
     {
         let gate = Gate {
             path: Path::root(alloc),
@@ -129,7 +131,8 @@ fn is_among(path: &Text, wanted: &[WantedGate]) -> bool
 }
 
 fn stand_in_each(gates: &[Gate], documents: &[Posted]) -> bool
-    ensures { result ≡ list_all (λ (doc : Lines). list_all (λ (g : Gate). is_class_in doc g.path) gates.now) documents.now }
+    ensures { result ≡ list_all (λ (doc : Lines).
+        list_all (λ (g : Gate). is_class_in doc g.path) gates.now) documents.now }
 {
     documents
         .iter()

@@ -23,10 +23,18 @@ pub fn judge_command(
     facts: &CircleFacts,
     command: &CircleCommand,
 ) -> Result<Vec<Edit>, Refusal>
-    ensures refused { (s : State) → facts.now ≡ facts_of s.directory actor.now command.now → IfErr result (RefusedAs (refusal_of s.directory actor.now command.now)) }
-    ensures allowed { (s : State) → facts.now ≡ facts_of s.directory actor.now command.now → OnOk result (refusal_of s.directory actor.now command.now ≡ None) }
-    ensures edits { IfOk result (λ edits. edits.items ≡ map edit.Directory (rows_of (edit_of (facts.now.count + 1) actor.now command.now))) }
-    ensures made { (s : State) → IsSound s.directory → facts.now ≡ facts_of s.directory actor.now command.now → IfOk result (λ edits. with_edits edits.items s ≡ record s { directory = state_after s.directory actor.now command.now }) }
+    ensures refused { (s : State) → facts.now ≡ facts_of s.directory actor.now command.now →
+        IfErr result (RefusedAs (refusal_of s.directory actor.now command.now)) }
+    ensures allowed { (s : State) → facts.now ≡ facts_of s.directory actor.now command.now →
+        OnOk result (refusal_of s.directory actor.now command.now ≡ None) }
+    ensures edits { IfOk result (λ edits.
+        edits.items ≡
+        map edit.Directory (rows_of (edit_of (facts.now.count + 1) actor.now command.now))) }
+    ensures made { (s : State) → IsSound s.directory →
+        facts.now ≡ facts_of s.directory actor.now command.now →
+        IfOk result (λ edits.
+        with_edits edits.items s ≡
+        record s { directory = state_after s.directory actor.now command.now }) }
 {
     let change = judge(alloc, actor, facts, command)?;
     match rows(alloc, change) {

@@ -22,7 +22,8 @@ pub fn explain(
     request: &Explain,
 ) -> Result<Vec<Edit>, Stop>
     ensures asked { Asks (grounds_by facts.now actor.now (ask.Explain request.now)) result }
-    ensures made { IfOk result (λ edits. edits.items ≡ edits_by facts.now actor.now (ask.Explain request.now)) }
+    ensures made { IfOk result (λ edits.
+        edits.items ≡ edits_by facts.now actor.now (ask.Explain request.now)) }
 {
     administrator(alloc, actor)?;
     let path = path_of(alloc, request.path.as_str(), "path")?;

@@ -23,7 +23,8 @@ use std::alloc::{AllocError, Global};
 /// An incident for each Incident of the body, or a refusal and none.
 pub fn post(alloc: Global, actor: &Person, facts: &Facts, request: &Post) -> Result<Vec<Edit>, Stop>
     ensures asked { Asks (grounds_by facts.now actor.now (ask.Post request.now)) result }
-    ensures made { IfOk result (λ edits. edits.items ≡ edits_by facts.now actor.now (ask.Post request.now)) }
+    ensures made { IfOk result (λ edits.
+        edits.items ≡ edits_by facts.now actor.now (ask.Post request.now)) }
 {
     poster(alloc, actor)?;
     let level = root_level(alloc, &request.distribution)?;
@@ -92,7 +93,10 @@ fn put_incidents(
     documents: Vec<Posted>,
 ) -> Result<Vec<Edit>, AllocError>
     requires { first + length documents.items < 2 ^ 32 }
-    ensures { IfOk result (λ edits. edits.items ≡ put_all_incidents posting.now.source first (record { community = posting.now.community; level = posting.now.level; group = posting.now.group; gates = gates.now }) documents.items) }
+    ensures { IfOk result (λ edits.
+        edits.items ≡
+        put_all_incidents posting.now.source first
+        (record { community = posting.now.community; level = posting.now.level; group = posting.now.group; gates = gates.now }) documents.items) }
 {
     let mut edits = Vec::new(alloc);
     let mut number = first;

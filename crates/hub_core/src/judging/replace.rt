@@ -31,7 +31,8 @@ pub fn replace(
     request: &Replace,
 ) -> Result<Vec<Edit>, Stop>
     ensures asked { Asks (grounds_by facts.now actor.now (ask.Replace request.now)) result }
-    ensures made { IfOk result (λ edits. edits.items ≡ edits_by facts.now actor.now (ask.Replace request.now)) }
+    ensures made { IfOk result (λ edits.
+        edits.items ≡ edits_by facts.now actor.now (ask.Replace request.now)) }
 {
     poster(alloc, actor)?;
     let level = root_level(alloc, &request.distribution)?;
@@ -76,7 +77,8 @@ fn allowed<'a>(
 ) -> Result<&'a IncidentFacts, Stop>
     ensures asked { Asks (replace_facts facts.now actor.now revision gates.now documents.now) result }
     ensures known { IfOk result (λ k. facts.now.incident ≡ Some k.now) }
-    ensures ident { IfOk result (λ k. list_all (λ (doc : Lines). bytes_eq (ident_of doc) k.now.ident) documents.now ≡ true) }
+    ensures ident { IfOk result (λ k.
+        list_all (λ (doc : Lines). bytes_eq (ident_of doc) k.now.ident) documents.now ≡ true) }
     ensures room { IfOk result (λ k. k.now.revision + 1 ≤ REVISION_LIMIT) }
 {
     let known = own(alloc, actor, facts)?;
@@ -104,9 +106,11 @@ fn next_revision(
     mut documents: Vec<Posted>,
 ) -> Result<Vec<Edit>, AllocError>
     requires single { length documents.items ≤ 1 }
-    requires ident { list_all (λ (doc : Lines). bytes_eq (ident_of doc) known.now.ident) documents.items ≡ true }
+    requires ident { list_all (λ (doc : Lines).
+        bytes_eq (ident_of doc) known.now.ident) documents.items ≡ true }
     requires room { known.now.revision + 1 ≤ REVISION_LIMIT }
-    ensures { IfOk result (λ edits. edits.items ≡ put_revision incident known.now community documents.items) }
+    ensures { IfOk result (λ edits.
+        edits.items ≡ put_revision incident known.now community documents.items) }
 {
     let mut edits = Vec::new(alloc);
     if let Some(posted) = documents.pop() {

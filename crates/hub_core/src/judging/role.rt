@@ -13,7 +13,8 @@ use circle::directory::Person;
 /// so nothing needs to be read for it, neither its body nor the shelf.
 pub fn lacks_role(actor: &Person, request: &Request) -> bool
     ensures value { result ≡ lacks_its_role actor.now request.now }
-    ensures refused { result ≡ true → (s : State) → refusal_of s actor.now request.now ≡ Some (bare W1) }
+    ensures refused { result ≡ true → (s : State) →
+        refusal_of s actor.now request.now ≡ Some (bare W1) }
 {
     match request {
         Request::Post(_)

@@ -22,7 +22,8 @@ pub fn search(
     request: &Search,
 ) -> Result<Vec<Edit>, Stop>
     ensures asked { Asks (grounds_by facts.now actor.now (ask.Search request.now)) result }
-    ensures made { IfOk result (λ edits. edits.items ≡ edits_by facts.now actor.now (ask.Search request.now)) }
+    ensures made { IfOk result (λ edits.
+        edits.items ≡ edits_by facts.now actor.now (ask.Search request.now)) }
 {
     bad_if(alloc, is_bad_word(&request.needle), "needle")?;
     if let Some(class) = &request.class {

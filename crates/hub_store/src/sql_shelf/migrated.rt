@@ -21,8 +21,10 @@ impl<S: Alter> SqlShelf<S> {
     ) -> Result<SqlShelf<S>, (OpenFault, Connection<S>)>
         requires older { IsTrue (is_older_version found) }
         requires waits { conn.in_transaction ≡ false }
-        ensures brought { IfOk result (λ shelf. IsBrought found (state S.Store conn) (state S.Store shelf.conn) shelf.failures) }
-        ensures refused { IfErr result (λ e. IsNotBrought found (state S.Store conn) (state S.Store e.1) e.0) }
+        ensures brought { IfOk result (λ shelf.
+            IsBrought found (state S.Store conn) (state S.Store shelf.conn) shelf.failures) }
+        ensures refused { IfErr result (λ e.
+            IsNotBrought found (state S.Store conn) (state S.Store e.1) e.0) }
         ensures idle { IfErr result (λ e. e.1.in_transaction ≡ false) }
     {
         match renew(&mut conn, alloc, found) {
@@ -39,8 +41,10 @@ impl<S: Alter> SqlShelf<S> {
         mut conn: Connection<S>,
     ) -> Result<SqlShelf<S>, (OpenFault, Connection<S>)>
         requires { conn.in_transaction ≡ false }
-        ensures opened { IfOk result (λ shelf. IsMigrated (state S.Store conn) (state S.Store shelf.conn) shelf.failures) }
-        ensures refused { IfErr result (λ e. IsUnmigrated (state S.Store conn) (state S.Store e.1) e.0) }
+        ensures opened { IfOk result (λ shelf.
+            IsMigrated (state S.Store conn) (state S.Store shelf.conn) shelf.failures) }
+        ensures refused { IfErr result (λ e.
+            IsUnmigrated (state S.Store conn) (state S.Store e.1) e.0) }
         ensures idle { IfErr result (λ e. e.1.in_transaction ≡ false) }
     {
         match version(&mut conn) {

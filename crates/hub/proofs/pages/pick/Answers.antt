@@ -1,4 +1,4 @@
-use Rattle.std.proofs.Common.{◌≡◌, ◌≤◌, ◌++◌, [], ◌∷◌, true, not, length, drop, filter, get_or, sym, ap, ◌∙◌, arith}
+use Rattle.std.proofs.Common.{rules, ◌≡◌, ◌≤◌, ◌++◌, [], ◌∷◌, true, not, length, drop, filter, get_or, sym, ap, ◌∙◌, arith}
 use Rattle.std.specs.Result.{is_ok}
 use Rattle.std.proofs.lemmas.Bool.{cond-true}
 use Rattle.std.proofs.lemmas.List.{length-append}
@@ -10,18 +10,26 @@ use Rattle.hub.proofs.Paging.{take_full, picked, passed_over, no_more}
 use Rattle.hub.proofs.pages.pick.Goals as goal
 use Rattle.hub.proofs.pages.pick.Goals.{then-branch+else-is_err, else-branch}
 
-pub returns-then-len-eq-PAGE_LIMIT-clause-value : goal.returns-then-len-eq-PAGE_LIMIT-clause-value
-returns-then-len-eq-PAGE_LIMIT-clause-value g c = λ clean s has sound there.
-    let test = λ (e : Entry). is_wanted_at s c.args.asker.now c.args.asker.person.now c.args.wanted e.number in
-    let full : PAGE_LIMIT ≤ length c.loop-entry.listed.items = omega arith in
-    sym (take_full PAGE_LIMIT c.loop-entry.listed.items (filter test (drop c.loop-entry.entry-index c.args.entries.now)) full c.loop-entry.invariant.room)
-    ∙ c.loop-entry.invariant.told clean s has sound there
+pub returns-then-len-eq-PAGE_LIMIT-clause-found : goal.returns-then-len-eq-PAGE_LIMIT-clause-found
+returns-then-len-eq-PAGE_LIMIT-clause-found g c = record {
+  value = λ clean s has sound there.
+      let test = λ (e : Entry). is_wanted_at s c.args.asker.now c.args.asker.person.now c.args.wanted e.number in
+      let full : PAGE_LIMIT ≤ length c.loop-entry.listed.items = omega arith in
+      sym (take_full PAGE_LIMIT c.loop-entry.listed.items (filter test (drop c.loop-entry.entry-index c.args.entries.now)) full c.loop-entry.invariant.room)
+      ∙ c.loop-entry.invariant.told clean s has sound there;
+  kept = search rules;
+  cause = search rules;
+}
 
-pub returns-clause-value : goal.returns-clause-value
-returns-clause-value g c = λ clean s has sound there.
-    let test = λ (e : Entry). is_wanted_at s c.args.asker.now c.args.asker.person.now c.args.wanted e.number in
-    sym (no_more test c.args.entries.now c.loop-entry.entry-index c.loop-entry.listed.items (omega arith) c.loop-entry.invariant.room)
-    ∙ c.loop-entry.invariant.told clean s has sound there
+pub returns-clause-found : goal.returns-clause-found
+returns-clause-found g c = record {
+  value = λ clean s has sound there.
+      let test = λ (e : Entry). is_wanted_at s c.args.asker.now c.args.asker.person.now c.args.wanted e.number in
+      sym (no_more test c.args.entries.now c.loop-entry.entry-index c.loop-entry.listed.items (omega arith) c.loop-entry.invariant.room)
+      ∙ c.loop-entry.invariant.told clean s has sound there;
+  kept = search rules;
+  cause = search rules;
+}
 
 pub loop-entry-preserved : goal.loop-entry-preserved
 loop-entry-preserved g c =

@@ -1,12 +1,16 @@
-use Rattle.std.proofs.Common.{ap, ◌∙◌}
+use Rattle.std.proofs.Common.{rules, ap, ◌∙◌}
 use Rattle.hub_core.specs.Reads.{entries_after}
 use Rattle.hub.specs.inner.Viewing.{first_being}
 use Rattle.hub.proofs.Seeing.{entry_is}
 use Rattle.hub.proofs.view.entry.Goals as goal
 
-pub returns-clause-value : goal.returns-clause-value
-returns-clause-value g c = λ clean s has sound.
-    let first = first_being c.args.incident in
-    c.first_of.ensures ∙ ap first (c.as_slice.ensures.value ∙ c.in_ok-entries.ensures.value clean s has)
-    ∙ ap (λ k. first (entries_after k 1 s)) c.saturating_sub.ensures
-    ∙ entry_is s c.args.incident sound
+pub returns : goal.returns
+returns g c = record {
+  value = λ clean s has sound.
+      let first = first_being c.args.incident in
+      c.first_of.ensures ∙ ap first (c.as_slice.ensures.value ∙ c.in_ok-entries.ensures.value clean s has)
+      ∙ ap (λ k. first (entries_after k 1 s)) c.saturating_sub.ensures
+      ∙ entry_is s c.args.incident sound;
+  kept = search rules;
+  cause = search rules;
+}

@@ -1,8 +1,11 @@
-use Rattle.std.proofs.Common.{◌∙◌}
+use Rattle.std.proofs.Common.{rules, ◌∙◌}
 use Rattle.kept_documents.proofs.Told.{served}
 use Rattle.kept_documents.proofs.kept_documents.KeptDocumentsShelf.excerpt.Goals as goal
 
-pub returns-in_ok-excerpt-in-Some-clause-value : goal.returns-in_ok-excerpt-in-Some-clause-value
-returns-in_ok-excerpt-in-Some-clause-value g c = λ clean s has.
-    let at = c.prepare.ensures.documents clean s has.0 has.1 (c.args.incident, c.in-Some.document.now) c.in-Some.ensures.kept in
-    c.in_ok-excerpt-in-Some.ensures.told ∙ served c.args.incident c.in-Some.document.now c.args.case c.args.standing s at c.in-Some.ensures.marked
+pub returns-in_ok-excerpt-in-Some : goal.returns-in_ok-excerpt-in-Some
+returns-in_ok-excerpt-in-Some g c = record {
+  value = λ clean s has.
+      let at = c.prepare.ensures.documents clean s has.0 has.1 (c.args.incident, c.in-Some.document.now) c.in-Some.ensures.kept in
+      c.in_ok-excerpt-in-Some.ensures.told ∙ served c.args.incident c.in-Some.document.now c.args.case c.args.standing s at c.in-Some.ensures.marked;
+  kept = search rules;
+}

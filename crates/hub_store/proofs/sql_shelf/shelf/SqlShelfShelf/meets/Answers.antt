@@ -1,5 +1,9 @@
+use Rattle.std.proofs.Common.{rules}
 use Rattle.hub_store.proofs.Telling.{read_keeps}
 use Rattle.hub_store.proofs.sql_shelf.shelf.SqlShelfShelf.meets.Goals as goal
 
-pub returns-clause-kept : goal.returns-clause-kept
-returns-clause-kept g c = read_keeps g.S.Store c.self.inside.conn c.self.inside.failures _ _ _ _ _ c.self.view_is c.find_met-met.ensures.answers c.count_failure.ensures.cause
+pub returns : goal.returns
+returns g c = record {
+  value = search rules;
+  kept = read_keeps g.S.Store c.self.inside.conn c.self.inside.failures _ _ _ _ _ c.self.view_is c.find_met-met.ensures.answers c.count_failure.ensures.cause;
+}
