@@ -40,4 +40,5 @@ returns g c = record {
       (c.in_ok-posted.ensures.value clean s has-3)
       (c.in_ok-counts.ensures s (g.met.L.LookUps.sound c.args.shelf.now s has) shared there c.args.actor.now);
   kept = search rules;
+  cause = search rules;
 }
