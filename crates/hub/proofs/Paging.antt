@@ -24,7 +24,7 @@ use Rattle.redact.specs.declared.want.Want.{Want}
 use Rattle.redact.proofs.Shut.{root-tells-nothing}
 use Rattle.hub_core.specs.Documents.{Lines}
 use Rattle.hub.specs.declared.TheConstants.{PAGE_LIMIT}
-use Rattle.hub.specs.inner.PageFilter.{HasSameWords, admits, shuts_out, is_shut_out, is_told, number_at_end}
+use Rattle.hub.specs.inner.PageFilter.{HasSameWords, admits, shuts_out, is_shut_out, passes_filter, number_at_end}
 use Rattle.hub.specs.declared.page_filter.PageFilter.{PageFilter}
 use Rattle.hub.proofs.Numbered.{above-numbered, counts-drop, counts-take, all_found}
 
@@ -207,7 +207,7 @@ no_more test entries i old past few =
 
 -- ---- what a standing rules out
 
-pub ruled_out : (w : PageFilter) (doc : Lines) (c : Case) (st : Standing) → not (admits w st) ≡ true → is_told w doc c st ≡ false
+pub ruled_out : (w : PageFilter) (doc : Lines) (c : Case) (st : Standing) → not (admits w st) ≡ true → passes_filter w doc c st ≡ false
 ruled_out w doc c st h = by_case (admits w st) h
   where
     by_case : (b : Bool) → not b ≡ true → (b && meets w.want.now doc c st) ≡ false
@@ -215,7 +215,7 @@ ruled_out w doc c st h = by_case (admits w st) h
     by_case false k = refl
 
 -- and what it doesn't is told by the want
-admitted : (w : PageFilter) (doc : Lines) (c : Case) (st : Standing) → not (admits w st) ≡ false → meets w.want.now doc c st ≡ is_told w doc c st
+admitted : (w : PageFilter) (doc : Lines) (c : Case) (st : Standing) → not (admits w st) ≡ false → meets w.want.now doc c st ≡ passes_filter w doc c st
 admitted w doc c st h = by_case (admits w st) h
   where
     by_case : (b : Bool) → not b ≡ false → meets w.want.now doc c st ≡ (b && meets w.want.now doc c st)
@@ -228,11 +228,11 @@ same_met copy want doc c st same =
     ap (λ x. meets_by x (option_map string_bytes copy.class) doc c st) same.needle ∙ ap (λ x. meets_by (option_map string_bytes want.needle) x doc c st) same.class
 
 pub told_there : (s : State) (w : PageFilter) (copy : Want) (st : Standing) (o : Option Incident) (c : Case) → not (admits w st) ≡ false → Some c ≡ option_map (case_for s) o → HasSameWords copy w.want.now →
-    option_map_or (λ (i : Incident). meets copy i.document c st) o false ≡ option_map_or (λ (i : Incident). is_told w i.document (case_for s i) st) o false
+    option_map_or (λ (i : Incident). meets copy i.document c st) o false ≡ option_map_or (λ (i : Incident). passes_filter w i.document (case_for s i) st) o false
 told_there s w copy st None c not_out judged same = refl
 told_there s w copy st (Some i) c not_out judged same =
     let case : c ≡ case_for s i = cc in
-    same_met copy w.want.now i.document c st same ∙ admitted w i.document c st not_out ∙ ap (λ x. is_told w i.document x st) case
+    same_met copy w.want.now i.document c st same ∙ admitted w i.document c st not_out ∙ ap (λ x. passes_filter w i.document x st) case
 
 pub none_told : (test : Incident → Bool) (o : Option Incident) → ((i : Incident) → test i ≡ false) → false ≡ option_map_or test o false
 none_told test None h = refl
@@ -262,11 +262,11 @@ shut_unmet w ls c st shut =
     some_shuts gs h = let any = Any-from_list_any (shuts_out st) gs h in (any.1, (any.0, any.2, any.3), any.4)
 
 pub shut_told : (s : State) (w : PageFilter) (st : Standing) (o : Option Incident) (c : Case) → is_shut_out c st ≡ true → Some c ≡ option_map (case_for s) o →
-    false ≡ option_map_or (λ (i : Incident). is_told w i.document (case_for s i) st) o false
+    false ≡ option_map_or (λ (i : Incident). passes_filter w i.document (case_for s i) st) o false
 shut_told s w st None c shut judged = refl
 shut_told s w st (Some i) c shut judged =
     let case : c ≡ case_for s i = cc in
-    sym (ap (λ x. is_told w i.document x st) (sym case) ∙ untold (admits w st) (shut_unmet w.want.now i.document c st shut))
+    sym (ap (λ x. passes_filter w i.document x st) (sym case) ∙ untold (admits w st) (shut_unmet w.want.now i.document c st shut))
   where
     untold : (b : Bool) {m : Bool} → m ≡ false → (b && m) ≡ false
     untold true h = h

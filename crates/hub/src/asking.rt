@@ -93,7 +93,8 @@ pub fn excerpt_of<Sh: Shelf>(
     shelf.excerpt(incident, case, standing)
 }
 
-/// Whether an incident that is judged by this case meets a want, for a reader of this standing; not where it is missing.
+/// Whether an incident that is judged by this case meets a want, for a reader of this standing; not where it is missing, nor
+/// where its markings aren't accepted.
 pub fn is_met<Sh: Shelf>(
     shelf: &mut Sh,
     incident: u32,

@@ -8,7 +8,7 @@ ghost use Rattle.hub_core.specs.Reads.{case_for};
 ghost use Rattle.hub_core.specs.declared.state.Incident.{Incident};
 ghost use Rattle.hub_core.specs.declared.reply.Entry.{Entry as Listed};
 ghost use Rattle.hub.specs.Replies.{page_of};
-ghost use Rattle.hub.specs.inner.PageFilter.{HasSameWords, admits, shuts_out, is_shut_out, is_told, is_wanted, is_wanted_at, number_at_end};
+ghost use Rattle.hub.specs.inner.PageFilter.{HasSameWords, admits, shuts_out, is_shut_out, passes_filter, is_wanted, is_wanted_at, number_at_end};
 ghost use Rattle.hub_core.specs.Shelves.{Finds};
 ghost use Rattle.hub.specs.inner.Asking.{IsThere};
 
@@ -88,7 +88,7 @@ fn is_wanted_by<Sh: Shelf>(
     ensures { Finds Sh.has Sh.doubts Sh.failed Sh.may_remain shelf.old shelf.new result (λ s.
         IsSound s → IfOk result (λ b. b ≡
         option_map_or (λ (i : Incident).
-        is_told wanted.entry i.document (case_for s i) standing) (incident_of incident s) false)) }
+        passes_filter wanted.entry i.document (case_for s i) standing) (incident_of incident s) false)) }
 {
     if is_ruled_out(wanted, &standing) {
         return Ok(false);

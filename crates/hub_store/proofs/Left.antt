@@ -10,7 +10,7 @@ use Rattle.sqlite.specs.State.{State, HasCleanDisk, Survives}
 use Rattle.hub_core.specs.State as core
 use Rattle.hub_core.specs.Sound.{IsSound}
 use Rattle.hub_store.specs.Content.{Has, CommitsState, StandFor, IsMeaning, MayLeave}
-use Rattle.hub_store.specs.Laws.{Finds}
+use Rattle.hub_store.specs.Laws.{FindsTrees}
 use Rattle.hub_store.specs.Means.{Means, Holds, TreesHold}
 use Rattle.hub_store.specs.Tables.{hub_schema}
 use Rattle.hub_store.proofs.Unique.{same_means}
@@ -42,7 +42,7 @@ left_by_apply old new next s left clean has sound survives may = elim (survives.
 ]
 
 -- a connection that finds trees has the state that they stand for
-pub found_has : (c : State) (db : Trees) (left : Option core.State) → Finds c db → IsMeaning db left → IfSome left (Has c)
+pub found_has : (c : State) (db : Trees) (left : Option core.State) → FindsTrees c db → IsMeaning db left → IfSome left (Has c)
 found_has c db None finds is = tt
 found_has c db (Some s) finds is = record {
   sound = is.sound;

@@ -24,7 +24,7 @@ use Rattle.hub_core.specs.State.{incident_number}
 use Rattle.hub_core.specs.declared.state.Incident.{Incident}
 use Rattle.hub_core.proofs.Keeping.{numbers_above}
 use Rattle.hub_store.specs.Rows.{document_text, incident_row}
-use Rattle.hub_store.specs.Fit.{FitIncident, NamesNone}
+use Rattle.hub_store.specs.Fit.{FitIncident, NamesNoCommunity}
 use Rattle.hub_store.specs.inner.Shown.{ShowsFirst}
 use Rattle.hub_store.specs.Holdings.{IsHeld}
 use Rattle.hub_store.specs.Parts.{held}
@@ -45,7 +45,7 @@ read_back doc accepted utf8 =
     accepted.among (is_utf8-from_IsUtf8 (document_text doc) utf8)
 
 abbrev pub IsStored : Incident → Type 0
-IsStored i = IsAccepted i.document × FitIncident i × NamesNone i
+IsStored i = IsAccepted i.document × FitIncident i × NamesNoCommunity i
 
 -- ---- the next incident
 
@@ -83,7 +83,7 @@ first_back q (x ∷ is) found stored h = go (λ later k. first_back q is later s
 
 pub reads_next : (s : core.State) (number : ℕ) (rows : List Row) (found : Option Incident) → HasTexts s → rows ≡ take 1 (map old_shown (filter (λ (i : Incident). nat_lt number i.naming.number) s.incidents)) → ShowsFirst ShowsIncident rows found → found ≡ incident_above number s
 reads_next s number rows found has is h =
-    first_back (λ (i : Incident). nat_lt number i.naming.number) s.incidents found (all_both (λ (i : Incident). IsAccepted i.document × FitIncident i) NamesNone IsStored (λ i p q. (p.0, p.1, q)) s.incidents (all_both (λ (i : Incident). IsAccepted i.document) FitIncident (λ (i : Incident). IsAccepted i.document × FitIncident i) (λ i p q. (p, q)) s.incidents has.sound.incidents.documents has.texts) has.unnamed) (subst (λ l. ShowsFirst ShowsIncident l found) is h)
+    first_back (λ (i : Incident). nat_lt number i.naming.number) s.incidents found (all_both (λ (i : Incident). IsAccepted i.document × FitIncident i) NamesNoCommunity IsStored (λ i p q. (p.0, p.1, q)) s.incidents (all_both (λ (i : Incident). IsAccepted i.document) FitIncident (λ (i : Incident). IsAccepted i.document × FitIncident i) (λ i p q. (p, q)) s.incidents has.sound.incidents.documents has.texts) has.unnamed) (subst (λ l. ShowsFirst ShowsIncident l found) is h)
 
 pub shows_first : (rows : List Row) (row : Row) (i : Incident) → slice_get rows 0 ≡ Some row → ShowsIncident row i → ShowsFirst ShowsIncident rows (Some i)
 shows_first [] row i is shows = absurd cc

@@ -50,11 +50,11 @@ abbrev pub AreEndless : State → Type 0
 AreEndless s = AllByRecursion IsEndless s.permissions
 
 -- before version 4 no incident names a community
-abbrev pub NamesNone : Incident → Type 0
-NamesNone i = i.naming.community ≡ None
+abbrev pub NamesNoCommunity : Incident → Type 0
+NamesNoCommunity i = i.naming.community ≡ None
 
-abbrev pub NameNone : State → Type 0
-NameNone s = AllByRecursion NamesNone s.incidents
+abbrev pub NoneNamesCommunity : State → Type 0
+NoneNamesCommunity s = AllByRecursion NamesNoCommunity s.incidents
 
 -- with this, where it is asked
 abbrev pub and_if : Bool → Type 0 → Type 0 → Type 0
@@ -66,7 +66,7 @@ and_if false more rest = rest
 abbrev pub FitAs : ℕ → State → Type 0
 FitAs v s =
     and_if (nat_lt v 2) (AllByRecursion FitIncident s.incidents)
-    (and_if (nat_lt v 3) (AreEndless s) (and_if (nat_lt v 4) (NameNone s) (IsFit s)))
+    (and_if (nat_lt v 3) (AreEndless s) (and_if (nat_lt v 4) (NoneNamesCommunity s) (IsFit s)))
 
 -- ---- what a store takes
 

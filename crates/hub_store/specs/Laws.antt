@@ -8,7 +8,7 @@ use Rattle.hub_core.specs.State as core
 use Rattle.hub_store.specs.Content.{Has, IsMeaning, MayLeave}
 
 -- a connection that was just opened finds these trees
-pub record Finds (c : State) (db : Trees) : Type 0 where
+pub record FindsTrees (c : State) (db : Trees) : Type 0 where
   pub opens : Opens c
   pub live : IsLive c
   pub trees : c.committed.trees ≡ db
@@ -17,5 +17,5 @@ pub record Finds (c : State) (db : Trees) : Type 0 where
 -- left there, and where it is a state, the one that finds it has it.
 abbrev pub WhatIsLeftIsFound : {S T : Type 0} → store.Ghosts S → store.Ghosts T → Type 0
 WhatIsLeftIsFound {S} {T} g h =
-    (old : Held S) (new : Held T) (db : Trees) (left : Option core.State) → (state g old).may_leave db → Finds (state h new) db → IsMeaning db left
+    (old : Held S) (new : Held T) (db : Trees) (left : Option core.State) → (state g old).may_leave db → FindsTrees (state h new) db → IsMeaning db left
     → MayLeave (state g old) left × IfSome left (Has (state h new))

@@ -93,7 +93,7 @@ recipient_row r = Int (pos r.incident) ∷ Int (pos (target_key r.target).0) ∷
 abbrev pub endless_row : Permission → Row
 endless_row x = Int (pos x.incident) ∷ Text (pointer_text x.permission.path) ∷ Int (pos (grantee_key x.permission.grantee).0) ∷ Int (pos (grantee_key x.permission.grantee).1) ∷ []
 
--- with its end, as version 3 keeps it
+-- with its end, as later versions keep it
 abbrev pub permission_row : Permission → Row
 permission_row x = endless_row x ++ moment_or_null x.permission.until ∷ []
 

@@ -14,7 +14,7 @@
 //!
 //! - `tables`, `to_version_2`, `to_version_3`, `to_version_4`, `set_version`, `create` and `version`: a new store, and the
 //!   version of one that is there;
-//!   `migrate` and `set_version`: a store of an older version, brought to the newest;
+//!   `migrate` and `old_rows`: a store of an older version, brought to the newest;
 //! - `pair_kind`, `numbers`, `from_row`, `person_rows`, `joined_rows`, `incident_rows`, `item_rows`: values as rows, and rows as values;
 //! - `statement` and `query`: a text that is prepared and run, and asked in a transaction; `any_row`, `ask_pairs`,
 //!   `read_pairs`: the queries that several of these ask;
@@ -25,8 +25,8 @@
 //! - `counts`, `count_incidents`, `directory_facts`: what the facts of a request want;
 //! - `directory_edits`, `put_naming`, `put_lines`, `incident_edits` and `apply`: the edits, each by its statements, in one
 //!   transaction;
-//! - `sql_shelf`: [`SqlShelf`], made, opened, brought up to date and released, its look-ups and its reads; `told`: how a
-//!   failure of the store is told; `laws`: the law of what a crash leaves.
+//! - `sql_shelf`: [`SqlShelf`], made, opened, brought up to date and released, its look-ups and its reads; `failures`: how a
+//!   failure of the store is told, and counted; `laws`: the law of what a crash leaves.
 #![tactic(auto)]
 
 mod any_row;

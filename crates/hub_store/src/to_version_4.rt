@@ -12,7 +12,7 @@ ghost use Rattle.hub_store.specs.Tables.{schema_by, without_naming, hub_schema};
 ghost use Rattle.hub_store.specs.Layout.{parts_3, renumbered_3, without_namings, with_namings};
 ghost use Rattle.hub_store.specs.Fit.{AreTaken};
 ghost use Rattle.hub_store.specs.Parts.{HoldsParts};
-ghost use Rattle.hub_store.specs.inner.Beside.{CanName, IsUnnamedRow, unnamed_row, without_community};
+ghost use Rattle.hub_store.specs.inner.Beside.{CanName, IsShownBefore4, unnamed_row, without_community};
 ghost use Rattle.hub_store.specs.inner.Moving.{naming_in};
 ghost use Rattle.hub_store.specs.inner.Shown.{naming_shown_2};
 ghost use Rattle.hub_store.specs.Keeps.{Goes};
@@ -92,11 +92,11 @@ fn read_rows<S: Alter>(tx: &mut Transaction<'_, S>) -> Result<Vec<Row>, Error>
 fn put_row<S: Alter>(tx: &mut Transaction<'_, S>, row: &Row) -> Result<(), Error>
     ensures same_reference { tx.new.conn.ghost_name ≡ tx.old.conn.ghost_name }
     ensures goes { Goes (state S.Store tx.old.conn.now) (state S.Store tx.new.conn.now) result }
-    ensures made { IsUnnamedRow row.now → (s : State) → (rows more : List Columns) →
+    ensures made { IsShownBefore4 row.now → (s : State) → (rows more : List Columns) →
         IsPermutation (without_community row.now ∷ rows) more →
         Makes (state S.Store tx.old.conn.now) (state S.Store tx.new.conn.now)
         (HoldsParts (with_namings rows s)) (HoldsParts (with_namings more s)) result }
-    ensures cause { IsUnnamedRow row.now → (s : State) → (rows : List Columns) →
+    ensures cause { IsShownBefore4 row.now → (s : State) → (rows : List Columns) →
         CanName unnamed_row (without_community row.now ∷ rows) →
         FailsOnly (state S.Store tx.old.conn.now) (state S.Store tx.new.conn.now)
         (HoldsParts (with_namings rows s)) result }
@@ -115,11 +115,11 @@ fn put_row<S: Alter>(tx: &mut Transaction<'_, S>, row: &Row) -> Result<(), Error
 fn put_rows<S: Alter>(tx: &mut Transaction<'_, S>, rows: &[Row]) -> Result<(), Error>
     ensures same_reference { tx.new.conn.ghost_name ≡ tx.old.conn.ghost_name }
     ensures goes { Goes (state S.Store tx.old.conn.now) (state S.Store tx.new.conn.now) result }
-    ensures made { AllByRecursion IsUnnamedRow rows.now → (s : State) →
+    ensures made { AllByRecursion IsShownBefore4 rows.now → (s : State) →
         Makes (state S.Store tx.old.conn.now) (state S.Store tx.new.conn.now)
         (HoldsParts (with_namings [] s))
         (HoldsParts (with_namings (map without_community rows.now) s)) result }
-    ensures cause { AllByRecursion IsUnnamedRow rows.now → (s : State) →
+    ensures cause { AllByRecursion IsShownBefore4 rows.now → (s : State) →
         CanName unnamed_row (map without_community rows.now) →
         FailsOnly (state S.Store tx.old.conn.now) (state S.Store tx.new.conn.now)
         (HoldsParts (with_namings [] s)) result }
@@ -134,11 +134,11 @@ fn put_rows<S: Alter>(tx: &mut Transaction<'_, S>, rows: &[Row]) -> Result<(), E
 fn move_rows<S: Alter>(tx: &mut Transaction<'_, S>, rows: &[Row]) -> Result<(), Error>
     ensures same_reference { tx.new.conn.ghost_name ≡ tx.old.conn.ghost_name }
     ensures goes { Goes (state S.Store tx.old.conn.now) (state S.Store tx.new.conn.now) result }
-    ensures made { AllByRecursion IsUnnamedRow rows.now → (s : State) →
+    ensures made { AllByRecursion IsShownBefore4 rows.now → (s : State) →
         Makes (state S.Store tx.old.conn.now) (state S.Store tx.new.conn.now)
         (HoldsParts (renumbered_3 4 s))
         (HoldsParts (with_namings (map without_community rows.now) s)) result }
-    ensures cause { AllByRecursion IsUnnamedRow rows.now → (s : State) →
+    ensures cause { AllByRecursion IsShownBefore4 rows.now → (s : State) →
         CanName unnamed_row (map without_community rows.now) →
         FailsOnly (state S.Store tx.old.conn.now) (state S.Store tx.new.conn.now)
         (HoldsParts (renumbered_3 4 s)) result }

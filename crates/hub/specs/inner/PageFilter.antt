@@ -35,13 +35,13 @@ pub record HasSameWords (copy want : Want) : Type 0 where
   pub needle : option_map string_bytes copy.needle ≡ option_map string_bytes want.needle
   pub class : option_map string_bytes copy.class ≡ option_map string_bytes want.class
 
--- whether a page lists what a person is told of so
-abbrev pub is_told : PageFilter → Lines → Case → Standing → Bool
-is_told w doc c st = admits w st && meets w.want.now doc c st
+-- a page of this kind lists a report, for a reader of this standing
+abbrev pub passes_filter : PageFilter → Lines → Case → Standing → Bool
+passes_filter w doc c st = admits w st && meets w.want.now doc c st
 
 -- whether a page lists the incident
 abbrev pub is_wanted : State → ℤ → Person → PageFilter → Incident → Bool
-is_wanted s now p w i = is_told w i.document (case_for s i) (standing_at s now p i)
+is_wanted s now p w i = passes_filter w i.document (case_for s i) (standing_at s now p i)
 
 -- whether it lists the incident of this number
 abbrev pub is_wanted_at : State → ℤ → Person → PageFilter → ℕ → Bool

@@ -1,4 +1,4 @@
--- The table of the lines while a migration fills it, beside the tables of version 1.
+-- The tables that a migration fills, beside those that stand: the lines of the documents, the incidents, the permissions.
 use Rattle.std.specs.Prelude.{◌≡◌, ◌<◌, ◌^◌, ◌&&◌, ℕ, suc, pos, Bool, false, List, [], ◌∷◌, ◌++◌, length}
 use Rattle.std.specs.List.{AllByRecursion}
 use Rattle.sqlite_value.specs.declared.value.Value.TheVariants.{Null, Int}
@@ -55,7 +55,7 @@ NumbersApart a b = (is_eq (value_cmp (rowid a) (rowid b)) ≡ false) × (is_eq (
 abbrev pub IdentsApart : Row → Row → Type 0
 IdentsApart a b = (begin_alike 2 a b ≡ false) × (begin_alike 2 b a ≡ false)
 
--- as a version keeps it
+-- the row of an incident, which is short enough, as a version keeps it
 abbrev pub IsShortNaming : (Naming → Row) → Row → Type 0
 IsShortNaming kept row = (k : Naming) × (row ≡ kept k) × IsShort row × (k.number < 2 ^ 63)
 
@@ -73,8 +73,8 @@ unnamed_row k = naming_row_2 k ++ Null ∷ []
 abbrev pub without_community : Row → Row
 without_community r = column r 0 ∷ Null ∷ column r 1 ∷ column r 2 ∷ column r 3 ∷ Null ∷ []
 
-abbrev pub IsUnnamedRow : Row → Type 0
-IsUnnamedRow row = (k : Naming) × (row ≡ naming_shown_2 k)
+abbrev pub IsShownBefore4 : Row → Type 0
+IsShownBefore4 row = (k : Naming) × (row ≡ naming_shown_2 k)
 
 -- ---- the table of the permissions, while it is filled again
 

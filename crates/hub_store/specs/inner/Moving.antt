@@ -11,7 +11,7 @@ use Rattle.hub_core.specs.State.{State}
 use Rattle.hub_core.specs.declared.TheConstants.{INCIDENT_LIMIT}
 use Rattle.hub_core.specs.declared.state.Incident.{Incident}
 use Rattle.hub_core.specs.declared.state.Naming.{Naming}
-use Rattle.hub_store.specs.Fit.{FitIncident, NameNone}
+use Rattle.hub_store.specs.Fit.{FitIncident, NoneNamesCommunity}
 use Rattle.hub_store.specs.Rows.{document_text}
 use Rattle.hub_store.specs.inner.Shown.{naming_shown_2}
 use Rattle.hub_store.specs.Items.{items_in, item_row}
@@ -50,7 +50,7 @@ ReadsFirst (row ∷ rows) = (i : Incident) × (row ≡ old_shown i) × IsReadabl
 pub record HasTexts (s : State) : Type 0 where
   pub sound : IsSound s
   pub texts : AllByRecursion FitIncident s.incidents
-  pub unnamed : NameNone s
+  pub unnamed : NoneNamesCommunity s
 
 -- what is kept of the incidents beside their documents
 abbrev pub naming_in : List Incident → List Naming

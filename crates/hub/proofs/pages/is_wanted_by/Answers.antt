@@ -1,5 +1,5 @@
 use Rattle.std.proofs.Common.{rules, ◌≡◌, Bool, IfOk, sym, subst, ◌∙◌, arith}
-use Rattle.hub.specs.inner.PageFilter.{is_told}
+use Rattle.hub.specs.inner.PageFilter.{passes_filter}
 use Rattle.hub_core.specs.State.{incident_of}
 use Rattle.hub_core.specs.Reads.{case_for}
 use Rattle.hub_core.specs.declared.state.Incident.{Incident}
@@ -9,7 +9,7 @@ use Rattle.hub.proofs.pages.is_wanted_by.Goals as goal
 pub returns-then-is_ruled_out : goal.returns-then-is_ruled_out
 returns-then-is_ruled_out g c = record {
   value = λ clean s has sound.
-      none_told (λ (i : Incident). is_told c.args.wanted i.document (case_for s i) c.args.standing) (incident_of c.args.incident s)
+      none_told (λ (i : Incident). passes_filter c.args.wanted i.document (case_for s i) c.args.standing) (incident_of c.args.incident s)
       (λ i. ruled_out c.args.wanted i.document (case_for s i) c.args.standing (sym c.is_ruled_out.ensures ∙ c.if-is_ruled_out.true));
   kept = search rules;
   cause = search rules;
