@@ -10,7 +10,7 @@ use Rattle.iodef_tree.specs.declared.line.Line.{Line}
 use Rattle.iodef_tree.specs.declared.fault.ReadFault.{ReadFault}
 use Rattle.marking.specs.Marks.{marked_at, first_bad_marking}
 use Rattle.hub_cli.specs.Lines.{line_of}
-use Rattle.hub_cli.specs.declared.mark.Expected.{Expected}
+use Rattle.hub_cli.specs.declared.mark.Selection.{Selection}
 use Rattle.hub_cli.specs.declared.mark.MarkFault.{MarkFault}
 use Rattle.hub_cli.specs.declared.mark.MarkFault.TheVariants.{Body, BadMarking, NoClass, NoMemory}
 
@@ -35,12 +35,12 @@ abbrev pub text_of_document : Option Tokens → List Line → Result Bytes MarkF
 text_of_document class ls = let es = located ls in unless_bad (first_bad_marking es) (text_of_wanted class es)
 
 -- of the document of the Incident at the place that is wanted
-abbrev pub text_of_read : Expected → Result (List (List Line)) ReadFault → Result Bytes MarkFault
+abbrev pub text_of_read : Selection → Result (List (List Line)) ReadFault → Result Bytes MarkFault
 text_of_read w (Ok documents) = option_map_or (text_of_document w.class) (slice_get documents w.place) (Err NoClass)
 text_of_read w (Err fault) = Err (Body fault)
 
 -- what `mark` prints of a body
-abbrev pub mark_text : Expected → Bytes → Result Bytes MarkFault
+abbrev pub mark_text : Selection → Bytes → Result Bytes MarkFault
 mark_text w body = text_of_read w (reading body)
 
 -- What a call returned is this, unless memory ran out.
