@@ -35,7 +35,7 @@ fn body_of(reply: &[u8]) -> &str {
 }
 
 /// The body of both replies where they are the same bytes, else that of each.
-fn told(alloc: Global, one: &[u8], other: &[u8]) -> Result<String, AllocError> {
+fn describe(alloc: Global, one: &[u8], other: &[u8]) -> Result<String, AllocError> {
     let first = body_of(one);
     let second = body_of(other);
     if one == other {
@@ -58,7 +58,7 @@ fn told_by_hubs<A: Shelf + Drop, B: Shelf + Drop>(
     let mut lines = Vec::new(alloc);
     for Asked { key, request } in asked {
         let (one, two) = told_by_both(alloc, &mut first, &mut other, MOMENT, key, request)?;
-        lines.push(told(alloc, &one, &two)?)?;
+        lines.push(describe(alloc, &one, &two)?)?;
     }
     Ok(Some(lines))
 }

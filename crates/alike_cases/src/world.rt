@@ -27,7 +27,7 @@ fn are_made<Sh: Shelf>(alloc: Global, hub: &mut Hub<Sh>, asked: &[Asked]) -> boo
 }
 
 /// The hub over a shelf, empty before, behind the requests of a world; none where one of them is refused.
-fn peopled<Sh: Shelf + Drop>(
+fn populate<Sh: Shelf + Drop>(
     alloc: Global,
     mut shelf: Sh,
     world: World<'_>,
@@ -47,7 +47,7 @@ fn peopled<Sh: Shelf + Drop>(
 
 /// The world in memory.
 pub fn in_lists(alloc: Global, world: World<'_>) -> Result<Option<Hub<ListShelf>>, AllocError> {
-    peopled(alloc, ListShelf::new(alloc), world)
+    populate(alloc, ListShelf::new(alloc), world)
 }
 
 /// The world in tables.
@@ -60,7 +60,7 @@ pub fn in_tables(
         return Ok(None);
     }
     match SqlShelf::create(alloc, conn) {
-        Ok(shelf) => peopled(alloc, shelf, world),
+        Ok(shelf) => populate(alloc, shelf, world),
         Err(_) => Ok(None),
     }
 }

@@ -65,7 +65,7 @@ fn text_of(reply: Option<&Vec<u8>>) -> &str {
 }
 
 impl<'a> Asker<'a> {
-    fn asked(&self, world: World) -> Result<Option<Asked>, Fault> {
+    fn ask(&self, world: World) -> Result<Option<Asked>, Fault> {
         let Some(reader) = Reader::of(&world, self.who) else {
             return Ok(None);
         };
@@ -197,7 +197,7 @@ impl<'a> Asker<'a> {
         else {
             return Ok(from);
         };
-        let Some(other) = self.asked(world)? else {
+        let Some(other) = self.ask(world)? else {
             return Ok(from);
         };
         self.judge(tally, &from, &other, (step, left_out))?;
@@ -220,7 +220,7 @@ pub fn agree_on_chain(
         who,
         questions,
     };
-    let Some(mut at) = asker.asked(world)? else {
+    let Some(mut at) = asker.ask(world)? else {
         return Ok(());
     };
     for _ in 0..STEPS {

@@ -77,7 +77,7 @@ impl<'a> Reader<'a> {
     }
 
     /// How strictly handled the person may see what is in the report.
-    fn cleared(&self, report: &Report) -> u32 {
+    fn clearance(&self, report: &Report) -> u32 {
         if report.recipients.contains(&Target::Person(self.who)) {
             4
         } else if self.own.nominated && report.recipients.contains(&Target::Org(self.own.org)) {
@@ -92,7 +92,7 @@ impl<'a> Reader<'a> {
     }
 
     /// How strictly the source wants handled what is marked `default`.
-    fn arranged(&self, source: u32) -> u32 {
+    fn arrangement(&self, source: u32) -> u32 {
         let found = self
             .circle
             .arrangements
@@ -118,7 +118,7 @@ impl<'a> Reader<'a> {
     }
 
     /// Why the gate refuses the person, which isn't of the source; none where it lets pass.
-    fn refused(&self, source: u32, reach: Reach) -> Option<Why> {
+    fn refusal(&self, source: u32, reach: Reach) -> Option<Why> {
         let shares = self.circle.share_community(self.own.org, source);
         let group = reach.group.unwrap_or(0);
         let passes = match reach.level {
@@ -149,7 +149,7 @@ impl<'a> Reader<'a> {
             ascent.label = class.label;
         }
         if let Some(reach) = class.gate {
-            let refused = self.refused(source, reach);
+            let refused = self.refusal(source, reach);
             ascent.refused = refused.or(ascent.refused);
         }
     }
@@ -165,7 +165,7 @@ impl<'a> Reader<'a> {
         for class in report.classes.iter().rev().skip(behind) {
             self.go_up(&mut ascent, report.source, class);
         }
-        ascent.refused = self.refused(report.source, report.reach).or(ascent.refused);
+        ascent.refused = self.refusal(report.source, report.reach).or(ascent.refused);
         ascent
     }
 
@@ -175,10 +175,10 @@ impl<'a> Reader<'a> {
             return None;
         }
         let ascent = self.ascent(report, place);
-        let rank = rank_of(ascent.label, self.arranged(report.source));
+        let rank = rank_of(ascent.label, self.arrangement(report.source));
         if ascent.refused.is_some() {
             ascent.refused
-        } else if rank <= self.cleared(report) || ascent.is_covered {
+        } else if rank <= self.clearance(report) || ascent.is_covered {
             None
         } else {
             Some(Why::Handled(rank))

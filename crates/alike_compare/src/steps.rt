@@ -7,7 +7,7 @@ use crate::told::{same_withheld, withheld_of};
 use crate::worlds::{
     PERSONS, any_community, any_label, any_reach, any_report, any_target, push_tree,
 };
-use crate::writing::{ALONE, BESIDE, DEEPEST, NOTE_COUNT, spelled};
+use crate::writing::{ALONE, BESIDE, DEEPEST, NOTE_COUNT, plain_label};
 use std::alloc::{AllocError, Global};
 use trying::Dice;
 
@@ -103,7 +103,7 @@ fn label_at(report: &Report, place: usize) -> u32 {
     report
         .classes
         .get(place)
-        .map_or(0, |class| spelled(class.label))
+        .map_or(0, |class| plain_label(class.label))
 }
 
 /// Other plain lines in a class.
@@ -193,7 +193,7 @@ fn any_cut(
 }
 
 /// The classes with some of them exchanged.
-fn exchanged(alloc: Global, classes: &[Class], cut: &Cut) -> Result<Vec<Class>, AllocError> {
+fn exchange(alloc: Global, classes: &[Class], cut: &Cut) -> Result<Vec<Class>, AllocError> {
     let mut all = Vec::new(alloc);
     let before = classes.iter().take(cut.from);
     let behind = classes.iter().skip(cut.to);
@@ -243,7 +243,7 @@ pub fn other_class(
     let Some(cut) = any_cut(alloc, dice, report, place)? else {
         return Ok(None);
     };
-    other.classes = exchanged(alloc, &report.classes, &cut)?;
+    other.classes = exchange(alloc, &report.classes, &cut)?;
     if cut.from == 0 {
         other.ident = ident;
     }

@@ -2,7 +2,7 @@
 
 use crate::reader::{Reader, Why};
 use crate::rows::{GROUPS, Report, World, end_of, number_at};
-use crate::writing::{PRIVATE, spelled};
+use crate::writing::{PRIVATE, plain_label};
 use circle::directory::Role;
 use std::alloc::{AllocError, Global};
 
@@ -43,7 +43,7 @@ fn code(why: Why) -> u32 {
 }
 
 impl<'a> Telling<'a> {
-    fn kept(&self, place: usize, why: Option<Why>) -> Kept {
+    fn keep(&self, place: usize, why: Option<Why>) -> Kept {
         let end = end_of(&self.report.classes, place);
         match why {
             None => Kept::Seen,
@@ -65,7 +65,7 @@ impl<'a> Telling<'a> {
         let Some(class) = self.report.classes.get(place) else {
             return Ok(());
         };
-        let nearest = match spelled(self.reader.label(self.report, place)) {
+        let nearest = match plain_label(self.reader.label(self.report, place)) {
             0 => PRIVATE,
             label => label,
         };
@@ -90,7 +90,7 @@ impl<'a> Telling<'a> {
         self.above.truncate(class.depth as usize);
         let (number, over) = self.above.last().copied().unwrap_or((0, Kept::Frame));
         let why = self.reader.hidden(self.report, place);
-        let kept = self.kept(place, why);
+        let kept = self.keep(place, why);
         if kept == Kept::Hidden {
             self.above.push((number, kept))?;
             return match why {

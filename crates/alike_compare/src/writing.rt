@@ -84,7 +84,7 @@ pub fn rank_of(label: u32, arranged: u32) -> u32 {
 }
 
 /// The label that is spelled, without what stands beside it.
-pub fn spelled(label: u32) -> u32 {
+pub fn plain_label(label: u32) -> u32 {
     if label == BESIDE { ALONE } else { label }
 }
 

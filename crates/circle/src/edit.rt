@@ -127,7 +127,8 @@ fn unless_same(one: u32, other: u32, field: &'static str, edit: RowEdit) -> Resu
 fn fit_name(alloc: Global, text: &Text) -> Result<Name, Unfit>
     ensures good { OnOk result (is_name text.now ≡ true) }
     ensures value { IfOk result (λ name. name ≡ text.now) }
-    ensures bad { IfErr result (TellsUnfit (field_if (not (is_name text.now)) (codes "name") None)) }
+    ensures bad { IfErr result (TellsUnfit
+        (field_if (not (is_name text.now)) (codes "name") None)) }
 {
     match Name::of(alloc, text.as_str()) {
         Ok(Some(name)) => Ok(name),
@@ -139,7 +140,8 @@ fn fit_name(alloc: Global, text: &Text) -> Result<Name, Unfit>
 fn fit_releasability(alloc: Global, text: &Text) -> Result<Releasability, Unfit>
     ensures good { OnOk result (is_releasability text.now ≡ true) }
     ensures value { IfOk result (λ found. found ≡ text.now) }
-    ensures bad { IfErr result (TellsUnfit (field_if (not (is_releasability text.now)) (codes "releasability") None)) }
+    ensures bad { IfErr result
+        (TellsUnfit (field_if (not (is_releasability text.now)) (codes "releasability") None)) }
 {
     match Releasability::of(alloc, text.as_str()) {
         Ok(Some(releasability)) => Ok(releasability),
@@ -150,8 +152,10 @@ fn fit_releasability(alloc: Global, text: &Text) -> Result<Releasability, Unfit>
 
 fn new_org(alloc: Global, number: u32, name: &Text) -> Result<Edit, Unfit>
     ensures good { OnOk result (field_if (not (is_name name.now)) (codes "name") None ≡ None) }
-    ensures value { IfOk result (λ edit. edit ≡ Row (PutOrg (record { number = number; name = name.now }))) }
-    ensures bad { IfErr result (TellsUnfit (field_if (not (is_name name.now)) (codes "name") None)) }
+    ensures value { IfOk result (λ edit. edit ≡
+        Row (PutOrg (record { number = number; name = name.now }))) }
+    ensures bad { IfErr result (TellsUnfit
+        (field_if (not (is_name name.now)) (codes "name") None)) }
 {
     let name = fit_name(alloc, name)?;
     Ok(Edit::Row(RowEdit::PutOrg(Org { number, name })))
@@ -166,8 +170,21 @@ fn new_account(
     key: [u8; 32],
 ) -> Result<Edit, Unfit>
     ensures good { OnOk result (field_if (not (is_name name.now)) (codes "name") None ≡ None) }
-    ensures value { IfOk result (λ edit. edit ≡ Row (PutAccount (record { person = record { number = number; org = org; name = name.now; role = role; active = true; nominated = false }; key = key }))) }
-    ensures bad { IfErr result (TellsUnfit (field_if (not (is_name name.now)) (codes "name") None)) }
+    ensures value { IfOk result (λ edit. edit ≡
+        Row (PutAccount
+        (record {
+          person = record {
+            number = number;
+            org = org;
+            name = name.now;
+            role = role;
+            active = true;
+            nominated = false;
+          };
+          key = key;
+        }))) }
+    ensures bad { IfErr result (TellsUnfit
+        (field_if (not (is_name name.now)) (codes "name") None)) }
 {
     let name = fit_name(alloc, name)?;
     let person = Person {
@@ -183,8 +200,10 @@ fn new_account(
 
 fn new_community(alloc: Global, number: u32, name: &Text) -> Result<Edit, Unfit>
     ensures good { OnOk result (field_if (not (is_name name.now)) (codes "name") None ≡ None) }
-    ensures value { IfOk result (λ edit. edit ≡ Row (PutCommunity (record { number = number; name = name.now }))) }
-    ensures bad { IfErr result (TellsUnfit (field_if (not (is_name name.now)) (codes "name") None)) }
+    ensures value { IfOk result (λ edit. edit ≡
+        Row (PutCommunity (record { number = number; name = name.now }))) }
+    ensures bad { IfErr result (TellsUnfit
+        (field_if (not (is_name name.now)) (codes "name") None)) }
 {
     let name = fit_name(alloc, name)?;
     Ok(Edit::Row(RowEdit::PutCommunity(Community { number, name })))
@@ -197,9 +216,19 @@ fn new_group(
     name: &Text,
     releasability: &Text,
 ) -> Result<Edit, Unfit>
-    ensures good { OnOk result (field_if (not (is_name name.now)) (codes "name") (field_if (not (is_releasability releasability.now)) (codes "releasability") None) ≡ None) }
-    ensures value { IfOk result (λ edit. edit ≡ Found (record { number = number; owner = owner; name = name.now; releasability = releasability.now; active = true })) }
-    ensures bad { IfErr result (TellsUnfit (field_if (not (is_name name.now)) (codes "name") (field_if (not (is_releasability releasability.now)) (codes "releasability") None))) }
+    ensures good { OnOk result (field_if (not (is_name name.now)) (codes "name")
+        (field_if (not (is_releasability releasability.now)) (codes "releasability") None) ≡ None) }
+    ensures value { IfOk result (λ edit. edit ≡
+        Found (record {
+          number = number;
+          owner = owner;
+          name = name.now;
+          releasability = releasability.now;
+          active = true;
+        })) }
+    ensures bad { IfErr result
+        (TellsUnfit (field_if (not (is_name name.now)) (codes "name")
+        (field_if (not (is_releasability releasability.now)) (codes "releasability") None))) }
 {
     let name = fit_name(alloc, name)?;
     let releasability = fit_releasability(alloc, releasability)?;

@@ -24,10 +24,14 @@ pub fn judge(
     facts: &CircleFacts,
     command: &CircleCommand,
 ) -> Result<Edit, Refusal>
-    ensures refused { (d : Directory) → facts.now ≡ facts_of d actor.now command.now → IfErr result (RefusedAs (refusal_of d actor.now command.now)) }
-    ensures allowed { (d : Directory) → facts.now ≡ facts_of d actor.now command.now → OnOk result (refusal_of d actor.now command.now ≡ None) }
-    ensures edit { IfOk result (λ edit. edit ≡ edit_of (facts.now.count + 1) actor.now command.now) }
-    ensures made { (d : Directory) → IsSound d → facts.now ≡ facts_of d actor.now command.now → IfOk result (λ edit. edited edit d ≡ state_after d actor.now command.now) }
+    ensures refused { (d : Directory) → facts.now ≡ facts_of d actor.now command.now →
+        IfErr result (RefusedAs (refusal_of d actor.now command.now)) }
+    ensures allowed { (d : Directory) → facts.now ≡ facts_of d actor.now command.now →
+        OnOk result (refusal_of d actor.now command.now ≡ None) }
+    ensures edit { IfOk result (λ edit. edit ≡
+        edit_of (facts.now.count + 1) actor.now command.now) }
+    ensures made { (d : Directory) → IsSound d → facts.now ≡ facts_of d actor.now command.now →
+        IfOk result (λ edit. edited edit d ≡ state_after d actor.now command.now) }
 {
     judge_by_facts(alloc, actor, facts, command)
 }
@@ -41,7 +45,8 @@ fn judge_by_facts(
 ) -> Result<Edit, Refusal>
     ensures refused { IfErr result (RefusedAs (refusal_by facts.now actor.now command.now)) }
     ensures allowed { OnOk result (refusal_by facts.now actor.now command.now ≡ None) }
-    ensures edit { IfOk result (λ edit. edit ≡ edit_of (facts.now.count + 1) actor.now command.now) }
+    ensures edit { IfOk result (λ edit. edit ≡
+        edit_of (facts.now.count + 1) actor.now command.now) }
 {
     if !command.is_allowed(actor.role) {
         return Err(Refusal::bare(alloc, Code::W1));

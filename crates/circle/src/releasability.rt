@@ -26,7 +26,8 @@ impl Model for Releasability {
 impl Releasability {
     /// The text as a releasability; `None` where it is too long.
     pub fn of(alloc: Global, text: &str) -> Result<Option<Releasability>, AllocError>
-        ensures { IfOk result (λ found. found ≡ (if is_releasability text.now then Some text.now else None)) }
+        ensures { IfOk result (λ found. found ≡
+            (if is_releasability text.now then Some text.now else None)) }
     {
         if RELEASABILITY_LIMIT < text.len() {
             return Ok(None);

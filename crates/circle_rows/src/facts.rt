@@ -10,7 +10,11 @@ use circle::directory::Person;
 impl DirectoryRows {
     /// The facts of the actor's command. The count goes as far as a u32 counts, which is further than a sound directory does.
     pub fn facts(&self, actor: &Person, command: &CircleCommand) -> CircleFacts
-        ensures told { result ≡ record (facts_of self.now actor.now command.now) { count = min (count_in self.now command.now) 4294967295 } }
+        ensures told { result ≡ record
+            (facts_of self.now actor.now command.now) {
+              count = min
+                  (count_in self.now command.now) 4294967295;
+            } }
         ensures exact { IsSound self.now → result ≡ facts_of self.now actor.now command.now }
     {
         CircleFacts {

@@ -27,7 +27,9 @@ fn is_below(one: (u32, u32), other: (u32, u32)) -> bool
 /// How many rows stand below the key.
 fn count_below<T: Keyed>(rows: &[T], key: (u32, u32)) -> usize
     ensures bound { result ≤ length rows.now }
-    ensures parted { Ascend T.key rows.now → IsPartitionPoint (λ x. is_lt (pair_cmp (T.key x) key) ≡ true) (λ x. is_lt (pair_cmp (T.key x) key) ≡ false) rows.now result }
+    ensures parted { Ascend T.key rows.now →
+        IsPartitionPoint (λ x. is_lt (pair_cmp (T.key x) key) ≡ true) (λ x.
+        is_lt (pair_cmp (T.key x) key) ≡ false) rows.now result }
 {
     rows.partition_point(|row| is_below(row.key(), key))
 }
@@ -35,7 +37,9 @@ fn count_below<T: Keyed>(rows: &[T], key: (u32, u32)) -> usize
 /// How many rows don't stand above the key.
 fn count_within<T: Keyed>(rows: &[T], key: (u32, u32)) -> usize
     ensures bound { result ≤ length rows.now }
-    ensures parted { Ascend T.key rows.now → IsPartitionPoint (λ x. is_lt (pair_cmp key (T.key x)) ≡ false) (λ x. is_lt (pair_cmp key (T.key x)) ≡ true) rows.now result }
+    ensures parted { Ascend T.key rows.now →
+        IsPartitionPoint (λ x. is_lt (pair_cmp key (T.key x)) ≡ false) (λ x.
+        is_lt (pair_cmp key (T.key x)) ≡ true) rows.now result }
 {
     rows.partition_point(|row| !is_below(key, row.key()))
 }
@@ -57,7 +61,8 @@ pub(crate) fn has_row<T: Keyed>(rows: &[T], key: (u32, u32)) -> bool
 
 /// The first row of this key.
 pub(crate) fn row_of<T: Keyed>(rows: &[T], key: (u32, u32)) -> Option<&T>
-    ensures { Ascend T.key rows.now → option_copied result ≡ find (λ x. same_pair (T.key x) key) rows.now }
+    ensures { Ascend T.key rows.now →
+        option_copied result ≡ find (λ x. same_pair (T.key x) key) rows.now }
 {
     rows_of_key(rows, key).first()
 }
@@ -65,7 +70,8 @@ pub(crate) fn row_of<T: Keyed>(rows: &[T], key: (u32, u32)) -> Option<&T>
 /// Puts the row in before the first one above it. There is room, so it takes no memory.
 pub(crate) fn put_row<T: Keyed + Drop>(rows: &mut Vec<T>, row: T)
     requires { vec_len rows.old < vec_capacity rows.old }
-    ensures items { Ascend T.key rows.old.items → rows.new.items ≡ put_by (by_pair T.key) row rows.old.items }
+    ensures items { Ascend T.key rows.old.items →
+        rows.new.items ≡ put_by (by_pair T.key) row rows.old.items }
     ensures len { vec_len rows.new ≡ vec_len rows.old + 1 }
     ensures capacity { vec_capacity rows.old ≤ vec_capacity rows.new }
 {

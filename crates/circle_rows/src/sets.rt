@@ -114,7 +114,8 @@ impl Sets {
 }
 
 fn suspend(rows: &mut Vec<Account>, person: u32)
-    ensures items { rows.new.items ≡ exchange_account person (λ p. record p { active = false }) rows.old.items }
+    ensures items { rows.new.items ≡
+        exchange_account person (λ p. record p { active = false }) rows.old.items }
     ensures len { vec_len rows.new ≡ vec_len rows.old }
     ensures capacity { vec_capacity rows.new ≡ vec_capacity rows.old }
 {
@@ -124,7 +125,8 @@ fn suspend(rows: &mut Vec<Account>, person: u32)
 }
 
 fn suspend_row(row: &mut Account, person: u32)
-    ensures { row.new ≡ (if row.old.person.number == person then record (row.old) { person = record (row.old.person) { active = false } } else row.old) }
+    ensures { row.new ≡ (if row.old.person.number == person then record
+        (row.old) { person = record (row.old.person) { active = false } } else row.old) }
 {
     if row.person.number == person {
         row.person.active = false;
@@ -132,7 +134,8 @@ fn suspend_row(row: &mut Account, person: u32)
 }
 
 fn nominate(rows: &mut Vec<Account>, person: u32, nominated: bool)
-    ensures items { rows.new.items ≡ exchange_account person (λ p. record p { nominated = nominated }) rows.old.items }
+    ensures items { rows.new.items ≡
+        exchange_account person (λ p. record p { nominated = nominated }) rows.old.items }
     ensures len { vec_len rows.new ≡ vec_len rows.old }
     ensures capacity { vec_capacity rows.new ≡ vec_capacity rows.old }
 {
@@ -142,7 +145,8 @@ fn nominate(rows: &mut Vec<Account>, person: u32, nominated: bool)
 }
 
 fn nominate_row(row: &mut Account, person: u32, nominated: bool)
-    ensures { row.new ≡ (if row.old.person.number == person then record (row.old) { person = record (row.old.person) { nominated = nominated } } else row.old) }
+    ensures { row.new ≡ (if row.old.person.number == person then record
+        (row.old) { person = record (row.old.person) { nominated = nominated } } else row.old) }
 {
     if row.person.number == person {
         row.person.nominated = nominated;
@@ -150,7 +154,8 @@ fn nominate_row(row: &mut Account, person: u32, nominated: bool)
 }
 
 fn switch(rows: &mut Vec<Group>, group: u32, active: bool)
-    ensures items { rows.new.items ≡ exchange_group group (λ g. record g { active = active }) rows.old.items }
+    ensures items { rows.new.items ≡
+        exchange_group group (λ g. record g { active = active }) rows.old.items }
     ensures len { vec_len rows.new ≡ vec_len rows.old }
     ensures capacity { vec_capacity rows.new ≡ vec_capacity rows.old }
 {
@@ -160,7 +165,8 @@ fn switch(rows: &mut Vec<Group>, group: u32, active: bool)
 }
 
 fn switch_row(row: &mut Group, group: u32, active: bool)
-    ensures { row.new ≡ (if row.old.number == group then record (row.old) { active = active } else row.old) }
+    ensures { row.new ≡ (if row.old.number == group then record
+        (row.old) { active = active } else row.old) }
 {
     if row.number == group {
         row.active = active;

@@ -58,7 +58,8 @@ result_text (Some r) = name_of r
 
 abbrev pub gate_line : Gate × Option Rule → Bytes
 gate_line x =
-    codes "gate " ++ path_text x.0.path ++ space ++ decimal x.0.level ++ space ++ decimal (group_number x.0.group) ++ space ++ result_text x.1 ++ newline
+    codes "gate " ++ path_text x.0.path ++ space ++ decimal x.0.level ++ space
+    ++ decimal (group_number x.0.group) ++ space ++ result_text x.1 ++ newline
 
 abbrev pub site_line : Tokens → Bytes → Handling → Bytes
 site_line p label h = codes "site " ++ path_text p ++ space ++ quoted label ++ space ++ handling_name h ++ newline
@@ -76,7 +77,8 @@ end_text None = []
 end_text (Some end) = codes " until " ++ signed_decimal end
 
 abbrev pub permission_line : PrintedPermission → Bytes
-permission_line e = codes "permission " ++ quoted e.pointer ++ space ++ grantee_text e.grantee ++ end_text e.until ++ newline
+permission_line e = codes "permission " ++ quoted e.pointer ++ space ++ grantee_text e.grantee
+    ++ end_text e.until ++ newline
 
 abbrev pub permission_lines : List Permission → Bytes
 permission_lines xs = flat_map permission_line (permissions_in_order (map entry_of xs))

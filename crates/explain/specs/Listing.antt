@@ -35,7 +35,9 @@ number_of (Group n) = n
 
 -- by the bytes of the printed path, then by kind, then by number; the end doesn't count
 abbrev pub entry_cmp : PrintedPermission → PrintedPermission → Ordering
-entry_cmp = then_cmp (on (λ e. e.pointer) (slice_cmp nat_cmp)) (then_cmp (on (λ e. kind_place e.grantee) nat_cmp) (on (λ e. number_of e.grantee) nat_cmp))
+entry_cmp =
+    then_cmp (on (λ e. e.pointer) (slice_cmp nat_cmp))
+    (then_cmp (on (λ e. kind_place e.grantee) nat_cmp) (on (λ e. number_of e.grantee) nat_cmp))
 
 abbrev pub comes_before : PrintedPermission → PrintedPermission → Bool
 comes_before e f = is_lt (entry_cmp e f)

@@ -3,7 +3,8 @@
 ghost use Rattle.std.specs.Prelude.{◌≡◌, ◌++◌, None, IfOk, OnOk};
 ghost use Rattle.iodef_tree.specs.Paths.{located};
 ghost use Rattle.marking.specs.Marks.{first_bad_marking};
-ghost use Rattle.explain.specs.Explanation.{passage as passage_of, passages_at, passages_on, covering as covering_of};
+ghost use Rattle.explain.specs.Explanation.{passages_at, passages_on};
+ghost use Rattle.explain.specs.Explanation as spec;
 ghost use Rattle.explain.specs.Explained.{Explains};
 
 use crate::fault::ExplainFault;
@@ -71,7 +72,8 @@ fn push_passages(
     standing: &Standing,
     here: &Path,
 ) -> Result<(), AllocError>
-    ensures { OnOk result (passages.new.items ≡ passages.old.items ++ passages_at case.now standing.entry.now here.now) }
+    ensures { OnOk result (passages.new.items ≡
+        passages.old.items ++ passages_at case.now standing.entry.now here.now) }
 {
     for gate in case.gates.as_slice() {
         if gate.path == *here {
@@ -83,7 +85,7 @@ fn push_passages(
 
 /// A copy of the gate, with the rule by which it refuses the reader.
 fn passage(standing: &Standing, gate: &Gate) -> Result<(Gate, Option<Rule>), AllocError>
-    ensures { IfOk result (λ p. p ≡ passage_of standing.entry.now gate.now) }
+    ensures { IfOk result (λ p. p ≡ spec.passage standing.entry.now gate.now) }
 {
     let copy = Gate {
         path: gate.path.clone()?,
@@ -101,7 +103,8 @@ fn covering(
     standing: &Standing,
     path: &Path,
 ) -> Result<Vec<Permission>, AllocError>
-    ensures { IfOk result (λ v. v.items ≡ covering_of (located document.now) case.now standing.entry.now path.now) }
+    ensures { IfOk result (λ v.
+        v.items ≡ spec.covering (located document.now) case.now standing.entry.now path.now) }
 {
     let mut covering = Vec::new(alloc);
     for permission in case.permissions.as_slice() {

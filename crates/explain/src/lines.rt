@@ -2,7 +2,7 @@
 
 ghost use Rattle.std.specs.Prelude.{◌≡◌, ◌++◌, IfOk, OnOk, decimal, string_bytes};
 ghost use Rattle.std.specs.List.{flat_map};
-ghost use Rattle.json.specs.Print.{quoted as in_quotes};
+ghost use Rattle.json.specs.Print as spec;
 ghost use Rattle.explain.specs.Explanation.{explanation};
 ghost use Rattle.explain.specs.Lines.{space, newline, path_text, result_text, side_text, rule_in, verdict_line, path_line, community_line, gate_line, site_line, clearance_line, grantee_text, end_text, permission_line, permission_lines, trace_text};
 
@@ -40,7 +40,8 @@ impl Trace {
 
 /// What stands before a text, and the text as a JSON string, behind `out`.
 fn push_text(alloc: Global, out: &mut String, before: &str, text: &str) -> Result<(), AllocError>
-    ensures { OnOk result (string_bytes out.new ≡ string_bytes out.old ++ (before.now ++ in_quotes text.now)) }
+    ensures { OnOk result (string_bytes out.new ≡
+        string_bytes out.old ++ (before.now ++ spec.quoted text.now)) }
 {
     out.push_str(before)?;
     push_quoted(alloc, out, text)
@@ -53,7 +54,8 @@ fn push_pointer(
     before: &str,
     path: &Path,
 ) -> Result<(), AllocError>
-    ensures { OnOk result (string_bytes out.new ≡ string_bytes out.old ++ (before.now ++ path_text path.now)) }
+    ensures { OnOk result (string_bytes out.new ≡
+        string_bytes out.old ++ (before.now ++ path_text path.now)) }
 {
     let pointer = path.print(alloc)?;
     push_text(alloc, out, before, pointer.as_str())
@@ -69,7 +71,8 @@ fn push_word(out: &mut String, word: &str) -> Result<(), AllocError>
 
 /// A space and a number in decimal digits, behind `out`.
 fn push_number(out: &mut String, number: u32) -> Result<(), AllocError>
-    ensures { OnOk result (string_bytes out.new ≡ string_bytes out.old ++ (space ++ decimal number)) }
+    ensures { OnOk result (string_bytes out.new ≡
+        string_bytes out.old ++ (space ++ decimal number)) }
 {
     out.push_str(" ")?;
     write!(out, "{number}")
@@ -111,7 +114,8 @@ fn push_path(alloc: Global, out: &mut String, path: &Path) -> Result<(), AllocEr
 }
 
 fn push_community(out: &mut String, community: Option<u32>) -> Result<(), AllocError>
-    ensures { OnOk result (string_bytes out.new ≡ string_bytes out.old ++ community_line community) }
+    ensures { OnOk result (string_bytes out.new ≡
+        string_bytes out.old ++ community_line community) }
 {
     match community {
         None => Ok(()),
@@ -152,7 +156,8 @@ fn push_gates(
     out: &mut String,
     passages: &[(Gate, Option<Rule>)],
 ) -> Result<(), AllocError>
-    ensures { OnOk result (string_bytes out.new ≡ string_bytes out.old ++ flat_map gate_line passages.now) }
+    ensures { OnOk result (string_bytes out.new ≡
+        string_bytes out.old ++ flat_map gate_line passages.now) }
 {
     for passage in passages {
         push_gate(alloc, out, passage)?;
@@ -167,7 +172,8 @@ fn push_site(
     label: &str,
     handling: Handling,
 ) -> Result<(), AllocError>
-    ensures { OnOk result (string_bytes out.new ≡ string_bytes out.old ++ site_line site.now label.now handling) }
+    ensures { OnOk result (string_bytes out.new ≡
+        string_bytes out.old ++ site_line site.now label.now handling) }
 {
     push_pointer(alloc, out, "site ", site)?;
     push_text(alloc, out, " ", label)?;
@@ -176,7 +182,8 @@ fn push_site(
 }
 
 fn push_clearance(out: &mut String, clearance: (Handling, Rule)) -> Result<(), AllocError>
-    ensures { OnOk result (string_bytes out.new ≡ string_bytes out.old ++ clearance_line clearance) }
+    ensures { OnOk result (string_bytes out.new ≡
+        string_bytes out.old ++ clearance_line clearance) }
 {
     out.push_str("clearance")?;
     push_word(out, clearance.0.name())?;
@@ -186,7 +193,8 @@ fn push_clearance(out: &mut String, clearance: (Handling, Rule)) -> Result<(), A
 
 /// For whom a permission is: the kind and the number.
 fn push_grantee(out: &mut String, grantee: Grantee) -> Result<(), AllocError>
-    ensures { OnOk result (string_bytes out.new ≡ string_bytes out.old ++ (space ++ grantee_text grantee)) }
+    ensures { OnOk result (string_bytes out.new ≡
+        string_bytes out.old ++ (space ++ grantee_text grantee)) }
 {
     push_word(out, kind_name(grantee))?;
     push_number(out, number_of(grantee))
@@ -209,7 +217,10 @@ fn push_entry(
     before: &str,
     entry: &PrintedPermission,
 ) -> Result<(), AllocError>
-    ensures { OnOk result (string_bytes out.new ≡ string_bytes out.old ++ (before.now ++ in_quotes entry.now.pointer ++ space ++ grantee_text entry.now.grantee ++ end_text entry.now.until ++ newline)) }
+    ensures { OnOk result (string_bytes out.new ≡
+        string_bytes out.old ++
+        (before.now ++ spec.quoted entry.now.pointer ++ space ++ grantee_text entry.now.grantee ++
+        end_text entry.now.until ++ newline)) }
 {
     push_text(alloc, out, before, entry.pointer.as_str())?;
     push_grantee(out, entry.grantee)?;
@@ -222,7 +233,8 @@ fn push_permission(
     out: &mut String,
     entry: &PrintedPermission,
 ) -> Result<(), AllocError>
-    ensures { OnOk result (string_bytes out.new ≡ string_bytes out.old ++ permission_line entry.now) }
+    ensures { OnOk result (string_bytes out.new ≡
+        string_bytes out.old ++ permission_line entry.now) }
 {
     push_entry(alloc, out, "permission ", entry)
 }
@@ -232,7 +244,8 @@ fn push_entries(
     out: &mut String,
     entries: &[PrintedPermission],
 ) -> Result<(), AllocError>
-    ensures { OnOk result (string_bytes out.new ≡ string_bytes out.old ++ flat_map permission_line entries.now) }
+    ensures { OnOk result (string_bytes out.new ≡
+        string_bytes out.old ++ flat_map permission_line entries.now) }
 {
     for entry in entries {
         push_permission(alloc, out, entry)?;
@@ -245,7 +258,8 @@ fn push_permissions(
     out: &mut String,
     permissions: &[Permission],
 ) -> Result<(), AllocError>
-    ensures { OnOk result (string_bytes out.new ≡ string_bytes out.old ++ permission_lines permissions.now) }
+    ensures { OnOk result (string_bytes out.new ≡
+        string_bytes out.old ++ permission_lines permissions.now) }
 {
     let entries = sort_permissions(alloc, permissions)?;
     push_entries(alloc, out, entries.as_slice())

@@ -2,7 +2,7 @@
 
 ghost use Rattle.std.specs.Prelude.{◌≡◌, ◌≤◌, length, map, IfOk, OnOk};
 ghost use Rattle.std.specs.List.{insert};
-ghost use Rattle.explain.specs.Listing.{kind_place as place_of_kind, kind_name as name_of_kind, number_of as number_in, comes_before as is_before, put as put_in, permissions_in_order as in_this_order, entry_of as entry_for};
+ghost use Rattle.explain.specs.Listing as spec;
 
 use iodef_tree::Text;
 use policy::{Grantee, Permission};
@@ -18,7 +18,7 @@ pub(crate) struct PrintedPermission {
 
 /// Where its kind stands in the order.
 fn kind_place(grantee: Grantee) -> u8
-    ensures { result ≡ place_of_kind grantee }
+    ensures { result ≡ spec.kind_place grantee }
 {
     match grantee {
         Grantee::Person(_) => 0,
@@ -30,7 +30,7 @@ fn kind_place(grantee: Grantee) -> u8
 
 /// What its kind is called.
 pub(crate) fn kind_name(grantee: Grantee) -> &'static str
-    ensures { result.now ≡ name_of_kind grantee }
+    ensures { result.now ≡ spec.kind_name grantee }
 {
     match grantee {
         Grantee::Person(_) => "person",
@@ -41,7 +41,7 @@ pub(crate) fn kind_name(grantee: Grantee) -> &'static str
 }
 
 pub(crate) fn number_of(grantee: Grantee) -> u32
-    ensures { result ≡ number_in grantee }
+    ensures { result ≡ spec.number_of grantee }
 {
     match grantee {
         Grantee::Person(number) => number,
@@ -52,7 +52,7 @@ pub(crate) fn number_of(grantee: Grantee) -> u32
 }
 
 fn comes_before(entry: &PrintedPermission, other: &PrintedPermission) -> bool
-    ensures { result ≡ is_before entry.now other.now }
+    ensures { result ≡ spec.comes_before entry.now other.now }
 {
     let kinds = kind_place(entry.grantee).cmp(&kind_place(other.grantee));
     let numbers = number_of(entry.grantee).cmp(&number_of(other.grantee));
@@ -67,7 +67,7 @@ fn comes_before(entry: &PrintedPermission, other: &PrintedPermission) -> bool
 /// Where the entry goes: before the first that comes after it.
 fn place_for(entries: &[PrintedPermission], entry: &PrintedPermission) -> usize
     ensures within { result ≤ length entries.now }
-    ensures is { insert entries.now result entry.now ≡ put_in entry.now entries.now }
+    ensures is { insert entries.now result entry.now ≡ spec.put entry.now entries.now }
 {
     for (place, other) in entries.iter().enumerate() {
         if comes_before(entry, other) {
@@ -78,7 +78,7 @@ fn place_for(entries: &[PrintedPermission], entry: &PrintedPermission) -> usize
 }
 
 fn put(entries: &mut Vec<PrintedPermission>, entry: PrintedPermission) -> Result<(), AllocError>
-    ensures { OnOk result (entries.new.items ≡ put_in entry entries.old.items) }
+    ensures { OnOk result (entries.new.items ≡ spec.put entry entries.old.items) }
 {
     let place = place_for(entries.as_slice(), &entry);
     entries.insert(place, entry)?;
@@ -86,7 +86,7 @@ fn put(entries: &mut Vec<PrintedPermission>, entry: PrintedPermission) -> Result
 }
 
 fn entry_of(alloc: Global, permission: &Permission) -> Result<PrintedPermission, AllocError>
-    ensures { IfOk result (λ e. e ≡ entry_for permission.now) }
+    ensures { IfOk result (λ e. e ≡ spec.entry_of permission.now) }
 {
     let pointer = Text::new(permission.path.print(alloc)?);
     Ok(PrintedPermission {
@@ -101,7 +101,8 @@ pub(crate) fn sort_permissions(
     alloc: Global,
     permissions: &[Permission],
 ) -> Result<Vec<PrintedPermission>, AllocError>
-    ensures { IfOk result (λ v. v.items ≡ in_this_order (map entry_for permissions.now)) }
+    ensures { IfOk result (λ v. v.items ≡
+        spec.permissions_in_order (map spec.entry_of permissions.now)) }
 {
     let mut entries = Vec::new(alloc);
     for permission in permissions {

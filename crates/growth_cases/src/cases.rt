@@ -97,10 +97,10 @@ impl Cases {
         let body = written_out(alloc, body)?;
         let body = body.as_str();
         if kind == "read" {
-            return Ok(self.sweep.told(alloc, &Reading { body })?);
+            return Ok(self.sweep.report(alloc, &Reading { body })?);
         }
         let making = Making::of(alloc, body)?;
-        Ok(self.sweep.told(alloc, &making)?)
+        Ok(self.sweep.report(alloc, &making)?)
     }
 
     fn asking(&mut self, kind: &str, words: &str) -> Result<String, Unfit> {
@@ -113,19 +113,19 @@ impl Cases {
             word: fields.word(),
             class: fields.word(),
         };
-        Ok(self.sweep.told(alloc, &asking)?)
+        Ok(self.sweep.report(alloc, &asking)?)
     }
 
     fn feeding(&mut self, reader: &str) -> Result<String, Unfit> {
         let alloc = self.alloc;
         let report = &self.report;
-        Ok(self.sweep.told(alloc, &Feeding { report, reader })?)
+        Ok(self.sweep.report(alloc, &Feeding { report, reader })?)
     }
 
     fn seeking(&mut self, words: &str) -> Result<String, Unfit> {
         let alloc = self.alloc;
         let report = &self.report;
-        Ok(self.sweep.told(alloc, &Seeking { report, words })?)
+        Ok(self.sweep.report(alloc, &Seeking { report, words })?)
     }
 
     /// Asks a request that comes before later ones. Told is the body of its reply.
@@ -147,14 +147,14 @@ impl Cases {
             before: &self.before,
             bytes: &bytes,
         };
-        Ok(self.sweep.told(alloc, &asked)?)
+        Ok(self.sweep.report(alloc, &asked)?)
     }
 
     fn serving(&mut self, line: &str) -> Result<String, Unfit> {
         let alloc = self.alloc;
         let bytes = bytes_of(alloc, line)?;
         match Serving::of(alloc, &self.before, &bytes)? {
-            Some(serving) => Ok(self.sweep.told(alloc, &serving)?),
+            Some(serving) => Ok(self.sweep.report(alloc, &serving)?),
             None => said(alloc, "no hub"),
         }
     }
@@ -175,8 +175,8 @@ impl Cases {
             return Ok(Some(String::from_str(alloc, "no world")?));
         };
         let list = &list;
-        let in_lists = self.sweep.told(alloc, &InLists { list })?;
-        let in_tables = self.sweep.told(alloc, &InTables { list })?;
+        let in_lists = self.sweep.report(alloc, &InLists { list })?;
+        let in_tables = self.sweep.report(alloc, &InTables { list })?;
         let both = format!(in alloc; "in memory {in_lists}\nin tables {in_tables}")?;
         Ok(Some(both))
     }

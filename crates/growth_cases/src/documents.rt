@@ -71,7 +71,7 @@ impl Making {
 }
 
 /// The text of the document with these lines.
-fn made(alloc: Global, lines: &[Line]) -> Result<String, Unfit> {
+fn write_document(alloc: Global, lines: &[Line]) -> Result<String, Unfit> {
     match Document::from_outline(alloc, lines) {
         Ok(document) => Ok(document.text(alloc)?),
         Err(OutlineFault::NoMemory) => Err(Unfit::NoMemory),
@@ -82,7 +82,7 @@ fn made(alloc: Global, lines: &[Line]) -> Result<String, Unfit> {
 impl Trial for Making {
     fn run(&self, alloc: Global, n: u32) -> Result<Met, AllocError> {
         arm(alloc, n);
-        let answer = made(alloc, &self.lines);
+        let answer = write_document(alloc, &self.lines);
         met(alloc, answer)
     }
 }

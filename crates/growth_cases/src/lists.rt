@@ -179,14 +179,14 @@ impl<'a> List<'a> {
         let outcome = hub.run(alloc, self.own);
         let refused = disarm(alloc);
         let told = match outcome {
-            Ok(replies) => self.judged(alloc, hub, &replies, refused)?,
+            Ok(replies) => self.judge(alloc, hub, &replies, refused)?,
             Err(_) => self.fault(alloc, hub, &[], &self.unrun)?,
         };
         Ok(Met { refused, told })
     }
 
     /// What is told of a list that was run; none where a request was given up and no growth refused.
-    fn judged<Sh: Shelf + Drop>(
+    fn judge<Sh: Shelf + Drop>(
         &self,
         alloc: Global,
         hub: Hub<Sh>,

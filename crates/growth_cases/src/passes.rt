@@ -2,7 +2,7 @@
 
 use crate::documents::met;
 use crate::heap::arm;
-use crate::readers::{Asker, shown};
+use crate::readers::{Asker, show};
 use crate::sweep::{Met, Trial};
 use iodef_tree::{Line, OutlineFault};
 use redact::RowPass;
@@ -37,7 +37,7 @@ fn feed_all(pass: &mut RowPass, lines: Vec<Line>) -> Result<bool, OutlineFault> 
 /// What the pass gives at the end.
 fn finish(alloc: Global, pass: RowPass) -> Result<String, Unfit> {
     match pass.finish() {
-        Ok(Some(excerpt)) => shown(alloc, &excerpt),
+        Ok(Some(excerpt)) => show(alloc, &excerpt),
         Ok(None) => said(alloc, "none"),
         Err(OutlineFault::BadOutline) => said(alloc, "BadOutline"),
         Err(OutlineFault::NoMemory) => Err(Unfit::NoMemory),
@@ -45,7 +45,7 @@ fn finish(alloc: Global, pass: RowPass) -> Result<String, Unfit> {
 }
 
 /// What a reader is served by these lines. Behind a line that was refused for want of memory the end has to be too.
-fn fed(alloc: Global, asker: Asker, lines: Vec<Line>) -> Result<String, Unfit> {
+fn feed_lines(alloc: Global, asker: Asker, lines: Vec<Line>) -> Result<String, Unfit> {
     let Asker { standing, case } = asker;
     let mut pass = RowPass::new(alloc, case, standing)?;
     match feed_all(&mut pass, lines) {
@@ -73,7 +73,7 @@ impl Trial for Feeding<'_> {
         match self.fresh(alloc) {
             Ok((asker, lines)) => {
                 arm(alloc, n);
-                let answer = fed(alloc, asker, lines);
+                let answer = feed_lines(alloc, asker, lines);
                 met(alloc, answer)
             }
             Err(unfit) => met(alloc, Err(unfit)),

@@ -56,7 +56,7 @@ fn push_pair(all: &mut String, alloc: Global, place: &Path, rule: Rule) -> Resul
 }
 
 /// How many classes are visible, the document, and each withheld pair.
-pub fn shown(alloc: Global, excerpt: &Excerpt) -> Result<String, Unfit> {
+pub fn show(alloc: Global, excerpt: &Excerpt) -> Result<String, Unfit> {
     let classes = excerpt.classes;
     let text = excerpt.document.text(alloc)?;
     let mut all = format!(in alloc; "{classes} {text}")?;
@@ -66,16 +66,16 @@ pub fn shown(alloc: Global, excerpt: &Excerpt) -> Result<String, Unfit> {
     Ok(all)
 }
 
-fn served(alloc: Global, document: &Document, asker: &Asker) -> Result<String, Unfit>
+fn serve(alloc: Global, document: &Document, asker: &Asker) -> Result<String, Unfit>
     requires { first_bad_marking (located document.now) ≡ None }
 {
     match excerpt(alloc, document, &asker.case, &asker.standing)? {
-        Some(excerpt) => shown(alloc, &excerpt),
+        Some(excerpt) => show(alloc, &excerpt),
         None => said(alloc, "none"),
     }
 }
 
-fn explained(
+fn tell_why(
     alloc: Global,
     document: &Document,
     asker: &Asker,
@@ -110,10 +110,10 @@ impl Asking<'_> {
         let document = self.report.document()?;
         let Asker { case, standing } = &self.asker;
         match self.kind {
-            "excerpt" => served(alloc, document, &self.asker),
+            "excerpt" => serve(alloc, document, &self.asker),
             "listed" => truth(alloc, is_listed(alloc, document, case, standing)?),
             "find" => truth(alloc, self.finds(alloc, document)?),
-            _ => explained(alloc, document, &self.asker, self.word),
+            _ => tell_why(alloc, document, &self.asker, self.word),
         }
     }
 }

@@ -97,7 +97,7 @@ impl Seeking<'_> {
     }
 }
 
-fn searched(alloc: Global, asker: Asker, want: Want, lines: Vec<Line>) -> Result<String, Unfit> {
+fn feed_search(alloc: Global, asker: Asker, want: Want, lines: Vec<Line>) -> Result<String, Unfit> {
     let Asker { standing, case } = asker;
     let probe = Probe::new(alloc, case, standing, want)?;
     sought(alloc, probe, lines)
@@ -108,7 +108,7 @@ impl Trial for Seeking<'_> {
         match self.fresh(alloc) {
             Ok((asker, want, lines)) => {
                 arm(alloc, n);
-                let answer = searched(alloc, asker, want, lines);
+                let answer = feed_search(alloc, asker, want, lines);
                 met(alloc, answer)
             }
             Err(unfit) => met(alloc, Err(unfit)),

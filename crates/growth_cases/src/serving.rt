@@ -91,7 +91,7 @@ impl<'a> Serving<'a> {
     }
 
     /// What is told behind an outcome, where it is asked again if it wasn't answered.
-    fn told(
+    fn describe(
         &self,
         alloc: Global,
         hub: &mut Hub<ListShelf>,
@@ -134,7 +134,7 @@ impl Trial for Serving<'_> {
                 told: None,
             });
         }
-        let told = Some(self.told(alloc, &mut hub, outcome)?);
+        let told = Some(self.describe(alloc, &mut hub, outcome)?);
         Ok(Met { refused, told })
     }
 }

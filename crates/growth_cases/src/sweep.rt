@@ -62,7 +62,7 @@ impl Sweep {
     }
 
     /// What is printed of a case: whether each growth that was refused was told, or the first that wasn't.
-    pub fn told<T: Trial>(&mut self, alloc: Global, trial: &T) -> Result<String, AllocError> {
+    pub fn report<T: Trial>(&mut self, alloc: Global, trial: &T) -> Result<String, AllocError> {
         let Some(due) = trial.run(alloc, 0)?.told else {
             return String::from_str(alloc, "no memory");
         };

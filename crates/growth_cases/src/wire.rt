@@ -76,7 +76,7 @@ pub struct Bytes<'a> {
 }
 
 impl Bytes<'_> {
-    fn told(&self, alloc: Global, key: &Key, request: &Request) -> Result<String, AllocError> {
+    fn describe(&self, alloc: Global, key: &Key, request: &Request) -> Result<String, AllocError> {
         let Some(mut hub) = hub_behind(alloc, self.before)? else {
             return String::from_str(alloc, "no hub");
         };
@@ -94,7 +94,7 @@ impl Trial for Bytes<'_> {
         let outcome = request_of(alloc, self.bytes);
         let refused = disarm(alloc);
         let told = match outcome {
-            Ok((key, request)) => Some(self.told(alloc, &key, &request)?),
+            Ok((key, request)) => Some(self.describe(alloc, &key, &request)?),
             Err(WireFault::NoMemory) => None,
             Err(fault) => Some(format!(in alloc; "{fault:?}")?),
         };

@@ -9,7 +9,7 @@ use std::alloc::{AllocError, Global};
 use trying_hub::{first_rows, key_of};
 
 /// The hub over a shelf, empty before, behind these requests; none where one of them is refused.
-fn peopled<Sh: Shelf + Drop>(
+fn populate<Sh: Shelf + Drop>(
     alloc: Global,
     mut shelf: Sh,
     world: &[Asked],
@@ -30,7 +30,7 @@ fn peopled<Sh: Shelf + Drop>(
 
 /// The world in memory.
 pub fn in_lists(alloc: Global, world: &[Asked]) -> Result<Option<Hub<ListShelf>>, AllocError> {
-    peopled(alloc, ListShelf::new(alloc), world)
+    populate(alloc, ListShelf::new(alloc), world)
 }
 
 /// The world in new tables, over a connection that has no plans yet.
@@ -43,7 +43,7 @@ pub fn in_tables(
         return Ok(None);
     }
     match SqlShelf::create(alloc, conn) {
-        Ok(shelf) => peopled(alloc, shelf, world),
+        Ok(shelf) => populate(alloc, shelf, world),
         Err(_) => Ok(None),
     }
 }

@@ -42,7 +42,8 @@ abbrev pub gates_but_at : ℕ → Tokens → List Gate → List Gate
 gates_but_at n p gates = filter (λ (g : Gate). not (g.incident == n && is_prefix p g.gate.path)) gates
 
 abbrev pub permissions_but_at : ℕ → Tokens → List Permission → List Permission
-permissions_but_at n p permissions = filter (λ (x : Permission). not (x.incident == n && is_prefix p x.permission.path)) permissions
+permissions_but_at n p permissions =
+    filter (λ (x : Permission). not (x.incident == n && is_prefix p x.permission.path)) permissions
 
 -- an incident as it is judged, perhaps with another document
 abbrev pub report_of : State → Incident → Lines → Report
@@ -51,10 +52,14 @@ report_of s i document = record { lines = document; case = case_for s i }
 -- all rows stay but those of the incident of this number
 pub record HasOtherIncident (n : ℕ) (s t : State) : Type 0 where
   pub directory : s.directory ≡ t.directory
-  pub incidents : filter (λ (i : Incident). not (i.naming.number == n)) s.incidents ≡ filter (λ (i : Incident). not (i.naming.number == n)) t.incidents
-  pub gates : filter (λ (g : Gate). not (g.incident == n)) s.gates ≡ filter (λ (g : Gate). not (g.incident == n)) t.gates
-  pub recipients : filter (λ (x : Recipient). not (x.incident == n)) s.recipients ≡ filter (λ (x : Recipient). not (x.incident == n)) t.recipients
-  pub permissions : filter (λ (x : Permission). not (x.incident == n)) s.permissions ≡ filter (λ (x : Permission). not (x.incident == n)) t.permissions
+  pub incidents : filter (λ (i : Incident). not (i.naming.number == n)) s.incidents
+      ≡ filter (λ (i : Incident). not (i.naming.number == n)) t.incidents
+  pub gates : filter (λ (g : Gate). not (g.incident == n)) s.gates
+      ≡ filter (λ (g : Gate). not (g.incident == n)) t.gates
+  pub recipients : filter (λ (x : Recipient). not (x.incident == n)) s.recipients
+      ≡ filter (λ (x : Recipient). not (x.incident == n)) t.recipients
+  pub permissions : filter (λ (x : Permission). not (x.incident == n)) s.permissions
+      ≡ filter (λ (x : Permission). not (x.incident == n)) t.permissions
 
 -- ---- steps, for a person with its key, at a moment
 
@@ -93,7 +98,8 @@ module _ (now : ℤ) (a : Account) where
     pub withheld : withheld_of incident.document (case_for s incident) (standing_at s now a.person incident)
         ≡ withheld_of document (case_for t incident) (standing_at t now a.person (record incident { document = document }))
     pub gates : gates_but_at incident.naming.number path s.gates ≡ gates_but_at incident.naming.number path t.gates
-    pub permissions : permissions_but_at incident.naming.number path s.permissions ≡ permissions_but_at incident.naming.number path t.permissions
+    pub permissions : permissions_but_at incident.naming.number path s.permissions
+        ≡ permissions_but_at incident.naming.number path t.permissions
     pub after : t ≡ record s { incidents = with_document incident.naming.number document s.incidents; gates = t.gates; permissions = t.permissions }
 
   -- Anything in an incident of which the person sees nothing on either side, the community that it names among it; it may be
@@ -121,7 +127,9 @@ module _ (now : ℤ) (a : Account) where
 
   -- rows that stay when others are put in, taken out or exchanged
   abbrev pub staying_permissions : State → List Permission
-  staying_permissions s = filter (λ (x : Permission). includes_person s.directory x.permission.grantee || is_own s x.incident) s.permissions
+  staying_permissions s =
+      filter (λ (x : Permission). includes_person s.directory x.permission.grantee || is_own s x.incident)
+      s.permissions
 
   abbrev pub staying_recipients : State → List Recipient
   staying_recipients s = filter (λ (x : Recipient). is_org_or_person x.target || is_own s x.incident) s.recipients

@@ -39,6 +39,7 @@ IsStep s asked reply left = IsAnswered s asked.0 asked.1 asked.2 reply left ⊎ 
 -- a step for each request, each from the state that the one before it left
 abbrev pub IsRun : State → List Asked → List Reply → State → Type 0
 IsRun s [] [] end = end ≡ s
-IsRun s (asked ∷ others) (reply ∷ replies) end = (left : State) × IsStep s asked reply left × IsRun left others replies end
+IsRun s (asked ∷ others) (reply ∷ replies) end =
+    (left : State) × IsStep s asked reply left × IsRun left others replies end
 IsRun s [] (reply ∷ replies) end = ⊥
 IsRun s (asked ∷ others) [] end = ⊥

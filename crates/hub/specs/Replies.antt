@@ -85,10 +85,12 @@ answer_to s now p (ask.Unaddress r) = Done
 answer_to s now p (ask.Grant r) = Done
 answer_to s now p (ask.Withdraw r) = Done
 answer_to s now p (ask.View n) = viewed s now p (incident_of n s)
-answer_to s now p (ask.Explain r) = Trace (trace_of s now (person_of r.person s.directory) (incident_of r.incident s) (pointer_tokens r.path))
+answer_to s now p (ask.Explain r) =
+    Trace (trace_of s now (person_of r.person s.directory) (incident_of r.incident s) (pointer_tokens r.path))
 answer_to s now p (ask.List after) = Incidents (page_of (is_served s now p) after s)
 answer_to s now p (ask.Search r) = Incidents (page_of (λ (i : Incident). is_found s now p i r.needle r.class) r.after s)
-answer_to s now p (ask.Addressed after) = Incidents (page_of (λ (i : Incident). is_addressed s now p i && is_served s now p i) after s)
+answer_to s now p (ask.Addressed after) =
+    Incidents (page_of (λ (i : Incident). is_addressed s now p i && is_served s now p i) after s)
 answer_to s now p ask.MyGroups = Groups (groups_of p s)
 answer_to s now p ask.WhoAmI = Caller p
 

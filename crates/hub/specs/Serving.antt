@@ -33,7 +33,8 @@ read_by s now p request = if◌then◌else◌ (is_reading request) (Some (due_to
 
 -- the page of a search, unless it is refused
 abbrev pub searched : Option Refusal → State → ℤ → Person → Search → Reply
-searched refusal s now p r = refused_or refusal (Incidents (page_of (λ (i : Incident). is_found s now p i r.needle r.class) r.after s))
+searched refusal s now p r =
+    refused_or refusal (Incidents (page_of (λ (i : Incident). is_found s now p i r.needle r.class) r.after s))
 
 -- the number that a new row gets, of those whose numbers are told
 abbrev pub number_put : Edit → Option ℕ
@@ -82,7 +83,8 @@ Settles has s due after (Err fault) = has s
 pub record IsDoneAsDue {D : Type 0} (has : D → State → Type 0) (may_remain : D → Option State → Type 0) (old new : D) (s : State) (due : Reply) (after : State) (result : Result Reply ShelfFault) : Type 0 where
   pub settled : Settles (has new) s due after result
   -- after a change that is answered as made a crash may leave what the request leaves, and nothing else
-  pub durable : IfOk result (λ reply. IsTrue (is_made reply) → (left : Option State) → may_remain new left ↔ (left ≡ Some after))
+  pub durable : IfOk result (λ reply. IsTrue (is_made reply) →
+      (left : Option State) → may_remain new left ↔ (left ≡ Some after))
   -- a crash leaves what it could have left before, or what the request leaves
   pub crash : (left : Option State) → may_remain new left → may_remain old left ⊎ (left ≡ Some after)
 

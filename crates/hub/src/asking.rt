@@ -65,7 +65,8 @@ pub fn standing_of_person<Sh: Shelf>(
 ) -> Result<Option<Standing>, ShelfFault>
     ensures { Finds Sh.has Sh.doubts Sh.failed Sh.may_remain shelf.old shelf.new result (λ s.
         IfOk result (λ found. found ≡
-        standing_between s asker.entry.now (person_of person s.directory) (incident_of incident s))) }
+        standing_between s asker.entry.now (person_of person s.directory)
+        (incident_of incident s))) }
 {
     shelf.standing(person, incident, asker.now)
 }

@@ -3,7 +3,8 @@ ghost use Rattle.std.specs.Prelude.{◌≡◌, ◌<◌, ◌^◌, true, false, If
 ghost use Rattle.circle.specs.Sound.{IsOrg};
 ghost use Rattle.hub_core.specs.State.{State};
 ghost use Rattle.hub_core.specs.Sound.{IsSound};
-ghost use Rattle.hub_core.specs.Refusals.{state_after, next_revision as revision_after};
+ghost use Rattle.hub_core.specs.Refusals.{state_after};
+ghost use Rattle.hub_core.specs.Refusals as spec;
 ghost use Rattle.hub_core.specs.Laws.{is_reading};
 ghost use Rattle.hub_core.specs.Shelves.{KeepsContent};
 ghost use Rattle.hub.specs.Serving.{IsCounted, IsDoneAsDue, due_to, gives_numbers, is_made, is_made_by, made_reply, number_put, numbers_put};
@@ -58,8 +59,8 @@ fn tells_numbers(request: &Request) -> bool
 }
 
 fn next_revision(facts: &Facts) -> u32
-    ensures { revision_after facts.now.incident < 2 ^ 32 →
-        result ≡ revision_after facts.now.incident }
+    ensures { spec.next_revision facts.now.incident < 2 ^ 32 →
+        result ≡ spec.next_revision facts.now.incident }
 {
     match &facts.incident {
         None => 1,
@@ -74,7 +75,7 @@ fn reply_to(
     request: &Request,
     edits: &[Edit],
 ) -> Result<Reply, ShelfFault>
-    ensures reply { revision_after facts.now.incident < 2 ^ 32 →
+    ensures reply { spec.next_revision facts.now.incident < 2 ^ 32 →
         IfOk result (λ reply. reply ≡ made_reply facts.now request.now edits.now) }
     ensures made { IfOk result (λ reply. is_made reply ≡ true) }
     ensures fault { IfErr result (λ e. e ≡ ShelfFault.NoMemory) }
@@ -98,8 +99,11 @@ pub fn change<Sh: Shelf>(
     asker: Asker<'_>,
     request: &Request,
 ) -> Result<Reply, ShelfFault>
-    ensures step { Sh.doubts shelf.new ≡ 0 → (s : State) → Sh.has shelf.old s → IsSound s → IsOrg s.directory.orgs asker.entry.person.now.org → is_reading request.now ≡ false →
-        IsDoneAsDue Sh.has Sh.may_remain shelf.old shelf.new s (due_to s asker.entry.now asker.entry.person.now request.now) (state_after s asker.entry.person.now request.now) result }
+    ensures step { Sh.doubts shelf.new ≡ 0 → (s : State) → Sh.has shelf.old s → IsSound s →
+        IsOrg s.directory.orgs asker.entry.person.now.org → is_reading request.now ≡ false →
+        IsDoneAsDue Sh.has Sh.may_remain shelf.old shelf.new s
+        (due_to s asker.entry.now asker.entry.person.now request.now)
+        (state_after s asker.entry.person.now request.now) result }
     ensures counted { IsCounted Sh.doubts Sh.failed shelf.old shelf.new result }
     ensures kept { is_made_by result ≡ false →
         KeepsContent Sh.has Sh.doubts Sh.failed Sh.may_remain shelf.old shelf.new }

@@ -11,7 +11,8 @@ ghost use Rattle.hub_core.specs.Refusals.{refusal_of};
 ghost use Rattle.hub_core.specs.declared.reply.Reply.TheVariants.{Trace};
 ghost use Rattle.hub_core.specs.declared.request.Request.TheVariants as ask;
 ghost use Rattle.hub_core.specs.Shelves.{Finds};
-ghost use Rattle.hub.specs.inner.Explaining.{text_at, text_of as text_told};
+ghost use Rattle.hub.specs.inner.Explaining.{text_at};
+ghost use Rattle.hub.specs.inner.Explaining as spec;
 ghost use Rattle.hub.specs.Replies.{refused_or};
 ghost use Rattle.hub.specs.Told.{trace_of};
 
@@ -89,7 +90,7 @@ fn find_text<Sh: Shelf>(
     ensures { Finds Sh.has Sh.doubts Sh.failed Sh.may_remain shelf.old shelf.new result (λ s.
         IsSound s → facts.now ≡ facts_of s asker.entry.person.now (ask.Explain asked.now) →
         IfOk result (λ text. text ≡
-        text_told s asker.entry.now (person_of asked.now.person s.directory)
+        spec.text_of s asker.entry.now (person_of asked.now.person s.directory)
         (incident_of asked.now.incident s) (pointer_tokens asked.now.path))) }
 {
     let Some(standing) = standing_of_person(shelf, asker, asked.person, asked.incident)? else {

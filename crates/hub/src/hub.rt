@@ -64,7 +64,8 @@ impl<Sh: Shelf> Hub<Sh> {
         ensures kept { is_made result ≡ false →
             KeepsContent Sh.has Sh.doubts Sh.failed Sh.may_remain self.old self.new }
         ensures step { Sh.doubts self.new ≡ 0 → (s : State) → Sh.has self.old s → IsSound s →
-            (left : State) × IsStep s (now, key.now, request.now) result left × Sh.has self.new left }
+            (left : State) × IsStep s (now, key.now, request.now) result left ×
+            Sh.has self.new left }
         ensures alike { Sh.doubts self.new ≡ 0 → (s t : State) (a : Account) → Sh.has self.old s →
             IsAlike now a s t → key.now ≡ Digest a.key → is_told request.now ≡ true →
             (result ≡ reply_of t now key.now request.now) ⊎ IsGivenUp result }

@@ -6,7 +6,7 @@ ghost use Rattle.hub_core.specs.State.{State, incident_of};
 ghost use Rattle.hub_core.specs.Sound.{IsSound};
 ghost use Rattle.hub_core.specs.Reads.{case_for};
 ghost use Rattle.hub_core.specs.declared.state.Incident.{Incident};
-ghost use Rattle.hub_core.specs.declared.reply.Entry.{Entry as Listed};
+ghost use Rattle.hub_core.specs.declared.reply.Entry.{Entry as TheEntry};
 ghost use Rattle.hub.specs.Replies.{page_of};
 ghost use Rattle.hub.specs.inner.PageFilter.{HasSameWords, admits, shuts_out, is_shut_out, passes_filter, is_wanted, is_wanted_at, number_at_end};
 ghost use Rattle.hub_core.specs.Shelves.{Finds};
@@ -44,7 +44,7 @@ fn is_shut(case: &Case, standing: &Standing) -> bool
     !standing.source && one_shuts(case, standing)
 }
 
-fn copied_text(alloc: Global, text: &Option<String>) -> Result<Option<String>, ShelfFault>
+fn copy_text(alloc: Global, text: &Option<String>) -> Result<Option<String>, ShelfFault>
     ensures value { IfOk result (λ copy.
         option_map string_bytes copy ≡ option_map string_bytes text.now) }
     ensures fault { IfErr result (λ e. e ≡ ShelfFault.NoMemory) }
@@ -59,13 +59,13 @@ fn copied_text(alloc: Global, text: &Option<String>) -> Result<Option<String>, S
 }
 
 /// A want of the same words.
-fn copied(alloc: Global, want: &Want) -> Result<Want, ShelfFault>
+fn copy_want(alloc: Global, want: &Want) -> Result<Want, ShelfFault>
     ensures same { IfOk result (λ copy. HasSameWords copy want.now) }
     ensures fault { IfErr result (λ e. e ≡ ShelfFault.NoMemory) }
 {
     Ok(Want {
-        needle: copied_text(alloc, &want.needle)?,
-        class: copied_text(alloc, &want.class)?,
+        needle: copy_text(alloc, &want.needle)?,
+        class: copy_text(alloc, &want.class)?,
     })
 }
 
@@ -88,7 +88,8 @@ fn is_wanted_by<Sh: Shelf>(
     ensures { Finds Sh.has Sh.doubts Sh.failed Sh.may_remain shelf.old shelf.new result (λ s.
         IsSound s → IfOk result (λ b. b ≡
         option_map_or (λ (i : Incident).
-        passes_filter wanted.entry i.document (case_for s i) standing) (incident_of incident s) false)) }
+        passes_filter wanted.entry i.document (case_for s i) standing)
+        (incident_of incident s) false)) }
 {
     if is_ruled_out(wanted, &standing) {
         return Ok(false);
@@ -99,7 +100,7 @@ fn is_wanted_by<Sh: Shelf>(
     if is_shut(&case, &standing) {
         return Ok(false);
     }
-    let want = copied(alloc, wanted.want)?;
+    let want = copy_want(alloc, wanted.want)?;
     is_met(shelf, incident, case, standing, want)
 }
 
@@ -137,8 +138,9 @@ fn pick<Sh: Shelf>(
         IsSound s → IsThere s asker.entry.person.now →
         OnOk result (listed.new.items ≡
         take PAGE_LIMIT
-        (listed.old.items ++ filter (λ (e : Listed).
-        is_wanted_at s asker.entry.now asker.entry.person.now wanted.entry e.number) entries.now))) }
+        (listed.old.items ++ filter (λ (e : TheEntry).
+        is_wanted_at s asker.entry.now asker.entry.person.now wanted.entry e.number)
+        entries.now))) }
 {
     for entry in entries {
         if listed.len() == PAGE_LIMIT {

@@ -4,7 +4,7 @@ ghost use Rattle.hub_core.specs.State.{State};
 ghost use Rattle.hub_core.specs.Sound.{IsSound};
 ghost use Rattle.hub_core.specs.Refusals.{refusal_of};
 ghost use Rattle.hub_core.specs.declared.reply.Reply.TheVariants.{Incidents, Refused};
-ghost use Rattle.hub_core.specs.Reads.{groups_of as groups_joined_by};
+ghost use Rattle.hub_core.specs.Reads as spec;
 ghost use Rattle.hub_core.specs.declared.reply.Reply.TheVariants.{Groups, View};
 ghost use Rattle.hub_core.specs.State.{incident_of};
 ghost use Rattle.hub_core.specs.declared.state.Incident.{Incident};
@@ -112,7 +112,8 @@ fn search<Sh: Shelf>(
     ensures { Finds Sh.has Sh.doubts Sh.failed Sh.may_remain shelf.old shelf.new result (λ s.
         IsSound s → IsThere s asker.entry.person.now →
         IfOk result (λ reply. reply ≡
-        searched (refusal_of s asker.entry.person.now request.now) s asker.entry.now asker.entry.person.now asked.now)) }
+        searched (refusal_of s asker.entry.person.now request.now) s asker.entry.now
+        asker.entry.person.now asked.now)) }
 {
     let facts = shelf.facts(asker.person, request)?;
     match judge(alloc, asker.person, &facts, request) {
@@ -148,7 +149,7 @@ fn look<Sh: Shelf>(
 
 fn groups<Sh: Shelf>(shelf: &mut Sh, asker: Asker<'_>) -> Result<Reply, ShelfFault>
     ensures { Finds Sh.has Sh.doubts Sh.failed Sh.may_remain shelf.old shelf.new result (λ s.
-        IfOk result (λ reply. reply ≡ Groups (groups_joined_by asker.entry.person.now s))) }
+        IfOk result (λ reply. reply ≡ Groups (spec.groups_of asker.entry.person.now s))) }
 {
     let groups = shelf.groups_of(asker.person)?;
     Ok(Reply::Groups(JoinedGroups::new(groups)))
@@ -163,7 +164,8 @@ pub fn read<Sh: Shelf>(
 ) -> Result<Option<Reply>, ShelfFault>
     ensures { Finds Sh.has Sh.doubts Sh.failed Sh.may_remain shelf.old shelf.new result (λ s.
         IsSound s → IsThere s asker.entry.person.now →
-        IfOk result (λ reply. reply ≡ read_by s asker.entry.now asker.entry.person.now request.now)) }
+        IfOk result (λ reply. reply ≡
+        read_by s asker.entry.now asker.entry.person.now request.now)) }
 {
     let reply = match request {
         Request::View { incident } => look(shelf, alloc, asker, *incident)?,

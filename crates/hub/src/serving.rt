@@ -24,8 +24,11 @@ fn answer_person<Sh: Shelf>(
     asker: Asker<'_>,
     request: &Request,
 ) -> Result<Reply, ShelfFault>
-    ensures step { Sh.doubts shelf.new ≡ 0 → (s : State) → Sh.has shelf.old s → IsSound s → IsThere s asker.entry.person.now → IsOrg s.directory.orgs asker.entry.person.now.org →
-        IsDoneAsDue Sh.has Sh.may_remain shelf.old shelf.new s (due_to s asker.entry.now asker.entry.person.now request.now) (state_after s asker.entry.person.now request.now) result }
+    ensures step { Sh.doubts shelf.new ≡ 0 → (s : State) → Sh.has shelf.old s → IsSound s →
+        IsThere s asker.entry.person.now → IsOrg s.directory.orgs asker.entry.person.now.org →
+        IsDoneAsDue Sh.has Sh.may_remain shelf.old shelf.new s
+        (due_to s asker.entry.now asker.entry.person.now request.now)
+        (state_after s asker.entry.person.now request.now) result }
     ensures counted { IsCounted Sh.doubts Sh.failed shelf.old shelf.new result }
     ensures kept { is_made_by result ≡ false →
         KeepsContent Sh.has Sh.doubts Sh.failed Sh.may_remain shelf.old shelf.new }
@@ -36,7 +39,7 @@ fn answer_person<Sh: Shelf>(
     }
 }
 
-/// What a request is answered, to whom the key makes known.
+/// What a request is answered: to whom the key makes known, or K1 where it makes nobody known.
 pub fn answer_key<Sh: Shelf>(
     shelf: &mut Sh,
     alloc: Global,
@@ -45,7 +48,8 @@ pub fn answer_key<Sh: Shelf>(
     request: &Request,
 ) -> Result<Reply, ShelfFault>
     ensures step { Sh.doubts shelf.new ≡ 0 → (s : State) → Sh.has shelf.old s → IsSound s →
-        IsDoneAsDue Sh.has Sh.may_remain shelf.old shelf.new s (reply_of s now key.now request.now) (state_left s key.now request.now) result }
+        IsDoneAsDue Sh.has Sh.may_remain shelf.old shelf.new s (reply_of s now key.now request.now)
+        (state_left s key.now request.now) result }
     ensures counted { IsCounted Sh.doubts Sh.failed shelf.old shelf.new result }
     ensures kept { is_made_by result ≡ false →
         KeepsContent Sh.has Sh.doubts Sh.failed Sh.may_remain shelf.old shelf.new }

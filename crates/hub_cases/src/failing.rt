@@ -40,7 +40,7 @@ impl<Sh: Shelf> Failing<Sh> {
     }
 
     /// What the other shelf answered; a failure of its is counted.
-    fn told<T>(&mut self, outcome: Result<T, ShelfFault>) -> Result<T, ShelfFault>
+    fn count_failure<T>(&mut self, outcome: Result<T, ShelfFault>) -> Result<T, ShelfFault>
         requires { self.old.failures < last_count }
         ensures same { result ≡ outcome }
         ensures shelf { self.new.shelf ≡ self.old.shelf }
@@ -71,7 +71,7 @@ impl<Sh: Shelf> Shelf for Failing<Sh> {
     fn person_by_key(&mut self, key: &[u8; 32]) -> Result<Option<Person>, ShelfFault> {
         self.ask()?;
         let found = self.shelf.person_by_key(key);
-        self.told(found)
+        self.count_failure(found)
     }
 
     fn standing(
@@ -82,19 +82,19 @@ impl<Sh: Shelf> Shelf for Failing<Sh> {
     ) -> Result<Option<Standing>, ShelfFault> {
         self.ask()?;
         let found = self.shelf.standing(person, incident, now);
-        self.told(found)
+        self.count_failure(found)
     }
 
     fn case(&mut self, incident: u32) -> Result<Option<Case>, ShelfFault> {
         self.ask()?;
         let found = self.shelf.case(incident);
-        self.told(found)
+        self.count_failure(found)
     }
 
     fn document(&mut self, incident: u32) -> Result<Option<Document>, ShelfFault> {
         self.ask()?;
         let found = self.shelf.document(incident);
-        self.told(found)
+        self.count_failure(found)
     }
 
     fn excerpt(
@@ -105,7 +105,7 @@ impl<Sh: Shelf> Shelf for Failing<Sh> {
     ) -> Result<Option<Excerpt>, ShelfFault> {
         self.ask()?;
         let found = self.shelf.excerpt(incident, case, standing);
-        self.told(found)
+        self.count_failure(found)
     }
 
     fn meets(
@@ -117,30 +117,30 @@ impl<Sh: Shelf> Shelf for Failing<Sh> {
     ) -> Result<bool, ShelfFault> {
         self.ask()?;
         let met = self.shelf.meets(incident, case, standing, want);
-        self.told(met)
+        self.count_failure(met)
     }
 
     fn incidents_after(&mut self, number: u32, most: u32) -> Result<Vec<Entry>, ShelfFault> {
         self.ask()?;
         let found = self.shelf.incidents_after(number, most);
-        self.told(found)
+        self.count_failure(found)
     }
 
     fn groups_of(&mut self, person: &Person) -> Result<Vec<JoinedGroup>, ShelfFault> {
         self.ask()?;
         let found = self.shelf.groups_of(person);
-        self.told(found)
+        self.count_failure(found)
     }
 
     fn facts(&mut self, actor: &Person, request: &Request) -> Result<Facts, ShelfFault> {
         self.ask()?;
         let found = self.shelf.facts(actor, request);
-        self.told(found)
+        self.count_failure(found)
     }
 
     fn apply(&mut self, edits: &[Edit]) -> Result<(), ShelfFault> {
         self.ask()?;
         let made = self.shelf.apply(edits);
-        self.told(made)
+        self.count_failure(made)
     }
 }

@@ -63,7 +63,7 @@ fn main(rt: HostRuntime) -> io::Result<()> {
     for told in openings::all(alloc)? {
         println!(rt; "{told}")?;
     }
-    let told = stored_lines::told(alloc, &world)?;
+    let told = stored_lines::describe(alloc, &world)?;
     println!(rt; "{told}")?;
     for told in missing_row::all(alloc, &world)? {
         println!(rt; "{told}")?;

@@ -1,8 +1,8 @@
 //! A store of which somebody took a row away, in the middle of a report: the label of an event.
 
 use crate::block::Block;
-use crate::stored_lines::posted;
-use crate::tables::opened;
+use crate::stored_lines::post_all;
+use crate::tables::open_tables;
 use crate::told::reply;
 use crate::world::requests_of;
 use hub::Hub;
@@ -35,7 +35,7 @@ const ASKED: [&str; 9] = [
 /// The shelf over the tables without that row; none where the statement or the opening is refused.
 fn without_row(alloc: Global, mut conn: Connection<MemStore>) -> Option<SqlShelf<MemStore>> {
     match conn.execute(TAKEN, &[]) {
-        Ok(1) => opened(alloc, conn, false).ok(),
+        Ok(1) => open_tables(alloc, conn, false).ok(),
         _ => None,
     }
 }
@@ -43,7 +43,7 @@ fn without_row(alloc: Global, mut conn: Connection<MemStore>) -> Option<SqlShelf
 /// What is printed of it.
 pub fn all(alloc: Global, world: &Block) -> Result<Vec<String>, AllocError> {
     let mut all = Vec::new(alloc);
-    let whole = posted(alloc, world, &POSTS)?;
+    let whole = post_all(alloc, world, &POSTS)?;
     let Some(shelf) = whole.and_then(|shelf| without_row(alloc, shelf.release())) else {
         all.push(String::from_str(alloc, "the row was not taken away")?)?;
         return Ok(all);

@@ -2,7 +2,7 @@
 //! see a class of, and one with a class for the communities of its source.
 
 use crate::openings::fault_told;
-use crate::tables::opened;
+use crate::tables::open_tables;
 use crate::told::reply;
 use crate::world::requests_of;
 use hub::Hub;
@@ -129,7 +129,7 @@ fn are_run(conn: &mut Connection<MemStore>, statements: &[&str]) -> bool {
 
 /// What person 4 sees of the first incident at the first moment and at the last, what person 6 sees of the second and why,
 /// and the shelf.
-fn seen<S: Alter + Drop>(
+fn look<S: Alter + Drop>(
     alloc: Global,
     shelf: SqlShelf<S>,
 ) -> Result<(String, SqlShelf<S>), AllocError> {
@@ -149,9 +149,9 @@ fn told_by(
     conn: Connection<MemStore>,
     migrates: bool,
 ) -> Result<(String, Connection<MemStore>), AllocError> {
-    match opened(alloc, conn, migrates) {
+    match open_tables(alloc, conn, migrates) {
         Ok(shelf) => {
-            let (told, shelf) = seen(alloc, shelf)?;
+            let (told, shelf) = look(alloc, shelf)?;
             Ok((told, shelf.release()))
         }
         Err((fault, conn)) => Ok((fault_told(alloc, fault)?, conn)),
@@ -198,7 +198,7 @@ fn behind(
 }
 
 /// What is printed of a store, if it was made.
-fn printed(
+fn print_store(
     alloc: Global,
     made: Option<Connection<MemStore>>,
     turns: &[(&str, bool)],
@@ -214,15 +214,15 @@ fn printed(
 pub fn all(alloc: Global) -> Result<Vec<String>, AllocError> {
     let mut all = Vec::new(alloc);
     let first = behind(begun(alloc)?, &ROWS_1);
-    printed(alloc, first, &TURNS_1, &mut all)?;
+    print_store(alloc, first, &TURNS_1, &mut all)?;
     let unread = behind(begun(alloc)?, &UNREAD_1);
-    printed(alloc, unread, &UNREAD_TURNS, &mut all)?;
+    print_store(alloc, unread, &UNREAD_TURNS, &mut all)?;
     let second = behind(behind(begun(alloc)?, &TABLES_2), &IN_LINES);
-    printed(alloc, behind(second, &ROWS_2), &TURNS_2, &mut all)?;
+    print_store(alloc, behind(second, &ROWS_2), &TURNS_2, &mut all)?;
     let third = behind(
         behind(behind(begun(alloc)?, &TABLES_2), &TABLES_3),
         &IN_LINES,
     );
-    printed(alloc, behind(third, &ROWS_3), &TURNS_3, &mut all)?;
+    print_store(alloc, behind(third, &ROWS_3), &TURNS_3, &mut all)?;
     Ok(all)
 }

@@ -1,6 +1,6 @@
 //! Stores that are made and opened.
 
-use crate::tables::{begun, made, opened};
+use crate::tables::{begun, make_tables, open_tables};
 use hub_core::{Shelf, ShelfFault};
 use hub_store::{OpenFault, SqlShelf};
 use sqlite::{Alter, Connection};
@@ -23,14 +23,14 @@ fn told_of(alloc: Global, statements: &str, migrates: bool) -> Result<String, Al
     if let Err(_) = conn.execute_batch(statements) {
         return String::from_str(alloc, "the statements were refused");
     }
-    match opened(alloc, conn, migrates) {
+    match open_tables(alloc, conn, migrates) {
         Ok(_) => String::from_str(alloc, "opened"),
         Err((fault, _)) => fault_told(alloc, fault),
     }
 }
 
 /// What the shelf holds of what it began with.
-fn held<S: Alter>(shelf: &mut SqlShelf<S>) -> &'static str {
+fn describe_content<S: Alter>(shelf: &mut SqlShelf<S>) -> &'static str {
     match shelf.person_by_key(&key_of(1)) {
         Ok(Some(_)) => "person 1 is there",
         Ok(None) => "person 1 is missing",
@@ -40,9 +40,9 @@ fn held<S: Alter>(shelf: &mut SqlShelf<S>) -> &'static str {
 
 /// The connection that a refused opening gave back takes new tables.
 fn made_after_refusal(alloc: Global) -> Result<&'static str, AllocError> {
-    match opened(alloc, Connection::open_in_memory(alloc)?, false) {
+    match open_tables(alloc, Connection::open_in_memory(alloc)?, false) {
         Ok(_) => Ok("opened"),
-        Err((_, conn)) => match made(alloc, conn) {
+        Err((_, conn)) => match make_tables(alloc, conn) {
             Ok(_) => Ok("made"),
             Err(_) => Ok("not made"),
         },
@@ -54,11 +54,11 @@ fn made_twice(alloc: Global) -> Result<&'static str, AllocError> {
     let Some(shelf) = begun(alloc)? else {
         return Ok("not made");
     };
-    match made(alloc, shelf.release()) {
+    match make_tables(alloc, shelf.release()) {
         Ok(_) => Ok("made again"),
         Err((ShelfFault::NoMemory, _)) => Ok("no memory"),
-        Err((ShelfFault::Failed, conn)) => match opened(alloc, conn, false) {
-            Ok(mut again) => Ok(held(&mut again)),
+        Err((ShelfFault::Failed, conn)) => match open_tables(alloc, conn, false) {
+            Ok(mut again) => Ok(describe_content(&mut again)),
             Err(_) => Ok("not opened"),
         },
     }
@@ -69,8 +69,8 @@ fn opened_again(alloc: Global, migrates: bool) -> Result<&'static str, AllocErro
     let Some(shelf) = begun(alloc)? else {
         return Ok("not made");
     };
-    match opened(alloc, shelf.release(), migrates) {
-        Ok(mut again) => Ok(held(&mut again)),
+    match open_tables(alloc, shelf.release(), migrates) {
+        Ok(mut again) => Ok(describe_content(&mut again)),
         Err(_) => Ok("not opened"),
     }
 }

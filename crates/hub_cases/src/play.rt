@@ -3,7 +3,7 @@
 use crate::block::Block;
 use crate::counted::counts;
 use crate::failing::Failing;
-use crate::steps::limited;
+use crate::steps::limit_steps;
 use crate::world::{lines_of, requests_of};
 use crate::{tables, told};
 use hub::Hub;
@@ -119,7 +119,7 @@ pub fn answers(alloc: Global, world: &Block, block: &Block) -> Result<Vec<String
         answers.push(String::from_str(alloc, failed_in_turn(alloc, &lines)?)?)?;
     }
     if block.limits {
-        let told = limited(alloc, &lines, world.lines.len())?;
+        let told = limit_steps(alloc, &lines, world.lines.len())?;
         answers.push(String::from_str(alloc, told)?)?;
     }
     if block.counts {

@@ -126,7 +126,7 @@ fn asked_all(
 }
 
 /// What comes of the requests within so many steps a statement; none where the tables aren't made.
-fn tried(
+fn try_limit(
     alloc: Global,
     steps: u64,
     world: &[Asked],
@@ -150,11 +150,15 @@ fn tried(
 }
 
 /// Limits the steps of a statement to one, two and so on, until no request behind those of the world is given up.
-pub fn limited(alloc: Global, lines: &[&str], world: usize) -> Result<&'static str, AllocError> {
+pub fn limit_steps(
+    alloc: Global,
+    lines: &[&str],
+    world: usize,
+) -> Result<&'static str, AllocError> {
     let requests = requests_of(alloc, lines, None)?;
     let (first, asked) = requests.as_slice().split_at(world.min(requests.len()));
     for steps in 1..MOST_STEPS {
-        match tried(alloc, steps, first, asked)? {
+        match try_limit(alloc, steps, first, asked)? {
             None => return Ok("the tables failed"),
             Some(trial) if trial.differences > 0 => {
                 return Ok("an interrupted statement changed more than its own answer");

@@ -9,7 +9,7 @@ use sqlite::{Connection, MemStore};
 use std::alloc::{AllocError, Global};
 
 /// The tables, once these are posted behind the requests of the world; none where they aren't made.
-pub fn posted(
+pub fn post_all(
     alloc: Global,
     world: &Block,
     posts: &[&str],
@@ -45,8 +45,8 @@ fn names(alloc: Global, mut conn: Connection<MemStore>) -> Result<String, AllocE
 }
 
 /// What is printed of a report of two events.
-pub fn told(alloc: Global, world: &Block) -> Result<String, AllocError> {
-    match posted(alloc, world, &["p2|Post|3|-||DOC2"])? {
+pub fn describe(alloc: Global, world: &Block) -> Result<String, AllocError> {
+    match post_all(alloc, world, &["p2|Post|3|-||DOC2"])? {
         Some(shelf) => names(alloc, shelf.release()),
         None => String::from_str(alloc, "not posted"),
     }

@@ -10,7 +10,7 @@ use std::alloc::{AllocError, Global};
 use trying_hub::{first_rows, key_of};
 
 /// New tables over the connection, which comes back where they aren't made.
-pub fn made<S: Alter + Drop>(
+pub fn make_tables<S: Alter + Drop>(
     alloc: Global,
     conn: Connection<S>,
 ) -> Result<SqlShelf<S>, (ShelfFault, Connection<S>)> {
@@ -22,7 +22,7 @@ pub fn made<S: Alter + Drop>(
 }
 
 /// The tables of the connection, opened or brought to the newest version.
-pub fn opened<S: Alter + Drop>(
+pub fn open_tables<S: Alter + Drop>(
     alloc: Global,
     conn: Connection<S>,
     migrates: bool,
@@ -39,7 +39,7 @@ pub fn opened<S: Alter + Drop>(
 
 /// New tables in memory with organisation 1 and person 1; none where they weren't made.
 pub fn begun(alloc: Global) -> Result<Option<SqlShelf<MemStore>>, AllocError> {
-    let Ok(mut shelf) = made(alloc, Connection::open_in_memory(alloc)?) else {
+    let Ok(mut shelf) = make_tables(alloc, Connection::open_in_memory(alloc)?) else {
         return Ok(None);
     };
     match shelf.apply(&first_rows(alloc, key_of(1))?) {
@@ -62,7 +62,7 @@ pub fn replies(alloc: Global, lines: &[&str]) -> Result<Option<Vec<String>>, All
         if asked.failures() > 0 {
             return Ok(None);
         }
-        let Ok(again) = opened(alloc, asked.release(), false) else {
+        let Ok(again) = open_tables(alloc, asked.release(), false) else {
             return Ok(None);
         };
         shelf = again;

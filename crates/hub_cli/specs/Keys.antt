@@ -14,7 +14,8 @@ is_no_newline b = not (b == 10)
 -- what was read is the first line, and then its newline or the end
 abbrev pub IsFirstLine : Option (List ℕ) → Option (List ℕ) → List ℕ → Type 0
 IsFirstLine before after line =
-    IsTrue (list_all is_no_newline line) × (Consumes before after (line ++ 10 ∷ []) ⊎ (Consumes before after line × IsAtEnd after))
+    IsTrue (list_all is_no_newline line) ×
+    (Consumes before after (line ++ 10 ∷ []) ⊎ (Consumes before after line × IsAtEnd after))
 
 -- one visible byte or more, at most so many as a key may have
 abbrev pub is_key : List ℕ → Bool

@@ -8,7 +8,8 @@ use Rattle.marking.specs.Marks.{Marked}
 
 -- the compact JSON array of a class's path, its label, the label's handling where nothing is arranged, and its site
 abbrev pub row_of : Marked → Data
-row_of t = array (item (string t.path) (item (string (text_of t.label)) (item (string (name_of (handling_of t.label None))) (item (string t.site) no_items))))
+row_of t =
+    array (item (string t.path) (item (string (text_of t.label)) (item (string (name_of (handling_of t.label None))) (item (string t.site) no_items))))
 
 -- and the newline behind it
 abbrev pub line_of : Marked → Bytes

@@ -11,7 +11,8 @@ use Rattle.hub_http.specs.declared.serve.ServeFault.TheVariants.{Truncated, Read
 -- From whatever sound state the hub had, what was asked of it is a run of at most so many requests.
 abbrev pub HasRun : {D : Type 0} → (D → State → Type 0) → D → D → ℕ → Type 0
 HasRun has old new most = (s : State) → has old s → IsSound s
-    → (asked : List Asked) × (replies : List Reply) × (left : State) × (length asked ≤ most) × IsRun s asked replies left × has new left
+    → (asked : List Asked) × (replies : List Reply) × (left : State) × (length asked ≤ most) ×
+    IsRun s asked replies left × has new left
 
 abbrev pub fault_told : ServeFault → Bytes
 fault_told Truncated = codes "Truncated"

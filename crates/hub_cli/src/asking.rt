@@ -27,7 +27,9 @@ fn reply_to<Sh: Shelf>(
     line: &[u8],
     request: &Request,
 ) -> Reply
-    ensures step { Sh.doubts hub.new ≡ 0 → (s : State) → Sh.has hub.old s → IsSound s → (left : State) × IsStep s (now, spec.line_key line.now, request.now) result left × Sh.has hub.new left }
+    ensures step { Sh.doubts hub.new ≡ 0 → (s : State) → Sh.has hub.old s → IsSound s →
+        (left : State) × IsStep s (now, spec.line_key line.now, request.now) result left ×
+        Sh.has hub.new left }
 {
     hub.answer(alloc, now, &line_key(line), request)
 }

@@ -56,7 +56,7 @@ pub fn begins<'a>(words: &'a [&'a str], input: &'a str, output: &'a str) -> Case
 }
 
 /// The hub refuses it, and this is printed.
-pub fn refused<'a>(words: &'a [&'a str], input: &'a str, output: &'a str) -> Case<'a> {
+pub fn refuses<'a>(words: &'a [&'a str], input: &'a str, output: &'a str) -> Case<'a> {
     Case {
         status: Status::Refused,
         ..prints(words, input, output)

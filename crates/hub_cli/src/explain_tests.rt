@@ -1,11 +1,11 @@
 //! `explain` over stores in files: what it prints, how it ends, and which fault comes first.
 
-use crate::cases::{STORE, begins, first_wrong, prints, refused, tells, words_over};
+use crate::cases::{STORE, begins, first_wrong, prints, refuses, tells, words_over};
 use crate::cli::cli_run;
 use crate::input::INPUT_LIMIT;
 use crate::status::Status;
 use crate::store::{close, open_store};
-use crate::store_tests::{K1, N1, line_of, made, new_path, remove};
+use crate::store_tests::{K1, N1, line_of, makes, new_path, remove};
 use crate::tests::{AMBER, Full};
 use hub::Hub;
 use hub_core::Shelf;
@@ -119,7 +119,7 @@ fn post_all(rt: &HostRuntime, path: &str, posts: &[Post]) -> io::Result<()> {
 /// The path of a new store with the circle, and what these posts bring.
 fn store_with(rt: &HostRuntime, name: &str, posts: &[Post]) -> io::Result<String> {
     let path = new_path(rt, name)?;
-    if first_wrong(rt, path.as_str(), &[made()])?.is_some() {
+    if first_wrong(rt, path.as_str(), &[makes()])?.is_some() {
         return Err(io::Error::from(ErrorKind::InvalidInput));
     }
     post_all(rt, path.as_str(), &CIRCLE)?;
@@ -211,7 +211,7 @@ fn an_addressed_person_behind_a_gate(rt: HostRuntime) -> io::Result<()> {
     assert_eq!(rt; first_wrong(&rt, path, &cases)?, None);
     let opened = ("key-2", "/incidents/1/gate", "revision=1&path=&level=3");
     post_all(&rt, path, &[opened])?;
-    let cases = [refused(&["explain", STORE, "4", "1", ""], KEY, N3)];
+    let cases = [refuses(&["explain", STORE, "4", "1", ""], KEY, N3)];
     assert_eq!(rt; first_wrong(&rt, path, &cases)?, None);
     remove(&rt, path)
 }
@@ -325,9 +325,9 @@ fn a_grant_and_a_label_below_it(rt: HostRuntime) -> io::Result<()> {
             KEY,
             HIDDEN_BELOW_GRANT,
         ),
-        refused(&["explain", STORE, "4", "9", EVENT], KEY, N1),
-        refused(&["explain", STORE, "99", "1", EVENT], KEY, N2),
-        refused(asked, "key-2\nand more", W1),
+        refuses(&["explain", STORE, "4", "9", EVENT], KEY, N1),
+        refuses(&["explain", STORE, "99", "1", EVENT], KEY, N2),
+        refuses(asked, "key-2\nand more", W1),
     ];
     assert_eq!(rt; first_wrong(&rt, path.as_str(), &cases)?, None);
     remove(&rt, path.as_str())
@@ -354,18 +354,18 @@ fn refusals_of_explain_in_order(rt: HostRuntime) -> io::Result<()> {
     let path = store_with(&rt, "refusals", &GRANTED)?;
     let all_wrong = &["explain", STORE, "99", "9", "a"];
     let cases = [
-        refused(all_wrong, "\nand more", K1),
-        refused(all_wrong, "abd\nand more", K1),
-        refused(all_wrong, "abc \nand more", K1),
-        refused(all_wrong, " abc\nand more", K1),
-        refused(all_wrong, "key-4\nand more", W1),
-        refused(all_wrong, KEY, B1),
-        refused(&["explain", STORE, "99", "9", "/a~2"], KEY, B1),
-        refused(&["explain", STORE, "99", "9", "/a"], KEY, N1),
-        refused(&["explain", STORE, "0", "0", "/a"], KEY, N1),
-        refused(&["explain", STORE, "99", "1", "/a"], KEY, N2),
-        refused(&["explain", STORE, "4", "1", "/Incident"], KEY, N3),
-        refused(&["explain", STORE, "4", "1", "/Incident/0"], "", K1),
+        refuses(all_wrong, "\nand more", K1),
+        refuses(all_wrong, "abd\nand more", K1),
+        refuses(all_wrong, "abc \nand more", K1),
+        refuses(all_wrong, " abc\nand more", K1),
+        refuses(all_wrong, "key-4\nand more", W1),
+        refuses(all_wrong, KEY, B1),
+        refuses(&["explain", STORE, "99", "9", "/a~2"], KEY, B1),
+        refuses(&["explain", STORE, "99", "9", "/a"], KEY, N1),
+        refuses(&["explain", STORE, "0", "0", "/a"], KEY, N1),
+        refuses(&["explain", STORE, "99", "1", "/a"], KEY, N2),
+        refuses(&["explain", STORE, "4", "1", "/Incident"], KEY, N3),
+        refuses(&["explain", STORE, "4", "1", "/Incident/0"], "", K1),
     ];
     assert_eq!(rt; first_wrong(&rt, path.as_str(), &cases)?, None);
     remove(&rt, path.as_str())
@@ -386,7 +386,7 @@ fn faults_of_explain_in_order(rt: HostRuntime) -> io::Result<()> {
             Status::Failed,
         ),
         tells(asked, line, "Failed: no such file\n", Status::Failed),
-        made(),
+        makes(),
         tells(asked, line, "ReadFailed\n", Status::Failed),
     ];
     assert_eq!(rt; first_wrong(&rt, path.as_str(), &cases)?, None);
@@ -398,7 +398,7 @@ fn faults_of_explain_in_order(rt: HostRuntime) -> io::Result<()> {
 fn an_explanation_that_cannot_be_written(rt: HostRuntime) -> io::Result<()> {
     let path = new_path(&rt, "unwritten")?;
     let path = path.as_str();
-    assert_eq!(rt; first_wrong(&rt, path, &[made()])?, None);
+    assert_eq!(rt; first_wrong(&rt, path, &[makes()])?, None);
     let asked = ["explain", STORE, "99", "9", "a"];
     let words = words_over(rt.alloc(), path, &asked)?;
     let mut errors: Vec<u8> = Vec::new(rt.alloc());

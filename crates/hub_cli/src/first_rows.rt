@@ -50,10 +50,16 @@ pub fn put_first_rows<Sh: Shelf>(
     name: Name,
     key: [u8; 32],
 ) -> Result<(), ShelfFault>
-    ensures made { Sh.doubts shelf.new ≡ 0 → Sh.has shelf.old empty → OnOk result (Sh.has shelf.new (spec.first_state name key)) }
-    ensures none { OnErr result (KeepsContent Sh.has Sh.doubts Sh.failed Sh.may_remain shelf.old shelf.new) }
-    ensures durable { Sh.doubts shelf.new ≡ 0 → Sh.has shelf.old empty → OnOk result ((left : Option State) → Sh.may_remain shelf.new left ↔ (left ≡ Some (spec.first_state name key))) }
-    ensures crash { Sh.doubts shelf.new ≡ 0 → Sh.has shelf.old empty → (left : Option State) → Sh.may_remain shelf.new left → Sh.may_remain shelf.old left ⊎ (left ≡ Some (spec.first_state name key)) }
+    ensures made { Sh.doubts shelf.new ≡ 0 → Sh.has shelf.old empty →
+        OnOk result (Sh.has shelf.new (spec.first_state name key)) }
+    ensures none { OnErr result
+        (KeepsContent Sh.has Sh.doubts Sh.failed Sh.may_remain shelf.old shelf.new) }
+    ensures durable { Sh.doubts shelf.new ≡ 0 → Sh.has shelf.old empty →
+        OnOk result ((left : Option State) → Sh.may_remain shelf.new left ↔
+        (left ≡ Some (spec.first_state name key))) }
+    ensures crash { Sh.doubts shelf.new ≡ 0 → Sh.has shelf.old empty → (left : Option State) →
+        Sh.may_remain shelf.new left → Sh.may_remain shelf.old left ⊎
+        (left ≡ Some (spec.first_state name key)) }
 {
     match first_edits(alloc, name, key) {
         Ok(edits) => shelf.apply(edits.as_slice()),

@@ -36,7 +36,8 @@ pub fn read_input<R: Read>(alloc: Global, reader: &mut R) -> Result<Vec<u8>, Fau
 
 /// The first line of the input without its newline, where both are within the limit. Nothing is read behind it.
 pub fn read_line<R: Read>(alloc: Global, reader: &mut R) -> Result<Vec<u8>, Fault>
-    ensures { IfOk result (λ line. IsFirstLine (R.remaining reader.old) (R.remaining reader.new) line.items) }
+    ensures { IfOk result (λ line.
+        IsFirstLine (R.remaining reader.old) (R.remaining reader.new) line.items) }
 {
     let mut line = Vec::new(alloc);
     for _ in 0..=INPUT_LIMIT {

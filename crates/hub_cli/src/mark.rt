@@ -5,7 +5,8 @@ ghost use Rattle.json.specs.Print.{quoted};
 ghost use Rattle.marking.specs.Label.{marking_of, text_of};
 ghost use Rattle.marking.specs.Marks.{first_bad_marking, marked_by};
 ghost use Rattle.hub_cli.specs.Lines.{line_of};
-ghost use Rattle.hub_cli.specs.Mark.{IsMarked, fault_name, mark_text as printed, text_of_class, text_of_document};
+ghost use Rattle.hub_cli.specs.Mark.{IsMarked, fault_name, text_of_class, text_of_document};
+ghost use Rattle.hub_cli.specs.Mark as spec;
 ghost use Rattle.iodef_tree.specs.Paths.{located};
 ghost use Rattle.hub_cli.specs.declared.mark.MarkFault.TheVariants.{NoMemory};
 
@@ -57,18 +58,18 @@ pub struct Selection {
 
 /// For each class that is wanted, in stored order, a line with the compact JSON array of its path, its label, the label's
 /// handling where nothing is arranged, and the path of the class where that label stands.
-pub fn mark_text(alloc: Global, body: &[u8], wanted: &Selection) -> Result<String, MarkFault>
-    ensures { IsMarked result (printed wanted.now body.now) }
+pub fn mark_text(alloc: Global, body: &[u8], selection: &Selection) -> Result<String, MarkFault>
+    ensures { IsMarked result (spec.mark_text selection.now body.now) }
 {
     let documents = match Document::read(alloc, body) {
         Ok(documents) => documents,
         Err(ReadFault::NoMemory) => return Err(MarkFault::NoMemory),
         Err(fault) => return Err(MarkFault::Body(fault)),
     };
-    let Some(document) = documents.as_slice().get(wanted.place as usize) else {
+    let Some(document) = documents.as_slice().get(selection.place as usize) else {
         return Err(MarkFault::NoClass);
     };
-    document_text(alloc, document, &wanted.class)
+    document_text(alloc, document, &selection.class)
 }
 
 fn document_text(
@@ -139,7 +140,8 @@ impl MarkWriter for Lines {
 
 /// The compact JSON array of the path, the label, its handling and the site, and a newline, behind `out`.
 fn push_line(alloc: Global, out: &mut String, mark: Mark<'_>) -> Result<(), AllocError>
-    ensures { OnOk result (string_bytes out.new ≡ string_bytes out.old ++ line_of (marked_by mark.entry)) }
+    ensures { OnOk result (string_bytes out.new ≡
+        string_bytes out.old ++ line_of (marked_by mark.entry)) }
 {
     push_cell(alloc, out, "[", mark.path)?;
     push_label(alloc, out, mark.label)?;
@@ -151,7 +153,8 @@ fn push_line(alloc: Global, out: &mut String, mark: Mark<'_>) -> Result<(), Allo
 
 /// A comma and the label as a JSON string, behind `out`. Memory of its own is taken for an extended one alone.
 fn push_label(alloc: Global, out: &mut String, label: Label<'_>) -> Result<(), AllocError>
-    ensures { OnOk result (string_bytes out.new ≡ string_bytes out.old ++ (codes "," ++ quoted (text_of (marking_of label.entry)))) }
+    ensures { OnOk result (string_bytes out.new ≡
+        string_bytes out.old ++ (codes "," ++ quoted (text_of (marking_of label.entry)))) }
 {
     match label {
         Label::Ext(_) => {
@@ -169,7 +172,8 @@ fn push_label(alloc: Global, out: &mut String, label: Label<'_>) -> Result<(), A
 
 /// What stands before a text, and the text as a JSON string, behind `out`.
 fn push_cell(alloc: Global, out: &mut String, before: &str, text: &str) -> Result<(), AllocError>
-    ensures { OnOk result (string_bytes out.new ≡ string_bytes out.old ++ (before.now ++ quoted text.now)) }
+    ensures { OnOk result (string_bytes out.new ≡
+        string_bytes out.old ++ (before.now ++ quoted text.now)) }
 {
     out.push_str(before)?;
     push_quoted(alloc, out, text)

@@ -36,7 +36,7 @@ impl<'a, C: Clock> Timed<'a, C> {
     }
 
     /// How long the next read or write may take.
-    fn left(&mut self) -> io::Result<Duration> {
+    fn time_left(&mut self) -> io::Result<Duration> {
         let now = Instant::now(self.clock)?;
         let since = match self.since {
             Some(since) => since,
@@ -51,7 +51,7 @@ impl<'a, C: Clock> Timed<'a, C> {
 // A time of 0 is refused by the timeout, and so ends the direction.
 impl<C: Clock> Read for Timed<'_, C> {
     fn read(&mut self, buf: &mut [u8]) -> io::Result<usize> {
-        let left = self.left()?;
+        let left = self.time_left()?;
         self.stream.set_read_timeout(Some(left))?;
         let mut stream = self.stream;
         stream.read(buf)
@@ -60,7 +60,7 @@ impl<C: Clock> Read for Timed<'_, C> {
 
 impl<C: Clock> Write for Timed<'_, C> {
     fn write(&mut self, buf: &[u8]) -> io::Result<usize> {
-        let left = self.left()?;
+        let left = self.time_left()?;
         self.stream.set_write_timeout(Some(left))?;
         let mut stream = self.stream;
         stream.write(buf)

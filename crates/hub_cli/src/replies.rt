@@ -1,7 +1,8 @@
 //! What is printed of a reply, and how the program ends with it.
 ghost use Rattle.std.specs.Prelude.{◌≡◌, ◌++◌, ◌∷◌, [], IfOk, string_bytes};
 ghost use Rattle.hub_http.specs.Replies.{body_text as body_told};
-ghost use Rattle.hub_cli.specs.Replies.{reply_status, printed as printed_of};
+ghost use Rattle.hub_cli.specs.Replies.{reply_status};
+ghost use Rattle.hub_cli.specs.Replies as spec;
 
 use crate::status::Status;
 use hub_core::Reply;
@@ -29,7 +30,7 @@ fn line_of(alloc: Global, reply: &Reply) -> Result<String, AllocError>
 
 /// What is printed of a reply: the lines of an explanation, of all else the body and a newline.
 pub fn reply_lines(alloc: Global, reply: &Reply) -> Result<String, AllocError>
-    ensures { IfOk result (λ text. string_bytes text ≡ printed_of reply.now) }
+    ensures { IfOk result (λ text. string_bytes text ≡ spec.printed reply.now) }
 {
     match reply {
         Reply::Trace(lines) => String::from_str(alloc, lines.as_str()),

@@ -9,7 +9,7 @@ use crate::keys::digest_of;
 use crate::listen::serve_count;
 use crate::status::Status;
 use crate::store::{close, open_store};
-use crate::store_tests::{ABC, change, made, new_path, remove};
+use crate::store_tests::{ABC, change, makes, new_path, remove};
 use circle::name::Name;
 use hub::Hub;
 use hub_core::{ListShelf, Request, Shelf};
@@ -153,7 +153,7 @@ fn serves_past_a_failure<Sh: Shelf>(rt: &HostRuntime, hub: &mut Hub<Sh>) -> io::
 fn a_store_that_fails_in_between(rt: HostRuntime) -> io::Result<()> {
     let path = new_path(&rt, "failing")?;
     let path = path.as_str();
-    assert_eq!(rt; first_wrong(&rt, path, &[made()])?, None);
+    assert_eq!(rt; first_wrong(&rt, path, &[makes()])?, None);
     change(&rt, path, "DROP TABLE incident")?;
     let Ok(shelf) = open_store(&rt, path) else {
         return Err(io::Error::from(ErrorKind::NotFound));

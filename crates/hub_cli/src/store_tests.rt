@@ -1,6 +1,6 @@
 //! The commands over a store in a file: what they print, what they tell, how they end, and which fault comes first.
 
-use crate::cases::{Case, STORE, first_wrong, prints, refused, tells};
+use crate::cases::{Case, STORE, first_wrong, prints, refuses, tells};
 use crate::input::INPUT_LIMIT;
 use crate::status::Status;
 use crate::store::{connect, connect_or_make};
@@ -36,7 +36,7 @@ pub fn remove(rt: &HostRuntime, path: &str) -> io::Result<()> {
 }
 
 /// A store is made, with one organisation and its administrator, whose key is `abc`.
-pub fn made<'a>() -> Case<'a> {
+pub fn makes<'a>() -> Case<'a> {
     prints(&["init", STORE, "Hub", ABC], "", "created\n")
 }
 
@@ -44,7 +44,7 @@ pub fn made<'a>() -> Case<'a> {
 fn a_store_is_made_once(rt: HostRuntime) -> io::Result<()> {
     let path = new_path(&rt, "made")?;
     let cases = [
-        made(),
+        makes(),
         tells(&["init", STORE, "Hub", ABC], "", "Failed\n", Status::Failed),
         prints(&["migrate", STORE], "", "version 4\n"),
     ];
@@ -116,7 +116,7 @@ fn a_store_is_its_owners(rt: HostRuntime) -> io::Result<()> {
     let path = new_path(&rt, "mode")?;
     let path = path.as_str();
     let log = format!(in rt.alloc(); "{path}-wal")?;
-    assert_eq!(rt; first_wrong(&rt, path, &[made()])?, None);
+    assert_eq!(rt; first_wrong(&rt, path, &[makes()])?, None);
     assert!(rt; mode_of(&rt, path)? == 0o600 && mode_of(&rt, log.as_str())? == 0o600);
     remove(&rt, path)
 }
@@ -138,7 +138,7 @@ fn no_file_of_such_a_name(rt: HostRuntime) -> io::Result<()> {
 fn a_store_in_another_hand(rt: HostRuntime) -> io::Result<()> {
     let path = new_path(&rt, "locked")?;
     let path = path.as_str();
-    assert_eq!(rt; first_wrong(&rt, path, &[made()])?, None);
+    assert_eq!(rt; first_wrong(&rt, path, &[makes()])?, None);
     let held = connect(&rt, path);
     let told = "Failed: locked by another program\n";
     let case = tells(&["view", STORE, "1"], "", told, Status::Failed);
@@ -215,7 +215,7 @@ fn a_port_that_is_taken(rt: HostRuntime) -> io::Result<()> {
     let path = new_path(&rt, "port")?;
     let (listener, port) = taken_port(&rt)?;
     let serve = ["serve", STORE, port.as_str(), "0"];
-    let cases = [made(), tells(&serve, "", "ListenFailed\n", Status::Failed)];
+    let cases = [makes(), tells(&serve, "", "ListenFailed\n", Status::Failed)];
     assert_eq!(rt; first_wrong(&rt, path.as_str(), &cases)?, None);
     drop(listener);
     let line = format!(in rt.alloc(); "listening {port}\n")?;
@@ -229,11 +229,11 @@ fn views_by_the_first_line(rt: HostRuntime) -> io::Result<()> {
     let path = new_path(&rt, "view")?;
     let view = &["view", STORE, "1"];
     let cases = [
-        made(),
-        refused(view, "abc\nand more", N1),
-        refused(view, "abc", N1),
-        refused(view, "abc \n", K1),
-        refused(view, "", K1),
+        makes(),
+        refuses(view, "abc\nand more", N1),
+        refuses(view, "abc", N1),
+        refuses(view, "abc \n", K1),
+        refuses(view, "", K1),
     ];
     assert_eq!(rt; first_wrong(&rt, path.as_str(), &cases)?, None);
     remove(&rt, path.as_str())
@@ -247,8 +247,8 @@ fn first_lines_at_the_limit(rt: HostRuntime) -> io::Result<()> {
     let ended = format!(in rt.alloc(); "{line}\n")?;
     let view = &["view", STORE, "1"];
     let cases = [
-        made(),
-        refused(view, line, K1),
+        makes(),
+        refuses(view, line, K1),
         tells(view, ended.as_str(), "ReadFailed\n", Status::Failed),
     ];
     assert_eq!(rt; first_wrong(&rt, path.as_str(), &cases)?, None);

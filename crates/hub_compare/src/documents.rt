@@ -88,7 +88,7 @@ fn contacts(dice: &mut Dice) -> &'static str {
 }
 
 /// The text so many times.
-fn repeated(alloc: Global, text: &str, count: u32) -> Result<String, AllocError> {
+fn repeat(alloc: Global, text: &str, count: u32) -> Result<String, AllocError> {
     let mut all = String::new(alloc);
     for _ in 0..count {
         all.push_str(text)?;
@@ -103,7 +103,7 @@ fn event(alloc: Global, dice: &mut Dice) -> Result<String, AllocError> {
     if dice.once_in(2) {
         return format!(in alloc; "{{\"Description\":{description}{own}}}");
     }
-    let systems = repeated(alloc, "{\"Note\":\"needle\"},", dice.roll(3))?;
+    let systems = repeat(alloc, "{\"Note\":\"needle\"},", dice.roll(3))?;
     let last = label(dice);
     let flow = label(dice);
     format!(in alloc;
@@ -114,7 +114,7 @@ fn event(alloc: Global, dice: &mut Dice) -> Result<String, AllocError> {
 /// One to three events; in wide documents two dozen empty classes.
 fn events(alloc: Global, dice: &mut Dice, wide: bool) -> Result<String, AllocError> {
     if wide {
-        let more = repeated(alloc, ",{}", 23)?;
+        let more = repeat(alloc, ",{}", 23)?;
         return format!(in alloc; "{{}}{more}");
     }
     let mut text = event(alloc, dice)?;
@@ -126,16 +126,16 @@ fn events(alloc: Global, dice: &mut Dice, wide: bool) -> Result<String, AllocErr
 }
 
 /// A member with the flaw, behind others.
-fn flawed(alloc: Global, dice: &mut Dice, flaw: Flaw) -> Result<String, AllocError> {
+fn with_flaw(alloc: Global, dice: &mut Dice, flaw: Flaw) -> Result<String, AllocError> {
     match flaw {
         Flaw::NotWhole => String::from_str(alloc, ",\"zone\":[{\"n\":[1.5]}]"),
         Flaw::NestedClass => String::from_str(alloc, ",\"zone\":[\"x\",[1,{}]]"),
         Flaw::TooDeep => {
-            let (opened, closed) = (repeated(alloc, "{\"d\":", 33)?, repeated(alloc, "}", 33)?);
+            let (opened, closed) = (repeat(alloc, "{\"d\":", 33)?, repeat(alloc, "}", 33)?);
             format!(in alloc; ",\"zone\":{opened}{{}}{closed}")
         }
         Flaw::TooManyLines => {
-            let more = repeated(alloc, ",1", 4096)?;
+            let more = repeat(alloc, ",1", 4096)?;
             format!(in alloc; ",\"zone\":[1{more}]")
         }
         Flaw::BadMarking => String::from_str(alloc, no_label(dice)),
@@ -163,7 +163,7 @@ fn incident(
     let purpose = unless(is_flawed && missing == 3, "purpose");
     let contacts = contacts(dice);
     let events = events(alloc, dice, wide)?;
-    let flawed = flawed(alloc, dice, flaw)?;
+    let flawed = with_flaw(alloc, dice, flaw)?;
     let own = label(dice);
     format!(in alloc;
         "{{\"{contact}\":{contacts},\"EventData\":[{events}],\"{time}\":\"g\",\"{id}\":{ident},\"{purpose}\":\"reporting\"{flawed}{own}}}"

@@ -181,7 +181,7 @@ others_stay s a r i h found other = split (refusal_of s a r) refl
     split None is = spared i.naming.number (edits_of s a r) s (all_spared s a r i h found other is)
     split (Some why) is = record { row = refl; gates = refl; recipients = refl; permissions = refl }
 
--- ---- another document ends the permissions
+-- ---- another document takes out the permissions
 
 -- the edit is of an incident or of a gate
 abbrev IsPlain : Edit → Type 0

@@ -262,7 +262,7 @@ exchanged = record posted {
 }
 
 -- A document is exchanged in an own incident and for the revision that is present, which is told where another is named. The
--- incident is in its next revision then: its gates are those asked for, its permissions end, and its recipients stay.
+-- incident is in its next revision then: its gates are those asked for, its permissions are taken out, and its recipients stay.
 abbrev pub ReplaceTakesPermissionsOut : Type 0
 ReplaceTakesPermissionsOut =
     map answered (replace 2 1 ∷ replace 1 2 ∷ replace 1 1 ∷ [])

@@ -24,21 +24,30 @@ first_rises_twice : (m n : ℕ) (o u : Ordering) → is_lt (ordering_then (order
 first_rises_twice m n o u h = grind (arith, nat_tests)
 
 pub gate_total : IsTotalOrder gate_cmp
-gate_total = then_total (on_total (λ (g : Gate). g.incident) nat_cmp_total) (on_total (λ (g : Gate). pointer_text g.gate.path) nat_list_cmp_total)
+gate_total =
+    then_total (on_total (λ (g : Gate). g.incident) nat_cmp_total)
+    (on_total (λ (g : Gate). pointer_text g.gate.path) nat_list_cmp_total)
 
 pub gates_together : (a b : Gate) → is_lt (gate_cmp b a) ≡ false → a.incident ≤ b.incident
-gates_together a b h = first_rises a.incident b.incident (slice_cmp nat_cmp (pointer_text b.gate.path) (pointer_text a.gate.path)) h
+gates_together a b h =
+    first_rises a.incident b.incident (slice_cmp nat_cmp (pointer_text b.gate.path) (pointer_text a.gate.path)) h
 
 pub permission_total : IsTotalOrder permission_cmp
 permission_total = then_total
-    (then_total (on_total (λ (x : Permission). x.incident) nat_cmp_total) (on_total (λ (x : Permission). pointer_text x.permission.path) nat_list_cmp_total))
+    (then_total (on_total (λ (x : Permission). x.incident) nat_cmp_total)
+    (on_total (λ (x : Permission). pointer_text x.permission.path) nat_list_cmp_total))
     (on_total (λ (x : Permission). grantee_key x.permission.grantee) pair_total)
 
 pub permissions_together : (a b : Permission) → is_lt (permission_cmp b a) ≡ false → a.incident ≤ b.incident
-permissions_together a b h = first_rises_twice a.incident b.incident (slice_cmp nat_cmp (pointer_text b.permission.path) (pointer_text a.permission.path)) (pair_cmp (grantee_key b.permission.grantee) (grantee_key a.permission.grantee)) h
+permissions_together a b h =
+    first_rises_twice a.incident b.incident
+    (slice_cmp nat_cmp (pointer_text b.permission.path) (pointer_text a.permission.path))
+    (pair_cmp (grantee_key b.permission.grantee) (grantee_key a.permission.grantee)) h
 
 pub recipient_total : IsTotalOrder recipient_cmp
-recipient_total = then_total (on_total (λ (r : Recipient). r.incident) nat_cmp_total) (on_total (λ (r : Recipient). target_key r.target) pair_total)
+recipient_total =
+    then_total (on_total (λ (r : Recipient). r.incident) nat_cmp_total)
+    (on_total (λ (r : Recipient). target_key r.target) pair_total)
 
 pub recipients_together : (a b : Recipient) → is_lt (recipient_cmp b a) ≡ false → a.incident ≤ b.incident
 recipients_together a b h = first_rises a.incident b.incident (pair_cmp (target_key b.target) (target_key a.target)) h
@@ -61,7 +70,9 @@ abbrev pub named_cmp : Named → Named → Ordering
 named_cmp a b = ordering_then (nat_cmp a.source b.source) (slice_cmp nat_cmp a.ident b.ident)
 
 pub named_total : IsTotalOrder named_cmp
-named_total = then_total (on_total (λ (e : Named). e.source) nat_cmp_total) (on_total (λ (e : Named). e.ident) nat_list_cmp_total)
+named_total =
+    then_total (on_total (λ (e : Named). e.source) nat_cmp_total)
+    (on_total (λ (e : Named). e.ident) nat_list_cmp_total)
 
 pub named_together : (a b : Named) → is_lt (named_cmp b a) ≡ false → a.source ≤ b.source
 named_together a b h = first_rises a.source b.source (slice_cmp nat_cmp b.ident a.ident) h

@@ -1,6 +1,6 @@
 //! How many class gates, recipients and permissions of an incident would stand after a request.
 ghost use Rattle.std.specs.Prelude.{◌≡◌, ◌∷◌, [], true, false, ℕ, is_some, IfOk};
-ghost use Rattle.circle.specs.declared.directory.Person.{Person as Actor};
+ghost use Rattle.circle.specs.declared.directory.Person.{Person as ThePerson};
 ghost use Rattle.hub_core.specs.Aftermath.{put_gate, put_permission};
 ghost use Rattle.hub_core.specs.Documents.{made_at};
 ghost use Rattle.hub_core.specs.Edits.{with_edits};
@@ -36,7 +36,11 @@ fn gates_with(alloc: Global, asked: &Redistribute, gates: &[Gate]) -> Result<u32
         class_gates asked.now.incident
         (with_edits (made_at (λ p.
         edit.TakeGate
-        (record { incident = asked.now.incident; path = p }) ∷ put_gate asked.now.incident asked.now.level asked.now.group p) asked.now.path) s).gates) }
+        (record {
+          incident = asked.now.incident;
+          path = p;
+        }) ∷ put_gate asked.now.incident asked.now.level asked.now.group p)
+        asked.now.path) s).gates) }
 {
     match path_of(alloc, &asked.path)? {
         None => Ok(capped(count_class_gates(gates))),
@@ -56,7 +60,11 @@ fn permissions_with(
         permissions_of asked.now.incident
         (with_edits (made_at (λ p.
         put_permission
-        (record { incident = asked.now.incident; path = p; grantee = asked.now.grantee }) asked.now.until) asked.now.path) s).permissions) }
+        (record {
+          incident = asked.now.incident;
+          path = p;
+          grantee = asked.now.grantee;
+        }) asked.now.until) asked.now.path) s).permissions) }
 {
     match path_of(alloc, &asked.path)? {
         None => Ok(capped(permissions.len())),
@@ -79,7 +87,11 @@ fn permissions_without(
         permissions_of asked.now.incident
         (with_edits (made_at (λ p.
         edit.TakePermission
-        (record { incident = asked.now.incident; path = p; grantee = asked.now.grantee }) ∷ []) asked.now.path) s).permissions) }
+        (record {
+          incident = asked.now.incident;
+          path = p;
+          grantee = asked.now.grantee;
+        }) ∷ []) asked.now.path) s).permissions) }
 {
     match path_of(alloc, &asked.path)? {
         None => Ok(capped(permissions.len())),
@@ -105,7 +117,7 @@ fn standing_counts(sharing: &Sharing) -> Counts
 /// How many would stand of the incident that the request names, which is there.
 fn counts_there(alloc: Global, request: &Request, sharing: &Sharing) -> Result<Counts, AllocError>
     ensures { (s : State) → IsSound s → sharing.now ≡ sharing_asked (incident_asked request.now) s →
-        is_some (looked_up s (incident_asked request.now)) ≡ true → (actor : Actor) →
+        is_some (looked_up s (incident_asked request.now)) ≡ true → (actor : ThePerson) →
         IfOk result (λ found. found ≡ counts_in s actor request.now) }
 {
     let counts = standing_counts(sharing);
@@ -145,7 +157,7 @@ fn counts_there(alloc: Global, request: &Request, sharing: &Sharing) -> Result<C
 /// How many would stand where no incident that is there is named: each incident of a Post would have as many class gates
 /// as are asked for.
 fn counts_apart(request: &Request) -> Counts
-    ensures { (s : State) → (actor : Actor) →
+    ensures { (s : State) → (actor : ThePerson) →
         is_some (looked_up s (incident_asked request.now)) ≡ false →
         result ≡ counts_in s actor request.now }
 {
@@ -168,7 +180,7 @@ pub(crate) fn counts_then(
     is_there: bool,
 ) -> Result<Counts, AllocError>
     ensures { (s : State) → IsSound s → sharing.now ≡ sharing_asked (incident_asked request.now) s →
-        is_there ≡ is_some (looked_up s (incident_asked request.now)) → (actor : Actor) →
+        is_there ≡ is_some (looked_up s (incident_asked request.now)) → (actor : ThePerson) →
         IfOk result (λ found. found ≡ counts_in s actor request.now) }
 {
     if is_there {

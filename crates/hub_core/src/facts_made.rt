@@ -1,7 +1,8 @@
 //! What there is to know about a request, made of what a shelf looks up.
 ghost use Rattle.std.specs.Prelude.{◌≡◌, IfOk, option_map};
 ghost use Rattle.hub_core.specs.Facts.{plain_facts, exists_in, stands_in, count_in, circle_facts_of, facts_of};
-ghost use Rattle.hub_core.specs.Requests.{incident_facts, looked_up, incident_asked as incident_named_by};
+ghost use Rattle.hub_core.specs.Requests.{incident_facts, looked_up};
+ghost use Rattle.hub_core.specs.Requests as spec;
 ghost use Rattle.hub_core.specs.inner.Shared.{sharing_asked};
 ghost use Rattle.hub_core.specs.Shelves.{Finds, Reads};
 ghost use Rattle.hub_core.specs.State.{State};
@@ -25,7 +26,7 @@ use std::alloc::Global;
 
 /// The incident that a request names.
 fn incident_asked(request: &Request) -> Option<u32>
-    ensures { result ≡ incident_named_by request.now }
+    ensures { result ≡ spec.incident_asked request.now }
 {
     match request {
         Request::Replace(Replace { incident, .. })
@@ -94,7 +95,7 @@ fn find_plain_facts<L: LookUps>(
     sharing: &Sharing,
 ) -> Result<CircleFacts, ShelfFault>
     ensures { Finds L.has L.doubts L.failed L.may_remain shelf.old shelf.new result (λ s.
-        sharing.now ≡ sharing_asked (incident_named_by request.now) s →
+        sharing.now ≡ sharing_asked (spec.incident_asked request.now) s →
         IfOk result (λ facts. facts ≡
         plain_facts (exists_in s actor.now request.now) (stands_in s request.now)
         (count_in s request.now))) }
@@ -114,7 +115,7 @@ fn find_circle_facts<L: LookUps>(
     sharing: &Sharing,
 ) -> Result<CircleFacts, ShelfFault>
     ensures { Finds L.has L.doubts L.failed L.may_remain shelf.old shelf.new result (λ s.
-        sharing.now ≡ sharing_asked (incident_named_by request.now) s →
+        sharing.now ≡ sharing_asked (spec.incident_asked request.now) s →
         IfOk result (λ facts. facts ≡ circle_facts_of s actor.now request.now)) }
 {
     match request {
@@ -124,7 +125,8 @@ fn find_circle_facts<L: LookUps>(
 }
 
 fn known_by_naming(naming: Naming) -> IncidentFacts
-    ensures { result ≡ record { source = naming.source; revision = naming.revision; ident = naming.ident } }
+    ensures { result ≡
+        record { source = naming.source; revision = naming.revision; ident = naming.ident } }
 {
     IncidentFacts {
         source: naming.source,
@@ -172,7 +174,7 @@ fn find_facts<L: LookUps>(
     sharing: &Sharing,
 ) -> Result<Facts, ShelfFault>
     ensures { Finds L.has L.doubts L.failed L.may_remain shelf.old shelf.new result (λ s.
-        sharing.now ≡ sharing_asked (incident_named_by request.now) s →
+        sharing.now ≡ sharing_asked (spec.incident_asked request.now) s →
         IfOk result (λ facts. facts ≡ facts_of s actor.now request.now)) }
 {
     let asked = incident_asked(request);

@@ -3,7 +3,7 @@ ghost use Rattle.std.specs.Prelude.{◌≡◌, ◌<◌, List, IfErr, IfOk, None,
 ghost use Rattle.circle.specs.Outcomes.{RefusedAs};
 ghost use Rattle.circle.specs.Refusals.{Ground, first_answer};
 ghost use Rattle.hub_core.specs.State.{State};
-ghost use Rattle.hub_core.specs.Edits.{with_edits as state_with_edits};
+ghost use Rattle.hub_core.specs.Edits as spec;
 ghost use Rattle.hub_core.specs.Sound.{IsSound};
 ghost use Rattle.hub_core.specs.Facts.{facts_of};
 ghost use Rattle.hub_core.specs.Refusals.{refusal_of, state_after};
@@ -54,7 +54,7 @@ pub fn judge(
     ensures edits { facts.now.circle.count < 4294967295 →
         IfOk result (λ edits. edits.items ≡ edits_by facts.now actor.now request.now) }
     ensures made { (s : State) → IsSound s → facts.now ≡ facts_of s actor.now request.now →
-        IfOk result (λ edits. state_with_edits edits.items s ≡ state_after s actor.now request.now) }
+        IfOk result (λ edits. spec.with_edits edits.items s ≡ state_after s actor.now request.now) }
 {
     match request {
         Request::Circle(command) => judge_command(alloc, actor, &facts.circle, command),

@@ -2,7 +2,8 @@
 ghost use Rattle.std.specs.Prelude.{◌≡◌, option_map, IfOk};
 ghost use Rattle.std.specs.Option.{option_copied};
 ghost use Rattle.circle.specs.Reads.{person_of};
-ghost use Rattle.hub_core.specs.Reads.{person_by_key as person_of_key, case_of, document_of, served_of_incident, met_by_incident, groups_of as groups_joined_by, joined, naming_of};
+ghost use Rattle.hub_core.specs.Reads.{case_of, document_of, served_of_incident, met_by_incident, joined, naming_of};
+ghost use Rattle.hub_core.specs.Reads as spec;
 ghost use Rattle.redact.specs.Excerpts.{told_by};
 ghost use Rattle.hub_core.specs.Sound.{IsSound};
 
@@ -17,7 +18,7 @@ use std::alloc::AllocError;
 
 impl ListShelf {
     pub(crate) fn find_person(&self, key: &[u8; 32]) -> Result<Option<Person>, AllocError>
-        ensures { IfOk result (λ found. found ≡ person_of_key key.now self.now) }
+        ensures { IfOk result (λ found. found ≡ spec.person_by_key key.now self.now) }
     {
         copy_of(self.directory().person_of_key(key))
     }
@@ -97,7 +98,7 @@ impl ListShelf {
     }
 
     pub(crate) fn joined_groups(&self, person: &Person) -> Result<Vec<JoinedGroup>, AllocError>
-        ensures { IfOk result (λ found. found.items ≡ groups_joined_by person.now self.now) }
+        ensures { IfOk result (λ found. found.items ≡ spec.groups_of person.now self.now) }
     {
         let members = self
             .directory()

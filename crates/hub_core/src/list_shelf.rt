@@ -3,7 +3,7 @@ ghost use Rattle.std.specs.Prelude.{◌≡◌, OnOk, OnErr, IfOk, length, min, o
 ghost use Rattle.std.specs.Option.{option_copied};
 ghost use Rattle.hub_core.specs.State.{State, empty, incident_of, incident_named, incident_number};
 ghost use Rattle.hub_core.specs.Reads.{its_gates, its_permissions, its_recipients, entries_after};
-ghost use Rattle.hub_core.specs.Edits.{with_edits as state_with_edits};
+ghost use Rattle.hub_core.specs.Edits as spec;
 ghost use Rattle.hub_core.specs.Sound.{IsSound};
 
 use crate::change::changes_of;
@@ -116,7 +116,7 @@ impl ListShelf {
 
     /// Makes all edits, or, where the memory doesn't suffice, none.
     pub(crate) fn make(&mut self, edits: &[Edit]) -> Result<(), AllocError>
-        ensures made { OnOk result (self.new ≡ state_with_edits edits.now self.old) }
+        ensures made { OnOk result (self.new ≡ spec.with_edits edits.now self.old) }
         ensures none { OnErr result (self.new ≡ self.old) }
     {
         let changes = changes_of(self.alloc, edits)?;

@@ -2,7 +2,7 @@
 ghost use Rattle.std.specs.Prelude.{◌≡◌, ◌==◌, ℕ, Option, option_map, length};
 ghost use Rattle.circle.specs.Directory.{has_org as is_org, has_person as is_person, has_community as is_community, has_membership as is_membership, has_group_member as is_group_member};
 ghost use Rattle.circle.specs.Facts.{facts_of as directory_facts};
-ghost use Rattle.circle.specs.Reads.{person_of as person_numbered, communities_of as communities_joined, groups_joined as groups_joined_by, active_groups_joined as active_groups_joined_by, share_community as are_in_one_community, are_connected as are_in_connected, arranged as arranged_with, orgs_whose_client as organisations_whose_client};
+ghost use Rattle.circle.specs.Reads as spec;
 ghost use Rattle.hub_core.specs.Reads.{document_of, its_gates, its_permissions, its_recipients, naming_of};
 ghost use Rattle.hub_core.specs.Shelves.{Reads, last_count};
 ghost use Rattle.hub_core.specs.Sound.{IsSound};
@@ -52,7 +52,7 @@ pub trait LookUps {
     /// The person with this number, active or not.
     fn person_of(&mut self, number: u32) -> Result<Option<Person>, ShelfFault>
         ensures { Reads has doubts failed may_remain self.old self.new (λ s found. found ≡
-            person_numbered number s.directory) result };
+            spec.person_of number s.directory) result };
 
     /// Whether there is a person with this number, active or not.
     fn has_person(&mut self, number: u32) -> Result<bool, ShelfFault>
@@ -82,32 +82,35 @@ pub trait LookUps {
     /// The groups of which an organisation is a member, and those of them that are active.
     fn groups_joined(&mut self, org: u32) -> Result<GroupsJoined, ShelfFault>
         ensures { Reads has doubts failed may_remain self.old self.new (λ s found. found ≡
-            record { all = groups_joined_by org s.directory; active = active_groups_joined_by org s.directory }) result };
+            record {
+              all = spec.groups_joined org s.directory;
+              active = spec.active_groups_joined org s.directory;
+            }) result };
 
     /// The communities of which an organisation is a member, by number.
     fn communities_of(&mut self, org: u32) -> Result<Vec<u32>, ShelfFault>
         ensures { Reads has doubts failed may_remain self.old self.new (λ s found.
-            found.items ≡ communities_joined org s.directory) result };
+            found.items ≡ spec.communities_of org s.directory) result };
 
     /// Whether they are in one community.
     fn share_community(&mut self, org: u32, other: u32) -> Result<bool, ShelfFault>
         ensures { Reads has doubts failed may_remain self.old self.new (λ s found. found ≡
-            are_in_one_community org other s.directory) result };
+            spec.share_community org other s.directory) result };
 
     /// Whether they are in communities that are connected.
     fn are_connected(&mut self, org: u32, other: u32) -> Result<bool, ShelfFault>
         ensures { Reads has doubts failed may_remain self.old self.new (λ s found. found ≡
-            are_in_connected org other s.directory) result };
+            spec.are_connected org other s.directory) result };
 
     /// What a source arranged with an organisation.
     fn arranged(&mut self, source: u32, org: u32) -> Result<Option<Handling>, ShelfFault>
         ensures { Reads has doubts failed may_remain self.old self.new (λ s found. found ≡
-            arranged_with source org s.directory) result };
+            spec.arranged source org s.directory) result };
 
     /// The organisations whose client one is.
     fn orgs_whose_client(&mut self, client: u32) -> Result<Vec<u32>, ShelfFault>
         ensures { Reads has doubts failed may_remain self.old self.new (λ s found.
-            found.items ≡ organisations_whose_client client s.directory) result };
+            found.items ≡ spec.orgs_whose_client client s.directory) result };
 
     /// How many incidents there are.
     fn incident_count(&mut self) -> Result<u32, ShelfFault>

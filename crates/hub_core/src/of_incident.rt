@@ -101,7 +101,8 @@ impl Lists {
     /// The incidents above a number, by number.
     fn incidents_above(&self, number: u32) -> &[Incident]
         requires { AreInOrder self.now }
-        ensures { (d : Directory) → result.now ≡ incidents_above number (with_directory d self.now) }
+        ensures { (d : Directory) →
+            result.now ≡ incidents_above number (with_directory d self.now) }
     {
         let from = self
             .incidents

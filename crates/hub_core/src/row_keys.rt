@@ -1,14 +1,15 @@
 //! What recipients, permissions and gates are told apart by: the keys of targets and grantees, and when two of them, the
 //! groups of two gates, or the ends of two permissions are the same.
 ghost use Rattle.std.specs.Prelude.{◌≡◌};
-ghost use Rattle.hub_core.specs.State.{target_key as key_of_target, grantee_key as key_of_grantee, same_end, same_group, same_target, same_grantee};
+ghost use Rattle.hub_core.specs.State.{same_end, same_group, same_target, same_grantee};
+ghost use Rattle.hub_core.specs.State as spec;
 
 use crate::request::Target;
 use policy::Grantee;
 
 /// Kind and number.
 pub fn target_key(target: Target) -> (u32, u32)
-    ensures { result ≡ key_of_target target }
+    ensures { result ≡ spec.target_key target }
 {
     match target {
         Target::Person(number) => (0, number),
@@ -18,7 +19,7 @@ pub fn target_key(target: Target) -> (u32, u32)
 
 /// Kind and number.
 pub fn grantee_key(grantee: Grantee) -> (u32, u32)
-    ensures { result ≡ key_of_grantee grantee }
+    ensures { result ≡ spec.grantee_key grantee }
 {
     match grantee {
         Grantee::Person(number) => (0, number),

@@ -2,7 +2,7 @@
 ghost use Rattle.std.specs.Prelude.{◌≡◌, IfOk, string_bytes};
 ghost use Rattle.iodef_tree.specs.Pointer.{pointer_text};
 ghost use Rattle.circle.specs.Ordered.{pair_cmp};
-ghost use Rattle.hub_core.specs.State.{grantee_key as key_of_grantee};
+ghost use Rattle.hub_core.specs.State as spec;
 ghost use Rattle.hub_core.specs.Orders.{named};
 
 use crate::request::Target;
@@ -172,7 +172,7 @@ fn compare_pairs(ours: (u32, u32), theirs: (u32, u32)) -> Ordering
 }
 
 fn compare_grantees(ours: Grantee, theirs: Grantee) -> Ordering
-    ensures { result ≡ pair_cmp (key_of_grantee ours) (key_of_grantee theirs) }
+    ensures { result ≡ pair_cmp (spec.grantee_key ours) (spec.grantee_key theirs) }
 {
     compare_pairs(grantee_key(ours), grantee_key(theirs))
 }

@@ -85,7 +85,8 @@ fn stands_granted(
 ) -> Result<bool, AllocError>
     ensures { IfOk result (λ b. b ≡
         at_pointer (λ p.
-        spec.is_permission_among_until p asked.now.grantee asked.now.until permissions.now) asked.now.path) }
+        spec.is_permission_among_until p asked.now.grantee asked.now.until permissions.now)
+        asked.now.path) }
 {
     match path_of(alloc, &asked.path)? {
         None => Ok(false),

@@ -41,7 +41,11 @@ struct Ties {
 fn find_joined<L: LookUps>(shelf: &mut L, org: u32) -> Result<Joined, ShelfFault>
     ensures { Finds L.has L.doubts L.failed L.may_remain shelf.old shelf.new result (λ s.
         IfOk result (λ found. found ≡
-        record { groups = groups_joined org s.directory; active_groups = active_groups_joined org s.directory; communities = communities_of org s.directory })) }
+        record {
+          groups = groups_joined org s.directory;
+          active_groups = active_groups_joined org s.directory;
+          communities = communities_of org s.directory;
+        })) }
 {
     let groups = shelf.groups_joined(org)?;
     let communities = shelf.communities_of(org)?;
@@ -91,7 +95,12 @@ fn find_ties<L: LookUps>(
 ) -> Result<Ties, ShelfFault>
     ensures { Finds L.has L.doubts L.failed L.may_remain shelf.old shelf.new result (λ s.
         IfOk result (λ found. found ≡
-        record { community = share_community org source s.directory; peer = is_peer org source named s.directory; connected = are_connected org source s.directory; arrangement = arranged_with source org s.directory })) }
+        record {
+          community = share_community org source s.directory;
+          peer = is_peer org source named s.directory;
+          connected = are_connected org source s.directory;
+          arrangement = arranged_with source org s.directory;
+        })) }
 {
     let community = shelf.share_community(org, source)?;
     let peer = find_peer(shelf, org, named, community)?;

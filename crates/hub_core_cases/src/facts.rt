@@ -91,7 +91,7 @@ fn told_circle(alloc: Global, facts: &CircleFacts) -> Result<String, AllocError>
 }
 
 /// The facts by the same words.
-pub fn told(alloc: Global, facts: &Facts) -> Result<String, AllocError> {
+pub fn describe_facts(alloc: Global, facts: &Facts) -> Result<String, AllocError> {
     let mut all = told_circle(alloc, &facts.circle)?;
     if let Some(known) = &facts.incident {
         let (source, revision, ident) = (known.source, known.revision, known.ident.as_str());

@@ -24,7 +24,7 @@ fn actor_of(alloc: Global, words: &str) -> Result<Option<Person>, AllocError> {
     }
 }
 
-fn judged(
+fn judge_request(
     alloc: Global,
     actor: &Person,
     facts: &Facts,
@@ -43,5 +43,5 @@ pub fn answer(alloc: Global, line: &str) -> Result<String, AllocError> {
     };
     let facts = facts_of(alloc, fields.word())?;
     let request = request_of(alloc, &mut fields)?;
-    judged(alloc, &actor, &facts, &request)
+    judge_request(alloc, &actor, &facts, &request)
 }

@@ -1,6 +1,6 @@
 //! Requests one after another over a shelf in memory, from the test world on.
 
-use crate::facts::told as told_facts;
+use crate::facts::describe_facts;
 use crate::world::world;
 use crate::{seen, told};
 use circle::directory::Person;
@@ -14,7 +14,7 @@ fn person<S: Shelf>(shelf: &mut S, number: u32) -> Result<Option<Person>, ShelfF
 }
 
 /// What the person's request is answered, and is made where nothing refuses it.
-fn asked<S: Shelf>(
+fn ask<S: Shelf>(
     alloc: Global,
     shelf: &mut S,
     actor: &Person,
@@ -37,7 +37,7 @@ fn found<S: Shelf>(
     request: &Request,
 ) -> Result<String, ShelfFault> {
     let facts = shelf.facts(actor, request)?;
-    Ok(told_facts(alloc, &facts)?)
+    Ok(describe_facts(alloc, &facts)?)
 }
 
 /// A request of a person: the facts alone, or all that follows.
@@ -56,7 +56,7 @@ fn request<S: Shelf>(
     if facts_alone {
         found(alloc, shelf, &actor, &request)
     } else {
-        asked(alloc, shelf, &actor, &request)
+        ask(alloc, shelf, &actor, &request)
     }
 }
 

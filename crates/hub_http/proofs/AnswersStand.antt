@@ -10,7 +10,7 @@ use Rattle.httparse.proofs.GrammarLemmas.{ReadsRequest-append}
 use Rattle.hub_http.specs.declared.TheConstants.{HEAD_LIMIT, FIELD_LIMIT}
 use Rattle.hub_http.specs.declared.wire_fault.WireFault.{WireFault}
 use Rattle.hub_http.specs.declared.wire_fault.WireFault.TheVariants as fault
-use Rattle.hub_http.specs.Outcome.{◌>>=◌, when}
+use Rattle.hub_http.specs.Outcome.{◌>>=◌, require}
 use Rattle.hub_http.specs.Parameters.{Pair}
 use Rattle.hub_http.specs.Fields.{body_length, key_of}
 use Rattle.hub_http.specs.Requests.{request_by}
@@ -34,7 +34,7 @@ module _ (method target : List ℕ) (fields : List Pair) (rest more : List ℕ) 
   -- what a body of this length asks
   abbrev body_asks : ℕ → List ℕ → Asked
   body_asks n behind = do
-    _ ← when (nat_le n (length behind)) fault.Truncated
+    _ ← require (nat_le n (length behind)) fault.Truncated
     request ← as_wire (request_by method target (take n behind))
     Ok (key_of fields, request)
 
@@ -52,9 +52,9 @@ module _ (method target : List ℕ) (fields : List Pair) (rest more : List ℕ) 
   length_stands (Err e) whole = refl
 
   fields_stand : (b : Bool) (r : Result ℕ WireFault)
-      → (when b fault.HeadTooLong >>= λ _. r >>= λ n. body_asks n rest) ≢ Err fault.Truncated
-      → (when b fault.HeadTooLong >>= λ _. r >>= λ n. body_asks n (rest ++ more))
-      ≡ (when b fault.HeadTooLong >>= λ _. r >>= λ n. body_asks n rest)
+      → (require b fault.HeadTooLong >>= λ _. r >>= λ n. body_asks n rest) ≢ Err fault.Truncated
+      → (require b fault.HeadTooLong >>= λ _. r >>= λ n. body_asks n (rest ++ more))
+      ≡ (require b fault.HeadTooLong >>= λ _. r >>= λ n. body_asks n rest)
   fields_stand true r whole = length_stands r whole
   fields_stand false r whole = refl
 

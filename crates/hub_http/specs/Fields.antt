@@ -10,7 +10,7 @@ use Rattle.hub.specs.declared.key.Key.TheVariants.{Absent, Digest}
 use Rattle.hub_http.specs.declared.TheConstants.{BODY_LIMIT, KEY_LIMIT}
 use Rattle.hub_http.specs.declared.wire_fault.WireFault.{WireFault}
 use Rattle.hub_http.specs.declared.wire_fault.WireFault.TheVariants.{BadHead, Chunked, NoLength, TooLarge}
-use Rattle.hub_http.specs.Outcome.{◌>>=◌, when}
+use Rattle.hub_http.specs.Outcome.{◌>>=◌, require}
 use Rattle.hub_http.specs.Parameters.{Pair}
 
 -- two names are the same, without ASCII case
@@ -20,7 +20,8 @@ same_name a b = bytes_eq (map to_ascii_lowercase a) (map to_ascii_lowercase b)
 -- the values of the fields of a name, in order
 abbrev pub field_values : List ℕ → List Pair → List (List ℕ)
 field_values name [] = []
-field_values name (field ∷ fields) = if same_name field.0 name then field.1 ∷ field_values name fields else field_values name fields
+field_values name (field ∷ fields) =
+    if same_name field.0 name then field.1 ∷ field_values name fields else field_values name fields
 
 -- one digit or more, and nothing else
 abbrev pub is_digits : List ℕ → Bool
@@ -33,9 +34,9 @@ length_text (text ∷ []) = if is_digits text then Ok (Some text) else Err BadHe
 length_text (text ∷ other ∷ rest) = Err BadHead
 
 -- the length that the head wants, where GET needs none
-unfoldable pub wanted_length : Bool → Option (List ℕ) → Result ℕ WireFault
-wanted_length is_get None = if is_get then Ok 0 else Err NoLength
-wanted_length is_get (Some text) =
+unfoldable pub declared_length : Bool → Option (List ℕ) → Result ℕ WireFault
+declared_length is_get None = if is_get then Ok 0 else Err NoLength
+declared_length is_get (Some text) =
     if nat_lt BODY_LIMIT (digits_value 10 text) then Err TooLarge else Ok (digits_value 10 text)
 
 -- no field of this name
@@ -46,8 +47,8 @@ lacks name fields = length (field_values name fields) == 0
 unfoldable pub body_length : Bool → List Pair → Result ℕ WireFault
 body_length is_get fields = do
   text ← length_text (field_values (codes "content-length") fields)
-  _ ← when (lacks (codes "transfer-encoding") fields) Chunked
-  wanted_length is_get text
+  _ ← require (lacks (codes "transfer-encoding") fields) Chunked
+  declared_length is_get text
 
 -- a byte that stands for itself in a key
 abbrev pub is_visible : ℕ → Bool

@@ -9,7 +9,7 @@ use Rattle.policy.specs.declared.permission.Grantee.TheVariants as grantee
 use Rattle.hub_core.specs.declared.request.Target.{Target}
 use Rattle.hub_core.specs.declared.request.Target.TheVariants as target
 use Rattle.hub_http.specs.declared.request_fault.RequestFault.TheVariants.{BadBody}
-use Rattle.hub_http.specs.Outcome.{Read, ◌>>=◌, or_fault, when}
+use Rattle.hub_http.specs.Outcome.{Read, ◌>>=◌, or_fault, require}
 use Rattle.hub_http.specs.Spelling.{moment, number}
 
 -- a name and a value
@@ -38,7 +38,7 @@ is_one_of names name = list_any (λ known. bytes_eq known name) names
 
 -- no name but these
 abbrev pub only : List (List ℕ) → List Pair → Read (Unit {0})
-only names pairs = when (list_all (λ pair. is_one_of names pair.0) pairs) BadBody
+only names pairs = require (list_all (λ pair. is_one_of names pair.0) pairs) BadBody
 
 -- the one value, if there is any; more are a fault
 abbrev pub sole : List (List ℕ) → Read (Option (List ℕ))
@@ -47,15 +47,15 @@ sole (value ∷ []) = Ok (Some value)
 sole (value ∷ other ∷ rest) = Err BadBody
 
 -- the one value
-unfoldable pub needed : List ℕ → List Pair → Read (List ℕ)
-needed name pairs = sole (values name pairs) >>= or_fault BadBody
+unfoldable pub mandatory : List ℕ → List Pair → Read (List ℕ)
+mandatory name pairs = sole (values name pairs) >>= or_fault BadBody
 
 -- the one value, if there is any
 unfoldable pub optional : List ℕ → List Pair → Read (Option (List ℕ))
 optional name pairs = sole (values name pairs)
 
-unfoldable pub needed_number : List ℕ → List Pair → Read ℕ
-needed_number name pairs = needed name pairs >>= number
+unfoldable pub mandatory_number : List ℕ → List Pair → Read ℕ
+mandatory_number name pairs = mandatory name pairs >>= number
 
 -- the number, or 0 where there is none
 abbrev pub or_zero : Option (List ℕ) → Read ℕ
@@ -79,7 +79,7 @@ optional_moment name pairs = optional name pairs >>= optional_read moment
 unfoldable pub number_alone : List ℕ → List Pair → Read ℕ
 number_alone name pairs = do
   _ ← only (name ∷ []) pairs
-  needed_number name pairs
+  mandatory_number name pairs
 
 -- exactly one of the four
 unfoldable pub one_grantee : Option ℕ → Option ℕ → Option ℕ → Option ℕ → Read Grantee

@@ -18,7 +18,7 @@ use Rattle.hub_http.specs.declared.requests.Place.{Place}
 use Rattle.hub_http.specs.declared.requests.Place.TheVariants as place
 use Rattle.hub_http.specs.Outcome.{Read, ◌>>=◌}
 use Rattle.hub_http.specs.Spelling.{flag, role_named, handling_named, digest, gates}
-use Rattle.hub_http.specs.Parameters.{Pair, pairs_of, values, only, needed, optional, needed_number, number_or_zero, optional_moment, optional_number, number_alone, grantee_in, target_alone}
+use Rattle.hub_http.specs.Parameters.{Pair, pairs_of, values, only, mandatory, optional, mandatory_number, number_or_zero, optional_moment, optional_number, number_alone, grantee_in, target_alone}
 use Rattle.hub_http.specs.Routes.{verb_of, path_of, query_of, resource_at, route_at}
 
 -- ---- where the parameters stand
@@ -50,7 +50,7 @@ after_alone pairs = do
 unfoldable pub search_in : List Pair → Read Request
 search_in pairs = do
   _ ← only (codes "needle" ∷ codes "class" ∷ codes "after" ∷ []) pairs
-  needle ← needed (codes "needle") pairs
+  needle ← mandatory (codes "needle") pairs
   class ← optional (codes "class") pairs
   after ← number_or_zero (codes "after") pairs
   Ok (request.Search (record { needle = needle; class = class; after = after }))
@@ -58,9 +58,9 @@ search_in pairs = do
 unfoldable pub explain_in : List Pair → Read Request
 explain_in pairs = do
   _ ← only (codes "person" ∷ codes "incident" ∷ codes "path" ∷ []) pairs
-  person ← needed_number (codes "person") pairs
-  incident ← needed_number (codes "incident") pairs
-  path ← needed (codes "path") pairs
+  person ← mandatory_number (codes "person") pairs
+  incident ← mandatory_number (codes "incident") pairs
+  path ← mandatory (codes "path") pairs
   Ok (request.Explain (record { person = person; incident = incident; path = path }))
 
 -- ---- incidents
@@ -69,7 +69,7 @@ explain_in pairs = do
 unfoldable pub distribution_in : List Pair → Read Distribution
 distribution_in pairs = do
   community ← optional_number (codes "community") pairs
-  level ← needed_number (codes "level") pairs
+  level ← mandatory_number (codes "level") pairs
   group ← optional_number (codes "group") pairs
   wanted ← gates (values (codes "gate") pairs)
   Ok (record { community = community; level = level; group = group; gates = wanted })
@@ -83,24 +83,24 @@ post_in pairs body = do
 unfoldable pub replace_in : ℕ → List Pair → List ℕ → Read Request
 replace_in n pairs body = do
   _ ← only (codes "revision" ∷ codes "community" ∷ codes "level" ∷ codes "group" ∷ codes "gate" ∷ []) pairs
-  revision ← needed_number (codes "revision") pairs
+  revision ← mandatory_number (codes "revision") pairs
   distribution ← distribution_in pairs
   Ok (request.Replace (record { incident = n; revision = revision; distribution = distribution; document = body }))
 
 unfoldable pub redistribute_in : ℕ → List Pair → Read Request
 redistribute_in n pairs = do
   _ ← only (codes "revision" ∷ codes "path" ∷ codes "level" ∷ codes "group" ∷ []) pairs
-  revision ← needed_number (codes "revision") pairs
-  path ← needed (codes "path") pairs
-  level ← needed_number (codes "level") pairs
+  revision ← mandatory_number (codes "revision") pairs
+  path ← mandatory (codes "path") pairs
+  level ← mandatory_number (codes "level") pairs
   group ← optional_number (codes "group") pairs
   Ok (request.Redistribute (record { incident = n; revision = revision; path = path; level = level; group = group }))
 
 unfoldable pub grant_in : ℕ → List Pair → Read Request
 grant_in n pairs = do
   _ ← only (codes "revision" ∷ codes "path" ∷ codes "person" ∷ codes "org" ∷ codes "community" ∷ codes "group" ∷ codes "until" ∷ []) pairs
-  revision ← needed_number (codes "revision") pairs
-  path ← needed (codes "path") pairs
+  revision ← mandatory_number (codes "revision") pairs
+  path ← mandatory (codes "path") pairs
   to ← grantee_in pairs
   until ← optional_moment (codes "until") pairs
   Ok (request.Grant (record { incident = n; revision = revision; path = path; grantee = to; until = until }))
@@ -108,7 +108,7 @@ grant_in n pairs = do
 unfoldable pub withdraw_in : ℕ → List Pair → Read Request
 withdraw_in n pairs = do
   _ ← only (codes "path" ∷ codes "person" ∷ codes "org" ∷ codes "community" ∷ codes "group" ∷ []) pairs
-  path ← needed (codes "path") pairs
+  path ← mandatory (codes "path") pairs
   from ← grantee_in pairs
   Ok (request.Withdraw (record { incident = n; path = path; grantee = from }))
 
@@ -126,29 +126,29 @@ incident_request incident.Withdraw n pairs = withdraw_in n pairs
 unfoldable pub name_alone : List Pair → Read (List ℕ)
 name_alone pairs = do
   _ ← only (codes "name" ∷ []) pairs
-  needed (codes "name") pairs
+  mandatory (codes "name") pairs
 
 unfoldable pub person_in : List Pair → Read CircleCommand
 person_in pairs = do
   _ ← only (codes "org" ∷ codes "name" ∷ codes "role" ∷ codes "key" ∷ []) pairs
-  org ← needed_number (codes "org") pairs
-  name ← needed (codes "name") pairs
-  role ← needed (codes "role") pairs >>= role_named
-  key ← needed (codes "key") pairs >>= digest
+  org ← mandatory_number (codes "org") pairs
+  name ← mandatory (codes "name") pairs
+  role ← mandatory (codes "role") pairs >>= role_named
+  key ← mandatory (codes "key") pairs >>= digest
   Ok (command.AddPerson org name role key)
 
 unfoldable pub group_in : List Pair → Read CircleCommand
 group_in pairs = do
   _ ← only (codes "name" ∷ codes "releasability" ∷ []) pairs
-  name ← needed (codes "name") pairs
-  releasability ← needed (codes "releasability") pairs
+  name ← mandatory (codes "name") pairs
+  releasability ← mandatory (codes "releasability") pairs
   Ok (command.NewGroup name releasability)
 
 unfoldable pub arrangement_in : List Pair → Read CircleCommand
 arrangement_in pairs = do
   _ ← only (codes "org" ∷ codes "handling" ∷ []) pairs
-  org ← needed_number (codes "org") pairs
-  handling ← needed (codes "handling") pairs >>= handling_named
+  org ← mandatory_number (codes "org") pairs
+  handling ← mandatory (codes "handling") pairs >>= handling_named
   Ok (command.Arrange org handling)
 
 -- what is posted to a collection
@@ -163,14 +163,14 @@ circle_command circle.CancelArrange pairs = number_alone (codes "org") pairs >>=
 unfoldable pub member_in : ℕ → List Pair → Read CircleCommand
 member_in n pairs = do
   _ ← only (codes "org" ∷ codes "extend" ∷ []) pairs
-  org ← needed_number (codes "org") pairs
-  extend ← needed (codes "extend") pairs >>= flag
+  org ← mandatory_number (codes "org") pairs
+  extend ← mandatory (codes "extend") pairs >>= flag
   Ok (command.GroupAdd n org extend)
 
 unfoldable pub active_in : ℕ → List Pair → Read CircleCommand
 active_in n pairs = do
   _ ← only (codes "active" ∷ []) pairs
-  active ← needed (codes "active") pairs >>= flag
+  active ← mandatory (codes "active") pairs >>= flag
   Ok (command.GroupActive n active)
 
 -- no parameter
@@ -180,7 +180,8 @@ nothing_beside pairs x = only [] pairs >>= λ _. Ok x
 -- what is posted to the organisation, person, community or group of this number
 unfoldable pub part_command : PartChange → ℕ → List Pair → Read CircleCommand
 part_command part.AddClient n pairs = number_alone (codes "client") pairs >>= λ client. Ok (command.AddClient n client)
-part_command part.RemoveClient n pairs = number_alone (codes "client") pairs >>= λ client. Ok (command.RemoveClient n client)
+part_command part.RemoveClient n pairs =
+    number_alone (codes "client") pairs >>= λ client. Ok (command.RemoveClient n client)
 part_command part.SuspendPerson n pairs = nothing_beside pairs (command.SuspendPerson n)
 part_command part.Nominate n pairs = nothing_beside pairs (command.Nominate n)
 part_command part.Unnominate n pairs = nothing_beside pairs (command.Unnominate n)

@@ -50,17 +50,22 @@ Gathers before after (Err gather.NoMemory) = Unit {0}
 -- it had, one step.
 pub record Steps {D : Type 0} (has : D → State → Type 0) (doubts failed : D → ℕ) (may_remain : D → Option State → Type 0)
     (old : D) (now : ℤ) (asked : Key × Request) (reply : Reply) (new : D) : Type 0 where
-  pub step : doubts new ≡ 0 → (s : State) → has old s → IsSound s → (left : State) × IsStep s (now, asked.0, asked.1) reply left × has new left
+  pub step : doubts new ≡ 0 → (s : State) → has old s → IsSound s → (left : State) ×
+      IsStep s (now, asked.0, asked.1) reply left × has new left
   -- that the store failed is told only where it did
-  pub cause : doubts new ≡ 0 → (s : State) → has old s → IsSound s → reply ≡ Refused (bare F1) → HasFailed (failed old) (failed new)
+  pub cause : doubts new ≡ 0 → (s : State) → has old s → IsSound s → reply ≡ Refused (bare F1) →
+      HasFailed (failed old) (failed new)
   -- after a change that is answered as made a crash may leave what the request leaves, and nothing else
-  pub durable : doubts new ≡ 0 → (s : State) → has old s → IsSound s → IsTrue (is_made reply) → (left : Option State) → may_remain new left ↔ (left ≡ Some (state_left s asked.0 asked.1))
+  pub durable : doubts new ≡ 0 → (s : State) → has old s → IsSound s → IsTrue (is_made reply) →
+      (left : Option State) → may_remain new left ↔ (left ≡ Some (state_left s asked.0 asked.1))
   -- a crash leaves what it could have left before, or what the request leaves
-  pub crash : doubts new ≡ 0 → (s : State) → has old s → IsSound s → (left : Option State) → may_remain new left → may_remain old left ⊎ (left ≡ Some (state_left s asked.0 asked.1))
+  pub crash : doubts new ≡ 0 → (s : State) → has old s → IsSound s → (left : Option State) →
+      may_remain new left → may_remain old left ⊎ (left ≡ Some (state_left s asked.0 asked.1))
 
 -- what was asked was answered with a reply, which is written or not; Does reply says that the hub answered so
 abbrev pub Replies : (Reply → Type 0) → Option (List ℕ) → Option (List ℕ) → Result Served ServeFault → Type 0
-Replies Does written now_written (Ok Answered) = (reply : Reply) × Does reply × Appends written now_written (reply_text reply)
+Replies Does written now_written (Ok Answered) =
+    (reply : Reply) × Does reply × Appends written now_written (reply_text reply)
 Replies Does written now_written (Err WriteFailed) = (reply : Reply) × Does reply
 Replies Does written now_written (Err NoMemory) = (reply : Reply) × Does reply
 Replies Does written now_written _ = ⊥
@@ -79,11 +84,13 @@ module _ (Does : Key × Request → Reply → Type 0) (Same : Type 0) where
   MayHaveAnswered before after = Same ⊎ ((reply : Reply) × IsAnswer before after reply)
 
   -- the reader before and after, the writer before and after, and the outcome
-  abbrev pub Serves : Option (List ℕ) → Option (List ℕ) → Option (List ℕ) → Option (List ℕ) → Result Served ServeFault → Type 0
+  abbrev pub Serves : Option (List ℕ) → Option (List ℕ) → Option (List ℕ) → Option (List ℕ) →
+      Result Served ServeFault → Type 0
   Serves before after written now_written (Ok Answered) =
       (reply : Reply) × IsAnswer before after reply × Appends written now_written (reply_text reply)
   Serves before after written now_written (Ok (WireRefused e)) =
-      HasRead before after (Err e) × (is_some (fault_status e) ≡ true) × Appends written now_written (fault_text e) × Same
+      HasRead before after (Err e) × (is_some (fault_status e) ≡ true) ×
+      Appends written now_written (fault_text e) × Same
   Serves before after written now_written (Err Truncated) =
       HasRead before after (Err fault.Truncated) × IsAtEnd after × Keeps written now_written × Same
   Serves before after written now_written (Err ReadFailed) = Keeps written now_written × Same

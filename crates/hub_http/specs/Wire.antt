@@ -10,7 +10,7 @@ use Rattle.hub_http.specs.declared.wire_fault.WireFault.{WireFault}
 use Rattle.hub_http.specs.declared.wire_fault.WireFault.TheVariants as fault
 use Rattle.hub_http.specs.declared.request_fault.RequestFault.{RequestFault}
 use Rattle.hub_http.specs.declared.request_fault.RequestFault.TheVariants as request_fault
-use Rattle.hub_http.specs.Outcome.{◌>>=◌, when}
+use Rattle.hub_http.specs.Outcome.{◌>>=◌, require}
 use Rattle.hub_http.specs.Parameters.{Pair}
 use Rattle.hub_http.specs.Fields.{body_length, key_of}
 use Rattle.hub_http.specs.Requests.{request_by}
@@ -36,9 +36,9 @@ as_wire (Err request_fault.NoMemory) = Err fault.NoMemory
 -- what the parts of a head and the bytes behind it ask
 unfoldable pub asked_by : List ℕ → List ℕ → List Pair → List ℕ → Asked
 asked_by method target fields rest = do
-  _ ← when (nat_le (length fields) FIELD_LIMIT) fault.HeadTooLong
+  _ ← require (nat_le (length fields) FIELD_LIMIT) fault.HeadTooLong
   n ← body_length (bytes_eq method (codes "GET")) fields
-  _ ← when (nat_le n (length rest)) fault.Truncated
+  _ ← require (nat_le n (length rest)) fault.Truncated
   request ← as_wire (request_by method target (take n rest))
   Ok (key_of fields, request)
 

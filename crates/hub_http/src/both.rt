@@ -6,7 +6,7 @@ ghost use Rattle.hub_core.specs.Shelves.{HasFailed};
 ghost use Rattle.hub_core.specs.Sound.{IsSound};
 ghost use Rattle.hub.specs.Alike.{IsAlike, is_told};
 ghost use Rattle.hub.specs.declared.key.Key.TheVariants.{Digest};
-ghost use Rattle.hub_core.specs.declared.reply.Reply.{Reply as Told};
+ghost use Rattle.hub_core.specs.declared.reply.Reply.{Reply as TheReply};
 ghost use Rattle.hub_http.specs.Alike.{HasStepped, IsWrittenAlike};
 ghost use Rattle.hub_http.specs.Replies.{reply_text};
 
@@ -39,14 +39,20 @@ pub fn told_by_both<A: Shelf, B: Shelf>(
     key: &Key,
     request: &Request,
 ) -> Result<(Vec<u8>, Vec<u8>), AllocError>
-    ensures alike { A.doubts first.new ≡ 0 → B.doubts second.new ≡ 0 → (s t : State) (a : Account) → A.has first.old s → B.has second.old t →
-        IsSound s → IsSound t → IsAlike now a s t → key.now ≡ Digest a.key → is_told request.now ≡ true →
+    ensures alike { A.doubts first.new ≡ 0 → B.doubts second.new ≡ 0 → (s t : State) (a : Account) →
+        A.has first.old s → B.has second.old t →
+        IsSound s → IsSound t → IsAlike now a s t → key.now ≡ Digest a.key →
+        is_told request.now ≡ true →
         IfOk result (λ both. IsWrittenAlike both.0.items both.1.items) }
     ensures first { A.doubts first.new ≡ 0 → (s : State) → A.has first.old s → IsSound s →
-        (reply : Told) × HasStepped (A.has first.new) (HasFailed (A.failed first.old) (A.failed first.new)) s (now, key.now, request.now) reply
+        (reply : TheReply) ×
+        HasStepped (A.has first.new) (HasFailed (A.failed first.old) (A.failed first.new)) s
+        (now, key.now, request.now) reply
         × IfOk result (λ both. both.0.items ≡ reply_text reply) }
     ensures second { B.doubts second.new ≡ 0 → (t : State) → B.has second.old t → IsSound t →
-        (reply : Told) × HasStepped (B.has second.new) (HasFailed (B.failed second.old) (B.failed second.new)) t (now, key.now, request.now) reply
+        (reply : TheReply) ×
+        HasStepped (B.has second.new) (HasFailed (B.failed second.old) (B.failed second.new)) t
+        (now, key.now, request.now) reply
         × IfOk result (λ both. both.1.items ≡ reply_text reply) }
 {
     let one = first.answer(alloc, now, key, request);

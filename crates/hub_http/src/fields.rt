@@ -6,7 +6,7 @@ ghost use Rattle.std.specs.Char.{is_ascii_digit, to_ascii_lowercase};
 ghost use Rattle.std.specs.Str.Parse.{digits_value};
 ghost use Rattle.httparse.specs.Borrowed.{header_parts};
 ghost use Rattle.hub_http.specs.inner.Texts.{IsText};
-ghost use Rattle.hub_http.specs.Fields.{same_name, field_values, is_digits, length_text, wanted_length, body_length, is_visible, is_bearer, key_in, key_of, key_shown, lacks};
+ghost use Rattle.hub_http.specs.Fields.{same_name, field_values, is_digits, length_text, declared_length, body_length, is_visible, is_bearer, key_in, key_of, key_shown, lacks};
 ghost use Rattle.hub_http.specs.inner.Texts.{IsSole};
 
 use crate::spelling::has_digits_alone;
@@ -93,7 +93,7 @@ fn has_none(fields: &[Header<'_>], name: &str) -> bool
 }
 
 /// How long the body is.
-#[tactic(auto, unfolding(crate::specs::Fields::body_length, crate::specs::Fields::wanted_length))]
+#[tactic(auto, unfolding(crate::specs::Fields::body_length, crate::specs::Fields::declared_length))]
 pub(crate) fn read_body_length(is_get: bool, fields: &[Header<'_>]) -> Result<u32, WireFault>
     ensures value { result ≡ body_length is_get (map header_parts fields.now) }
     ensures whole { IfErr result (λ e. e ≢ WireFault.Truncated) }
@@ -103,13 +103,13 @@ pub(crate) fn read_body_length(is_get: bool, fields: &[Header<'_>]) -> Result<u3
     if !has_none(fields, "transfer-encoding") {
         return Err(WireFault::Chunked);
     }
-    wanted(is_get, text)
+    read_declared_length(is_get, text)
 }
 
-#[tactic(auto, unfolding(crate::specs::Fields::wanted_length))]
-fn wanted(is_get: bool, text: Option<&[u8]>) -> Result<u32, WireFault>
+#[tactic(auto, unfolding(crate::specs::Fields::declared_length))]
+fn read_declared_length(is_get: bool, text: Option<&[u8]>) -> Result<u32, WireFault>
     requires { ForSome text (λ t. IsTrue (is_digits t.now)) }
-    ensures value { result ≡ wanted_length is_get (option_copied text.entry) }
+    ensures value { result ≡ declared_length is_get (option_copied text.entry) }
     ensures whole { IfErr result (λ e. e ≢ WireFault.Truncated) }
     ensures bound { IfOk result (λ n. n ≤ BODY_LIMIT) }
 {

@@ -71,9 +71,9 @@ impl<'a> Parameters<'a> {
     }
 
     /// The one value under a name.
-    #[tactic(auto, unfolding(crate::specs::Parameters::needed, crate::specs::Parameters::optional))]
-    pub(crate) fn needed(&self, name: &str) -> Result<&str, RequestFault>
-        ensures { YieldsAs (λ v. v.now) result (spec.needed name.now self.now) }
+    #[tactic(auto, unfolding(crate::specs::Parameters::mandatory, crate::specs::Parameters::optional))]
+    pub(crate) fn mandatory(&self, name: &str) -> Result<&str, RequestFault>
+        ensures { YieldsAs (λ v. v.now) result (spec.mandatory name.now self.now) }
     {
         match self.optional(name)? {
             Some(value) => Ok(value),
@@ -82,10 +82,10 @@ impl<'a> Parameters<'a> {
     }
 
     /// The one value under a name, kept.
-    pub(crate) fn needed_text(&self, alloc: Global, name: &str) -> Result<Text, RequestFault>
-        ensures { Yields result (spec.needed name.now self.now) }
+    pub(crate) fn mandatory_text(&self, alloc: Global, name: &str) -> Result<Text, RequestFault>
+        ensures { Yields result (spec.mandatory name.now self.now) }
     {
-        let value = self.needed(name)?;
+        let value = self.mandatory(name)?;
         text_of(alloc, value)
     }
 
@@ -104,11 +104,11 @@ impl<'a> Parameters<'a> {
     }
 
     /// The one number under a name.
-    #[tactic(auto, unfolding(crate::specs::Parameters::needed_number))]
-    pub(crate) fn needed_number(&self, name: &str) -> Result<u32, RequestFault>
-        ensures { Yields result (spec.needed_number name.now self.now) }
+    #[tactic(auto, unfolding(crate::specs::Parameters::mandatory_number))]
+    pub(crate) fn mandatory_number(&self, name: &str) -> Result<u32, RequestFault>
+        ensures { Yields result (spec.mandatory_number name.now self.now) }
     {
-        read_number(self.needed(name)?)
+        read_number(self.mandatory(name)?)
     }
 
     /// The number under a name, or 0.
@@ -162,7 +162,7 @@ impl<'a> Parameters<'a> {
         ensures { Yields result (spec.number_alone name.now self.now) }
     {
         self.only(&[name])?;
-        self.needed_number(name)
+        self.mandatory_number(name)
     }
 
     /// The values under a name, in order.

@@ -50,7 +50,8 @@ fn form_at<'a>(
     query: Option<&'a str>,
     body: &'a [u8],
 ) -> Result<&'a [u8], RequestFault>
-    ensures { YieldsAs (λ f. f.now) result (spec.form_at place (option_copied query.entry) body.now) }
+    ensures { YieldsAs (λ f. f.now) result
+        (spec.form_at place (option_copied query.entry) body.now) }
 {
     match place {
         Place::Query => {
@@ -82,7 +83,7 @@ fn read_search(alloc: Global, pairs: &Parameters<'_>) -> Result<Request, Request
     ensures { Yields result (spec.search_in pairs.now) }
 {
     pairs.only(&["needle", "class", "after"])?;
-    let needle = pairs.needed_text(alloc, "needle")?;
+    let needle = pairs.mandatory_text(alloc, "needle")?;
     let class = pairs.optional_text(alloc, "class")?;
     let after = pairs.number_or_zero("after")?;
     Ok(Request::Search(Search {
@@ -97,9 +98,9 @@ fn read_explain(alloc: Global, pairs: &Parameters<'_>) -> Result<Request, Reques
     ensures { Yields result (spec.explain_in pairs.now) }
 {
     pairs.only(&["person", "incident", "path"])?;
-    let person = pairs.needed_number("person")?;
-    let incident = pairs.needed_number("incident")?;
-    let path = pairs.needed_text(alloc, "path")?;
+    let person = pairs.mandatory_number("person")?;
+    let incident = pairs.mandatory_number("incident")?;
+    let path = pairs.mandatory_text(alloc, "path")?;
     Ok(Request::Explain(Explain {
         person,
         incident,
@@ -113,7 +114,7 @@ fn read_distribution(alloc: Global, pairs: &Parameters<'_>) -> Result<Distributi
     ensures { Yields result (spec.distribution_in pairs.now) }
 {
     let community = pairs.optional_number("community")?;
-    let level = pairs.needed_number("level")?;
+    let level = pairs.mandatory_number("level")?;
     let group = pairs.optional_number("group")?;
     let gates = pairs.gates(alloc)?;
     Ok(Distribution {
@@ -147,7 +148,7 @@ fn read_replace(
     ensures { Yields result (spec.replace_in incident pairs.now body.now) }
 {
     pairs.only(&["revision", "community", "level", "group", "gate"])?;
-    let revision = pairs.needed_number("revision")?;
+    let revision = pairs.mandatory_number("revision")?;
     let distribution = read_distribution(alloc, pairs)?;
     let document = Bytes::new(Vec::from_slice(alloc, body)?);
     Ok(Request::Replace(Replace {
@@ -167,9 +168,9 @@ fn read_redistribute(
     ensures { Yields result (spec.redistribute_in incident pairs.now) }
 {
     pairs.only(&["revision", "path", "level", "group"])?;
-    let revision = pairs.needed_number("revision")?;
-    let path = pairs.needed_text(alloc, "path")?;
-    let level = pairs.needed_number("level")?;
+    let revision = pairs.mandatory_number("revision")?;
+    let path = pairs.mandatory_text(alloc, "path")?;
+    let level = pairs.mandatory_number("level")?;
     let group = pairs.optional_number("group")?;
     Ok(Request::Redistribute(Redistribute {
         incident,
@@ -193,8 +194,8 @@ fn read_grant(alloc: Global, incident: u32, pairs: &Parameters<'_>) -> Result<Re
         "group",
         "until",
     ])?;
-    let revision = pairs.needed_number("revision")?;
-    let path = pairs.needed_text(alloc, "path")?;
+    let revision = pairs.mandatory_number("revision")?;
+    let path = pairs.mandatory_text(alloc, "path")?;
     let grantee = pairs.grantee()?;
     let until = pairs.optional_moment("until")?;
     Ok(Request::Grant(Grant {
@@ -215,7 +216,7 @@ fn read_withdraw(
     ensures { Yields result (spec.withdraw_in incident pairs.now) }
 {
     pairs.only(&["path", "person", "org", "community", "group"])?;
-    let path = pairs.needed_text(alloc, "path")?;
+    let path = pairs.mandatory_text(alloc, "path")?;
     let grantee = pairs.grantee()?;
     Ok(Request::Withdraw(Withdraw {
         incident,
@@ -254,10 +255,10 @@ fn read_person(alloc: Global, pairs: &Parameters<'_>) -> Result<CircleCommand, R
     ensures { Yields result (spec.person_in pairs.now) }
 {
     pairs.only(&["org", "name", "role", "key"])?;
-    let org = pairs.needed_number("org")?;
-    let name = pairs.needed_text(alloc, "name")?;
-    let role = read_role(pairs.needed("role")?)?;
-    let key = read_digest(pairs.needed("key")?)?;
+    let org = pairs.mandatory_number("org")?;
+    let name = pairs.mandatory_text(alloc, "name")?;
+    let role = read_role(pairs.mandatory("role")?)?;
+    let key = read_digest(pairs.mandatory("key")?)?;
     Ok(CircleCommand::AddPerson {
         org,
         name,
@@ -271,8 +272,8 @@ fn read_group(alloc: Global, pairs: &Parameters<'_>) -> Result<CircleCommand, Re
     ensures { Yields result (spec.group_in pairs.now) }
 {
     pairs.only(&["name", "releasability"])?;
-    let name = pairs.needed_text(alloc, "name")?;
-    let releasability = pairs.needed_text(alloc, "releasability")?;
+    let name = pairs.mandatory_text(alloc, "name")?;
+    let releasability = pairs.mandatory_text(alloc, "releasability")?;
     Ok(CircleCommand::NewGroup {
         name,
         releasability,
@@ -284,8 +285,8 @@ fn read_arrangement(pairs: &Parameters<'_>) -> Result<CircleCommand, RequestFaul
     ensures { Yields result (spec.arrangement_in pairs.now) }
 {
     pairs.only(&["org", "handling"])?;
-    let org = pairs.needed_number("org")?;
-    let handling = read_handling(pairs.needed("handling")?)?;
+    let org = pairs.mandatory_number("org")?;
+    let handling = read_handling(pairs.mandatory("handling")?)?;
     Ok(CircleCommand::Arrange { org, handling })
 }
 
@@ -295,7 +296,7 @@ fn read_name(alloc: Global, pairs: &Parameters<'_>) -> Result<Text, RequestFault
     ensures { Yields result (spec.name_alone pairs.now) }
 {
     pairs.only(&["name"])?;
-    pairs.needed_text(alloc, "name")
+    pairs.mandatory_text(alloc, "name")
 }
 
 /// What is posted to a collection.
@@ -331,8 +332,8 @@ fn read_member(group: u32, pairs: &Parameters<'_>) -> Result<CircleCommand, Requ
     ensures { Yields result (spec.member_in group pairs.now) }
 {
     pairs.only(&["org", "extend"])?;
-    let org = pairs.needed_number("org")?;
-    let extend = read_flag(pairs.needed("extend")?)?;
+    let org = pairs.mandatory_number("org")?;
+    let extend = read_flag(pairs.mandatory("extend")?)?;
     Ok(CircleCommand::GroupAdd { group, org, extend })
 }
 
@@ -341,7 +342,7 @@ fn read_active(group: u32, pairs: &Parameters<'_>) -> Result<CircleCommand, Requ
     ensures { Yields result (spec.active_in group pairs.now) }
 {
     pairs.only(&["active"])?;
-    let active = read_flag(pairs.needed("active")?)?;
+    let active = read_flag(pairs.mandatory("active")?)?;
     Ok(CircleCommand::GroupActive { group, active })
 }
 

@@ -124,7 +124,9 @@ fn reply_to<W: Write, Sh: Shelf>(
     key: &Key,
     request: &Request,
 ) -> Result<Served, ServeFault>
-    ensures replied { Replies (λ reply. Steps Sh.has Sh.doubts Sh.failed Sh.may_remain hub.old now (key.now, request.now) reply hub.new)
+    ensures replied { Replies (λ reply.
+        Steps Sh.has Sh.doubts Sh.failed Sh.may_remain hub.old now
+        (key.now, request.now) reply hub.new)
         (W.contents writer.old) (W.contents writer.new) result }
     ensures later { Sh.failed hub.old ≤ Sh.failed hub.new }
     ensures doubt { Sh.doubts hub.old ≤ Sh.doubts hub.new }
@@ -149,8 +151,11 @@ pub fn serve_one<R: Read, W: Write, Sh: Shelf>(
     hub: &mut Hub<Sh>,
     now: i64,
 ) -> Result<Served, ServeFault>
-    ensures served { Serves (λ asked reply. Steps Sh.has Sh.doubts Sh.failed Sh.may_remain hub.old now asked reply hub.new) (hub.new ≡ hub.old)
-        (R.remaining reader.old) (R.remaining reader.new) (W.contents writer.old) (W.contents writer.new) result }
+    ensures served { Serves (λ asked reply.
+        Steps Sh.has Sh.doubts Sh.failed Sh.may_remain hub.old now asked reply hub.new)
+        (hub.new ≡ hub.old)
+        (R.remaining reader.old) (R.remaining reader.new) (W.contents writer.old)
+        (W.contents writer.new) result }
     ensures later { Sh.failed hub.old ≤ Sh.failed hub.new }
     ensures doubt { Sh.doubts hub.old ≤ Sh.doubts hub.new }
 {

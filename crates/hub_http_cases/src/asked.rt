@@ -190,7 +190,7 @@ fn request(alloc: Global, request: &Request) -> Result<String, AllocError> {
 }
 
 /// The key's digest, or `absent`, and the request.
-fn asked(alloc: Global, key: &Key, wanted: &Request) -> Result<String, AllocError> {
+fn describe(alloc: Global, key: &Key, wanted: &Request) -> Result<String, AllocError> {
     let key = match key {
         Key::Absent => String::from_str(alloc, "absent")?,
         Key::Digest(bytes) => hex::encode(alloc, bytes.as_slice())?,
@@ -203,7 +203,7 @@ fn asked(alloc: Global, key: &Key, wanted: &Request) -> Result<String, AllocErro
 pub fn answer(alloc: Global, line: &str) -> Result<String, AllocError> {
     let bytes = bytes_of(alloc, line)?;
     match request_of(alloc, &bytes) {
-        Ok((key, request)) => asked(alloc, &key, &request),
+        Ok((key, request)) => describe(alloc, &key, &request),
         Err(fault) => format!(in alloc; "{fault:?}"),
     }
 }

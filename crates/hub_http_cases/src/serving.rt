@@ -22,7 +22,7 @@ fn outcome(served: Result<Served, ServeFault>) -> &'static str {
     }
 }
 
-fn told(
+fn describe(
     alloc: Global,
     served: Result<Served, ServeFault>,
     out: &[u8],
@@ -36,7 +36,7 @@ fn whole(alloc: Global, hub: &mut Hub<ListShelf>, bytes: &[u8]) -> Result<String
     let mut reader = bytes;
     let mut out: Vec<u8> = Vec::new(alloc);
     let served = serve_one(alloc, &mut reader, &mut out, hub, NOW);
-    told(alloc, served, &out)
+    describe(alloc, served, &out)
 }
 
 fn by_bytes(alloc: Global, hub: &mut Hub<ListShelf>, bytes: &[u8]) -> Result<String, AllocError> {
@@ -48,7 +48,7 @@ fn by_bytes(alloc: Global, hub: &mut Hub<ListShelf>, bytes: &[u8]) -> Result<Str
     let mut out: Vec<u8> = Vec::new(alloc);
     let served = serve_one(alloc, &mut reader, &mut out, hub, NOW);
     let reads = reader.reads;
-    let told = told(alloc, served, &out)?;
+    let told = describe(alloc, served, &out)?;
     format!(in alloc; "{reads} reads {told}")
 }
 
@@ -81,7 +81,7 @@ fn failing_reads(
         match serve_one(alloc, &mut reader, &mut out, hub, NOW) {
             Err(ServeFault::ReadFailed) if out.is_empty() => count = count.saturating_add(1),
             other => {
-                let told = told(alloc, other, &out)?;
+                let told = describe(alloc, other, &out)?;
                 return format!(in alloc; "{count} ReadFailed, then {told}");
             }
         }
@@ -143,7 +143,7 @@ fn failing_writes_anew(
 fn disturbed(alloc: Global, hub: &mut Hub<ListShelf>) -> Result<String, AllocError> {
     let mut out: Vec<u8> = Vec::new(alloc);
     let served = serve_one(alloc, &mut Disturbed, &mut out, hub, NOW);
-    told(alloc, served, &out)
+    describe(alloc, served, &out)
 }
 
 fn unwritten(alloc: Global, hub: &mut Hub<ListShelf>, bytes: &[u8]) -> Result<String, AllocError> {

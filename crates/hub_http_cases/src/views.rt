@@ -31,7 +31,7 @@ fn asked_of(fields: &str) -> Option<Asked<'_>> {
 
 /// What person 4 of organisation 4, of whom the words hold, is served behind a gate at the root that everybody passes, and
 /// perhaps by a permission for organisation 4.
-fn told(alloc: Global, asked: &Asked<'_>) -> Result<Option<Excerpt>, Unfit> {
+fn serve_excerpt(alloc: Global, asked: &Asked<'_>) -> Result<Option<Excerpt>, Unfit> {
     let mut report = Report::new();
     report.read(alloc, asked.document)?;
     let (reader, permitted) = (asked.reader, asked.permitted);
@@ -51,7 +51,7 @@ pub fn view_of(alloc: Global, fields: &str) -> Result<Option<Reply>, AllocError>
     let Some(asked) = asked_of(fields) else {
         return Ok(None);
     };
-    match told(alloc, &asked) {
+    match serve_excerpt(alloc, &asked) {
         Ok(Some(told)) => Ok(Some(Reply::View(View {
             number: asked.number,
             revision: asked.revision,

@@ -5,7 +5,7 @@ use hub_http::{WireFault, body_text, fault_bytes, reply_bytes};
 use std::alloc::{AllocError, Global};
 
 /// The text with `\r` and `\n` for CR and LF.
-fn shown(alloc: Global, text: &str) -> Result<String, AllocError> {
+fn show_ends(alloc: Global, text: &str) -> Result<String, AllocError> {
     let mut all = String::new(alloc);
     for c in text.chars() {
         match c {
@@ -20,7 +20,7 @@ fn shown(alloc: Global, text: &str) -> Result<String, AllocError> {
 /// Bytes as they are printed.
 pub fn shown_bytes(alloc: Global, bytes: &[u8]) -> Result<String, AllocError> {
     match std::str::from_utf8(bytes) {
-        Ok(text) => shown(alloc, text),
+        Ok(text) => show_ends(alloc, text),
         Err(_) => String::from_str(alloc, "no text"),
     }
 }

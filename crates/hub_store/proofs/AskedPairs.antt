@@ -18,7 +18,7 @@ use Rattle.circle.specs.Directory.{Directory}
 use Rattle.circle.specs.Sound as circle
 use Rattle.hub_core.specs.State as core
 use Rattle.hub_core.specs.Sound.{IsSound}
-use Rattle.hub_store.specs.Holdings.{without_rowids}
+use Rattle.hub_store.specs.Holdings.{holding_without_rowids}
 use Rattle.hub_store.specs.Means.{Means}
 use Rattle.hub_store.specs.Pairs.{Pair, pair_row, rows_of_pairs}
 use Rattle.hub_store.specs.inner.PairKinds.{kind_name, pairs_of, is_between, pair_between, pairs_from, pairs_to, value_shown, first_shown, second_shown}
@@ -98,7 +98,7 @@ module _ (db : Trees) (s : core.State) (k : PairKind) (sound : IsSound s) (means
   passing : {Y : Type 0} (keep : Row → Bool) (show : Row → Y) (test : Row → Bool) (out : Row → Y) (q : Pair → Bool) (found : List Y) → ((r : Row) → keep r ≡ is_of (kind_name k) test (drop 1 r)) → ((r : Row) → show r ≡ out (drop 1 r)) → ((p : Pair) → test (pair_row (kind_name k) p) ≡ q p)
       → IsPermutation (map show (filter keep (db 9))) found → IsPermutation (map (λ p. out (pair_row (kind_name k) p)) (filter q (pairs_of k s.directory))) found
   passing keep show test out q found keeps shows same is =
-      let seen = seen_through db (without_rowids pair_tree (rows_of_pairs (pair_sets s.directory))) keep show (is_of (kind_name k) test) out found keeps shows (held_of s pair_place _ refl means) is in
+      let seen = seen_through db (holding_without_rowids pair_tree (rows_of_pairs (pair_sets s.directory))) keep show (is_of (kind_name k) test) out found keeps shows (held_of s pair_place _ refl means) is in
       of_elements (pair_row (kind_name k)) test out q (pairs_of k s.directory) found same (subst (λ l. IsPermutation (map out l) found) (seen_kind k test s.directory) seen)
 
   pub between_shown : (a b : ℕ) (rows : List Row) → IsAnswer (one_table pair_tree (is_param 1 0 ∷ is_param 2 1 ∷ is_param 3 2 ∷ []) (col 1 4 ∷ [])) db (Text (kind_name k) ∷ Int (pos a) ∷ Int (pos b) ∷ []) rows → rows ≡ map value_shown (option_to_list (pair_between k a b s.directory))

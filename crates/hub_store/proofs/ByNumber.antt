@@ -13,7 +13,7 @@ use Rattle.circle.specs.Reads.{person_in, person_of}
 use Rattle.circle.specs.Sound.{CountsFrom}
 use Rattle.hub_core.specs.State as core
 use Rattle.hub_core.specs.Sound.{IsSound}
-use Rattle.hub_store.specs.Holdings.{IsHeld, by_number}
+use Rattle.hub_store.specs.Holdings.{IsHeld, holding_by_number}
 use Rattle.hub_store.specs.Means.{Means}
 use Rattle.hub_store.specs.Rows.{org_row, account_row, community_row}
 use Rattle.hub_store.specs.inner.Shown.{person_shown}
@@ -26,18 +26,18 @@ use Rattle.hub_store.proofs.Places.{community_place, community_tree, org_place, 
 
 module _ {X : Type 0} (db : Trees) (tree : ℕ) (row : X → Row) (xs : List X) (terms project : List Term) (params : Row) (q : X → Bool) (rows : List Row) (same : (x : X) → keeps terms params (row x) ≡ q x) where
   -- the rows show those that pass
-  found_passing : IsHeld db (by_number tree row xs) → IsAnswer (one_table tree terms project) db params rows → IsPermutation (map (λ x. shows project params (row x)) (filter q xs)) rows
+  found_passing : IsHeld db (holding_by_number tree row xs) → IsAnswer (one_table tree terms project) db params rows → IsPermutation (map (λ x. shows project params (row x)) (filter q xs)) rows
   found_passing held a =
       of_elements row (keeps terms params) (shows project params) q xs rows same
-      (seen_through db (by_number tree row xs) (keeps terms params) (shows project params) (keeps terms params) (shows project params) rows (λ r. refl) (λ r. refl) held (selected db tree terms project params rows a))
+      (seen_through db (holding_by_number tree row xs) (keeps terms params) (shows project params) (keeps terms params) (shows project params) rows (λ r. refl) (λ r. refl) held (selected db tree terms project params rows a))
 
   -- there is one at most
-  pub found_once : Once q xs → IsHeld db (by_number tree row xs) → IsAnswer (one_table tree terms project) db params rows → IsPermutation (map (λ x. shows project params (row x)) (option_to_list (find q xs))) rows
+  pub found_once : Once q xs → IsHeld db (holding_by_number tree row xs) → IsAnswer (one_table tree terms project) db params rows → IsPermutation (map (λ x. shows project params (row x)) (option_to_list (find q xs))) rows
   found_once once held a = subst (λ l. IsPermutation l rows) (ap (map (λ x. shows project params (row x))) (only_one q xs once)) (found_passing held a)
 
 -- ---- by a number
 
-module _ {X : Type 0} (db : Trees) (tree : ℕ) (row : X → Row) (number : X → ℕ) (xs : List X) (first : (x : X) → column (row x) 0 ≡ Int (pos (number x))) (n : ℕ) (project : List Term) (rows : List Row) (held : IsHeld db (by_number tree row xs)) (a : IsAnswer (one_table tree (is_param 0 0 ∷ []) project) db (Int (pos n) ∷ []) rows) where
+module _ {X : Type 0} (db : Trees) (tree : ℕ) (row : X → Row) (number : X → ℕ) (xs : List X) (first : (x : X) → column (row x) 0 ≡ Int (pos (number x))) (n : ℕ) (project : List Term) (rows : List Row) (held : IsHeld db (holding_by_number tree row xs)) (a : IsAnswer (one_table tree (is_param 0 0 ∷ []) project) db (Int (pos n) ∷ []) rows) where
   by_first : (x : X) → keeps (is_param 0 0 ∷ []) (Int (pos n) ∷ []) (row x) ≡ (number x == n)
   by_first x = and_true _ ∙ ap (λ v. is_same v (Int (pos n))) (first x) ∙ equal_numbers (number x) n
 

@@ -14,7 +14,7 @@ use Rattle.hub_core.specs.Sound.{IsSound}
 use Rattle.hub_store.specs.Content.{Has, CommitsState}
 use Rattle.hub_store.specs.Tables.{hub_schema}
 use Rattle.hub_store.specs.Layout.{newest}
-use Rattle.hub_store.specs.Holdings.{Holding, IsHeld, without_rowids}
+use Rattle.hub_store.specs.Holdings.{Holding, IsHeld, holding_without_rowids}
 use Rattle.hub_store.specs.inner.Makes.{HasEmpty}
 use Rattle.hub_store.specs.Means.{holdings, Holds}
 use Rattle.hub_store.proofs.Held.{AreHeld}
@@ -30,7 +30,7 @@ bare db tree seen none = record {
 
 -- as the empty state, but without the version
 unversioned : List Holding
-unversioned = without_rowids 0 [] ∷ drop 1 (holdings empty)
+unversioned = holding_without_rowids 0 [] ∷ drop 1 (holdings empty)
 
 all_bare : (db : Trees) (has : HasEmpty hub_schema (record { schema = hub_schema; trees = db })) → AreHeld db unversioned
 unfolding unversioned

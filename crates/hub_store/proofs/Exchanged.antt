@@ -19,7 +19,7 @@ use Rattle.sqlite_rules.specs.declared.error.Rowids.TheVariants.{Given}
 use Rattle.sqlite_rules.specs.Calls.{ids_of}
 use Rattle.sqlite_rules.specs.Cast.{cast_row}
 use Rattle.sqlite_rules.specs.Edit.{numbered, without_all, Applies, put_all, are_fresh, have_rowids}
-use Rattle.hub_store.specs.Holdings.{IsHeld, by_number}
+use Rattle.hub_store.specs.Holdings.{IsHeld, holding_by_number}
 use Rattle.hub_store.proofs.Forms.{one_table}
 use Rattle.hub_store.proofs.Lists.{came_in}
 use Rattle.hub_store.proofs.Statements.{keeps, shows, selected}
@@ -53,7 +53,7 @@ pub exchanges : {X : Type 0} {schema : Schema} (row : X → Row) (k : X → Bool
     IsAnswer (one_table table.tree terms (col 1 0 ∷ project)) db params rows →
     Applies schema Enforced db (record { table = table; gone = ids_of rows; news = numbered Given (without_all (db table.tree) (ids_of rows)) (map (λ s. cast_row table (drop 1 s)) rows) }) next →
     ((x : X) → keeps terms params (row x) ≡ k x) → ((x : X) → cast_row table (shows project params (row x)) ≡ row (f x)) →
-    IsHeld db (by_number table.tree row xs) → IsHeld next (by_number table.tree row (map (λ x. if k x then f x else x) xs))
+    IsHeld db (holding_by_number table.tree row xs) → IsHeld next (holding_by_number table.tree row (map (λ x. if k x then f x else x) xs))
 exchanges {X} {schema} row k f xs db next table terms project params rows answer a same made held =
     let keep = keeps terms params in
     let cast_up : Row → Row = λ s. cast_row table (drop 1 s) in

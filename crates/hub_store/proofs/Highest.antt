@@ -23,7 +23,7 @@ use Rattle.iodef_tree.proofs.Siblings.{filter-all}
 use Rattle.circle.specs.Sound.{CountsFrom}
 use Rattle.hub_core.proofs.Keeping.{numbers_above}
 use Rattle.hub_store.specs.inner.FirstShown.{number_shown, ShowsNumberOrZero}
-use Rattle.hub_store.specs.Holdings.{IsHeld, by_number}
+use Rattle.hub_store.specs.Holdings.{IsHeld, holding_by_number}
 use Rattle.hub_store.proofs.Compare.{more_than, and_true}
 use Rattle.hub_store.proofs.Found.{map_each}
 use Rattle.hub_store.proofs.Held.{permuted}
@@ -69,7 +69,7 @@ module _ {X : Type 0} (number : X → ℕ) where
 
 -- ---- the query
 
-pub highest_listed : {X : Type 0} (db : Trees) (tree : ℕ) (row : X → Row) (number : X → ℕ) (xs : List X) (rows : List Row) → ((x : X) → column (row x) 0 ≡ Int (pos (number x))) → CountsFrom number 0 xs → IsHeld db (by_number tree row xs) → IsAnswer (highest_query tree) db [] rows
+pub highest_listed : {X : Type 0} (db : Trees) (tree : ℕ) (row : X → Row) (number : X → ℕ) (xs : List X) (rows : List Row) → ((x : X) → column (row x) 0 ≡ Int (pos (number x))) → CountsFrom number 0 xs → IsHeld db (holding_by_number tree row xs) → IsAnswer (highest_query tree) db [] rows
     → rows ≡ ending_in 0 (length xs)
 highest_listed {X} db tree row number xs rows first counts held a =
     let terms = op2 (Compare Gt Binary) (col 1 0) (lit (Int (pos 0))) ∷ [] in

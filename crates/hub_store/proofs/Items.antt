@@ -23,7 +23,7 @@ use Rattle.hub_core.specs.State as core
 use Rattle.hub_core.specs.State.{incident_number, incident_of}
 use Rattle.hub_core.specs.Sound.{IsSound}
 use Rattle.hub_core.specs.declared.state.Incident.{Incident}
-use Rattle.hub_store.specs.Holdings.{without_rowids}
+use Rattle.hub_store.specs.Holdings.{holding_without_rowids}
 use Rattle.hub_store.specs.Means.{Means}
 use Rattle.hub_store.specs.Items.{Item, items_from, items_in, items_of, item_row, line_shown, kind_number, placed_shown, placed_from}
 use Rattle.hub_store.proofs.Compare.{begins, equal_numbers, and_true}
@@ -156,7 +156,7 @@ lines_listed db s n rows sound means a =
     (λ a b _ up _. rw (value_cmp-Int (pos a.place) (pos b.place), int_below a.place b.place up) refl)
     (λ all found. subst (λ l. IsPermutation (map (λ (x : Item). line_out (item_row x)) l) all) as_own
     (of_elements item_row (begins 0 params) line_out is_its (items_of s) all (λ x. and_true _ ∙ equal_numbers x.incident n)
-    (seen_through db (without_rowids item_tree (map item_row (items_of s))) (keeps terms params) out (begins 0 params) line_out all (past_one (Int (pos n))) (past_lines params) (held_of s item_place _ refl means) found)))
+    (seen_through db (holding_without_rowids item_tree (map item_row (items_of s))) (keeps terms params) out (begins 0 params) line_out all (past_one (Int (pos n))) (past_lines params) (held_of s item_place _ refl means) found)))
     a
     ∙ (ap (map item_shown) (filter_all own) ∙ its_shown (incident_of n s))
 

@@ -21,7 +21,7 @@ use Rattle.hub_store.specs.Items.{Item, placed_lines, item_row, line_shown, kind
 use Rattle.hub_store.specs.Rows.{naming_row_2}
 use Rattle.hub_store.specs.Tables.{schema_by, beside_item, without_incident, up_to_permission, hub_table, incident_table, item_table, incident_table_2}
 use Rattle.hub_store.specs.Parts.{Part, schema_of, HoldsParts}
-use Rattle.hub_store.specs.Layout.{without_rowids, in_versions_1_and_2, incident_part, item_part, incident_part_2, parts_1, with_items, without_incidents, tables_2, unversioned_2}
+use Rattle.hub_store.specs.Layout.{part_without_rowids, in_versions_1_and_2, incident_part, item_part, incident_part_2, parts_1, with_items, without_incidents, tables_2, unversioned_2}
 use Rattle.hub_store.specs.inner.Beside.{AreNumbered, HoldsBeside, CanStand}
 use Rattle.hub_store.specs.Failing.{HasReason}
 use Rattle.hub_store.proofs.Causes.{IsCreation, naming}
@@ -124,7 +124,7 @@ moves_naming old new naming s items incidents more same count h has =
 abbrev rest_2 : List Row → List Row → State → List Part
 rest_2 items incidents s = drop 1 (tables_2 0 items incidents s)
 
-stands_first : (rows items incidents : List Row) (s : State) → Stands [] (without_rowids 0 hub_table rows) (rest_2 items incidents s) 0
+stands_first : (rows items incidents : List Row) (s : State) → Stands [] (part_without_rowids 0 hub_table rows) (rest_2 items incidents s) 0
 stands_first rows items incidents s = record { listed = refl; uncounted = refl; timeless = refl; alone = λ tree olds news. refl; apart = refl; same = λ rows. refl }
 
 abbrev pub take_version : List ℕ
@@ -133,7 +133,7 @@ take_version = codes "DELETE FROM hub"
 pub takes_version : (old new : sql.State) (version : ℕ) (s : State) (items incidents : List Row) (count : ℕ) → Executes take_version [] old new (Ok count) → HoldsParts (tables_2 version items incidents s) old.now → HoldsParts (unversioned_2 items incidents s) new.now
 unfolding understood everything
 takes_version old new version s items incidents count h has =
-    takes [] (without_rowids 0 hub_table ((Int (pos version) ∷ []) ∷ [])) (rest_2 items incidents s) 0 (stands_first _ items incidents s) take_version [] old new (refl, refl) count h has [] refl (λ r. true) (λ r. refl) [] refl
+    takes [] (part_without_rowids 0 hub_table ((Int (pos version) ∷ []) ∷ [])) (rest_2 items incidents s) 0 (stands_first _ items incidents s) take_version [] old new (refl, refl) count h has [] refl (λ r. true) (λ r. refl) [] refl
 
 -- the version is taken, or there is a reason
 pub version_kept : (version : ℕ) (items incidents : List Row) (s : State) (old new : sql.State) (e : Error) → ExecutesInside 0 take_version [] old new (Err e) → HoldsParts (tables_2 version items incidents s) old.now → e ≢ SqliteFailure code.OutOfMemory → HasReason old new
@@ -144,7 +144,7 @@ pub puts_version : (old new : sql.State) (version : ℕ) (s : State) (items inci
 unfolding understood everything
 puts_version old new version s items incidents count h has =
     let row = Int (pos version) ∷ [] in
-    let put = puts [] (without_rowids 0 hub_table []) (rest_2 items incidents s) 0 (stands_first [] items incidents s) put_version _ old new (refl, refl) count h has (lit Null ∷ col 0 0 ∷ []) 2 refl (Null ∷ row) refl (rw (cast_int version, cast_null) refl) row (λ rows. refl) (row ∷ []) (IsPermutation-refl _) in
+    let put = puts [] (part_without_rowids 0 hub_table []) (rest_2 items incidents s) 0 (stands_first [] items incidents s) put_version _ old new (refl, refl) count h has (lit Null ∷ col 0 0 ∷ []) 2 refl (Null ∷ row) refl (rw (cast_int version, cast_null) refl) row (λ rows. refl) (row ∷ []) (IsPermutation-refl _) in
     record { known = put.known; whole = put.whole; means = put.means }
 
 -- one more of a list, whose rows are put one after another

@@ -24,7 +24,7 @@ use Rattle.sqlite.proofs.Callers.{IsPlain, command_of}
 use Rattle.hub_store.specs.Tables.{hub_schema}
 use Rattle.hub_store.specs.Values.{number_or_null, moment_or_null, flag}
 use Rattle.hub_store.specs.Pairs.{put_pair, take_pair}
-use Rattle.hub_store.specs.Holdings.{Holding, IsHeld, by_number}
+use Rattle.hub_store.specs.Holdings.{Holding, IsHeld, holding_by_number}
 use Rattle.hub_store.proofs.Compare.{begins, cast_int, cast_null, cast_option, cast_moment, cast_flag}
 use Rattle.hub_store.proofs.Exchanged.{exchanges}
 use Rattle.hub_store.proofs.Forms.{is_param, one_table}
@@ -76,12 +76,12 @@ module _ (table : Table) (old new : State) (at : ℕ) (before after : List Holdi
       one_changes old.now.trees new.now.trees _ taken.2.applies at before after _ (record { tree = table.tree; seen = seen; rows = more }) is now others held
       (λ h. subst (λ l. IsHeld new.now.trees (record { tree = table.tree; seen = seen; rows = l })) left (goes_out old.now.trees new.now.trees table seen all terms params taken.0 p taken.1 taken.2.applies same h))
 
-module _ {X : Type 0} (row : X → Row) (k : X → Bool) (f : X → X) (xs : List X) (table : Table) (old new : State) (at : ℕ) (before after : List Holding) (is : slice_get before at ≡ Some (by_number table.tree row xs))
+module _ {X : Type 0} (row : X → Row) (k : X → Bool) (f : X → X) (xs : List X) (table : Table) (old new : State) (at : ℕ) (before after : List Holding) (is : slice_get before at ≡ Some (holding_by_number table.tree row xs))
     (others : list_all (is_other table.tree) (take at before ++ drop (suc at) before) ≡ true) (held : AreHeld old.now.trees before) where
-  pub held_exchanged : (terms project : List Term) (params : Row) → after ≡ take at before ++ by_number table.tree row (map (λ x. if k x then f x else x) xs) ∷ drop (suc at) before →
+  pub held_exchanged : (terms project : List Term) (params : Row) → after ≡ take at before ++ holding_by_number table.tree row (map (λ x. if k x then f x else x) xs) ∷ drop (suc at) before →
       ((x : X) → keeps terms params (row x) ≡ k x) → ((x : X) → cast_row table (shows project params (row x)) ≡ row (f x)) → Exchanged table terms project params old new → AreHeld new.now.trees after
   held_exchanged terms project params now same made exchanged =
-      one_changes old.now.trees new.now.trees _ exchanged.2.applies at before after _ (by_number table.tree row (map (λ x. if k x then f x else x) xs)) is now others held
+      one_changes old.now.trees new.now.trees _ exchanged.2.applies at before after _ (holding_by_number table.tree row (map (λ x. if k x then f x else x) xs)) is now others held
       (exchanges row k f xs old.now.trees new.now.trees table terms project params exchanged.0 exchanged.1 exchanged.2.applies same made)
 
 -- ---- tests of the first columns of a row, past its rowid

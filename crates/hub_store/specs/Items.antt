@@ -35,7 +35,8 @@ kind_number kind.Value = 2
 
 -- the columns of a line, ahead of others
 abbrev pub line_columns : Line → Row → Row
-line_columns l rest = Int (pos l.depth) ∷ Text l.name ∷ flag l.in_array ∷ Int (pos (kind_number l.kind)) ∷ Text l.text ∷ rest
+line_columns l rest =
+    Int (pos l.depth) ∷ Text l.name ∷ flag l.in_array ∷ Int (pos (kind_number l.kind)) ∷ Text l.text ∷ rest
 
 abbrev pub line_shown : Line → Row
 line_shown l = line_columns l []

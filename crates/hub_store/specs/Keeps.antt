@@ -35,5 +35,6 @@ pub record HasFailed {S : Type 0} (g : store.Ghosts S) (text : List ℕ) (params
 -- A statement inside a transaction commits nothing, and the transaction goes on at Ok.
 pub record Goes {T : Type 0} (old new : State) (result : Result T Error) : Type 0 where
   pub kept : HasCleanDisk new → IsTrue old.in_transaction → KeepsCommit old new
-  pub inside : HasCleanDisk new → IsTrue old.in_transaction → OnOk result (IsTrue new.in_transaction × (IsTrue old.is_open → IsTrue new.is_open))
+  pub inside : HasCleanDisk new → IsTrue old.in_transaction →
+      OnOk result (IsTrue new.in_transaction × (IsTrue old.is_open → IsTrue new.is_open))
   pub survives : Survives old new (λ _. ⊥)

@@ -17,5 +17,6 @@ pub record FindsTrees (c : State) (db : Trees) : Type 0 where
 -- left there, and where it is a state, the one that finds it has it.
 abbrev pub WhatIsLeftIsFound : {S T : Type 0} → store.Ghosts S → store.Ghosts T → Type 0
 WhatIsLeftIsFound {S} {T} g h =
-    (old : Held S) (new : Held T) (db : Trees) (left : Option core.State) → (state g old).may_leave db → FindsTrees (state h new) db → IsMeaning db left
+    (old : Held S) (new : Held T) (db : Trees) (left : Option core.State) → (state g old).may_leave db →
+    FindsTrees (state h new) db → IsMeaning db left
     → MayLeave (state g old) left × IfSome left (Has (state h new))

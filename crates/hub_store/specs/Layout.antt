@@ -11,36 +11,36 @@ use Rattle.hub_store.specs.Items.{items_of, item_row}
 use Rattle.hub_store.specs.Parts.{Part}
 
 -- the number of each element is its rowid
-abbrev pub by_number : {X : Type 0} → ℕ → Table → (X → Row) → List X → Part
-by_number tree table row xs = record { table = record table { tree = tree }; seen = λ r. r; rows = map row xs }
+abbrev pub part_by_number : {X : Type 0} → ℕ → Table → (X → Row) → List X → Part
+part_by_number tree table row xs = record { table = record table { tree = tree }; seen = λ r. r; rows = map row xs }
 
 -- the rowids say nothing
-abbrev pub without_rowids : ℕ → Table → List Row → Part
-without_rowids tree table rows = record { table = record table { tree = tree }; seen = drop 1; rows = rows }
+abbrev pub part_without_rowids : ℕ → Table → List Row → Part
+part_without_rowids tree table rows = record { table = record table { tree = tree }; seen = drop 1; rows = rows }
 
 -- The tables that all versions have alike. The trees between are those of the indexes. The first table holds the version.
 abbrev pub in_every_version : ℕ → State → List Part
 in_every_version version s =
-    without_rowids 0 hub_table ((Int (pos version) ∷ []) ∷ [])
-    ∷ by_number 1 org_table org_row s.directory.orgs
-    ∷ by_number 3 person_table account_row s.directory.accounts
-    ∷ by_number 5 community_table community_row s.directory.communities
-    ∷ by_number 7 grp_table group_row s.directory.groups
-    ∷ without_rowids 9 pair_table (rows_of_pairs (pair_sets s.directory))
-    ∷ without_rowids 12 gate_table (map gate_row s.gates)
-    ∷ without_rowids 14 recipient_table (map recipient_row s.recipients)
+    part_without_rowids 0 hub_table ((Int (pos version) ∷ []) ∷ [])
+    ∷ part_by_number 1 org_table org_row s.directory.orgs
+    ∷ part_by_number 3 person_table account_row s.directory.accounts
+    ∷ part_by_number 5 community_table community_row s.directory.communities
+    ∷ part_by_number 7 grp_table group_row s.directory.groups
+    ∷ part_without_rowids 9 pair_table (rows_of_pairs (pair_sets s.directory))
+    ∷ part_without_rowids 12 gate_table (map gate_row s.gates)
+    ∷ part_without_rowids 14 recipient_table (map recipient_row s.recipients)
     ∷ []
 
 -- permissions without their ends
 abbrev pub permission_part : State → Part
-permission_part s = without_rowids 16 permission_table (map endless_row s.permissions)
+permission_part s = part_without_rowids 16 permission_table (map endless_row s.permissions)
 
 -- what versions 1 and 2 have alike
 abbrev pub in_versions_1_and_2 : ℕ → State → List Part
 in_versions_1_and_2 version s = in_every_version version s ++ permission_part s ∷ []
 
 abbrev pub incident_part : State → Part
-incident_part s = by_number 18 incident_table incident_row s.incidents
+incident_part s = part_by_number 18 incident_table incident_row s.incidents
 
 abbrev pub parts_1 : State → List Part
 parts_1 s = in_versions_1_and_2 1 s ++ incident_part s ∷ []
@@ -48,7 +48,7 @@ parts_1 s = in_versions_1_and_2 1 s ++ incident_part s ∷ []
 -- ---- version 2: the lines of the documents stand in a table of their own
 
 abbrev pub item_part : List Row → Part
-item_part = without_rowids 20 item_table
+item_part = part_without_rowids 20 item_table
 
 abbrev pub incident_part_2 : List Row → Part
 incident_part_2 rows = record { table = record incident_table_2 { tree = 22 }; seen = λ r. r; rows = rows }
@@ -71,16 +71,18 @@ without_incidents items s = in_versions_1_and_2 1 s ++ item_part items ∷ []
 
 -- the tables of version 2, and no version
 abbrev pub unversioned_2 : List Row → List Row → State → List Part
-unversioned_2 items incidents s = without_rowids 0 hub_table [] ∷ drop 1 (tables_2 0 items incidents s)
+unversioned_2 items incidents s = part_without_rowids 0 hub_table [] ∷ drop 1 (tables_2 0 items incidents s)
 
 -- ---- version 3: a permission may have an end
 
 abbrev pub permission_part_3 : List Row → Part
-permission_part_3 = without_rowids 24 permission_table_3
+permission_part_3 = part_without_rowids 24 permission_table_3
 
 -- With these incidents and permissions, and all else as in a state. While a migration makes them another version may stand there.
 abbrev pub tables_3 : ℕ → List Row → List Row → State → List Part
-tables_3 version incidents permissions s = in_every_version version s ++ item_part (map item_row (items_of s)) ∷ incident_part_2 incidents ∷ permission_part_3 permissions ∷ []
+tables_3 version incidents permissions s =
+    in_every_version version s
+    ++ item_part (map item_row (items_of s)) ∷ incident_part_2 incidents ∷ permission_part_3 permissions ∷ []
 
 abbrev pub parts_3 : State → List Part
 parts_3 s = tables_3 3 (map named_row_2 s.incidents) (map permission_row s.permissions) s
@@ -92,7 +94,9 @@ abbrev pub renumbered_2 : State → List Part
 renumbered_2 s = tables_2 3 (map item_row (items_of s)) (map named_row_2 s.incidents) s
 
 abbrev pub without_permissions : State → List Part
-without_permissions s = in_every_version 3 s ++ item_part (map item_row (items_of s)) ∷ incident_part_2 (map named_row_2 s.incidents) ∷ []
+without_permissions s =
+    in_every_version 3 s
+    ++ item_part (map item_row (items_of s)) ∷ incident_part_2 (map named_row_2 s.incidents) ∷ []
 
 -- with these permissions
 abbrev pub with_permissions : List Row → State → List Part
@@ -105,7 +109,9 @@ incident_part_4 rows = record { table = record incident_table_4 { tree = 26 }; s
 
 -- with these lines and incidents, and all else as in a state
 abbrev pub tables_4 : List Row → List Row → State → List Part
-tables_4 items incidents s = in_every_version 4 s ++ item_part items ∷ permission_part_3 (map permission_row s.permissions) ∷ incident_part_4 incidents ∷ []
+tables_4 items incidents s =
+    in_every_version 4 s
+    ++ item_part items ∷ permission_part_3 (map permission_row s.permissions) ∷ incident_part_4 incidents ∷ []
 
 abbrev pub parts_4 : State → List Part
 parts_4 s = tables_4 (map item_row (items_of s)) (map named_row s.incidents) s
@@ -114,14 +120,15 @@ parts_4 s = tables_4 (map item_row (items_of s)) (map named_row s.incidents) s
 
 -- the tables of version 3, and no version
 abbrev pub unversioned_3 : State → List Part
-unversioned_3 s = without_rowids 0 hub_table [] ∷ drop 1 (parts_3 s)
+unversioned_3 s = part_without_rowids 0 hub_table [] ∷ drop 1 (parts_3 s)
 
--- the tables of version 3 under a version, as the one that is to come
+-- the tables of version 3 under any version, as the one that is to come
 abbrev pub renumbered_3 : ℕ → State → List Part
 renumbered_3 version s = tables_3 version (map named_row_2 s.incidents) (map permission_row s.permissions) s
 
 abbrev pub without_namings : State → List Part
-without_namings s = in_every_version 4 s ++ item_part (map item_row (items_of s)) ∷ permission_part_3 (map permission_row s.permissions) ∷ []
+without_namings s = in_every_version 4 s
+    ++ item_part (map item_row (items_of s)) ∷ permission_part_3 (map permission_row s.permissions) ∷ []
 
 -- with these incidents
 abbrev pub with_namings : List Row → State → List Part
@@ -133,5 +140,6 @@ with_namings incidents s = tables_4 (map item_row (items_of s)) incidents s
 abbrev pub newest : ℕ
 newest = 4
 
+-- by the version that stands in them; any other number is taken for the newest
 abbrev pub parts_by : ℕ → State → List Part
 parts_by v s = if v == 1 then parts_1 s else if v == 2 then parts_2 s else if v == 3 then parts_3 s else parts_4 s

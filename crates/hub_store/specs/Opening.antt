@@ -72,7 +72,8 @@ pub record IsBrought (found : ℕ) (old new : State) (failures : ℕ) : Type 0 w
   pub was_open : HasCleanDisk new → IsTrue old.is_open
   pub content : HasCleanDisk new → (s : core.State) → HasAs found old s → Has new s
   pub now : HasCleanDisk new → (s : core.State) → HasAs found old s → version_of new.now ≡ Some newest
-  pub durable : HasCleanDisk new → (s : core.State) → HasAs found old s → (left : Option core.State) → MayLeave new left ↔ (left ≡ Some s)
+  pub durable : HasCleanDisk new → (s : core.State) → HasAs found old s → (left : Option core.State) →
+      MayLeave new left ↔ (left ≡ Some s)
   pub begun : failures ≡ 0
   pub survives : Survives old new (IsRenewedFrom found old)
 
@@ -88,9 +89,11 @@ pub record IsMigrated (old new : State) (failures : ℕ) : Type 0 where
   pub version : HasCleanDisk new → (version_of old.now ≡ Some newest) ⊎ IsOld old.now
   pub content : HasCleanDisk new → (s : core.State) → Has old s → Has new s
   pub moved : HasCleanDisk new → (v : ℕ) → IsTrue (is_older v) → (s : core.State) → HasAs v old s → Has new s
-  pub now : HasCleanDisk new → (v : ℕ) → IsTrue (is_older v) → (s : core.State) → HasAs v old s → version_of new.now ≡ Some newest
+  pub now : HasCleanDisk new → (v : ℕ) → IsTrue (is_older v) → (s : core.State) → HasAs v old s →
+      version_of new.now ≡ Some newest
   -- from here on a crash leaves the newest version with that content, and nothing else
-  pub durable : HasCleanDisk new → (v : ℕ) → IsTrue (is_older v) → (s : core.State) → HasAs v old s → (left : Option core.State) → MayLeave new left ↔ (left ≡ Some s)
+  pub durable : HasCleanDisk new → (v : ℕ) → IsTrue (is_older v) → (s : core.State) → HasAs v old s →
+      (left : Option core.State) → MayLeave new left ↔ (left ≡ Some s)
   -- over the newest version nothing changes
   pub same : HasCleanDisk new → version_of old.now ≡ Some newest → KeepsCommitted old new
   pub begun : failures ≡ 0
@@ -103,7 +106,8 @@ pub record IsUnmigrated (old new : State) (fault : OpenFault) : Type 0 where
   pub why : HasCleanDisk new → IsMigrationFault old.now fault
   pub cause : HasCleanDisk new → fault ≡ Failed → HasReason old new ⊎ IsOld old.now
   -- of an older version that stands for a state it is Failed only for a reason too, where a store takes the rows that are new in the newest
-  pub failed : HasCleanDisk new → fault ≡ Failed → (v : ℕ) → IsTrue (is_older v) → (s : core.State) → HasAs v old s → AreTaken s → HasReason old new
+  pub failed : HasCleanDisk new → fault ≡ Failed → (v : ℕ) → IsTrue (is_older v) → (s : core.State) →
+      HasAs v old s → AreTaken s → HasReason old new
   pub kept : HasCleanDisk new → KeepsCommitted old new
   pub content : HasCleanDisk new → (v : ℕ) → (s : core.State) → HasAs v old s → HasAs v new s
   -- a crash leaves what it could have left before, or, of an older version, the newest with that content

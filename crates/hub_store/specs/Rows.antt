@@ -51,7 +51,8 @@ abbrev pub org_row : Org → Row
 org_row o = Int (pos o.number) ∷ Null ∷ Text o.name ∷ []
 
 abbrev pub account_row : Account → Row
-account_row a = Int (pos a.person.number) ∷ Null ∷ Int (pos a.person.org) ∷ Text a.person.name ∷ Int (pos (role_number a.person.role)) ∷ Blob a.key ∷ flag a.person.active ∷ flag a.person.nominated ∷ []
+account_row a =
+    Int (pos a.person.number) ∷ Null ∷ Int (pos a.person.org) ∷ Text a.person.name ∷ Int (pos (role_number a.person.role)) ∷ Blob a.key ∷ flag a.person.active ∷ flag a.person.nominated ∷ []
 
 abbrev pub community_row : Community → Row
 community_row c = Int (pos c.number) ∷ Null ∷ Text c.name ∷ []
@@ -79,19 +80,22 @@ document_text doc = compact_text (object (data_of doc))
 
 -- an incident with its document, as version 1 keeps it
 abbrev pub incident_row : Incident → Row
-incident_row i = Int (pos i.naming.number) ∷ Null ∷ Int (pos i.naming.source) ∷ Text i.naming.ident ∷ Int (pos i.naming.revision) ∷ Text (document_text i.document) ∷ []
+incident_row i =
+    Int (pos i.naming.number) ∷ Null ∷ Int (pos i.naming.source) ∷ Text i.naming.ident ∷ Int (pos i.naming.revision) ∷ Text (document_text i.document) ∷ []
 
 -- ---- rows without one
 
 abbrev pub gate_row : Gate → Row
-gate_row g = Int (pos g.incident) ∷ Text (pointer_text g.gate.path) ∷ Int (pos g.gate.level) ∷ number_or_null g.gate.group ∷ []
+gate_row g =
+    Int (pos g.incident) ∷ Text (pointer_text g.gate.path) ∷ Int (pos g.gate.level) ∷ number_or_null g.gate.group ∷ []
 
 abbrev pub recipient_row : Recipient → Row
 recipient_row r = Int (pos r.incident) ∷ Int (pos (target_key r.target).0) ∷ Int (pos (target_key r.target).1) ∷ []
 
 -- a permission without its end, as versions 1 and 2 keep it
 abbrev pub endless_row : Permission → Row
-endless_row x = Int (pos x.incident) ∷ Text (pointer_text x.permission.path) ∷ Int (pos (grantee_key x.permission.grantee).0) ∷ Int (pos (grantee_key x.permission.grantee).1) ∷ []
+endless_row x =
+    Int (pos x.incident) ∷ Text (pointer_text x.permission.path) ∷ Int (pos (grantee_key x.permission.grantee).0) ∷ Int (pos (grantee_key x.permission.grantee).1) ∷ []
 
 -- with its end, as later versions keep it
 abbrev pub permission_row : Permission → Row

@@ -60,46 +60,57 @@ abbrev pub org_table : Table
 org_table = numbered (codes "org") (text (codes "name") ∷ []) ((2 ∷ []) ∷ [])
 
 abbrev pub person_table : Table
-person_table = numbered (codes "person") (integer (codes "org") ∷ text (codes "name") ∷ integer (codes "role") ∷ blob (codes "key") ∷ integer (codes "active") ∷ integer (codes "nominated") ∷ []) ((5 ∷ []) ∷ [])
+person_table =
+    numbered (codes "person") (integer (codes "org") ∷ text (codes "name") ∷ integer (codes "role") ∷ blob (codes "key") ∷ integer (codes "active") ∷ integer (codes "nominated") ∷ []) ((5 ∷ []) ∷ [])
 
 abbrev pub community_table : Table
 community_table = numbered (codes "community") (text (codes "name") ∷ []) ((2 ∷ []) ∷ [])
 
 abbrev pub grp_table : Table
-grp_table = numbered (codes "grp") (integer (codes "owner") ∷ text (codes "name") ∷ text (codes "releasability") ∷ integer (codes "active") ∷ []) ((2 ∷ 3 ∷ []) ∷ [])
+grp_table =
+    numbered (codes "grp") (integer (codes "owner") ∷ text (codes "name") ∷ text (codes "releasability") ∷ integer (codes "active") ∷ []) ((2 ∷ 3 ∷ []) ∷ [])
 
 abbrev pub pair_table : Table
-pair_table = unnumbered (codes "pair") (text (codes "kind") ∷ integer (codes "a") ∷ integer (codes "b") ∷ integer_or_null (codes "value") ∷ []) ((1 ∷ 2 ∷ 3 ∷ []) ∷ (1 ∷ 3 ∷ 2 ∷ []) ∷ [])
+pair_table =
+    unnumbered (codes "pair") (text (codes "kind") ∷ integer (codes "a") ∷ integer (codes "b") ∷ integer_or_null (codes "value") ∷ []) ((1 ∷ 2 ∷ 3 ∷ []) ∷ (1 ∷ 3 ∷ 2 ∷ []) ∷ [])
 
 abbrev pub gate_table : Table
-gate_table = unnumbered (codes "gate") (integer (codes "incident") ∷ text (codes "path") ∷ integer (codes "level") ∷ integer_or_null (codes "grp") ∷ []) ((1 ∷ 2 ∷ []) ∷ [])
+gate_table =
+    unnumbered (codes "gate") (integer (codes "incident") ∷ text (codes "path") ∷ integer (codes "level") ∷ integer_or_null (codes "grp") ∷ []) ((1 ∷ 2 ∷ []) ∷ [])
 
 abbrev pub recipient_table : Table
-recipient_table = unnumbered (codes "recipient") (integer (codes "incident") ∷ integer (codes "kind") ∷ integer (codes "target") ∷ []) ((1 ∷ 2 ∷ 3 ∷ []) ∷ [])
+recipient_table =
+    unnumbered (codes "recipient") (integer (codes "incident") ∷ integer (codes "kind") ∷ integer (codes "target") ∷ []) ((1 ∷ 2 ∷ 3 ∷ []) ∷ [])
 
 abbrev pub permission_table : Table
-permission_table = unnumbered (codes "permission") (integer (codes "incident") ∷ text (codes "path") ∷ integer (codes "kind") ∷ integer (codes "target") ∷ []) ((1 ∷ 2 ∷ 3 ∷ 4 ∷ []) ∷ [])
+permission_table =
+    unnumbered (codes "permission") (integer (codes "incident") ∷ text (codes "path") ∷ integer (codes "kind") ∷ integer (codes "target") ∷ []) ((1 ∷ 2 ∷ 3 ∷ 4 ∷ []) ∷ [])
 
 abbrev pub incident_table : Table
-incident_table = numbered (codes "incident") (integer (codes "source") ∷ text (codes "ident") ∷ integer (codes "revision") ∷ text (codes "text") ∷ []) ((2 ∷ 3 ∷ []) ∷ [])
+incident_table =
+    numbered (codes "incident") (integer (codes "source") ∷ text (codes "ident") ∷ integer (codes "revision") ∷ text (codes "text") ∷ []) ((2 ∷ 3 ∷ []) ∷ [])
 
 -- ---- tables that are new or changed in version 2
 
 abbrev pub item_table : Table
-item_table = unnumbered (codes "item") (integer (codes "incident") ∷ integer (codes "place") ∷ integer (codes "depth") ∷ text (codes "name") ∷ integer (codes "in_array") ∷ integer (codes "kind") ∷ text (codes "text") ∷ []) ((1 ∷ 2 ∷ []) ∷ [])
+item_table =
+    unnumbered (codes "item") (integer (codes "incident") ∷ integer (codes "place") ∷ integer (codes "depth") ∷ text (codes "name") ∷ integer (codes "in_array") ∷ integer (codes "kind") ∷ text (codes "text") ∷ []) ((1 ∷ 2 ∷ []) ∷ [])
 
 abbrev pub incident_table_2 : Table
-incident_table_2 = numbered (codes "incident") (integer (codes "source") ∷ text (codes "ident") ∷ integer (codes "revision") ∷ []) ((2 ∷ 3 ∷ []) ∷ [])
+incident_table_2 =
+    numbered (codes "incident") (integer (codes "source") ∷ text (codes "ident") ∷ integer (codes "revision") ∷ []) ((2 ∷ 3 ∷ []) ∷ [])
 
 -- ---- a table that is changed in version 3
 
 abbrev pub permission_table_3 : Table
-permission_table_3 = unnumbered (codes "permission") (integer (codes "incident") ∷ text (codes "path") ∷ integer (codes "kind") ∷ integer (codes "target") ∷ integer_or_null (codes "until") ∷ []) ((1 ∷ 2 ∷ 3 ∷ 4 ∷ []) ∷ [])
+permission_table_3 =
+    unnumbered (codes "permission") (integer (codes "incident") ∷ text (codes "path") ∷ integer (codes "kind") ∷ integer (codes "target") ∷ integer_or_null (codes "until") ∷ []) ((1 ∷ 2 ∷ 3 ∷ 4 ∷ []) ∷ [])
 
 -- ---- a table that is changed in version 4
 
 abbrev pub incident_table_4 : Table
-incident_table_4 = numbered (codes "incident") (integer (codes "source") ∷ text (codes "ident") ∷ integer (codes "revision") ∷ integer_or_null (codes "community") ∷ []) ((2 ∷ 3 ∷ []) ∷ [])
+incident_table_4 =
+    numbered (codes "incident") (integer (codes "source") ∷ text (codes "ident") ∷ integer (codes "revision") ∷ integer_or_null (codes "community") ∷ []) ((2 ∷ 3 ∷ []) ∷ [])
 
 -- ---- the schema after each statement of version 1
 

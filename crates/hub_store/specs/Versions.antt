@@ -19,7 +19,8 @@ if_alone schema table = if tables_at schema table.tree == 1 then Some table else
 
 -- the table `hub`, if there is one and no other table has its tree
 abbrev pub hub_of : Schema → Option Table
-hub_of schema = option_and_then (if_alone schema) (option_and_then (slice_get schema.tables) (table_named schema (codes "hub")))
+hub_of schema =
+    option_and_then (if_alone schema) (option_and_then (slice_get schema.tables) (table_named schema (codes "hub")))
 
 -- its column `version`, if there is one
 abbrev pub version_column : Schema → Option ℕ

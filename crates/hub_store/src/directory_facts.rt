@@ -245,7 +245,8 @@ fn stands<S: Alter>(
 fn count<S: Alter>(tx: &mut Transaction<'_, S>, command: &CircleCommand) -> Result<u32, Error>
     ensures same_reference { tx.new.conn.ghost_name ≡ tx.old.conn.ghost_name }
     ensures look { IsLook (state S.Store tx.old.conn.now)
-        (state S.Store tx.new.conn.now) (λ s count. count ≡ count_in s.directory command.now) result }
+        (state S.Store tx.new.conn.now) (λ s count. count ≡
+        count_in s.directory command.now) result }
 {
     match command {
         CircleCommand::AddOrg { .. } => count_orgs(tx),

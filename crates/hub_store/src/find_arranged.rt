@@ -2,7 +2,7 @@
 
 ghost use Rattle.std.specs.Prelude.{◌≡◌, false};
 ghost use Rattle.sqlite.specs.Held.{state};
-ghost use Rattle.circle.specs.Reads.{arranged as arranged_with, orgs_whose_client as organisations_whose_client};
+ghost use Rattle.circle.specs.Reads as spec;
 ghost use Rattle.hub_store.specs.inner.Queries.{IsReadInside, IsReadOutside};
 
 use crate::ask_pairs::ask_between;
@@ -22,7 +22,7 @@ fn read_arranged<S: Alter>(
     ensures same_reference { tx.new.conn.ghost_name ≡ tx.old.conn.ghost_name }
     ensures read { IsReadInside (state S.Store tx.old.conn.now)
         (state S.Store tx.new.conn.now) (λ s found. found ≡
-        arranged_with source org s.directory) result }
+        spec.arranged source org s.directory) result }
 {
     let rows = ask_between(tx, PairKind::Arrangement, source, org)?;
     first(alloc, &rows)
@@ -36,7 +36,7 @@ fn read_orgs_whose_client<S: Alter>(
     ensures same_reference { tx.new.conn.ghost_name ≡ tx.old.conn.ghost_name }
     ensures read { IsReadInside (state S.Store tx.old.conn.now)
         (state S.Store tx.new.conn.now) (λ s found.
-        found.items ≡ organisations_whose_client client s.directory) result }
+        found.items ≡ spec.orgs_whose_client client s.directory) result }
 {
     read_firsts(tx, alloc, PairKind::Client, client)
 }
@@ -51,7 +51,7 @@ pub(crate) fn arranged<S: Alter>(
     requires { conn.old.in_transaction ≡ false }
     ensures idle { conn.new.in_transaction ≡ false }
     ensures answers { IsReadOutside (state S.Store conn.old)
-        (state S.Store conn.new) (λ s found. found ≡ arranged_with source org s.directory) result }
+        (state S.Store conn.new) (λ s found. found ≡ spec.arranged source org s.directory) result }
 {
     let mut tx = conn.transaction();
     let found = read_arranged(&mut tx, alloc, source, org);
@@ -68,7 +68,7 @@ pub(crate) fn orgs_whose_client<S: Alter>(
     requires { conn.old.in_transaction ≡ false }
     ensures idle { conn.new.in_transaction ≡ false }
     ensures answers { IsReadOutside (state S.Store conn.old) (state S.Store conn.new) (λ s found.
-        found.items ≡ organisations_whose_client client s.directory) result }
+        found.items ≡ spec.orgs_whose_client client s.directory) result }
 {
     let mut tx = conn.transaction();
     let found = read_orgs_whose_client(&mut tx, alloc, client);

@@ -4,7 +4,7 @@ ghost use Rattle.std.specs.Prelude.{◌≡◌, false};
 ghost use Rattle.std.specs.List.{list_any};
 ghost use Rattle.sqlite.specs.Held.{state};
 ghost use Rattle.circle.specs.Directory.{has_membership as is_membership};
-ghost use Rattle.circle.specs.Reads.{communities_of as communities_joined, share_community as are_in_one_community, are_connected as are_in_connected};
+ghost use Rattle.circle.specs.Reads as spec;
 ghost use Rattle.hub_store.specs.inner.Queries.{IsReadInside, IsReadOutside};
 ghost use Rattle.hub_store.specs.inner.ShownPairs.{AreRising, is_one_of, linked_with};
 
@@ -23,7 +23,7 @@ fn read_communities<S: Alter>(
     ensures same_reference { tx.new.conn.ghost_name ≡ tx.old.conn.ghost_name }
     ensures read { IsReadInside (state S.Store tx.old.conn.now)
         (state S.Store tx.new.conn.now) (λ s found.
-        found.items ≡ communities_joined org s.directory) result }
+        found.items ≡ spec.communities_of org s.directory) result }
 {
     read_firsts(tx, alloc, PairKind::Membership, org)
 }
@@ -37,7 +37,7 @@ fn read_share<S: Alter>(
     ensures same_reference { tx.new.conn.ghost_name ≡ tx.old.conn.ghost_name }
     ensures read { IsReadInside (state S.Store tx.old.conn.now)
         (state S.Store tx.new.conn.now) (λ s found. found ≡
-        are_in_one_community org other s.directory) result }
+        spec.share_community org other s.directory) result }
 {
     let own = read_communities(tx, alloc, org)?;
     let others = read_communities(tx, alloc, other)?;
@@ -74,7 +74,7 @@ fn read_connected<S: Alter>(
     ensures same_reference { tx.new.conn.ghost_name ≡ tx.old.conn.ghost_name }
     ensures read { IsReadInside (state S.Store tx.old.conn.now)
         (state S.Store tx.new.conn.now) (λ s found. found ≡
-        are_in_connected org other s.directory) result }
+        spec.are_connected org other s.directory) result }
 {
     let own = read_communities(tx, alloc, org)?;
     let others = read_communities(tx, alloc, other)?;
@@ -95,7 +95,7 @@ pub(crate) fn communities_of<S: Alter>(
     requires { conn.old.in_transaction ≡ false }
     ensures idle { conn.new.in_transaction ≡ false }
     ensures answers { IsReadOutside (state S.Store conn.old) (state S.Store conn.new) (λ s found.
-        found.items ≡ communities_joined org s.directory) result }
+        found.items ≡ spec.communities_of org s.directory) result }
 {
     let mut tx = conn.transaction();
     let found = read_communities(&mut tx, alloc, org);
@@ -114,7 +114,7 @@ pub(crate) fn share_community<S: Alter>(
     ensures idle { conn.new.in_transaction ≡ false }
     ensures answers { IsReadOutside (state S.Store conn.old)
         (state S.Store conn.new) (λ s found. found ≡
-        are_in_one_community org other s.directory) result }
+        spec.share_community org other s.directory) result }
 {
     let mut tx = conn.transaction();
     let found = read_share(&mut tx, alloc, org, other);
@@ -132,7 +132,8 @@ pub(crate) fn are_connected<S: Alter>(
     requires { conn.old.in_transaction ≡ false }
     ensures idle { conn.new.in_transaction ≡ false }
     ensures answers { IsReadOutside (state S.Store conn.old)
-        (state S.Store conn.new) (λ s found. found ≡ are_in_connected org other s.directory) result }
+        (state S.Store conn.new) (λ s found. found ≡
+        spec.are_connected org other s.directory) result }
 {
     let mut tx = conn.transaction();
     let found = read_connected(&mut tx, alloc, org, other);
@@ -149,7 +150,8 @@ pub(crate) fn has_membership<S: Alter>(
     requires { conn.old.in_transaction ≡ false }
     ensures idle { conn.new.in_transaction ≡ false }
     ensures answers { IsReadOutside (state S.Store conn.old)
-        (state S.Store conn.new) (λ s found. found ≡ is_membership community org s.directory) result }
+        (state S.Store conn.new) (λ s found. found ≡
+        is_membership community org s.directory) result }
 {
     let mut tx = conn.transaction();
     let found = read_has_membership(&mut tx, community, org);

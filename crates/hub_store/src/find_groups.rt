@@ -4,10 +4,12 @@ ghost use Rattle.std.specs.Prelude.{◌≡◌, ◌++◌, [], map, filter, option
 ghost use Rattle.std.specs.List.{cons_option};
 ghost use Rattle.sqlite.specs.Held.{state};
 ghost use Rattle.circle.specs.Directory.{has_group_member as is_group_member};
-ghost use Rattle.circle.specs.Reads.{group_of, memberships_in_groups, groups_joined as groups_joined_by, active_groups_joined as active_groups_joined_by};
+ghost use Rattle.circle.specs.Reads.{group_of, memberships_in_groups};
+ghost use Rattle.circle.specs.Reads as circle_reads;
 ghost use Rattle.hub_core.specs.Reads.{groups_of};
 ghost use Rattle.hub_store.specs.inner.Queries.{IsReadInside, IsReadOutside};
-ghost use Rattle.hub_store.specs.inner.ShownPairs.{joined_of, joined_group as joined_with, groups_in};
+ghost use Rattle.hub_store.specs.inner.ShownPairs.{joined_of, groups_in};
+ghost use Rattle.hub_store.specs.inner.ShownPairs as spec;
 
 use crate::ask_pairs::ask_to;
 use crate::from_row::{all, first};
@@ -67,7 +69,7 @@ pub(crate) fn read_group<S: Alter>(
 }
 
 fn joined_group(member: Joined, group: Group) -> JoinedGroup
-    ensures { result ≡ joined_with member group }
+    ensures { result ≡ spec.joined_group member group }
 {
     JoinedGroup {
         number: group.number,
@@ -85,7 +87,7 @@ fn push_joined(
     group: Option<Group>,
 ) -> Result<(), AllocError>
     ensures { OnOk result (groups.new.items ≡
-        groups.old.items ++ cons_option (option_map (joined_with member) group) []) }
+        groups.old.items ++ cons_option (option_map (spec.joined_group member) group) []) }
 {
     if let Some(group) = group {
         groups.push(joined_group(member, group))?;
@@ -101,7 +103,8 @@ fn read_groups<S: Alter>(
 ) -> Result<Vec<JoinedGroup>, Error>
     ensures same_reference { tx.new.conn.ghost_name ≡ tx.old.conn.ghost_name }
     ensures read { IsReadInside (state S.Store tx.old.conn.now)
-        (state S.Store tx.new.conn.now) (λ s found. found.items ≡ groups_in org s.directory) result }
+        (state S.Store tx.new.conn.now) (λ s found. found.items ≡
+        groups_in org s.directory) result }
 {
     let members = read_memberships(tx, alloc, org)?;
     let mut groups = Vec::new(alloc);
@@ -137,7 +140,10 @@ fn read_groups_joined<S: Alter>(
     ensures same_reference { tx.new.conn.ghost_name ≡ tx.old.conn.ghost_name }
     ensures read { IsReadInside (state S.Store tx.old.conn.now)
         (state S.Store tx.new.conn.now) (λ s found. found ≡
-        record { all = groups_joined_by org s.directory; active = active_groups_joined_by org s.directory }) result }
+        record {
+          all = circle_reads.groups_joined org s.directory;
+          active = circle_reads.active_groups_joined org s.directory;
+        }) result }
 {
     let groups = read_groups(tx, alloc, org)?;
     let all = all_numbers(alloc, &groups)?;
@@ -175,7 +181,10 @@ pub(crate) fn groups_joined<S: Alter>(
     ensures idle { conn.new.in_transaction ≡ false }
     ensures answers { IsReadOutside (state S.Store conn.old)
         (state S.Store conn.new) (λ s found. found ≡
-        record { all = groups_joined_by org s.directory; active = active_groups_joined_by org s.directory }) result }
+        record {
+          all = circle_reads.groups_joined org s.directory;
+          active = circle_reads.active_groups_joined org s.directory;
+        }) result }
 {
     let mut tx = conn.transaction();
     let found = read_groups_joined(&mut tx, alloc, org);

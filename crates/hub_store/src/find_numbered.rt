@@ -2,7 +2,7 @@
 
 ghost use Rattle.std.specs.Prelude.{◌≡◌, false};
 ghost use Rattle.sqlite.specs.Held.{state};
-ghost use Rattle.circle.specs.Directory.{has_org as is_org, has_person as is_person, has_community as is_community};
+ghost use Rattle.circle.specs.Directory as spec;
 ghost use Rattle.circle.specs.Reads.{person_of as person_numbered};
 ghost use Rattle.hub_store.specs.inner.Queries.{IsReadInside, IsReadOutside};
 
@@ -19,7 +19,8 @@ pub(crate) fn read_has_org<S: Alter>(
 ) -> Result<bool, Error>
     ensures same_reference { tx.new.conn.ghost_name ≡ tx.old.conn.ghost_name }
     ensures read { IsReadInside (state S.Store tx.old.conn.now)
-        (state S.Store tx.new.conn.now) (λ s found. found ≡ is_org number s.directory) result }
+        (state S.Store tx.new.conn.now) (λ s found. found ≡
+        spec.has_org number s.directory) result }
 {
     let rows = ask(
         tx,
@@ -35,7 +36,8 @@ pub(crate) fn read_has_community<S: Alter>(
 ) -> Result<bool, Error>
     ensures same_reference { tx.new.conn.ghost_name ≡ tx.old.conn.ghost_name }
     ensures read { IsReadInside (state S.Store tx.old.conn.now)
-        (state S.Store tx.new.conn.now) (λ s found. found ≡ is_community number s.directory) result }
+        (state S.Store tx.new.conn.now) (λ s found. found ≡
+        spec.has_community number s.directory) result }
 {
     let rows = ask(
         tx,
@@ -70,7 +72,8 @@ pub(crate) fn read_has_person<S: Alter>(
 ) -> Result<bool, Error>
     ensures same_reference { tx.new.conn.ghost_name ≡ tx.old.conn.ghost_name }
     ensures read { IsReadInside (state S.Store tx.old.conn.now)
-        (state S.Store tx.new.conn.now) (λ s found. found ≡ is_person number s.directory) result }
+        (state S.Store tx.new.conn.now) (λ s found. found ≡
+        spec.has_person number s.directory) result }
 {
     let found = read_person_of(tx, alloc, number)?;
     Ok(found.is_some())
@@ -81,7 +84,7 @@ pub(crate) fn has_org<S: Alter>(conn: &mut Connection<S>, number: u32) -> Result
     requires { conn.old.in_transaction ≡ false }
     ensures idle { conn.new.in_transaction ≡ false }
     ensures answers { IsReadOutside (state S.Store conn.old)
-        (state S.Store conn.new) (λ s found. found ≡ is_org number s.directory) result }
+        (state S.Store conn.new) (λ s found. found ≡ spec.has_org number s.directory) result }
 {
     let mut tx = conn.transaction();
     let found = read_has_org(&mut tx, number);
@@ -94,7 +97,7 @@ pub(crate) fn has_community<S: Alter>(conn: &mut Connection<S>, number: u32) -> 
     requires { conn.old.in_transaction ≡ false }
     ensures idle { conn.new.in_transaction ≡ false }
     ensures answers { IsReadOutside (state S.Store conn.old)
-        (state S.Store conn.new) (λ s found. found ≡ is_community number s.directory) result }
+        (state S.Store conn.new) (λ s found. found ≡ spec.has_community number s.directory) result }
 {
     let mut tx = conn.transaction();
     let found = read_has_community(&mut tx, number);
@@ -128,7 +131,7 @@ pub(crate) fn has_person<S: Alter>(
     requires { conn.old.in_transaction ≡ false }
     ensures idle { conn.new.in_transaction ≡ false }
     ensures answers { IsReadOutside (state S.Store conn.old)
-        (state S.Store conn.new) (λ s found. found ≡ is_person number s.directory) result }
+        (state S.Store conn.new) (λ s found. found ≡ spec.has_person number s.directory) result }
 {
     let mut tx = conn.transaction();
     let found = read_has_person(&mut tx, alloc, number);

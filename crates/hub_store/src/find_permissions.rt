@@ -40,7 +40,8 @@ pub(crate) fn find_permissions<S: Alter>(
     requires { conn.old.in_transaction ≡ false }
     ensures idle { conn.new.in_transaction ≡ false }
     ensures answers { IsReadOutside (state S.Store conn.old)
-        (state S.Store conn.new) (λ s found. found ≡ its_permissions incident s.permissions) result }
+        (state S.Store conn.new) (λ s found. found ≡
+        its_permissions incident s.permissions) result }
 {
     let mut tx = conn.transaction();
     let found = read_permissions(&mut tx, alloc, incident);

@@ -92,7 +92,8 @@ pub(crate) fn read_has_suspended<S: Alter>(
 ) -> Result<bool, Error>
     ensures same_reference { tx.new.conn.ghost_name ≡ tx.old.conn.ghost_name }
     ensures read { IsReadInside (state S.Store tx.old.conn.now)
-        (state S.Store tx.new.conn.now) (λ s found. found ≡ has_suspended person s.directory) result }
+        (state S.Store tx.new.conn.now) (λ s found. found ≡
+        has_suspended person s.directory) result }
 {
     let found = read_person_of(tx, alloc, person)?;
     Ok(is_suspended(&found))
@@ -114,7 +115,8 @@ pub(crate) fn read_has_nominated<S: Alter>(
 ) -> Result<bool, Error>
     ensures same_reference { tx.new.conn.ghost_name ≡ tx.old.conn.ghost_name }
     ensures read { IsReadInside (state S.Store tx.old.conn.now)
-        (state S.Store tx.new.conn.now) (λ s found. found ≡ has_nominated person s.directory) result }
+        (state S.Store tx.new.conn.now) (λ s found. found ≡
+        has_nominated person s.directory) result }
 {
     let found = read_person_of(tx, alloc, person)?;
     Ok(is_nominated(&found))

@@ -57,7 +57,8 @@ pub(crate) fn line_at(alloc: Global, place: u64, row: &Row) -> Result<Line, Erro
 
 /// How it is told that lines are no document: want of memory apart from lines out of shape.
 pub(crate) fn error_of(fault: OutlineFault) -> Error
-    ensures { (result ≡ Error.SqliteFailure ErrorCode.OutOfMemory) ↔ (fault ≡ OutlineFault.NoMemory) }
+    ensures { (result ≡ Error.SqliteFailure ErrorCode.OutOfMemory) ↔
+        (fault ≡ OutlineFault.NoMemory) }
 {
     match fault {
         OutlineFault::NoMemory => NO_MEMORY,

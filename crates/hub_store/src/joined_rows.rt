@@ -1,7 +1,7 @@
 //! Numbers, handlings, groups and their members as rows.
 
 ghost use Rattle.std.specs.Prelude.{◌≡◌, IfOk};
-ghost use Rattle.hub_store.specs.Rows.{handling_number as number_of_handling};
+ghost use Rattle.hub_store.specs.Rows as spec;
 ghost use Rattle.hub_store.specs.inner.Shown.{IsShownBy};
 ghost use Rattle.hub_store.specs.inner.ShownPairs.{ShowsNumber, handling_shown, joined_shown, group_shown};
 
@@ -20,7 +20,7 @@ pub(crate) struct Joined {
 }
 
 fn handling_of(number: u32) -> Result<Handling, Error>
-    ensures { IfOk result (λ handling. number_of_handling handling ≡ number) }
+    ensures { IfOk result (λ handling. spec.handling_number handling ≡ number) }
 {
     match number {
         0 => Ok(Handling::Clear),

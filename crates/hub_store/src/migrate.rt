@@ -18,7 +18,7 @@ ghost use Rattle.hub_store.specs.Failing.{HasReason};
 ghost use Rattle.hub_store.specs.Keeps.{Goes, KeepsCommitted};
 ghost use Rattle.hub_store.specs.inner.Makes.{Makes, FailsOnly};
 ghost use Rattle.hub_store.specs.inner.Moving.{HasTexts, HoldsMoved, HoldsNext, incident_above, naming_in};
-ghost use Rattle.hub_store.specs.Opening.{is_older as is_older_version};
+ghost use Rattle.hub_store.specs.Opening as spec;
 
 use crate::from_row::STRANGE;
 use crate::old_rows::first_incident;
@@ -36,7 +36,7 @@ use std::alloc::Global;
 
 /// Whether it is a version from which a store is brought to the newest.
 pub(crate) fn is_older(version: u32) -> bool
-    ensures { result ≡ is_older_version version }
+    ensures { result ≡ spec.is_older version }
 {
     0 < version && version < NEWEST
 }
@@ -220,10 +220,10 @@ fn to_version_3_from<S: Alter>(
 fn go_steps<S: Alter>(tx: &mut Transaction<'_, S>, alloc: Global, version: u32) -> Result<(), Error>
     ensures same_reference { tx.new.conn.ghost_name ≡ tx.old.conn.ghost_name }
     ensures goes { Goes (state S.Store tx.old.conn.now) (state S.Store tx.new.conn.now) result }
-    ensures made { IsTrue (is_older_version version) → (s : State) → IsSound s →
+    ensures made { IsTrue (spec.is_older version) → (s : State) → IsSound s →
         Makes (state S.Store tx.old.conn.now) (state S.Store tx.new.conn.now) (λ db.
         HoldsAs version db s) (λ db. Holds db s) result }
-    ensures cause { IsTrue (is_older_version version) → (s : State) → IsSound s → AreTaken s →
+    ensures cause { IsTrue (spec.is_older version) → (s : State) → IsSound s → AreTaken s →
         FailsOnly (state S.Store tx.old.conn.now) (state S.Store tx.new.conn.now) (λ db.
         HoldsAs version db s) result }
 {
@@ -244,15 +244,15 @@ pub(crate) fn renew<S: Alter>(
     ensures idle { conn.new.in_transaction ≡ false }
     ensures asked { HasCleanDisk (state S.Store conn.new) →
         OnOk result (IsTrue (state S.Store conn.old).is_open) }
-    ensures made { HasCleanDisk (state S.Store conn.new) → IsTrue (is_older_version version) →
+    ensures made { HasCleanDisk (state S.Store conn.new) → IsTrue (spec.is_older version) →
         (s : State) → HasAs version (state S.Store conn.old) s →
         OnOk result (CommitsState (state S.Store conn.new) s) }
     ensures none { HasCleanDisk (state S.Store conn.new) →
         OnErr result (KeepsCommitted (state S.Store conn.old) (state S.Store conn.new)) }
-    ensures survives { IsTrue (is_older_version version) →
+    ensures survives { IsTrue (spec.is_older version) →
         Survives (state S.Store conn.old) (state S.Store conn.new) (λ left.
         (s : State) → HasAs version (state S.Store conn.old) s → TreesHold left s) }
-    ensures cause { HasCleanDisk (state S.Store conn.new) → IsTrue (is_older_version version) →
+    ensures cause { HasCleanDisk (state S.Store conn.new) → IsTrue (spec.is_older version) →
         (s : State) → HasAs version (state S.Store conn.old) s → AreTaken s →
         IfErr result (λ e.
         e ≢ Error.SqliteFailure ErrorCode.OutOfMemory →

@@ -1,14 +1,14 @@
 //! The numbers that stand for names in the tables.
 
 ghost use Rattle.std.specs.Prelude.{◌≡◌};
-ghost use Rattle.hub_store.specs.Rows.{role_number as number_of_role, handling_number as number_of_handling, one_if as number_of_flag};
+ghost use Rattle.hub_store.specs.Rows as spec;
 ghost use Rattle.hub_store.specs.Items.{kind_number as number_of_kind};
 
 use circle::directory::{Handling, Role};
 use iodef_tree::Kind;
 
 pub(crate) fn role_number(role: Role) -> u32
-    ensures { result ≡ number_of_role role }
+    ensures { result ≡ spec.role_number role }
 {
     match role {
         Role::Administrator => 0,
@@ -19,7 +19,7 @@ pub(crate) fn role_number(role: Role) -> u32
 }
 
 pub(crate) fn handling_number(handling: Handling) -> u32
-    ensures { result ≡ number_of_handling handling }
+    ensures { result ≡ spec.handling_number handling }
 {
     match handling {
         Handling::Clear => 0,
@@ -31,7 +31,7 @@ pub(crate) fn handling_number(handling: Handling) -> u32
 }
 
 pub(crate) fn one_if(flag: bool) -> u32
-    ensures { result ≡ number_of_flag flag }
+    ensures { result ≡ spec.one_if flag }
 {
     if flag { 1 } else { 0 }
 }

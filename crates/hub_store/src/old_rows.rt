@@ -42,7 +42,8 @@ fn only_of(mut documents: Vec<Document>) -> Result<Document, Error>
 /// What a row holds beside the document. In version 1 no incident names a community.
 fn naming_of(row: &Row) -> Result<Naming, Error>
     ensures value { IfOk result (ShowsNaming row.now) }
-    ensures cause { (i : OldIncident) → row.now ≡ old_shown i → IsReadable i → IfErr result IsUnheld }
+    ensures cause { (i : OldIncident) → row.now ≡ old_shown i → IsReadable i →
+        IfErr result IsUnheld }
 {
     Ok(Naming {
         number: row.get(0)?,
@@ -55,7 +56,8 @@ fn naming_of(row: &Row) -> Result<Naming, Error>
 
 fn document_of(alloc: Global, row: &Row) -> Result<Document, Error>
     ensures value { IfOk result (ShowsDocument row.now) }
-    ensures cause { (i : OldIncident) → row.now ≡ old_shown i → IsReadable i → IfErr result IsUnheld }
+    ensures cause { (i : OldIncident) → row.now ≡ old_shown i → IsReadable i →
+        IfErr result IsUnheld }
 {
     let text: String = row.get(4)?;
     only_document(alloc, text.as_str())
@@ -63,7 +65,8 @@ fn document_of(alloc: Global, row: &Row) -> Result<Document, Error>
 
 fn incident_of(alloc: Global, row: &Row) -> Result<Incident, Error>
     ensures value { IfOk result (ShowsIncident row.now) }
-    ensures cause { (i : OldIncident) → row.now ≡ old_shown i → IsReadable i → IfErr result IsUnheld }
+    ensures cause { (i : OldIncident) → row.now ≡ old_shown i → IsReadable i →
+        IfErr result IsUnheld }
 {
     let naming = naming_of(row)?;
     let document = document_of(alloc, row)?;

@@ -1,7 +1,7 @@
 //! Persons as rows.
 
 ghost use Rattle.std.specs.Prelude.{◌≡◌, IfOk};
-ghost use Rattle.hub_store.specs.Rows.{role_number as number_of_role};
+ghost use Rattle.hub_store.specs.Rows as spec;
 ghost use Rattle.hub_store.specs.inner.Shown.{IsShownBy, person_shown};
 
 use crate::from_row::{FromRow, STRANGE};
@@ -11,7 +11,7 @@ use sqlite::{Error, Row};
 use std::alloc::Global;
 
 fn role_of(number: u32) -> Result<Role, Error>
-    ensures { IfOk result (λ role. number_of_role role ≡ number) }
+    ensures { IfOk result (λ role. spec.role_number role ≡ number) }
 {
     match number {
         0 => Ok(Role::Administrator),

@@ -129,7 +129,8 @@ impl<S: Alter> SqlShelf<S> {
             HasCleanDisk (state S.Store shelf.conn) → (left : Option State) →
             MayLeave (state S.Store shelf.conn) left ↔ (left ≡ Some empty)) }
         ensures survives { IfOk result (λ shelf.
-            Survives (state S.Store conn) (state S.Store shelf.conn) (λ left. TreesHold left empty)) }
+            Survives (state S.Store conn) (state S.Store shelf.conn) (λ left.
+            TreesHold left empty)) }
         ensures crash { IfErr result (λ e.
             Survives (state S.Store conn) (state S.Store e.1) (λ left. TreesHold left empty)) }
     {
@@ -152,7 +153,8 @@ impl<S: Alter> SqlShelf<S> {
         requires { conn.in_transaction ≡ false }
         ensures opened { IfOk result (λ shelf.
             IsOpened (state S.Store conn) (state S.Store shelf.conn) shelf.failures) }
-        ensures refused { IfErr result (λ e. IsRefused (state S.Store conn) (state S.Store e.1) e.0) }
+        ensures refused { IfErr result (λ e.
+            IsRefused (state S.Store conn) (state S.Store e.1) e.0) }
         ensures idle { IfErr result (λ e. e.1.in_transaction ≡ false) }
     {
         match version(&mut conn) {

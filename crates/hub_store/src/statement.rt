@@ -22,7 +22,8 @@ pub(crate) fn run<S: Alter>(
         OnOk result (HasRun S.Store text.now (bound params.now) tx.old.conn.now tx.new.conn.now) }
     ensures failed { HasCleanDisk (state S.Store tx.new.conn.now) →
         IsTrue (state S.Store tx.old.conn.now).in_transaction →
-        IfErr result (HasFailed S.Store text.now (bound params.now) tx.old.conn.now tx.new.conn.now) }
+        IfErr result (HasFailed S.Store text.now
+        (bound params.now) tx.old.conn.now tx.new.conn.now) }
 {
     let statement = tx.prepare(text)?;
     tx.execute_prepared(&statement, params)?;

@@ -76,7 +76,8 @@ fn read_rows<S: Alter>(tx: &mut Transaction<'_, S>) -> Result<Vec<Row>, Error>
         (HoldsParts (parts_3 s)) (HoldsParts (parts_3 s)) result }
     ensures read { HasCleanDisk (state S.Store tx.new.conn.now) → (s : State) →
         HoldsParts (parts_3 s) (state S.Store tx.old.conn.now).now →
-        IfOk result (λ rows. IsPermutation (map naming_shown_2 (naming_in s.incidents)) rows.items) }
+        IfOk result (λ rows.
+        IsPermutation (map naming_shown_2 (naming_in s.incidents)) rows.items) }
     ensures cause { (s : State) →
         FailsOnly (state S.Store tx.old.conn.now) (state S.Store tx.new.conn.now)
         (HoldsParts (parts_3 s)) result }

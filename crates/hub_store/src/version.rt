@@ -124,8 +124,8 @@ pub(crate) fn version<S: Alter>(conn: &mut Connection<S>) -> Result<Option<u32>,
     ensures asked { HasCleanDisk (state S.Store conn.new) →
         IfOk result (λ found. IfSome found (λ _. IsTrue (state S.Store conn.old).is_open)) }
     ensures cause { HasCleanDisk (state S.Store conn.new) →
-        IfErr result (λ fault. fault ≡
-        ShelfFault.Failed → HasReason (state S.Store conn.old) (state S.Store conn.new)) }
+        IfErr result (λ fault. fault ≡ ShelfFault.Failed →
+        HasReason (state S.Store conn.old) (state S.Store conn.new)) }
 {
     match ask_version(conn) {
         Ok(found) => Ok(found),

@@ -91,7 +91,8 @@ fn attach_array(
     requires grown { IsGrown members.items }
     requires numbered { IsBodyNumbered (body item) }
     requires filled { IsItemFilled item }
-    requires first { is_numbered (last_place None (members_forest members.items)) name (Some 0) ≡ true }
+    requires first { is_numbered (last_place None (members_forest members.items)) name
+        (Some 0) ≡ true }
     ensures { IfOk result (λ new. Grows members.items name true (body item) new.items) }
 {
     let mut items = Vec::new(alloc);
@@ -120,7 +121,8 @@ impl Spine {
         requires numbered { IsBodyNumbered (body item) }
         requires filled { IsItemFilled item }
         ensures { IfOk result (λ new. Extends self
-            (lines (suc (length self.classes.items)) (in_front name (place_of in_array 0) (body item) end))
+            (lines (suc (length self.classes.items))
+            (in_front name (place_of in_array 0) (body item) end))
             (length self.classes.items) new) }
     {
         let Spine { root, mut classes } = self;
@@ -156,7 +158,8 @@ impl Spine {
     fn open(self, alloc: Global, name: Text, in_array: bool) -> Result<Spine, AllocError>
         requires { IsSpineGrown self }
         ensures { IfOk result (λ new. Extends self
-            (lines (suc (length self.classes.items)) (in_front name (place_of in_array 0) (holds end) end))
+            (lines (suc (length self.classes.items))
+            (in_front name (place_of in_array 0) (holds end) end))
             (suc (length self.classes.items)) new) }
     {
         let Spine { root, mut classes } = self;

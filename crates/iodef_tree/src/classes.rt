@@ -26,7 +26,8 @@ fn push_object(
     above: &mut Vec<Text>,
     object: &Object,
 ) -> Result<(), AllocError>
-    ensures pushed { OnOk result (paths.new.items ≡ paths.old.items ++ classes_below above.old.items (forest object.now)) }
+    ensures pushed { OnOk result (paths.new.items ≡
+        paths.old.items ++ classes_below above.old.items (forest object.now)) }
     ensures kept { OnOk result (above.new.items ≡ above.old.items) }
 {
     for (name, member) in &object.members {
@@ -44,7 +45,8 @@ fn push_member(
     member: &Member,
 ) -> Result<(), AllocError>
     ensures pushed { OnOk result (paths.new.items
-        ≡ paths.old.items ++ classes_below above.old.items (member_front name.now (bodies member.now) end)) }
+        ≡ paths.old.items ++
+        classes_below above.old.items (member_front name.now (bodies member.now) end)) }
     ensures kept { OnOk result (above.new.items ≡ above.old.items) }
 {
     match member {
@@ -68,7 +70,8 @@ fn push_item(
     item: &Item,
 ) -> Result<(), AllocError>
     ensures pushed { OnOk result (paths.new.items
-        ≡ paths.old.items ++ classes_below above.old.items (in_front name.now place (body item.now) end)) }
+        ≡ paths.old.items ++
+        classes_below above.old.items (in_front name.now place (body item.now) end)) }
     ensures kept { OnOk result (above.new.items ≡ above.old.items) }
 {
     match item {
@@ -91,7 +94,8 @@ fn push_path(
     name: &Text,
     place: Option<usize>,
 ) -> Result<(), AllocError>
-    ensures pushed { OnOk result (paths.new.items ≡ paths.old.items ++ (above.old.items ++ steps name.now place) ∷ []) }
+    ensures pushed { OnOk result (paths.new.items ≡
+        paths.old.items ++ (above.old.items ++ steps name.now place) ∷ []) }
     ensures above { OnOk result (above.new.items ≡ above.old.items ++ steps name.now place) }
 {
     push_steps(above, alloc, name, place)?;

@@ -3,7 +3,8 @@
 ghost use Rattle.std.specs.Prelude.{◌≡◌, ◌≤◌, ◌++◌, ◌∷◌, [], IfOk, OnOk, Some, true, false, string_bytes};
 ghost use Rattle.serde_json.specs.View.{view, items_view, members_view};
 ghost use Rattle.serde_json.specs.Written.{compact_text, has_float, items_have_float, members_have_float};
-ghost use Rattle.serde_json.specs.Data.{array, depth as nesting};
+ghost use Rattle.serde_json.specs.Data.{array};
+ghost use Rattle.serde_json.specs.Data as spec;
 ghost use Rattle.serde_json.specs.Read.{max_depth, read as read_text};
 ghost use Rattle.iodef_tree.specs.Texts.{may_be_value};
 ghost use Rattle.iodef_tree.specs.inner.FitValues.{is_flat, is_element_flat, are_flat, are_members_flat};
@@ -115,7 +116,8 @@ fn push_member(
 fn written(alloc: Global, value: Value) -> Result<Text, AllocError>
     requires { has_float (view value) ≡ false }
     ensures text { IfOk result (λ t. t ≡ compact_text (view value)) }
-    ensures reads_back { IfOk result (λ t. nesting (view value) ≤ max_depth → read_text t ≡ Some (view value)) }
+    ensures reads_back { IfOk result (λ t.
+        spec.depth (view value) ≤ max_depth → read_text t ≡ Some (view value)) }
 {
     Ok(Text::new(value.to_string(alloc)?))
 }

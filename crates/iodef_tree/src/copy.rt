@@ -2,7 +2,8 @@
 
 ghost use Rattle.std.specs.Prelude.{◌≡◌, ◌++◌, ◌∷◌, [], IfOk, OnOk, map};
 ghost use Rattle.iodef_tree.specs.Filled.{is_object_filled, is_member_filled, is_item_filled, IsItemFilled};
-ghost use Rattle.iodef_tree.specs.Tree.{says, value, text as plain_text};
+ghost use Rattle.iodef_tree.specs.Tree.{says, value};
+ghost use Rattle.iodef_tree.specs.Tree as spec;
 ghost use Rattle.iodef_tree.specs.View.{forest, bodies, body, named};
 
 use crate::object::{Item, Member, Object};
@@ -25,7 +26,9 @@ fn copy_members(
     members: &Vec<(Text, Member)>,
 ) -> Result<Vec<(Text, Member)>, AllocError>
     ensures same { IfOk result (λ v. map named v.items ≡ map named members.now.items) }
-    ensures filled { IfOk result (λ v. map (λ m. is_member_filled m.1) v.items ≡ map (λ m. is_member_filled m.1) members.now.items) }
+    ensures filled { IfOk result (λ v.
+        map (λ m. is_member_filled m.1) v.items ≡
+        map (λ m. is_member_filled m.1) members.now.items) }
 {
     let mut made = Vec::with_capacity(alloc, members.len())?;
     for (name, member) in members {
@@ -48,7 +51,8 @@ fn copy_member(alloc: Global, member: &Member) -> Result<Member, AllocError>
 #[cycle(copy)]
 fn copy_items(alloc: Global, items: &Vec<Item>) -> Result<Vec<Item>, AllocError>
     ensures same { IfOk result (λ v. map body v.items ≡ map body items.now.items) }
-    ensures filled { IfOk result (λ v. map is_item_filled v.items ≡ map is_item_filled items.now.items) }
+    ensures filled { IfOk result (λ v.
+        map is_item_filled v.items ≡ map is_item_filled items.now.items) }
 {
     let mut made = Vec::with_capacity(alloc, items.len())?;
     for item in items {
@@ -82,7 +86,7 @@ fn push_copied(
 }
 
 fn copy_text(text: &Text) -> Result<Item, AllocError>
-    ensures same { IfOk result (λ i. body i ≡ says (plain_text text.now)) }
+    ensures same { IfOk result (λ i. body i ≡ says (spec.text text.now)) }
     ensures filled { IfOk result (λ i. IsItemFilled i) }
 {
     Ok(Item::Text(text.clone()?))

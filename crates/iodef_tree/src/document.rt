@@ -3,7 +3,8 @@
 ghost use Rattle.std.specs.Prelude.{◌≡◌, ◌||◌, ◌++◌, ◌∷◌, [], IfOk, IfSome, IsTrue, is_some};
 ghost use Rattle.iodef_tree.specs.Filled.{IsFilled};
 ghost use Rattle.iodef_tree.specs.Outline.{back, may_come};
-ghost use Rattle.iodef_tree.specs.Paths.{located, classes_of as class_paths_of, has_class as has_class_at};
+ghost use Rattle.iodef_tree.specs.Paths.{located};
+ghost use Rattle.iodef_tree.specs.Paths as spec;
 ghost use Rattle.iodef_tree.specs.Shown.{Shows};
 ghost use Rattle.json_pointer.specs.Text.{is_root};
 ghost use Rattle.iodef_tree.specs.Tree.{lines};
@@ -144,7 +145,7 @@ impl Document {
     /// The paths of the classes, in stored order.
     #[tactic(auto, using(crate::proofs::Steps::classes_steps))]
     pub fn classes(&self, alloc: Global) -> Result<Vec<Path>, AllocError>
-        ensures { IfOk result (λ v. v.items ≡ class_paths_of self.now) }
+        ensures { IfOk result (λ v. v.items ≡ spec.classes_of self.now) }
     {
         classes_of(alloc, &self.root)
     }
@@ -152,7 +153,7 @@ impl Document {
     /// Whether there is a class at the path; the root is none. Takes no memory.
     #[tactic(auto, using(crate::proofs::Steps::has_class_steps))]
     pub fn has_class(&self, path: &Path) -> bool
-        ensures { result ≡ has_class_at (located self.now) path.now }
+        ensures { result ≡ spec.has_class (located self.now) path.now }
     {
         !path.tokens().is_empty() && self.class(path).is_some()
     }
@@ -160,7 +161,8 @@ impl Document {
     /// The class at the path, or the root at the empty path: the lines below the path are those of its members. `None`
     /// exactly where the path is neither a class nor the root. Takes no memory.
     pub fn class(&self, path: &Path) -> Option<&Object>
-        ensures found { is_some result ≡ (is_root path.now || has_class_at (located self.now) path.now) }
+        ensures found { is_some result ≡
+            (is_root path.now || spec.has_class (located self.now) path.now) }
         ensures block { IfSome result (λ o. IsBlock path.now (located self.now) (forest o.now)) }
         ensures filled { IfSome result (λ o. IsFilled o.now) }
     {

@@ -45,7 +45,8 @@ fn place_of_token(token: &str) -> Option<usize>
 
 fn element_at<'a>(items: &'a [Item], token: &str) -> Option<&'a Item>
     requires { AllByRecursion IsItemFilled items.now }
-    ensures found { option_map (λ i. body i.now) result ≡ element_of token.now 0 (map body items.now) }
+    ensures found { option_map (λ i. body i.now) result ≡
+        element_of token.now 0 (map body items.now) }
     ensures filled { IfSome result (λ i. IsItemFilled i.now) }
 {
     items.get(place_of_token(token)?)
@@ -54,7 +55,8 @@ fn element_at<'a>(items: &'a [Item], token: &str) -> Option<&'a Item>
 /// What the next tokens name in a member, and the tokens that are left.
 fn part_of<'a, 'p>(member: &'a Member, path: &'p [Text]) -> Option<(&'a Item, &'p [Text])>
     requires { IsMemberFilled member.now }
-    ensures parts { option_map (λ r. (body r.0.now, r.1.now)) result ≡ part_at (bodies member.now) path.now }
+    ensures parts { option_map (λ r. (body r.0.now, r.1.now)) result ≡
+        part_at (bodies member.now) path.now }
     ensures filled { IfSome result (λ r. IsItemFilled r.0.now) }
     ensures shorter { IfSome result (λ r. length r.1.now ≤ length path.now) }
 {
@@ -94,7 +96,8 @@ fn item_at<'a, 'p>(
 /// The object at a path, from an object whose path is empty.
 pub(crate) fn object_at<'a>(root: &'a Object, path: &[Text]) -> Option<&'a Object>
     requires { IsFilled root.now }
-    ensures found { option_map (λ o. forest o.now) result ≡ object_in_tree (forest root.now) path.now }
+    ensures found { option_map (λ o. forest o.now) result ≡
+        object_in_tree (forest root.now) path.now }
     ensures filled { IfSome result (λ o. IsFilled o.now) }
 {
     let mut object = root;

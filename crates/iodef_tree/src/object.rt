@@ -44,8 +44,10 @@ impl Object {
     /// in the document in which the object stands. Takes no memory.
     pub fn class(&self, path: &[Text]) -> Option<&Object>
         requires { IsFilled self.now }
-        ensures found { (es : List LocatedLine) (p : Tokens) → StandsAt es p (forest self.now) → is_some result ≡ (is_root path.now || has_class es (p ++ path.now)) }
-        ensures class { (es : List LocatedLine) (p : Tokens) → StandsAt es p (forest self.now) → IfSome result (λ o. StandsAt es (p ++ path.now) (forest o.now)) }
+        ensures found { (es : List LocatedLine) (p : Tokens) → StandsAt es p (forest self.now) →
+            is_some result ≡ (is_root path.now || has_class es (p ++ path.now)) }
+        ensures class { (es : List LocatedLine) (p : Tokens) → StandsAt es p (forest self.now) →
+            IfSome result (λ o. StandsAt es (p ++ path.now) (forest o.now)) }
         ensures filled { IfSome result (λ o. IsFilled o.now) }
     {
         object_at(self, path)

@@ -1,7 +1,8 @@
 //! The lines of a tree.
 
 ghost use Rattle.std.specs.Prelude.{◌≡◌, ◌+◌, ◌^◌, ◌<◌, ◌++◌, ◌∷◌, [], Option, Some, None, OnOk, IfOk};
-ghost use Rattle.iodef_tree.specs.Tree.{end, in_front, member_front, lines as lines_of, height};
+ghost use Rattle.iodef_tree.specs.Tree.{end, in_front, member_front, height};
+ghost use Rattle.iodef_tree.specs.Tree as spec;
 ghost use Rattle.iodef_tree.specs.View.{forest, bodies, body};
 ghost use Rattle.iodef_tree.specs.Tree.{place_of};
 
@@ -13,7 +14,7 @@ use std::alloc::{AllocError, Global};
 /// The outline of a tree whose members are the root's.
 pub(crate) fn outline_of(alloc: Global, object: &Object) -> Result<Vec<Line>, AllocError>
     requires { height (forest object.now) < 2 ^ 31 }
-    ensures { IfOk result (λ v. v.items ≡ lines_of 1 (forest object.now)) }
+    ensures { IfOk result (λ v. v.items ≡ spec.lines 1 (forest object.now)) }
 {
     let mut lines = Vec::new(alloc);
     push_object(&mut lines, alloc, 1, object)?;
@@ -28,7 +29,8 @@ fn push_object(
     object: &Object,
 ) -> Result<(), AllocError>
     requires { depth + height (forest object.now) < 2 ^ 32 }
-    ensures { OnOk result (lines.new.items ≡ lines.old.items ++ lines_of depth (forest object.now)) }
+    ensures { OnOk result (lines.new.items ≡
+        lines.old.items ++ spec.lines depth (forest object.now)) }
 {
     for (name, member) in &object.members {
         push_member(lines, alloc, depth, name, member)?;
@@ -46,7 +48,8 @@ fn push_member(
 ) -> Result<(), AllocError>
     requires { depth + height (member_front name.now (bodies member.now) end) < 2 ^ 32 }
     ensures { OnOk result
-        (lines.new.items ≡ lines.old.items ++ lines_of depth (member_front name.now (bodies member.now) end)) }
+        (lines.new.items ≡
+        lines.old.items ++ spec.lines depth (member_front name.now (bodies member.now) end)) }
 {
     match member {
         Member::One(item) => push_item(lines, alloc, depth, name, false, item),
@@ -70,7 +73,7 @@ fn push_item(
 ) -> Result<(), AllocError>
     requires { depth + height (in_front name.now None (body item.now) end) < 2 ^ 32 }
     ensures { OnOk result (lines.new.items ≡ lines.old.items
-        ++ lines_of depth (in_front name.now (place_of in_array 0) (body item.now) end)) }
+        ++ spec.lines depth (in_front name.now (place_of in_array 0) (body item.now) end)) }
 {
     match item {
         Item::Class(object) => {
@@ -93,7 +96,13 @@ fn push_line(
     text: Text,
 ) -> Result<(), AllocError>
     ensures { OnOk result (lines.new.items ≡ lines.old.items
-        ++ record { depth = depth; name = name.now; in_array = in_array; kind = kind; text = text } ∷ []) }
+        ++ record {
+          depth = depth;
+          name = name.now;
+          in_array = in_array;
+          kind = kind;
+          text = text;
+        } ∷ []) }
 {
     let name = name.clone()?;
     lines.push(Line {
@@ -116,7 +125,13 @@ fn push_plain(
     text: &Text,
 ) -> Result<(), AllocError>
     ensures { OnOk result (lines.new.items ≡ lines.old.items
-        ++ record { depth = depth; name = name.now; in_array = in_array; kind = kind; text = text.now } ∷ []) }
+        ++ record {
+          depth = depth;
+          name = name.now;
+          in_array = in_array;
+          kind = kind;
+          text = text.now;
+        } ∷ []) }
 {
     push_line(lines, depth, name, in_array, kind, text.clone()?)
 }

@@ -1,7 +1,8 @@
 //! From bytes to documents.
 
 ghost use Rattle.std.specs.Prelude.{◌≡◌, ◌≤◌, option_map, option_and_then, IfOk, codes};
-ghost use Rattle.serde_json.specs.Data.{depth as nesting, null, put};
+ghost use Rattle.serde_json.specs.Data.{null, put};
+ghost use Rattle.serde_json.specs.Data as spec;
 ghost use Rattle.serde_json.specs.Find.{as_array, as_object, get_member};
 ghost use Rattle.serde_json.specs.Read.{max_depth};
 ghost use Rattle.serde_json.specs.View.{view, items_view, members_view};
@@ -38,7 +39,7 @@ pub(crate) fn read(alloc: Global, bytes: &[u8]) -> Result<Vec<Document>, ReadFau
 
 fn parse(alloc: Global, bytes: &[u8]) -> Result<Value, ReadFault>
     ensures gives { Returns view result (parsed bytes.now) }
-    ensures nests { IfOk result (λ v. nesting (view v) ≤ max_depth) }
+    ensures nests { IfOk result (λ v. spec.depth (view v) ≤ max_depth) }
 {
     match Value::from_slice(alloc, bytes) {
         Ok(value) => Ok(value),
@@ -132,7 +133,7 @@ fn first_lacking(incident: &Value) -> Option<Required>
 /// One pass tells whether there is any fault, and only then each is looked for.
 #[tactic(auto, using(crate::proofs::Steps::check_values_steps))]
 fn check_values(alloc: Global, body: &Value) -> Result<(), ReadFault>
-    requires { nesting (view body.now) ≤ max_depth }
+    requires { spec.depth (view body.now) ≤ max_depth }
     ensures { Returns (λ _. tt) result (all_fit (view body.now)) }
 {
     if is_plain(0, 0, body) {
@@ -143,7 +144,7 @@ fn check_values(alloc: Global, body: &Value) -> Result<(), ReadFault>
 
 #[tactic(auto, unfolding(crate::specs::Reading::all_fit))]
 fn find_fault(alloc: Global, body: &Value) -> Result<(), ReadFault>
-    requires { nesting (view body.now) ≤ max_depth }
+    requires { spec.depth (view body.now) ≤ max_depth }
     ensures { Returns (λ _. tt) result (all_fit (view body.now)) }
 {
     if let Some(pointer) = first_in(alloc, Sought::NotWhole, 0, 0, body)? {
@@ -163,7 +164,8 @@ fn take_incidents(
     alloc: Global,
     body: Value,
 ) -> Result<Option<(Map<String, Value>, Vec<Value>)>, ReadFault>
-    ensures { Returns (option_map (λ p. (members_view p.0.entries, items_view p.1.items))) result (Ok (taken (view body))) }
+    ensures { Returns (option_map (λ p. (members_view p.0.entries, items_view p.1.items))) result
+        (Ok (taken (view body))) }
 {
     let Value::Object(mut root) = body else {
         return Ok(None);
@@ -195,7 +197,8 @@ fn documents_from(
     mut incidents: Vec<Value>,
 ) -> Result<Vec<Document>, ReadFault>
     requires { AreFit (members_view root.entries) (items_view incidents.items) }
-    ensures { Returns (λ v. v.items) result (documents (members_view root.entries) (items_view incidents.items)) }
+    ensures { Returns (λ v.
+        v.items) result (documents (members_view root.entries) (items_view incidents.items)) }
 {
     let Some(last) = incidents.pop() else {
         return Ok(Vec::new(alloc));
@@ -213,7 +216,8 @@ fn documents_beside(
     incidents: Vec<Value>,
 ) -> Result<Vec<Document>, ReadFault>
     requires { AreFit (members_view root.now.entries) (items_view incidents.items) }
-    ensures { Returns (λ v. v.items) result (documents (members_view root.now.entries) (items_view incidents.items)) }
+    ensures { Returns (λ v.
+        v.items) result (documents (members_view root.now.entries) (items_view incidents.items)) }
 {
     let mut all = Vec::with_capacity(alloc, incidents.as_slice().len() + 1)?;
     for incident in incidents {
@@ -229,7 +233,8 @@ fn document_from(
     incident: Value,
 ) -> Result<Document, ReadFault>
     requires { IsFit (members_view root.entries) (view incident) }
-    ensures { Returns (λ d. d) result (if_short (lines 1 (document_of (view incident) (members_view root.entries)))) }
+    ensures { Returns (λ d.
+        d) result (if_short (lines 1 (document_of (view incident) (members_view root.entries)))) }
 {
     let root = object_from(alloc, with_incident(alloc, root, incident)?)?;
     if room_left(&root, LINE_LIMIT).is_none() {
@@ -245,7 +250,8 @@ fn with_incident(
     mut root: Map<String, Value>,
     incident: Value,
 ) -> Result<Map<String, Value>, AllocError>
-    ensures { IfOk result (λ m. members_view m.entries ≡ with_incident (view incident) (members_view root.entries)) }
+    ensures { IfOk result (λ m.
+        members_view m.entries ≡ with_incident (view incident) (members_view root.entries)) }
 {
     let mut incidents = Vec::with_capacity(alloc, 1)?;
     incidents.push(incident)?;

@@ -130,7 +130,8 @@ impl Shape {
     }
 
     fn fits(&self, line: &Line) -> Result<bool, AllocError>
-        ensures { IfOk result (λ fits. fits ≡ fits_edge self.now.last.items self.now.deepest line.now) }
+        ensures { IfOk result (λ fits. fits ≡
+            fits_edge self.now.last.items self.now.deepest line.now) }
     {
         if line.depth == 0 {
             return Ok(false);
@@ -153,7 +154,8 @@ impl Shape {
         ensures exact { IfOk result (λ fits. (before : List Line) → Shows self.old before
             → fits ≡ may_come before line.now) }
         ensures same { IfOk result (λ fits. fits ≡ false → self.new ≡ self.old) }
-        ensures shows { IfOk result (λ fits. IsTrue fits → (before : List Line) → Shows self.old before
+        ensures shows { IfOk result (λ fits. IsTrue fits → (before : List Line) →
+            Shows self.old before
             → Shows self.new (line.now ∷ before)) }
     {
         let counted = match self.counted_with(line) {

@@ -2,7 +2,8 @@
 #![tactic(auto, using(crate::proofs::Seeking::seeking))]
 
 ghost use Rattle.std.specs.Prelude.{◌≡◌, ◌+◌, ◌<◌, ◌^◌, ◌∷◌, not, IfOk, Some, option_map, decimal, string_bytes};
-ghost use Rattle.serde_json.specs.Data.{depth as nesting, items_depth, members_depth};
+ghost use Rattle.serde_json.specs.Data.{items_depth, members_depth};
+ghost use Rattle.serde_json.specs.Data as spec;
 ghost use Rattle.serde_json.specs.View.{view, items_view, members_view};
 ghost use Rattle.iodef_tree.specs.Values.{node, nodes, item_nodes, member_nodes, first_at};
 ghost use Rattle.iodef_tree.specs.inner.FitValues.{any_at, is_refused, is_sought};
@@ -45,7 +46,7 @@ fn is_refused(objects: u32, arrays: u32, value: &Value) -> bool
 /// Whether nothing that is looked for is at the value or inside it; takes no memory.
 #[cycle(plain)]
 pub(crate) fn is_plain(objects: u32, arrays: u32, value: &Value) -> bool
-    requires { (objects + arrays) + nesting (view value.now) < 2 ^ 32 }
+    requires { (objects + arrays) + spec.depth (view value.now) < 2 ^ 32 }
     ensures { result ≡ not (any_at is_refused (nodes objects arrays (view value.now))) }
 {
     if is_refused(objects, arrays, value) {
@@ -61,7 +62,8 @@ pub(crate) fn is_plain(objects: u32, arrays: u32, value: &Value) -> bool
 #[cycle(plain)]
 fn are_items_plain(objects: u32, arrays: u32, items: &Vec<Value>) -> bool
     requires { (objects + arrays) + items_depth (items_view items.now.items) < 2 ^ 32 }
-    ensures { result ≡ not (any_at is_refused (item_nodes objects arrays 0 (items_view items.now.items))) }
+    ensures { result ≡ not
+        (any_at is_refused (item_nodes objects arrays 0 (items_view items.now.items))) }
 {
     for item in items {
         if !is_plain(objects, arrays, item) {
@@ -74,7 +76,8 @@ fn are_items_plain(objects: u32, arrays: u32, items: &Vec<Value>) -> bool
 #[cycle(plain)]
 fn are_members_plain(objects: u32, members: &Map<String, Value>) -> bool
     requires { objects + members_depth (members_view members.now.entries) < 2 ^ 32 }
-    ensures { result ≡ not (any_at is_refused (member_nodes objects (members_view members.now.entries))) }
+    ensures { result ≡ not
+        (any_at is_refused (member_nodes objects (members_view members.now.entries))) }
 {
     for (_name, value) in members.iter() {
         if !is_plain(objects, 0, value) {
@@ -93,7 +96,7 @@ pub(crate) fn first_in(
     arrays: u32,
     value: &Value,
 ) -> Result<Option<Vec<Text>>, AllocError>
-    requires { (objects + arrays) + nesting (view value.now) < 2 ^ 32 }
+    requires { (objects + arrays) + spec.depth (view value.now) < 2 ^ 32 }
     ensures { IfOk result (λ o. option_map (λ p. p.items) o
         ≡ first_at (is_sought sought) (nodes objects arrays (view value.now))) }
 {
@@ -152,7 +155,8 @@ fn below_index(
     index: usize,
     mut pointer: Vec<Text>,
 ) -> Result<Option<Vec<Text>>, AllocError>
-    ensures { IfOk result (λ o. option_map (λ p. p.items) o ≡ Some (decimal index ∷ pointer.items)) }
+    ensures { IfOk result (λ o. option_map (λ p. p.items) o ≡
+        Some (decimal index ∷ pointer.items)) }
 {
     pointer.insert(0, Text::new(format!(in alloc; "{index}")?))?;
     Ok(Some(pointer))
@@ -160,7 +164,8 @@ fn below_index(
 
 /// The pointer from the object above.
 fn below_name(name: &String, mut pointer: Vec<Text>) -> Result<Option<Vec<Text>>, AllocError>
-    ensures { IfOk result (λ o. option_map (λ p. p.items) o ≡ Some (string_bytes name.now ∷ pointer.items)) }
+    ensures { IfOk result (λ o.
+        option_map (λ p. p.items) o ≡ Some (string_bytes name.now ∷ pointer.items)) }
 {
     pointer.insert(0, Text::new(name.clone()?))?;
     Ok(Some(pointer))

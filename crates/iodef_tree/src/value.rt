@@ -9,7 +9,7 @@ ghost use Rattle.serde_json.specs.View.{view, members_view};
 ghost use Rattle.serde_json.specs.Written.{compact_text};
 ghost use Rattle.iodef_tree.specs.Filled.{IsFilled, IsMemberFilled, IsItemFilled};
 ghost use Rattle.iodef_tree.specs.inner.FitValues.{IsBodyOrdered, AreBodiesOrdered};
-ghost use Rattle.iodef_tree.specs.Json.{zeroth as zeroth_of, id_in as id_of};
+ghost use Rattle.iodef_tree.specs.Json as spec;
 ghost use Rattle.iodef_tree.specs.inner.SoundParts.{IsKept, AreKept, kids_of};
 ghost use Rattle.iodef_tree.specs.Sound.{IsOrdered};
 ghost use Rattle.iodef_tree.specs.View.{forest, bodies, body};
@@ -79,7 +79,8 @@ fn put_member(
     name: &Text,
     value: Value,
 ) -> Result<(), AllocError>
-    ensures { OnOk result (members_view made.new.entries ≡ put name.now (view value) (members_view made.old.entries)) }
+    ensures { OnOk result (members_view made.new.entries ≡
+        put name.now (view value) (members_view made.old.entries)) }
 {
     let name = String::from_str(alloc, name.as_str())?;
     drop(made.insert(name, value)?);
@@ -150,7 +151,8 @@ fn object_of(item: &Item) -> Option<&Object>
 fn object_in(member: &Member) -> Option<&Object>
     requires kept { AreKept (bodies member.now) }
     requires filled { IsMemberFilled member.now }
-    ensures found { option_map (λ o. members_of (forest o.now)) result ≡ as_object (bodies_data (bodies member.now)) }
+    ensures found { option_map (λ o. members_of (forest o.now)) result ≡
+        as_object (bodies_data (bodies member.now)) }
     ensures kept { IfSome result (λ o. IsKept (forest o.now)) }
     ensures filled { IfSome result (λ o. IsFilled o.now) }
 {
@@ -165,7 +167,7 @@ fn zeroth(member: &Member) -> Option<&Object>
     requires kept { AreKept (bodies member.now) }
     requires filled { IsMemberFilled member.now }
     ensures found { option_map (λ o. members_of (forest o.now)) result
-        ≡ option_and_then as_object (zeroth_of (bodies_data (bodies member.now))) }
+        ≡ option_and_then as_object (spec.zeroth (bodies_data (bodies member.now))) }
     ensures kept { IfSome result (λ o. IsKept (forest o.now)) }
     ensures filled { IfSome result (λ o. IsFilled o.now) }
 {
@@ -181,7 +183,7 @@ pub(crate) fn id_in(root: &Object) -> Option<&Member>
     requires kept { IsKept (forest root.now) }
     requires filled { IsFilled root.now }
     ensures found { option_map (λ m. bodies_data (bodies m.now)) result
-        ≡ id_of (json_object (members_of (forest root.now))) }
+        ≡ spec.id_in (json_object (members_of (forest root.now))) }
     ensures kept { IfSome result (λ m. AreKept (bodies m.now)) }
     ensures filled { IfSome result (λ m. IsMemberFilled m.now) }
 {

@@ -16,7 +16,8 @@ use std::alloc::{AllocError, Global};
 /// The object as compact JSON.
 pub(crate) fn object_text(alloc: Global, object: &Object) -> Result<String, AllocError>
     requires { IsFilled object.now }
-    ensures { IfOk result (λ s. string_bytes s ≡ 123 ∷ (written false (forest object.now) ++ 125 ∷ [])) }
+    ensures { IfOk result (λ s.
+        string_bytes s ≡ 123 ∷ (written false (forest object.now) ++ 125 ∷ [])) }
 {
     let mut out = String::new(alloc);
     write_object(alloc, &mut out, object)?;
@@ -26,7 +27,8 @@ pub(crate) fn object_text(alloc: Global, object: &Object) -> Result<String, Allo
 #[cycle(write)]
 fn write_object(alloc: Global, out: &mut String, object: &Object) -> Result<(), AllocError>
     requires { IsFilled object.now }
-    ensures { OnOk result (string_bytes out.new ≡ string_bytes out.old ++ 123 ∷ (written false (forest object.now) ++ 125 ∷ [])) }
+    ensures { OnOk result (string_bytes out.new ≡
+        string_bytes out.old ++ 123 ∷ (written false (forest object.now) ++ 125 ∷ [])) }
 {
     out.push('{')?;
     let mut later = false;
@@ -46,7 +48,8 @@ fn write_member(
     member: &Member,
 ) -> Result<(), AllocError>
     requires { IsMemberFilled member.now }
-    ensures { OnOk result (string_bytes out.new ≡ string_bytes out.old ++ member_text later name.now (bodies member.now)) }
+    ensures { OnOk result (string_bytes out.new ≡
+        string_bytes out.old ++ member_text later name.now (bodies member.now)) }
 {
     write_front(alloc, out, later, name)?;
     write_bodies(alloc, out, member)
@@ -54,7 +57,8 @@ fn write_member(
 
 /// Writes what stands in front of the value of a member.
 fn write_front(alloc: Global, out: &mut String, later: bool, name: &Text) -> Result<(), AllocError>
-    ensures { OnOk result (string_bytes out.new ≡ string_bytes out.old ++ (comma_if later ++ (quoted name.now ++ 58 ∷ []))) }
+    ensures { OnOk result (string_bytes out.new ≡
+        string_bytes out.old ++ (comma_if later ++ (quoted name.now ++ 58 ∷ []))) }
 {
     write_comma(out, later)?;
     push_quoted(alloc, out, name.as_str())?;
@@ -74,7 +78,8 @@ fn write_comma(out: &mut String, later: bool) -> Result<(), AllocError>
 #[cycle(write)]
 fn write_bodies(alloc: Global, out: &mut String, member: &Member) -> Result<(), AllocError>
     requires { IsMemberFilled member.now }
-    ensures { OnOk result (string_bytes out.new ≡ string_bytes out.old ++ bodies_text (bodies member.now)) }
+    ensures { OnOk result (string_bytes out.new ≡
+        string_bytes out.old ++ bodies_text (bodies member.now)) }
 {
     match member {
         Member::One(item) => write_item(alloc, out, item),
@@ -86,7 +91,8 @@ fn write_bodies(alloc: Global, out: &mut String, member: &Member) -> Result<(), 
 #[cycle(write)]
 fn write_items(alloc: Global, out: &mut String, items: &Vec<Item>) -> Result<(), AllocError>
     requires { AllByRecursion IsItemFilled items.now.items }
-    ensures { OnOk result (string_bytes out.new ≡ string_bytes out.old ++ 91 ∷ array_text false (map body items.now.items)) }
+    ensures { OnOk result (string_bytes out.new ≡
+        string_bytes out.old ++ 91 ∷ array_text false (map body items.now.items)) }
 {
     out.push('[')?;
     let mut later = false;
@@ -102,7 +108,8 @@ fn write_items(alloc: Global, out: &mut String, items: &Vec<Item>) -> Result<(),
 #[cycle(write)]
 fn write_item(alloc: Global, out: &mut String, item: &Item) -> Result<(), AllocError>
     requires { IsItemFilled item.now }
-    ensures { OnOk result (string_bytes out.new ≡ string_bytes out.old ++ body_text (body item.now)) }
+    ensures { OnOk result (string_bytes out.new ≡
+        string_bytes out.old ++ body_text (body item.now)) }
 {
     match item {
         Item::Class(object) => write_object(alloc, out, object),

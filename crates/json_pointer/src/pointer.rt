@@ -76,7 +76,8 @@ fn is_written_otherwise(token: &str) -> bool
 }
 
 fn push_escaped(pointer: &mut String, token: &str) -> Result<(), AllocError>
-    ensures ok { OnOk result (string_bytes pointer.new ≡ string_bytes pointer.old ++ escaped token.now) }
+    ensures ok { OnOk result (string_bytes pointer.new ≡
+        string_bytes pointer.old ++ escaped token.now) }
     ensures err { OnErr result (BeginsWith (string_bytes pointer.new) (string_bytes pointer.old)) }
 {
     for c in token.chars() {
@@ -89,7 +90,8 @@ fn push_escaped(pointer: &mut String, token: &str) -> Result<(), AllocError>
 #[tactic(auto, using(crate::proofs::Steps::push_escaped_char_steps))]
 fn push_escaped_char(pointer: &mut String, c: char) -> Result<(), AllocError>
     ensures { string_bytes pointer.new
-        ≡ (if is_ok result then string_bytes pointer.old ++ escaped (encode_utf8 c) else string_bytes pointer.old) }
+        ≡ (if is_ok result then string_bytes pointer.old ++ escaped (encode_utf8 c)
+        else string_bytes pointer.old) }
 {
     match c {
         '~' => pointer.push_str("~0"),

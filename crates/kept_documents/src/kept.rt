@@ -26,7 +26,8 @@ impl Model for Kept {
 
     ghost view = { λ k. k.document };
 
-    ghost invariant = { λ k. (k.lines ≡ length k.document) × (first_bad_marking (located k.document) ≡ None) };
+    ghost invariant = { λ k.
+        (k.lines ≡ length k.document) × (first_bad_marking (located k.document) ≡ None) };
 }
 
 impl Kept {

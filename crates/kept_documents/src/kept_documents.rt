@@ -55,7 +55,8 @@ impl<Sh: Shelf, const MOST: usize> KeptDocuments<Sh, MOST> {
     /// Reads and keeps the document of an incident that is asked for, where it is worth it and the memory suffices. A store that
     /// answers no more is asked for nothing.
     fn prepare(&mut self, incident: u32) -> Result<(), ShelfFault>
-        ensures shelf { IsRead Sh.has Sh.doubts Sh.failed Sh.may_remain self.old.shelf self.new.shelf result }
+        ensures shelf { IsRead Sh.has Sh.doubts Sh.failed Sh.may_remain
+            self.old.shelf self.new.shelf result }
         ensures documents { Sh.doubts self.new.shelf ≡ 0 → (s : State) → Sh.has self.old.shelf s →
             AreDocuments self.old.documents s → AreDocuments self.new.documents s }
     {

@@ -64,7 +64,8 @@ impl<'a> Label<'a> {
     /// The label that a text in `restriction` spells, with the text in `ext-restriction` beside it, if there is one.
     /// `ext-value` spells one only with such a text; beside another value that text says nothing.
     pub fn of(restriction: &str, ext: Option<&'a str>) -> Option<Label<'a>>
-        ensures { option_map marking_of result ≡ spelled restriction.now (option_map (λ t. t.now) ext.entry) }
+        ensures { option_map marking_of result ≡
+            spelled restriction.now (option_map (λ t. t.now) ext.entry) }
     {
         match restriction {
             "public" => Some(Label::Public),
@@ -134,11 +135,11 @@ impl<'a> Label<'a> {
 }
 
 ghost use Rattle.std.specs.Prelude.{◌≡◌};
-ghost use Rattle.marking.specs.Label.{handling_of_text as tlp_handling};
+ghost use Rattle.marking.specs.Label as spec;
 
 /// TLP 2.0's labels and TLP:WHITE, ASCII case ignored.
 fn handling_of_text(text: &str) -> Handling
-    ensures { result ≡ tlp_handling text.now }
+    ensures { result ≡ spec.handling_of_text text.now }
 {
     if text.eq_ignore_ascii_case("TLP:CLEAR") || text.eq_ignore_ascii_case("TLP:WHITE") {
         return Handling::Clear;

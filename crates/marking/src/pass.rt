@@ -10,7 +10,8 @@ ghost use Rattle.iodef_tree.specs.Paths.{located, class_paths};
 ghost use Rattle.iodef_tree.specs.Pointer.{pointer_text};
 ghost use Rattle.marking.specs.Label.{marking_of};
 ghost use Rattle.marking.specs.Marks.{Marked, first_bad_marking, marked_at, marked_by};
-ghost use Rattle.marking.specs.inner.Pass.{own_below as own_label_below, marked_step, marked_below};
+ghost use Rattle.marking.specs.inner.Pass.{marked_step, marked_below};
+ghost use Rattle.marking.specs.inner.Pass as spec;
 
 use crate::class::written;
 use crate::label::Label;
@@ -52,7 +53,8 @@ pub fn write_marks<W: MarkWriter>(
 ) -> Result<(), AllocError>
     requires { first_bad_marking (located document.now) ≡ None }
     ensures { OnOk result (let es = located document.now in
-        W.text writer.new ≡ W.text writer.old ++ flat_map W.line (map (marked_at es) (class_paths es))) }
+        W.text writer.new ≡
+        W.text writer.old ++ flat_map W.line (map (marked_at es) (class_paths es))) }
 {
     let root = Mark {
         path: "",
@@ -72,7 +74,8 @@ fn write_members<W: MarkWriter>(
 ) -> Result<(), AllocError>
     requires filled { IsFilled object.now }
     ensures { OnOk result (W.text writer.new
-        ≡ W.text writer.old ++ flat_map W.line (marked_below (marked_by above.entry) (forest object.now))) }
+        ≡ W.text writer.old ++
+        flat_map W.line (marked_below (marked_by above.entry) (forest object.now))) }
 {
     for (name, member) in &object.members {
         write_member(alloc, writer, above, name.as_str(), member)?;
@@ -91,7 +94,9 @@ fn write_member<W: MarkWriter>(
 ) -> Result<(), AllocError>
     requires filled { IsMemberFilled member.now }
     ensures { OnOk result (W.text writer.new
-        ≡ W.text writer.old ++ flat_map W.line (marked_below (marked_by above.entry) (member_front name.now (bodies member.now) end))) }
+        ≡ W.text writer.old ++
+        flat_map W.line (marked_below (marked_by above.entry)
+        (member_front name.now (bodies member.now) end))) }
 {
     match member {
         Member::One(item) => write_item(alloc, writer, above, name, None, item),
@@ -116,7 +121,9 @@ fn write_item<W: MarkWriter>(
 ) -> Result<(), AllocError>
     requires filled { IsItemFilled item.now }
     ensures { OnOk result (W.text writer.new
-        ≡ W.text writer.old ++ flat_map W.line (marked_below (marked_by above.entry) (in_front name.now index (body item.now) end))) }
+        ≡ W.text writer.old ++
+        flat_map W.line (marked_below (marked_by above.entry)
+        (in_front name.now index (body item.now) end))) }
 {
     match item {
         Item::Class(object) => {
@@ -137,8 +144,12 @@ fn write_class<W: MarkWriter>(
     object: &Object,
 ) -> Result<(), AllocError>
     requires filled { IsFilled object.now }
-    ensures { OnOk result (let here = marked_step (marked_by above.entry) path.now (own_label_below path.now (forest object.now)) in
-        W.text writer.new ≡ W.text writer.old ++ W.line here ++ flat_map W.line (marked_below here (forest object.now))) }
+    ensures { OnOk result
+        (let own = spec.own_below path.now (forest object.now) in
+        let here = marked_step (marked_by above.entry) path.now own in
+        W.text writer.new ≡
+        W.text writer.old ++ W.line here ++
+        flat_map W.line (marked_below here (forest object.now))) }
 {
     let here = below(above, path, own_below(path, object));
     writer.write(alloc, here)?;
@@ -167,7 +178,7 @@ fn path_below(
 /// The own label of a class: what is written in it, or the Incident's default.
 fn own_below<'a>(path: &str, object: &'a Object) -> Option<Label<'a>>
     requires { IsFilled object.now }
-    ensures { option_map marking_of result ≡ own_label_below path.now (forest object.now) }
+    ensures { option_map marking_of result ≡ spec.own_below path.now (forest object.now) }
 {
     match written(object) {
         Some(label) => Some(label),
@@ -182,7 +193,8 @@ fn own_below<'a>(path: &str, object: &'a Object) -> Option<Label<'a>>
 }
 
 fn below<'a>(above: Mark<'a>, path: &'a str, own: Option<Label<'a>>) -> Mark<'a>
-    ensures { marked_by result ≡ marked_step (marked_by above.entry) path.now (option_map marking_of own.entry) }
+    ensures { marked_by result ≡
+        marked_step (marked_by above.entry) path.now (option_map marking_of own.entry) }
 {
     match own {
         Some(label) => Mark {

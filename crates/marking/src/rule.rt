@@ -52,7 +52,8 @@ fn bad_in_member(
     member: &Member,
 ) -> Result<Option<Vec<Text>>, AllocError>
     requires filled { IsMemberFilled member.now }
-    ensures { IfOk result (λ o. option_map tokens_of o ≡ bad_below (member_front name.now (bodies member.now) end)) }
+    ensures { IfOk result (λ o.
+        option_map tokens_of o ≡ bad_below (member_front name.now (bodies member.now) end)) }
 {
     match member {
         Member::One(item) => bad_in_item(alloc, name, None, item),
@@ -76,7 +77,8 @@ fn bad_in_item(
     item: &Item,
 ) -> Result<Option<Vec<Text>>, AllocError>
     requires filled { IsItemFilled item.now }
-    ensures { IfOk result (λ o. option_map tokens_of o ≡ bad_below (in_front name.now index (body item.now) end)) }
+    ensures { IfOk result (λ o.
+        option_map tokens_of o ≡ bad_below (in_front name.now index (body item.now) end)) }
 {
     match item {
         Item::Class(object) => match bad_in_class(alloc, object)? {

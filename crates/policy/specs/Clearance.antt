@@ -1,5 +1,5 @@
--- What a reader is cleared for (FIRST TLP 2.0): the recipients that the source named, their organisations and clients, and
--- the source's communities.
+-- What a reader is cleared for (FIRST TLP 2.0): the recipients that the source named, their organisations, the clients of
+-- these and of the source, and the community that the incident names, or those of the source where it names none.
 use Rattle.std.specs.Prelude.{Bool, true, ◌&&◌, List, [], ◌∷◌, find}
 use Rattle.std.specs.Option.{option_map_or}
 use Rattle.marking.specs.declared.label.Handling.{Handling}

@@ -46,7 +46,7 @@ unnamed = record anybody { community = true }
 abbrev pub named : Standing
 named = record anybody { peer = true }
 
--- of an organisation in a community that is linked to the source's
+-- of an organisation in a community that is connected to the source's
 abbrev pub acquaintance : Standing
 acquaintance = record anybody { connected = true }
 
@@ -163,7 +163,7 @@ StandingsAreCleared =
     map clearance_of (recipient ∷ nominated_partner ∷ nominated_client ∷ neighbour ∷ anybody ∷ addressed_only ∷ arranged_at Amber anybody ∷ record nominated_client { peer = true } ∷ unnamed ∷ named ∷ [])
     ≡ (Red, P) ∷ (Strict, O) ∷ (Amber, C) ∷ (Green, M) ∷ (Clear, A) ∷ (Clear, A) ∷ (Clear, A) ∷ (Amber, C) ∷ (Clear, A) ∷ (Green, M) ∷ []
 
--- who passes a gate of each level that names no group: the source alone, its communities, those linked to them too, and all;
+-- who passes a gate of each level that names no group: the source alone, its communities, those connected to them too, and all;
 -- no gate asks for the community that the incident names
 abbrev pub LevelsLetPass : Type 0
 LevelsLetPass =

@@ -19,7 +19,7 @@ group_passage s (Some n) =
     else if not (is_among n s.active_groups) then Some G4X
     else None
 
--- The rule by which a gate refuses the reader, if it does: 1 the source's communities, 2 those linked to them too,
+-- The rule by which a gate refuses the reader, if it does: 1 the source's communities, 2 those connected to them too,
 -- 3 everybody, 4 a group, 5 as inherited from above, 0 and any other level the source alone.
 abbrev pub refusal_of_gate : Standing → Gate → Option Rule
 refusal_of_gate s g =

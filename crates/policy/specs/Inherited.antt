@@ -44,7 +44,8 @@ approach_step c s a p = record { path = p; refusal = option_or a.refusal (first_
 
 -- the label of a class: what is written in it, else the default of the Incident, else the label above
 abbrev pub label_step : LabelValue → Tokens → Option LabelValue → LabelValue
-label_step above p written = unwrap_or (option_or written (if same_path p incident_path then Some private else None)) above
+label_step above p written =
+    unwrap_or (option_or written (if same_path p incident_path then Some private else None)) above
 
 -- in an array, at whose own path no label is written and no default holds
 abbrev pub array_step : Case → Standing → Inherited → Tokens → Inherited

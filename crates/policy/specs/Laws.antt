@@ -19,7 +19,8 @@ use Rattle.policy.specs.declared.verdict.Verdict.TheVariants.{Shown, Hidden}
 
 -- a reader of the source sees every class
 abbrev pub SourceSeesAll : Type 0
-SourceSeesAll = (es : List LocatedLine) (c : Case) (s : Standing) (p : Tokens) → s.source ≡ true → verdict_of es c s p ≡ Shown Src
+SourceSeesAll = (es : List LocatedLine) (c : Case) (s : Standing) (p : Tokens) → s.source ≡ true →
+    verdict_of es c s p ≡ Shown Src
 
 -- where no gate refuses on a path, the reader passes every gate on it
 abbrev pub UnrefusedPassesGates : Type 0
@@ -110,12 +111,14 @@ ClearIsNeverHidden = (es : List LocatedLine) (c : Case) (s : Standing) (p : Toke
 
 -- no row of the table of clearances that holds is stricter than the clearance
 abbrev pub ClearanceIsStrictest : Type 0
-ClearanceIsStrictest = (s : Standing) → All (λ r. r.holds ≡ true → is_at_most r.handling (clearance_of s).0 ≡ true) (clearance_rows s)
+ClearanceIsStrictest = (s : Standing) →
+    All (λ r. r.holds ≡ true → is_at_most r.handling (clearance_of s).0 ≡ true) (clearance_rows s)
 
 -- The step law: what a pass inherits one token further down is what the definitions say there. It begins at the root, goes
 -- into the path of a class with the label that is written in it, and into any other path as into an array's.
 abbrev pub RootIsAsSaid : Type 0
-RootIsAsSaid = (es : List LocatedLine) (c : Case) (s : Standing) → has_class es [] ≡ false → at_root c s ≡ inherited_at es c s []
+RootIsAsSaid = (es : List LocatedLine) (c : Case) (s : Standing) → has_class es [] ≡ false →
+    at_root c s ≡ inherited_at es c s []
 
 abbrev pub ClassIsAsSaid : Type 0
 ClassIsAsSaid = (es : List LocatedLine) (c : Case) (s : Standing) (p : Tokens) (x : Bytes) → has_class es (p ++ x ∷ []) ≡ true →

@@ -45,7 +45,8 @@ is_covered es c s p = list_any (covers es s p) c.permissions
 -- The class at p is visible: the reader is of the source, or no gate on the path refuses and either the reader is cleared
 -- for the nearest label or a permission covers the class.
 abbrev pub is_visible : List LocatedLine → Case → Standing → Tokens → Bool
-is_visible es c s p = s.source || (is_none (refusal_at c s p) && (is_cleared_for s (label_at es p) || is_covered es c s p))
+is_visible es c s p =
+    s.source || (is_none (refusal_at c s p) && (is_cleared_for s (label_at es p) || is_covered es c s p))
 
 abbrev pub showing_rule : Standing → LabelValue → Rule
 showing_rule s l = if s.source then Src else if is_cleared_for s l then (clearance_of s).1 else X
@@ -63,4 +64,5 @@ abbrev pub hiding_rule : List LocatedLine → Case → Standing → Tokens → R
 hiding_rule es c s p = unwrap_or (refusal_at c s p) (hidden_by (handling_for s (label_at es p)))
 
 abbrev pub verdict_of : List LocatedLine → Case → Standing → Tokens → Verdict
-verdict_of es c s p = if is_visible es c s p then Shown (showing_rule s (label_at es p)) else Hidden (hiding_rule es c s p)
+verdict_of es c s p =
+    if is_visible es c s p then Shown (showing_rule s (label_at es p)) else Hidden (hiding_rule es c s p)

@@ -53,7 +53,9 @@ impl<'a> Ahead<'a> {
 
     /// One token further down. Takes no memory where nothing is left.
     pub fn below(&self, alloc: Global, token: &str) -> Result<Ahead<'a>, AllocError>
-        ensures { IfOk result (λ a. (c : TheCase) (s : TheStanding) (p : Tokens) → met_by self.now ≡ ahead_of c s p → met_by a ≡ ahead_of c s (p ++ token.now ∷ [])) }
+        ensures { IfOk result (λ a.
+            (c : TheCase) (s : TheStanding) (p : Tokens) → met_by self.now ≡ ahead_of c s p →
+            met_by a ≡ ahead_of c s (p ++ token.now ∷ [])) }
     {
         let refusing = refusing_below(alloc, self.refusing.as_slice(), token)?;
         let granting = granting_below(alloc, self.granting.as_slice(), token)?;
@@ -106,7 +108,8 @@ fn refusing<'a>(
     case: &'a Case,
     standing: &Standing,
 ) -> Result<Vec<Refusing<'a>>, AllocError>
-    ensures { IfOk result (λ v. (z : Tokens) → refused_with v.items z ≡ refusals_at case.now standing.entry.now z) }
+    ensures { IfOk result (λ v.
+        (z : Tokens) → refused_with v.items z ≡ refusals_at case.now standing.entry.now z) }
 {
     let mut refusing = Vec::new(alloc);
     for gate in case.gates.as_slice() {
@@ -123,7 +126,8 @@ fn granting<'a>(
     case: &'a Case,
     standing: &Standing,
 ) -> Result<Vec<Granting<'a>>, AllocError>
-    ensures { IfOk result (λ v. (z : Tokens) → granted_with v.items z ≡ is_granted case.now standing.entry.now z) }
+    ensures { IfOk result (λ v.
+        (z : Tokens) → granted_with v.items z ≡ is_granted case.now standing.entry.now z) }
 {
     let mut granting = Vec::new(alloc);
     for permission in case.permissions.as_slice() {
@@ -138,7 +142,8 @@ fn granting<'a>(
 /// What is left behind the token, if it comes first. Each step of a pass asks this of all that lies ahead.
 #[inline(always)]
 fn behind<'a>(rest: &'a [Text], token: &str) -> Option<&'a [Text]>
-    ensures { (z : Tokens) → option_map_or (λ r. same_path r.now z) result false ≡ same_path rest.now (token.now ∷ z) }
+    ensures { (z : Tokens) →
+        option_map_or (λ r. same_path r.now z) result false ≡ same_path rest.now (token.now ∷ z) }
 {
     if !rest.is_empty() && rest[0].as_str() == token {
         Some(&rest[1..])
@@ -152,7 +157,8 @@ fn refusing_below<'a>(
     gates: &[Refusing<'a>],
     token: &str,
 ) -> Result<Vec<Refusing<'a>>, AllocError>
-    ensures { IfOk result (λ v. (z : Tokens) → refused_with v.items z ≡ refused_with gates.now (token.now ∷ z)) }
+    ensures { IfOk result (λ v.
+        (z : Tokens) → refused_with v.items z ≡ refused_with gates.now (token.now ∷ z)) }
 {
     let mut below = Vec::new(alloc);
     for gate in gates {
@@ -169,7 +175,8 @@ fn granting_below<'a>(
     permissions: &[Granting<'a>],
     token: &str,
 ) -> Result<Vec<Granting<'a>>, AllocError>
-    ensures { IfOk result (λ v. (z : Tokens) → granted_with v.items z ≡ granted_with permissions.now (token.now ∷ z)) }
+    ensures { IfOk result (λ v.
+        (z : Tokens) → granted_with v.items z ≡ granted_with permissions.now (token.now ∷ z)) }
 {
     let mut below = Vec::new(alloc);
     for permission in permissions {

@@ -4,7 +4,7 @@ ghost use Rattle.std.specs.Prelude.{◌≡◌, ◌&&◌, ◌||◌, ◌++◌, [],
 ghost use Rattle.iodef_tree.specs.Text.{same_path};
 ghost use Rattle.iodef_tree.specs.Paths.{located};
 ghost use Rattle.marking.specs.Marks.{written_label};
-ghost use Rattle.policy.specs.Permissions.{covers as is_covering, reaches as is_reaching};
+ghost use Rattle.policy.specs.Permissions as spec;
 
 use crate::permission::{Permission, holds_for};
 use crate::standing::Standing;
@@ -21,7 +21,8 @@ pub fn covers(
     path: &Path,
     permission: &Permission,
 ) -> Result<bool, AllocError>
-    ensures { IfOk result (λ b. b ≡ is_covering (located document.now) standing.entry.now path.now permission.now) }
+    ensures { IfOk result (λ b. b ≡
+        spec.covers (located document.now) standing.entry.now path.now permission.now) }
 {
     if !holds_for(standing, permission) {
         return Ok(false);
@@ -31,7 +32,7 @@ pub fn covers(
 
 /// Whether the second path is the first or below it, and no label is written on the way down to it.
 fn reaches(alloc: Global, document: &Document, from: &Path, to: &Path) -> Result<bool, AllocError>
-    ensures { IfOk result (λ b. b ≡ is_reaching (located document.now) from.now to.now) }
+    ensures { IfOk result (λ b. b ≡ spec.reaches (located document.now) from.now to.now) }
 {
     if !from.is_prefix_of(to) {
         return Ok(false);
@@ -47,7 +48,8 @@ fn reaches(alloc: Global, document: &Document, from: &Path, to: &Path) -> Result
 
 /// Whether what reached the path above reaches this one, or begins here.
 fn goes_on(document: &Document, from: &Path, here: &Path, above: bool) -> bool
-    ensures { result ≡ ((above && is_none (written_label (located document.now) here.now)) || same_path from.now here.now) }
+    ensures { result ≡ ((above &&
+        is_none (written_label (located document.now) here.now)) || same_path from.now here.now) }
 {
     (above && written_at(document, here).is_none()) || *from == *here
 }

@@ -43,7 +43,9 @@ fn said_at<'a>(
     standing: &Standing,
     path: &Path,
 ) -> Result<Carried<'a>, AllocError>
-    ensures { IfOk result (λ h. carried path.now h ≡ inherited_at (located document.now) case.now standing.entry.now path.now) }
+    ensures { IfOk result (λ h.
+        carried path.now h ≡
+        inherited_at (located document.now) case.now standing.entry.now path.now) }
 {
     let tokens = path.tokens();
     let mut ahead = Ahead::at_root(alloc, case, standing)?;

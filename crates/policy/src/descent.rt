@@ -47,7 +47,8 @@ pub struct Descent<'a> {
 impl<'a> Descent<'a> {
     /// At the root.
     pub fn at_root(document: &'a Document, ahead: &Ahead<'_>) -> Descent<'a>
-        ensures { (c : TheCase) (s : TheStanding) → met_by ahead.now ≡ ahead_of c s [] → Reaches (located document.now) c s [] result }
+        ensures { (c : TheCase) (s : TheStanding) → met_by ahead.now ≡ ahead_of c s [] →
+            Reaches (located document.now) c s [] result }
     {
         Descent {
             class: document.root(),
@@ -60,7 +61,8 @@ impl<'a> Descent<'a> {
     pub fn below(self, ahead: &Ahead<'_>, here: &[Text]) -> Descent<'a>
         requires depth { self.depth < length here.now }
         requires filled { IsFilled self.class.now }
-        ensures { (ls : List Line) (c : TheCase) (s : TheStanding) (p : Tokens) (x : Bytes) → here.now ≡ p ++ x ∷ [] → met_by ahead.now ≡ ahead_of c s here.now →
+        ensures { (ls : List Line) (c : TheCase) (s : TheStanding) (p : Tokens) (x : Bytes) →
+            here.now ≡ p ++ x ∷ [] → met_by ahead.now ≡ ahead_of c s here.now →
             Reaches (located ls) c s p self.entry → Reaches (located ls) c s here.now result }
     {
         match self.class.class(&here[self.depth..]) {

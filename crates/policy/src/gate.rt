@@ -13,7 +13,7 @@ use std::marker::Model;
 #[derive(Drop)]
 pub struct Gate {
     pub path: Path,
-    /// 0 the source alone, 1 its communities, 2 those linked to them too, 3 everybody, 4 a group, 5 as above.
+    /// 0 the source alone, 1 its communities, 2 those connected to them too, 3 everybody, 4 a group, 5 as above.
     pub level: u8,
     /// The group of level 4.
     pub group: Option<u32>,

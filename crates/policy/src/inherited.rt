@@ -6,7 +6,8 @@ ghost use Rattle.iodef_tree.specs.Text.{Tokens};
 ghost use Rattle.marking.specs.Label.{marking_of};
 ghost use Rattle.policy.specs.Ahead.{ahead_of, met_by};
 ghost use Rattle.policy.specs.Verdict.{handling_for, is_cleared_for, showing_rule, hidden_by as hides_by};
-ghost use Rattle.policy.specs.Inherited.{carried, at_root as at_the_root, array_step, class_step, label_step, is_seen as is_seen_by, hides as hides_at, verdict_by};
+ghost use Rattle.policy.specs.Inherited.{carried, array_step, class_step, label_step, verdict_by};
+ghost use Rattle.policy.specs.Inherited as spec;
 ghost use Rattle.policy.specs.declared.standing.Standing.{Standing as TheStanding};
 ghost use Rattle.policy.specs.declared.case.Case.{Case as TheCase};
 
@@ -32,7 +33,8 @@ pub struct Carried<'a> {
 impl<'a> Carried<'a> {
     /// At the root, where this lies ahead. Takes no memory, as the other calls here.
     pub fn at_root(ahead: &Ahead<'_>) -> Carried<'a>
-        ensures { (c : TheCase) (s : TheStanding) → met_by ahead.now ≡ ahead_of c s [] → carried [] result ≡ at_the_root c s }
+        ensures { (c : TheCase) (s : TheStanding) → met_by ahead.now ≡ ahead_of c s [] →
+            carried [] result ≡ spec.at_root c s }
     {
         Carried {
             refusal: ahead.refusal(),
@@ -60,8 +62,11 @@ impl<'a> Carried<'a> {
         spot: &S,
         written: Option<Label<'a>>,
     ) -> Carried<'a>
-        ensures { (c : TheCase) (s : TheStanding) → met_by ahead.now ≡ ahead_of c s (S.tokens spot.now) →
-            carried (S.tokens spot.now) result ≡ class_step c s (carried (S.tokens spot.now) self.entry) (S.tokens spot.now) (option_map marking_of written.entry) }
+        ensures { (c : TheCase) (s : TheStanding) →
+            met_by ahead.now ≡ ahead_of c s (S.tokens spot.now) →
+            carried (S.tokens spot.now) result ≡
+            class_step c s (carried (S.tokens spot.now) self.entry) (S.tokens spot.now)
+            (option_map marking_of written.entry) }
     {
         Carried {
             refusal: first_refusal(self.refusal, ahead),
@@ -72,7 +77,7 @@ impl<'a> Carried<'a> {
 
     /// Whether the reader sees the class here.
     pub fn is_seen(self, standing: &Standing) -> bool
-        ensures { result ≡ is_seen_by standing.entry.now (carried [] self.entry) }
+        ensures { result ≡ spec.is_seen standing.entry.now (carried [] self.entry) }
     {
         standing.source
             || (self.refusal.is_none() && (is_cleared(standing, self.label) || self.covered))
@@ -91,7 +96,7 @@ impl<'a> Carried<'a> {
 
     /// The rule that hides the class here, where it isn't seen.
     pub fn hiding_rule(self, standing: &Standing) -> Rule
-        ensures { result ≡ hides_at standing.entry.now (carried [] self.entry) }
+        ensures { result ≡ spec.hides standing.entry.now (carried [] self.entry) }
     {
         match self.refusal {
             Some(rule) => rule,
@@ -159,7 +164,9 @@ fn is_covered(above: bool, ahead: &Ahead<'_>) -> bool
 }
 
 fn label_below<'a, S: Spot>(above: Label<'a>, spot: &S, written: Option<Label<'a>>) -> Label<'a>
-    ensures { marking_of result ≡ label_step (marking_of above.entry) (S.tokens spot.now) (option_map marking_of written.entry) }
+    ensures { marking_of result ≡
+        label_step (marking_of above.entry) (S.tokens spot.now)
+        (option_map marking_of written.entry) }
 {
     match written {
         Some(label) => label,

@@ -1,7 +1,8 @@
 //! Moments as texts.
 
 ghost use Rattle.std.specs.Prelude.{◌≡◌};
-ghost use Rattle.policy.specs.Moment.{moment_in, whole_second as second_of};
+ghost use Rattle.policy.specs.Moment.{moment_in};
+ghost use Rattle.policy.specs.Moment as spec;
 
 use crate::fault::MomentFault;
 use jiff::Timestamp;
@@ -19,7 +20,7 @@ pub fn read_moment(text: &str) -> Result<i64, MomentFault>
 }
 
 fn whole_second(instant: Timestamp) -> Result<i64, MomentFault>
-    ensures { result ≡ second_of instant.nanosecond }
+    ensures { result ≡ spec.whole_second instant.nanosecond }
 {
     if instant.subsec_nanosecond() == 0 {
         Ok(instant.as_second())

@@ -2,7 +2,7 @@
 //! up to a moment.
 
 ghost use Rattle.std.specs.Prelude.{◌≡◌};
-ghost use Rattle.policy.specs.Permissions.{includes as is_included, is_before as is_before_end, holds_for as holds_for_reader};
+ghost use Rattle.policy.specs.Permissions as spec;
 
 use crate::standing::Standing;
 use iodef_tree::Path;
@@ -67,7 +67,7 @@ impl Permissions {
 /// Whether the grantee includes the reader: it is the reader, its organisation, a community of its organisation, or a group
 /// of which its organisation is a member and which is active. Takes no memory.
 pub fn includes(standing: &Standing, grantee: &Grantee) -> bool
-    ensures { result ≡ is_included standing.entry.now grantee.now }
+    ensures { result ≡ spec.includes standing.entry.now grantee.now }
 {
     match grantee {
         Grantee::Person(number) => standing.who == *number,
@@ -81,14 +81,14 @@ pub fn includes(standing: &Standing, grantee: &Grantee) -> bool
 
 /// Whether the permission holds for the reader, wherever it stands: it includes the reader, and hasn't ended. Takes no memory.
 pub fn holds_for(standing: &Standing, permission: &Permission) -> bool
-    ensures { result ≡ holds_for_reader standing.entry.now permission.now }
+    ensures { result ≡ spec.holds_for standing.entry.now permission.now }
 {
     includes(standing, &permission.grantee) && is_before(standing.now, permission.until)
 }
 
 /// Whether the end is still to come at this moment, or there is none.
 fn is_before(now: i64, until: Option<i64>) -> bool
-    ensures { result ≡ is_before_end now until }
+    ensures { result ≡ spec.is_before now until }
 {
     match until {
         None => true,

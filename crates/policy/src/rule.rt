@@ -23,7 +23,7 @@ pub enum Rule {
     G0,
     /// A gate for the source's communities.
     G1,
-    /// A gate for the source's communities and those linked to them.
+    /// A gate for the source's communities and those connected to them.
     G2,
     /// A gate for a group of which the reader's organisation is no member.
     G4,

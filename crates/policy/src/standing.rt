@@ -23,7 +23,7 @@ pub struct Standing {
     pub community: bool,
     /// The reader's organisation is a member of the community that the incident names; where it names none, as `community`.
     pub peer: bool,
-    /// The reader's organisation is in a community that is linked to one of the source's.
+    /// The reader's organisation is in a community that is connected to one of the source's.
     pub connected: bool,
     /// What the source arranged with the reader's organisation for the label `default`.
     pub arrangement: Option<Handling>,

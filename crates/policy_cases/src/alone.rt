@@ -1,9 +1,9 @@
 //! The answers of the lines that ask of no report.
 
-use crate::labels::{compared, spelled};
+use crate::labels::{compared, read_label};
 use crate::line::Line;
 use crate::served::SOURCE;
-use crate::verdicts::{cleared, given_back, groups_given_back, passed};
+use crate::verdicts::{describe_clearance, given_back, groups_given_back, passed};
 use iodef_tree::Path;
 use marking::is_incident;
 use policy::{Gate, MomentFault, Standing, includes, read_moment};
@@ -23,7 +23,7 @@ fn label(
     ext: Option<&str>,
 ) -> Result<String, Unfit> {
     let arranged = arranged_of(arranged)?;
-    Ok(spelled(alloc, restriction, ext, arranged)?)
+    Ok(read_label(alloc, restriction, ext, arranged)?)
 }
 
 fn order(alloc: Global, first: &str, second: &str) -> Result<String, Unfit> {
@@ -67,7 +67,7 @@ fn moment(alloc: Global, text: &str) -> Result<String, Unfit> {
 fn answer_of_reader(alloc: Global, line: &Line<'_>) -> Result<String, Unfit> {
     let standing = standing_of(alloc, line.first)?;
     match line.kind {
-        "clearance" => cleared(alloc, &standing),
+        "clearance" => describe_clearance(alloc, &standing),
         "gate" => gate(alloc, &standing, line.second),
         "grantee" => grantee(alloc, &standing, line.second),
         _ => Err(Unfit::NoCase),

@@ -33,7 +33,7 @@ use crate::alone::answer_alone;
 use crate::labels::{marked, sited};
 use crate::line::Line;
 use crate::probing::{probe_of, probed, sought};
-use crate::rows::fed;
+use crate::rows::feed_words;
 use crate::served::{answer_to, asker_of};
 use iodef_tree::Path;
 use std::alloc::Global;
@@ -53,7 +53,7 @@ pub fn answer(report: &mut Report, alloc: Global, line: &str) -> Result<String, 
             let document = report.document()?;
             answer_to(alloc, document, &asker_of(alloc, &line)?, &line)
         }
-        "feed" => fed(alloc, asker_of(alloc, &line)?, line.fourth),
+        "feed" => feed_words(alloc, asker_of(alloc, &line)?, line.fourth),
         "probe" => {
             let probe = probe_of(alloc, asker_of(alloc, &line)?, line.fourth, line.fifth)?;
             probed(alloc, report.document()?, probe)

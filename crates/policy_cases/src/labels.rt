@@ -11,7 +11,7 @@ use std::cmp::Ordering;
 use trying_policy::Unfit;
 
 /// The label that the two texts spell, and how it is handled.
-pub fn spelled(
+pub fn read_label(
     alloc: Global,
     restriction: &str,
     ext: Option<&str>,

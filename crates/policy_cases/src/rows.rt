@@ -1,6 +1,6 @@
 //! A pass that is fed lines one at a time.
 
-use crate::served::{Asker, shown};
+use crate::served::{Asker, show};
 use iodef_tree::{Document, Kind, Line, OutlineFault, Text};
 use redact::RowPass;
 use std::alloc::Global;
@@ -18,7 +18,7 @@ fn answer_of(pass: &mut RowPass, line: Line) -> Result<&'static str, Unfit> {
 /// What the pass gives at the end.
 fn finish_of(alloc: Global, pass: RowPass) -> Result<String, Unfit> {
     match pass.finish() {
-        Ok(Some(excerpt)) => shown(alloc, &excerpt),
+        Ok(Some(excerpt)) => show(alloc, &excerpt),
         Ok(None) => said(alloc, "none"),
         Err(OutlineFault::BadOutline) => said(alloc, "BadOutline"),
         Err(OutlineFault::NoMemory) => Err(Unfit::NoMemory),
@@ -65,7 +65,7 @@ pub fn line_of(alloc: Global, word: &str) -> Result<Line, Unfit> {
 }
 
 /// What a pass answers of each of these lines, which spaces stand between, and at the end.
-pub fn fed(alloc: Global, asker: Asker, words: &str) -> Result<String, Unfit> {
+pub fn feed_words(alloc: Global, asker: Asker, words: &str) -> Result<String, Unfit> {
     let Asker { standing, case } = asker;
     let mut pass = RowPass::new(alloc, case, standing)?;
     let mut told = String::new(alloc);

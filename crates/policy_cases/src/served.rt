@@ -40,7 +40,7 @@ fn push_pair(told: &mut String, alloc: Global, place: &Path, rule: Rule) -> Resu
 }
 
 /// How many classes are visible, the document, and each withheld pair.
-pub fn shown(alloc: Global, excerpt: &Excerpt) -> Result<String, Unfit> {
+pub fn show(alloc: Global, excerpt: &Excerpt) -> Result<String, Unfit> {
     let classes = excerpt.classes;
     let text = excerpt.document.text(alloc)?;
     let mut told = format!(in alloc; "{classes} {text}")?;
@@ -50,11 +50,11 @@ pub fn shown(alloc: Global, excerpt: &Excerpt) -> Result<String, Unfit> {
     Ok(told)
 }
 
-fn served(alloc: Global, document: &Document, asker: &Asker) -> Result<String, Unfit>
+fn serve(alloc: Global, document: &Document, asker: &Asker) -> Result<String, Unfit>
     requires { first_bad_marking (located document.now) ≡ None }
 {
     match excerpt(alloc, document, &asker.case, &asker.standing)? {
-        Some(excerpt) => shown(alloc, &excerpt),
+        Some(excerpt) => show(alloc, &excerpt),
         None => said(alloc, "none"),
     }
 }
@@ -68,7 +68,7 @@ fn served_twice(
 ) -> Result<String, Unfit>
     requires { first_bad_marking (located document.now) ≡ None }
 {
-    let served = served(alloc, document, asker)?;
+    let served = serve(alloc, document, asker)?;
     let by_lines = served_by_lines(alloc, document, asker_of(alloc, line)?)?;
     if served == by_lines {
         return Ok(served);
@@ -77,7 +77,12 @@ fn served_twice(
 }
 
 /// The labels at a path of what the reader is served.
-fn kept(alloc: Global, document: &Document, asker: &Asker, pointer: &str) -> Result<String, Unfit>
+fn kept_labels(
+    alloc: Global,
+    document: &Document,
+    asker: &Asker,
+    pointer: &str,
+) -> Result<String, Unfit>
     requires { first_bad_marking (located document.now) ≡ None }
 {
     let path = Path::parse(alloc, pointer)?;
@@ -121,7 +126,7 @@ pub fn answer_to(
     match line.kind {
         "decide" => verdicts(alloc, document, asker, line.fourth),
         "excerpt" => served_twice(alloc, document, asker, line),
-        "kept" => kept(alloc, document, asker, line.fourth),
+        "kept" => kept_labels(alloc, document, asker, line.fourth),
         "listed" => listed(alloc, document, asker),
         _ => found(alloc, document, asker, line.fourth, line.fifth),
     }

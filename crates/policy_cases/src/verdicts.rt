@@ -10,7 +10,7 @@ use policy::{Case, DecideFault, Gate, Standing, Verdict, clearance, decide, pass
 use std::alloc::{AllocError, Global};
 use trying_policy::{Unfit, gate_word, permission_word};
 
-pub fn cleared(alloc: Global, standing: &Standing) -> Result<String, Unfit> {
+pub fn describe_clearance(alloc: Global, standing: &Standing) -> Result<String, Unfit> {
     let (handling, rule) = clearance(standing);
     let handling = handling.name();
     let rule = rule.name();

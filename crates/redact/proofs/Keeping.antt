@@ -10,7 +10,7 @@ use Rattle.iodef_tree.specs.Paths.{LocatedLine, is_class}
 use Rattle.iodef_tree.specs.Walk.{walk, leaf_entry, class_entry}
 use Rattle.marking.proofs.Bad.{no_class-kind}
 use Rattle.marking.proofs.Marked.{not_root}
-use Rattle.redact.specs.Kept.{Attribute, comes_after, put, put_all, attribute_line, attribute_lines, Verdicts, is_visible_class, is_kept, added_label_lines, with_added_labels, kept_lines}
+use Rattle.redact.specs.Kept.{Attribute, stands_before, put, put_all, attribute_line, attribute_lines, Verdicts, is_visible_class, is_kept, added_label_lines, with_added_labels, kept_lines}
 use Rattle.redact.specs.inner.Judged.{put_leaf, attribute_leaf, put_attributes, judge, inside, keeps_plain, shows_label, home_at, left_before, new_place, left_with, moved, is_end, cut}
 use Rattle.redact.proofs.Fates.{by_verdict}
 
@@ -23,7 +23,7 @@ IsShallow d (l ∷ ls) = l.depth < d
 
 put-first : (x : Line) (ys : List Line) → IsShallow x.depth ys → put x ys ≡ x ∷ ys
 put-first x [] h = refl
-put-first x (y ∷ ys) h = cond-true (comes_after x y) _ _ (or_left (nat_lt y.depth x.depth) _ (lt-ltb y.depth x.depth h))
+put-first x (y ∷ ys) h = cond-true (stands_before x y) _ _ (or_left (nat_lt y.depth x.depth) _ (lt-ltb y.depth x.depth h))
 
 after_same : (d : ℕ) (b : Bool) → (nat_lt d d || ((d == d) && b)) ≡ b
 after_same d b = grind arith

@@ -16,7 +16,7 @@ use Rattle.marking.specs.inner.Pass.{bad_below}
 use Rattle.marking.proofs.Bad.{first_bad, no_class-kind}
 use Rattle.iodef_tree.specs.Outline.{is_outline}
 use Rattle.redact.proofs.Grown.{outline-document}
-use Rattle.redact.specs.Marked.{brief_text, brief, extension_brief, first_restriction, first_extension, no_marking, held_with, are_fine, is_fine, Markings, none_noted, holding, opened, noted, noted_from, is_accepted}
+use Rattle.redact.specs.Marked.{brief_text, brief, extension_brief, first_restriction, first_extension, no_marking, held_with, are_fine, is_fine, Markings, none_noted, innermost_held_with, with_opened_marking, with_marked_line, with_marked_lines, is_accepted}
 use Rattle.redact.specs.declared.marks.Restriction.{Restriction}
 use Rattle.redact.specs.declared.marks.Restriction.TheVariants as restriction
 use Rattle.redact.specs.declared.marks.Extension.{Extension}
@@ -219,12 +219,12 @@ one-longer : (P : List Marking) (x : Marking) → length (P ++ x ∷ []) ≡ suc
 one-longer [] x = refl
 one-longer (y ∷ P) x = ap suc (one-longer P x)
 
-same-length : (l : Line) (P : List Marking) → length (holding l P) ≡ length P
+same-length : (l : Line) (P : List Marking) → length (innermost_held_with l P) ≡ length P
 same-length l [] = refl
 same-length l (x ∷ []) = refl
 same-length l (x ∷ y ∷ P) = ap suc (same-length l (y ∷ P))
 
-holding-last : (l : Line) (H : List Marking) (x : Marking) → holding l (H ++ x ∷ []) ≡ H ++ held_with l x ∷ []
+holding-last : (l : Line) (H : List Marking) (x : Marking) → innermost_held_with l (H ++ x ∷ []) ≡ H ++ held_with l x ∷ []
 holding-last l [] x = refl
 holding-last l (y ∷ []) x = refl
 holding-last l (y ∷ z ∷ H) x = ap (λ xs. y ∷ xs) (holding-last l (z ∷ H) x)
@@ -232,8 +232,8 @@ holding-last l (y ∷ z ∷ H) x = ap (λ xs. y ∷ xs) (holding-last l (z ∷ H
 -- the innermost holds the members, one after another
 abbrev holding_all : ℕ → Forest → List Marking → List Marking
 holding_all d end P = P
-holding_all d (leaf i rest) P = holding_all d rest (holding (leaf_line d i) P)
-holding_all d (branch n o kids rest) P = holding_all d rest (holding (class_line d n o) P)
+holding_all d (leaf i rest) P = holding_all d rest (innermost_held_with (leaf_line d i) P)
+holding_all d (branch n o kids rest) P = holding_all d rest (innermost_held_with (class_line d n o) P)
 
 all-last : (d : ℕ) (f : Forest) (H : List Marking) (x : Marking) → holding_all d f (H ++ x ∷ []) ≡ H ++ held_all d f x ∷ []
 all-last d end H x = refl
@@ -250,18 +250,18 @@ none-held d (branch n o kids rest) = none-held d rest
 abbrev is_bad : Forest → Bool
 is_bad f = is_some (bad_below f)
 
-noted-append : (xs ys : List Line) (m : Markings) → noted_from m (xs ++ ys) ≡ noted_from (noted_from m xs) ys
+noted-append : (xs ys : List Line) (m : Markings) → with_marked_lines m (xs ++ ys) ≡ with_marked_lines (with_marked_lines m xs) ys
 noted-append [] ys m = refl
-noted-append (x ∷ xs) ys m = noted-append xs ys (noted m x)
+noted-append (x ∷ xs) ys m = noted-append xs ys (with_marked_line m x)
 
 -- what stands behind some open classes is closed by a line that is one deeper than they are
 closes : (n : ℕ) (P Q : List Marking) (b : Bool) (l : Line) → length P ≡ n → l.depth ≡ suc n →
-    noted (record { classes = P ++ Q; broken = b }) l ≡ record { classes = opened l (holding l P); broken = b || not (list_all is_fine Q) }
+    with_marked_line (record { classes = P ++ Q; broken = b }) l ≡ record { classes = with_opened_marking l (innermost_held_with l P); broken = b || not (list_all is_fine Q) }
 closes n P Q b l h deep =
     let k : l.depth - 1 ≡ n = omega (arith, deep) in
     let front : take (l.depth - 1) (P ++ Q) ≡ P = ap (λ j. take j (P ++ Q)) (k ∙ sym h) ∙ take-front P Q in
     let back : drop (l.depth - 1) (P ++ Q) ≡ Q = ap (λ j. drop j (P ++ Q)) (k ∙ sym h) ∙ drop-front P Q in
-    λ i. record { classes = opened l (holding l (front i)); broken = b || not (list_all is_fine (back i)) }
+    λ i. record { classes = with_opened_marking l (innermost_held_with l (front i)); broken = b || not (list_all is_fine (back i)) }
 
 bad-branch : (n : Bytes) (o : Option ℕ) (kids rest : Forest) → is_bad (branch n o kids rest) ≡ ((not (is_rule_kept_in kids) || is_bad kids) || is_bad rest)
 bad-branch n o kids rest = by_value (is_rule_kept_in kids) (bad_below kids) (bad_below rest)
@@ -286,37 +286,37 @@ joined : (b2 a1 fy b1 kb kept rest : Bool) → (b2 || not a1) ≡ ((b1 || false)
 joined b2 a1 fy b1 kb kept rest h k = grind (arith, h, k)
 
 run : (f : Forest) (n : ℕ) (P Q : List Marking) (b : Bool) → length P ≡ n →
-    Ends (noted_from (record { classes = P ++ Q; broken = b }) (lines (suc n) f)) (holding_all (suc n) f P) ((b || not (list_all is_fine Q)) || is_bad f)
+    Ends (with_marked_lines (record { classes = P ++ Q; broken = b }) (lines (suc n) f)) (holding_all (suc n) f P) ((b || not (list_all is_fine Q)) || is_bad f)
 run end n P Q b h = record { behind = Q; broken = b; is = refl; says = sym (or-false (b || not (list_all is_fine Q))) }
 run (leaf i rest) n P Q b h =
     let l = leaf_line (suc n) i in
     let b1 = b || not (list_all is_fine Q) in
-    let next : noted (record { classes = P ++ Q; broken = b }) l ≡ record { classes = holding l P ++ []; broken = b1 } =
-    closes n P Q b l h refl ∙ ap (λ (xs : List Marking). record { classes = xs; broken = b1 }) (ap (λ t. if t then holding l P ++ no_marking ∷ [] else holding l P) (no_class-kind i.content) ∙ sym (append-nil (holding l P))) in
-    let later = run rest n (holding l P) [] b1 (same-length l P ∙ h) in
+    let next : with_marked_line (record { classes = P ++ Q; broken = b }) l ≡ record { classes = innermost_held_with l P ++ []; broken = b1 } =
+    closes n P Q b l h refl ∙ ap (λ (xs : List Marking). record { classes = xs; broken = b1 }) (ap (λ t. if t then innermost_held_with l P ++ no_marking ∷ [] else innermost_held_with l P) (no_class-kind i.content) ∙ sym (append-nil (innermost_held_with l P))) in
+    let later = run rest n (innermost_held_with l P) [] b1 (same-length l P ∙ h) in
     record {
       behind = later.behind;
       broken = later.broken;
-      is = ap (λ (m : Markings). noted_from m (lines (suc n) rest)) next ∙ later.is;
+      is = ap (λ (m : Markings). with_marked_lines m (lines (suc n) rest)) next ∙ later.is;
       says = later.says ∙ ap (λ t. t || is_bad rest) (or-false b1);
     }
 run (branch name o kids rest) n P Q b h =
     let l = class_line (suc n) name o in
     let b1 = b || not (list_all is_fine Q) in
-    let H = holding l P in
+    let H = innermost_held_with l P in
     let long : length H ≡ n = same-length l P ∙ h in
-    let next : noted (record { classes = P ++ Q; broken = b }) l ≡ record { classes = (H ++ no_marking ∷ []) ++ []; broken = b1 } =
+    let next : with_marked_line (record { classes = P ++ Q; broken = b }) l ≡ record { classes = (H ++ no_marking ∷ []) ++ []; broken = b1 } =
     closes n P Q b l h refl ∙ ap (λ (xs : List Marking). record { classes = xs; broken = b1 }) (sym (append-nil (H ++ no_marking ∷ []))) in
     let inner = run kids (suc n) (H ++ no_marking ∷ []) [] b1 (one-longer H no_marking ∙ ap suc long) in
     let y = held_all (suc (suc n)) kids no_marking in
-    let left : noted_from (record { classes = P ++ Q; broken = b }) (l ∷ lines (suc (suc n)) kids) ≡ record { classes = H ++ y ∷ inner.behind; broken = inner.broken } =
-    ap (λ (m : Markings). noted_from m (lines (suc (suc n)) kids)) next ∙ inner.is
+    let left : with_marked_lines (record { classes = P ++ Q; broken = b }) (l ∷ lines (suc (suc n)) kids) ≡ record { classes = H ++ y ∷ inner.behind; broken = inner.broken } =
+    ap (λ (m : Markings). with_marked_lines m (lines (suc (suc n)) kids)) next ∙ inner.is
     ∙ ap (λ (xs : List Marking). record { classes = xs; broken = inner.broken }) (ap (λ xs. xs ++ inner.behind) (all-last (suc (suc n)) kids H no_marking) ∙ append_assoc H (y ∷ []) inner.behind) in
     let later = run rest n H (y ∷ inner.behind) inner.broken long in
     record {
       behind = later.behind;
       broken = later.broken;
-      is = noted-append (l ∷ lines (suc (suc n)) kids) (lines (suc n) rest) (record { classes = P ++ Q; broken = b }) ∙ ap (λ (m : Markings). noted_from m (lines (suc n) rest)) left ∙ later.is;
+      is = noted-append (l ∷ lines (suc (suc n)) kids) (lines (suc n) rest) (record { classes = P ++ Q; broken = b }) ∙ ap (λ (m : Markings). with_marked_lines m (lines (suc n) rest)) left ∙ later.is;
       says = later.says
           ∙ joined inner.broken (list_all is_fine inner.behind) (is_fine y) b1 (is_bad kids) (is_rule_kept_in kids) (is_bad rest) inner.says (fine-all (suc (suc n)) kids)
           ∙ ap (λ t. b1 || t) (sym (bad-branch name o kids rest));
@@ -333,12 +333,12 @@ accepted-says m P bad none e =
     by_value false false = refl
 
 -- what was noted of all lines of a document is that all its classes keep the marking rule
-pub accepted-is : (ls : List Line) → IsDocument ls → is_accepted (noted_from none_noted ls) ≡ not (is_some (first_bad_marking (located ls)))
+pub accepted-is : (ls : List Line) → IsDocument ls → is_accepted (with_marked_lines none_noted ls) ≡ not (is_some (first_bad_marking (located ls)))
 accepted-is ls d =
-    ap (λ xs. is_accepted (noted_from none_noted xs)) d.2
-    ∙ accepted-says (noted_from none_noted (lines 1 d.0)) (holding_all 1 d.0 []) (is_bad d.0) (none-held 1 d.0) (run d.0 0 [] [] false refl)
+    ap (λ xs. is_accepted (with_marked_lines none_noted xs)) d.2
+    ∙ accepted-says (with_marked_lines none_noted (lines 1 d.0)) (holding_all 1 d.0 []) (is_bad d.0) (none-held 1 d.0) (run d.0 0 [] [] false refl)
     ∙ ap (λ o. not (is_some o)) (sym (first_bad d.0 d.1) ∙ ap (λ xs. first_bad_marking (located xs)) (sym d.2))
 
 -- of lines that are an outline as well
-pub accepted-outline : (ls : List Line) → is_outline ls ≡ true → is_accepted (noted_from none_noted ls) ≡ not (is_some (first_bad_marking (located ls)))
+pub accepted-outline : (ls : List Line) → is_outline ls ≡ true → is_accepted (with_marked_lines none_noted ls) ≡ not (is_some (first_bad_marking (located ls)))
 accepted-outline ls h = accepted-is ls (outline-document ls h)

@@ -78,7 +78,7 @@ module _ (es : List LocatedLine) (c : Case) (s : Standing) (p : Tokens) where
       covered s.source (is_none (refusal_at c s p)) (is_cleared_for s (label_at es p)) (is_covered es c s p)
       (none-some (refusal_at c s p) (refused-any c s p ∙ found.1)) found.0
 
--- where steps lead to the newest line, a class that a permission opens is seen
+-- where steps lead to the newest line, a class that a permission shows is seen
 pub follow-seen : (w : Want) (c : Case) (s : Standing) (ls : List Line) (l : Line) (ss : List Step) (follows : Bool) → (follows ≡ true → Tracks ls ss) → may_come (back ls) l ≡ true →
     (follows && (is_class_kind l.kind && is_permitted c s (way (went_on ss l)))) ≡ true → IsSeen w c s (ls ++ l ∷ []) (placed (located_back ls) l).path
 follow-seen w c s ls l ss follows tracks fits h more outline marked =

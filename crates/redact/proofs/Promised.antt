@@ -11,7 +11,7 @@ use Rattle.iodef_tree.specs.declared.line.Line.{Line}
 use Rattle.policy.specs.declared.standing.Standing.{Standing}
 use Rattle.policy.specs.declared.case.Case.{Case}
 use Rattle.redact.proofs.Counts.{count_by-cons}
-use Rattle.redact.specs.Kept.{Attribute, Verdicts, comes_after, put, put_all, attribute_line, attribute_lines, is_kept, says_label, added_label_lines, with_added_labels, kept_lines, is_frame}
+use Rattle.redact.specs.Kept.{Attribute, Verdicts, stands_before, put, put_all, attribute_line, attribute_lines, is_kept, says_label, added_label_lines, with_added_labels, kept_lines, is_frame}
 use Rattle.redact.specs.Told.{Told, is_seen_class, is_named, holds_needle, kept_outline, visible_count, is_listed, told_of, excerpt_of, finds, verdicts_of, excerpt_place, withheld_of, some_seen}
 use Rattle.std.proofs.lemmas.List.Concat.{flat_map-cons}
 use Rattle.std.proofs.lemmas.List.Elements.{Contains-append_left, Contains-append_right, Contains-append_cases, Contains-push_cases}
@@ -72,7 +72,7 @@ class_lines ls = filter (λ l. is_class_kind l.kind) ls
 put-plain : (x : Line) (ls : List Line) → is_class_kind x.kind ≡ false → class_lines (put x ls) ≡ class_lines ls
 put-plain x [] plain = ap (λ b. if b then x ∷ [] else []) plain
 put-plain x (l ∷ ls) plain =
-    cond_both (comes_after x l) _ _ (λ ys. class_lines ys ≡ class_lines (l ∷ ls)) (λ _. rw plain) (λ _. ap (λ ys. if is_class_kind l.kind then l ∷ ys else ys) (put-plain x ls plain))
+    cond_both (stands_before x l) _ _ (λ ys. class_lines ys ≡ class_lines (l ∷ ls)) (λ _. rw plain) (λ _. ap (λ ys. if is_class_kind l.kind then l ∷ ys else ys) (put-plain x ls plain))
 
 attributes-plain : (d : ℕ) (xs : List Attribute) (ls : List Line) → class_lines (put_all (attribute_lines d xs) ls) ≡ class_lines ls
 attributes-plain d [] ls = refl

@@ -26,7 +26,7 @@ use Rattle.redact.specs.Told.{is_seen_class, is_named, is_hit, holds_needle}
 use Rattle.redact.specs.Wants.{meets, meets_by}
 use Rattle.redact.specs.Sifted.{way, IsCounted, went_on, located_back, Tracks}
 use Rattle.redact.specs.Probed.{InEach, IsSure, ProbeState, ProbesLine}
-use Rattle.redact.specs.inner.Seeking.{wants_name_by, wants_name, wants_line_by, wants_line, holds_wanted_by, holds_wanted, is_wanted_at, some_refuses, sees_all, sight_of, is_everything, is_cleared_sight, text_by_kind, plain_text, beside_by, first_beside, beside_with, is_cleared_if, is_restriction, shows, entered, holding, innermost_holding, is_permitted, opened, noted, is_settled, IsBeside, IsSeen, IsOpen, AreOpen, Follows, IsKnown, TakesTo}
+use Rattle.redact.specs.inner.Seeking.{wants_name_by, wants_name, wants_line_by, wants_line, holds_wanted_by, holds_wanted, is_wanted_at, some_refuses, sees_all, sight_of, is_everything, is_cleared_sight, text_by_kind, plain_text, beside_by, first_beside, beside_with, is_cleared_if, is_restriction, shows_class, entered, holding, innermost_holding, is_permitted, with_opened_class, open_with_line, is_settled, IsBeside, IsSeen, IsOpen, AreOpen, Follows, IsKnown, TakesTo}
 use Rattle.redact.specs.declared.seeking.Sight.{Sight}
 use Rattle.redact.specs.declared.seeking.Sight.TheVariants as sight
 use Rattle.redact.specs.declared.seeking.Beside.{Beside}
@@ -135,7 +135,7 @@ module _ (w : Want) (c : Case) (s : Standing) (ls : List Line) (l : Line) where
     holds = λ k. holds-stays (option_map string_bytes w.needle) p (h.holds k);
     shown = λ k. in-each-more ls l (λ all. is_visible (located all) c s p ≡ true) (h.shown k);
     class = has-stays p h.class;
-    bare = λ k. held-same ls l p (codes "restriction") (other-class (codes "restriction")) ∙ h.bare k;
+    unlabelled = λ k. held-same ls l p (codes "restriction") (other-class (codes "restriction")) ∙ h.unlabelled k;
     beside = subst (IsBeside s o.beside) (sym (held-same ls l p (codes "ext-restriction") (other-class (codes "ext-restriction")))) h.beside;
   }
     where
@@ -166,7 +166,7 @@ module _ (w : Want) (c : Case) (s : Standing) (ls : List Line) (l : Line) where
     bare-with : (o.labelled || is_restriction l) ≡ false → restriction_at (located longer) p ≡ absent
     bare-with t =
         let parts = or_parts o.labelled (is_restriction l) t in
-        held-same ls l p (codes "restriction") (named (codes "restriction") false parts.1) ∙ h.bare parts.0
+        held-same ls l p (codes "restriction") (named (codes "restriction") false parts.1) ∙ h.unlabelled parts.0
 
     beside-more : IsBeside s (beside_with s l o.beside) (ext_restriction_at (located longer) p)
     beside-more = by_name (bytes_eq l.name (codes "ext-restriction")) refl
@@ -187,7 +187,7 @@ module _ (w : Want) (c : Case) (s : Standing) (ls : List Line) (l : Line) where
         other-name : bytes_eq l.name (codes "ext-restriction") ≡ false
         other-name = ap (λ n. bytes_eq n (codes "ext-restriction")) (bytes_eq-true l.name (codes "restriction") is)
 
-    shown-by : shows k s l o ≡ true → IsSeen w c s longer p
+    shown-by : shows_class k s l o ≡ true → IsSeen w c s longer p
     shown-by t =
         let one = and_parts (is_restriction l) (not o.labelled && (is_cleared_sight k && is_cleared_if s o.beside (plain_text l))) t in
         let two = and_parts (not o.labelled) (is_cleared_sight k && is_cleared_if s o.beside (plain_text l)) one.1 in
@@ -198,13 +198,13 @@ module _ (w : Want) (c : Case) (s : Standing) (ls : List Line) (l : Line) where
         by_text None text name bare passes clears = absurd (false≢true clears)
         by_text (Some r) text name bare passes clears =
             label-seen c s longer p passes (has-stays p h.class) r o.beside
-            (held-first ls l p (codes "restriction") (named (codes "restriction") true name) (h.bare bare) ∙ text-held l r text)
+            (held-first ls l p (codes "restriction") (named (codes "restriction") true name) (h.unlabelled bare) ∙ text-held l r text)
             (beside-kept name) clears
 
-    shown-with : (o.shown || shows k s l o) ≡ true → IsSeen w c s longer p
+    shown-with : (o.shown || shows_class k s l o) ≡ true → IsSeen w c s longer p
     shown-with t = by_old o.shown refl t
       where
-        by_old : (b : Bool) → o.shown ≡ b → (b || shows k s l o) ≡ true → IsSeen w c s longer p
+        by_old : (b : Bool) → o.shown ≡ b → (b || shows_class k s l o) ≡ true → IsSeen w c s longer p
         by_old true is t = in-each-more ls l (λ all. is_visible (located all) c s p ≡ true) (h.shown is)
         by_old false is t = shown-by t
 
@@ -214,7 +214,7 @@ module _ (w : Want) (c : Case) (s : Standing) (ls : List Line) (l : Line) where
       holds = holds-with;
       shown = shown-with;
       class = has-stays p h.class;
-      bare = bare-with;
+      unlabelled = bare-with;
       beside = beside-more;
     }
 
@@ -284,7 +284,7 @@ module _ (w : Want) (c : Case) (s : Standing) (ls : List Line) (l : Line) where
       holds = λ t. no-needle (option_map string_bytes w.needle) e.path (needle-none string_bytes w.needle t);
       shown = shown-at;
       class = here (λ x. is_class x && same_path x.path e.path) (and_from (is_class e) (same_path e.path e.path) class (same_path-refl e.path));
-      bare = λ t. none-yet (codes "restriction");
+      unlabelled = λ t. none-yet (codes "restriction");
       beside = none-yet (codes "ext-restriction");
     }
       where
@@ -349,7 +349,7 @@ module _ (w : Want) (c : Case) (s : Standing) (ls : List Line) (l : Line) where
         (rising-more j d one less (subst (λ ys. d ≤ deepest ys) (back-push ls l) deep))
 
     -- the class of the line is the innermost
-    follows-opened : (os : List Open) → AreOpen w c s longer 2 os → suc (length os) ≡ l.depth → Follows w c s longer (opened k w l g os)
+    follows-opened : (os : List Open) → AreOpen w c s longer 2 os → suc (length os) ≡ l.depth → Follows w c s longer (with_opened_class k w l g os)
     follows-opened os h deep = by_class (is_class_kind l.kind) refl
       where
         at : suc (length os) ≡ l.depth → 2 + length os ≡ suc l.depth
@@ -369,7 +369,7 @@ module _ (w : Want) (c : Case) (s : Standing) (ls : List Line) (l : Line) where
         }
 
   pub follows-more : (k : Sight) → k ≡ sight_of c s → (g : Bool) → (g ≡ true → IsSeen w c s longer e.path) → (os : List Open) → Follows w c s ls os →
-      may_come (back ls) l ≡ true → is_outline longer ≡ true → Follows w c s longer (noted k s w l g os)
+      may_come (back ls) l ≡ true → is_outline longer ≡ true → Follows w c s longer (open_with_line k s w l g os)
   follows-more k sees g gives os h fits outline =
       let q = came (back ls) l fits in
       let n = l.depth - 1 in
@@ -464,7 +464,7 @@ module _ (w : Want) (c : Case) (s : Standing) where
     }
 
     -- where it wasn't
-    module _ (unmet : met ≡ false) (lines : new.lines.items ≡ old.lines.items ++ l ∷ []) (g : Bool) (classes : new.classes.items ≡ noted old.sight s w l g old.classes.items)
+    module _ (unmet : met ≡ false) (lines : new.lines.items ≡ old.lines.items ++ l ∷ []) (g : Bool) (classes : new.classes.items ≡ open_with_line old.sight s w l g old.classes.items)
         (followed : new.follows ≡ old.follows) (steps : old.follows ≡ true → IsCounted old.steps.items l → new.steps.items ≡ went_on old.steps.items l)
         (permits : g ≡ (old.follows && (is_class_kind l.kind && is_permitted c s (way new.steps.items)))) where
       small : length ls < 2 ^ 64

@@ -9,7 +9,7 @@ use Rattle.iodef_tree.specs.declared.shape.Shape.{Shape}
 use Rattle.iodef_tree.proofs.Outlines.{outline-back, back-push, outline_after-append}
 use Rattle.policy.specs.declared.standing.Standing.{Standing}
 use Rattle.policy.specs.declared.case.Case.{Case}
-use Rattle.redact.specs.Marked.{Markings, marks_of, none_noted, noted, noted_from}
+use Rattle.redact.specs.Marked.{Markings, marks_of, none_noted, with_marked_line, with_marked_lines}
 use Rattle.redact.specs.Sifted.{Sifts, Knows}
 use Rattle.redact.specs.declared.marks.Marks.{Marks}
 use Rattle.redact.specs.declared.sieve.Sieve.{Sieve}
@@ -25,20 +25,20 @@ fits-next ls done rest l is h =
     let parts = and_parts (is_outline done) (may_come (back done) l && is_outline_after (l ∷ back done) rest) (sym (outline_after-append done (l ∷ rest) []) ∙ ap is_outline is ∙ h) in
     (and_parts (may_come (back done) l) (is_outline_after (l ∷ back done) rest) parts.1).0
 
-noted-push : (ls : List Line) (l : Line) (m : Markings) → noted_from m (ls ++ l ∷ []) ≡ noted (noted_from m ls) l
+noted-push : (ls : List Line) (l : Line) (m : Markings) → with_marked_lines m (ls ++ l ∷ []) ≡ with_marked_line (with_marked_lines m ls) l
 noted-push [] l m = refl
-noted-push (x ∷ ls) l m = noted-push ls l (noted m x)
+noted-push (x ∷ ls) l m = noted-push ls l (with_marked_line m x)
 
 -- what is known of the lines with one more, where each part took it
 module _ (c : Case) (s : Standing) (ls : List Line) (l : Line) (shape : Shape) (marks : Marks) (v : Sieve) (k : Knows c s ls shape marks v) where
   pub knows-more : (shape' : Shape) (marks' : Marks) (v' : Sieve) → may_come (back ls) l ≡ true → Shows shape' (l ∷ back ls) →
-      marks_of marks' ≡ noted (marks_of marks) l → Sifts c s (ls ++ l ∷ []) v' →
+      marks_of marks' ≡ with_marked_line (marks_of marks) l → Sifts c s (ls ++ l ∷ []) v' →
       (is_outline (ls ++ l ∷ []) ≡ true) × Knows c s (ls ++ l ∷ []) shape' marks' v'
   knows-more shape' marks' v' fits shows marked sifts = (
     more-outline ls l k.shows.outline ∙ fits,
     record {
       shows = subst (λ before. Shows shape' before) (sym (back-push ls l)) shows;
-      marked = marked ∙ ap (λ m. noted m l) k.marked ∙ sym (noted-push ls l none_noted);
+      marked = marked ∙ ap (λ m. with_marked_line m l) k.marked ∙ sym (noted-push ls l none_noted);
       sifts = sifts;
     },
   )

@@ -59,7 +59,8 @@ module _ (s : Standing) where
   pub record IsToldAlike (a b : Report) : Type 0 where
     pub excerpt : excerpt_of a.lines a.case s ≡ excerpt_of b.lines b.case s
     pub told : told_of a.lines a.case s ≡ told_of b.lines b.case s
-    pub met : (needle class : Option Bytes) → meets_by needle class a.lines a.case s ≡ meets_by needle class b.lines b.case s
+    pub met : (needle class : Option Bytes) →
+        meets_by needle class a.lines a.case s ≡ meets_by needle class b.lines b.case s
 
   -- ---- steps
 
@@ -97,7 +98,8 @@ module _ (s : Standing) where
 
   -- one of these steps leads from one report to the other
   abbrev pub IsAlikeStep : Report → Report → Type 0
-  IsAlikeStep a b = ((p : Tokens) × HasOtherPlainLines p a b) ⊎ (((p : Tokens) × HasOtherHiddenClass p a b) ⊎ HasOtherPermissions a b)
+  IsAlikeStep a b = ((p : Tokens) × HasOtherPlainLines p a b) ⊎
+      (((p : Tokens) × HasOtherHiddenClass p a b) ⊎ HasOtherPermissions a b)
 
 -- the lines are those of a document in which no marking is bad
 pub record IsMarked (ls : List Line) : Type 0 where
@@ -106,4 +108,5 @@ pub record IsMarked (ls : List Line) : Type 0 where
 
 -- Of two reports that such a step joins the reader is told alike.
 abbrev pub AlikeIsToldAlike : Type 0
-AlikeIsToldAlike = (s : Standing) (a b : Report) → IsMarked a.lines → IsMarked b.lines → IsAlikeStep s a b → IsToldAlike s a b
+AlikeIsToldAlike = (s : Standing) (a b : Report) → IsMarked a.lines → IsMarked b.lines → IsAlikeStep s a b →
+    IsToldAlike s a b

@@ -23,14 +23,14 @@ pub record Verdicts : Type 0 where
   -- the rule that hides it where it isn't visible
   pub rule : Tokens → Rule
 
--- e may not stand in front of x in an outline: e doesn't lie below x's class, or is a member of a later name there
-abbrev pub comes_after : Line → Line → Bool
-comes_after x e = nat_lt e.depth x.depth || ((e.depth == x.depth) && bytes_lt x.name e.name)
+-- x stands before e in an outline, behind the line of x's class: e isn't in that class, or is a member of it of a later name
+abbrev pub stands_before : Line → Line → Bool
+stands_before x e = nat_lt e.depth x.depth || ((e.depth == x.depth) && bytes_lt x.name e.name)
 
 -- a member's line at its place in name order, among the lines behind that of its class
 abbrev pub put : Line → List Line → List Line
 put x [] = x ∷ []
-put x (e ∷ es) = if comes_after x e then x ∷ e ∷ es else e ∷ put x es
+put x (e ∷ es) = if stands_before x e then x ∷ e ∷ es else e ∷ put x es
 
 abbrev pub put_all : List Line → List Line → List Line
 put_all [] es = es

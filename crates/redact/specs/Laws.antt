@@ -22,7 +22,8 @@ ListedIsServed = (ls : List Line) (c : Case) (s : Standing) → is_listed ls c s
 
 -- an incident in which a search finds something is listed
 abbrev pub FoundIsListed : Type 0
-FoundIsListed = (ls : List Line) (c : Case) (s : Standing) (needle : Bytes) (name : Option Bytes) → finds ls c s needle name ≡ true → is_listed ls c s ≡ true
+FoundIsListed = (ls : List Line) (c : Case) (s : Standing) (needle : Bytes) (name : Option Bytes) →
+    finds ls c s needle name ≡ true → is_listed ls c s ≡ true
 
 -- the class lines of the kept outline are those of the kept classes, in their order: so each kept class has its place
 abbrev pub KeptClassesStay : Type 0
@@ -54,10 +55,14 @@ is_shown (Hidden r) = false
 -- hides it is told.
 pub record VerdictIsServed (ls : List Line) (c : Case) (s : Standing) (e : LocatedLine) : Type 0 where
   pub shown : is_shown (verdict_of (located ls) c s e.path) ≡ is_visible (located ls) c s e.path
-  pub hidden : (r : Rule) → verdict_of (located ls) c s e.path ≡ Hidden r → r ≡ (verdicts_of (located ls) c s).rule e.path
+  pub hidden : (r : Rule) → verdict_of (located ls) c s e.path ≡ Hidden r →
+      r ≡ (verdicts_of (located ls) c s).rule e.path
   pub served : is_visible (located ls) c s e.path ≡ true → is_some (excerpt_of ls c s) ≡ true
   pub frame : is_frame (verdicts_of (located ls) c s) e.path ≡ true →
-      IsSomeAnd (excerpt_of ls c s) (λ t. IsSomeAnd (excerpt_place ls c s e.path) (λ q. Contains t.withheld (q, (verdicts_of (located ls) c s).rule e.path)))
+      IsSomeAnd (excerpt_of ls c s) (λ t.
+      IsSomeAnd (excerpt_place ls c s e.path) (λ q.
+      Contains t.withheld (q, (verdicts_of (located ls) c s).rule e.path)))
 
 abbrev pub VerdictsAreServed : Type 0
-VerdictsAreServed = (ls : List Line) (c : Case) (s : Standing) (e : LocatedLine) → Contains (located ls) e → is_class e ≡ true → VerdictIsServed ls c s e
+VerdictsAreServed = (ls : List Line) (c : Case) (s : Standing) (e : LocatedLine) → Contains (located ls) e →
+    is_class e ≡ true → VerdictIsServed ls c s e

@@ -92,21 +92,21 @@ abbrev pub closed_to : ℕ → Markings → Markings
 closed_to n m = record { classes = take n m.classes; broken = m.broken || not (list_all is_fine (drop n m.classes)) }
 
 -- the innermost holds a line
-abbrev pub holding : Line → List Marking → List Marking
-holding l [] = []
-holding l (x ∷ []) = held_with l x ∷ []
-holding l (x ∷ y ∷ xs) = x ∷ holding l (y ∷ xs)
+abbrev pub innermost_held_with : Line → List Marking → List Marking
+innermost_held_with l [] = []
+innermost_held_with l (x ∷ []) = held_with l x ∷ []
+innermost_held_with l (x ∷ y ∷ xs) = x ∷ innermost_held_with l (y ∷ xs)
 
-abbrev pub opened : Line → List Marking → List Marking
-opened l xs = if is_class_kind l.kind then xs ++ no_marking ∷ [] else xs
+abbrev pub with_opened_marking : Line → List Marking → List Marking
+with_opened_marking l xs = if is_class_kind l.kind then xs ++ no_marking ∷ [] else xs
 
 -- with a line more
-abbrev pub noted : Markings → Line → Markings
-noted m l = let k = closed_to (l.depth - 1) m in record { classes = opened l (holding l k.classes); broken = k.broken }
+abbrev pub with_marked_line : Markings → Line → Markings
+with_marked_line m l = let k = closed_to (l.depth - 1) m in record { classes = with_opened_marking l (innermost_held_with l k.classes); broken = k.broken }
 
-abbrev pub noted_from : Markings → List Line → Markings
-noted_from m [] = m
-noted_from m (l ∷ ls) = noted_from (noted m l) ls
+abbrev pub with_marked_lines : Markings → List Line → Markings
+with_marked_lines m [] = m
+with_marked_lines m (l ∷ ls) = with_marked_lines (with_marked_line m l) ls
 
 -- the rule is kept in all classes, if no line comes any more
 abbrev pub is_accepted : Markings → Bool
@@ -114,4 +114,5 @@ is_accepted m = not m.broken && list_all is_fine m.classes
 
 -- what was noted of the lines of an outline tells whether the marking rule is kept
 abbrev pub NotedIsAccepted : Type 0
-NotedIsAccepted = (ls : List Line) → is_outline ls ≡ true → is_accepted (noted_from none_noted ls) ≡ not (is_some (first_bad_marking (located ls)))
+NotedIsAccepted = (ls : List Line) → is_outline ls ≡ true →
+    is_accepted (with_marked_lines none_noted ls) ≡ not (is_some (first_bad_marking (located ls)))

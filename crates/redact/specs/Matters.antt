@@ -28,7 +28,8 @@ module _ (c : Case) (s : Standing) where
 pub record TellsAsMuch (ls : List Line) (c : Case) (s : Standing) : Type 0 where
   pub excerpt : excerpt_of ls c s ≡ excerpt_of (lines_that_matter c s ls) c s
   pub marked : first_bad_marking (located ls) ≡ None → first_bad_marking (located (lines_that_matter c s ls)) ≡ None
-  pub labels : (excerpt : List Line) → LabelsSurvive (lines_that_matter c s ls) c s excerpt → LabelsSurvive ls c s excerpt
+  pub labels : (excerpt : List Line) → LabelsSurvive (lines_that_matter c s ls) c s excerpt →
+      LabelsSurvive ls c s excerpt
 
 abbrev pub WhatMattersIsTold : Type 0
 WhatMattersIsTold = (ls : List Line) (c : Case) (s : Standing) → TellsAsMuch ls c s

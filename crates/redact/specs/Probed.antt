@@ -15,7 +15,8 @@ use Rattle.redact.specs.declared.want.Want.{Want}
 
 -- this holds of each outline that begins with these lines, if its markings are accepted
 abbrev pub InEach : List Line → (List Line → Type 0) → Type 0
-InEach ls P = (more : List Line) → is_outline (ls ++ more) ≡ true → first_bad_marking (located (ls ++ more)) ≡ None → P (ls ++ more)
+InEach ls P = (more : List Line) → is_outline (ls ++ more) ≡ true →
+    first_bad_marking (located (ls ++ more)) ≡ None → P (ls ++ more)
 
 -- whatever lines come behind these, the want is met
 abbrev pub IsSure : Want → List Line → Case → Standing → Type 0

@@ -16,7 +16,7 @@ use Rattle.policy.specs.declared.gate.Gate.{Gate}
 use Rattle.policy.specs.declared.standing.Standing.{Standing}
 use Rattle.policy.specs.declared.case.Case.{Case}
 use Rattle.redact.specs.Matters.{is_refused, lines_that_matter}
-use Rattle.redact.specs.Marked.{marks_of, none_noted, noted_from}
+use Rattle.redact.specs.Marked.{marks_of, none_noted, with_marked_lines}
 use Rattle.redact.specs.declared.marks.Marks.{Marks}
 use Rattle.redact.specs.declared.way.Step.{Step}
 use Rattle.redact.specs.declared.sieve.Sieve.{Sieve}
@@ -57,7 +57,9 @@ stops r p s g = stands p s g.path && is_some (refusal_of_gate r g)
 
 -- a line is that of a class at which a gate refuses the reader, who isn't of the source
 abbrev pub is_stopped : Case → Standing → List Step → Line → Bool
-is_stopped c r ss l = is_class_kind l.kind && (not r.source && list_any (stops r (way (take (l.depth - 1) ss)) (step_of ss l)) c.gates)
+is_stopped c r ss l =
+    is_class_kind l.kind
+    && (not r.source && list_any (stops r (way (take (l.depth - 1) ss)) (step_of ss l)) c.gates)
 
 -- lines behind others, the newest first, each with its path
 abbrev pub located_onto : List LocatedLine → List Line → List LocatedLine
@@ -85,7 +87,8 @@ pub record Leads (before : List LocatedLine) (ss : List Step) : Type 0 where
   pub deep : deepest (lines_of before) ≤ suc (length ss)
   pub parent : (k : ℕ) → k ≤ length ss → parent_path before (suc k) ≡ way (take k ss)
   pub newest : (k : ℕ) → k ≤ length ss → last_sibling (suc k) (lines_of before) ≡ sibling_at (slice_get ss k)
-  pub place : (k : ℕ) (name : Bytes) → k ≤ length ss → is_behind (slice_get ss k) name ≡ true → place_among before (suc k) name ≡ next_place (slice_get ss k) name
+  pub place : (k : ℕ) (name : Bytes) → k ≤ length ss → is_behind (slice_get ss k) name ≡ true →
+      place_among before (suc k) name ≡ next_place (slice_get ss k) name
 
 -- the steps lead to the newest of these lines
 pub record Tracks (ls : List Line) (ss : List Step) : Type 0 where
@@ -122,7 +125,8 @@ module _ (gone : Tokens → Bool) where
   pub record Reach (before : List LocatedLine) (o : Option ℕ) : Type 0 where
     pub beyond : (d : ℕ) → d ≤ deepest (lines_of before) → gone (parent_path before d) ≡ is_beyond o d
     pub deep : DeepAs o (lines_of before) (lines_of (filter stays before))
-    pub siblings : (d : ℕ) → d ≤ deepest (lines_of before) → is_beyond o d ≡ false → last_sibling d (lines_of (filter stays before)) ≡ last_sibling d (lines_of before)
+    pub siblings : (d : ℕ) → d ≤ deepest (lines_of before) → is_beyond o d ≡ false →
+        last_sibling d (lines_of (filter stays before)) ≡ last_sibling d (lines_of before)
     pub count : counted (lines_of (filter stays before)) ≤ counted (lines_of before)
     pub outline : is_outline_back (lines_of (filter stays before)) ≡ true
 
@@ -135,5 +139,5 @@ pub record Sifts (c : Case) (s : Standing) (ls : List Line) (v : Sieve) : Type 0
 
 pub record Knows (c : Case) (s : Standing) (ls : List Line) (shape : Shape) (marks : Marks) (v : Sieve) : Type 0 where
   pub shows : Shows shape (back ls)
-  pub marked : marks_of marks ≡ noted_from none_noted ls
+  pub marked : marks_of marks ≡ with_marked_lines none_noted ls
   pub sifts : Sifts c s ls v

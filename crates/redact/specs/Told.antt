@@ -114,4 +114,6 @@ module _ (ls : List Line) (c : Case) (s : Standing) where
 
   -- a visible class, of this name if one is given, directly holds a text that contains the needle
   abbrev pub finds : Bytes → Option Bytes → Bool
-  finds needle name = list_any (λ e. is_seen_class e && (is_named name e.line.name && holds_needle (located ls) needle e.path)) (located ls)
+  finds needle name =
+      list_any (λ e. is_seen_class e && (is_named name e.line.name && holds_needle (located ls) needle e.path))
+      (located ls)

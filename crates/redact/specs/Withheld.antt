@@ -44,7 +44,8 @@ module _ (v : Verdicts) (place : Tokens → Option Tokens) where
   withheld_at e =
       if not (is_class e) then []
       else if is_frame v e.path then told_at_place (place e.path) (v.rule e.path)
-      else if is_wholly_hidden v e.path && not (is_wholly_hidden v e.parent) then told_at_place (place e.parent) (v.rule e.path)
+      else if is_wholly_hidden v e.path && not (is_wholly_hidden v e.parent)
+      then told_at_place (place e.parent) (v.rule e.path)
       else []
 
   -- of each class, in stored order, and with repeats

@@ -18,8 +18,11 @@ use std::alloc::{AllocError, Global};
 fn place_for(members: &[(Text, Member)], name: &str) -> usize
     requires { AllByRecursion (λ m. IsMemberFilled m.1) members.now }
     ensures within { result ≤ length members.now }
-    ensures splits { (text : List ℕ) → put_leaf (attribute_leaf (name.now, text)) (members_forest members.now)
-        ≡ forest_of_members (map named (take result members.now) ++ (name.now, saying text) ∷ map named (drop result members.now)) }
+    ensures splits { (text : List ℕ) →
+        put_leaf (attribute_leaf (name.now, text)) (members_forest members.now)
+        ≡ forest_of_members
+        (map named (take result members.now) ++
+        (name.now, saying text) ∷ map named (drop result members.now)) }
 {
     for (i, (own, _)) in members.iter().enumerate() {
         if name < own.as_str() {
@@ -36,7 +39,8 @@ fn with_attribute(
     text: &str,
 ) -> Result<Object, AllocError>
     requires { IsFilled object }
-    ensures put { IfOk result (λ o. forest o ≡ put_leaf (attribute_leaf (name.now, text.now)) (forest object)) }
+    ensures put { IfOk result (λ o.
+        forest o ≡ put_leaf (attribute_leaf (name.now, text.now)) (forest object)) }
     ensures filled { IfOk result (λ o. IsFilled o) }
 {
     let mut members = object.members;
@@ -57,9 +61,10 @@ fn ext_restriction<'a>(label: Label<'a>) -> Option<&'a str>
 }
 
 /// The members with a label.
-pub fn labelled(alloc: Global, object: Object, label: Label<'_>) -> Result<Object, AllocError>
+pub fn put_label(alloc: Global, object: Object, label: Label<'_>) -> Result<Object, AllocError>
     requires { IsFilled object }
-    ensures put { IfOk result (λ o. forest o ≡ put_attributes (attributes_of (marking_of label.entry)) (forest object)) }
+    ensures put { IfOk result (λ o.
+        forest o ≡ put_attributes (attributes_of (marking_of label.entry)) (forest object)) }
     ensures filled { IfOk result (λ o. IsFilled o) }
 {
     let object = with_attribute(alloc, object, "restriction", label.restriction())?;

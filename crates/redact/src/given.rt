@@ -17,8 +17,8 @@ use std::mem::replace;
 
 /// What a reader may see of an incident: its visible classes with their plain members, the classes that hold such ones
 /// bare, and the header. A visible class whose label would not show any more says it itself. `None` exactly where no
-/// class is visible. The markings of the document were accepted by `check`. So are those of the excerpt, and the label of
-/// each visible class is still the same.
+/// class is visible. The markings of the document were accepted by `check`; it accepts those of the excerpt, too, and the label
+/// of each visible class is still the same.
 pub fn excerpt<'a>(
     alloc: Global,
     document: &'a Document,
@@ -26,9 +26,12 @@ pub fn excerpt<'a>(
     standing: &'a Standing,
 ) -> Result<Option<Excerpt>, AllocError>
     requires { first_bad_marking (located document.now) ≡ None }
-    ensures told { IfOk result (λ r. option_map told_by r ≡ excerpt_of document.now case.now standing.entry.now) }
-    ensures checked { IfOk result (λ r. IfSome r (λ e. first_bad_marking (located e.document) ≡ None)) }
-    ensures labels { IfOk result (λ r. IfSome r (λ e. LabelsSurvive document.now case.now standing.entry.now e.document)) }
+    ensures told { IfOk result (λ r.
+        option_map told_by r ≡ excerpt_of document.now case.now standing.entry.now) }
+    ensures checked { IfOk result (λ r.
+        IfSome r (λ e. first_bad_marking (located e.document) ≡ None)) }
+    ensures labels { IfOk result (λ r.
+        IfSome r (λ e. LabelsSurvive document.now case.now standing.entry.now e.document)) }
 {
     let reader = Reader { case, standing };
     let mut state = State {

@@ -10,7 +10,7 @@
 //! - `note`: what is withheld, as it is noted; `sorted_withheld`: the same in order;
 //! - `search`: [`finds`] and [`is_listed`]; `want`: [`meets`], one or the other by a [`Want`];
 //! - `rows`: [`RowPass`], an excerpt by lines that come one at a time: `marks`, whether their markings are accepted; `sieve`,
-//!   those of them that matter, by the `way` to each and the gates that are `refusing` there; `fed`, all of them, for the
+//!   those of them that matter, by the `way` to each and the gates that are `refusing` there (`permitting`, the permissions); `fed`, all of them, for the
 //!   clauses alone; `building`, the document of those that are kept;
 //! - `probe`: [`Probe`], a search of such lines: `seeking`, what is sure of the classes that may still get lines;
 //! - [`laws`]: what excerpts and searches promise; [`examples`], the definitions computed on small reports.

@@ -2,7 +2,8 @@
 
 ghost use Rattle.std.specs.Prelude.{◌≡◌, OnOk};
 ghost use Rattle.std.specs.List.{list_all};
-ghost use Rattle.redact.specs.Marked.{brief_text, brief, extension_brief, no_marking, restriction_with as with_restriction, extension_with as with_extension, held_with, is_fine as is_rule_kept, marks_of, none_noted, closed_to, holding, opened, noted, is_accepted};
+ghost use Rattle.redact.specs.Marked.{brief_text, brief, extension_brief, no_marking, held_with, marks_of, none_noted, closed_to, innermost_held_with, with_opened_marking, with_marked_line, is_accepted};
+ghost use Rattle.redact.specs.Marked as spec;
 
 use iodef_tree::{Kind, Line};
 use marking::Label;
@@ -42,7 +43,7 @@ pub(crate) struct Marks {
 }
 
 /// What a text as `restriction` comes to.
-fn spelled(text: &str) -> Restriction
+fn restriction_in(text: &str) -> Restriction
     ensures { result ≡ brief_text text.now }
 {
     if Label::of(text, None).is_some() {
@@ -59,7 +60,7 @@ fn restriction_by(line: &Line) -> Restriction
     ensures { result ≡ brief line.now }
 {
     match line.kind {
-        Kind::Text if !line.in_array => spelled(line.text.as_str()),
+        Kind::Text if !line.in_array => restriction_in(line.text.as_str()),
         _ => Restriction::Other,
     }
 }
@@ -76,7 +77,7 @@ fn extension_by(line: &Line) -> Extension
 
 /// What is held as `restriction` with a member more: the first of the name says it.
 fn restriction_with(held: Restriction, line: &Line) -> Restriction
-    ensures { result ≡ with_restriction line.now held }
+    ensures { result ≡ spec.restriction_with line.now held }
 {
     if line.name.as_str() == "restriction" {
         return match held {
@@ -89,7 +90,7 @@ fn restriction_with(held: Restriction, line: &Line) -> Restriction
 
 /// What is held as `ext-restriction` with a member more.
 fn extension_with(held: Extension, line: &Line) -> Extension
-    ensures { result ≡ with_extension line.now held }
+    ensures { result ≡ spec.extension_with line.now held }
 {
     if line.name.as_str() == "ext-restriction" {
         return match held {
@@ -123,7 +124,7 @@ impl Marking {
 
     /// Whether the class keeps the marking rule, if nothing more comes.
     fn is_fine(self) -> bool
-        ensures { result ≡ is_rule_kept self }
+        ensures { result ≡ spec.is_fine self }
     {
         match (self.restriction, self.extension) {
             (Restriction::Absent, Extension::Absent) => true,
@@ -136,14 +137,14 @@ impl Marking {
 
 /// Whether each of these classes keeps the marking rule, if nothing more comes.
 fn are_fine(classes: &[Marking]) -> bool
-    ensures { result ≡ list_all is_rule_kept classes.now }
+    ensures { result ≡ list_all spec.is_fine classes.now }
 {
     classes.iter().all(|marking| marking.is_fine())
 }
 
 /// The innermost of these classes holds a line.
 fn hold(classes: &mut [Marking], line: &Line)
-    ensures { classes.new ≡ holding line.now classes.old }
+    ensures { classes.new ≡ innermost_held_with line.now classes.old }
 {
     if let Some(innermost) = classes.last_mut() {
         *innermost = innermost.with(line);
@@ -152,7 +153,7 @@ fn hold(classes: &mut [Marking], line: &Line)
 
 /// The class of a line, if it is one, is open behind these.
 fn open(classes: &mut Vec<Marking>, line: &Line) -> Result<(), AllocError>
-    ensures { OnOk result (classes.new.items ≡ opened line.now classes.old.items) }
+    ensures { OnOk result (classes.new.items ≡ with_opened_marking line.now classes.old.items) }
 {
     match line.kind {
         Kind::Class => classes.push(Marking::none())?,
@@ -184,7 +185,7 @@ impl Marks {
 
     /// With a line more.
     pub(crate) fn note(&mut self, line: &Line) -> Result<(), AllocError>
-        ensures { OnOk result (marks_of self.new ≡ noted (marks_of self.old) line.now) }
+        ensures { OnOk result (marks_of self.new ≡ with_marked_line (marks_of self.old) line.now) }
     {
         self.close_to((line.depth as usize).saturating_sub(1));
         hold(self.classes.as_mut_slice(), line);

@@ -44,7 +44,7 @@ impl<'a> Note<'a> {
     }
 
     /// The place as a JSON pointer.
-    pub fn printed(&self, alloc: Global) -> Result<String, AllocError>
+    pub fn print_place(&self, alloc: Global) -> Result<String, AllocError>
         ensures { IfOk result (λ s. string_bytes s ≡ pointer_text self.now.0) }
     {
         print(alloc, self.place.as_slice())

@@ -6,7 +6,8 @@ ghost use Rattle.iodef_tree.specs.View.{forest, bodies, body};
 ghost use Rattle.marking.specs.Members.{spelled_in};
 ghost use Rattle.marking.specs.Label.{marking_of};
 ghost use Rattle.redact.specs.Told.{attributes_of};
-ghost use Rattle.redact.specs.inner.Judged.{inside, is_end, put_attributes, with_label, keeps_plain as keeps, shows_label, cut as what_is_left, withheld_below, visible_classes};
+ghost use Rattle.redact.specs.inner.Judged.{inside, is_end, put_attributes, with_label, shows_label, withheld_below, visible_classes};
+ghost use Rattle.redact.specs.inner.Judged as spec;
 ghost use Rattle.redact.specs.inner.Pass.{judgment_by};
 ghost use Rattle.redact.specs.inner.Here.{carries, judged_for, LiesAhead};
 ghost use Rattle.iodef_tree.specs.Text.{Tokens};
@@ -18,7 +19,7 @@ ghost use Rattle.redact.specs.inner.Tokens.{token_of, path_of};
 ghost use Rattle.redact.specs.Withheld.{at_place};
 ghost use Rattle.redact.specs.inner.Left.{home_of, class_left, class_told, class_count, left_at, told_at, count_at, left_items, told_items, count_items, left_member, told_member, count_member, Goes, Tells, Leaves};
 
-use crate::attributes::labelled;
+use crate::attributes::put_label;
 use crate::note::{Note, add};
 use crate::reader::Reader;
 use crate::trail::Token;
@@ -49,7 +50,7 @@ pub struct State<'a> {
 }
 
 fn keeps_plain(home: Surrounding) -> bool
-    ensures { result ≡ keeps (home_of home) }
+    ensures { result ≡ spec.keeps_plain (home_of home) }
 {
     match home {
         Surrounding::Root => true,
@@ -69,7 +70,8 @@ fn shows(home: Surrounding) -> bool
 /// Whether a visible class has to say its label itself.
 fn needs_label(home: Surrounding, object: &Object) -> bool
     requires { IsFilled object.now }
-    ensures { result ≡ (is_none (spelled_in (forest object.now)) && not (shows_label (home_of home))) }
+    ensures { result ≡ (is_none (spelled_in (forest object.now)) &&
+        not (shows_label (home_of home))) }
 {
     written(object).is_none() && !shows(home)
 }
@@ -83,12 +85,14 @@ fn with_own_label(
     label: Label<'_>,
 ) -> Result<Object, AllocError>
     requires { IsFilled object.now × IsFilled kept }
-    ensures left { IfOk result (λ o. forest o ≡ (if is_none (spelled_in (forest object.now)) && not (shows_label (home_of home))
-        then put_attributes (attributes_of (marking_of label.entry)) (forest kept) else forest kept)) }
+    ensures left { IfOk result (λ o. forest o ≡
+        (if is_none (spelled_in (forest object.now)) && not (shows_label (home_of home))
+        then put_attributes (attributes_of (marking_of label.entry)) (forest kept)
+        else forest kept)) }
     ensures filled { IfOk result (λ o. IsFilled o) }
 {
     if needs_label(home, object) {
-        labelled(alloc, kept, label)
+        put_label(alloc, kept, label)
     } else {
         Ok(kept)
     }
@@ -119,7 +123,9 @@ fn push_member(
 
 /// What is left of a text or another value, which stands in its class.
 fn plain_left(home: Surrounding, item: &Item) -> Result<Option<Item>, AllocError>
-    ensures left { IfOk result (λ r. (c : Content) → body item.now ≡ says c → option_map body r ≡ (if keeps (home_of home) then Some (says c) else None)) }
+    ensures left { IfOk result (λ r.
+        (c : Content) → body item.now ≡ says c →
+        option_map body r ≡ (if spec.keeps_plain (home_of home) then Some (says c) else None)) }
     ensures filled { IfOk result (λ r. IfSome r (λ i. IsItemFilled i)) }
 {
     if !keeps_plain(home) {
@@ -134,7 +140,9 @@ fn plain_left(home: Surrounding, item: &Item) -> Result<Option<Item>, AllocError
 
 /// Takes back the rules that the class around this one had met, and tells those met in this one.
 fn tell_and_leave(state: &mut State<'_>, outside: Vec<Rule>) -> Result<(), AllocError>
-    ensures withheld { OnOk result (state.new.withheld.items ≡ state.old.withheld.items ++ at_place (path_of state.old.place.items) state.old.rules_met.items) }
+    ensures withheld { OnOk result (state.new.withheld.items ≡
+        state.old.withheld.items ++ at_place
+        (path_of state.old.place.items) state.old.rules_met.items) }
     ensures gone { OnOk result (state.new.rules_met.items ≡ outside.items) }
     ensures path { OnOk result (state.new.path.items ≡ state.old.path.items) }
     ensures place { OnOk result (state.new.place.items ≡ state.old.place.items) }
@@ -154,7 +162,8 @@ fn leave_hidden(
 ) -> Result<Option<Object>, AllocError>
     requires { IsFilled kept }
     ensures left { IfOk result (λ r. r ≡ (if is_end (forest kept) then None else Some kept)) }
-    ensures leaves { OnOk result (Leaves state.old state.new outside.items rule (is_end (forest kept))) }
+    ensures leaves { OnOk result (Leaves state.old state.new outside.items rule
+        (is_end (forest kept))) }
 {
     let mut gone = replace(&mut state.rules_met, outside);
     if kept.members.is_empty() {
@@ -180,13 +189,16 @@ impl<'a> Reader<'a> {
     ) -> Result<Object, AllocError>
         requires filled { IsFilled object.now }
         requires ahead { LiesAhead self.now state.old.path.items ahead.now }
-        ensures left { IfOk result (λ o. forest o ≡ what_is_left (home_of home) 0
+        ensures left { IfOk result (λ o. forest o ≡ spec.cut (home_of home) 0
             (judged_for self.now state.old.path.items above.entry (forest object.now))) }
         ensures filled { IfOk result (λ o. IsFilled o) }
         ensures goes { IfOk result (λ o.
             let judged = judged_for self.now state.old.path.items above.entry (forest object.now) in
-            Goes (path_of state.old.place.items) state.old state.new (withheld_below (home_of home) (path_of state.old.place.items) 0 judged) [] (visible_classes judged) 0) }
-        ensures quiet { IfOk result (λ o. length o.members.items ≡ 0 → state.new.withheld.items ≡ state.old.withheld.items) }
+            Goes (path_of state.old.place.items) state.old state.new
+            (withheld_below (home_of home) (path_of state.old.place.items) 0 judged) []
+            (visible_classes judged) 0) }
+        ensures quiet { IfOk result (λ o.
+            length o.members.items ≡ 0 → state.new.withheld.items ≡ state.old.withheld.items) }
     {
         let mut members = Vec::new(state.alloc);
         for (name, member) in &object.members {
@@ -209,13 +221,18 @@ impl<'a> Reader<'a> {
     ) -> Result<Option<Member>, AllocError>
         requires filled { IsMemberFilled member.now }
         requires ahead { LiesAhead self.now state.old.path.items ahead.now }
-        ensures left { IfOk result (λ r. option_map bodies r ≡ left_member self.now.case.now self.now.standing.now (home_of home)
+        ensures left { IfOk result (λ r. option_map bodies r ≡
+            left_member self.now.case.now self.now.standing.now (home_of home)
             (carries state.old.path.items above.entry) name.now (bodies member.now)) }
         ensures filled { IfOk result (λ r. IfSome r (λ m. IsMemberFilled m)) }
         ensures goes { IfOk result (λ r. Goes (path_of state.old.place.items) state.old state.new
-            (told_member self.now.case.now self.now.standing.now (home_of home) (carries state.old.path.items above.entry) (path_of state.old.place.items) name.now (bodies member.now)) []
-            (count_member self.now.case.now self.now.standing.now (carries state.old.path.items above.entry) name.now (bodies member.now)) 0) }
-        ensures quiet { IfOk result (λ r. r ≡ None → state.new.withheld.items ≡ state.old.withheld.items) }
+            (told_member self.now.case.now self.now.standing.now (home_of home)
+            (carries state.old.path.items above.entry) (path_of state.old.place.items) name.now
+            (bodies member.now)) []
+            (count_member self.now.case.now self.now.standing.now
+            (carries state.old.path.items above.entry) name.now (bodies member.now)) 0) }
+        ensures quiet { IfOk result (λ r. r ≡ None →
+            state.new.withheld.items ≡ state.old.withheld.items) }
     {
         match member {
             Member::One(item) => {
@@ -251,13 +268,19 @@ impl<'a> Reader<'a> {
     ) -> Result<Option<Member>, AllocError>
         requires filled { AllByRecursion IsItemFilled items.now.items }
         requires ahead { LiesAhead self.now state.old.path.items ahead.now }
-        ensures left { IfOk result (λ r. option_map bodies r ≡ left_member self.now.case.now self.now.standing.now (home_of home)
+        ensures left { IfOk result (λ r. option_map bodies r ≡
+            left_member self.now.case.now self.now.standing.now (home_of home)
             (carries state.old.path.items above.entry) name.now (many (map body items.now.items))) }
         ensures filled { IfOk result (λ r. IfSome r (λ m. IsMemberFilled m)) }
         ensures goes { IfOk result (λ r. Goes (path_of state.old.place.items) state.old state.new
-            (told_member self.now.case.now self.now.standing.now (home_of home) (carries state.old.path.items above.entry) (path_of state.old.place.items) name.now (many (map body items.now.items))) []
-            (count_member self.now.case.now self.now.standing.now (carries state.old.path.items above.entry) name.now (many (map body items.now.items))) 0) }
-        ensures quiet { IfOk result (λ r. r ≡ None → state.new.withheld.items ≡ state.old.withheld.items) }
+            (told_member self.now.case.now self.now.standing.now (home_of home)
+            (carries state.old.path.items above.entry) (path_of state.old.place.items) name.now
+            (many (map body items.now.items))) []
+            (count_member self.now.case.now self.now.standing.now
+            (carries state.old.path.items above.entry) name.now
+            (many (map body items.now.items))) 0) }
+        ensures quiet { IfOk result (λ r. r ≡ None →
+            state.new.withheld.items ≡ state.old.withheld.items) }
     {
         let base = state.place.len();
         let inside = self.step(state.alloc, &mut state.path, ahead, Token::Name(name))?;
@@ -286,14 +309,20 @@ impl<'a> Reader<'a> {
         requires base { base ≤ length state.old.place.items }
         requires filled { AllByRecursion IsItemFilled items.now.items }
         requires ahead { LiesAhead self.now state.old.path.items ahead.now }
-        ensures left { IfOk result (λ v. map body v.items ≡ left_items self.now.case.now self.now.standing.now (home_of home)
+        ensures left { IfOk result (λ v. map body v.items ≡
+            left_items self.now.case.now self.now.standing.now (home_of home)
             (carries state.old.path.items array.entry) 0 (map body items.now.items)) }
         ensures filled { IfOk result (λ v. AllByRecursion IsItemFilled v.items) }
-        ensures goes { IfOk result (λ v. Goes (path_of (take base state.old.place.items)) state.old state.new
-            (told_items self.now.case.now self.now.standing.now (home_of home) (carries state.old.path.items array.entry)
-            (path_of (take base state.old.place.items)) (path_of state.old.place.items) 0 0 (map body items.now.items)) []
-            (count_items self.now.case.now self.now.standing.now (carries state.old.path.items array.entry) 0 (map body items.now.items)) 0) }
-        ensures quiet { IfOk result (λ v. length v.items ≡ 0 → state.new.withheld.items ≡ state.old.withheld.items) }
+        ensures goes { IfOk result (λ v.
+            Goes (path_of (take base state.old.place.items)) state.old state.new
+            (told_items self.now.case.now self.now.standing.now (home_of home)
+            (carries state.old.path.items array.entry)
+            (path_of (take base state.old.place.items)) (path_of state.old.place.items) 0 0
+            (map body items.now.items)) []
+            (count_items self.now.case.now self.now.standing.now
+            (carries state.old.path.items array.entry) 0 (map body items.now.items)) 0) }
+        ensures quiet { IfOk result (λ v.
+            length v.items ≡ 0 → state.new.withheld.items ≡ state.old.withheld.items) }
     {
         let mut kept = Vec::new(state.alloc);
         for (i, item) in items.iter().enumerate() {
@@ -330,14 +359,21 @@ impl<'a> Reader<'a> {
         requires base { base ≤ length state.old.place.items }
         requires filled { IsItemFilled item.now }
         requires ahead { LiesAhead self.now state.old.path.items ahead.now }
-        ensures left { IfOk result (λ r. option_map body r ≡ left_at self.now.case.now self.now.standing.now (home_of home)
+        ensures left { IfOk result (λ r. option_map body r ≡
+            left_at self.now.case.now self.now.standing.now (home_of home)
             (carries state.old.path.items door.entry) (token_of token.entry) (body item.now)) }
         ensures filled { IfOk result (λ r. IfSome r (λ i. IsItemFilled i)) }
-        ensures goes { IfOk result (λ r. Goes (path_of (take base state.old.place.items)) state.old state.new
-            (told_at self.now.case.now self.now.standing.now (carries state.old.path.items door.entry)
-            (path_of (take base state.old.place.items)) (path_of (state.old.place.items ++ place.entry ∷ [])) (token_of token.entry) (body item.now)) []
-            (count_at self.now.case.now self.now.standing.now (carries state.old.path.items door.entry) (token_of token.entry) (body item.now)) 0) }
-        ensures quiet { IfOk result (λ r. r ≡ None → state.new.withheld.items ≡ state.old.withheld.items) }
+        ensures goes { IfOk result (λ r.
+            Goes (path_of (take base state.old.place.items)) state.old state.new
+            (told_at self.now.case.now self.now.standing.now
+            (carries state.old.path.items door.entry)
+            (path_of (take base state.old.place.items))
+            (path_of (state.old.place.items ++ place.entry ∷ [])) (token_of token.entry)
+            (body item.now)) []
+            (count_at self.now.case.now self.now.standing.now
+            (carries state.old.path.items door.entry) (token_of token.entry) (body item.now)) 0) }
+        ensures quiet { IfOk result (λ r. r ≡ None →
+            state.new.withheld.items ≡ state.old.withheld.items) }
     {
         match item {
             Item::Class(object) => {
@@ -369,15 +405,23 @@ impl<'a> Reader<'a> {
         requires ahead { LiesAhead self.now state.old.path.items ahead.now }
         ensures left { IfOk result (λ r. option_map forest r ≡ (
             let k = carries state.old.path.items at.entry in
-            class_left self.now.case.now self.now.standing.now (home_of home) (judgment_by self.now.case.now self.now.standing.now k (spelled_in (forest object.now))) (judged_for self.now state.old.path.items at.entry (forest object.now)))) }
+            class_left self.now.case.now self.now.standing.now (home_of home)
+            (judgment_by self.now.case.now self.now.standing.now k
+            (spelled_in (forest object.now)))
+            (judged_for self.now state.old.path.items at.entry (forest object.now)))) }
         ensures filled { IfOk result (λ r. IfSome r (λ o. IsFilled o)) }
         ensures goes { IfOk result (λ r.
             let k = carries state.old.path.items at.entry in
             let judged = judged_for self.now state.old.path.items at.entry (forest object.now) in
-            let j = judgment_by self.now.case.now self.now.standing.now k (spelled_in (forest object.now)) in
-            Goes (path_of (take base state.old.place.items)) state.old state.new (class_told self.now.case.now self.now.standing.now (path_of (take base state.old.place.items)) (path_of state.old.place.items) j judged) []
+            let label = spelled_in (forest object.now) in
+            let j = judgment_by self.now.case.now self.now.standing.now k label in
+            Goes (path_of (take base state.old.place.items)) state.old state.new
+            (class_told self.now.case.now self.now.standing.now
+            (path_of (take base state.old.place.items))
+            (path_of state.old.place.items) j judged) []
             (class_count self.now.case.now self.now.standing.now j judged) 0) }
-        ensures quiet { IfOk result (λ r. r ≡ None → state.new.withheld.items ≡ state.old.withheld.items) }
+        ensures quiet { IfOk result (λ r. r ≡ None →
+            state.new.withheld.items ≡ state.old.withheld.items) }
     {
         if self.sees(at) {
             let kept = self.cut_seen(state, home, ahead, at, object)?;
@@ -401,13 +445,18 @@ impl<'a> Reader<'a> {
         requires ahead { LiesAhead self.now state.old.path.items ahead.now }
         ensures left { IfOk result (λ o. forest o ≡ (
             let k = carries state.old.path.items at.entry in
-            with_label (home_of home) (judgment_by self.now.case.now self.now.standing.now k (spelled_in (forest object.now)))
-            (what_is_left (inside true) 0 (judged_for self.now state.old.path.items at.entry (forest object.now))))) }
+            with_label (home_of home)
+            (judgment_by self.now.case.now self.now.standing.now k
+            (spelled_in (forest object.now)))
+            (spec.cut (inside true) 0
+            (judged_for self.now state.old.path.items at.entry (forest object.now))))) }
         ensures filled { IfOk result (λ o. IsFilled o) }
         ensures goes { IfOk result (λ o.
             let k = carries state.old.path.items at.entry in
             let judged = judged_for self.now state.old.path.items at.entry (forest object.now) in
-            (q : Tokens) → Goes q state.old state.new (withheld_below (inside true) (path_of state.old.place.items) 0 judged) [] (1 + visible_classes judged) 0) }
+            (q : Tokens) → Goes q state.old state.new
+            (withheld_below (inside true) (path_of state.old.place.items) 0 judged) []
+            (1 + visible_classes judged) 0) }
     {
         state.classes = state.classes.saturating_add(1);
         let outside = replace(&mut state.rules_met, Vec::new(state.alloc));
@@ -430,16 +479,21 @@ impl<'a> Reader<'a> {
         requires filled { IsFilled object.now }
         requires ahead { LiesAhead self.now state.old.path.items ahead.now }
         ensures left { IfOk result (λ r. option_map forest r ≡ (
-            let inner = what_is_left (inside false) 0 (judged_for self.now state.old.path.items at.entry (forest object.now)) in
+            let judged = judged_for self.now state.old.path.items at.entry (forest object.now) in
+            let inner = spec.cut (inside false) 0 judged in
             if is_end inner then None else Some inner)) }
         ensures filled { IfOk result (λ r. IfSome r (λ o. IsFilled o)) }
         ensures goes { IfOk result (λ r.
             let k = carries state.old.path.items at.entry in
             let judged = judged_for self.now state.old.path.items at.entry (forest object.now) in
-            Goes (path_of (take base state.old.place.items)) state.old state.new (if is_end (what_is_left (inside false) 0 judged) then (path_of (take base state.old.place.items), hides self.now.standing.now k) ∷ []
-            else (path_of state.old.place.items, hides self.now.standing.now k) ∷ withheld_below (inside false) (path_of state.old.place.items) 0 judged) []
+            Goes (path_of (take base state.old.place.items)) state.old state.new
+            (if is_end (spec.cut (inside false) 0 judged) then
+            (path_of (take base state.old.place.items), hides self.now.standing.now k) ∷ []
+            else (path_of state.old.place.items, hides self.now.standing.now k) ∷
+            withheld_below (inside false) (path_of state.old.place.items) 0 judged) []
             (visible_classes judged) 0) }
-        ensures quiet { IfOk result (λ r. r ≡ None → state.new.withheld.items ≡ state.old.withheld.items) }
+        ensures quiet { IfOk result (λ r. r ≡ None →
+            state.new.withheld.items ≡ state.old.withheld.items) }
     {
         let rule = self.hides(at);
         let outside = replace(&mut state.rules_met, Vec::new(state.alloc));

@@ -4,7 +4,7 @@ ghost use Rattle.std.specs.Prelude.{◌≡◌};
 ghost use Rattle.std.specs.List.{list_any};
 ghost use Rattle.policy.specs.Laws.{refuses_on as is_refusing_on};
 ghost use Rattle.redact.specs.Sifted.{way};
-ghost use Rattle.redact.specs.inner.Seeking.{permits as is_permitting, some_permits as is_some_permitting, is_permitted as is_permitted_at};
+ghost use Rattle.redact.specs.inner.Seeking as spec;
 
 use crate::refusing::is_at;
 use crate::way::Step;
@@ -30,14 +30,14 @@ fn is_refused(case: &Case, standing: &Standing, path: &Path) -> bool
 
 /// Whether the permission holds for the reader, and no gate where it stands or above refuses the reader.
 fn permits(case: &Case, standing: &Standing, permission: &Permission) -> bool
-    ensures { result ≡ is_permitting case.now standing.entry.now permission.now }
+    ensures { result ≡ spec.permits case.now standing.entry.now permission.now }
 {
     holds_for(standing, permission) && !is_refused(case, standing, &permission.path)
 }
 
 /// Whether there is such a permission.
 pub(crate) fn some_permits(case: &Case, standing: &Standing) -> bool
-    ensures { result ≡ is_some_permitting case.now standing.entry.now }
+    ensures { result ≡ spec.some_permits case.now standing.entry.now }
 {
     case.permissions
         .as_slice()
@@ -47,7 +47,7 @@ pub(crate) fn some_permits(case: &Case, standing: &Standing) -> bool
 
 /// Whether one stands where the steps lead. The path is looked at first: it mostly differs.
 pub(crate) fn is_permitted(case: &Case, standing: &Standing, steps: &[Step]) -> bool
-    ensures { result ≡ is_permitted_at case.now standing.entry.now (way steps.now) }
+    ensures { result ≡ spec.is_permitted case.now standing.entry.now (way steps.now) }
 {
     case.permissions.as_slice().iter().any(|permission| {
         is_at(permission.path.tokens(), steps) && permits(case, standing, permission)

@@ -4,7 +4,7 @@ ghost use Rattle.std.specs.Prelude.{◌≡◌, true, None, Err, IfOk, IfErr, IfS
 ghost use Rattle.iodef_tree.specs.Paths.{located};
 ghost use Rattle.iodef_tree.specs.declared.fault.OutlineFault.TheVariants.{NoMemory};
 ghost use Rattle.marking.specs.Marks.{first_bad_marking};
-ghost use Rattle.redact.specs.Wants.{meets as is_met};
+ghost use Rattle.redact.specs.Wants as spec;
 ghost use Rattle.redact.specs.Probed.{ProbesLine};
 
 use crate::building::document_of;
@@ -37,9 +37,18 @@ impl Model for Probe {
 
     ghost Value = { ProbeState };
 
-    ghost view = { λ p. record { case = p.case; standing = p.standing; want = p.want; fed = record { lines = p.fed.lines; fault = p.fault }; met = p.met } };
+    ghost view = { λ p.
+        record {
+          case = p.case;
+          standing = p.standing;
+          want = p.want;
+          fed = record { lines = p.fed.lines; fault = p.fault };
+          met = p.met;
+        } };
 
-    ghost invariant = { λ p. (p.met ≡ true → IsSure p.want p.fed.lines p.case p.standing) × (p.fault ≡ None → IsKnown p.want p.case p.standing p.fed.lines p.met p.seeker) };
+    ghost invariant = { λ p.
+        (p.met ≡ true → IsSure p.want p.fed.lines p.case p.standing) ×
+        (p.fault ≡ None → IsKnown p.want p.case p.standing p.fed.lines p.met p.seeker) };
 }
 
 impl Probe {
@@ -52,7 +61,14 @@ impl Probe {
         standing: Standing,
         want: Want,
     ) -> Result<Probe, AllocError>
-        ensures { IfOk result (λ p. p ≡ record { case = case; standing = standing; want = want; fed = record { lines = []; fault = None }; met = false }) }
+        ensures { IfOk result (λ p. p ≡
+            record {
+              case = case;
+              standing = standing;
+              want = want;
+              fed = record { lines = []; fault = None };
+              met = false;
+            }) }
     {
         let seeker = Seeker::new(alloc, &case, &standing);
         Ok(Probe {
@@ -97,7 +113,8 @@ impl Probe {
     /// aren't accepted.
     pub fn finish(self) -> Result<bool, OutlineFault>
         ensures ended { IfSome self.fed.fault (λ f. result ≡ Err f) }
-        ensures told { self.fed.fault ≡ None → first_bad_marking (located self.fed.lines) ≡ None → IfOk result (λ b. b ≡ is_met self.want self.fed.lines self.case self.standing) }
+        ensures told { self.fed.fault ≡ None → first_bad_marking (located self.fed.lines) ≡ None →
+            IfOk result (λ b. b ≡ spec.meets self.want self.fed.lines self.case self.standing) }
         ensures stays { self.fed.fault ≡ None → self.met ≡ true → IfOk result (λ b. b ≡ true) }
         ensures memory { self.fed.fault ≡ None → IfErr result (λ f. f ≡ NoMemory) }
     {

@@ -3,10 +3,11 @@
 ghost use Rattle.std.specs.Prelude.{◌≡◌, ◌++◌, ◌∷◌, [], IfOk, OnOk, option_map};
 ghost use Rattle.marking.specs.Label.{marking_of};
 ghost use Rattle.policy.specs.Ahead.{ahead_of, met_by};
-ghost use Rattle.policy.specs.Inherited.{carried, at_root as at_the_root, array_step, class_step, is_seen, hides as hides_by};
+ghost use Rattle.policy.specs.Inherited.{carried, array_step, class_step, is_seen};
+ghost use Rattle.policy.specs.Inherited as spec;
 ghost use Rattle.iodef_tree.specs.Text.{Tokens};
-ghost use Rattle.policy.specs.declared.standing.Standing.{Standing as Asking};
-ghost use Rattle.policy.specs.declared.case.Case.{Case as Judged};
+ghost use Rattle.policy.specs.declared.standing.Standing.{Standing as TheStanding};
+ghost use Rattle.policy.specs.declared.case.Case.{Case as TheCase};
 ghost use Rattle.redact.specs.inner.Here.{carries, LiesAhead};
 ghost use Rattle.redact.specs.inner.Tokens.{token_of, path_of};
 
@@ -25,7 +26,8 @@ pub struct Reader<'a> {
 impl<'a> Reader<'a> {
     /// What lies ahead at the root.
     pub fn ahead(&self, alloc: Global) -> Result<Ahead<'a>, AllocError>
-        ensures { IfOk result (λ a. met_by a ≡ ahead_of self.now.case.now self.now.standing.now []) }
+        ensures { IfOk result (λ a. met_by a ≡
+            ahead_of self.now.case.now self.now.standing.now []) }
     {
         Ahead::at_root(alloc, self.case, self.standing)
     }
@@ -49,7 +51,7 @@ impl<'a> Reader<'a> {
     /// What holds at the root.
     pub fn at_root(&self, ahead: &Ahead<'a>) -> Carried<'a>
         requires { met_by ahead.now ≡ ahead_of self.now.case.now self.now.standing.now [] }
-        ensures { carried [] result ≡ at_the_root self.now.case.now self.now.standing.now }
+        ensures { carried [] result ≡ spec.at_root self.now.case.now self.now.standing.now }
     {
         Carried::at_root(ahead)
     }
@@ -63,7 +65,8 @@ impl<'a> Reader<'a> {
     ) -> Carried<'a>
         requires { LiesAhead self.now trail.now ahead.now }
         ensures { carries trail.now result
-            ≡ array_step self.now.case.now self.now.standing.now (carries trail.now above.entry) (path_of trail.now) }
+            ≡ array_step self.now.case.now self.now.standing.now (carries trail.now above.entry)
+            (path_of trail.now) }
     {
         let _ = trail;
         above.in_array(ahead)
@@ -79,7 +82,8 @@ impl<'a> Reader<'a> {
     ) -> Carried<'a>
         requires { LiesAhead self.now trail.now ahead.now }
         ensures { carries trail.now result
-            ≡ class_step self.now.case.now self.now.standing.now (carries trail.now above.entry) (path_of trail.now) (option_map marking_of written.entry) }
+            ≡ class_step self.now.case.now self.now.standing.now (carries trail.now above.entry)
+            (path_of trail.now) (option_map marking_of written.entry) }
     {
         above.in_class(ahead, &Trail { tokens: trail }, written)
     }
@@ -93,7 +97,7 @@ impl<'a> Reader<'a> {
 
     /// The rule that hides a class which isn't visible.
     pub fn hides(&self, at: Carried<'a>) -> Rule
-        ensures { result ≡ hides_by self.now.standing.now (carried [] at.entry) }
+        ensures { result ≡ spec.hides self.now.standing.now (carried [] at.entry) }
     {
         at.hiding_rule(self.standing)
     }
@@ -101,7 +105,9 @@ impl<'a> Reader<'a> {
 
 /// What lies ahead one token further down.
 fn further<'a>(alloc: Global, ahead: &Ahead<'a>, token: Token<'a>) -> Result<Ahead<'a>, AllocError>
-    ensures { IfOk result (λ a. (c : Judged) (s : Asking) (p : Tokens) → met_by ahead.now ≡ ahead_of c s p → met_by a ≡ ahead_of c s (p ++ token_of token.entry ∷ [])) }
+    ensures { IfOk result (λ a.
+        (c : TheCase) (s : TheStanding) (p : Tokens) → met_by ahead.now ≡ ahead_of c s p →
+        met_by a ≡ ahead_of c s (p ++ token_of token.entry ∷ [])) }
 {
     if ahead.is_empty() {
         return Ok(Ahead::none(alloc));

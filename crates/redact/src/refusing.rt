@@ -21,7 +21,9 @@ fn is_root(path: &[Text]) -> bool
 
 /// What of a path stands in front of a name, if it ends with that.
 fn before_name<'a>(path: &'a [Text], name: &str) -> Option<&'a [Text]>
-    ensures { (z : Tokens) → option_map_or (λ r. same_path r.now z) result false ≡ same_path path.now (z ++ name.now ∷ []) }
+    ensures { (z : Tokens) →
+        option_map_or (λ r. same_path r.now z) result false ≡
+        same_path path.now (z ++ name.now ∷ []) }
 {
     match path.split_last() {
         Some((last, rest)) if last.as_str() == name => Some(rest),
@@ -32,7 +34,9 @@ fn before_name<'a>(path: &'a [Text], name: &str) -> Option<&'a [Text]>
 /// What of a path stands in front of a step, if it ends with that. The place in an array is looked at first: by it the elements of
 /// one array differ.
 fn before<'a>(path: &'a [Text], step: &Step) -> Option<&'a [Text]>
-    ensures { (z : Tokens) → option_map_or (λ r. same_path r.now z) result false ≡ same_path path.now (z ++ step_tokens step.now) }
+    ensures { (z : Tokens) →
+        option_map_or (λ r. same_path r.now z) result false ≡
+        same_path path.now (z ++ step_tokens step.now) }
 {
     if !step.in_array {
         return before_name(path, step.name.as_str());
@@ -104,7 +108,9 @@ pub(crate) fn refuses(
     step: &Step,
     line: &Line,
 ) -> bool
-    ensures { result ≡ (is_class_kind line.now.kind && (not standing.entry.now.source && list_any (stops standing.entry.now (way above.now) step.now) case.now.gates)) }
+    ensures { result ≡ (is_class_kind line.now.kind &&
+        (not standing.entry.now.source &&
+        list_any (stops standing.entry.now (way above.now) step.now) case.now.gates)) }
 {
     match line.kind {
         Kind::Class => !standing.source && is_stopped(case, standing, above, step),

@@ -32,10 +32,16 @@ pub fn excerpt_if_marked(
     case: &Case,
     standing: &Standing,
 ) -> Result<Option<Excerpt>, AllocError>
-    ensures told { first_bad_marking (located document.now) ≡ None → IfOk result (λ r. option_map told_by r ≡ excerpt_of document.now case.now standing.entry.now) }
-    ensures refused { is_some (first_bad_marking (located document.now)) ≡ true → IfOk result (λ r. r ≡ None) }
-    ensures checked { IfOk result (λ r. IfSome r (λ e. first_bad_marking (located e.document) ≡ None)) }
-    ensures labels { first_bad_marking (located document.now) ≡ None → IfOk result (λ r. IfSome r (λ e. LabelsSurvive document.now case.now standing.entry.now e.document)) }
+    ensures told { first_bad_marking (located document.now) ≡ None →
+        IfOk result (λ r.
+        option_map told_by r ≡ excerpt_of document.now case.now standing.entry.now) }
+    ensures refused { is_some (first_bad_marking (located document.now)) ≡ true →
+        IfOk result (λ r. r ≡ None) }
+    ensures checked { IfOk result (λ r.
+        IfSome r (λ e. first_bad_marking (located e.document) ≡ None)) }
+    ensures labels { first_bad_marking (located document.now) ≡ None →
+        IfOk result (λ r.
+        IfSome r (λ e. LabelsSurvive document.now case.now standing.entry.now e.document)) }
 {
     match check(alloc, document) {
         Ok(()) => excerpt(alloc, document, case, standing),
@@ -55,7 +61,8 @@ struct Progress {
 impl Progress {
     /// With no line yet.
     fn new(alloc: Global) -> Progress
-        ensures { (c : TheCase) (s : TheStanding) → Knows c s [] result.shape result.marks result.sieve }
+        ensures { (c : TheCase) (s : TheStanding) →
+            Knows c s [] result.shape result.marks result.sieve }
     {
         Progress {
             shape: Shape::new(alloc),
@@ -66,9 +73,13 @@ impl Progress {
 
     /// One more line, if it may come behind the others.
     fn take(&mut self, case: &Case, standing: &Standing, line: Line) -> Result<(), OutlineFault>
-        ensures ok { OnOk result ((ls : List Row) → Knows case.now standing.entry.now ls self.old.shape self.old.marks self.old.sieve →
-            (is_outline (ls ++ line ∷ []) ≡ true) × Knows case.now standing.entry.now (ls ++ line ∷ []) self.new.shape self.new.marks self.new.sieve) }
-        ensures bad { IfErr result (λ f. f ≡ BadOutline → (ls : List Row) → Knows case.now standing.entry.now ls self.old.shape self.old.marks self.old.sieve →
+        ensures ok { OnOk result ((ls : List Row) →
+            Knows case.now standing.entry.now ls self.old.shape self.old.marks self.old.sieve →
+            (is_outline (ls ++ line ∷ []) ≡ true) ×
+            Knows case.now standing.entry.now
+            (ls ++ line ∷ []) self.new.shape self.new.marks self.new.sieve) }
+        ensures bad { IfErr result (λ f. f ≡ BadOutline → (ls : List Row) →
+            Knows case.now standing.entry.now ls self.old.shape self.old.marks self.old.sieve →
             is_outline (ls ++ line ∷ []) ≡ false) }
     {
         let fits = self.shape.accept(&line)?;
@@ -100,9 +111,15 @@ impl Model for RowPass {
 
     ghost Value = { PassState };
 
-    ghost view = { λ p. record { case = p.case; standing = p.standing; fed = record { lines = p.fed.lines; fault = p.fault } } };
+    ghost view = { λ p.
+        record {
+          case = p.case;
+          standing = p.standing;
+          fed = record { lines = p.fed.lines; fault = p.fault };
+        } };
 
-    ghost invariant = { λ p. p.fault ≡ None → Knows p.case p.standing p.fed.lines p.progress.shape p.progress.marks p.progress.sieve };
+    ghost invariant = { λ p. p.fault ≡ None →
+        Knows p.case p.standing p.fed.lines p.progress.shape p.progress.marks p.progress.sieve };
 }
 
 impl RowPass {
@@ -110,7 +127,12 @@ impl RowPass {
 
     /// With no line yet.
     pub fn new(alloc: Global, case: Case, standing: Standing) -> Result<RowPass, AllocError>
-        ensures { IfOk result (λ p. p ≡ record { case = case; standing = standing; fed = record { lines = []; fault = None } }) }
+        ensures { IfOk result (λ p. p ≡
+            record {
+              case = case;
+              standing = standing;
+              fed = record { lines = []; fault = None };
+            }) }
     {
         let progress = Progress::new(alloc);
         Ok(RowPass {
@@ -146,10 +168,17 @@ impl RowPass {
     /// What the reader is served of the document with these lines; nothing of one whose markings aren't accepted.
     pub fn finish(self) -> Result<Option<Excerpt>, OutlineFault>
         ensures ended { IfSome self.fed.fault (λ f. result ≡ Err f) }
-        ensures told { self.fed.fault ≡ None → first_bad_marking (located self.fed.lines) ≡ None → IfOk result (λ r. option_map told_by r ≡ excerpt_of self.fed.lines self.case self.standing) }
-        ensures refused { self.fed.fault ≡ None → is_some (first_bad_marking (located self.fed.lines)) ≡ true → IfOk result (λ r. r ≡ None) }
-        ensures checked { IfOk result (λ r. IfSome r (λ e. first_bad_marking (located e.document) ≡ None)) }
-        ensures labels { self.fed.fault ≡ None → first_bad_marking (located self.fed.lines) ≡ None → IfOk result (λ r. IfSome r (λ e. LabelsSurvive self.fed.lines self.case self.standing e.document)) }
+        ensures told { self.fed.fault ≡ None → first_bad_marking (located self.fed.lines) ≡ None →
+            IfOk result (λ r.
+            option_map told_by r ≡ excerpt_of self.fed.lines self.case self.standing) }
+        ensures refused { self.fed.fault ≡ None →
+            is_some (first_bad_marking (located self.fed.lines)) ≡ true →
+            IfOk result (λ r. r ≡ None) }
+        ensures checked { IfOk result (λ r.
+            IfSome r (λ e. first_bad_marking (located e.document) ≡ None)) }
+        ensures labels { self.fed.fault ≡ None → first_bad_marking (located self.fed.lines) ≡ None →
+            IfOk result (λ r.
+            IfSome r (λ e. LabelsSurvive self.fed.lines self.case self.standing e.document)) }
         ensures memory { self.fed.fault ≡ None → IfErr result (λ f. f ≡ NoMemory) }
     {
         let RowPass {

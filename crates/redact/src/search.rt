@@ -6,7 +6,8 @@ ghost use Rattle.iodef_tree.specs.Filled.{IsFilled, IsMemberFilled, IsItemFilled
 ghost use Rattle.iodef_tree.specs.View.{forest, bodies, body};
 ghost use Rattle.policy.specs.Ahead.{ahead_of, met_by};
 ghost use Rattle.policy.specs.Inherited.{carried};
-ghost use Rattle.redact.specs.Told.{finds as is_found, is_listed as is_shown, is_named};
+ghost use Rattle.redact.specs.Told.{is_named};
+ghost use Rattle.redact.specs.Told as spec;
 ghost use Rattle.redact.specs.inner.Tokens.{token_of, path_of};
 ghost use Rattle.redact.specs.inner.Search.{asked_of, body_hits, bodies_hit, members_hit, class_hits, found, found_at, found_items, found_member};
 
@@ -46,7 +47,7 @@ pub fn is_listed(
     case: &Case,
     standing: &Standing,
 ) -> Result<bool, AllocError>
-    ensures { IfOk result (λ b. b ≡ is_shown document.now case.now standing.entry.now) }
+    ensures { IfOk result (λ b. b ≡ spec.is_listed document.now case.now standing.entry.now) }
 {
     shows_some(alloc, document, case, standing)
 }
@@ -57,7 +58,7 @@ fn shows_some<'a>(
     case: &'a Case,
     standing: &'a Standing,
 ) -> Result<bool, AllocError>
-    ensures { IfOk result (λ b. b ≡ is_shown document.now case.now standing.entry.now) }
+    ensures { IfOk result (λ b. b ≡ spec.is_listed document.now case.now standing.entry.now) }
 {
     let search = Search {
         alloc,
@@ -81,7 +82,9 @@ pub fn finds(
     needle: &str,
     class: Option<&str>,
 ) -> Result<bool, AllocError>
-    ensures { IfOk result (λ b. b ≡ is_found document.now case.now standing.entry.now needle.now (option_map (λ name. name.now) class.entry)) }
+    ensures { IfOk result (λ b. b ≡
+        spec.finds document.now case.now standing.entry.now needle.now
+        (option_map (λ name. name.now) class.entry)) }
 {
     found(alloc, document, case, standing, needle, class)
 }
@@ -94,7 +97,9 @@ fn found<'a>(
     needle: &'a str,
     class: Option<&'a str>,
 ) -> Result<bool, AllocError>
-    ensures { IfOk result (λ b. b ≡ is_found document.now case.now standing.entry.now needle.now (option_map (λ name. name.now) class.entry)) }
+    ensures { IfOk result (λ b. b ≡
+        spec.finds document.now case.now standing.entry.now needle.now
+        (option_map (λ name. name.now) class.entry)) }
 {
     let search = Search {
         alloc,
@@ -175,8 +180,11 @@ impl<'a> Search<'a> {
         object: &'a Object,
     ) -> Result<bool, AllocError>
         requires filled { IsFilled object.now }
-        requires ahead { met_by ahead.now ≡ ahead_of self.now.reader.case.now self.now.reader.standing.now (path_of trail.old.items) }
-        ensures found { IfOk result (λ b. b ≡ found self.now.reader.case.now self.now.reader.standing.now (asked_of self.now.asked)
+        requires ahead { met_by ahead.now ≡
+            ahead_of self.now.reader.case.now self.now.reader.standing.now
+            (path_of trail.old.items) }
+        ensures found { IfOk result (λ b. b ≡
+            found self.now.reader.case.now self.now.reader.standing.now (asked_of self.now.asked)
             (carried (path_of trail.old.items) above.entry) (forest object.now)) }
         ensures trail { IfOk result (λ b. trail.new.items ≡ trail.old.items) }
     {
@@ -198,8 +206,12 @@ impl<'a> Search<'a> {
         member: &'a Member,
     ) -> Result<bool, AllocError>
         requires filled { IsMemberFilled member.now }
-        requires ahead { met_by ahead.now ≡ ahead_of self.now.reader.case.now self.now.reader.standing.now (path_of trail.old.items) }
-        ensures found { IfOk result (λ b. b ≡ found_member self.now.reader.case.now self.now.reader.standing.now (asked_of self.now.asked)
+        requires ahead { met_by ahead.now ≡
+            ahead_of self.now.reader.case.now self.now.reader.standing.now
+            (path_of trail.old.items) }
+        ensures found { IfOk result (λ b. b ≡
+            found_member self.now.reader.case.now self.now.reader.standing.now
+            (asked_of self.now.asked)
             (carried (path_of trail.old.items) above.entry) name.now (bodies member.now)) }
         ensures trail { IfOk result (λ b. trail.new.items ≡ trail.old.items) }
     {
@@ -227,8 +239,12 @@ impl<'a> Search<'a> {
         items: &'a Vec<Item>,
     ) -> Result<bool, AllocError>
         requires filled { AllByRecursion IsItemFilled items.now.items }
-        requires ahead { met_by ahead.now ≡ ahead_of self.now.reader.case.now self.now.reader.standing.now (path_of trail.old.items) }
-        ensures found { IfOk result (λ b. b ≡ found_items self.now.reader.case.now self.now.reader.standing.now (asked_of self.now.asked)
+        requires ahead { met_by ahead.now ≡
+            ahead_of self.now.reader.case.now self.now.reader.standing.now
+            (path_of trail.old.items) }
+        ensures found { IfOk result (λ b. b ≡
+            found_items self.now.reader.case.now self.now.reader.standing.now
+            (asked_of self.now.asked)
             (carried (path_of trail.old.items) array.entry) name.now 0 (map body items.now.items)) }
         ensures trail { IfOk result (λ b. trail.new.items ≡ trail.old.items) }
     {
@@ -252,9 +268,13 @@ impl<'a> Search<'a> {
         item: &'a Item,
     ) -> Result<bool, AllocError>
         requires filled { IsItemFilled item.now }
-        requires ahead { met_by ahead.now ≡ ahead_of self.now.reader.case.now self.now.reader.standing.now (path_of trail.old.items) }
-        ensures found { IfOk result (λ b. b ≡ found_at self.now.reader.case.now self.now.reader.standing.now (asked_of self.now.asked)
-            (carried (path_of trail.old.items) door.entry) (token_of token.entry) name.now (body item.now)) }
+        requires ahead { met_by ahead.now ≡
+            ahead_of self.now.reader.case.now self.now.reader.standing.now
+            (path_of trail.old.items) }
+        ensures found { IfOk result (λ b. b ≡
+            found_at self.now.reader.case.now self.now.reader.standing.now (asked_of self.now.asked)
+            (carried (path_of trail.old.items) door.entry) (token_of token.entry) name.now
+            (body item.now)) }
         ensures trail { IfOk result (λ b. trail.new.items ≡ trail.old.items) }
     {
         match item {
@@ -283,11 +303,15 @@ impl<'a> Search<'a> {
         object: &'a Object,
     ) -> Result<bool, AllocError>
         requires filled { IsFilled object.now }
-        requires ahead { met_by ahead.now ≡ ahead_of self.now.reader.case.now self.now.reader.standing.now (path_of trail.old.items) }
+        requires ahead { met_by ahead.now ≡
+            ahead_of self.now.reader.case.now self.now.reader.standing.now
+            (path_of trail.old.items) }
         ensures found { IfOk result (λ b.
             let k = carried (path_of trail.old.items) at.entry in
-            b ≡ (class_hits self.now.reader.case.now self.now.reader.standing.now (asked_of self.now.asked) k name.now (forest object.now)
-            || found self.now.reader.case.now self.now.reader.standing.now (asked_of self.now.asked) k (forest object.now))) }
+            b ≡ (class_hits self.now.reader.case.now self.now.reader.standing.now
+            (asked_of self.now.asked) k name.now (forest object.now)
+            || found self.now.reader.case.now self.now.reader.standing.now
+            (asked_of self.now.asked) k (forest object.now))) }
         ensures trail { IfOk result (λ b. trail.new.items ≡ trail.old.items) }
     {
         if self.reader.sees(at) && self.asked.is_met(name, object) {

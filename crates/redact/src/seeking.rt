@@ -6,11 +6,12 @@ ghost use Rattle.iodef_tree.specs.Outline.{is_outline};
 ghost use Rattle.iodef_tree.specs.Paths.{is_class_kind};
 ghost use Rattle.iodef_tree.specs.declared.line.Line.{Line as Row};
 ghost use Rattle.iodef_tree.specs.declared.fault.OutlineFault.TheVariants.{BadOutline};
-ghost use Rattle.redact.specs.declared.want.Want.{Want as Wanted};
+ghost use Rattle.redact.specs.declared.want.Want.{Want as TheWant};
 ghost use Rattle.marking.specs.Label.{marking_of};
 ghost use Rattle.policy.specs.Verdict.{is_cleared_for};
 ghost use Rattle.redact.specs.Told.{is_hit};
-ghost use Rattle.redact.specs.inner.Seeking.{wants_name as is_name_wanted, wants_line as is_line_wanted, some_refuses as some_gate_refuses, sees_all as is_all_seen, sight_of, is_everything, is_cleared_sight, plain_text as text_alone, beside_by, beside_with, is_cleared_text, is_cleared_if, is_restriction as is_named_restriction, shows, entered as with_no_member, holding as with_member, innermost_holding, is_permitted as is_permitted_at, opened, noted, is_settled, IsKnown, TakesTo};
+ghost use Rattle.redact.specs.inner.Seeking.{sight_of, is_everything, is_cleared_sight, beside_by, beside_with, is_cleared_text, is_cleared_if, shows_class, innermost_holding, with_opened_class, open_with_line, is_settled, IsKnown, TakesTo};
+ghost use Rattle.redact.specs.inner.Seeking as spec;
 ghost use Rattle.redact.specs.Sifted.{way, IsCounted, went_on};
 
 use crate::permitting::{is_permitted, some_permits};
@@ -59,7 +60,7 @@ pub(crate) struct Open {
 
 /// Whether a class of this name is wanted. Without a needle each is, whatever name is given.
 fn wants_name(want: &Want, name: &str) -> bool
-    ensures { result ≡ is_name_wanted want.now name.now }
+    ensures { result ≡ spec.wants_name want.now name.now }
 {
     if want.needle.is_none() {
         return true;
@@ -86,7 +87,7 @@ fn contains(line: &Line, needle: &str) -> bool
 
 /// Whether the line is a text with the needle that is wanted.
 fn wants_line(want: &Want, line: &Line) -> bool
-    ensures { result ≡ is_line_wanted want.now line.now }
+    ensures { result ≡ spec.wants_line want.now line.now }
 {
     match &want.needle {
         None => false,
@@ -96,7 +97,7 @@ fn wants_line(want: &Want, line: &Line) -> bool
 
 /// The text of a line, if it is one outside arrays.
 fn plain_text(line: &Line) -> Option<&str>
-    ensures { option_map (λ t. t.now) result ≡ text_alone line.now }
+    ensures { option_map (λ t. t.now) result ≡ spec.plain_text line.now }
 {
     match line.kind {
         Kind::Text if !line.in_array => Some(line.text.as_str()),
@@ -115,7 +116,7 @@ fn is_cleared(standing: &Standing, label: Label<'_>) -> bool
 impl Beside {
     /// What the first line named `ext-restriction` comes to.
     fn of(standing: &Standing, line: &Line) -> Beside
-        ensures { result ≡ beside_by standing.entry.now (text_alone line.now) }
+        ensures { result ≡ beside_by standing.entry.now (spec.plain_text line.now) }
     {
         match plain_text(line) {
             Some(text) => {
@@ -155,7 +156,7 @@ impl Beside {
 
     /// The same of a line as `restriction`.
     fn clears_line(self, standing: &Standing, line: &Line) -> bool
-        ensures { result ≡ is_cleared_if standing.entry.now self (text_alone line.now) }
+        ensures { result ≡ is_cleared_if standing.entry.now self (spec.plain_text line.now) }
     {
         match plain_text(line) {
             Some(text) => self.clears(standing, text),
@@ -165,7 +166,7 @@ impl Beside {
 }
 
 fn is_restriction(line: &Line) -> bool
-    ensures { result ≡ is_named_restriction line.now }
+    ensures { result ≡ spec.is_restriction line.now }
 {
     line.name.as_str() == "restriction"
 }
@@ -203,9 +204,9 @@ impl Sight {
 }
 
 impl Open {
-    /// The class of this line, which a permission opens or not.
+    /// The class of this line, which a permission shows or not.
     fn new(sight: Sight, want: &Want, line: &Line, opened: bool) -> Open
-        ensures { result ≡ with_no_member sight want.now line.now opened }
+        ensures { result ≡ spec.entered sight want.now line.now opened }
     {
         Open {
             fits: wants_name(want, line.name.as_str()),
@@ -218,7 +219,7 @@ impl Open {
 
     /// Whether a line that stands in it shows it: the first that is named `restriction`.
     fn is_shown_by(self, sight: Sight, standing: &Standing, line: &Line) -> bool
-        ensures { result ≡ shows sight standing.entry.now line.now self }
+        ensures { result ≡ shows_class sight standing.entry.now line.now self }
     {
         is_restriction(line)
             && (!self.labelled && (sight.is_cleared() && self.beside.clears_line(standing, line)))
@@ -226,7 +227,7 @@ impl Open {
 
     /// With a line more that stands in it.
     fn with(self, sight: Sight, standing: &Standing, want: &Want, line: &Line) -> Open
-        ensures { result ≡ with_member sight standing.entry.now want.now line.now self }
+        ensures { result ≡ spec.holding sight standing.entry.now want.now line.now self }
     {
         Open {
             fits: self.fits,
@@ -246,7 +247,8 @@ impl Open {
 
 /// The innermost of these classes holds a line.
 fn hold(classes: &mut [Open], sight: Sight, standing: &Standing, want: &Want, line: &Line)
-    ensures { classes.new ≡ innermost_holding sight standing.entry.now want.now line.now classes.old }
+    ensures { classes.new ≡
+        innermost_holding sight standing.entry.now want.now line.now classes.old }
 {
     if let Some(innermost) = classes.last_mut() {
         *innermost = innermost.with(sight, standing, want, line);
@@ -261,7 +263,8 @@ fn enter(
     line: &Line,
     is_permitted: bool,
 ) -> Result<(), AllocError>
-    ensures { OnOk result (classes.new.items ≡ opened sight want.now line.now is_permitted classes.old.items) }
+    ensures { OnOk result (classes.new.items ≡
+        with_opened_class sight want.now line.now is_permitted classes.old.items) }
 {
     match line.kind {
         Kind::Class => classes.push(Open::new(sight, want, line, is_permitted))?,
@@ -279,7 +282,8 @@ fn note(
     line: &Line,
     is_permitted: bool,
 ) -> Result<(), AllocError>
-    ensures { OnOk result (classes.new.items ≡ noted sight standing.entry.now want.now line.now is_permitted classes.old.items) }
+    ensures { OnOk result (classes.new.items ≡
+        open_with_line sight standing.entry.now want.now line.now is_permitted classes.old.items) }
 {
     classes.truncate((line.depth as usize).saturating_sub(1));
     hold(classes.as_mut_slice(), sight, standing, want, line);
@@ -295,7 +299,7 @@ fn is_found(classes: &[Open]) -> bool
 
 /// Whether a gate of the case refuses the reader.
 fn some_refuses(case: &Case, standing: &Standing) -> bool
-    ensures { result ≡ some_gate_refuses case.now standing.entry.now }
+    ensures { result ≡ spec.some_refuses case.now standing.entry.now }
 {
     case.gates
         .as_slice()
@@ -305,7 +309,7 @@ fn some_refuses(case: &Case, standing: &Standing) -> bool
 
 /// Whether the reader may see every class of every report.
 fn sees_all(case: &Case, standing: &Standing) -> bool
-    ensures { result ≡ is_all_seen case.now standing.entry.now }
+    ensures { result ≡ spec.sees_all case.now standing.entry.now }
 {
     standing.source
         || (!some_refuses(case, standing) && Handling::Red.is_at_most(clearance(standing).0))
@@ -321,7 +325,8 @@ fn keep(lines: &mut Vec<Line>, line: Line) -> Result<(), AllocError>
 
 /// The way to a line, behind that to the one before it.
 fn step_on(steps: &mut Vec<Step>, line: &Line) -> Result<(), AllocError>
-    ensures { OnOk result (IsCounted steps.old.items line.now → steps.new.items ≡ went_on steps.old.items line.now) }
+    ensures { OnOk result (IsCounted steps.old.items line.now →
+        steps.new.items ≡ went_on steps.old.items line.now) }
 {
     let step = step_to(steps.as_slice(), line)?;
     steps.truncate((line.depth as usize).saturating_sub(1));
@@ -329,9 +334,10 @@ fn step_on(steps: &mut Vec<Step>, line: &Line) -> Result<(), AllocError>
     Ok(())
 }
 
-/// Whether a line to which the steps lead is that of a class that a permission opens.
-fn opens_class(case: &Case, standing: &Standing, steps: &[Step], line: &Line) -> bool
-    ensures { result ≡ (is_class_kind line.now.kind && is_permitted_at case.now standing.entry.now (way steps.now)) }
+/// Whether a line to which the steps lead is that of a class that a permission shows.
+fn permits_class(case: &Case, standing: &Standing, steps: &[Step], line: &Line) -> bool
+    ensures { result ≡ (is_class_kind line.now.kind &&
+        spec.is_permitted case.now standing.entry.now (way steps.now)) }
 {
     match line.kind {
         Kind::Class => is_permitted(case, standing, steps),
@@ -340,7 +346,7 @@ fn opens_class(case: &Case, standing: &Standing, steps: &[Step], line: &Line) ->
 }
 
 /// One more line behind others, to the newest of which the steps lead if they are kept: whether it is that of a class that a
-/// permission opens.
+/// permission shows.
 fn follow(
     steps: &mut Vec<Step>,
     follows: bool,
@@ -348,14 +354,17 @@ fn follow(
     standing: &Standing,
     line: &Line,
 ) -> Result<bool, AllocError>
-    ensures steps { OnOk result (follows ≡ true → IsCounted steps.old.items line.now → steps.new.items ≡ went_on steps.old.items line.now) }
-    ensures opened { IfOk result (λ b. b ≡ (follows && (is_class_kind line.now.kind && is_permitted_at case.now standing.entry.now (way steps.new.items)))) }
+    ensures steps { OnOk result (follows ≡ true → IsCounted steps.old.items line.now →
+        steps.new.items ≡ went_on steps.old.items line.now) }
+    ensures opened { IfOk result (λ b. b ≡
+        (follows && (is_class_kind line.now.kind &&
+        spec.is_permitted case.now standing.entry.now (way steps.new.items)))) }
 {
     if !follows {
         return Ok(false);
     }
     step_on(steps, line)?;
-    Ok(opens_class(case, standing, steps.as_slice(), line))
+    Ok(permits_class(case, standing, steps.as_slice(), line))
 }
 
 /// What is known of the lines that came. Once it is sure that the want is met, only their shape still matters.
@@ -373,7 +382,7 @@ pub(crate) struct Seeker {
 impl Seeker {
     /// With no line yet.
     pub(crate) fn new(alloc: Global, case: &Case, standing: &Standing) -> Seeker
-        ensures { (w : Wanted) → IsKnown w case.now standing.entry.now [] false result }
+        ensures { (w : TheWant) → IsKnown w case.now standing.entry.now [] false result }
     {
         let sight = Sight::new(case, standing);
         Seeker {
@@ -395,9 +404,11 @@ impl Seeker {
         met: bool,
         line: Line,
     ) -> Result<bool, OutlineFault>
-        ensures ok { IfOk result (λ b. (ls : List Row) → IsKnown want.now case.now standing.entry.now ls met self.old →
+        ensures ok { IfOk result (λ b. (ls : List Row) →
+            IsKnown want.now case.now standing.entry.now ls met self.old →
             TakesTo want.now case.now standing.entry.now ls met line b self.new) }
-        ensures bad { IfErr result (λ f. f ≡ BadOutline → (ls : List Row) → IsKnown want.now case.now standing.entry.now ls met self.old →
+        ensures bad { IfErr result (λ f. f ≡ BadOutline → (ls : List Row) →
+            IsKnown want.now case.now standing.entry.now ls met self.old →
             is_outline (ls ++ line ∷ []) ≡ false) }
     {
         if !self.shape.accept(&line)? {

@@ -31,8 +31,11 @@ fn go_on(
     standing: &Standing,
     line: &Line,
 ) -> Result<bool, AllocError>
-    ensures refused { IfOk result (λ refused. IsCounted steps.old.items line.now → refused ≡ is_stopped case.now standing.entry.now steps.old.items line.now) }
-    ensures steps { OnOk result (IsCounted steps.old.items line.now → steps.new.items ≡ went_on steps.old.items line.now) }
+    ensures refused { IfOk result (λ refused.
+        IsCounted steps.old.items line.now →
+        refused ≡ is_stopped case.now standing.entry.now steps.old.items line.now) }
+    ensures steps { OnOk result (IsCounted steps.old.items line.now →
+        steps.new.items ≡ went_on steps.old.items line.now) }
 {
     let step = step_to(steps.as_slice(), line)?;
     steps.truncate((line.depth as usize).saturating_sub(1));
@@ -77,7 +80,9 @@ impl Sieve {
         standing: &Standing,
         line: Line,
     ) -> Result<(), AllocError>
-        ensures { OnOk result ((ls : List Row) → Sifts case.now standing.entry.now ls self.old → may_come (back ls) line ≡ true → Sifts case.now standing.entry.now (ls ++ line ∷ []) self.new) }
+        ensures { OnOk result ((ls : List Row) → Sifts case.now standing.entry.now ls self.old →
+            may_come (back ls) line ≡ true →
+            Sifts case.now standing.entry.now (ls ++ line ∷ []) self.new) }
     {
         if self.is_shut(&line) {
             return Ok(());

@@ -37,7 +37,7 @@ impl<'a> PrintedNote<'a> {
     fn new(alloc: Global, note: Note<'a>) -> Result<PrintedNote<'a>, AllocError>
         ensures { IfOk result (λ e. e ≡ note.entry) }
     {
-        let printed = note.printed(alloc)?;
+        let printed = note.print_place(alloc)?;
         Ok(PrintedNote { printed, note })
     }
 

@@ -100,7 +100,8 @@ pub(crate) fn is_place(name: &str, place: usize) -> bool
 
 /// Writes the token behind a pointer.
 fn push(pointer: &mut String, token: Token<'_>) -> Result<(), AllocError>
-    ensures { OnOk result (string_bytes pointer.new ≡ string_bytes pointer.old ++ byte "/" ∷ escaped (token_of token.entry)) }
+    ensures { OnOk result (string_bytes pointer.new ≡
+        string_bytes pointer.old ++ byte "/" ∷ escaped (token_of token.entry)) }
 {
     match token {
         Token::Name(name) => push_token(pointer, name),

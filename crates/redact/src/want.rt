@@ -1,7 +1,7 @@
 //! What is looked for in an incident.
 
 ghost use Rattle.std.specs.Prelude.{◌≡◌, IfOk, option_map, string_bytes};
-ghost use Rattle.redact.specs.Wants.{meets as is_met};
+ghost use Rattle.redact.specs.Wants as spec;
 
 use crate::search::{finds, is_listed};
 use iodef_tree::Document;
@@ -34,7 +34,7 @@ pub fn meets(
     standing: &Standing,
     want: &Want,
 ) -> Result<bool, AllocError>
-    ensures { IfOk result (λ b. b ≡ is_met want.now document.now case.now standing.entry.now) }
+    ensures { IfOk result (λ b. b ≡ spec.meets want.now document.now case.now standing.entry.now) }
 {
     match &want.needle {
         None => is_listed(alloc, document, case, standing),

@@ -29,7 +29,8 @@ fn place_behind(newest: &Step, name: &str) -> usize
 
 /// How many of its name stand before a line that comes behind those of these steps.
 fn place_of(steps: &[Step], line: &Line) -> usize
-    ensures { IsCounted steps.now line.now → result ≡ next_place (slice_get steps.now (line.now.depth - 1)) line.now.name }
+    ensures { IsCounted steps.now line.now →
+        result ≡ next_place (slice_get steps.now (line.now.depth - 1)) line.now.name }
 {
     match steps.get((line.depth as usize).saturating_sub(1)) {
         None => 0,

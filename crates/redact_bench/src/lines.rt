@@ -93,7 +93,7 @@ fn case(alloc: Global) -> Result<Case, AllocError> {
     })
 }
 
-fn fed(alloc: Global, hidden: u32) -> Result<Option<Excerpt>, OutlineFault> {
+fn feed(alloc: Global, hidden: u32) -> Result<Option<Excerpt>, OutlineFault> {
     let reader = Standing::stranger(alloc, READER, READER);
     let mut pass = RowPass::new(alloc, case(alloc)?, reader)?;
     for number in 0..count_of(hidden) {
@@ -102,7 +102,7 @@ fn fed(alloc: Global, hidden: u32) -> Result<Option<Excerpt>, OutlineFault> {
     pass.finish()
 }
 
-fn kept(alloc: Global, hidden: u32) -> Result<Option<Excerpt>, OutlineFault> {
+fn keep(alloc: Global, hidden: u32) -> Result<Option<Excerpt>, OutlineFault> {
     let reader = Standing::stranger(alloc, READER, READER);
     let mut lines = Vec::new(alloc);
     for number in 0..count_of(hidden) {
@@ -118,10 +118,10 @@ fn push(lines: &mut Vec<Line>, line: Line) -> Result<(), AllocError> {
 }
 
 /// How many classes are visible and how many pairs withheld; none where the lines are no document or nothing is visible.
-pub fn told(alloc: Global, way: Way, hidden: u32) -> Result<Option<(u32, usize)>, AllocError> {
+pub fn serve_by(alloc: Global, way: Way, hidden: u32) -> Result<Option<(u32, usize)>, AllocError> {
     let served = match way {
-        Way::Fed => fed(alloc, hidden),
-        Way::Kept => kept(alloc, hidden),
+        Way::Fed => feed(alloc, hidden),
+        Way::Kept => keep(alloc, hidden),
     };
     match served {
         Ok(excerpt) => Ok(excerpt.map(|excerpt| (excerpt.classes, excerpt.withheld.len()))),

@@ -15,7 +15,7 @@ mod lines;
 mod turns;
 
 use asked::{Asked, Call};
-use lines::{Way, told};
+use lines::{Way, serve_by};
 use std::io::Read;
 use std::process::ExitCode;
 use std::{env, io};
@@ -39,7 +39,7 @@ fn lines_of(words: &[String]) -> Option<(Way, u32)> {
 }
 
 fn print_lines(rt: &HostRuntime, way: Way, hidden: u32) -> io::Result<ExitCode> {
-    match told(rt.alloc(), way, hidden)? {
+    match serve_by(rt.alloc(), way, hidden)? {
         Some((classes, withheld)) => {
             println!(rt; "{classes} {withheld}")?;
             Ok(ExitCode::from(0))

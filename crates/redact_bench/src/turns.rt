@@ -31,7 +31,7 @@ fn nothing(alloc: Global) -> Answered {
     }
 }
 
-fn served(
+fn serve(
     alloc: Global,
     document: &Document,
     case: &Case,
@@ -70,7 +70,7 @@ fn answer(
         answered.classes = u32::from(found);
         return Ok(answered);
     }
-    served(alloc, document, case, reader, call)
+    serve(alloc, document, case, reader, call)
 }
 
 fn in_turns(

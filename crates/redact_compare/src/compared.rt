@@ -1,7 +1,7 @@
 //! One case: what `excerpt`, `is_listed` and `finds` answer, against the slow program.
 
 ghost use Rattle.std.specs.Prelude.{◌≡◌, None};
-ghost use Rattle.iodef_tree.specs.Paths.{located as entries_of};
+ghost use Rattle.iodef_tree.specs.Paths as spec;
 ghost use Rattle.marking.specs.Marks.{first_bad_marking};
 
 use crate::by_lines::agree_by_lines;
@@ -213,7 +213,7 @@ fn agrees_on_excerpt(
     document: &Document,
     expected: &Expected,
 ) -> Result<bool, AllocError>
-    requires { first_bad_marking (entries_of document.now) ≡ None }
+    requires { first_bad_marking (spec.located document.now) ≡ None }
 {
     let listed = is_listed(world.alloc, document, world.case, world.standing)?;
     let answer = excerpt(world.alloc, document, world.case, world.standing)?;
@@ -238,7 +238,7 @@ fn agrees_by(
     list: &[Judged<'_>],
     document: &Document,
 ) -> Result<bool, AllocError>
-    requires { first_bad_marking (entries_of document.now) ≡ None }
+    requires { first_bad_marking (spec.located document.now) ≡ None }
 {
     let expected = slow_answer(tally, world, list)?;
     Ok(
@@ -253,7 +253,7 @@ fn agrees_in(
     world: &World<'_, '_>,
     document: &Document,
 ) -> Result<bool, AllocError>
-    requires { first_bad_marking (entries_of document.now) ≡ None }
+    requires { first_bad_marking (spec.located document.now) ≡ None }
 {
     let list = judge(world)?;
     note_case(tally, world, &list)?;
@@ -268,7 +268,7 @@ fn agrees(
     case: &Case,
     standing: &Standing,
 ) -> Result<bool, AllocError>
-    requires { first_bad_marking (entries_of document.now) ≡ None }
+    requires { first_bad_marking (spec.located document.now) ≡ None }
 {
     let lines = document.outline(alloc)?;
     let entries = located(alloc, &lines)?;
@@ -295,7 +295,7 @@ fn agrees_in_case(
     document: &Document,
     case: &Case,
 ) -> Result<bool, AllocError>
-    requires { first_bad_marking (entries_of document.now) ≡ None }
+    requires { first_bad_marking (spec.located document.now) ≡ None }
 {
     let standing = any_standing(alloc, dice)?;
     agrees(alloc, tally, document, case, &standing)
@@ -308,7 +308,7 @@ fn agrees_for_any(
     dice: &mut Dice,
     document: &Document,
 ) -> Result<bool, AllocError>
-    requires { first_bad_marking (entries_of document.now) ≡ None }
+    requires { first_bad_marking (spec.located document.now) ≡ None }
 {
     let case = case_over(alloc, dice, document)?;
     agrees_in_case(alloc, tally, dice, document, &case)

@@ -45,7 +45,7 @@ pub fn strictness(label: Written<'_>, arranged: Option<Handling>) -> u32 {
 }
 
 /// The strictest handling that the reader is cleared for.
-pub fn cleared(standing: &Standing) -> u32 {
+pub fn clearance(standing: &Standing) -> u32 {
     let table = [
         (standing.person, 4),
         (standing.nominated && standing.addressed, 3),
@@ -84,7 +84,7 @@ fn group_refusal(standing: &Standing, group: Option<u32>) -> Option<&'static str
 }
 
 /// The rule by which the gate refuses the reader, if it does.
-pub fn refused(standing: &Standing, gate: &Gate) -> Option<&'static str> {
+pub fn refusal(standing: &Standing, gate: &Gate) -> Option<&'static str> {
     let (rule, passes) = match gate.level {
         1 => ("G1", standing.community),
         2 => ("G2", standing.community || standing.connected),

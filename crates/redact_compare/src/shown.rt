@@ -2,7 +2,7 @@
 
 use crate::entry::Entry;
 use crate::judged::{Judged, Moved, Told, holds_seen, is_frame, is_wholly_hidden, says_label};
-use crate::policy_tables::{cleared, refused};
+use crate::policy_tables::{clearance, refusal};
 use crate::tally::Tally;
 use crate::world::World;
 use iodef_tree::{Kind, Path, Text};
@@ -10,7 +10,7 @@ use policy::Standing;
 
 pub fn note_reader(tally: &mut Tally, standing: &Standing) {
     tally.note("readers of the source", standing.source);
-    let name = match cleared(standing) {
+    let name = match clearance(standing) {
         0 => "readers cleared for CLEAR",
         1 => "readers cleared for GREEN",
         2 => "readers cleared for AMBER",
@@ -27,7 +27,7 @@ fn refusing(world: &World<'_, '_>, path: &[Text]) -> usize {
         .gates
         .as_slice()
         .iter()
-        .filter(|gate| gate.path.tokens() == path && refused(world.standing, gate).is_some())
+        .filter(|gate| gate.path.tokens() == path && refusal(world.standing, gate).is_some())
         .count()
 }
 

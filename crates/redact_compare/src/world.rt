@@ -1,7 +1,7 @@
 //! The verdict of each path, judged alone against all its prefixes over the flat outline.
 
 use crate::entry::Entry;
-use crate::policy_tables::{Written, cleared, is_meant, refused, rule_of, strictness};
+use crate::policy_tables::{Written, clearance, is_meant, refusal, rule_of, strictness};
 use iodef_tree::{Kind, Text};
 use policy::{Case, Permission, Standing};
 use std::alloc::Global;
@@ -83,7 +83,7 @@ impl<'a, 'r> World<'a, 'r> {
     pub fn refused_at(&self, path: &[Text]) -> Option<&'static str> {
         for gate in self.case.gates.as_slice() {
             if gate.path.tokens() == path {
-                if let Some(rule) = refused(self.standing, gate) {
+                if let Some(rule) = refusal(self.standing, gate) {
                     return Some(rule);
                 }
             }
@@ -142,7 +142,7 @@ impl<'a, 'r> World<'a, 'r> {
     }
 
     pub fn is_cleared(&self, path: &[Text]) -> bool {
-        self.strictness(path) <= cleared(self.standing)
+        self.strictness(path) <= clearance(self.standing)
     }
 
     pub fn is_visible(&self, path: &[Text]) -> bool {

@@ -67,7 +67,7 @@ impl Block {
         self.statements.push_str("; ")
     }
 
-    pub fn asked(&self) -> Result<Vec<Asked>, AllocError> {
+    pub fn requests(&self) -> Result<Vec<Asked>, AllocError> {
         asked_by(self.alloc, &self.requests)
     }
 }

@@ -6,7 +6,7 @@ use crate::files::{Kept, NEVER};
 use crate::lists::{are_made, begun};
 use crate::steps::{Asked, Steps};
 use crate::stops::{Case, Stops};
-use crate::stores::{Way, stated};
+use crate::stores::{Way, run_statements};
 use hub::Hub;
 use hub_core::{Edit, ListShelf};
 use std::alloc::{AllocError, Global};
@@ -21,7 +21,7 @@ pub struct World<'a> {
 /// The bytes of an older store that statements make; none where one is refused.
 fn older(alloc: Global, statements: &str) -> Result<Option<Kept>, AllocError> {
     let files = Kept::nothing(alloc).files(alloc, NEVER)?;
-    match stated(alloc, files, statements) {
+    match run_statements(alloc, files, statements) {
         Some(files) => Ok(Some(Kept::of(alloc, &files)?)),
         None => Ok(None),
     }
@@ -29,7 +29,7 @@ fn older(alloc: Global, statements: &str) -> Result<Option<Kept>, AllocError> {
 
 impl World<'_> {
     /// The bytes of the files with which the case of a block begins; none where they aren't made.
-    fn kept(&self, alloc: Global, block: &Block) -> Result<Option<Kept>, AllocError> {
+    fn bytes_before(&self, alloc: Global, block: &Block) -> Result<Option<Kept>, AllocError> {
         let nothing = Kept::nothing(alloc);
         match block.way() {
             Way::Make => Ok(Some(nothing)),
@@ -40,7 +40,7 @@ impl World<'_> {
                     rows: self.rows,
                     asked: self.asked,
                 };
-                steps.kept(alloc, &nothing)
+                steps.bytes_behind(alloc, &nothing)
             }
         }
     }
@@ -67,10 +67,10 @@ impl World<'_> {
     }
 
     /// What is printed of the case of a block.
-    pub fn told(&self, alloc: Global, block: &Block) -> Result<String, AllocError> {
-        let asked = block.asked()?;
+    pub fn describe(&self, alloc: Global, block: &Block) -> Result<String, AllocError> {
+        let asked = block.requests()?;
         let way = block.way();
-        let Some(kept) = self.kept(alloc, block)? else {
+        let Some(kept) = self.bytes_before(alloc, block)? else {
             return String::from_str(alloc, "the store that the case begins with wasn't made");
         };
         let Some(hub) = self.hub(alloc, way, &asked) else {
@@ -83,6 +83,6 @@ impl World<'_> {
             steps,
             due: &due,
         };
-        case.told(alloc)
+        case.describe(alloc)
     }
 }

@@ -52,7 +52,7 @@ impl Cases {
             return Ok(None);
         }
         let Some(asked) = &self.asked else {
-            self.asked = Some(self.block.asked()?);
+            self.asked = Some(self.block.requests()?);
             self.block = Block::new(alloc);
             return Ok(None);
         };
@@ -60,7 +60,7 @@ impl Cases {
             rows: &self.rows,
             asked,
         };
-        let told = world.told(alloc, &self.block)?;
+        let told = world.describe(alloc, &self.block)?;
         self.block = Block::new(alloc);
         Ok(Some(told))
     }

@@ -54,7 +54,7 @@ impl Kept {
     }
 
     /// What was synced, where a failure of the power loses the rest.
-    pub fn synced(alloc: Global, mut files: Files<Stopping>) -> Result<Kept, AllocError> {
+    pub fn from_synced(alloc: Global, mut files: Files<Stopping>) -> Result<Kept, AllocError> {
         files.log.crash();
         files.db.crash();
         Kept::of(alloc, &files)

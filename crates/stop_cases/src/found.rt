@@ -26,7 +26,7 @@ fn told_over<S: Alter + Drop>(alloc: Global, shelf: SqlShelf<S>) -> Result<Strin
     told_by(alloc, shelf)
 }
 
-fn looked(alloc: Global, files: Files<Stopping>, way: Way) -> Result<Look, AllocError> {
+fn look_into(alloc: Global, files: Files<Stopping>, way: Way) -> Result<Look, AllocError> {
     match shelf_in(alloc, files, way) {
         Ok(shelf) => Ok(Look::Told(told_over(alloc, shelf)?)),
         Err((fault, _)) => Ok(Look::Refused(fault)),
@@ -36,7 +36,7 @@ fn looked(alloc: Global, files: Files<Stopping>, way: Way) -> Result<Look, Alloc
 /// The same of a store that is taken otherwise, behind words that tell so.
 fn looked_again(alloc: Global, kept: &Kept, way: Way) -> Result<String, AllocError> {
     let words = way.words(alloc)?;
-    match looked(alloc, kept.files(alloc, NEVER)?, way)? {
+    match look_into(alloc, kept.files(alloc, NEVER)?, way)? {
         Look::Told(told) => format!(in alloc; "{words}{told}"),
         Look::Refused(_) => format!(in alloc; "{words}: refused"),
     }
@@ -57,7 +57,7 @@ fn tell_refused(
 
 /// What all persons are told by the store in files of these bytes.
 fn tell(alloc: Global, kept: &Kept) -> Result<String, AllocError> {
-    match looked(alloc, kept.files(alloc, NEVER)?, Way::Open)? {
+    match look_into(alloc, kept.files(alloc, NEVER)?, Way::Open)? {
         Look::Told(told) => Ok(told),
         Look::Refused(fault) => tell_refused(alloc, kept, fault),
     }
@@ -102,7 +102,7 @@ impl Finds {
     }
 
     /// What all persons are told by the store in files of these bytes.
-    pub fn told(&mut self, kept: Kept) -> Result<String, AllocError> {
+    pub fn replies_from(&mut self, kept: Kept) -> Result<String, AllocError> {
         if let Some(told) = self.before(&kept) {
             return String::from_str(self.alloc, told);
         }

@@ -1,7 +1,7 @@
 //! The steps of a case, over a shelf in memory or in files.
 
 use crate::files::{Kept, NEVER, Stopping, take_calls};
-use crate::stores::{Stored, Way, left, shelf_in};
+use crate::stores::{Stored, Way, leave, shelf_in};
 use circle::refusal::Code;
 use hub::{Hub, Key};
 use hub_core::{Edit, Reply, Request, Shelf};
@@ -41,7 +41,7 @@ fn is_given_up(reply: &Reply) -> bool {
 }
 
 /// What came of steps whose files were left.
-fn ended(done: usize, is_begun: bool, is_closed: bool, files: Files<Stopping>) -> Played {
+fn end_play(done: usize, is_begun: bool, is_closed: bool, files: Files<Stopping>) -> Played {
     let mut files = files;
     let is_whole = is_closed && take_calls(&mut files);
     Played {
@@ -53,7 +53,7 @@ fn ended(done: usize, is_begun: bool, is_closed: bool, files: Files<Stopping>) -
 }
 
 /// How many requests are answered before the first that is given up.
-fn answered<Sh: Shelf>(alloc: Global, hub: &mut Hub<Sh>, asked: &[Asked]) -> usize {
+fn count_answered<Sh: Shelf>(alloc: Global, hub: &mut Hub<Sh>, asked: &[Asked]) -> usize {
     for (i, (now, key, request)) in asked.iter().enumerate() {
         if is_given_up(&hub.answer(alloc, *now, key, request)) {
             return i;
@@ -88,7 +88,7 @@ impl Steps<'_> {
             return (taken, shelf);
         }
         let mut hub = Hub::new(shelf);
-        let answered = answered(alloc, &mut hub, self.asked);
+        let answered = count_answered(alloc, &mut hub, self.asked);
         let done = taken
             .saturating_add(self.of_rows())
             .saturating_add(answered);
@@ -114,8 +114,8 @@ impl Steps<'_> {
     fn play_over(&self, alloc: Global, shelf: SqlShelf<Stored>) -> Played {
         let (done, shelf) = self.go_over(alloc, shelf);
         let is_begun = done < self.len();
-        let (is_closed, files) = left(shelf, !is_begun);
-        ended(done, is_begun, is_closed, files)
+        let (is_closed, files) = leave(shelf, !is_begun);
+        end_play(done, is_begun, is_closed, files)
     }
 
     /// Plays them over these files, up to the first that isn't answered as done; behind the last the files are closed.
@@ -127,7 +127,7 @@ impl Steps<'_> {
     }
 
     /// The bytes behind all steps, with no stop, over these; none where one isn't done.
-    pub fn kept(&self, alloc: Global, before: &Kept) -> Result<Option<Kept>, AllocError> {
+    pub fn bytes_behind(&self, alloc: Global, before: &Kept) -> Result<Option<Kept>, AllocError> {
         let played = self.play(alloc, before.files(alloc, NEVER)?);
         if played.is_whole {
             return Ok(Some(Kept::of(alloc, &played.files)?));

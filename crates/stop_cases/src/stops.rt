@@ -121,10 +121,10 @@ impl Stops {
             is_begun: played.is_begun,
         };
         let written = Kept::of(alloc, &played.files)?;
-        let synced = Kept::synced(alloc, played.files)?;
-        let found = finds.told(written)?;
+        let synced = Kept::from_synced(alloc, played.files)?;
+        let found = finds.replies_from(written)?;
         self.note_found(alloc, due, stopped, "the process dead", found.as_str())?;
-        let found = finds.told(synced)?;
+        let found = finds.replies_from(synced)?;
         self.note_found(alloc, due, stopped, "the power lost", found.as_str())
     }
 }
@@ -173,7 +173,7 @@ impl Case<'_> {
 }
 
 /// The first change within which the file wasn't stopped.
-fn missed(due: &Due, stops: &Stops) -> Option<usize> {
+fn first_missed(due: &Due, stops: &Stops) -> Option<usize> {
     for (step, is_change) in due.changes.iter().enumerate() {
         if *is_change && !stops.is_stopped(step) {
             return Some(step);
@@ -195,7 +195,7 @@ fn count(flags: &[bool]) -> usize {
 
 /// What is printed where no stop went wrong.
 fn told_of(alloc: Global, due: &Due, log: &Stops, db: &Stops) -> Result<String, AllocError> {
-    if let Some(step) = missed(due, log) {
+    if let Some(step) = first_missed(due, log) {
         return format!(in alloc; "no stop within step {step}");
     }
     if db.calls == 0 {
@@ -216,7 +216,7 @@ fn told_of(alloc: Global, due: &Due, log: &Stops, db: &Stops) -> Result<String, 
 
 impl Case<'_> {
     /// What is printed of a case.
-    pub fn told(&self, alloc: Global) -> Result<String, AllocError> {
+    pub fn describe(&self, alloc: Global) -> Result<String, AllocError> {
         let mut finds = Finds::new(alloc);
         let log = self.stops(alloc, true, &mut finds)?;
         if let Some(fault) = &log.fault {

@@ -43,7 +43,7 @@ fn options() -> Options {
 }
 
 /// A connection over the files, which come back where they aren't opened.
-fn connected(alloc: Global, files: Files<Stopping>) -> Result<Connection<Stored>, Files<Stopping>> {
+fn connect(alloc: Global, files: Files<Stopping>) -> Result<Connection<Stored>, Files<Stopping>> {
     if !files.may_be_used() {
         return Err(files);
     }
@@ -59,7 +59,7 @@ fn cut_off(conn: Connection<Stored>) -> Files<Stopping> {
 }
 
 /// Closes the files in order, and tells whether they were.
-fn closed(conn: Connection<Stored>) -> (bool, Files<Stopping>) {
+fn close(conn: Connection<Stored>) -> (bool, Files<Stopping>) {
     match conn.close_files() {
         Ok(files) => (true, files),
         Err((_, store)) => (false, store.close()),
@@ -67,10 +67,10 @@ fn closed(conn: Connection<Stored>) -> (bool, Files<Stopping>) {
 }
 
 /// The files of a shelf that is left: closed in order, if that is asked for, or as they are. Tells whether they were closed.
-pub fn left(shelf: SqlShelf<Stored>, in_order: bool) -> (bool, Files<Stopping>) {
+pub fn leave(shelf: SqlShelf<Stored>, in_order: bool) -> (bool, Files<Stopping>) {
     let conn = shelf.release();
     if in_order {
-        closed(conn)
+        close(conn)
     } else {
         (false, cut_off(conn))
     }
@@ -84,7 +84,7 @@ fn open_fault(fault: ShelfFault) -> OpenFault {
 }
 
 /// New tables over the connection, which comes back where they aren't made.
-fn made<S: Alter + Drop>(
+fn make_tables<S: Alter + Drop>(
     alloc: Global,
     conn: Connection<S>,
 ) -> Result<SqlShelf<S>, (OpenFault, Connection<S>)> {
@@ -98,7 +98,7 @@ fn made<S: Alter + Drop>(
 }
 
 /// The tables of the connection, opened or brought to the newest version.
-fn opened<S: Alter + Drop>(
+fn open_tables<S: Alter + Drop>(
     alloc: Global,
     conn: Connection<S>,
     migrates: bool,
@@ -119,9 +119,9 @@ fn taken<S: Alter + Drop>(
     way: Way,
 ) -> Result<SqlShelf<S>, (OpenFault, Connection<S>)> {
     match way {
-        Way::Make => made(alloc, conn),
-        Way::Open => opened(alloc, conn, false),
-        Way::Migrate(_) => opened(alloc, conn, true),
+        Way::Make => make_tables(alloc, conn),
+        Way::Open => open_tables(alloc, conn, false),
+        Way::Migrate(_) => open_tables(alloc, conn, true),
     }
 }
 
@@ -131,7 +131,7 @@ pub fn shelf_in(
     files: Files<Stopping>,
     way: Way,
 ) -> Result<SqlShelf<Stored>, (Option<OpenFault>, Files<Stopping>)> {
-    let conn = match connected(alloc, files) {
+    let conn = match connect(alloc, files) {
         Ok(conn) => conn,
         Err(files) => return Err((None, files)),
     };
@@ -150,7 +150,7 @@ fn are_run<S: Alter + Drop>(conn: &mut Connection<S>, statements: &str) -> bool 
 fn stated_over(conn: Connection<Stored>, statements: &str) -> Option<Files<Stopping>> {
     let mut conn = conn;
     let are_run = are_run(&mut conn, statements);
-    let (is_closed, files) = closed(conn);
+    let (is_closed, files) = close(conn);
     if are_run && is_closed {
         Some(files)
     } else {
@@ -159,8 +159,12 @@ fn stated_over(conn: Connection<Stored>, statements: &str) -> Option<Files<Stopp
 }
 
 /// The files, closed, behind these statements; none where one is refused.
-pub fn stated(alloc: Global, files: Files<Stopping>, statements: &str) -> Option<Files<Stopping>> {
-    match connected(alloc, files) {
+pub fn run_statements(
+    alloc: Global,
+    files: Files<Stopping>,
+    statements: &str,
+) -> Option<Files<Stopping>> {
+    match connect(alloc, files) {
         Ok(conn) => stated_over(conn, statements),
         Err(_) => None,
     }

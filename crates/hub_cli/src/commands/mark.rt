@@ -18,8 +18,8 @@ pub fn run<R: Read, W: Write, E: Write>(
     writer: &mut W,
     errors: &mut E,
 ) -> Status {
-    let wanted = match wanted(alloc, place, pointer) {
-        Ok(wanted) => wanted,
+    let selection = match select(alloc, place, pointer) {
+        Ok(selection) => selection,
         Err(PathFault::BadPath) => return tell(errors, PathFault::BadPath.name(), Status::Refused),
         Err(PathFault::NoMemory) => return end_with(errors, Err(Fault::NoMemory)),
     };
@@ -27,13 +27,13 @@ pub fn run<R: Read, W: Write, E: Write>(
         Ok(body) => body,
         Err(fault) => return end_with(errors, Err(fault)),
     };
-    match mark_text(alloc, &body, &wanted) {
+    match mark_text(alloc, &body, &selection) {
         Ok(text) => end_with(errors, print(writer, text.as_str())),
         Err(fault) => tell(errors, fault.name(), status_of(&fault)),
     }
 }
 
-fn wanted(alloc: Global, place: u32, pointer: Option<&str>) -> Result<Selection, PathFault> {
+fn select(alloc: Global, place: u32, pointer: Option<&str>) -> Result<Selection, PathFault> {
     let class = match pointer {
         Some(pointer) => Some(Path::parse(alloc, pointer)?),
         None => None,

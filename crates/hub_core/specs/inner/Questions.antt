@@ -12,7 +12,8 @@ use Rattle.hub_core.specs.declared.request.Target.{Target}
 
 -- of this path, level and group
 abbrev pub is_gate_among : Tokens → ℕ → Option ℕ → List Gate → Bool
-is_gate_among path level group gates = list_any (λ (g : Gate). same_path g.path path && (g.level == level && same_group g.group group)) gates
+is_gate_among path level group gates =
+    list_any (λ (g : Gate). same_path g.path path && (g.level == level && same_group g.group group)) gates
 
 abbrev pub is_target_among : Target → List Target → Bool
 is_target_among target targets = list_any (λ (t : Target). same_target t target) targets
@@ -25,7 +26,8 @@ is_permission_among path grantee permissions = list_any (is_permission_of path g
 
 -- of this path, grantee and end
 abbrev pub is_permission_among_until : Tokens → Grantee → Option ℤ → List Permission → Bool
-is_permission_among_until path grantee until permissions = list_any (λ (x : Permission). is_permission_of path grantee x && same_end x.until until) permissions
+is_permission_among_until path grantee until permissions =
+    list_any (λ (x : Permission). is_permission_of path grantee x && same_end x.until until) permissions
 
 -- ---- how many are there?
 
@@ -35,10 +37,13 @@ class_gates_among gates = count_by (λ (g : Gate). not (is_root g.path)) gates
 
 -- with a gate of this path in the place of the one that stands there
 abbrev pub class_gates_with : Tokens → List Gate → ℕ
-class_gates_with path gates = (if not (is_root path) then 1 else 0) + count_by (λ (g : Gate). not (same_path g.path path) && not (is_root g.path)) gates
+class_gates_with path gates =
+    (if not (is_root path) then 1 else 0)
+    + count_by (λ (g : Gate). not (same_path g.path path) && not (is_root g.path)) gates
 
 abbrev pub targets_beside : Target → List Target → ℕ
 targets_beside target targets = count_by (λ (t : Target). not (same_target t target)) targets
 
 abbrev pub permissions_beside : Tokens → Grantee → List Permission → ℕ
-permissions_beside path grantee permissions = count_by (λ (x : Permission). not (is_permission_of path grantee x)) permissions
+permissions_beside path grantee permissions =
+    count_by (λ (x : Permission). not (is_permission_of path grantee x)) permissions

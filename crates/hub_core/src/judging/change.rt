@@ -106,7 +106,11 @@ fn put_in_place(alloc: Global, request: &Grant, path: Path) -> Result<Vec<Edit>,
     ensures { IfOk result (λ edits.
         edits.items ≡
         put_permission
-        (record { incident = request.now.incident; path = path; grantee = request.now.grantee }) request.now.until) }
+        (record {
+          incident = request.now.incident;
+          path = path;
+          grantee = request.now.grantee;
+        }) request.now.until) }
 {
     let (incident, grantee) = (request.incident, request.grantee);
     let mut edits = Vec::with_capacity(alloc, 2)?;

@@ -1,7 +1,8 @@
 //! The levels and the groups of gates (the MISP book's distribution levels).
 ghost use Rattle.std.specs.Prelude.{◌≡◌, IfOk};
-ghost use Rattle.iodef_tree.specs.Text.{is_root as is_path_of_root};
-ghost use Rattle.hub_core.specs.Refusals.{is_bad_level as is_level_bad, is_bad_group as is_group_bad, root_gate};
+ghost use Rattle.iodef_tree.specs.Text as text;
+ghost use Rattle.hub_core.specs.Refusals.{root_gate};
+ghost use Rattle.hub_core.specs.Refusals as spec;
 ghost use Rattle.hub_core.specs.inner.Asked.{Asks};
 
 use crate::judging::stop::{Stop, bad_if};
@@ -11,21 +12,21 @@ use std::alloc::Global;
 
 /// Whether a path is that of the root.
 pub fn is_root(path: &Path) -> bool
-    ensures { result ≡ is_path_of_root path.now }
+    ensures { result ≡ text.is_root path.now }
 {
     path.tokens().is_empty()
 }
 
 /// Whether there is no such level; 5, as above, is for classes alone.
 pub fn is_bad_level(at_root: bool, level: u32) -> bool
-    ensures { result ≡ is_level_bad at_root level }
+    ensures { result ≡ spec.is_bad_level at_root level }
 {
     level > if at_root { 4 } else { 5 }
 }
 
 /// Whether level 4 has no group, or another has one.
 pub fn is_bad_group(level: u32, group: Option<u32>) -> bool
-    ensures { result ≡ is_group_bad level group }
+    ensures { result ≡ spec.is_bad_group level group }
 {
     if level == 4 {
         group.is_none()

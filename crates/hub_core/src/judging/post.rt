@@ -1,7 +1,8 @@
 //! New incidents, one for each Incident of a body.
 ghost use Rattle.std.specs.Prelude.{◌≡◌, ◌+◌, ◌<◌, ◌≤◌, ◌^◌, length, IfOk, OnOk};
 ghost use Rattle.hub_core.specs.Documents.{documents_in};
-ghost use Rattle.hub_core.specs.Aftermath.{put_incidents as put_all_incidents, edits_by};
+ghost use Rattle.hub_core.specs.Aftermath.{edits_by};
+ghost use Rattle.hub_core.specs.Aftermath as spec;
 ghost use Rattle.hub_core.specs.Refusals.{grounds_by, post_arguments, post_facts};
 ghost use Rattle.hub_core.specs.inner.Asked.{Asks};
 ghost use Rattle.hub_core.specs.declared.request.Request.TheVariants as ask;
@@ -29,7 +30,7 @@ pub fn post(alloc: Global, actor: &Person, facts: &Facts, request: &Post) -> Res
     poster(alloc, actor)?;
     let level = root_level(alloc, &request.distribution)?;
     let (gates, documents) = arguments(alloc, request)?;
-    allowed(alloc, facts, &gates, &documents)?;
+    check_facts(alloc, facts, &gates, &documents)?;
     let first = facts.circle.count + 1;
     let posting = Posting {
         source: actor.org,
@@ -57,7 +58,7 @@ fn arguments(alloc: Global, request: &Post) -> Result<(ClassGates, Vec<Posted>),
 }
 
 /// Asks what there is: groups, classes, incidents of the same ident, room.
-fn allowed(
+fn check_facts(
     alloc: Global,
     facts: &Facts,
     gates: &ClassGates,
@@ -95,8 +96,13 @@ fn put_incidents(
     requires { first + length documents.items < 2 ^ 32 }
     ensures { IfOk result (λ edits.
         edits.items ≡
-        put_all_incidents posting.now.source first
-        (record { community = posting.now.community; level = posting.now.level; group = posting.now.group; gates = gates.now }) documents.items) }
+        spec.put_incidents posting.now.source first
+        (record {
+          community = posting.now.community;
+          level = posting.now.level;
+          group = posting.now.group;
+          gates = gates.now;
+        }) documents.items) }
 {
     let mut edits = Vec::new(alloc);
     let mut number = first;

@@ -23,7 +23,7 @@ use circle::refusal::Code;
 use circle::text::Text;
 use std::alloc::{AllocError, Global};
 
-/// The incident in its next revision, with the community and the gates given; its permissions end and its recipients stay.
+/// The incident in its next revision, with the community and the gates given; its permissions are taken out and its recipients stay.
 pub fn replace(
     alloc: Global,
     actor: &Person,
@@ -37,7 +37,7 @@ pub fn replace(
     poster(alloc, actor)?;
     let level = root_level(alloc, &request.distribution)?;
     let (gates, documents) = arguments(alloc, request)?;
-    let known = allowed(alloc, actor, facts, request.revision, &gates, &documents)?;
+    let known = check_facts(alloc, actor, facts, request.revision, &gates, &documents)?;
     let incident = request.incident;
     let community = request.distribution.community;
     let mut edits = next_revision(alloc, incident, known, community, documents)?;
@@ -67,7 +67,7 @@ fn arguments(alloc: Global, request: &Replace) -> Result<(ClassGates, Vec<Posted
 }
 
 /// Asks what there is: the incident as the actor's own, groups, classes, its ident, its revision, room.
-fn allowed<'a>(
+fn check_facts<'a>(
     alloc: Global,
     actor: &Person,
     facts: &'a Facts,
@@ -75,7 +75,8 @@ fn allowed<'a>(
     gates: &ClassGates,
     documents: &[Posted],
 ) -> Result<&'a IncidentFacts, Stop>
-    ensures asked { Asks (replace_facts facts.now actor.now revision gates.now documents.now) result }
+    ensures asked { Asks
+        (replace_facts facts.now actor.now revision gates.now documents.now) result }
     ensures known { IfOk result (λ k. facts.now.incident ≡ Some k.now) }
     ensures ident { IfOk result (λ k.
         list_all (λ (doc : Lines). bytes_eq (ident_of doc) k.now.ident) documents.now ≡ true) }

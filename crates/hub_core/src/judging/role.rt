@@ -3,7 +3,8 @@ ghost use Rattle.std.specs.Prelude.{◌≡◌, true, Some};
 ghost use Rattle.circle.specs.Outcomes.{bare};
 ghost use Rattle.circle.specs.declared.refusal.Code.TheVariants.{W1};
 ghost use Rattle.hub_core.specs.State.{State};
-ghost use Rattle.hub_core.specs.Refusals.{lacks_role as lacks_its_role, refusal_of};
+ghost use Rattle.hub_core.specs.Refusals.{refusal_of};
+ghost use Rattle.hub_core.specs.Refusals as spec;
 
 use crate::judging::stop::may_post;
 use crate::request::Request;
@@ -12,7 +13,7 @@ use circle::directory::Person;
 /// Whether the request changes an incident and the actor's role forbids that: then it is refused with `W1` in every state,
 /// so nothing needs to be read for it, neither its body nor the shelf.
 pub fn lacks_role(actor: &Person, request: &Request) -> bool
-    ensures value { result ≡ lacks_its_role actor.now request.now }
+    ensures value { result ≡ spec.lacks_role actor.now request.now }
     ensures refused { result ≡ true → (s : State) →
         refusal_of s actor.now request.now ≡ Some (bare W1) }
 {

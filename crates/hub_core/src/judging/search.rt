@@ -1,6 +1,7 @@
 //! What may be wrong with a search.
 ghost use Rattle.std.specs.Prelude.{◌≡◌, IfOk};
-ghost use Rattle.hub_core.specs.Refusals.{grounds_by, is_bad_word as is_word_bad};
+ghost use Rattle.hub_core.specs.Refusals.{grounds_by};
+ghost use Rattle.hub_core.specs.Refusals as spec;
 ghost use Rattle.hub_core.specs.Aftermath.{edits_by};
 ghost use Rattle.hub_core.specs.inner.Asked.{Asks};
 ghost use Rattle.hub_core.specs.declared.request.Request.TheVariants as ask;
@@ -33,7 +34,7 @@ pub fn search(
 }
 
 fn is_bad_word(text: &Text) -> bool
-    ensures { result ≡ is_word_bad text.now }
+    ensures { result ≡ spec.is_bad_word text.now }
 {
     let length = text.as_str().len();
     length == 0 || length > WORD_LIMIT

@@ -2,7 +2,8 @@
 ghost use Rattle.std.specs.Prelude.{◌≡◌, [], ◌∷◌, IfOk, option_map, decimal};
 ghost use Rattle.circle.specs.Refusals.{refuse, bad, unless_administrator};
 ghost use Rattle.iodef_tree.specs.Pointer.{pointer_tokens};
-ghost use Rattle.hub_core.specs.Refusals.{because, may_post as is_poster, unless_poster, is_bad_pointer, other_than as told_unless_same, unless_own};
+ghost use Rattle.hub_core.specs.Refusals.{because, unless_poster, is_bad_pointer, unless_own};
+ghost use Rattle.hub_core.specs.Refusals as spec;
 ghost use Rattle.hub_core.specs.inner.Asked.{Asks};
 ghost use Rattle.hub_core.specs.declared.judging.stop.Stop.TheVariants.{NoMemory};
 
@@ -82,7 +83,7 @@ pub fn administrator(alloc: Global, actor: &Person) -> Result<(), Stop>
 
 /// Posters and coordinators alone post and change incidents.
 pub fn may_post(actor: &Person) -> bool
-    ensures { result ≡ is_poster actor.now.role }
+    ensures { result ≡ spec.may_post actor.now.role }
 {
     matches!(actor.role, Role::Coordinator | Role::Poster)
 }
@@ -122,7 +123,7 @@ pub fn path_of(alloc: Global, text: &str, field: &'static str) -> Result<Path, S
 
 /// The present revision, where it isn't the one that the request names.
 pub fn other_than(present: u32, revision: u32) -> Option<u32>
-    ensures { option_map decimal result ≡ told_unless_same revision present }
+    ensures { option_map decimal result ≡ spec.other_than revision present }
 {
     if present == revision {
         None

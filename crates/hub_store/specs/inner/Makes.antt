@@ -23,9 +23,11 @@ pub record Makes {T : Type 0} (old new : State) (Before After : Database → Typ
 
 -- Where this held before, it fails only for a reason, or for want of memory.
 pub record FailsOnly {T : Type 0} (old new : State) (Before : Database → Type 0) (result : Result T Error) : Type 0 where
-  pub cause : HasCleanDisk new → IsTrue old.in_transaction → Before old.now → IfErr result (λ e. e ≢ SqliteFailure code.OutOfMemory → HasReason old new)
+  pub cause : HasCleanDisk new → IsTrue old.in_transaction → Before old.now →
+      IfErr result (λ e. e ≢ SqliteFailure code.OutOfMemory → HasReason old new)
 
 -- The same, and where the one held before, it fails only for a reason.
 pub record Creates {T : Type 0} (old new : State) (Before After : Database → Type 0) (result : Result T Error) : Type 0 where
   pub makes : Makes old new Before After result
-  pub cause : HasCleanDisk new → IsTrue old.in_transaction → Before old.now → IfErr result (λ e. e ≢ SqliteFailure code.OutOfMemory → HasReason old new)
+  pub cause : HasCleanDisk new → IsTrue old.in_transaction → Before old.now →
+      IfErr result (λ e. e ≢ SqliteFailure code.OutOfMemory → HasReason old new)

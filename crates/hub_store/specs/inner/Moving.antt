@@ -19,14 +19,20 @@ use Rattle.hub_store.specs.inner.Beside.{HoldsBeside}
 
 -- an incident of version 1, which names no community, as its row shows it: its text reads as its document, and as no other beside it
 abbrev pub ShowsIncident : Row → Incident → Type 0
-ShowsIncident row i = (k : Naming) → (text : List ℕ) → k.community ≡ None → row ≡ naming_shown_2 k ++ Text text ∷ [] → (i.naming ≡ k) × (reading text ≡ Ok (i.document ∷ []))
+ShowsIncident row i =
+    (k : Naming) → (text : List ℕ) → k.community ≡ None → row ≡ naming_shown_2 k ++ Text text ∷ [] →
+    (i.naming ≡ k) × (reading text ≡ Ok (i.document ∷ []))
 
 -- the same without its document, and its document alone
 abbrev pub ShowsNaming : Row → Naming → Type 0
-ShowsNaming row naming = (k : Naming) → (text : List ℕ) → k.community ≡ None → row ≡ naming_shown_2 k ++ Text text ∷ [] → naming ≡ k
+ShowsNaming row naming =
+    (k : Naming) → (text : List ℕ) → k.community ≡ None → row ≡ naming_shown_2 k ++ Text text ∷ [] →
+    naming ≡ k
 
 abbrev pub ShowsDocument : Row → Lines → Type 0
-ShowsDocument row document = (k : Naming) → (text : List ℕ) → row ≡ naming_shown_2 k ++ Text text ∷ [] → reading text ≡ Ok (document ∷ [])
+ShowsDocument row document =
+    (k : Naming) → (text : List ℕ) → row ≡ naming_shown_2 k ++ Text text ∷ [] →
+    reading text ≡ Ok (document ∷ [])
 
 -- the columns of an incident of version 1
 abbrev pub old_shown : Incident → Row

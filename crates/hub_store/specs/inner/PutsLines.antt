@@ -18,7 +18,11 @@ HasMore incident place lines items more = IsPermutation (map item_row (items_fro
 -- The lines come in, between two statements of an edit, or between version 1 and version 2.
 pub record PutsLines {T : Type 0} (incident place : ℕ) (lines : Lines) (old new : State) (result : Result T Error) : Type 0 where
   pub goes : Goes old new result
-  pub edited : (s : core.State) → (incidents items more : List Row) → HasMore incident place lines items more → Makes old new (λ db. HoldsBetween items incidents db s) (λ db. HoldsBetween more incidents db s) result
-  pub moved : (s : core.State) → (items more : List Row) → HasMore incident place lines items more → Makes old new (HoldsBeside items s) (HoldsBeside more s) result
+  pub edited : (s : core.State) → (incidents items more : List Row) →
+      HasMore incident place lines items more →
+      Makes old new (λ db. HoldsBetween items incidents db s) (λ db. HoldsBetween more incidents db s) result
+  pub moved : (s : core.State) → (items more : List Row) → HasMore incident place lines items more →
+      Makes old new (HoldsBeside items s) (HoldsBeside more s) result
   -- lines that the table takes fail only for a reason
-  pub cause : (s : core.State) → (items more : List Row) → HasMore incident place lines items more → CanStand more → FailsOnly old new (HoldsBeside items s) result
+  pub cause : (s : core.State) → (items more : List Row) → HasMore incident place lines items more →
+      CanStand more → FailsOnly old new (HoldsBeside items s) result

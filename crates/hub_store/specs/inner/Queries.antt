@@ -23,7 +23,8 @@ pub record HasRefused {S : Type 0} (g : store.Ghosts S) (text : List ℕ) (param
   pub survives : Survives (state g old) (state g mid) (λ _. ⊥)
   pub now : (state g mid).now ≡ (state g old).now
   pub is_open : IsTrue (state g old).is_open → IsTrue (state g mid).is_open
-  pub fails : FailsToQuery text params (state g mid) (state g new) e ⊎ IsTooLate text params (state g mid) (state g new) e
+  pub fails : FailsToQuery text params (state g mid) (state g new) e ⊎
+      IsTooLate text params (state g mid) (state g new) e
 
 -- A read in a transaction: it commits nothing, after an Ok all is as it was, and the answer is right of the state that the tables stand for.
 pub record IsReadInside {T : Type 0} (old new : State) (Right : core.State → T → Type 0) (result : Result T Error) : Type 0 where

@@ -39,7 +39,8 @@ ShowsAll shows (row ∷ rows) (x ∷ xs) = shows row x × ShowsAll shows rows xs
 -- ---- the columns that the queries name
 
 abbrev pub person_shown : Person → Row
-person_shown p = Int (pos p.number) ∷ Int (pos p.org) ∷ Text p.name ∷ Int (pos (role_number p.role)) ∷ flag p.active ∷ flag p.nominated ∷ []
+person_shown p =
+    Int (pos p.number) ∷ Int (pos p.org) ∷ Text p.name ∷ Int (pos (role_number p.role)) ∷ flag p.active ∷ flag p.nominated ∷ []
 
 abbrev pub entry_shown : Entry → Row
 entry_shown e = Int (pos e.number) ∷ Int (pos e.revision) ∷ Int (pos e.source) ∷ []
@@ -49,7 +50,8 @@ abbrev pub naming_shown_2 : Naming → Row
 naming_shown_2 k = Int (pos k.number) ∷ Int (pos k.source) ∷ Text k.ident ∷ Int (pos k.revision) ∷ []
 
 abbrev pub naming_shown : Naming → Row
-naming_shown k = Int (pos k.number) ∷ Int (pos k.source) ∷ Text k.ident ∷ Int (pos k.revision) ∷ number_or_null k.community ∷ []
+naming_shown k =
+    Int (pos k.number) ∷ Int (pos k.source) ∷ Text k.ident ∷ Int (pos k.revision) ∷ number_or_null k.community ∷ []
 
 abbrev pub gate_shown : Gate → Row
 gate_shown g = Text (pointer_text g.path) ∷ Int (pos g.level) ∷ number_or_null g.group ∷ []
@@ -58,7 +60,8 @@ abbrev pub target_shown : Target → Row
 target_shown target = Int (pos (target_key target).0) ∷ Int (pos (target_key target).1) ∷ []
 
 abbrev pub permission_shown : Permission → Row
-permission_shown x = Text (pointer_text x.path) ∷ Int (pos (grantee_key x.grantee).0) ∷ Int (pos (grantee_key x.grantee).1) ∷ moment_or_null x.until ∷ []
+permission_shown x =
+    Text (pointer_text x.path) ∷ Int (pos (grantee_key x.grantee).0) ∷ Int (pos (grantee_key x.grantee).1) ∷ moment_or_null x.until ∷ []
 
 -- the row stands at this place, whatever else it has, and shows no other line
 abbrev pub ShowsPlaced : Row → PlacedLine → Type 0
@@ -73,4 +76,5 @@ ShowsLines (row ∷ rows) (Some lines) = ShowsAll ShowsPlaced (row ∷ rows) (pl
 
 -- the case of an incident with this number, by what it is known by
 abbrev pub IsCase : Naming → ℕ → State → Case → Type 0
-IsCase k n s case = (case.source ≡ k.source) × (case.community ≡ k.community) × (case.gates ≡ its_gates n s.gates) × (case.permissions ≡ its_permissions n s.permissions)
+IsCase k n s case = (case.source ≡ k.source) × (case.community ≡ k.community) ×
+    (case.gates ≡ its_gates n s.gates) × (case.permissions ≡ its_permissions n s.permissions)

@@ -47,7 +47,9 @@ is_one_of ns n = list_any (λ m. m == n) ns
 
 -- the communities that are connected with this one: those with a greater number, then those with a smaller
 abbrev pub linked_with : ℕ → Directory → List ℕ
-linked_with community d = map (λ (p : Pair). p.0.1) (pairs_from kind.Connection community d) ++ map (λ (p : Pair). p.0.0) (pairs_to kind.Connection community d)
+linked_with community d =
+    map (λ (p : Pair). p.0.1) (pairs_from kind.Connection community d)
+    ++ map (λ (p : Pair). p.0.0) (pairs_to kind.Connection community d)
 
 -- what an organisation's rows among the members of groups are joined with
 abbrev pub group_if_any : Directory → Joined → Option JoinedGroup
@@ -55,4 +57,5 @@ group_if_any d j = option_map (joined_group j) (group_of j.group d)
 
 -- the groups of which an organisation is a member, by number
 abbrev pub groups_in : ℕ → Directory → List JoinedGroup
-groups_in org d = filter_map (λ (m : GroupMember). option_map (joined m) (group_of m.group d)) (memberships_in_groups org d)
+groups_in org d =
+    filter_map (λ (m : GroupMember). option_map (joined m) (group_of m.group d)) (memberships_in_groups org d)

@@ -11,7 +11,8 @@ use std::alloc::Global;
 
 impl<S: Alter> SqlShelf<S> {
     ghost use Rattle.sqlite.specs.Held.{state};
-    ghost use Rattle.hub_store.specs.Opening.{is_older as is_older_version, IsBrought, IsNotBrought, IsMigrated, IsUnmigrated};
+    ghost use Rattle.hub_store.specs.Opening.{IsBrought, IsNotBrought, IsMigrated, IsUnmigrated};
+    ghost use Rattle.hub_store.specs.Opening as spec;
 
     /// Brings the tables of an older version to the newest.
     fn from_version(
@@ -19,7 +20,7 @@ impl<S: Alter> SqlShelf<S> {
         mut conn: Connection<S>,
         found: u32,
     ) -> Result<SqlShelf<S>, (OpenFault, Connection<S>)>
-        requires older { IsTrue (is_older_version found) }
+        requires older { IsTrue (spec.is_older found) }
         requires waits { conn.in_transaction ≡ false }
         ensures brought { IfOk result (λ shelf.
             IsBrought found (state S.Store conn) (state S.Store shelf.conn) shelf.failures) }

@@ -100,18 +100,21 @@ cut h n (plain i rest) =
 cut h n (class name place j kids rest) =
     let behind = cut h (left_with n place) rest in
     if j.visible then branch name (new_place n place) (with_label h j (cut (inside true) 0 kids)) behind
-    else (let inner = cut (inside false) 0 kids in if is_end inner then cut h (left_before n place) rest else branch name (new_place n place) inner behind)
+    else (let inner = cut (inside false) 0 kids in if is_end inner then cut h (left_before n place) rest
+    else branch name (new_place n place) inner behind)
 
 -- how many classes are visible
 abbrev pub visible_classes : Judged → ℕ
 visible_classes none = 0
 visible_classes (plain i rest) = visible_classes rest
-visible_classes (class name place j kids rest) = (if j.visible then 1 else 0) + (visible_classes kids + visible_classes rest)
+visible_classes (class name place j kids rest) =
+    (if j.visible then 1 else 0) + (visible_classes kids + visible_classes rest)
 
 -- what is withheld of the members at home, whose class stands at place q of the excerpt
 abbrev pub withheld_below : Surrounding → Tokens → ℕ → Judged → List Withheld
 withheld_below h q n none = []
-withheld_below h q n (plain i rest) = withheld_below h q (if keeps_plain h then left_with n i.place else left_before n i.place) rest
+withheld_below h q n (plain i rest) =
+    withheld_below h q (if keeps_plain h then left_with n i.place else left_before n i.place) rest
 withheld_below h q n (class name place j kids rest) =
     let r = q ++ steps name (new_place n place) in
     if j.visible then withheld_below (inside true) r 0 kids ++ withheld_below h q (left_with n place) rest

@@ -30,7 +30,8 @@ module _ (c : Case) (s : Standing) where
   abbrev pub class_told : Tokens → Tokens → Judgment → Judged → List Withheld
   class_told q r j kids =
       if j.visible then withheld_below (inside true) r 0 kids
-      else (if is_end (cut (inside false) 0 kids) then (q, j.rule) ∷ [] else (r, j.rule) ∷ withheld_below (inside false) r 0 kids)
+      else (if is_end (cut (inside false) 0 kids) then (q, j.rule) ∷ []
+      else (r, j.rule) ∷ withheld_below (inside false) r 0 kids)
 
   abbrev pub class_count : Judgment → Judged → ℕ
   class_count j kids = (if j.visible then 1 else 0) + visible_classes kids
@@ -62,7 +63,8 @@ module _ (c : Case) (s : Standing) where
   abbrev pub told_items : Surrounding → Inherited → Tokens → Tokens → ℕ → ℕ → List Body → List Withheld
   told_items h d q r k n [] = []
   told_items h d q r k n (b ∷ bs) =
-      told_at d q (r ++ decimal n ∷ []) (decimal k) b ++ told_items h d q r (suc k) (if is_some (left_at h d (decimal k) b) then suc n else n) bs
+      told_at d q (r ++ decimal n ∷ []) (decimal k) b
+      ++ told_items h d q r (suc k) (if is_some (left_at h d (decimal k) b) then suc n else n) bs
 
   abbrev pub count_items : Inherited → ℕ → List Body → ℕ
   count_items d k [] = 0
@@ -123,7 +125,9 @@ pub record Tells (old new : State) (rules : List Rule) : Type 0 where
 -- A class that isn't visible is left, inside one whose members had met these rules. Its rule is told at its place with those
 -- met in it, unless nothing of it is left: then its rule is one of those met around it.
 pub record Leaves (old new : State) (outside : List Rule) (rule : Rule) (empty : Bool) : Type 0 where
-  pub withheld : new.withheld.items ≡ (if empty then old.withheld.items else old.withheld.items ++ at_place (path_of old.place.items) (with_rule old.rules_met.items rule))
+  pub withheld : new.withheld.items
+      ≡ (if empty then old.withheld.items
+      else old.withheld.items ++ at_place (path_of old.place.items) (with_rule old.rules_met.items rule))
   pub gone : new.rules_met.items ≡ (if empty then with_rule outside rule else outside)
   pub path : new.path.items ≡ old.path.items
   pub place : new.place.items ≡ old.place.items

@@ -63,7 +63,8 @@ module _ (c : Case) (s : Standing) (asked : Bytes → Forest → Bool) where
   -- what stands under this token of the class or array at d, in a member of this name
   abbrev pub found_at : Inherited → Bytes → Bytes → Body → Bool
   found_at d t name (says content) = false
-  found_at d t name (holds kids) = let k = enter_class c s d t (spelled_in kids) in class_hits k name kids || found k kids
+  found_at d t name (holds kids) =
+      let k = enter_class c s d t (spelled_in kids) in class_hits k name kids || found k kids
 
   -- the elements of the array at d from place k on
   abbrev pub found_items : Inherited → Bytes → ℕ → List Body → Bool

@@ -57,7 +57,7 @@ holds_wanted_by (Some needle) es p = holds_needle es needle p
 abbrev pub holds_wanted : Want → List LocatedLine → Tokens → Bool
 holds_wanted w es p = holds_wanted_by (option_map string_bytes w.needle) es p
 
--- the line of the class at the path, if its name is wanted
+-- the line is that of the class at the path, whose name is wanted
 abbrev pub is_wanted_at : Want → Tokens → LocatedLine → Bool
 is_wanted_at w p e = is_class e && (same_path e.path p && wants_name w e.line.name)
 
@@ -150,20 +150,20 @@ is_restriction l = bytes_eq l.name (codes "restriction")
 
 -- ---- the open classes, the outermost first
 
--- a class whose line has come, and which a permission opens or not
+-- a class whose line has come, and which a permission shows or not
 abbrev pub entered : Sight → Want → Line → Bool → Open
 entered k w l g = record { fits = wants_name w l.name; holds = is_none w.needle; shown = is_everything k || g; labelled = false; beside = beside.Absent }
 
 -- the line is the first that is named `restriction`, and shows the class
-abbrev pub shows : Sight → Standing → Line → Open → Bool
-shows k s l o = is_restriction l && (not o.labelled && (is_cleared_sight k && is_cleared_if s o.beside (plain_text l)))
+abbrev pub shows_class : Sight → Standing → Line → Open → Bool
+shows_class k s l o = is_restriction l && (not o.labelled && (is_cleared_sight k && is_cleared_if s o.beside (plain_text l)))
 
 -- with a line more that stands in it
 abbrev pub holding : Sight → Standing → Want → Line → Open → Open
 holding k s w l o = record {
   fits = o.fits;
   holds = o.holds || wants_line w l;
-  shown = o.shown || shows k s l o;
+  shown = o.shown || shows_class k s l o;
   labelled = o.labelled || is_restriction l;
   beside = beside_with s l o.beside;
 }
@@ -175,12 +175,12 @@ innermost_holding k s w l (x ∷ []) = holding k s w l x ∷ []
 innermost_holding k s w l (x ∷ y ∷ xs) = x ∷ innermost_holding k s w l (y ∷ xs)
 
 -- the class of the line is open behind them, if it is one
-abbrev pub opened : Sight → Want → Line → Bool → List Open → List Open
-opened k w l g os = if is_class_kind l.kind then os ++ entered k w l g ∷ [] else os
+abbrev pub with_opened_class : Sight → Want → Line → Bool → List Open → List Open
+with_opened_class k w l g os = if is_class_kind l.kind then os ++ entered k w l g ∷ [] else os
 
 -- with a line more
-abbrev pub noted : Sight → Standing → Want → Line → Bool → List Open → List Open
-noted k s w l g os = opened k w l g (innermost_holding k s w l (take (l.depth - 1) os))
+abbrev pub open_with_line : Sight → Standing → Want → Line → Bool → List Open → List Open
+open_with_line k s w l g os = with_opened_class k w l g (innermost_holding k s w l (take (l.depth - 1) os))
 
 -- it is sure that the reader sees the class, that it holds what is wanted, and that it has a name that is wanted
 abbrev pub is_settled : Open → Bool
@@ -203,10 +203,10 @@ module _ (w : Want) (c : Case) (s : Standing) (ls : List Line) where
     pub holds : o.holds ≡ true → holds_wanted w (located ls) p ≡ true
     pub shown : o.shown ≡ true → IsSeen p
     pub class : has_class (located ls) p ≡ true
-    pub bare : o.labelled ≡ false → restriction_at (located ls) p ≡ absent
+    pub unlabelled : o.labelled ≡ false → restriction_at (located ls) p ≡ absent
     pub beside : IsBeside s o.beside (ext_restriction_at (located ls) p)
 
-  -- the first of them is the parent of a line of this depth, each next one that of a deeper one
+  -- the first of them is the parent of a line of this depth, each next one that of a line one deeper
   abbrev pub AreOpen : ℕ → List Open → Type 0
   AreOpen d [] = Unit {0}
   AreOpen d (o ∷ os) = IsOpen (parent_path (located_back ls) d) o × AreOpen (suc d) os
@@ -216,7 +216,8 @@ module _ (w : Want) (c : Case) (s : Standing) (ls : List Line) where
   pub record Follows (os : List Open) : Type 0 where
     pub classes : AreOpen 2 os
     pub deep : suc (length os) ≡ deepest (back ls)
-    pub rising : (j k : ℕ) → 1 ≤ j → j < k → k ≤ deepest (back ls) → length (parent_path (located_back ls) j) < length (parent_path (located_back ls) k)
+    pub rising : (j k : ℕ) → 1 ≤ j → j < k → k ≤ deepest (back ls) →
+        length (parent_path (located_back ls) j) < length (parent_path (located_back ls) k)
 
 -- ---- all that is known
 

@@ -1,15 +1,15 @@
 use Rattle.std.proofs.Common.{◌≡◌, ◌-◌, List, [], ◌∷◌, length, slice_index_or, slice_set, refl, ap, sub-one, ◌∙◌}
 use Rattle.iodef_tree.specs.declared.line.Line.{Line}
 use Rattle.redact.specs.declared.marks.Marking.{Marking}
-use Rattle.redact.specs.Marked.{held_with, holding}
+use Rattle.redact.specs.Marked.{held_with, innermost_held_with}
 use Rattle.redact.proofs.marks.hold.Goals as goal
 
-held-at_end : (l : Line) (x : Marking) (xs : List Marking) (d : Marking) → slice_set (x ∷ xs) (length xs) (held_with l (slice_index_or (x ∷ xs) (length xs) d)) ≡ holding l (x ∷ xs)
+held-at_end : (l : Line) (x : Marking) (xs : List Marking) (d : Marking) → slice_set (x ∷ xs) (length xs) (held_with l (slice_index_or (x ∷ xs) (length xs) d)) ≡ innermost_held_with l (x ∷ xs)
 held-at_end l x [] d = refl
 held-at_end l x (y ∷ xs) d = ap (λ ys. x ∷ ys) (held-at_end l y xs d)
 
 -- the last of a list holds the line
-held-last : (l : Line) (xs : List Marking) (d : Marking) → slice_set xs (length xs - 1) (held_with l (slice_index_or xs (length xs - 1) d)) ≡ holding l xs
+held-last : (l : Line) (xs : List Marking) (d : Marking) → slice_set xs (length xs - 1) (held_with l (slice_index_or xs (length xs - 1) d)) ≡ innermost_held_with l xs
 held-last l [] d = refl
 held-last l (x ∷ xs) d = rw sub-one (held-at_end l x xs d)
 

@@ -3,7 +3,7 @@ use Rattle.iodef_tree.specs.View.{forest}
 use Rattle.redact.specs.inner.Judged.{put_leaf, put_attributes, attribute_leaf}
 use Rattle.redact.specs.Told.{attributes_by}
 use Rattle.marking.specs.Label.{marking_of, restriction_of}
-use Rattle.redact.proofs.attributes.labelled.Goals as goal
+use Rattle.redact.proofs.attributes.put_label.Goals as goal
 
 pub returns-in_ok-with_attribute-in-Some-clause-put : goal.returns-in_ok-with_attribute-in-Some-clause-put
 returns-in_ok-with_attribute-in-Some-clause-put c =
