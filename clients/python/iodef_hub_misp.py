@@ -683,8 +683,10 @@ class Report:
     gates: tuple[str, ...]
     source: int
 
-    def line(self) -> str:
-        return compact({"document": self.document, "gates": self.gates, "group": self.group, "level": self.level, "source": self.source})
+    def line(self, community: int | None = None) -> str:
+        """The line for `post-all`; what is green in the report is for one community, if one is named."""
+        named = {} if community is None else {"community": community}
+        return compact({**named, "document": self.document, "gates": self.gates, "group": self.group, "level": self.level, "source": self.source})
 
 
 def compact(value: object) -> str:
@@ -1197,6 +1199,7 @@ def words() -> argparse.ArgumentParser:
     there.add_argument("--stricter", action="store_true", help="where more than 16 gates are wanted, some attributes are for the source alone")
     there.add_argument("--split", action="store_true", help="what is too large for one report, or has too many gates, becomes several")
     there.add_argument("--unpublished", action="store_true", help="takes an event that isn't published")
+    there.add_argument("--community", type=number, metavar="NUMBER", help="the hub's community for which green is meant; else any community of the source")
     back = ways.add_parser("to-misp", help="the event of what iodef-hub-ask --json show tells")
     back.add_argument("--sharing-group", type=number, metavar="ID", help="the number in your MISP of the sharing group that gets the event; else your organisation only")
     for each, what in ((there, "EVENT"), (back, "ANSWER")):
@@ -1212,7 +1215,7 @@ def main() -> int:
         mapping, text = Mapping.read(read_file(given.map)), read_file(given.file)
         if given.way == "to-iodef":
             choices = Choices(given.untagged, given.own_tags, given.stricter, given.split, given.unpublished)
-            lines = [each.line() for each in to_iodef(text, mapping, choices)]
+            lines = [each.line(given.community) for each in to_iodef(text, mapping, choices)]
         else:
             lines = [json.dumps(to_misp(text, mapping, given.sharing_group), indent=1, ensure_ascii=False)]
         sys.stdout.buffer.write("".join(each + "\n" for each in lines).encode())
