@@ -56,7 +56,7 @@ say "A sharing group of the bank's, with the telco in it"
 ask bank-key POST /groups --data-urlencode "name=phishing" --data-urlencode "releasability=members only"
 ask bank-key POST /groups/1/add -d "org=3&extend=0"
 
-say "The bank posts its report to all communities (level 3), the second EventData to the group alone (level 4)"
+say "The bank posts its report to everybody in the hub (level 3), the second EventData to the group alone (level 4)"
 ask bank-key POST '/incidents?level=3&gate=4:1:/Incident/0/EventData/1' --data-binary "@$top/docs/examples/phishing.json"
 
 say "What the bank is served: all of it"
