@@ -6,7 +6,7 @@ mod Accepted
 mod ValueTexts
 mod Flat
 mod Spines
-mod Writing
+pub mod Writing
 mod Data
 mod Each
 mod Passed
