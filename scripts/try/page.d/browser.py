@@ -22,9 +22,11 @@ Date.now = () => now() + window.setForward;
 
 
 class Browser:
-    def __init__(self, folder: pathlib.Path) -> None:
-        self.driver = subprocess.Popen(["chromedriver", "--port=0"], stdout=subprocess.PIPE, stderr=subprocess.DEVNULL, text=True)
-        self.port = self.port_of_driver()
+    def __init__(self, folder: pathlib.Path, port: int) -> None:
+        words = ["chromedriver", f"--port={port}"]
+        self.driver = subprocess.Popen(words, stdout=subprocess.PIPE, stderr=subprocess.DEVNULL, text=True)
+        self.port = port
+        self.await_driver()
         self.session = ""
         wanted = {
             "browserName": "chrome",
@@ -43,12 +45,12 @@ class Browser:
         self.session = str(self.call("POST", "/session", {"capabilities": {"alwaysMatch": wanted}})["sessionId"])
         self.cdp("Page.addScriptToEvaluateOnNewDocument", source=WATCH)
 
-    def port_of_driver(self) -> int:
+    def await_driver(self) -> None:
         assert self.driver.stdout is not None
         for line in self.driver.stdout:
             if "successfully on port" in line:
-                return int(line.rstrip().rstrip(".").rsplit(" ", 1)[1])
-        raise RuntimeError("chromedriver did not start")
+                return
+        raise RuntimeError(f"chromedriver does not listen on port {self.port}")
 
     def call(self, method: str, path: str, body: dict[str, object] | None = None) -> typing.Any:
         connection = http.client.HTTPConnection("127.0.0.1", self.port, timeout=120)

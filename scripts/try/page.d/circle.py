@@ -19,28 +19,25 @@ def digest(key: str) -> str:
 class Circle:
     """The hub's process with its store in a folder, and requests to it past the page."""
 
-    def __init__(self, program: pathlib.Path, folder: pathlib.Path) -> None:
+    def __init__(self, program: pathlib.Path, folder: pathlib.Path, port: int) -> None:
         self.program = program
         self.store = folder / "hub.db"
         subprocess.run([program, "init", self.store, "Hub", digest(KEYS["admin"])], check=True, stdout=subprocess.DEVNULL)
-        self.port = 0
+        self.port = port
         self.process = self.served()
 
     def served(self) -> subprocess.Popen[str]:
-        """The hub on a port that is free; the same as before where it was served already."""
-        for port in [self.port] if self.port else range(28080, 28180):
-            process = subprocess.Popen(
-                [self.program, "serve", self.store, str(port), "1000000"],
-                stdout=subprocess.PIPE,
-                stderr=subprocess.DEVNULL,
-                text=True,
-            )
-            assert process.stdout is not None
-            if process.stdout.readline().startswith("listening"):
-                self.port = port
-                return process
+        process = subprocess.Popen(
+            [self.program, "serve", self.store, str(self.port), "1000000"],
+            stdout=subprocess.PIPE,
+            stderr=subprocess.DEVNULL,
+            text=True,
+        )
+        assert process.stdout is not None
+        if not process.stdout.readline().startswith("listening"):
             process.wait(10)
-        raise RuntimeError("no port is free")
+            raise RuntimeError(f"the hub does not listen on port {self.port}")
+        return process
 
     def ask(
         self, who: str, method: str, path: str, form: Pairs = (), query: Pairs = (), report: bytes | None = None

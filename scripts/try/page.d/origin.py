@@ -38,12 +38,13 @@ def policy_of(page: str) -> str:
 class Origin:
     """The server, what it was asked, and answers that it gives in the hub's place, each once."""
 
-    def __init__(self, page: pathlib.Path, hub_port: int) -> None:
+    def __init__(self, page: pathlib.Path, hub_port: int, port: int) -> None:
         self.page = page
         self.hub_port = hub_port
         self.names: bytes | None = None
         self.instead: dict[str, Answer] = {}
         self.asked: list[tuple[str, str]] = []
+        self.bodies: list[bytes] = []
         self.one_at_a_time = threading.Lock()
         origin = self
 
@@ -78,8 +79,8 @@ class Origin:
                 self.end_headers()
                 self.wfile.write(content)
 
-        self.server = http.server.ThreadingHTTPServer(("127.0.0.1", 0), Handler)
-        self.port = self.server.server_address[1]
+        self.server = http.server.ThreadingHTTPServer(("127.0.0.1", port), Handler)
+        self.port = port
         threading.Thread(target=self.server.serve_forever, daemon=True).start()
 
     @property
@@ -89,6 +90,7 @@ class Origin:
     def answer_to(self, method: str, target: str, key: str | None, body: bytes) -> Answer:
         path = urllib.parse.urlsplit(target).path
         self.asked.append((method, target))
+        self.bodies.append(body)
         if path == "/ui/":
             return 200, "text/html; charset=utf-8", self.page.read_bytes()
         if path == "/ui/names.json":
@@ -111,6 +113,11 @@ class Origin:
                 return 503, "application/json", b'{"code":"Away","detail":"","reason":"hub restarts or is busy"}'
             finally:
                 connection.close()
+
+    def forms(self, method: str, path: str) -> list[dict[str, str]]:
+        """What each request of this method and path had in its form, in their order."""
+        pairs = zip(self.asked, self.bodies, strict=True)
+        return [dict(urllib.parse.parse_qsl(body.decode(), True)) for asked, body in pairs if asked == (method, path)]
 
     def close(self) -> None:
         self.server.shutdown()
