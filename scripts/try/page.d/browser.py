@@ -53,7 +53,7 @@ class Browser:
         raise RuntimeError(f"chromedriver does not listen on port {self.port}")
 
     def call(self, method: str, path: str, body: dict[str, object] | None = None) -> typing.Any:
-        connection = http.client.HTTPConnection("127.0.0.1", self.port, timeout=120)
+        connection = http.client.HTTPConnection("127.0.0.1", self.port, timeout=600)
         prefix = f"/session/{self.session}" if self.session else ""
         connection.request(
             method, prefix + path, None if body is None else json.dumps(body), {"Content-Type": "application/json"}
