@@ -91,6 +91,33 @@ DEFAULT_CATEGORY = {
     "email": "Social network",
 }
 WITHOUT_DATA = {"malware-sample": "filename|md5", "attachment": "filename"}  # as no file is carried
+# The members of an event, an attribute and an object that are read.
+SPREAD = {"distribution", "sharing_group_id", "SharingGroup"}
+EVENT_READ = {
+    "uuid", "info", "date", "timestamp", "publish_timestamp", "threat_level_id", "analysis", "published", "Orgc", "Tag", "EventTag", "Attribute", "Object",
+    "ShadowAttribute", "EventReport", "extends_uuid", *SPREAD,
+}
+ATTRIBUTE_READ = {
+    "type", "value", "category", "to_ids", "comment", "Tag", "AttributeTag", "first_seen", "last_seen", "object_relation", "deleted", "ShadowAttribute", *SPREAD,
+}
+OBJECT_READ = {"name", "meta-category", "template_uuid", "template_version", "comment", "deleted", "Attribute", "ObjectReference", *SPREAD}
+# What means something to one MISP alone: numbers, UUIDs, times and switches. Nobody misses it, so it isn't counted.
+OWN_MATTER = {
+    "id", "org_id", "orgc_id", "event_id", "object_id", "user_id", "uuid", "timestamp", "Org", "attribute_count", "locked", "proposal_email_lock",
+    "disable_correlation", "event_creator_email", "protected", "sighting_timestamp", "batch_import",
+}
+# What others are called where they are counted.
+CALLED = {"Galaxy": "galaxies but for their tags", "Sighting": "sightings", "RelatedEvent": "related events", "CryptographicKey": "cryptographic keys", "data": "files"}
+# Members of a report that say nothing where they have such a value; labels become tags.
+USUAL = {
+    "purpose": ("reporting",), "operator": ("or",), "system-status": ("unknown",), "domain-status": ("unknown",), "scope": ("file-contents",), "dtype": ("string",),
+}
+LABEL_MEMBERS = ("restriction", "ext-restriction")
+EXTRAS = {
+    "misp-threat-level", "misp-analysis", "misp-tag", "misp-type", "misp-category", "misp-relation", "misp-first-seen", "misp-last-seen", "misp-comment",
+    "misp-to-ids", "misp-value", "misp-object", "misp-meta-category", "misp-template",
+}
+UUID = r"[0-9a-f]{8}(-[0-9a-f]{4}){3}-[0-9a-f]{12}"
 KIND = r"[A-Za-z0-9][A-Za-z0-9|_ -]{0,63}"  # what a type of MISP looks like
 MARK = "\0gate"  # stands for a gate in a class until its place is known
 
@@ -172,7 +199,7 @@ def list_of(value: dict[str, Any], name: str, where: str) -> list[dict[str, Any]
 
 def uuid_of(value: dict[str, Any], name: str, where: str) -> str:
     text = text_of(value, name, where).lower()
-    if not re.fullmatch(r"[0-9a-f]{8}(-[0-9a-f]{4}){3}-[0-9a-f]{12}", text):
+    if not re.fullmatch(UUID, text):
         raise Unfit(f"{where}: {name} is no UUID")
     return text
 
@@ -282,6 +309,7 @@ class Choices:
     stricter: bool = False
     split: bool = False
     unpublished: bool = False
+    distribution: int | None = None  # of an event that tells none
 
 
 @dataclass
@@ -321,6 +349,7 @@ class Tags:
     shared: list[str] = field(default_factory=list)
     local: list[str] = field(default_factory=list)
     others: list[str] = field(default_factory=list)
+    kept_back: int = 0
 
 
 def tags_of(value: dict[str, Any], where: str) -> Tags:
@@ -339,9 +368,15 @@ def tags_of(value: dict[str, Any], where: str) -> Tags:
             (tags.local if is_local else tags.shared).append(label)
             if label == "red" and name.strip().lower() != "tlp:red":  # a stranger, or a look-alike
                 say(f"{where}: the tag {name} isn't known, so it is taken as tlp:red")
-        elif not is_local:
+        elif is_local:
+            tags.kept_back += 1
+        else:
             tags.others.append(name)
     return tags
+
+
+def names_group(value: dict[str, Any], where: str) -> bool:
+    return bool(value.get("SharingGroup")) or text_of(value, "sharing_group_id", where, "0") not in ("", "0")
 
 
 class Reader:
@@ -358,15 +393,16 @@ class Reader:
         where = "Event"
         if not flag_of(value, "published", where) and not self.choices.unpublished:
             raise Unfit("Event isn't published (--unpublished takes it)")
+        self._look_whole(value)
         self._note_groups(value)
-        level, group = self._distribution(value, where, 4)
+        level, group = self._event_distribution(value)
         orgc = value.get("Orgc")
         if not isinstance(orgc, dict):
             raise Unfit("Event: Orgc is missing")
         org = next((each for each in self.mapping.orgs if each.uuid == uuid_of(orgc, "uuid", "Orgc")), None)
         if org is None:
             raise Unfit(f"Orgc: the organisation {uuid_of(orgc, 'uuid', 'Orgc')} has no entry in the mapping")
-        tags = tags_of(value, where)
+        tags = self._tags(value, where)
         if not tags.shared:
             say(f"Event has no TLP tag that is shared, so it is taken as tlp:{self.choices.untagged}")
         elif len(set(tags.shared)) > 1:
@@ -378,6 +414,7 @@ class Reader:
             self.left_out[what] += len(list_of(value, name, where))
         if text_of(value, "extends_uuid", where, ""):
             self.left_out["which event this one extends"] += 1
+        self._count_others(value, EVENT_READ, "events")
         if any(self.noted.values()):
             say("noted: " + counted(self.noted))
         if any(self.left_out.values()):
@@ -406,6 +443,37 @@ class Reader:
             elif isinstance(each, list):
                 waiting += each
 
+    def _look_whole(self, value: dict[str, Any]) -> None:
+        """An index of events tells how many attributes each has, without them."""
+        count = text_of(value, "attribute_count", "Event", "0")
+        if count not in ("", "0") and "Attribute" not in value and "Object" not in value:
+            raise Unfit(f"Event has {count} attributes by its attribute_count, and none is here (an index of events has none: export the event)")
+
+    def _count_others(self, value: dict[str, Any], read: set[str], of: str) -> None:
+        """What is neither read nor a matter of that MISP alone."""
+        for name, found in value.items():
+            if name not in read and name not in OWN_MATTER and not name.startswith("_") and found not in (None, "", "0", 0, [], {}):
+                what = CALLED.get(name) or (name if of == "attributes" else f"{name} of {of}")
+                self.left_out[what] += len(found) if isinstance(found, list) else 1
+
+    def _tags(self, value: dict[str, Any], where: str) -> Tags:
+        tags = tags_of(value, where)
+        self.left_out["tags that are local or not exportable"] += tags.kept_back
+        return tags
+
+    def _event_distribution(self, value: dict[str, Any]) -> tuple[int, int | None]:
+        """The event's own, and only where it tells none the one that the operator chose."""
+        chosen = self.choices.distribution
+        if value.get("distribution") is not None:
+            if chosen is not None:
+                say("Event has a distribution of its own, which holds in place of --distribution")
+            return self._distribution(value, "Event", 4)
+        if names_group(value, "Event"):
+            raise Unfit("Event: distribution is missing, and a sharing group is named; write 4 if it is for that group")
+        if chosen is None:
+            raise Unfit("Event: distribution is missing (--distribution NUMBER says it)")
+        return chosen, None
+
     def _distribution(self, value: dict[str, Any], where: str, most: int) -> tuple[int, int | None]:
         text = text_of(value, "distribution", where)
         if text not in list("012345")[: most + 1]:
@@ -424,7 +492,11 @@ class Reader:
         return 4, self.mapping.groups[name]
 
     def _gate(self, value: dict[str, Any], where: str) -> tuple[int, int] | None:
-        """The gate of a distribution below an event's: none where it inherits or lets everybody pass."""
+        """The gate of a distribution below an event's: none where it inherits, as without one, or lets everybody pass."""
+        if value.get("distribution") is None:
+            if names_group(value, where):
+                raise Unfit(f"{where}: distribution is missing, and a sharing group is named; write 4 if it is for that group")
+            return None
         level, group = self._distribution(value, where, 5)
         return None if level in (3, 5) else (level, group or 0)
 
@@ -432,7 +504,7 @@ class Reader:
         if flag_of(value, "deleted", where):
             self.left_out["deleted attributes"] += 1
             return None
-        tags = tags_of(value, where)
+        tags = self._tags(value, where)
         own = strictest([*tags.shared, *tags.local]) if tags.shared or tags.local else self.label
         is_own = self.choices.own_tags and tags.shared
         label = own if is_own else strictest([self.label, own])
@@ -444,6 +516,7 @@ class Reader:
             raise Unfit(f"{where}: type is none of MISP's")
         if kind in WITHOUT_DATA:
             self.left_out[f"files of type {kind}, whose names and hashes are of type {WITHOUT_DATA[kind]}"] += 1
+        self._count_others(value, ATTRIBUTE_READ | ({"data"} if kind in WITHOUT_DATA else set()), "attributes")
         kind = WITHOUT_DATA.get(kind, kind)
         text = text_of(value, "value", where)
         if kind in PARTS and class_of(kind, text) is None:
@@ -461,6 +534,7 @@ class Reader:
         read = (self._attribute(one, f"{where}, Attribute {place}") for place, one in enumerate(list_of(value, "Attribute", where)))
         attributes = tuple(each for each in read if each)
         self.left_out["references between objects"] += len(list_of(value, "ObjectReference", where))
+        self._count_others(value, OBJECT_READ | {"description"}, "objects")  # the description is the template's
         template = text_of(value, "template_uuid", where, "")
         version = text_of(value, "template_version", where, "")
         key = Key(self._gate(value, where), None)
@@ -816,36 +890,117 @@ def reports_of(event: Event, choices: Choices) -> list[Report]:
 
 
 def events_of(value: Any) -> Iterator[dict[str, Any]]:
-    """The events of an answer or an export of MISP."""
+    """The events of an answer, an export or a feed of MISP; without `Event` around them, they are as PyMISP writes them."""
     found = value.get("response", value) if isinstance(value, dict) else value
+    if isinstance(found, dict) and found and all(re.fullmatch(UUID, name.lower()) for name in found):
+        raise Unfit("that is the manifest of a feed, which has no attributes: the feed's folder is wanted, or its files UUID.json")
     for each in found if isinstance(found, list) else [found]:
-        event = each.get("Event") if isinstance(each, dict) else None
+        is_bare = isinstance(each, dict) and "uuid" in each and "info" in each
+        event = each.get("Event", each if is_bare else None) if isinstance(each, dict) else None
         if not isinstance(event, dict):
-            raise Unfit('{"Event": {..}} is wanted, or a list of such')
+            raise Unfit('{"Event": {..}} is wanted, or what stands in it, or a list of such')
         yield event
 
 
 def to_iodef(text: bytes, mapping: Mapping, choices: Choices) -> list[Report]:
     made: list[Report] = []
-    for value in events_of(read_json(text)):
-        made += reports_of(Reader(mapping, choices).event(value), choices)
+    events = list(events_of(read_json(text)))
+    for place, value in enumerate(events):
+        try:
+            made += reports_of(Reader(mapping, choices).event(value), choices)
+        except Unfit as fault:
+            raise Unfit(f"event {place}: {fault}" if len(events) > 1 else str(fault)) from None
+    return made
+
+
+def feed_to_iodef(folder: pathlib.Path, mapping: Mapping, choices: Choices) -> list[Report]:
+    """The reports of each event that the manifest of a feed names."""
+    manifest = read_json(read_file(str(folder / "manifest.json")))
+    if not isinstance(manifest, dict) or not all(re.fullmatch(UUID, name.lower()) for name in manifest):
+        raise Unfit("manifest.json has members that are no UUIDs")
+    made: list[Report] = []
+    for name in manifest:
+        try:
+            made += to_iodef(read_file(str(folder / f"{name}.json")), mapping, choices)
+        except Unfit as fault:
+            raise Unfit(f"{name}.json: {fault}") from None
     return made
 
 
 # IODEF to MISP
 
 
+class Taken:
+    """Which members of a report became something in the event, so that the others can be counted."""
+
+    def __init__(self) -> None:
+        self.counts: Counter[tuple[int, str]] = Counter()
+        self.opened: set[int] = set()
+
+    def all_of(self, value: dict[str, Any], *names: str) -> None:
+        for name in names:
+            self.counts[id(value), name] = elements_of(value.get(name))
+
+    def one_of(self, value: dict[str, Any], name: str) -> None:
+        self.counts[id(value), name] += 1
+
+    def open(self, value: dict[str, Any]) -> None:
+        """The class isn't counted as one, even if nothing in it is taken."""
+        self.opened.add(id(value))
+
+    def _left_in(self, value: dict[str, Any], name: str) -> int:
+        found = value[name]
+        is_usual = name in LABEL_MEMBERS or isinstance(found, str) and found in USUAL.get(name, ())
+        return 0 if is_usual else max(elements_of(found) - self.counts[id(value), name], 0)
+
+    def left_out(self, value: dict[str, Any], name: str) -> tuple[bool, Counter[str]]:
+        """Whether something of a class is taken; and what isn't: the class as one if nothing is, else what in it isn't. A bare frame has nothing."""
+        is_taken = id(value) in self.opened or any(self.counts[id(value), member] for member in value)
+        left: Counter[str] = Counter()
+        for member in value:
+            left[member] += self._left_in(value, member)
+            for each in inner_of(value, member):
+                is_inner_taken, inner = self.left_out(each, member)
+                is_taken = is_taken or is_inner_taken
+                left += inner
+        return is_taken, left if is_taken or not any(left.values()) else Counter({name: 1})
+
+
+def elements_of(value: object) -> int:
+    """How many values a member has that are no classes."""
+    return sum(not isinstance(each, dict) for each in (value if isinstance(value, list) else [value]))
+
+
+@dataclass(frozen=True)
+class Wording:
+    """A text that may have a label of its own, with the member that holds it."""
+
+    text: str
+    label: str | None
+    holder: dict[str, Any]
+    member: str
+
+
 @dataclass
 class Parts:
-    """The first of each kind of value that stands in an attribute's classes."""
+    """The first of each kind of value that stands in an attribute's classes, with the member that holds it and what tells its kind."""
 
     found: dict[str, str] = field(default_factory=dict)
+    holders: dict[str, tuple[dict[str, Any], str, tuple[str, ...]]] = field(default_factory=dict)
 
-    def note(self, name: str, value: object) -> None:
+    def note(self, name: str, value: object, holder: dict[str, Any], member: str, *beside: str) -> None:
         if isinstance(value, int) and not isinstance(value, bool):
             value = str(value)
-        if isinstance(value, str):
-            self.found.setdefault(name, value)
+        if isinstance(value, str) and name not in self.found:
+            self.found[name], self.holders[name] = value, (holder, member, beside)
+
+    def take(self, names: Sequence[str], taken: Taken) -> str:
+        """The value that is made of these."""
+        for name in names:
+            holder, member, beside = self.holders[name]
+            taken.one_of(holder, member)
+            taken.all_of(holder, *beside)
+        return "|".join(self.found[name] for name in names)
 
 
 def extras_in(value: dict[str, Any]) -> dict[str, list[str]]:
@@ -866,6 +1021,25 @@ def inner_of(value: dict[str, Any], name: str) -> list[dict[str, Any]]:
 def texts_of(value: dict[str, Any], name: str) -> list[str]:
     found = value.get(name)
     return [each for each in (found if isinstance(found, list) else [found]) if isinstance(each, str)]
+
+
+def wordings_of(value: dict[str, Any], name: str, language: str) -> list[Wording]:
+    """The texts of a member, plain or with a language: those of this language, or without one, first."""
+    found = value.get(name)
+    own: list[Wording] = []
+    others: list[Wording] = []
+    for each in found if isinstance(found, list) else [found]:
+        if isinstance(each, str):
+            own.append(Wording(each, None, value, name))
+        elif isinstance(each, dict) and isinstance(each.get("value"), str):
+            spoken = main_language(each.get("lang"))
+            (own if not spoken or not language or spoken == language else others).append(Wording(each["value"], label_of(each), each, "value"))
+    return own + others
+
+
+def main_language(tag: object) -> str:
+    """`de` of `de-AT`, nothing of what is no text."""
+    return tag.lower().partition("-")[0] if isinstance(tag, str) else ""
 
 
 def label_of(value: dict[str, Any]) -> str | None:
@@ -909,33 +1083,72 @@ class FoundThing:
     attributes: list[Found]
 
 
+# By a class's name: the parts of an attribute that it holds, each with its member and with the members that tell of what kind it is.
+MEMBERS: dict[str, tuple[tuple[str, str, tuple[str, ...]], ...]] = {
+    "Address": (("Address", "value", ("category",)),), "DomainData": (("Name", "Name", ()),), "Service": (("Port", "Port", ()),),
+    "File": (("FileName", "FileName", ()),), "Hash": (("DigestValue", "DigestValue", ("DigestMethod",)),),
+    "Key": (("KeyName", "KeyName", ()), ("Value", "Value", ())),
+}
+
+
 @dataclass
 class Context:
     label: str
     to_ids: bool
     hold: list[Found]
-    category: str = ""  # of the nearest System
+    system: dict[str, Any] = field(default_factory=dict)  # the nearest
 
 
 class Writer:
     """Reads what is served of one report, and makes an event of it."""
 
-    def __init__(self) -> None:
+    def __init__(self, language: str) -> None:
+        self.language = language
         self.attributes: list[Found] = []
         self.things: list[FoundThing] = []
-        self.labels: list[str] = []
+        self.taken = Taken()
         self.left_out: Counter[str] = Counter()
         self.noted: Counter[str] = Counter()
+
+    def texts(self, value: dict[str, Any], name: str) -> list[str]:
+        """The plain texts of a member, which are taken."""
+        found = texts_of(value, name)
+        if found:
+            self.taken.all_of(value, name)
+        return found
+
+    def wordings(self, value: dict[str, Any], name: str) -> list[Wording]:
+        return wordings_of(value, name, self.language)
+
+    def take(self, wording: Wording) -> str:
+        self.taken.one_of(wording.holder, wording.member)
+        if wording.member == "value":
+            self.taken.all_of(wording.holder, "lang", "translation-id")
+        return wording.text
+
+    def take_extras(self, value: dict[str, Any]) -> None:
+        for each in inner_of(value, "AdditionalData"):
+            if isinstance(each.get("name"), str) and each["name"] in EXTRAS:
+                self.taken.all_of(each, *each)
+
+    def _take_and(self, value: dict[str, Any]) -> None:
+        if value.get("operator") == "and":
+            self.taken.all_of(value, "operator")
 
     def read(self, value: dict[str, Any], name: str, context: Context) -> None:
         own = label_of(value)
         if own:
             context = replace(context, label=own)
+        if name == "IndicatorExpression" and value.get("operator") == "not":
+            self.noted["expressions of `not`, below which nothing is for detection"] += 1
+            context = replace(context, to_ids=False)
         extras = extras_in(value)
         is_frame = name in ("IndicatorExpression", "EventData")
         if is_frame and "misp-object" in extras:
             thing = FoundThing(first(extras, "misp-object"), first(extras, "misp-meta-category"), first(extras, "misp-template"), first(extras, "misp-comment"), [])
             self.things.append(thing)
+            self.take_extras(value)
+            self._take_and(value)
             self._below(value, replace(context, hold=thing.attributes))
         elif is_frame and "misp-type" in extras and (made := self._told(value, extras, context)):
             context.hold.append(made)
@@ -943,7 +1156,7 @@ class Writer:
             self._bulk(value, extras, context)
         else:
             self._plain(value, name, context)
-            self._below(value, replace(context, category=str(value.get("category", ""))) if name == "System" else context)
+            self._below(value, replace(context, system=value) if name == "System" else context)
 
     def _below(self, value: dict[str, Any], context: Context) -> None:
         for name in value:
@@ -954,40 +1167,53 @@ class Writer:
     def _told(self, value: dict[str, Any], extras: dict[str, list[str]], context: Context) -> Found | None:
         """The attribute of a class that tells its type, if what it holds is of that type."""
         kind = first(extras, "misp-type")
+        parts, below, systems = self._parts(value)
+        told = parts.found
+        if kind in BULK and "bulk" in told:
+            names: tuple[str, ...] = ("bulk",)
+        elif kind in PARTS and all(part in told for part in PARTS[kind]):
+            names = PARTS[kind]
+        elif "misp-value" in told:
+            names = ("misp-value",)
+        else:
+            return None
+        text = "|".join(told[part] for part in names)
+        if "misp-value" not in told and (class_of(kind, text) is None if kind in PARTS else kind not in BULK):
+            return None
+        parts.take(names, self.taken)
+        self.take_extras(value)
+        self._take_and(value)
+        for each in systems if kind.startswith("ip-") else ():
+            self.taken.all_of(each, "category")
+        if kind in PARTS and class_of(kind, text) is None or not re.fullmatch(KIND, kind):
+            self.noted["values that aren't of their type's form, so they are texts"] += 1
+            kind, context = "text", replace(context, to_ids=False)
+        comment = first(extras, "misp-comment") or next((self.take(each) for each in self.wordings(value, "Description")), "")
+        return self._found(kind, text, extras, replace(context, label=strictest([context.label, *below])), comment)
+
+    def _parts(self, value: dict[str, Any]) -> tuple[Parts, list[str], list[dict[str, Any]]]:
+        """What stands in a class that tells its type: its parts, the labels, and the Systems of a source or a target."""
         parts = Parts()
-        labels = [context.label]
+        labels: list[str] = []
+        systems: list[dict[str, Any]] = []
         waiting: list[tuple[str, dict[str, Any]]] = [("", value)]
         while waiting:
             name, each = waiting.pop(0)
             labels += [label for label in [label_of(each)] if label]
-            for held, members in {"Address": {"Address": "value"}, "DomainData": {"Name": "Name"}, "Service": {"Port": "Port"}, "File": {"FileName": "FileName"},
-                                  "Hash": {"DigestValue": "DigestValue"}, "Key": {"KeyName": "KeyName", "Value": "Value"}}.items():
-                for part, member in members.items() if name == held else ():
-                    parts.note(part, each.get(member))
+            for part, member, beside in MEMBERS.get(name, ()):
+                parts.note(part, each.get(member), each, member, *beside)
+            if name == "System" and each.get("category") in ("source", "target"):
+                systems.append(each)
             if name == "Reference":
-                parts.note("URL", next(iter(texts_of(each, "URL")), None))
-                parts.note("Reference", next(iter(texts_of(each, "Description")), None))
+                parts.note("URL", next(iter(texts_of(each, "URL")), None), each, "URL")
+                for wording in self.wordings(each, "Description")[:1]:
+                    parts.note("Reference", wording.text, wording.holder, wording.member, *(("lang", "translation-id") if wording.member == "value" else ()))
             if name == "BulkObservable":
-                parts.note("bulk", next(iter(texts_of(each, "BulkObservableList")), None))
+                parts.note("bulk", next(iter(texts_of(each, "BulkObservableList")), None), each, "BulkObservableList", "type")
             if name == "AdditionalData" and each.get("name") == "misp-value":
-                parts.note("misp-value", each.get("value"))
+                parts.note("misp-value", each.get("value"), each, "value", "name", "dtype")
             waiting += [(inner, one) for inner in each for one in inner_of(each, inner) if inner not in ("EventData", "IndicatorExpression")]
-        told = parts.found
-        if kind in BULK and "bulk" in told:
-            text = told["bulk"]
-        elif kind in PARTS and all(part in told for part in PARTS[kind]):
-            text = "|".join(told[part] for part in PARTS[kind])
-        elif "misp-value" in told:
-            text = told["misp-value"]
-        else:
-            return None
-        if "misp-value" not in told and (class_of(kind, text) is None if kind in PARTS else kind not in BULK):
-            return None
-        if kind in PARTS and class_of(kind, text) is None or not re.fullmatch(KIND, kind):
-            self.noted["values that aren't of their type's form, so they are texts"] += 1
-            kind, context = "text", replace(context, to_ids=False)
-        comment = first(extras, "misp-comment") or next(iter(texts_of(value, "Description")), "")
-        return self._found(kind, text, extras, replace(context, label=strictest(labels)), comment)
+        return parts, labels, systems
 
     def _found(self, kind: str, text: str, extras: dict[str, list[str]], context: Context, comment: str = "") -> Found:
         category = first(extras, "misp-category", DEFAULT_CATEGORY.get(kind, "Other"))
@@ -1000,8 +1226,14 @@ class Writer:
     def _bulk(self, value: dict[str, Any], extras: dict[str, list[str]], context: Context) -> None:
         form = value.get("type")
         told = first(extras, "misp-type")
-        for text in [one for each in texts_of(value, "BulkObservableList") for one in (each.splitlines() if isinstance(value["BulkObservableList"], str) else [each])]:
+        values = self.texts(value, "BulkObservableList")
+        if values:
+            self.taken.all_of(value, "type")
+        if isinstance(value.get("BulkObservableList"), str):
+            values = values[0].splitlines()
+        for text in values:
             if told in BULK and bulk_of(told, text) == form:
+                self.take_extras(value)
                 context.hold.append(self._found(told, text, extras, context))
             elif form == "file-hash":
                 kind = next((name for name, (length, _) in HASHES.items() if len(text) == length and class_of(name, text)), None)
@@ -1011,8 +1243,9 @@ class Writer:
 
     def _add(self, kind: str | None, text: str, context: Context) -> None:
         """A value whose type is told by its place alone; of another form it is a text."""
-        if kind in ("ip-dst", "ip-dst|port") and context.category == "source":
-            kind = kind.replace("dst", "src")
+        if kind == "ip-dst" and context.system.get("category") in ("source", "target"):
+            self.taken.all_of(context.system, "category")
+            kind = "ip-src" if context.system["category"] == "source" else kind
         if kind is None or kind in PARTS and class_of(kind, text) is None:
             kind = "text"
         context.hold.append(self._found(kind, text, {}, context if kind != "text" else replace(context, to_ids=False)))
@@ -1021,35 +1254,49 @@ class Writer:
         """What a class of a report by any other hand says directly."""
         if name == "Address" and isinstance(value.get("value"), str):
             category = value.get("category")
+            self.taken.all_of(value, "value", "category")
             self._add(TYPE_OF.get(category) if isinstance(category, str) else None, value["value"], context)
-        elif name == "DomainData" and isinstance(value.get("Name"), str):
-            self._add("domain", value["Name"], context)
+        elif name == "DomainData":
+            for text in self.texts(value, "Name"):
+                self._add("domain", text, context)
         elif name == "File":
-            names = texts_of(value, "FileName")
-            hashes = [(HASH_OF.get(method), digest) for data in inner_of(value, "HashData") for each in inner_of(data, "Hash")
-                      for method in texts_of(each, "DigestMethod") for digest in texts_of(each, "DigestValue")]
-            for kind, digest in hashes:
-                self._add(f"filename|{kind}" if kind and names else kind, f"{names[0]}|{digest}" if kind and names else digest, context)
-            if names and not hashes:
-                self._add("filename", names[0], context)
+            self._file(value, context)
         elif name == "Key" and isinstance(value.get("KeyName"), str):
             data = value.get("Value")
+            self.taken.all_of(value, "KeyName", *(["Value"] if isinstance(data, str) else []))
             self._add("regkey|value" if isinstance(data, str) else "regkey", value["KeyName"] + (f"|{data}" if isinstance(data, str) else ""), context)
         elif name == "Reference":
-            for url in texts_of(value, "URL"):
+            for url in self.texts(value, "URL"):
                 self._add("link", url, replace(context, to_ids=False))
         elif name == "RecordData":
-            for url in texts_of(value, "URL"):
+            for url in self.texts(value, "URL"):
                 self._add("url", url, context)
         elif name == "EmailData":
             for member, kind in (("EmailSubject", "email-subject"), ("EmailX-Mailer", "email-x-mailer"), ("EmailFrom", "email-src"), ("EmailTo", "email-dst")):
-                for text in texts_of(value, member):
+                for text in self.texts(value, member):
                     self._add(kind, text, context)
+        elif name == "IndicatorExpression" and (operands_in(value) < 2 or context.hold is not self.attributes):
+            self._take_and(value)  # of one operand, or the object's own
         if name in ("EventData", "Indicator", "RecordData"):
-            for text in texts_of(value, "Description"):
-                self._add(None, text, context)
-        if name == "Service":
-            self.left_out["Service"] += 1
+            for each in self.wordings(value, "Description"):
+                self._add(None, self.take(each), replace(context, label=each.label or context.label))
+
+    def _file(self, value: dict[str, Any], context: Context) -> None:
+        names = texts_of(value, "FileName")
+        kinds = []
+        for each in [each for data in inner_of(value, "HashData") for each in inner_of(data, "Hash")]:
+            for kind, digest in [(HASH_OF.get(method), digest) for method in texts_of(each, "DigestMethod") for digest in texts_of(each, "DigestValue")]:
+                self.taken.all_of(each, "DigestMethod", "DigestValue")
+                self._add(f"filename|{kind}" if kind and names else kind, f"{names[0]}|{digest}" if kind and names else digest, context)
+                kinds.append(kind)
+        if names and not kinds:
+            self._add("filename", names[0], context)
+        if names and (any(kinds) or not kinds):
+            self.taken.one_of(value, "FileName")
+
+
+def operands_in(value: dict[str, Any]) -> int:
+    return sum(len(inner_of(value, name)) for name in value if name != "AdditionalData")
 
 
 def to_misp(text: bytes, mapping: Mapping, sharing_group: int | None = None) -> dict[str, Any]:
@@ -1057,50 +1304,84 @@ def to_misp(text: bytes, mapping: Mapping, sharing_group: int | None = None) -> 
     view = read_json(text)
     if not isinstance(view, dict) or not isinstance(view.get("document"), dict) or type(view.get("source")) is not int or type(view.get("number")) is not int:
         raise Unfit("the hub's answer for one incident is wanted: document, number, source")
-    incidents = inner_of(view["document"], "Incident")
+    document = view["document"]
+    incidents = inner_of(document, "Incident")
     if len(incidents) != 1:
         raise Unfit("the document has one Incident")
     incident = incidents[0]
     org = next((each for each in mapping.orgs if each.number == view["source"]), None)
     if org is None:
         raise Unfit(f"the organisation {view['source']} has no entry in the mapping")
+    writer = Writer(main_language(incident.get("lang")) or main_language(document.get("lang")))
+    writer.taken.open(document)
+    writer.taken.open(incident)
+    writer.taken.all_of(document, "version", "lang")
+    writer.taken.all_of(incident, "lang")
+    own = label_of(incident) or ("red" if any(_is_plain(each) for each in incident.values()) else None)
+    for member in [each for each in incident if each in ("Indicator", "EventData", "Method")]:
+        for each in inner_of(incident, member):
+            writer.read(each, member, Context(own or "red", member == "Indicator", writer.attributes))
+    event_uuid = _event_uuid(incident, f"iodef-hub:{mapping.hub}#{view['source']}", view["number"], writer.taken)
+    event = _event(incident, event_uuid, own, writer)
+    if not event["info"]:
+        event["info"] = f"Incident {view['number']} of {org.name}"
+    event["Orgc"] = {"uuid": org.uuid, "name": org.name}
+    if sharing_group is not None:
+        event |= {"distribution": "4", "sharing_group_id": str(sharing_group)}
+    withheld = view.get("withheld")
+    if isinstance(withheld, list) and withheld:
+        say(f"in {len(withheld)} places something is withheld from you")
+    if writer.noted:
+        say("noted: " + counted(writer.noted))
+    left_out = writer.left_out + writer.taken.left_out(document, "document")[1]
+    if any(left_out.values()):
+        say("left out: " + counted(left_out))
+    return {"Event": event}
+
+
+def _event_uuid(incident: dict[str, Any], source: str, number: int, taken: Taken) -> uuid.UUID:
     ident: dict[str, Any] = next(iter(inner_of(incident, "IncidentID")), {})
     if isinstance(ident.get("id"), str) and isinstance(ident.get("name"), str):
+        taken.all_of(ident, "id", "name")
         name = json.dumps([ident["name"], ident["id"]], separators=(",", ":"), ensure_ascii=False)
     else:
-        name = str(view["number"])
+        name = str(number)
         say("the IncidentID is withheld, so the event's UUID is made of the hub's number")
-    event_uuid = uuid.uuid5(uuid.NAMESPACE_URL, f"iodef-hub:{mapping.hub}#{view['source']}/{name}")
-    own = label_of(incident) or ("red" if any(_is_plain(each) for each in incident.values()) else None)
-    writer = Writer()
-    for member in incident:
-        for each in inner_of(incident, member):
-            if member in ("Indicator", "EventData", "Method"):
-                writer.read(each, member, Context(own or "red", member == "Indicator", writer.attributes))
-            elif member != "IncidentID" and not (member == "AdditionalData" and str(each.get("name")).startswith("misp-")):
-                writer.left_out[member] += 1
+    return uuid.uuid5(uuid.NAMESPACE_URL, f"{source}/{name}")
+
+
+def _event(incident: dict[str, Any], event_uuid: uuid.UUID, own: str | None, writer: Writer) -> dict[str, Any]:
     extras = extras_in(incident)
+    writer.take_extras(incident)
     things = [each for each in writer.things if each.attributes]
+    # A text that is stricter than the Incident isn't its info.
+    infos = [each for each in writer.wordings(incident, "Description") if each.text and (own is None or strictest([own, each.label or own]) == own)]
+    info = writer.take(infos[0]) if infos else ""
     shown = [each.label for each in [*writer.attributes, *(one for thing in things for one in thing.attributes)]]
-    label = own or strictest(shown or ["red"])
+    label = own or strictest([*shown, *(each.label or "red" for each in infos[:1])] or ["red"])
     if own is None:
         say(f"the Incident's own label is withheld, so the event is tagged as its strictest attribute, tlp:{label}")
-    texts = texts_of(incident, "Description")
     event: dict[str, Any] = {
-        "uuid": str(event_uuid), "info": texts[0] if texts else f"Incident {view['number']} of {org.name}",
+        "uuid": str(event_uuid), "info": info,
         "threat_level_id": _known(first(extras, "misp-threat-level"), "1234", "4"), "analysis": _known(first(extras, "misp-analysis"), "012", "0"),
-        "distribution": "0" if sharing_group is None else "4", "published": False, "Orgc": {"uuid": org.uuid, "name": org.name},
+        "distribution": "0", "published": False,
         "Tag": [{"name": f"tlp:{label}"}] + [{"name": each} for each in extras.get("misp-tag", []) if tlp_of(each) is None],
-        "Attribute": [_attribute(each, event_uuid, "", label) for each in once(writer.attributes, writer)], "Object": [],
+        "Attribute": [_attribute(each, event_uuid, "", label) for each in once(writer.attributes, writer)],
+        "Object": _objects(things, event_uuid, label, writer),
     }
-    if sharing_group is not None:
-        event["sharing_group_id"] = str(sharing_group)
-    made = incident.get("GenerationTime")
-    days = [each[:10] for each in (incident.get("StartTime"), made) if isinstance(each, str) and _is_day(each[:10])]
-    if days:
-        event["date"] = days[0]
-    if (stamp := _stamp(made)) is not None:
+    for member in ("StartTime", "GenerationTime"):
+        text = incident.get(member)
+        if "date" not in event and isinstance(text, str) and _is_day(text[:10]):
+            event["date"] = text[:10]
+            writer.taken.all_of(incident, member)
+    if (stamp := _stamp(incident.get("GenerationTime"))) is not None:
         event["timestamp"] = stamp
+        writer.taken.all_of(incident, "GenerationTime")
+    return event
+
+
+def _objects(things: Sequence[FoundThing], event_uuid: uuid.UUID, label: str, writer: Writer) -> list[dict[str, Any]]:
+    made = []
     seen: Counter[str] = Counter()
     for thing in things:
         attributes = once(thing.attributes, writer)
@@ -1114,15 +1395,8 @@ def to_misp(text: bytes, mapping: Mapping, sharing_group: int | None = None) -> 
         template = re.fullmatch(r"([0-9a-f-]{36}) ([0-9]*)", thing.template)
         if template:
             value |= {"template_uuid": template[1], "template_version": template[2]}
-        event["Object"].append(value)
-    withheld = view.get("withheld")
-    if isinstance(withheld, list) and withheld:
-        say(f"in {len(withheld)} places something is withheld from you")
-    if writer.noted:
-        say("noted: " + counted(writer.noted))
-    if writer.left_out:
-        say("left out: " + counted(writer.left_out))
-    return {"Event": event}
+        made.append(value)
+    return made
 
 
 def _is_plain(value: object) -> bool:
@@ -1199,12 +1473,14 @@ def words() -> argparse.ArgumentParser:
     there.add_argument("--stricter", action="store_true", help="where more than 16 gates are wanted, some attributes are for the source alone")
     there.add_argument("--split", action="store_true", help="what is too large for one report, or has too many gates, becomes several")
     there.add_argument("--unpublished", action="store_true", help="takes an event that isn't published")
+    there.add_argument("--distribution", type=int, choices=range(4), metavar="NUMBER",
+                       help="MISP's distribution, 0 to 3, of an event that tells none, as those of a feed; an event's own holds")
     there.add_argument("--community", type=number, metavar="NUMBER", help="the hub's community for which green is meant; else any community of the source")
     back = ways.add_parser("to-misp", help="the event of what iodef-hub-ask --json show tells")
     back.add_argument("--sharing-group", type=number, metavar="ID", help="the number in your MISP of the sharing group that gets the event; else your organisation only")
     for each, what in ((there, "EVENT"), (back, "ANSWER")):
         each.add_argument("--map", required=True, metavar="FILE", help="organisations and sharing groups of MISP and of the hub")
-        each.add_argument("file", nargs="?", default="-", metavar=what)
+        each.add_argument("file", nargs="?", default="-", metavar=what, help="a file, or standard input" + (", or the folder of a MISP feed" if each is there else ""))
     return parser
 
 
@@ -1212,12 +1488,14 @@ def main() -> int:
     """0 done, 1 refused, 2 usage or a file that can't be read."""
     given = words().parse_args()
     try:
-        mapping, text = Mapping.read(read_file(given.map)), read_file(given.file)
+        mapping = Mapping.read(read_file(given.map))
         if given.way == "to-iodef":
-            choices = Choices(given.untagged, given.own_tags, given.stricter, given.split, given.unpublished)
-            lines = [each.line(given.community) for each in to_iodef(text, mapping, choices)]
+            choices = Choices(given.untagged, given.own_tags, given.stricter, given.split, given.unpublished, given.distribution)
+            folder = pathlib.Path(given.file)
+            made = feed_to_iodef(folder, mapping, choices) if folder.is_dir() else to_iodef(read_file(given.file), mapping, choices)
+            lines = [each.line(given.community) for each in made]
         else:
-            lines = [json.dumps(to_misp(text, mapping, given.sharing_group), indent=1, ensure_ascii=False)]
+            lines = [json.dumps(to_misp(read_file(given.file), mapping, given.sharing_group), indent=1, ensure_ascii=False)]
         sys.stdout.buffer.write("".join(each + "\n" for each in lines).encode())
         sys.stdout.buffer.flush()
     except Unfit as fault:
