@@ -309,7 +309,7 @@ class Choices:
     stricter: bool = False
     split: bool = False
     unpublished: bool = False
-    distribution: int | None = None  # of an event that tells none
+    distribution: int | None = None  # of an event that has none
 
 
 @dataclass
@@ -444,10 +444,10 @@ class Reader:
                 waiting += each
 
     def _look_whole(self, value: dict[str, Any]) -> None:
-        """An index of events tells how many attributes each has, without them."""
+        """Fails with an event of an index, which has the number of its attributes in place of them."""
         count = text_of(value, "attribute_count", "Event", "0")
         if count not in ("", "0") and "Attribute" not in value and "Object" not in value:
-            raise Unfit(f"Event has {count} attributes by its attribute_count, and none is here (an index of events has none: export the event)")
+            raise Unfit(f"Event has {count} attributes by its attribute_count, and none is in it; export the event")
 
     def _count_others(self, value: dict[str, Any], read: set[str], of: str) -> None:
         """What is neither read nor a matter of that MISP alone."""
@@ -462,7 +462,7 @@ class Reader:
         return tags
 
     def _event_distribution(self, value: dict[str, Any]) -> tuple[int, int | None]:
-        """The event's own, and only where it tells none the one that the operator chose."""
+        """The event's own, or the one that the operator chose if the event has none."""
         chosen = self.choices.distribution
         if value.get("distribution") is not None:
             if chosen is not None:
@@ -898,7 +898,7 @@ def events_of(value: Any) -> Iterator[dict[str, Any]]:
         is_bare = isinstance(each, dict) and "uuid" in each and "info" in each
         event = each.get("Event", each if is_bare else None) if isinstance(each, dict) else None
         if not isinstance(event, dict):
-            raise Unfit('{"Event": {..}} is wanted, or what stands in it, or a list of such')
+            raise Unfit('{"Event": {..}} is wanted, or the object inside it, or a list of such')
         yield event
 
 
@@ -1474,7 +1474,7 @@ def words() -> argparse.ArgumentParser:
     there.add_argument("--split", action="store_true", help="what is too large for one report, or has too many gates, becomes several")
     there.add_argument("--unpublished", action="store_true", help="takes an event that isn't published")
     there.add_argument("--distribution", type=int, choices=range(4), metavar="NUMBER",
-                       help="MISP's distribution, 0 to 3, of an event that tells none, as those of a feed; an event's own holds")
+                       help="MISP's distribution, 0 to 3, of an event that has none, as those of a feed; an event's own always holds")
     there.add_argument("--community", type=number, metavar="NUMBER", help="the hub's community for which green is meant; else any community of the source")
     back = ways.add_parser("to-misp", help="the event of what iodef-hub-ask --json show tells")
     back.add_argument("--sharing-group", type=number, metavar="ID", help="the number in your MISP of the sharing group that gets the event; else your organisation only")
