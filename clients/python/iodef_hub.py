@@ -1,20 +1,20 @@
 #!/usr/bin/env python3
 """A client of iodef-hub: the library (class Hub), and the command iodef-hub-ask. Python 3.11's standard library alone.
 
-    with the key in IODEF_HUB_KEY, or in a file that IODEF_HUB_KEY_FILE names:
-
     import iodef_hub
     hub = iodef_hub.Hub("https://hub.example.org", key)
     for entry in hub.every_incident():
         print(hub.view(entry.number).document)
 
-A call is one request. What the hub refuses raises Refused, with its code, reason and detail. A read is asked again where the
-connection is lost or the hub is busy, a bounded number of times. A change is sent again only where it was surely not taken;
-where that can't be known, MayBeTaken says what the answer to the same request means.
+A call is one request. If the hub refuses it, the call raises Refused, with the code, reason and detail. A read is asked again
+if the connection is lost or the hub is busy, a bounded number of times. A change is sent again only if it was surely not taken;
+if that can't be known, MayBeTaken says what the answer to the same request means.
 """
 from __future__ import annotations
 
 import argparse
+import codecs
+import datetime
 import hashlib
 import http.client
 import ipaddress
@@ -27,13 +27,17 @@ import sys
 import time
 import urllib.parse
 from collections.abc import Callable, Iterator, Mapping, Sequence
-from dataclasses import asdict, dataclass
-from typing import Any, TypeVar
+from dataclasses import asdict, dataclass, replace
+from typing import Any, NamedTuple, TypeVar
+
+__version__ = "1.0.0"
 
 LAST_NUMBER = 2**32 - 1
+LAST_MOMENT = datetime.datetime(9999, 12, 30, 22, tzinfo=datetime.timezone.utc)
 PAGE = 100  # incidents in one answer
 LONGEST_REPLY = 64 * 1024 * 1024
-KINDS = ("person", "org", "community", "group")
+GRANTEES = ("person", "org", "community", "group")
+RECIPIENTS = ("person", "org")
 ROLES = ("administrator", "coordinator", "poster", "reader")
 HANDLINGS = ("CLEAR", "GREEN", "AMBER", "STRICT", "RED")
 RULES = {
@@ -43,8 +47,8 @@ RULES = {
     "G4": "for a sharing group of which your organisation is no member",
     "G4X": "for a sharing group that is switched off",
     "H-GREEN": "marked GREEN, for the source's communities, or for the one that the incident names",
-    "H-AMBER": "marked AMBER, for nominated persons of addressed organisations, and of clients of these or of the source",
-    "H-STRICT": "marked AMBER+STRICT, for nominated persons of addressed organisations",
+    "H-AMBER": "marked AMBER, for addressed persons, and nominated persons of addressed organisations and of clients of these or of the source",
+    "H-STRICT": "marked AMBER+STRICT, for addressed persons, and nominated persons of addressed organisations",
     "H-RED": "marked RED, for addressed persons",
 }
 
@@ -86,6 +90,8 @@ class NotHub(HubError):
 
 @dataclass(frozen=True)
 class Caller:
+    """The person whose key it is."""
+
     number: int
     name: str
     org: int
@@ -95,6 +101,8 @@ class Caller:
 
 @dataclass(frozen=True)
 class Group:
+    """A sharing group. `extend` is whether the caller's organisation may add others."""
+
     number: int
     name: str
     owner: int
@@ -105,6 +113,8 @@ class Group:
 
 @dataclass(frozen=True)
 class Entry:
+    """An incident in a list. `source` is the organisation that posted it."""
+
     number: int
     revision: int
     source: int
@@ -112,12 +122,16 @@ class Entry:
 
 @dataclass(frozen=True)
 class Withheld:
+    """A rule that hides something below a place of the excerpt. `RULES` has the rules in words."""
+
     place: str
     rule: str
 
 
 @dataclass(frozen=True)
 class View:
+    """An incident as the caller may read it. `classes` counts the classes that the document shows."""
+
     number: int
     revision: int
     source: int
@@ -213,6 +227,73 @@ def digest_of(key: str) -> str:
     return hashlib.sha256(key.encode()).hexdigest()
 
 
+# What is sent of a report
+
+Report = dict[str, Any] | bytes | str
+
+BYTE_ORDER_MARKS = (
+    (codecs.BOM_UTF8, "UTF-8", "tail -c +4 FILE"),
+    (codecs.BOM_UTF32_LE, "UTF-32", "iconv -f UTF-32 -t UTF-8 FILE"),  # before that of UTF-16, with which it begins
+    (codecs.BOM_UTF32_BE, "UTF-32", "iconv -f UTF-32 -t UTF-8 FILE"),
+    (codecs.BOM_UTF16_LE, "UTF-16", "iconv -f UTF-16 -t UTF-8 FILE"),
+    (codecs.BOM_UTF16_BE, "UTF-16", "iconv -f UTF-16 -t UTF-8 FILE"),
+)
+
+
+def _unmarked(text: bytes) -> bytes:
+    """Returns the text, or raises ValueError if a byte order mark stands in front of it."""
+    for mark, encoding, helps in BYTE_ORDER_MARKS:
+        if text.startswith(mark):
+            raise ValueError(
+                f"a byte order mark of {encoding} is in front of the report, which the hub can't read: save it as UTF-8 without one, as `{helps}` writes it"
+            )
+    return text
+
+
+def _utf8(text: str) -> bytes:
+    try:
+        return text.encode()
+    except UnicodeEncodeError as fault:
+        raise ValueError(f"the report has half of a character, {text[fault.start]!r}, which UTF-8 can't write") from None
+
+
+def _no_json(value: object) -> Any:
+    raise TypeError(f"a report has texts, whole numbers, true, false, null, lists and dicts, and no {type(value).__name__}")
+
+
+def _check_numbers(report: dict[str, Any]) -> None:
+    """Raises ValueError at a number that the hub refuses. None is changed: whether 1000.0 is 1000 or a text is not for us to say."""
+    waiting: list[tuple[str, object]] = [("", report)]
+    while waiting:
+        path, value = waiting.pop()
+        if isinstance(value, dict):
+            waiting += [(f"{path}/{_token(str(name))}", each) for name, each in value.items()]
+        elif isinstance(value, (list, tuple)):
+            waiting += [(f"{path}/{place}", each) for place, each in enumerate(value)]
+        elif isinstance(value, float):
+            helps = f"write {int(value)}" if value.is_integer() and abs(value) < 2**53 else "write a text"
+            raise ValueError(f"{path} is {value!r}, and the hub takes no number with a fraction or an exponent: {helps}")
+        elif isinstance(value, int) and not -(2**63) <= value < 2**64:
+            raise ValueError(f"{path} is {value}, and the hub takes no number of more than 64 bits: write a text")
+
+
+def report_bytes(report: Report) -> bytes:
+    """Returns the bytes that are sent of a report: of a dict its JSON, of a str its UTF-8, and bytes as they are.
+
+    Raises TypeError for anything else, and ValueError for a byte order mark in front of the report or, in a dict, for a number
+    that the hub refuses. What else may be wrong with a report is for the hub to say.
+    """
+    if isinstance(report, dict):
+        text = json.dumps(report, ensure_ascii=False, separators=(",", ":"), default=_no_json)
+        _check_numbers(report)
+        return _utf8(text)
+    if isinstance(report, str):
+        return _unmarked(_utf8(report))
+    if isinstance(report, bytes):
+        return _unmarked(report)
+    raise TypeError(f"a report is a dict, or its JSON as bytes or str, and no {type(report).__name__}; of a file: pathlib.Path(NAME).read_bytes()")
+
+
 def _is_this_host(name: str) -> bool:
     try:
         return ipaddress.ip_address(name).is_loopback
@@ -221,7 +302,13 @@ def _is_this_host(name: str) -> bool:
 
 
 class Hub:
-    """A hub as the person sees it whose key this is. Each call is one request, but `every_..`, which are one for each page."""
+    """A hub as the person sees it whose key this is. Each call is one request, but `every_..`, which are one for each page.
+
+    A call raises Refused if the hub refuses it, Unreachable if nothing was changed, MayBeTaken if a change may have been taken,
+    and NotHub if something else answers. All are a HubError. `ca` is a file of certificates to trust in place of the system's,
+    `timeout` the seconds that a connection may stay without a byte, `tries` how often a request is sent at most, and `pause` the
+    seconds before the second try.
+    """
 
     def __init__(
         self, url: str, key: str, ca: str | None = None, timeout: float = 70, tries: int = 5, pause: float = 1
@@ -373,31 +460,40 @@ class Hub:
         return _page(self._ask("GET", "/search", [("needle", needle), *named, ("after", after)]))
 
     def every_addressed(self, after: int = 0) -> Iterator[Entry]:
+        """Yields each incident above a number that addresses the caller or its organisation."""
         return _every(self.addressed, after)
 
     def every_incident(self, after: int = 0) -> Iterator[Entry]:
+        """Yields each incident above a number that shows the caller a class."""
         return _every(self.incidents, after)
 
     def every_found(self, needle: str, class_name: str | None = None, after: int = 0) -> Iterator[Entry]:
+        """Yields each incident above a number in which a class that the caller may read holds a text."""
         return _every(lambda last: self.search(needle, class_name, last), after)
 
     # Reports, by a poster or a coordinator
 
     def post(
-        self, report: bytes, level: int, group: int | None = None, gates: Sequence[Gate] = (), community: int | None = None
+        self, report: Report, level: int, group: int | None = None, gates: Sequence[Gate] = (), community: int | None = None
     ) -> tuple[int, ...]:
-        """A new report; what is marked green in it is for one community, if one is named. The numbers of its Incidents."""
-        value = self._ask("POST", "/incidents", _spread(level, group, gates, community), report, AGAIN_POST)
+        """Posts a report and returns the numbers of its Incidents. What is marked green in it is for the members of one community
+        of the source, or if None is named of any. Raises TypeError and ValueError as `report_bytes`, before anything is sent."""
+        value = self._ask("POST", "/incidents", _spread(level, group, gates, community), report_bytes(report), AGAIN_POST)
         return tuple(self._told(_numbers, value, AGAIN_POST))
 
     def replace(
-        self, number: int, revision: int, report: bytes, level: int, group: int | None = None, gates: Sequence[Gate] = (),
-        community: int | None = None,
+        self, number: int, revision: int, report: Report, level: int, group: int | None = None, *, gates: Sequence[Gate],
+        community: int | None,
     ) -> int:
-        """A new revision in place of the one that was seen. All permissions are taken out, and a community is named only where one
-        is given. The number of the new revision."""
+        """Puts a new revision in place of the one that was seen, and returns its number.
+
+        The new revision is for whom this call says, whatever was said of the one before: `gates` are all gates at its classes, and
+        what is marked green is for the members of `community`, or if it is None of any community of the source. Both have to be
+        given, as leaving one out would widen the report. All permissions are removed; the recipients stay. Raises TypeError and
+        ValueError as `report_bytes`, before anything is sent.
+        """
         query = [("revision", revision), *_spread(level, group, gates, community)]
-        value = self._ask("PUT", f"/incidents/{number}", query, report, AGAIN_REPLACE)
+        value = self._ask("PUT", f"/incidents/{number}", query, report_bytes(report), AGAIN_REPLACE)
         return int(self._told(lambda told: _member(told, "revision", int), value, AGAIN_REPLACE))
 
     def redistribute(self, number: int, revision: int, path: str, level: int, group: int | None = None) -> None:
@@ -411,15 +507,17 @@ class Hub:
         self._do(f"/incidents/{number}/address", AGAIN_PUT, (kind, target))
 
     def unaddress(self, number: int, kind: str, target: int) -> None:
+        """Removes a recipient: a `person` or an `org`, and its number."""
         self._do(f"/incidents/{number}/unaddress", AGAIN_TAKE, (kind, target))
 
     def grant(self, number: int, revision: int, path: str, kind: str, target: int, until: str | None = None) -> None:
-        """The permission for a `person`, an `org`, a `community` or a `group` to see a class, up to a moment (RFC 3339) if one is given."""
+        """Permits a `person`, an `org`, a `community` or a `group` to see a class, for ever or up to a moment (RFC 3339, with offset)."""
         ended = [("until", until)] if until is not None else []
         fields = [("revision", revision), ("path", path), (kind, target), *ended]
         self._do(f"/incidents/{number}/grant", AGAIN_PUT_REVISED, *fields)
 
     def withdraw(self, number: int, path: str, kind: str, target: int) -> None:
+        """Removes the permission of a `person`, an `org`, a `community` or a `group` at a class, ended or not."""
         self._do(f"/incidents/{number}/withdraw", AGAIN_TAKE, ("path", path), (kind, target))
 
     # The circle, by an administrator
@@ -430,12 +528,15 @@ class Hub:
         return _member(self._ask("GET", "/explain", query), "trace", str)
 
     def add_org(self, name: str) -> int:
+        """Adds an organisation and returns its number."""
         return self._make("/orgs", AGAIN_PUT, ("name", name))
 
     def add_client(self, org: int, client: int) -> None:
+        """Makes an organisation a client of another."""
         self._do(f"/orgs/{org}/clients", AGAIN_PUT, ("client", client))
 
     def remove_client(self, org: int, client: int) -> None:
+        """Removes a client of an organisation."""
         self._do(f"/orgs/{org}/clients/remove", AGAIN_TAKE, ("client", client))
 
     def add_person(self, org: int, name: str, role: str, digest: str) -> int:
@@ -447,45 +548,57 @@ class Hub:
         self._do(f"/persons/{person}/suspend", AGAIN_PUT)
 
     def add_community(self, name: str) -> int:
+        """Adds a community and returns its number."""
         return self._make("/communities", AGAIN_PUT, ("name", name))
 
     def join(self, community: int, org: int) -> None:
+        """Puts an organisation into a community."""
         self._do(f"/communities/{community}/join", AGAIN_PUT, ("org", org))
 
     def leave(self, community: int, org: int) -> None:
+        """Removes an organisation from a community."""
         self._do(f"/communities/{community}/leave", AGAIN_TAKE, ("org", org))
 
     def link(self, community: int, other: int) -> None:
+        """Connects two communities."""
         self._do(f"/communities/{community}/link", AGAIN_PUT, ("other", other))
 
     def unlink(self, community: int, other: int) -> None:
+        """Ends the connection of two communities."""
         self._do(f"/communities/{community}/unlink", AGAIN_TAKE, ("other", other))
 
     # Groups, arrangements and nominations, by a coordinator
 
     def nominate(self, person: int) -> None:
+        """Nominates a person of the caller's organisation to receive what is for the organisation."""
         self._do(f"/persons/{person}/nominate", AGAIN_PUT)
 
     def unnominate(self, person: int) -> None:
+        """Ends a nomination."""
         self._do(f"/persons/{person}/unnominate", AGAIN_TAKE)
 
     def new_group(self, name: str, releasability: str = "") -> int:
+        """Founds a sharing group of the caller's organisation and returns its number."""
         return self._make("/groups", AGAIN_PUT, ("name", name), ("releasability", releasability))
 
     def group_add(self, group: int, org: int, extend: bool = False) -> None:
+        """Puts an organisation into a group; with `extend` it may add others."""
         self._do(f"/groups/{group}/add", AGAIN_PUT, ("org", org), ("extend", int(extend)))
 
     def group_remove(self, group: int, org: int) -> None:
+        """Removes an organisation from a group."""
         self._do(f"/groups/{group}/remove", AGAIN_TAKE, ("org", org))
 
     def group_active(self, group: int, active: bool) -> None:
+        """Switches a group on or off."""
         self._do(f"/groups/{group}/active", AGAIN_PUT, ("active", int(active)))
 
     def arrange(self, org: int, handling: str) -> None:
-        """What the label `default` of the caller's organisation means to another one."""
+        """Says what the label `default` of the caller's organisation means to another one: one of `HANDLINGS`."""
         self._do("/arrangements", AGAIN_PUT, ("org", org), ("handling", handling))
 
     def cancel_arrange(self, org: int) -> None:
+        """Ends what was arranged with another organisation."""
         self._do("/arrangements/cancel", AGAIN_TAKE, ("org", org))
 
 
@@ -507,6 +620,11 @@ def _spread(level: int, group: int | None, gates: Sequence[Gate], community: int
 # What stands in a document
 
 
+def _token(name: str) -> str:
+    """A member's name in a JSON pointer."""
+    return name.replace("~", "~0").replace("/", "~1")
+
+
 def classes(document: Mapping[str, Any]) -> Iterator[tuple[str, str, dict[str, Any]]]:
     """Each class of a document with its pointer and its name, in stored order."""
     waiting: list[tuple[str, str, dict[str, Any]]] = [("", "", dict(document))]
@@ -516,7 +634,7 @@ def classes(document: Mapping[str, Any]) -> Iterator[tuple[str, str, dict[str, A
             yield path, name, each
         inner = []
         for member, value in each.items():
-            here = path + "/" + member.replace("~", "~0").replace("/", "~1")
+            here = f"{path}/{_token(member)}"
             many = [(f"{here}/{place}", item) for place, item in enumerate(value)] if isinstance(value, list) else [(here, value)]
             inner += [(place, member, item) for place, item in many if isinstance(item, dict)]
         waiting += reversed(inner)
@@ -529,24 +647,62 @@ HOLDERS = {
 }
 
 
-def indicators(document: Mapping[str, Any]) -> Iterator[tuple[str, str, str]]:
-    """What one blocks or looks for, as kind, value and pointer: addresses, domain names, hashes, files, registry keys, bulk
-    lists and URLs. A Reference is none. Whether a value is an indicator or the address of a victim is told by its place."""
+class Indicator(NamedTuple):
+    """A value in a document, and what part it has there.
+
+    `role` is `indicator` below a class Indicator, `source`, `target` or another category of a System in it, and `-` if the
+    document says none. Both stand if both hold, as `indicator:target`. A System that its report calls spoofed is `source:spoofed`.
+    """
+
+    kind: str
+    value: str
+    path: str
+    role: str
+
+
+def _found_in(name: str, each: dict[str, Any]) -> Iterator[tuple[str, str]]:
+    """The kinds and values that a class itself holds."""
+    holder = HOLDERS.get(name)
+    if holder and isinstance(value := each.get(holder[0]), str):
+        kind = each.get("category", holder[1])
+        yield kind if name == "Address" and isinstance(kind, str) else holder[1], value
+    if name == "BulkObservable":
+        values = each.get("BulkObservableList", [])
+        kind = each.get("type")
+        for value in values.split() if isinstance(values, str) else values if isinstance(values, list) else []:
+            if isinstance(value, str):
+                yield kind if isinstance(kind, str) else "bulk", value
+    urls = each.get("URL") if name != "Reference" else None
+    for url in urls if isinstance(urls, list) else [urls]:
+        if isinstance(url, str):
+            yield "url", url
+
+
+def _part_of(system: dict[str, Any]) -> str:
+    """The part of a System in what happened (RFC 7970 section 3.17). One that is spoofed is likely none of its category."""
+    category = system.get("category")
+    part = category if isinstance(category, str) else "-"
+    return f"{part}:spoofed" if system.get("spoofed") == "yes" else part
+
+
+def indicators(document: Mapping[str, Any], every: bool = False) -> Iterator[Indicator]:
+    """Yields what one blocks or looks for: addresses, domain names, hashes, files, registry keys, bulk lists and URLs that stand
+    below a class Indicator, or in a System of the category source that isn't spoofed. A Reference is none.
+
+    With `every` it yields those of all places, also the addresses of victims: look at `role` before you block one.
+    """
+    systems: list[tuple[str, str]] = []  # those around, the nearest last
     for path, name, each in classes(document):
-        holder = HOLDERS.get(name)
-        if holder and isinstance(value := each.get(holder[0]), str):
-            kind = each.get("category", holder[1])
-            yield kind if name == "Address" and isinstance(kind, str) else holder[1], value, path
-        if name == "BulkObservable":
-            values = each.get("BulkObservableList", [])
-            kind = each.get("type")
-            for value in values.split() if isinstance(values, str) else values if isinstance(values, list) else []:
-                if isinstance(value, str):
-                    yield kind if isinstance(kind, str) else "bulk", value, path
-        urls = each.get("URL") if name != "Reference" else None
-        for url in urls if isinstance(urls, list) else [urls]:
-            if isinstance(url, str):
-                yield "url", url, path
+        while systems and not path.startswith(systems[-1][0]):
+            systems.pop()
+        if name == "System":
+            systems.append((path + "/", _part_of(each)))
+        is_indicator = "Indicator" in path.split("/")
+        part = systems[-1][1] if systems else "-"
+        role = part if not is_indicator else "indicator" if part == "-" else f"indicator:{part}"
+        if every or is_indicator or part == "source":
+            for kind, value in _found_in(name, each):
+                yield Indicator(kind, value, path, role)
 
 
 # The command
@@ -594,6 +750,25 @@ def gate(text: str) -> Gate:
     return Gate(number(parts[0]), number(parts[1]), parts[2])
 
 
+def moment(text: str) -> str:
+    """A moment as the hub reads it. A date alone is the moment at which that day begins, the earlier of its two ends. What has no
+    offset is of this machine's time zone."""
+    try:
+        read = datetime.datetime.fromisoformat(text)
+        read = read if read.tzinfo else read.astimezone()
+        offset = read.utcoffset() or datetime.timedelta()
+    except (ValueError, OverflowError, OSError):
+        raise argparse.ArgumentTypeError(
+            f"{text!r} is no moment; wanted is 2026-12-31 (as that day begins), 2026-12-31T18:00 (both of this machine's time zone), or with"
+            " an offset 2026-12-31T18:00:00+01:00 or 2026-12-31T17:00:00Z"
+        ) from None
+    if read.microsecond or offset % datetime.timedelta(minutes=1):
+        raise argparse.ArgumentTypeError(f"{text!r} has a part of a second, or an offset with seconds")
+    if read > LAST_MOMENT:
+        raise argparse.ArgumentTypeError(f"{text!r} is after the hub's last moment, 9999-12-30T22:00:00Z; without --until there is no end")
+    return read.isoformat()
+
+
 class Teller:
     """Writes results: in lines for people, or with --json the hub's own answers, one a line."""
 
@@ -633,6 +808,15 @@ def do_show(hub: Hub, given: argparse.Namespace, teller: Teller) -> None:
         print(f"withheld at {shown(each.place) or 'the root'}: {reason} ({shown(each.rule)})", file=sys.stderr)
 
 
+def do_indicators(hub: Hub, given: argparse.Namespace, teller: Teller) -> None:
+    document = hub.view(given.number).document
+    every, found = list(indicators(document, True)), list(indicators(document, given.all))
+    teller.tell(*("\t".join(map(shown, each)) for each in found))
+    if len(found) < len(every) and not given.json:
+        rest = len(every) - len(found)
+        print(f"iodef-hub-ask: {rest} more stand elsewhere, as the addresses of victims do; --all lists them with their role", file=sys.stderr)
+
+
 def do_watch(hub: Hub, given: argparse.Namespace, teller: Teller) -> None:
     """New incidents by number; with --all also new revisions and what becomes visible, which costs a whole list each time."""
     known: dict[int, int] = {}
@@ -654,14 +838,42 @@ def do_watch(hub: Hub, given: argparse.Namespace, teller: Teller) -> None:
         time.sleep(given.every)
 
 
+def check_replacement(given: argparse.Namespace, has_gates: bool) -> None:
+    """Raises Usage if the words leave open for whom a new revision is. What was said of the stored one doesn't hold for it, and the
+    hub has no request that tells what that was."""
+    unsaid = []
+    if given.community is None and not given.any_community:
+        unsaid.append("--community N or --any-community: whose members may read what is marked green")
+    if not has_gates:
+        unsaid.append("--gate LEVEL:GROUP:POINTER or --no-gates: the gates of the stored revision are taken out")
+    if not given.drop_permissions:
+        unsaid.append("--drop-permissions: all permissions are taken out")
+    if unsaid:
+        raise Usage(f"nothing is sent, as a new revision wants {'; and '.join(unsaid)}")
+
+
+def do_replace(hub: Hub, given: argparse.Namespace, teller: Teller) -> None:
+    check_replacement(given, given.gate or given.no_gates)
+    report = report_bytes(read_file(given.file))
+    revision = revision_of(hub, given)
+    teller.tell(str(hub.replace(given.number, revision, report, given.level, given.group, gates=given.gate, community=given.community)))
+
+
+def do_grant(hub: Hub, given: argparse.Namespace, teller: Teller) -> None:
+    hub.grant(given.number, revision_of(hub, given), given.path, given.grantee, given.target, given.until)
+    teller.tell("done" if given.until is None else f"done, it ends at {given.until}")
+    if given.json and given.until is not None:
+        print(f"it ends at {given.until}", file=sys.stderr)
+
+
 @dataclass(frozen=True)
 class PostLine:
-    """A line for post-all: a report with its way of posting."""
+    """A line for post-all: a report with its way of posting. `gates` is None if the line has none written."""
 
     report: bytes
     level: int
     group: int | None
-    gates: tuple[Gate, ...]
+    gates: tuple[Gate, ...] | None
     source: int | None
     community: int | None
 
@@ -680,31 +892,53 @@ def post_line(text: bytes, place: int) -> PostLine:
     if not isinstance(document, dict) or not isinstance(gates, list) or type(value.get("level")) is not int or not are_numbers:
         raise bad
     try:
-        read = tuple(gate(each) for each in gates)
+        read = tuple(gate(each) for each in gates) if "gates" in value else None
     except (AttributeError, argparse.ArgumentTypeError):
         raise bad from None
-    report = json.dumps(document, separators=(",", ":"), ensure_ascii=False).encode(errors="surrogatepass")
-    return PostLine(report, value["level"], group, read, source, community)
+    try:
+        return PostLine(report_bytes(document), value["level"], group, read, source, community)
+    except ValueError as fault:
+        raise Usage(f"line {place}: {fault}") from None
+
+
+def post_lines(given: argparse.Namespace) -> list[PostLine]:
+    """All lines, each with the community that the words say. Raises Usage if a line says another one, or if a line for --replace
+    says no gates."""
+    lines: list[PostLine] = []
+    for text in _unmarked(read_file(given.file)).split(b"\n"):
+        if not text.strip():
+            continue
+        place = len(lines) + 1
+        line = post_line(text, place)
+        if line.community is not None and (given.any_community or given.community not in (None, line.community)):
+            said = "--any-community" if given.any_community else f"--community {given.community}"
+            raise Usage(f"line {place} is for community {line.community}, and you say {said}")
+        if given.replace and line.gates is None:
+            raise Usage(f'line {place}: "gates" is wanted, as a new revision takes out the gates of the stored one')
+        lines.append(replace(line, community=line.community if given.community is None else given.community))
+    return lines
 
 
 def do_post_all(hub: Hub, given: argparse.Namespace, teller: Teller) -> None:
     """Posts each line. All are read, and their source is compared with the caller's organisation, before the first is sent."""
-    texts = [each for each in read_file(given.file).split(b"\n") if each.strip()]
-    lines = [post_line(text, place + 1) for place, text in enumerate(texts)]
+    if given.replace:
+        check_replacement(given, has_gates=True)
+    lines = post_lines(given)
     org = hub.me().org
     for place, line in enumerate(lines):
         if line.source not in (None, org):
             raise Usage(f"line {place + 1}: the report is of organisation {line.source}, and your key is of organisation {org}")
     for place, line in enumerate(lines):
+        gates = line.gates or ()
         try:
             try:
-                told = " ".join(map(str, hub.post(line.report, line.level, line.group, line.gates, line.community)))
+                told = " ".join(map(str, hub.post(line.report, line.level, line.group, gates, line.community)))
             except Refused as refusal:
                 if not (given.replace and refusal.code == "S1" and refusal.detail.isdigit()):
                     raise
                 stored = int(refusal.detail)
                 seen = hub.view(stored).revision
-                revision = hub.replace(stored, seen, line.report, line.level, line.group, line.gates, line.community)
+                revision = hub.replace(stored, seen, line.report, line.level, line.group, gates=gates, community=line.community)
                 told = f"{stored}\tr{revision}"
         except HubError:
             print(f"iodef-hub-ask: {place} of {len(lines)} lines are posted; line {place + 1}:", file=sys.stderr)
@@ -764,124 +998,173 @@ def listed(page: Callable[[Hub, argparse.Namespace, int], tuple[Entry, ...]]) ->
 
 
 NUMBERS = {"number", "level", "target", "person", "org", "client", "community", "other", "group_number"}
-CHOICES = {"kind": KINDS, "role": ROLES, "handling": HANDLINGS, "state": ("on", "off")}
+CHOICES = {"grantee": GRANTEES, "recipient": RECIPIENTS, "role": ROLES, "handling": HANDLINGS, "state": ("on", "off")}
+HELPS = {
+    "level": "0 your organisation, 1 organisations that share a community with it, 2 those of connected communities too, 3 everybody in the"
+    " hub, also organisations in no community, 4 the group of --group",
+    "path": "the JSON pointer of a class in the Incident's document, as /Incident/0/EventData/1",
+    "file": "the file, or - for standard input",
+}
 
 
-def words() -> tuple[argparse.ArgumentParser, dict[str, Command]]:
-    parser = argparse.ArgumentParser(
-        prog="iodef-hub-ask", description="Asks an iodef-hub. The key stands in IODEF_HUB_KEY, or in a file that IODEF_HUB_KEY_FILE names.",
-    )
-    parser.add_argument("--url", default=os.environ.get("IODEF_HUB_URL", "http://127.0.0.1:8080"), help="else IODEF_HUB_URL, else %(default)s")
-    parser.add_argument("--ca", default=os.environ.get("IODEF_HUB_CA") or None, help="certificates to trust in place of the system's; else IODEF_HUB_CA")
-    parser.add_argument("--json", action="store_true", help="the hub's own answers, one a line")
-    parser.add_argument("--tries", type=number, default=5, help="how often a request is sent at most (%(default)s)")
-    parser.add_argument("--timeout", type=float, default=70, help="seconds without a byte until a connection is lost (%(default)s)")
-    commands = parser.add_subparsers(dest="command", required=True, metavar="COMMAND")
-    known: dict[str, Command] = {}
+class Words:
+    """The words that the command knows, and what each command does."""
 
-    def command(name: str, run: Command, about: str, *names: str) -> argparse.ArgumentParser:
-        made = commands.add_parser(name, help=about, description=about[0].upper() + about[1:] + ".")
+    def __init__(self) -> None:
+        self.parser = argparse.ArgumentParser(
+            prog="iodef-hub-ask", description="Asks an iodef-hub. The key stands in IODEF_HUB_KEY, or in a file that IODEF_HUB_KEY_FILE names.",
+        )
+        add = self.parser.add_argument
+        add("--url", default=os.environ.get("IODEF_HUB_URL", "http://127.0.0.1:8080"), help="else IODEF_HUB_URL, else %(default)s")
+        add("--ca", default=os.environ.get("IODEF_HUB_CA") or None, help="certificates to trust in place of the system's; else IODEF_HUB_CA")
+        add("--json", action="store_true", help="the hub's own answers, one a line")
+        add("--tries", type=number, default=5, help="how often a request is sent at most (%(default)s)")
+        add("--timeout", type=float, default=70, help="seconds without a byte until a connection is lost (%(default)s)")
+        add("--version", action="version", version=f"%(prog)s {__version__}")
+        self.commands = self.parser.add_subparsers(dest="command", required=True, metavar="COMMAND")
+        self.known: dict[str, Command] = {}
+        self.add_reading()
+        self.add_reports()
+        self.add_sharing()
+        self.add_circle()
+        self.add_groups()
+
+    def add(self, name: str, run: Command, about: str, *names: str) -> argparse.ArgumentParser:
+        """A command with its positional words. One that ends with ? may be left out."""
+        made: argparse.ArgumentParser = self.commands.add_parser(name, help=about, description=about[0].upper() + about[1:] + ".")
         for each in names:
             if each.endswith("?"):
                 made.add_argument(each[:-1], nargs="?", metavar=each[:-1].upper())
             elif each in CHOICES:
                 made.add_argument(each, choices=CHOICES[each])
             else:
-                made.add_argument(each, type=number if each in NUMBERS else str, metavar=each.upper())
-        known[name] = run
+                made.add_argument(each, type=number if each in NUMBERS else str, metavar=each.upper(), help=HELPS.get(each))
+        self.known[name] = run
         return made
 
-    def revised(made: argparse.ArgumentParser) -> None:
-        made.add_argument("--revision", type=number, help="the revision that you have seen; else the present one is asked for")
+    def add_reading(self) -> None:
+        self.add("me", told(lambda hub, given: [shown_json(asdict(hub.me()))]), "who the hub takes you for")
+        self.add("groups", told(lambda hub, given: [shown(json.dumps(asdict(each), ensure_ascii=False)) for each in hub.groups()]),
+                 "the sharing groups of your organisation")
+        self.add("list", listed(lambda hub, given, after: hub.incidents(after)), "the incidents that show you something")
+        self.add("addressed", listed(lambda hub, given, after: hub.addressed(after)), "those that address you or your organisation")
+        self.add("show", do_show, "an incident as you may read it; what is withheld stands on standard error", "number")
+        found = self.add("indicators", do_indicators, "what one blocks or looks for in an incident: kind, value, place and role", "number")
+        found.add_argument("--all", action="store_true",
+                           help="also what stands neither below Indicator nor in a source, as the addresses of victims: look at the role")
+        self.add("find", listed(lambda hub, given, after: hub.search(given.needle, given.class_name, after)),
+                 "the incidents in which you may read a text, in a class of this name if one is given", "needle", "class_name?")
+        watch = self.add("watch", do_watch, "tells new incidents as they come")
+        watch.add_argument("--every", type=float, default=60, help="seconds between two looks (%(default)s)")
+        watch.add_argument("--from", dest="start", type=number, default=0, help="incidents above this number are new")
+        watch.add_argument("--all", action="store_true", help="also new revisions, and what becomes visible: a whole list each time")
+        watch.add_argument("--rounds", type=number, default=0, help="how often to look; 0 is for ever")
 
-    command("me", told(lambda hub, given: [shown_json(asdict(hub.me()))]), "who the hub takes you for")
-    command("groups", told(lambda hub, given: [shown(json.dumps(asdict(each), ensure_ascii=False)) for each in hub.groups()]),
-            "the sharing groups of your organisation")
-    command("list", listed(lambda hub, given, after: hub.incidents(after)), "the incidents that show you something")
-    command("addressed", listed(lambda hub, given, after: hub.addressed(after)), "those that address you or your organisation")
-    command("show", do_show, "an incident as you may read it; what is withheld stands on standard error", "number")
-    command("indicators", told(lambda hub, given: ["\t".join(map(shown, each)) for each in indicators(hub.view(given.number).document)]),
-            "what one blocks or looks for in an incident: kind, value and place", "number")
-    command("find", listed(lambda hub, given, after: hub.search(given.needle, given.class_name, after)),
-            "the incidents in which you may read a text, in a class of this name if one is given", "needle", "class_name?")
-    watch = command("watch", do_watch, "tells new incidents as they come")
-    watch.add_argument("--every", type=float, default=60, help="seconds between two looks (%(default)s)")
-    watch.add_argument("--from", dest="start", type=number, default=0, help="incidents above this number are new")
-    watch.add_argument("--all", action="store_true", help="also new revisions, and what becomes visible: a whole list each time")
-    watch.add_argument("--rounds", type=number, default=0, help="how often to look; 0 is for ever")
+    def add_reports(self) -> None:
+        post = self.add("post", told(lambda hub, given: [str(each) for each in hub.post(
+            read_file(given.file), given.level, given.group, given.gate, given.community)]), "posts a report; tells the numbers", "file", "level")
+        add_spread(post)
+        exchange = self.add("replace", do_replace, "puts a new revision in place of the stored one, and says anew for whom it is",
+                            "number", "file", "level")
+        gates = add_spread(exchange)
+        gates.add_argument("--no-gates", action="store_true", help="no class has a gate of its own in the new revision")
+        add_dropping(exchange, True)
+        add_revision(exchange)
+        post_all = self.add("post-all", do_post_all, "posts the lines that iodef-hub-misp to-iodef writes", "file")
+        add_communities(post_all)
+        post_all.add_argument("--replace", action="store_true", help="puts a new revision in place of a report that was posted before")
+        add_dropping(post_all, False)
 
-    for made in (
-        command("post", told(lambda hub, given: [str(each) for each in hub.post(
-            read_file(given.file), given.level, given.group, given.gate, given.community)]),
-                "posts a report; tells the numbers", "file", "level"),
-        command("replace", told(lambda hub, given: [str(hub.replace(
-            given.number, revision_of(hub, given), read_file(given.file), given.level, given.group, given.gate, given.community))]),
-                "puts a new revision in place of the stored one, which takes out all permissions", "number", "file", "level"),
-    ):
-        made.add_argument("--community", type=number, help="the one community of yours that what is marked green is for; else all of them")
-        made.add_argument("--group", type=number, help="the sharing group of level 4")
-        made.add_argument("--gate", type=gate, action="append", default=[], metavar="LEVEL:GROUP:POINTER")
-        if "replace" in made.prog:
-            revised(made)
-    post_all = command("post-all", do_post_all, "posts the lines that iodef-hub-misp to-iodef writes", "file")
-    post_all.add_argument("--replace", action="store_true", help="where a report was posted before, a new revision is put in its place")
-    redistribute = command("redistribute", done(lambda hub, given: hub.redistribute(
-        given.number, revision_of(hub, given), given.path, given.level, given.group)),
-        "sets the distribution level of a class, or with an empty path of all", "number", "path", "level")
-    redistribute.add_argument("--group", type=number, help="the sharing group of level 4")
-    revised(redistribute)
-    command("address", done(lambda hub, given: hub.address(given.number, given.kind, given.target)),
-            "adds a recipient", "number", "kind", "target")
-    command("unaddress", done(lambda hub, given: hub.unaddress(given.number, given.kind, given.target)),
-            "takes a recipient out", "number", "kind", "target")
-    grant = command("grant", done(lambda hub, given: hub.grant(
-        given.number, revision_of(hub, given), given.path, given.kind, given.target, given.until)),
-        "permits somebody to see a class", "number", "path", "kind", "target")
-    grant.add_argument("--until", help="when it ends, as 2024-06-01T00:00:00Z")
-    revised(grant)
-    command("withdraw", done(lambda hub, given: hub.withdraw(given.number, given.path, given.kind, given.target)),
-            "takes a permission back", "number", "path", "kind", "target")
+    def add_sharing(self) -> None:
+        redistribute = self.add("redistribute", done(lambda hub, given: hub.redistribute(
+            given.number, revision_of(hub, given), given.path, given.level, given.group)),
+            "sets the distribution level of a class (5: as the class above), or with an empty path that of the whole report", "number", "path", "level")
+        redistribute.add_argument("--group", type=number, help="the sharing group of level 4")
+        add_revision(redistribute)
+        self.add("address", done(lambda hub, given: hub.address(given.number, given.recipient, given.target)),
+                 "adds a recipient", "number", "recipient", "target")
+        self.add("unaddress", done(lambda hub, given: hub.unaddress(given.number, given.recipient, given.target)),
+                 "takes a recipient out", "number", "recipient", "target")
+        grant = self.add("grant", do_grant, "permits somebody to see a class", "number", "path", "grantee", "target")
+        grant.add_argument("--until", type=moment, metavar="MOMENT",
+                           help="when it ends: 2026-12-31, as that day begins, or 2026-12-31T18:00; of this machine's time zone, unless an"
+                           " offset as +01:00 or Z follows the time")
+        add_revision(grant)
+        self.add("withdraw", done(lambda hub, given: hub.withdraw(given.number, given.path, given.grantee, given.target)),
+                 "takes a permission back", "number", "path", "grantee", "target")
 
-    command("why", told(lambda hub, given: [shown(each) for each in hub.explain(given.person, given.number, given.path).splitlines()]),
-            "why a person sees a class of an incident, or doesn't", "person", "number", "path")
-    command("add-org", told(lambda hub, given: [str(hub.add_org(given.name))]), "adds an organisation", "name")
-    command("client", done(lambda hub, given: hub.add_client(given.org, given.client)), "makes CLIENT a client of ORG", "org", "client")
-    command("unclient", done(lambda hub, given: hub.remove_client(given.org, given.client)), "takes a client out", "org", "client")
-    add_person = command("add-person", do_add_person, "adds a person with a new key, which is told this once", "org", "name", "role")
-    add_person.add_argument("--key-file", help="the new key is written into this file, which must not be there")
-    add_person.add_argument("--digest", help="the SHA-256 of a key that the person has made, in place of a new one")
-    command("suspend", done(lambda hub, given: hub.suspend(given.person)), "serves a person no more, for good", "person")
-    command("add-community", told(lambda hub, given: [str(hub.add_community(given.name))]), "adds a community", "name")
-    command("join", done(lambda hub, given: hub.join(given.community, given.org)), "puts an organisation into a community", "community", "org")
-    command("leave", done(lambda hub, given: hub.leave(given.community, given.org)), "takes an organisation out of a community", "community", "org")
-    command("link", done(lambda hub, given: hub.link(given.community, given.other)), "connects two communities", "community", "other")
-    command("unlink", done(lambda hub, given: hub.unlink(given.community, given.other)), "ends a connection", "community", "other")
+    def add_circle(self) -> None:
+        self.add("why", told(lambda hub, given: [shown(each) for each in hub.explain(given.person, given.number, given.path).splitlines()]),
+                 "why a person sees a class of an incident, or doesn't", "person", "number", "path")
+        self.add("add-org", told(lambda hub, given: [str(hub.add_org(given.name))]), "adds an organisation", "name")
+        self.add("client", done(lambda hub, given: hub.add_client(given.org, given.client)), "makes CLIENT a client of ORG", "org", "client")
+        self.add("unclient", done(lambda hub, given: hub.remove_client(given.org, given.client)), "takes a client out", "org", "client")
+        person = self.add("add-person", do_add_person, "adds a person with a new key, which is told this once", "org", "name", "role")
+        person.add_argument("--key-file", help="the new key is written into this file, which must not be there")
+        person.add_argument("--digest", help="the SHA-256 of a key that the person has made, in place of a new one")
+        self.add("suspend", done(lambda hub, given: hub.suspend(given.person)), "serves a person no more, for good", "person")
+        self.add("add-community", told(lambda hub, given: [str(hub.add_community(given.name))]), "adds a community", "name")
+        self.add("join", done(lambda hub, given: hub.join(given.community, given.org)), "puts an organisation into a community", "community", "org")
+        self.add("leave", done(lambda hub, given: hub.leave(given.community, given.org)), "takes an organisation out of a community", "community", "org")
+        self.add("link", done(lambda hub, given: hub.link(given.community, given.other)), "connects two communities", "community", "other")
+        self.add("unlink", done(lambda hub, given: hub.unlink(given.community, given.other)), "ends a connection", "community", "other")
 
-    command("nominate", done(lambda hub, given: hub.nominate(given.person)), "lets a person receive what is for your organisation", "person")
-    command("unnominate", done(lambda hub, given: hub.unnominate(given.person)), "ends a nomination", "person")
-    command("new-group", told(lambda hub, given: [str(hub.new_group(given.name, given.releasability or ""))]),
-            "founds a sharing group of your organisation", "name", "releasability?")
-    group_add = command("group-add", done(lambda hub, given: hub.group_add(given.group_number, given.org, given.extend)),
-                        "puts an organisation into a group", "group_number", "org")
-    group_add.add_argument("--extend", action="store_true", help="the new member may add others")
-    command("group-remove", done(lambda hub, given: hub.group_remove(given.group_number, given.org)),
-            "takes an organisation out of a group", "group_number", "org")
-    command("group-active", done(lambda hub, given: hub.group_active(given.group_number, given.state == "on")),
-            "switches a group on or off", "group_number", "state")
-    command("arrange", done(lambda hub, given: hub.arrange(given.org, given.handling)),
-            "says what your label `default` means to another organisation", "org", "handling")
-    command("cancel-arrange", done(lambda hub, given: hub.cancel_arrange(given.org)), "ends an arrangement", "org")
-    return parser, known
+    def add_groups(self) -> None:
+        self.add("nominate", done(lambda hub, given: hub.nominate(given.person)), "lets a person receive what is for your organisation", "person")
+        self.add("unnominate", done(lambda hub, given: hub.unnominate(given.person)), "ends a nomination", "person")
+        self.add("new-group", told(lambda hub, given: [str(hub.new_group(given.name, given.releasability or ""))]),
+                 "founds a sharing group of your organisation", "name", "releasability?")
+        group_add = self.add("group-add", done(lambda hub, given: hub.group_add(given.group_number, given.org, given.extend)),
+                             "puts an organisation into a group", "group_number", "org")
+        group_add.add_argument("--extend", action="store_true", help="the new member may add others")
+        self.add("group-remove", done(lambda hub, given: hub.group_remove(given.group_number, given.org)),
+                 "takes an organisation out of a group", "group_number", "org")
+        self.add("group-active", done(lambda hub, given: hub.group_active(given.group_number, given.state == "on")),
+                 "switches a group on or off", "group_number", "state")
+        self.add("arrange", done(lambda hub, given: hub.arrange(given.org, given.handling)),
+                 "says what your label `default` means to another organisation", "org", "handling")
+        self.add("cancel-arrange", done(lambda hub, given: hub.cancel_arrange(given.org)), "ends an arrangement", "org")
+
+
+def add_revision(made: argparse.ArgumentParser) -> None:
+    made.add_argument("--revision", type=number, help="the revision that you have seen; else the present one is asked for")
+
+
+def add_communities(made: argparse.ArgumentParser) -> None:
+    either = made.add_mutually_exclusive_group()
+    either.add_argument("--community", type=number, metavar="N", help="what is marked green is for the members of this one of your communities alone")
+    either.add_argument("--any-community", action="store_true", help="what is marked green is for the members of any of your communities")
+
+
+def add_spread(made: argparse.ArgumentParser) -> Any:
+    """The words that say for whom a report is. Returns the group of those of which only one kind may be given for its gates."""
+    add_communities(made)
+    made.add_argument("--group", type=number, metavar="N", help="the sharing group of level 4")
+    gates = made.add_mutually_exclusive_group()
+    gates.add_argument("--gate", type=gate, action="append", default=[], metavar="LEVEL:GROUP:POINTER",
+                       help="a class has a level of its own; GROUP is 0 but at level 4")
+    return gates
+
+
+def add_dropping(made: argparse.ArgumentParser, is_wanted: bool) -> None:
+    wanted = "wanted" if is_wanted else "wanted with --replace"
+    made.add_argument("--drop-permissions", action="store_true", help=f"{wanted}: a new revision takes out all permissions of the stored one")
+
+
+def told_of(fault: Exception) -> str:
+    """What standard error is told of a fault, with what helps if the hub doesn't say it."""
+    is_number = isinstance(fault, Refused) and fault.detail.split(" ")[0] == "NotWhole"
+    return shown(str(fault)) + (": write a whole number of at most 64 bits, as 1000 in place of 1000.0, or a text" if is_number else "")
 
 
 def main() -> int:
     """0 done, 1 refused, 2 usage, 3 not reached or no hub, 4 a change that may have been taken."""
-    parser, known = words()
-    given = parser.parse_args()
+    words = Words()
+    given = words.parser.parse_args()
     try:
         hub = Hub(given.url, key_of(os.environ), given.ca, given.timeout, given.tries)
         try:
-            known[given.command](hub, given, Teller(hub, given.json))
+            words.known[given.command](hub, given, Teller(hub, given.json))
         except Refused:
             if given.json:
                 Teller(hub, True).tell()
@@ -890,7 +1173,7 @@ def main() -> int:
         os.dup2(os.open(os.devnull, os.O_WRONLY), sys.stdout.fileno())
         return 0
     except (HubError, Usage, ValueError, OSError) as fault:
-        print(f"iodef-hub-ask: {shown(str(fault))}", file=sys.stderr)
+        print(f"iodef-hub-ask: {told_of(fault)}", file=sys.stderr)
         return 1 if isinstance(fault, Refused) else 4 if isinstance(fault, MayBeTaken) else 3 if isinstance(fault, HubError) else 2
     except KeyboardInterrupt:
         return 130
