@@ -231,6 +231,7 @@ def digest_of(key: str) -> str:
 
 Report = dict[str, Any] | bytes | str
 
+OF_A_FILE = "of a file: pathlib.Path(NAME).read_bytes()"
 BYTE_ORDER_MARKS = (
     (codecs.BOM_UTF8, "UTF-8", "tail -c +4 FILE"),
     (codecs.BOM_UTF32_LE, "UTF-32", "iconv -f UTF-32 -t UTF-8 FILE"),  # before that of UTF-16, with which it begins
@@ -280,18 +281,21 @@ def _check_numbers(report: dict[str, Any]) -> None:
 def report_bytes(report: Report) -> bytes:
     """Returns the bytes that are sent of a report: of a dict its JSON, of a str its UTF-8, and bytes as they are.
 
-    Raises TypeError for anything else, and ValueError for a byte order mark in front of the report or, in a dict, for a number
-    that the hub refuses. What else may be wrong with a report is for the hub to say.
+    Raises TypeError for anything else. Raises ValueError for a byte order mark in front of the report, for a str that begins no
+    JSON object (as the name of a file), and for a number in a dict that the hub refuses. All else is for the hub to say.
     """
     if isinstance(report, dict):
         text = json.dumps(report, ensure_ascii=False, separators=(",", ":"), default=_no_json)
         _check_numbers(report)
         return _utf8(text)
     if isinstance(report, str):
-        return _unmarked(_utf8(report))
+        whole = _unmarked(_utf8(report))
+        if not whole.lstrip(b" \t\r\n").startswith(b"{"):
+            raise ValueError(f"a str is the JSON of a report, which begins with {{; {OF_A_FILE}")
+        return whole
     if isinstance(report, bytes):
         return _unmarked(report)
-    raise TypeError(f"a report is a dict, or its JSON as bytes or str, and no {type(report).__name__}; of a file: pathlib.Path(NAME).read_bytes()")
+    raise TypeError(f"a report is a dict, or its JSON as bytes or str, and no {type(report).__name__}; {OF_A_FILE}")
 
 
 def _is_this_host(name: str) -> bool:
