@@ -11,6 +11,7 @@
 """
 
 import concurrent.futures
+import contextlib
 import json
 import socket
 import ssl
@@ -242,7 +243,8 @@ def hub(port: int, seconds: float, kind: str) -> None:
                     answer = [b"200 OK", b"x" * (LONG if b" /incidents" in request else 2)]
                 if kind != "closes":
                     head = b"HTTP/1.1 %s\r\nContent-Type: application/json\r\nConnection: close\r\nContent-Length: %d\r\n\r\n"
-                    it.sendall(head % (answer[0], len(answer[1])) + answer[1])
+                    with contextlib.suppress(OSError):     # a proxy that has no room leaves
+                        it.sendall(head % (answer[0], len(answer[1])) + answer[1])
     print(json.dumps({each: asked.count(each) for each in sorted(set(asked))}))
 
 
