@@ -7,7 +7,7 @@
     silent NAME ADDRESS COUNT       connections of an address that send nothing: how many are taken
     slow NAME SECONDS               a reply that is taken only after some seconds: its bytes, and the status of a request meanwhile
     hub PORT SECONDS KIND           in a hub's place: it `closes` after each request, answers `F2`, or `long` (40 MB) below /incidents;
-                                    it tells the methods that it was asked with
+                                    it tells how often it was asked what
 """
 
 import concurrent.futures
@@ -237,7 +237,7 @@ def hub(port: int, seconds: float, kind: str) -> None:
                 continue
             with it:
                 request = it.recv(65536)
-                asked.append(request.partition(b" ")[0].decode())
+                asked.append(b" ".join(request.split(b" ")[:2]).decode())
                 answer = [b"503 Service Unavailable", b'{"code":"F2","detail":"","reason":"no memory"}']
                 if kind == "long":
                     answer = [b"200 OK", b"x" * (LONG if b" /incidents" in request else 2)]
