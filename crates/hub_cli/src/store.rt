@@ -5,7 +5,7 @@ ghost use Rattle.hub_cli.specs.Faults.{told_of_shelf, told_of_opening};
 use crate::fault::{Fault, Reason};
 use hub_core::ShelfFault;
 use hub_store::{OpenFault, SqlShelf};
-use kept_documents::{KeptDocuments, MOST_LINES};
+use kept_documents::{KeptDocuments, MOST_WEIGHT};
 use sqlite::{Alter, Connection, Error, ErrorCode, File, FileStore};
 use std::alloc::Global;
 use std::fs;
@@ -113,7 +113,7 @@ pub fn open_store(rt: &HostRuntime, path: &str) -> Result<FileShelf, Fault> {
 pub fn open_kept(
     rt: &HostRuntime,
     path: &str,
-) -> Result<KeptDocuments<FileShelf, MOST_LINES>, Fault> {
+) -> Result<KeptDocuments<FileShelf, MOST_WEIGHT>, Fault> {
     match KeptDocuments::new(rt.alloc(), open_store(rt, path)?) {
         Ok(kept) => Ok(kept),
         Err((_, shelf)) => {

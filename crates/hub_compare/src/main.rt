@@ -1,15 +1,17 @@
 //! `hub_compare LISTS`: asks the hub over the shelf in memory, the hub over SQL tables, and the hub over a shelf in memory that
 //! keeps documents so many generated lists of 60 requests, and then for more rows than there may be. The tables are opened anew
 //! within each list and at its end. All replies have to be equal, and so what the shelves have in the end. A difference is told
-//! by its list, with status 1. Behind each kind of request stands how often each outcome was met; it is status 1 too where one
-//! wasn't met, or another was. Of what `stdout` has, these counts alone are what the program told, as nobody can reckon them
-//! beforehand.
+//! by its list, with status 1. Then it asks a shelf that keeps documents for long reports of few lines, and prints what the
+//! kept ones weigh in the end; if they ever weigh more than they may, it ends with status 1. Behind each kind of request stands
+//! how often each outcome was met; it is status 1 too where one wasn't met, or another was. Of what `stdout` has, these counts
+//! alone are what the program told, as nobody can reckon them beforehand.
 #![tactic(auto)]
 
 mod asked;
 mod commands;
 mod documents;
 mod fault;
+mod heavy;
 mod limits;
 mod lists;
 mod outcomes;
@@ -61,6 +63,25 @@ fn agree_at_limits(rt: &HostRuntime, tally: &mut Tally) -> io::Result<bool> {
     Ok(true)
 }
 
+/// Prints what the kept documents weigh after long reports of few lines. Whether that was never more than the bound.
+fn weigh_heavy_reports(rt: &HostRuntime) -> io::Result<bool> {
+    match heavy::weight_in_the_end(rt.alloc()) {
+        Ok(weight) => {
+            println!(rt;
+                "{} reports of 7 lines and 260 KB: the kept documents weigh {weight} of at most {}",
+                heavy::REPORTS,
+                heavy::MOST_WEIGHT
+            )?;
+            Ok(true)
+        }
+        Err(fault) => {
+            let name = name_of(&fault);
+            println!(rt; "of reports of 7 lines and 260 KB: {name}")?;
+            Ok(false)
+        }
+    }
+}
+
 /// Prints the counts. Whether each outcome was met, and no other.
 fn tell(rt: &HostRuntime, tally: &Tally) -> io::Result<bool> {
     for line in lines_of(rt.alloc(), tally)?.iter() {
@@ -81,7 +102,9 @@ fn main(rt: HostRuntime) -> io::Result<ExitCode> {
         return Ok(ExitCode::from(2));
     };
     let mut tally = Tally::new(alloc);
-    let is_same = agree_on_lists(&rt, &mut tally, lists)? && agree_at_limits(&rt, &mut tally)?;
+    let is_same = agree_on_lists(&rt, &mut tally, lists)?
+        && agree_at_limits(&rt, &mut tally)?
+        && weigh_heavy_reports(&rt)?;
     let is_full = is_same && tell(&rt, &tally)?;
     Ok(ExitCode::from(u8::from(!is_full)))
 }

@@ -2,7 +2,7 @@
 
 use crate::fault::{Fault, agree};
 use crate::replies::{same_document, same_excerpt, same_groups};
-use crate::shelves::MOST_LINES;
+use crate::shelves::MOST_WEIGHT;
 use crate::world::{KEYS, key_of};
 use hub_core::{ListShelf, Shelf};
 use hub_store::SqlShelf;
@@ -119,7 +119,7 @@ fn agree_on_incident(
 fn agree_on_excerpt(
     alloc: Global,
     lists: &mut ListShelf,
-    kept: &mut KeptDocuments<ListShelf, MOST_LINES>,
+    kept: &mut KeptDocuments<ListShelf, MOST_WEIGHT>,
     person: u32,
     incident: u32,
 ) -> Result<(), Fault> {
@@ -142,7 +142,7 @@ fn agree_on_excerpt(
 pub fn agree_on_excerpts(
     alloc: Global,
     lists: &mut ListShelf,
-    kept: &mut KeptDocuments<ListShelf, MOST_LINES>,
+    kept: &mut KeptDocuments<ListShelf, MOST_WEIGHT>,
 ) -> Result<(), Fault> {
     let entries = lists.incidents_after(0, u32::MAX)?;
     for entry in entries.iter().take(INCIDENTS) {

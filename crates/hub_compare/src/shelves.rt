@@ -11,26 +11,26 @@ use kept_documents::KeptDocuments;
 use sqlite::{Connection, MemStore};
 use std::alloc::Global;
 
-/// How many lines the third shelf keeps: so few that documents take each other's place.
-pub const MOST_LINES: usize = 60;
+/// What the documents that the third shelf keeps may weigh: so little that they take each other's place.
+pub const MOST_WEIGHT: usize = 8192;
 
 /// The hub over the shelf in memory, over SQL tables in memory, and over a shelf in memory that keeps documents.
 #[derive(Drop)]
 pub struct Shelves {
     lists: Hub<ListShelf>,
     tables: Hub<SqlShelf<MemStore>>,
-    kept: Hub<KeptDocuments<ListShelf, MOST_LINES>>,
+    kept: Hub<KeptDocuments<ListShelf, MOST_WEIGHT>>,
 }
 
 /// A shelf in memory with these rows.
-fn new_lists(alloc: Global, edits: &[Edit]) -> Result<ListShelf, Fault> {
+pub fn new_lists(alloc: Global, edits: &[Edit]) -> Result<ListShelf, Fault> {
     let mut lists = ListShelf::new(alloc);
     lists.apply(edits)?;
     Ok(lists)
 }
 
 /// The same, which keeps documents.
-fn new_kept(alloc: Global, edits: &[Edit]) -> Result<KeptDocuments<ListShelf, MOST_LINES>, Fault> {
+fn new_kept(alloc: Global, edits: &[Edit]) -> Result<KeptDocuments<ListShelf, MOST_WEIGHT>, Fault> {
     match KeptDocuments::new(alloc, new_lists(alloc, edits)?) {
         Ok(kept) => Ok(kept),
         Err((refused, _)) => Err(Fault::from(refused)),

@@ -1,5 +1,5 @@
 -- Which documents are left of those that are kept.
-use Rattle.std.proofs.Common.{◌≡◌, ◌⊎◌, ◌-◌, ℕ, Bool, true, false, cond, List, [], ◌∷◌, length, take, Some, None, Contains, inl, inr, refl, sym, subst, ap, ◌∙◌, nat_eq}
+use Rattle.std.proofs.Common.{◌≡◌, ◌≤◌, ◌⊎◌, ◌-◌, ℕ, Bool, true, false, cond, List, [], ◌∷◌, length, take, Some, None, Contains, inl, inr, refl, sym, subst, ap, ◌∙◌, nat_eq}
 use Rattle.std.proofs.lemmas.Bool.{eqb-true}
 use Rattle.std.specs.Cmp.{nat_eq_equiv}
 use Rattle.std.specs.List.{IsDistinct}
@@ -9,13 +9,16 @@ use Rattle.lru.specs.LruCache.{LruCache, IsValid, lru_cache, put_entries, promot
 use Rattle.lru.proofs.CallerLemmas.{Contains-take, Contains-lookup, Contains-promoted, Contains-put_entries, Contains-remove_entry}
 use Rattle.lru.proofs.Splits.{Contains-cons, Contains-nil}
 use Rattle.hub_core.specs.Documents.{Lines}
-use Rattle.kept_documents.specs.Kept.{Entry, AreAmong}
+use Rattle.kept_documents.specs.Kept.{Entry, AreAmong, AreLight, document_weight}
 
 pub taken_among : (c new start : LruCache ℕ Lines) → new ≡ lru_cache (take (length c.entries - 1) c.entries) c.cap → AreAmong c.entries start.entries → AreAmong new.entries start.entries
 taken_among c new start is among e k = among e (Contains-take (length c.entries - 1) c.entries e (subst (λ (x : LruCache ℕ Lines). Contains x.entries e) is k))
 
 pub kept_promoted : (n : ℕ) (c new : LruCache ℕ Lines) (es : List Entry) → new ≡ lru_cache (promoted (nat_eq n) c.entries) c.cap → c.entries ≡ es → AreAmong new.entries es
 kept_promoted n c new es is view e k = subst (λ l. Contains l e) view (Contains-promoted (nat_eq n) c.entries e (subst (λ l. Contains l e) (ap (λ (x : LruCache ℕ Lines). x.entries) is) k))
+
+pub light_promoted : (n : ℕ) (c new : LruCache ℕ Lines) → new ≡ lru_cache (promoted (nat_eq n) c.entries) c.cap → AreLight c.entries → AreLight new.entries
+light_promoted n c new is light e k = light e (kept_promoted n c new c.entries is refl e k)
 
 -- what is found under a number is kept with it
 pub found : (n : ℕ) (es : List Entry) (v : Lines) → lookup (nat_eq n) es ≡ Some v → Contains es (n, v)
@@ -41,6 +44,13 @@ kept_put n v kept c mid new es is among view same e k = elim (put_or_kept mid n 
   | inr here ↦ inr (here ∙ ap (λ w. (n, w)) same)
 ]
 
+-- a light one is put
+pub light_put : (n : ℕ) (v : Lines) (c mid new : LruCache ℕ Lines) → new ≡ lru_cache (put_entries nat_eq mid n v) mid.cap → AreAmong mid.entries c.entries → document_weight v ≤ 1048576 → AreLight c.entries → AreLight new.entries
+light_put n v c mid new is among low light e k = elim (kept_put n v v c mid new c.entries is among refl refl e k) [
+  | inl was ↦ light e was
+  | inr here ↦ subst (λ (i : Entry). document_weight i.1 ≤ 1048576) (sym here) low
+]
+
 pub kept_same : (c mid new : LruCache ℕ Lines) (es : List Entry) → new ≡ mid → AreAmong mid.entries c.entries → c.entries ≡ es → AreAmong new.entries es
 kept_same c mid new es is among view e k = subst (λ l. Contains l e) view (among e (subst (λ (x : LruCache ℕ Lines). Contains x.entries e) is k))
 
@@ -61,3 +71,6 @@ pub kept_others : (n : ℕ) (c new : LruCache ℕ Lines) (es : List Entry) → I
 kept_others n c new es valid is view e k =
     let left : Contains (remove_entry (nat_eq n) c.entries) e = subst (λ l. Contains l e) (ap (λ (x : LruCache ℕ Lines). x.entries) is) k in
     (subst (λ l. Contains l e) view (Contains-remove_entry (nat_eq n) c.entries e left), absent (nat_eq n) (remove_entry (nat_eq n) c.entries) e (none_left n c.entries valid.0) left)
+
+pub light_others : (n : ℕ) (c new : LruCache ℕ Lines) → IsValid nat_eq c → new ≡ lru_cache (remove_entry (nat_eq n) c.entries) c.cap → AreLight c.entries → AreLight new.entries
+light_others n c new valid is light e k = light e (kept_others n c new c.entries valid is refl e k).0

@@ -1,4 +1,5 @@
-mod Lines
+mod Weights
 mod Going
 mod Edits
 mod Told
+mod Trees

@@ -1,6 +1,7 @@
 -- What is kept of the documents that were read.
-use Rattle.std.specs.Prelude.{◌≡◌, ℕ, ◌+◌, Bool, false, ◌==◌, List, [], ◌∷◌, length, Some, Contains}
-use Rattle.std.specs.List.{list_any}
+use Rattle.std.specs.Prelude.{◌≡◌, ◌≤◌, ℕ, ◌+◌, Bool, false, ◌==◌, List, [], ◌∷◌, length, Some, Contains}
+use Rattle.std.specs.List.{list_any, sum_by}
+use Rattle.iodef_tree.specs.declared.line.Line.{Line}
 use Rattle.hub_core.specs.Documents.{Lines}
 use Rattle.hub_core.specs.State.{State}
 use Rattle.hub_core.specs.Reads.{document_of}
@@ -15,10 +16,22 @@ Entry = ℕ × Lines
 abbrev pub AreDocuments : List Entry → State → Type 0
 AreDocuments entries s = (e : Entry) → Contains entries e → document_of e.0 s ≡ Some e.1
 
--- the lines of all
-abbrev pub lines_in : List Entry → ℕ
-lines_in [] = 0
-lines_in (e ∷ es) = length e.1 + lines_in es
+-- a line weighs 128, and the bytes of its name and of its text
+abbrev pub line_weight : Line → ℕ
+line_weight l = 128 + length l.name + length l.text
+
+-- a document weighs what its lines weigh
+abbrev pub document_weight : Lines → ℕ
+document_weight ls = sum_by line_weight ls
+
+-- what the documents of all entries weigh together
+abbrev pub weight_in : List Entry → ℕ
+weight_in [] = 0
+weight_in (e ∷ es) = document_weight e.1 + weight_in es
+
+-- no document weighs more than 1 MiB
+abbrev pub AreLight : List Entry → Type 0
+AreLight entries = (e : Entry) → Contains entries e → document_weight e.1 ≤ 1048576
 
 -- none that wasn't there
 abbrev pub AreAmong : List Entry → List Entry → Type 0

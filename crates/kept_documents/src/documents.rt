@@ -2,10 +2,10 @@
 ghost use Rattle.std.specs.Prelude.{◌≡◌, nat_eq, false, ◌⊎◌, ◌≤◌, [], IfSome, IfOk, Contains};
 ghost use Rattle.iodef_tree.specs.Paths.{located};
 ghost use Rattle.marking.specs.Marks.{first_bad_marking};
-ghost use Rattle.kept_documents.specs.Kept.{Entry, lines_in, AreAmong, AreSpared, is_of};
+ghost use Rattle.kept_documents.specs.Kept.{Entry, weight_in, AreLight, AreAmong, AreSpared, is_of};
 
 use crate::kept::Kept;
-use crate::{NOTED_LIMIT, PATIENCE};
+use crate::{DOCUMENT_LIMIT, NOTED_LIMIT, PATIENCE};
 use hub_core::Edit;
 use iodef_tree::Document;
 use lru::LruCache;
@@ -13,43 +13,44 @@ use std::alloc::{AllocError, Global};
 use std::marker::Model;
 use std::num::NonZeroUsize;
 
-/// The documents that are kept, by their incidents' numbers, of at most so many lines; contracts see the list of the pairs.
+/// The documents that are kept, by their incidents' numbers, which weigh at most `MOST`; contracts see the list of the pairs.
 #[derive(Drop)]
 pub(crate) struct Documents<const MOST: usize> {
     alloc: Global,
     kept: LruCache<u32, Kept>,
     /// Which incidents were asked for lately.
     noted: LruCache<u32, ()>,
-    /// How many lines the kept documents have.
-    lines: usize,
+    /// What the kept documents weigh.
+    weight: usize,
     /// How many questions were asked since a document was kept.
     waited: u32,
 }
 
 impl<const MOST: usize> Model for Documents<MOST> {
     ghost use Rattle.std.specs.Prelude.{◌≤◌, List};
-    ghost use Rattle.kept_documents.specs.Kept.{Entry, lines_in};
+    ghost use Rattle.kept_documents.specs.Kept.{Entry, weight_in, AreLight};
 
     ghost Value = { List Entry };
 
     ghost view = { λ d. d.kept.entries };
 
-    ghost invariant = { λ d. (lines_in d.kept.entries ≤ d.lines) × (d.lines ≤ MOST) };
+    ghost invariant = { λ d.
+        (weight_in d.kept.entries ≤ d.weight) × (d.weight ≤ MOST) × AreLight d.kept.entries };
 }
 
-/// Lets those go that were read longest ago, until no more than so many lines are kept; tells how many.
-#[tactic(auto, using(crate::proofs::Lines::none_left))]
-fn shrink(kept: &mut LruCache<u32, Kept>, lines: usize, most: usize) -> usize
-    requires { lines_in kept.old.entries ≤ lines }
-    ensures counted { lines_in kept.new.entries ≤ result }
+/// Drops those that were read longest ago until the rest weighs no more than `most`; returns what it weighs.
+#[tactic(auto, using(crate::proofs::Weights::none_left))]
+fn shrink(kept: &mut LruCache<u32, Kept>, weight: usize, most: usize) -> usize
+    requires { weight_in kept.old.entries ≤ weight }
+    ensures counted { weight_in kept.new.entries ≤ result }
     ensures most { result ≤ most }
     ensures among { AreAmong kept.new.entries kept.old.entries }
 {
-    let mut left = lines;
+    let mut left = weight;
     while left > most {
         match kept.pop_lru() {
             None => return 0,
-            Some((_, gone)) => left = left - gone.lines(),
+            Some((_, gone)) => left = left - gone.weight(),
         }
     }
     left
@@ -64,17 +65,18 @@ impl<const MOST: usize> Documents<MOST> {
             alloc,
             kept: LruCache::unbounded(alloc)?,
             noted: LruCache::sparse(alloc, NonZeroUsize::new(NOTED_LIMIT).unwrap())?,
-            lines: 0,
+            weight: 0,
             waited: 0,
         })
     }
 
-    /// How many lines may be kept at this moment.
-    pub(crate) fn lines(&self) -> usize
-        ensures counted { lines_in self.now ≤ result }
+    /// Returns a bound on what the kept documents weigh together.
+    pub(crate) fn weight(&self) -> usize
+        ensures counted { weight_in self.now ≤ result }
         ensures most { result ≤ MOST }
+        ensures each { AreLight self.now }
     {
-        self.lines
+        self.weight
     }
 
     #[tactic(auto, using(crate::proofs::Going::found))]
@@ -90,7 +92,6 @@ impl<const MOST: usize> Documents<MOST> {
 
     /// Notes that an incident is asked for. Whether its document is to be read and kept: not where it is, nor at the first
     /// question, nor where others would have to go and a document was kept a short while ago.
-    #[tactic(auto, using(crate::proofs::Lines::promoted_lines))]
     pub(crate) fn is_wanted(&mut self, incident: u32) -> bool
         ensures { AreAmong self.new self.old }
     {
@@ -103,28 +104,27 @@ impl<const MOST: usize> Documents<MOST> {
             let _ = self.noted.put(incident, ());
             return false;
         }
-        self.lines <= MOST - MOST / 8 || self.waited >= PATIENCE
+        self.weight <= MOST - MOST / 8 || self.waited >= PATIENCE
     }
 
-    /// Keeps a document, if it can be: those that were read longest ago make room for it.
-    #[tactic(auto, using(crate::proofs::Lines::put_lines))]
+    /// Keeps a document, if it can be: those that were read longest ago make room for it. One above 1 MiB isn't kept.
     pub(crate) fn keep(&mut self, incident: u32, document: Document)
         ensures { (e : Entry) → Contains self.new e →
             Contains self.old e ⊎ (e ≡ (incident, document)) }
     {
         self.waited = 0;
-        let Some(kept) = Kept::within(self.alloc, document, MOST) else {
+        let Some(kept) = Kept::within(self.alloc, document, MOST.min(DOCUMENT_LIMIT)) else {
             return;
         };
-        let lines = kept.lines();
-        self.lines = shrink(&mut self.kept, self.lines, MOST - lines);
+        let weight = kept.weight();
+        self.weight = shrink(&mut self.kept, self.weight, MOST - weight);
         match self.kept.put(incident, kept) {
-            Ok(_) => self.lines += lines,
+            Ok(_) => self.weight += weight,
             Err(_) => {}
         }
     }
 
-    #[tactic(auto, using(crate::proofs::Lines::gone))]
+    #[tactic(auto, using(crate::proofs::Weights::gone))]
     fn let_go_of(&mut self, incident: u32)
         ensures { (e : Entry) → Contains self.new e →
             Contains self.old e × (nat_eq incident e.0 ≡ false) }
@@ -132,7 +132,7 @@ impl<const MOST: usize> Documents<MOST> {
         // Its contract says that no number stands there twice.
         let _count = self.kept.len();
         if let Some((_, gone)) = self.kept.pop_entry(&incident) {
-            self.lines -= gone.lines();
+            self.weight -= gone.weight();
         }
     }
 

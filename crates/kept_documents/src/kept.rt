@@ -1,55 +1,57 @@
 //! A document as it is kept.
-ghost use Rattle.std.specs.Prelude.{◌≡◌, ◌≤◌, None, length, IfSome};
+ghost use Rattle.std.specs.Prelude.{◌≡◌, ◌≤◌, None, IfSome};
 ghost use Rattle.iodef_tree.specs.Paths.{located};
 ghost use Rattle.marking.specs.Marks.{first_bad_marking};
+ghost use Rattle.kept_documents.specs.Kept.{document_weight};
 
-use crate::line_count::room_left;
+use crate::weight::room_left;
 use iodef_tree::Document;
 use marking::check;
 use std::alloc::Global;
 use std::marker::Model;
 
-/// A document whose markings are accepted, with the number of its lines; contracts see the document.
+/// A document whose markings are accepted, with what it weighs; contracts see the document.
 #[derive(Drop)]
 pub(crate) struct Kept {
     document: Document,
-    lines: usize,
+    weight: usize,
 }
 
 impl Model for Kept {
-    ghost use Rattle.std.specs.Prelude.{◌≡◌, List, None, length};
+    ghost use Rattle.std.specs.Prelude.{◌≡◌, List, None};
     ghost use Rattle.iodef_tree.specs.declared.line.Line.{Line};
     ghost use Rattle.iodef_tree.specs.Paths.{located};
     ghost use Rattle.marking.specs.Marks.{first_bad_marking};
+    ghost use Rattle.kept_documents.specs.Kept.{document_weight};
 
     ghost Value = { List Line };
 
     ghost view = { λ k. k.document };
 
     ghost invariant = { λ k.
-        (k.lines ≡ length k.document) × (first_bad_marking (located k.document) ≡ None) };
+        (k.weight ≡ document_weight k.document) × (first_bad_marking (located k.document) ≡ None) };
 }
 
 impl Kept {
-    /// None where it has more lines than there is room for, where its markings aren't accepted, and where the memory doesn't
+    /// None where it weighs more than there is room for, where its markings aren't accepted, and where the memory doesn't
     /// suffice to tell.
     pub(crate) fn within(alloc: Global, document: Document, room: usize) -> Option<Kept>
-        ensures { IfSome result (λ k. (k ≡ document) × (length k ≤ room)) }
+        ensures { IfSome result (λ k. (k ≡ document) × (document_weight k ≤ room)) }
     {
         let left = room_left(document.root(), room)?;
         match check(alloc, &document) {
             Err(_) => None,
             Ok(()) => Some(Kept {
                 document,
-                lines: room - left,
+                weight: room - left,
             }),
         }
     }
 
-    pub(crate) fn lines(&self) -> usize
-        ensures { result ≡ length self.now }
+    pub(crate) fn weight(&self) -> usize
+        ensures { result ≡ document_weight self.now }
     {
-        self.lines
+        self.weight
     }
 
     pub(crate) fn document(&self) -> &Document

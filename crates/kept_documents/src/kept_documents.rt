@@ -2,7 +2,7 @@
 ghost use Rattle.std.specs.Prelude.{◌≡◌, ◌≤◌, [], IfOk};
 ghost use Rattle.hub_core.specs.State.{State};
 ghost use Rattle.hub_core.specs.Shelves.{IsRead};
-ghost use Rattle.kept_documents.specs.Kept.{AreDocuments, lines_in};
+ghost use Rattle.kept_documents.specs.Kept.{AreDocuments, AreLight, weight_in};
 
 use crate::documents::Documents;
 use circle::directory::Person;
@@ -13,7 +13,7 @@ use redact::{Excerpt, Want, excerpt, meets};
 use std::alloc::{AllocError, Global};
 
 /// A shelf whose calls are answered by another one, but for excerpts and searches of the documents that it keeps. These never
-/// have more lines than `MOST` together.
+/// weigh more than `MOST` together.
 #[derive(Drop)]
 pub struct KeptDocuments<Sh: Shelf, const MOST: usize> {
     alloc: Global,
@@ -44,12 +44,13 @@ impl<Sh: Shelf, const MOST: usize> KeptDocuments<Sh, MOST> {
         shelf
     }
 
-    /// How many lines the kept documents may have at this moment.
-    pub fn lines(&self) -> usize
-        ensures counted { lines_in self.now.documents ≤ result }
+    /// Returns a bound on what the kept documents weigh together. Each of them weighs at most 1 MiB.
+    pub fn weight(&self) -> usize
+        ensures counted { weight_in self.now.documents ≤ result }
         ensures most { result ≤ MOST }
+        ensures each { AreLight self.now.documents }
     {
-        self.documents.lines()
+        self.documents.weight()
     }
 
     /// Reads and keeps the document of an incident that is asked for, where it is worth it and the memory suffices. A store that

@@ -1,0 +1,42 @@
+-- What the parts of a tree weigh.
+use Rattle.std.proofs.Common.{◌≡◌, ℕ, suc, ◌+◌, List, [], ◌∷◌, ◌++◌, length, Option, Some, None, sum_by, refl, arith}
+use Rattle.std.proofs.lemmas.List.Sums.{sum_by-cons, sum_by-append}
+use Rattle.std.proofs.lemmas.Grind.{common_steps}
+use Rattle.json_pointer.specs.Text.{Bytes}
+use Rattle.iodef_tree.specs.Tree.{Forest, end, leaf, branch, Body, holds, says, Bodies, one, many, elements, in_front, member_front, lines, leaf_line, class_line}
+use Rattle.kept_documents.specs.Kept.{line_weight, document_weight}
+use Rattle.kept_documents.specs.Trees.{forest_weight, body_weight, bodies_weight}
+
+forest_weight-in_front : (name : Bytes) (place : Option ℕ) (b : Body) (rest : Forest) → forest_weight (in_front name place b rest) ≡ body_weight (length name) b + forest_weight rest
+forest_weight-in_front name place (holds kids) rest = omega arith
+forest_weight-in_front name place (says content) rest = omega arith
+
+forest_weight-elements : (name : Bytes) (k : ℕ) (bs : List Body) (rest : Forest) → forest_weight (elements name k bs rest) ≡ sum_by (body_weight (length name)) bs + forest_weight rest
+forest_weight-elements name k [] rest = omega arith
+forest_weight-elements name k (b ∷ bs) rest =
+    let front = forest_weight-in_front name (Some k) b (elements name (suc k) bs rest) in
+    let on = forest_weight-elements name (suc k) bs rest in
+    let more = sum_by-cons (body_weight (length name)) b bs in
+    omega (arith, front, on, more)
+
+-- those of a member are in front
+pub forest_weight-member_front : (name : Bytes) (m : Bodies) (rest : Forest) → forest_weight (member_front name m rest) ≡ bodies_weight (length name) m + forest_weight rest
+forest_weight-member_front name (one b) rest = forest_weight-in_front name None b rest
+forest_weight-member_front name (many bs) rest = forest_weight-elements name 0 bs rest
+
+-- a document weighs what its tree weighs
+pub document_weight-lines : (f : Forest) (d : ℕ) → document_weight (lines d f) ≡ forest_weight f
+document_weight-lines end d = refl
+document_weight-lines (leaf i rest) d =
+    let more = sum_by-cons line_weight (leaf_line d i) (lines d rest) in
+    let on = document_weight-lines rest d in
+    omega (arith, more, on)
+document_weight-lines (branch name place kids rest) d =
+    let more = sum_by-cons line_weight (class_line d name place) (lines (suc d) kids ++ lines d rest) in
+    let both = sum_by-append line_weight (lines (suc d) kids) (lines d rest) in
+    let inside = document_weight-lines kids (suc d) in
+    let on = document_weight-lines rest d in
+    omega (arith, more, both, inside, on)
+
+-- for the walk that weighs against a limit
+pub ruleset weighing = (common_steps, forest_weight-member_front)
