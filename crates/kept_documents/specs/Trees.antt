@@ -1,5 +1,5 @@
 -- What the parts of a tree weigh, for the walk that weighs one: clauses that no caller outside the crate meets.
-use Rattle.std.specs.Prelude.{ℕ, ◌+◌, List, length}
+use Rattle.std.specs.Prelude.{ℕ, ◌+◌, length}
 use Rattle.std.specs.List.{sum_by}
 use Rattle.iodef_tree.specs.Tree.{Forest, end, leaf, branch, Body, holds, says, Bodies, one, many, text_of}
 
