@@ -2,7 +2,7 @@
 use Rattle.std.proofs.Common.{◌≡◌, ℕ, suc, ◌+◌, List, [], ◌∷◌, ◌++◌, length, Option, Some, None, sum_by, refl, arith}
 use Rattle.std.proofs.lemmas.List.Sums.{sum_by-cons, sum_by-append}
 use Rattle.std.proofs.lemmas.Grind.{common_steps}
-use Rattle.json_pointer.specs.Text.{Bytes}
+use Rattle.iodef_tree.specs.Text.{Bytes}
 use Rattle.iodef_tree.specs.Tree.{Forest, end, leaf, branch, Body, holds, says, Bodies, one, many, elements, in_front, member_front, lines, leaf_line, class_line}
 use Rattle.kept_documents.specs.Kept.{line_weight, document_weight}
 use Rattle.kept_documents.specs.Trees.{forest_weight, body_weight, bodies_weight}
