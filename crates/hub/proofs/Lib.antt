@@ -2,6 +2,7 @@ pub mod Standings
 pub mod ShownServed
 pub mod Keeping
 pub mod Numbered
+pub mod ShutOut
 pub mod Paging
 pub mod Seeing
 pub mod Explained

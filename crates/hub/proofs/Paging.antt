@@ -1,13 +1,12 @@
 -- A page, from the entries above a number.
-use Rattle.std.proofs.Common.{◌≡◌, ℕ, zero, suc, ◌+◌, ◌-◌, ◌<◌, ◌≤◌, Bool, true, false, List, [], ◌∷◌, ◌++◌, cond, Option, Some, None, length, take, drop, map, refl, sym, ◌∙◌, ap, subst, arith, filter, slice_get, get_or, not, ◌&&◌, append_assoc, Contains, string_bytes}
+use Rattle.std.proofs.Common.{◌≡◌, ℕ, zero, suc, ◌+◌, ◌-◌, ◌<◌, ◌≤◌, Bool, true, false, List, [], ◌∷◌, ◌++◌, cond, Option, Some, None, length, take, drop, map, refl, sym, ◌∙◌, ap, subst, arith, filter, slice_get, get_or, not, ◌&&◌, append_assoc, string_bytes}
 use Rattle.std.specs.Prelude.{option_map}
-use Rattle.std.specs.List.{AllByRecursion, list_any}
+use Rattle.std.specs.List.{AllByRecursion}
 use Rattle.std.specs.Option.{option_map_or}
 use Rattle.std.proofs.Math.Seq.{take-length}
 use Rattle.std.proofs.lemmas.Bool.{cond-true, cond-false, true≢false}
 use Rattle.std.proofs.lemmas.List.{take-append-drop, take-append-le, length-map, map-append, take-map, append-nil, drop_more, drop_all, drop-drop, drop_min, length-take, take_all}
 use Rattle.std.proofs.lemmas.List.Elements.{filter-append}
-use Rattle.std.proofs.lemmas.List.Folds.{Any-from_list_any}
 use Rattle.std.proofs.lemmas.Option.{slice_get_within}
 use Rattle.circle.specs.Sound.{CountsFrom}
 use Rattle.hub_core.specs.State.{State, incident_number, incident_of}
@@ -15,18 +14,16 @@ use Rattle.hub_core.specs.Sound.{IsSound}
 use Rattle.hub_core.specs.Reads.{case_for, entry_of, incidents_above, entries_after}
 use Rattle.hub_core.specs.declared.state.Incident.{Incident}
 use Rattle.hub_core.specs.declared.reply.Entry.{Entry}
-use Rattle.iodef_tree.specs.Text.{is_root}
 use Rattle.policy.specs.declared.standing.Standing.{Standing}
 use Rattle.policy.specs.declared.case.Case.{Case}
-use Rattle.policy.specs.declared.gate.Gate.{Gate}
 use Rattle.redact.specs.Wants.{meets, meets_by}
 use Rattle.redact.specs.declared.want.Want.{Want}
-use Rattle.redact.proofs.Shut.{root-tells-nothing}
 use Rattle.hub_core.specs.Documents.{Lines}
 use Rattle.hub.specs.declared.TheConstants.{PAGE_LIMIT}
-use Rattle.hub.specs.inner.PageFilter.{HasSameWords, admits, shuts_out, is_shut_out, passes_filter, number_at_end}
+use Rattle.hub.specs.inner.PageFilter.{HasSameWords, admits, is_shut_out, passes_filter, number_at_end}
 use Rattle.hub.specs.declared.page_filter.PageFilter.{PageFilter}
 use Rattle.hub.proofs.Numbered.{above-numbered, counts-drop, counts-take, all_found}
+use Rattle.hub.proofs.ShutOut.{shut-tells-nothing}
 
 -- ---- the first so many
 
@@ -240,33 +237,12 @@ none_told test (Some i) h = sym (h i)
 
 -- ---- what a gate at the root shuts out
 
-pub shut_unmet : (w : Want) (ls : Lines) (c : Case) (st : Standing) → is_shut_out c st ≡ true → meets w ls c st ≡ false
-shut_unmet w ls c st shut =
-    let foreign : st.source ≡ false = not-true st.source (and-first (not st.source) _ shut) in
-    let one = some_shuts c.gates (and-second (not st.source) _ shut) in
-    (root-tells-nothing ls c st one.0 foreign one.1 (and-first (is_root one.0.path) _ one.2) (and-second (is_root one.0.path) _ one.2)).met (option_map string_bytes w.needle) (option_map string_bytes w.class)
-  where
-    not-true : (b : Bool) → not b ≡ true → b ≡ false
-    not-true true h = absurd (true≢false (sym h))
-    not-true false h = refl
-
-    and-first : (a b : Bool) → (a && b) ≡ true → a ≡ true
-    and-first true b h = refl
-    and-first false b h = absurd (true≢false (sym h))
-
-    and-second : (a b : Bool) → (a && b) ≡ true → b ≡ true
-    and-second true b h = h
-    and-second false b h = absurd (true≢false (sym h))
-
-    some_shuts : (gs : List Gate) → list_any (shuts_out st) gs ≡ true → (g : Gate) × Contains gs g × (shuts_out st g ≡ true)
-    some_shuts gs h = let any = Any-from_list_any (shuts_out st) gs h in (any.1, (any.0, any.2, any.3), any.4)
-
 pub shut_told : (s : State) (w : PageFilter) (st : Standing) (o : Option Incident) (c : Case) → is_shut_out c st ≡ true → Some c ≡ option_map (case_for s) o →
     false ≡ option_map_or (λ (i : Incident). passes_filter w i.document (case_for s i) st) o false
 shut_told s w st None c shut judged = refl
 shut_told s w st (Some i) c shut judged =
     let case : c ≡ case_for s i = cc in
-    sym (ap (λ x. passes_filter w i.document x st) (sym case) ∙ untold (admits w st) (shut_unmet w.want.now i.document c st shut))
+    sym (ap (λ x. passes_filter w i.document x st) (sym case) ∙ untold (admits w st) ((shut-tells-nothing i.document c st shut).met (option_map string_bytes w.want.now.needle) (option_map string_bytes w.want.now.class)))
   where
     untold : (b : Bool) {m : Bool} → m ≡ false → (b && m) ≡ false
     untold true h = h

@@ -20,7 +20,9 @@ use Rattle.hub_core.specs.declared.state.Incident.{Incident}
 use Rattle.hub_core.specs.declared.reply.Entry.{Entry}
 use Rattle.hub_core.proofs.Marked.{IsMarked}
 use Rattle.hub.specs.Told.{standing_at, view_with, view_of}
+use Rattle.hub.specs.inner.PageFilter.{is_shut_out}
 use Rattle.hub.specs.inner.Viewing.{first_being, view_made}
+use Rattle.hub.proofs.ShutOut.{shut-tells-nothing}
 
 -- ---- an incident by its number
 
@@ -78,6 +80,14 @@ module _ (s : State) (now : ℤ) (p : Person) where
       None ≡ option_and_then (λ (ls : Lines). served_of ls c st) (option_map (λ (i : Incident). i.document) o) → None ≡ option_and_then (view_of s now p) o
   nothing_seen None st c accepted stands judged none = cc
   nothing_seen (Some i) st c accepted stands judged none = ap (option_map (view_with i)) (none ∙ served_at i st c accepted stands judged)
+
+  pub shut_unseen : (o : Option Incident) (st : Standing) (c : Case) → is_shut_out c st ≡ true → Some st ≡ option_map (λ (i : Incident). standing_at s now p i) o → Some c ≡ option_map (case_for s) o →
+      None ≡ option_and_then (view_of s now p) o
+  shut_unseen None st c shut stands judged = refl
+  shut_unseen (Some i) st c shut stands judged =
+      let same : st ≡ standing_at s now p i = cc in
+      let case : c ≡ case_for s i = cc in
+      ap (option_map (view_with i)) (sym (shut-tells-nothing i.document c st shut).excerpt ∙ ap (λ x. excerpt_of i.document x st) case ∙ ap (excerpt_of i.document (case_for s i)) same)
 
   pub is_seen : (o : Option Incident) (st : Standing) (c : Case) (e : Entry) (t : Told) → IsMarked o → Some st ≡ option_map (λ (i : Incident). standing_at s now p i) o → Some c ≡ option_map (case_for s) o →
       Some e ≡ option_map entry_of o → Some t ≡ option_and_then (λ (ls : Lines). served_of ls c st) (option_map (λ (i : Incident). i.document) o) →

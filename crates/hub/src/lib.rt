@@ -19,7 +19,7 @@
 //! - `hub`: [`Hub`], one request and a list of them; `key`: [`Key`], by what a caller is known;
 //! - `serving`: who asks, and what is answered;
 //! - `reading`: requests that only read: a page by `pages` (`page_filter`: what it lists), a view by `view`, an explanation
-//!   by `explaining`;
+//!   by `explaining`; `root_gate`: what pages and views ask before a line is read;
 //! - `change`: a change is judged, its reply is made, and only then the shelf is asked to make it;
 //! - `asking`: the reads of the shelf that several of these need; `fault`: why an answer is given up;
 //! - [`laws`]: a run keeps a state sound.
@@ -35,6 +35,7 @@ pub mod laws;
 mod page_filter;
 mod pages;
 mod reading;
+mod root_gate;
 mod serving;
 mod view;
 

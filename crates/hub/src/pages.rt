@@ -1,6 +1,5 @@
 //! Pages: the incidents of which something holds, by number.
 ghost use Rattle.std.specs.Prelude.{◌≡◌, ◌≤◌, ◌++◌, false, not, IfOk, OnOk, IfErr, filter, take, length, option_map, string_bytes};
-ghost use Rattle.std.specs.List.{list_any};
 ghost use Rattle.std.specs.Option.{option_map_or};
 ghost use Rattle.hub_core.specs.State.{State, incident_of};
 ghost use Rattle.hub_core.specs.Sound.{IsSound};
@@ -8,7 +7,7 @@ ghost use Rattle.hub_core.specs.Reads.{case_for};
 ghost use Rattle.hub_core.specs.declared.state.Incident.{Incident};
 ghost use Rattle.hub_core.specs.declared.reply.Entry.{Entry as TheEntry};
 ghost use Rattle.hub.specs.Replies.{page_of};
-ghost use Rattle.hub.specs.inner.PageFilter.{HasSameWords, admits, shuts_out, is_shut_out, passes_filter, is_wanted, is_wanted_at, number_at_end};
+ghost use Rattle.hub.specs.inner.PageFilter.{HasSameWords, admits, passes_filter, is_wanted, is_wanted_at, number_at_end};
 ghost use Rattle.hub_core.specs.Shelves.{Finds};
 ghost use Rattle.hub.specs.inner.Asking.{IsThere};
 
@@ -16,33 +15,11 @@ use crate::PAGE_LIMIT;
 use crate::asking::{Asker, case_of, is_met, standing};
 use crate::fault::ample;
 use crate::page_filter::PageFilter;
+use crate::root_gate::is_shut;
 use hub_core::{Entry, Shelf, ShelfFault};
-use policy::{Case, Gate, Standing, passes};
+use policy::Standing;
 use redact::Want;
 use std::alloc::Global;
-
-/// Whether it is a gate at the root, and refuses the reader.
-fn shuts(standing: &Standing, gate: &Gate) -> bool
-    ensures { result ≡ shuts_out standing.entry.now gate.now }
-{
-    gate.path.tokens().is_empty() && passes(standing, gate).is_err()
-}
-
-fn one_shuts(case: &Case, standing: &Standing) -> bool
-    ensures { result ≡ list_any (shuts_out standing.entry.now) case.now.gates }
-{
-    case.gates
-        .as_slice()
-        .iter()
-        .any(|gate| shuts(standing, gate))
-}
-
-/// Whether a gate at the root refuses a reader who isn't of the source. Then nothing of the incident is visible.
-fn is_shut(case: &Case, standing: &Standing) -> bool
-    ensures { result ≡ is_shut_out case.now standing.entry.now }
-{
-    !standing.source && one_shuts(case, standing)
-}
 
 fn copy_text(alloc: Global, text: &Option<String>) -> Result<Option<String>, ShelfFault>
     ensures value { IfOk result (λ copy.

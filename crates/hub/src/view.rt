@@ -10,6 +10,7 @@ ghost use Rattle.hub_core.specs.Shelves.{Finds};
 ghost use Rattle.hub.specs.inner.Asking.{IsThere};
 
 use crate::asking::{Asker, case_of, excerpt_of, standing};
+use crate::root_gate::is_shut;
 use hub_core::{Entry, Shelf, ShelfFault, View, Withheld};
 use redact::Excerpt;
 
@@ -45,7 +46,8 @@ fn view_by(entry: Entry, excerpt: Excerpt) -> View
     }
 }
 
-/// What a person may see of an incident; none where that is nothing, or where it is missing.
+/// What a person may see of an incident; none where that is nothing, or where it is missing. If a gate at the root shuts the
+/// person out, no line of it is read.
 pub fn view<Sh: Shelf>(
     shelf: &mut Sh,
     asker: Asker<'_>,
@@ -63,6 +65,9 @@ pub fn view<Sh: Shelf>(
     let Some(case) = case_of(shelf, incident)? else {
         return Ok(None);
     };
+    if is_shut(&case, &standing) {
+        return Ok(None);
+    }
     let Some(excerpt) = excerpt_of(shelf, incident, case, standing)? else {
         return Ok(None);
     };

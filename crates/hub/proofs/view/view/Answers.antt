@@ -5,8 +5,20 @@ use Rattle.redact.specs.declared.kept.Excerpt.{Excerpt}
 use Rattle.hub_core.specs.State.{incident_of}
 use Rattle.hub_core.specs.Reads.{served_of_incident}
 use Rattle.hub_core.proofs.Marked.{marked_found}
-use Rattle.hub.proofs.Seeing.{nothing_seen, is_seen}
+use Rattle.hub.proofs.Seeing.{nothing_seen, shut_unseen, is_seen}
 use Rattle.hub.proofs.view.view.Goals as goal
+
+pub returns-then-is_shut : goal.returns-then-is_shut
+returns-then-is_shut g c = record {
+  value = λ clean s has sound there.
+      let first = c.in_ok-standing.ensures in
+      let next = c.in_ok-case.ensures in
+      let before : g.Sh.Shelf.doubts c.standing.new.shelf ≡ 0 = omega (arith, next.kept.doubt) in
+      shut_unseen s c.args.asker.now c.args.asker.person.now (incident_of c.args.incident s) c.in-Some.standing c.in-Some-2.case (sym c.is_shut.ensures ∙ c.if-is_shut.true)
+      (sym c.in-Some.is ∙ first.value before s has there) (sym c.in-Some-2.is ∙ next.value clean s (first.kept.content before s has));
+  kept = search rules;
+  cause = search rules;
+}
 
 pub returns-in_default-3 : goal.returns-in_default-3
 returns-in_default-3 g c = record {
