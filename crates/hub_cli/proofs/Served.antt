@@ -41,7 +41,7 @@ serves_run has doubts failed may_remain old new now before after written now_wri
     by_result (Err Truncated) told = none_asked has old new 1 told.3
     by_result (Err ReadFailed) told = none_asked has old new 1 told.1
     by_result (Err WriteFailed) told = maybe told
-    by_result (Err NoMemory) told = maybe told
+    by_result (Err NoMemory) told = none_asked has old new 1 told.1
 
 -- ---- a run, and a run
 

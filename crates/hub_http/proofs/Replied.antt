@@ -15,7 +15,7 @@ pub serves_reply : (Does : Key × Request → Reply → Type 0) (Same : Type 0) 
     → Serves Does Same before after written now_written result
 serves_reply Does Same asked before after written now_written (Ok Answered) read told = (told.0, (asked, read, told.1), told.2)
 serves_reply Does Same asked before after written now_written (Err WriteFailed) read told = inr (told.0, (asked, read, told.1))
-serves_reply Does Same asked before after written now_written (Err NoMemory) read told = inr (told.0, (asked, read, told.1))
+serves_reply Does Same asked before after written now_written (Err NoMemory) read told = absurd told
 serves_reply Does Same asked before after written now_written (Ok (WireRefused e)) read told = absurd told
 serves_reply Does Same asked before after written now_written (Err Truncated) read told = absurd told
 serves_reply Does Same asked before after written now_written (Err ReadFailed) read told = absurd told

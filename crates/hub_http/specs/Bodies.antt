@@ -2,7 +2,6 @@
 use Rattle.std.specs.Prelude.{◌≡◌, ℕ, List, [], ◌∷◌, map, false, true, codes}
 use Rattle.serde_json.specs.Data.{Data, boolean, number, unsigned, string, array, object, no_members, member}
 use Rattle.serde_json.specs.View.{items_of}
-use Rattle.serde_json.specs.Written.{has_float}
 use Rattle.circle.specs.Codes.{name_of, reason_of}
 use Rattle.circle.specs.declared.directory.Person.{Person}
 use Rattle.circle.specs.declared.directory.Role.{Role}
@@ -90,8 +89,3 @@ body_of (reply.Groups groups) = sole (codes "groups") (listed (map group_object 
 body_of (reply.Caller person) = caller_body person
 body_of (reply.Trace text) = sole (codes "trace") (string text)
 body_of (reply.Refused refusal) = refusal_body (name_of refusal.code) refusal.detail (reason_of refusal.code)
-
--- the numbers of the document that the reply has, if it has one, are whole
-abbrev pub HasWholeDocument : Reply → Type 0
-HasWholeDocument (reply.View view) = has_float (object (data_of view.document)) ≡ false
-HasWholeDocument _ = Unit {0}

@@ -67,7 +67,6 @@ abbrev pub Replies : (Reply → Type 0) → Option (List ℕ) → Option (List �
 Replies Does written now_written (Ok Answered) =
     (reply : Reply) × Does reply × Appends written now_written (reply_text reply)
 Replies Does written now_written (Err WriteFailed) = (reply : Reply) × Does reply
-Replies Does written now_written (Err NoMemory) = (reply : Reply) × Does reply
 Replies Does written now_written _ = ⊥
 
 -- ---- one connection
@@ -95,4 +94,4 @@ module _ (Does : Key × Request → Reply → Type 0) (Same : Type 0) where
       HasRead before after (Err fault.Truncated) × IsAtEnd after × Keeps written now_written × Same
   Serves before after written now_written (Err ReadFailed) = Keeps written now_written × Same
   Serves before after written now_written (Err WriteFailed) = MayHaveAnswered before after
-  Serves before after written now_written (Err NoMemory) = MayHaveAnswered before after
+  Serves before after written now_written (Err NoMemory) = Keeps written now_written × Same

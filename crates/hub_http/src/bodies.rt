@@ -1,123 +1,135 @@
-//! The body of each reply, as a JSON value (RFC 8259).
-ghost use Rattle.std.specs.Prelude.{◌≡◌, IfOk, false, map};
-ghost use Rattle.serde_json.specs.Data.{object};
-ghost use Rattle.serde_json.specs.View.{view};
-ghost use Rattle.serde_json.specs.Written.{has_float};
-ghost use Rattle.iodef_tree.specs.Json.{data_of};
+//! The body of each reply, as the tokens of a JSON text (RFC 8259).
+ghost use Rattle.std.specs.Prelude.{◌≡◌, ◌++◌, OnOk, map, true, codes};
+ghost use Rattle.serde_json.specs.Data.{boolean, string};
+ghost use Rattle.serde_json.specs.Written.{comma_if, compact_text};
 ghost use Rattle.hub_http.specs.Bodies as spec;
 
 use circle::directory::{Person, Role};
 use hub_core::{Entry, JoinedGroup, Reply, View};
-use iodef_tree::{Document, Path};
+use iodef_tree::Path;
+use json::Token;
+use json_text::{Refused, Sink, Tokens};
 use policy::Rule;
-use serde_json::{Value, json};
-use std::alloc::{AllocError, Global};
 
-fn numbers(alloc: Global, numbers: &[u32]) -> Result<Value, AllocError>
-    ensures { IfOk result (λ v. view v ≡ spec.listed (map spec.whole numbers.now)) }
+fn put_numbers<S: Sink>(out: &mut Tokens<S>, numbers: &[u32]) -> Result<(), Refused>
+    ensures puts { OnOk result (S.puts out.old.sink (comma_if out.old.after_value ++
+        compact_text (spec.listed (map spec.whole numbers.now))) out.new.sink) }
+    ensures after { OnOk result (out.new.after_value ≡ true) }
 {
-    let mut items = Vec::with_capacity(alloc, numbers.len())?;
+    out.token(Token::BeginArray)?;
     for n in numbers {
-        items.push(Value::from(*n))?;
+        out.number(*n)?;
     }
-    Ok(Value::Array(items))
+    out.token(Token::EndArray)
 }
 
-fn withheld_pair(alloc: Global, pair: &(Path, Rule)) -> Result<Value, AllocError>
-    ensures { IfOk result (λ v. view v ≡ spec.withheld_pair pair.now) }
+fn put_withheld_pair<S: Sink>(out: &mut Tokens<S>, pair: &(Path, Rule)) -> Result<(), Refused>
+    ensures puts { OnOk result (S.puts out.old.sink (comma_if out.old.after_value ++
+        compact_text (spec.withheld_pair pair.now)) out.new.sink) }
+    ensures after { OnOk result (out.new.after_value ≡ true) }
 {
-    let place = pair.0.print(alloc)?;
-    let rule = pair.1.name();
-    json!(in alloc; [Value::String(place), rule])
+    out.token(Token::BeginArray)?;
+    out.pointer(&pair.0)?;
+    out.token(Token::String(pair.1.name()))?;
+    out.token(Token::EndArray)
 }
 
-fn withheld(alloc: Global, pairs: &[(Path, Rule)]) -> Result<Value, AllocError>
-    ensures { IfOk result (λ v. view v ≡ spec.listed (map spec.withheld_pair pairs.now)) }
+fn put_withheld<S: Sink>(out: &mut Tokens<S>, pairs: &[(Path, Rule)]) -> Result<(), Refused>
+    ensures puts { OnOk result (S.puts out.old.sink (comma_if out.old.after_value ++
+        compact_text (spec.listed (map spec.withheld_pair pairs.now))) out.new.sink) }
+    ensures after { OnOk result (out.new.after_value ≡ true) }
 {
-    let mut items = Vec::with_capacity(alloc, pairs.len())?;
+    out.token(Token::BeginArray)?;
     for pair in pairs {
-        items.push(withheld_pair(alloc, pair)?)?;
+        put_withheld_pair(out, pair)?;
     }
-    Ok(Value::Array(items))
+    out.token(Token::EndArray)
 }
 
-fn entry(alloc: Global, entry: &Entry) -> Result<Value, AllocError>
-    ensures { IfOk result (λ v. view v ≡ spec.entry_object entry.now) }
+fn put_entry<S: Sink>(out: &mut Tokens<S>, entry: &Entry) -> Result<(), Refused>
+    ensures puts { OnOk result (S.puts out.old.sink (comma_if out.old.after_value ++
+        compact_text (spec.entry_object entry.now)) out.new.sink) }
+    ensures after { OnOk result (out.new.after_value ≡ true) }
 {
-    let (number, revision, source) = (entry.number, entry.revision, entry.source);
-    json!(in alloc; {"number": number, "revision": revision, "source": source})
+    out.token(Token::BeginObject)?;
+    out.number_member("number", entry.number)?;
+    out.number_member("revision", entry.revision)?;
+    out.number_member("source", entry.source)?;
+    out.token(Token::EndObject)
 }
 
-fn entries(alloc: Global, entries: &[Entry]) -> Result<Value, AllocError>
-    ensures { IfOk result (λ v. view v ≡ spec.listed (map spec.entry_object entries.now)) }
+fn put_entries<S: Sink>(out: &mut Tokens<S>, entries: &[Entry]) -> Result<(), Refused>
+    ensures puts { OnOk result (S.puts out.old.sink (comma_if out.old.after_value ++
+        compact_text (spec.listed (map spec.entry_object entries.now))) out.new.sink) }
+    ensures after { OnOk result (out.new.after_value ≡ true) }
 {
-    let mut items = Vec::with_capacity(alloc, entries.len())?;
-    for one in entries {
-        items.push(entry(alloc, one)?)?;
+    out.token(Token::BeginArray)?;
+    for entry in entries {
+        put_entry(out, entry)?;
     }
-    Ok(Value::Array(items))
+    out.token(Token::EndArray)
 }
 
-fn group(alloc: Global, group: &JoinedGroup) -> Result<Value, AllocError>
-    ensures { IfOk result (λ v. view v ≡ spec.group_object group.now) }
+fn put_group<S: Sink>(out: &mut Tokens<S>, group: &JoinedGroup) -> Result<(), Refused>
+    ensures puts { OnOk result (S.puts out.old.sink (comma_if out.old.after_value ++
+        compact_text (spec.group_object group.now)) out.new.sink) }
+    ensures after { OnOk result (out.new.after_value ≡ true) }
 {
-    let name = group.name.as_str();
-    let releasability = group.releasability.as_str();
-    json!(in alloc; {
-        "active": group.active,
-        "extend": group.extend,
-        "name": name,
-        "number": group.number,
-        "owner": group.owner,
-        "releasability": releasability
-    })
+    out.token(Token::BeginObject)?;
+    out.flag_member("active", group.active)?;
+    out.flag_member("extend", group.extend)?;
+    out.text_member("name", group.name.as_str())?;
+    out.number_member("number", group.number)?;
+    out.number_member("owner", group.owner)?;
+    out.text_member("releasability", group.releasability.as_str())?;
+    out.token(Token::EndObject)
 }
 
-fn groups(alloc: Global, groups: &[JoinedGroup]) -> Result<Value, AllocError>
-    ensures { IfOk result (λ v. view v ≡ spec.listed (map spec.group_object groups.now)) }
+fn put_groups<S: Sink>(out: &mut Tokens<S>, groups: &[JoinedGroup]) -> Result<(), Refused>
+    ensures puts { OnOk result (S.puts out.old.sink (comma_if out.old.after_value ++
+        compact_text (spec.listed (map spec.group_object groups.now))) out.new.sink) }
+    ensures after { OnOk result (out.new.after_value ≡ true) }
 {
-    let mut items = Vec::with_capacity(alloc, groups.len())?;
-    for one in groups {
-        items.push(group(alloc, one)?)?;
+    out.token(Token::BeginArray)?;
+    for group in groups {
+        put_group(out, group)?;
     }
-    Ok(Value::Array(items))
+    out.token(Token::EndArray)
 }
 
-/// Why something wasn't done.
-pub(crate) fn refusal(
-    alloc: Global,
+/// Puts why something wasn't done.
+pub(crate) fn put_refusal<S: Sink>(
+    out: &mut Tokens<S>,
     name: &str,
     detail: &str,
     why: &str,
-) -> Result<Value, AllocError>
-    ensures { IfOk result (λ v. view v ≡ spec.refusal_body name.now detail.now why.now) }
+) -> Result<(), Refused>
+    ensures puts { OnOk result (S.puts out.old.sink (comma_if out.old.after_value ++
+        compact_text (spec.refusal_body name.now detail.now why.now)) out.new.sink) }
+    ensures after { OnOk result (out.new.after_value ≡ true) }
 {
-    json!(in alloc; {"code": name, "detail": detail, "reason": why})
+    out.token(Token::BeginObject)?;
+    out.text_member("code", name)?;
+    out.text_member("detail", detail)?;
+    out.text_member("reason", why)?;
+    out.token(Token::EndObject)
 }
 
-/// The document as a JSON value. None of its numbers is a float: so the tree says, whose lines the document is.
-fn document_value(alloc: Global, document: &Document) -> Result<Value, AllocError>
-    ensures value { IfOk result (λ v. view v ≡ object (data_of document.now)) }
-    ensures whole { IfOk result (λ _. has_float (object (data_of document.now)) ≡ false) }
+fn put_view<S: Sink>(out: &mut Tokens<S>, told: &View) -> Result<(), Refused>
+    ensures puts { OnOk result (S.puts out.old.sink (comma_if out.old.after_value ++
+        compact_text (spec.view_body told.now)) out.new.sink) }
+    ensures after { OnOk result (out.new.after_value ≡ true) }
 {
-    let _tree = document.root();
-    document.value(alloc)
-}
-
-fn view_body(alloc: Global, told: &View) -> Result<Value, AllocError>
-    ensures value { IfOk result (λ v. view v ≡ spec.view_body told.now) }
-    ensures whole { IfOk result (λ _. has_float (object (data_of told.now.document)) ≡ false) }
-{
-    let document = document_value(alloc, &told.document)?;
-    let withheld = withheld(alloc, told.withheld.as_slice())?;
-    json!(in alloc; {
-        "classes": told.classes,
-        "document": document,
-        "number": told.number,
-        "revision": told.revision,
-        "source": told.source,
-        "withheld": withheld
-    })
+    out.token(Token::BeginObject)?;
+    out.number_member("classes", told.classes)?;
+    out.name("document")?;
+    out.document(&told.document)?;
+    out.number_member("number", told.number)?;
+    out.number_member("revision", told.revision)?;
+    out.number_member("source", told.source)?;
+    out.name("withheld")?;
+    put_withheld(out, told.withheld.as_slice())?;
+    out.token(Token::EndObject)
 }
 
 fn role_name(role: Role) -> &'static str
@@ -131,46 +143,103 @@ fn role_name(role: Role) -> &'static str
     }
 }
 
-fn caller(alloc: Global, person: &Person) -> Result<Value, AllocError>
-    ensures { IfOk result (λ v. view v ≡ spec.caller_body person.now) }
+fn put_caller<S: Sink>(out: &mut Tokens<S>, person: &Person) -> Result<(), Refused>
+    ensures puts { OnOk result (S.puts out.old.sink (comma_if out.old.after_value ++
+        compact_text (spec.caller_body person.now)) out.new.sink) }
+    ensures after { OnOk result (out.new.after_value ≡ true) }
 {
-    let name = person.name.as_str();
-    let role = role_name(person.role);
-    json!(in alloc; {
-        "name": name,
-        "nominated": person.nominated,
-        "number": person.number,
-        "org": person.org,
-        "role": role
-    })
+    out.token(Token::BeginObject)?;
+    out.text_member("name", person.name.as_str())?;
+    out.flag_member("nominated", person.nominated)?;
+    out.number_member("number", person.number)?;
+    out.number_member("org", person.org)?;
+    out.text_member("role", role_name(person.role))?;
+    out.token(Token::EndObject)
 }
 
-/// An object of one member.
-fn sole(alloc: Global, name: &str, value: Value) -> Result<Value, AllocError>
-    ensures { IfOk result (λ v. view v ≡ spec.sole name.now (view value)) }
+fn put_done<S: Sink>(out: &mut Tokens<S>) -> Result<(), Refused>
+    ensures puts { OnOk result (S.puts out.old.sink (comma_if out.old.after_value ++
+        compact_text (spec.sole (codes "done") (boolean true))) out.new.sink) }
+    ensures after { OnOk result (out.new.after_value ≡ true) }
 {
-    json!(in alloc; {name: value})
+    out.token(Token::BeginObject)?;
+    out.flag_member("done", true)?;
+    out.token(Token::EndObject)
 }
 
-/// The body of a reply.
-pub(crate) fn body(alloc: Global, reply: &Reply) -> Result<Value, AllocError>
-    ensures value { IfOk result (λ v. view v ≡ spec.body_of reply.now) }
-    ensures whole { IfOk result (λ _. spec.HasWholeDocument reply.now) }
+/// Puts the numbers of what was made.
+fn put_made<S: Sink>(out: &mut Tokens<S>, numbers: &[u32]) -> Result<(), Refused>
+    ensures puts { OnOk result (S.puts out.old.sink (comma_if out.old.after_value ++
+        compact_text (spec.sole (codes "numbers") (spec.listed (map spec.whole numbers.now)))) out.new.sink) }
+    ensures after { OnOk result (out.new.after_value ≡ true) }
+{
+    out.token(Token::BeginObject)?;
+    out.name("numbers")?;
+    put_numbers(out, numbers)?;
+    out.token(Token::EndObject)
+}
+
+fn put_revision<S: Sink>(out: &mut Tokens<S>, revision: u32) -> Result<(), Refused>
+    ensures puts { OnOk result (S.puts out.old.sink (comma_if out.old.after_value ++
+        compact_text (spec.sole (codes "revision") (spec.whole revision))) out.new.sink) }
+    ensures after { OnOk result (out.new.after_value ≡ true) }
+{
+    out.token(Token::BeginObject)?;
+    out.number_member("revision", revision)?;
+    out.token(Token::EndObject)
+}
+
+/// Puts a page of incidents.
+fn put_page<S: Sink>(out: &mut Tokens<S>, entries: &[Entry]) -> Result<(), Refused>
+    ensures puts { OnOk result (S.puts out.old.sink (comma_if out.old.after_value ++
+        compact_text (spec.sole (codes "incidents") (spec.listed (map spec.entry_object entries.now)))) out.new.sink) }
+    ensures after { OnOk result (out.new.after_value ≡ true) }
+{
+    out.token(Token::BeginObject)?;
+    out.name("incidents")?;
+    put_entries(out, entries)?;
+    out.token(Token::EndObject)
+}
+
+/// Puts the groups that the caller's organisation has joined.
+fn put_joined<S: Sink>(out: &mut Tokens<S>, groups: &[JoinedGroup]) -> Result<(), Refused>
+    ensures puts { OnOk result (S.puts out.old.sink (comma_if out.old.after_value ++
+        compact_text (spec.sole (codes "groups") (spec.listed (map spec.group_object groups.now)))) out.new.sink) }
+    ensures after { OnOk result (out.new.after_value ≡ true) }
+{
+    out.token(Token::BeginObject)?;
+    out.name("groups")?;
+    put_groups(out, groups)?;
+    out.token(Token::EndObject)
+}
+
+fn put_trace<S: Sink>(out: &mut Tokens<S>, trace: &str) -> Result<(), Refused>
+    ensures puts { OnOk result (S.puts out.old.sink (comma_if out.old.after_value ++
+        compact_text (spec.sole (codes "trace") (string trace.now))) out.new.sink) }
+    ensures after { OnOk result (out.new.after_value ≡ true) }
+{
+    out.token(Token::BeginObject)?;
+    out.text_member("trace", trace)?;
+    out.token(Token::EndObject)
+}
+
+/// Puts the body of a reply.
+pub(crate) fn put_body<S: Sink>(out: &mut Tokens<S>, reply: &Reply) -> Result<(), Refused>
+    ensures puts { OnOk result (S.puts out.old.sink (comma_if out.old.after_value ++
+        compact_text (spec.body_of reply.now)) out.new.sink) }
+    ensures after { OnOk result (out.new.after_value ≡ true) }
 {
     match reply {
-        Reply::Done => sole(alloc, "done", Value::Bool(true)),
-        Reply::Numbers(list) => sole(alloc, "numbers", numbers(alloc, list.as_slice())?),
-        Reply::Revision(revision) => sole(alloc, "revision", Value::from(*revision)),
-        Reply::View(told) => view_body(alloc, told),
-        Reply::Incidents(list) => sole(alloc, "incidents", entries(alloc, list.as_slice())?),
-        Reply::Groups(list) => sole(alloc, "groups", groups(alloc, list.as_slice())?),
-        Reply::Caller(person) => caller(alloc, person),
-        Reply::Trace(text) => {
-            let text = String::from_str(alloc, text.as_str())?;
-            sole(alloc, "trace", Value::String(text))
-        }
-        Reply::Refused(why) => refusal(
-            alloc,
+        Reply::Done => put_done(out),
+        Reply::Numbers(list) => put_made(out, list.as_slice()),
+        Reply::Revision(revision) => put_revision(out, *revision),
+        Reply::View(told) => put_view(out, told),
+        Reply::Incidents(list) => put_page(out, list.as_slice()),
+        Reply::Groups(list) => put_joined(out, list.as_slice()),
+        Reply::Caller(person) => put_caller(out, person),
+        Reply::Trace(text) => put_trace(out, text.as_str()),
+        Reply::Refused(why) => put_refusal(
+            out,
             why.code.name(),
             why.detail.as_str(),
             why.code.reason(),

@@ -1,16 +1,17 @@
 //! The bytes of replies.
-ghost use Rattle.std.specs.Prelude.{◌≡◌, IfOk, false, string_bytes};
-ghost use Rattle.serde_json.specs.View.{view};
-ghost use Rattle.serde_json.specs.Written.{compact_text, has_float};
+ghost use Rattle.std.specs.Prelude.{◌≡◌, IfOk, OnOk, string_bytes};
+ghost use Rattle.std.specs.Io.KnownBytes.{Appends};
 ghost use Rattle.circle.specs.Codes.{status_of as status_of_code};
 ghost use Rattle.hub_http.specs.Replies as spec;
+ghost use Rattle.hub_http.specs.inner.Messages.{status_line, fields, reason_text};
 
-use crate::bodies::{body, refusal};
+use crate::bodies::{put_body, put_refusal};
 use crate::wire_fault::WireFault;
 use http::StatusCode;
 use hub_core::{Code, Reply};
-use serde_json::Value;
+use json_text::{Refused, Sink, Source, Tokens, bytes_of, length_of, write_from};
 use std::alloc::{AllocError, Global};
+use std::io::Write;
 
 fn fault_name(fault: WireFault) -> &'static str
     ensures { result.now ≡ spec.fault_name fault }
@@ -72,50 +73,173 @@ fn challenge(status: StatusCode) -> &'static str
     }
 }
 
-/// A status line, the fields and a body.
-#[tactic(auto, unfolding(crate::specs::Replies::message))]
-fn message(alloc: Global, status: StatusCode, body: &str) -> Result<String, AllocError>
-    ensures { IfOk result (λ s. string_bytes s ≡ spec.message status body.now) }
+/// The reason phrase that goes with a status (RFC 9110 section 15).
+fn reason(status: StatusCode) -> &'static str
+    ensures { result.now ≡ reason_text status }
 {
-    let length = body.len();
-    let challenge = challenge(status);
-    format!(in alloc;
-        "HTTP/1.1 {status}\r\nContent-Type: application/json\r\nContent-Length: {length}\r\nConnection: close\r\n{challenge}\r\n{body}"
-    )
+    match status.canonical_reason() {
+        Some(reason) => reason,
+        None => "<unknown status code>",
+    }
 }
 
-/// The text of a value without floats.
-fn text_of(alloc: Global, value: &Value) -> Result<String, AllocError>
-    requires { has_float (view value.now) ≡ false }
-    ensures { IfOk result (λ s. string_bytes s ≡ compact_text (view value.now)) }
+/// What a reply's body says.
+#[derive(Clone, Copy, Drop)]
+pub(crate) enum Body<'a> {
+    /// What the hub answered.
+    Answer(&'a Reply),
+    /// The fault of the bytes that came.
+    Fault(WireFault),
+}
+
+impl<'a> Body<'a> {
+    ghost use Rattle.std.specs.Prelude.{◌++◌, true};
+    ghost use Rattle.serde_json.specs.Written.{comma_if};
+    ghost use Rattle.hub_http.specs.inner.Messages.{body_bytes};
+
+    fn put<S: Sink>(&self, out: &mut Tokens<S>) -> Result<(), Refused>
+        ensures { OnOk result (S.puts out.old.sink
+            (comma_if out.old.after_value ++ body_bytes self.now) out.new.sink) }
+    {
+        match self {
+            Body::Answer(reply) => put_body(out, reply),
+            Body::Fault(fault) => put_refusal(out, fault_name(*fault), "", "request refused"),
+        }
+    }
+}
+
+impl<'a> Source for Body<'a> {
+    ghost use Rattle.hub_http.specs.inner.Messages.{body_bytes};
+
+    ghost bytes = { body_bytes };
+
+    fn put_into<S: Sink + Drop>(&self, sink: S) -> Result<S, Refused> {
+        let mut out = Tokens::new(sink);
+        self.put(&mut out)?;
+        Ok(out.sink)
+    }
+}
+
+/// A status line, the fields and a body (RFC 9112 section 2.1).
+#[derive(Clone, Copy, Drop)]
+pub(crate) struct Message<'a> {
+    status: StatusCode,
+    body: Body<'a>,
+}
+
+impl<'a> Message<'a> {
+    ghost use Rattle.std.specs.Prelude.{◌≡◌, [], MatchOption};
+    ghost use Rattle.hub_http.specs.inner.Messages.{message_bytes};
+    ghost use Rattle.hub_http.specs.Replies.{reply_text, fault_text};
+
+    pub(crate) fn of_reply(reply: &'a Reply) -> Message<'a>
+        ensures { message_bytes result ≡ reply_text reply.now }
+    {
+        Message {
+            status: status(reply),
+            body: Body::Answer(reply),
+        }
+    }
+
+    /// The message that tells a fault; none where that has no status.
+    pub(crate) fn of_fault(fault: WireFault) -> Option<Message<'a>>
+        ensures { MatchOption result (fault_text fault ≡ [])
+            (λ m. message_bytes m ≡ fault_text fault) }
+    {
+        match fault_status(fault) {
+            None => None,
+            Some(status) => Some(Message {
+                status,
+                body: Body::Fault(fault),
+            }),
+        }
+    }
+}
+
+/// Puts the status line (RFC 9112 section 4), without its end.
+fn put_status_line<S: Sink>(sink: &mut S, status: StatusCode) -> Result<(), Refused>
+    ensures { OnOk result (S.puts sink.old (status_line status) sink.new) }
 {
-    value.to_string(alloc)
+    let mut digits = itoa::Buffer::new();
+    sink.put(b"HTTP/1.1 ")?;
+    sink.put(digits.format(status.as_u16()).as_bytes())?;
+    sink.put(b" ")?;
+    sink.put(reason(status).as_bytes())
+}
+
+/// Puts the end of the status line, the fields (RFC 9112 section 5), and the empty line.
+fn put_fields<S: Sink>(sink: &mut S, status: StatusCode, length: usize) -> Result<(), Refused>
+    ensures { OnOk result (S.puts sink.old (fields status length) sink.new) }
+{
+    let mut digits = itoa::Buffer::new();
+    sink.put(b"\r\nContent-Type: application/json\r\nContent-Length: ")?;
+    sink.put(digits.format(length).as_bytes())?;
+    sink.put(b"\r\nConnection: close\r\n")?;
+    sink.put(challenge(status).as_bytes())?;
+    sink.put(b"\r\n")
+}
+
+impl<'a> Source for Message<'a> {
+    ghost use Rattle.hub_http.specs.inner.Messages.{message_bytes};
+
+    ghost bytes = { message_bytes };
+
+    /// The body is put twice, and counted the first time.
+    fn put_into<S: Sink + Drop>(&self, sink: S) -> Result<S, Refused> {
+        let Some(length) = length_of(&self.body) else {
+            return Err(Refused);
+        };
+        let mut sink = sink;
+        put_status_line(&mut sink, self.status)?;
+        put_fields(&mut sink, self.status, length)?;
+        self.body.put_into(sink)
+    }
 }
 
 /// The body of a reply alone, as compact JSON.
 pub fn body_text(alloc: Global, reply: &Reply) -> Result<String, AllocError>
     ensures { IfOk result (λ s. string_bytes s ≡ spec.body_text reply.now) }
 {
-    let value = body(alloc, reply)?;
-    text_of(alloc, &value)
+    let bytes = bytes_of(alloc, &Body::Answer(reply))?;
+    match String::from_utf8(bytes) {
+        Ok(text) => Ok(text),
+        Err(_) => Err(AllocError),
+    }
 }
 
 /// The bytes of a reply (RFC 9112 section 4).
 pub fn reply_bytes(alloc: Global, reply: &Reply) -> Result<Vec<u8>, AllocError>
     ensures { IfOk result (λ v. v.items ≡ spec.reply_text reply.now) }
 {
-    let body = body_text(alloc, reply)?;
-    Ok(message(alloc, status(reply), body.as_str())?.into_bytes())
+    let message = Message::of_reply(reply);
+    bytes_of(alloc, &message)
 }
 
 /// The bytes that tell a fault, none where it has no status.
 pub fn fault_bytes(alloc: Global, fault: WireFault) -> Result<Vec<u8>, AllocError>
     ensures { IfOk result (λ v. v.items ≡ spec.fault_text fault) }
 {
-    let Some(status) = fault_status(fault) else {
-        return Ok(Vec::new(alloc));
-    };
-    let value = refusal(alloc, fault_name(fault), "", "request refused")?;
-    let body = text_of(alloc, &value)?;
-    Ok(message(alloc, status, body.as_str())?.into_bytes())
+    match Message::of_fault(fault) {
+        None => Ok(Vec::new(alloc)),
+        Some(message) => bytes_of(alloc, &message),
+    }
+}
+
+/// Writes the bytes of a reply, in pieces; takes no memory.
+pub(crate) fn write_reply<W: Write>(writer: &mut W, reply: &Reply) -> Result<(), Refused>
+    ensures { OnOk result (Appends (W.contents writer.old) (W.contents writer.new)
+        (spec.reply_text reply.now)) }
+{
+    write_from(writer, &Message::of_reply(reply))
+}
+
+/// Writes the bytes that tell a fault, in pieces; takes no memory.
+pub(crate) fn write_fault<W: Write>(writer: &mut W, fault: WireFault) -> Result<(), Refused>
+    ensures { OnOk result (Appends (W.contents writer.old) (W.contents writer.new)
+        (spec.fault_text fault)) }
+{
+    match Message::of_fault(fault) {
+        None => Ok(()),
+        Some(message) => write_from(writer, &message),
+    }
 }

@@ -3,12 +3,12 @@ ghost use Rattle.std.specs.Prelude.{◌≡◌, ◌⊎◌, ◌≤◌, IfOk, IfErr
 ghost use Rattle.std.specs.Io.KnownBytes.{IsAtEnd};
 ghost use Rattle.hub_http.specs.Serving.{as_gather, Extends, Gathers, Replies, Steps, Serves};
 
-use crate::reply::{fault_bytes, reply_bytes};
+use crate::reply::{write_fault, write_reply};
 use crate::wire::{Arrival, read_wire};
 use crate::wire_fault::WireFault;
 use crate::{BODY_LIMIT, HEAD_LIMIT};
 use hub::{Hub, Key};
-use hub_core::{Request, Shelf};
+use hub_core::{Reply, Request, Shelf};
 use std::alloc::Global;
 use std::io::{Read, Write};
 use thiserror::Error;
@@ -34,7 +34,7 @@ pub enum ServeFault {
     /// A write failed. A change may stand that the caller wasn't told of.
     #[error("a write failed")]
     WriteFailed,
-    /// The memory didn't suffice. A change may stand that the caller wasn't told of.
+    /// The memory didn't suffice to read the request; nothing was asked of the hub, and nothing was written.
     #[error("no memory")]
     NoMemory,
 }
@@ -115,6 +115,16 @@ fn gather<R: Read>(alloc: Global, reader: &mut R) -> Result<(Key, Request), Gath
     Err(GatherFault::ReadFailed)
 }
 
+/// Asks the hub at this moment.
+fn ask<Sh: Shelf>(alloc: Global, hub: &mut Hub<Sh>, now: i64, key: &Key, request: &Request) -> Reply
+    ensures steps { Steps Sh.has Sh.doubts Sh.failed Sh.may_remain hub.old now
+        (key.now, request.now) result hub.new }
+    ensures later { Sh.failed hub.old ≤ Sh.failed hub.new }
+    ensures doubt { Sh.doubts hub.old ≤ Sh.doubts hub.new }
+{
+    hub.answer(alloc, now, key, request)
+}
+
 /// Asks the hub at this moment, and writes its reply.
 fn reply_to<W: Write, Sh: Shelf>(
     alloc: Global,
@@ -131,18 +141,16 @@ fn reply_to<W: Write, Sh: Shelf>(
     ensures later { Sh.failed hub.old ≤ Sh.failed hub.new }
     ensures doubt { Sh.doubts hub.old ≤ Sh.doubts hub.new }
 {
-    let reply = hub.answer(alloc, now, key, request);
-    let Ok(bytes) = reply_bytes(alloc, &reply) else {
-        return Err(ServeFault::NoMemory);
-    };
-    match writer.write_all(&bytes) {
+    let reply = ask(alloc, hub, now, key, request);
+    match write_reply(writer, &reply) {
         Ok(()) => Ok(Served::Answered),
         Err(_) => Err(ServeFault::WriteFailed),
     }
 }
 
-/// Serves one connection: reads one request, asks the hub at this moment (in seconds since 1970), and writes the reply. It
-/// reads at most as many times as a head and a body may have bytes; a reader that still gives bytes then is ReadFailed.
+/// Serves one connection: reads one request, asks the hub at this moment (in seconds since 1970), and writes the reply, in
+/// pieces and without memory of its own: the caller of a request that is given up for want of memory reads `F2`. It reads at
+/// most as many times as a head and a body may have bytes; a reader that still gives bytes then is ReadFailed.
 #[tactic(auto, using(crate::proofs::Replied::serves_reply))]
 pub fn serve_one<R: Read, W: Write, Sh: Shelf>(
     alloc: Global,
@@ -161,15 +169,10 @@ pub fn serve_one<R: Read, W: Write, Sh: Shelf>(
 {
     match gather(alloc, reader) {
         Ok((key, request)) => reply_to(alloc, writer, hub, now, &key, &request),
-        Err(GatherFault::Wire(fault)) => {
-            let Ok(bytes) = fault_bytes(alloc, fault) else {
-                return Err(ServeFault::NoMemory);
-            };
-            match writer.write_all(&bytes) {
-                Ok(()) => Ok(Served::WireRefused(fault)),
-                Err(_) => Err(ServeFault::WriteFailed),
-            }
-        }
+        Err(GatherFault::Wire(fault)) => match write_fault(writer, fault) {
+            Ok(()) => Ok(Served::WireRefused(fault)),
+            Err(_) => Err(ServeFault::WriteFailed),
+        },
         Err(GatherFault::Truncated) => Err(ServeFault::Truncated),
         Err(GatherFault::ReadFailed) => Err(ServeFault::ReadFailed),
         Err(GatherFault::NoMemory) => Err(ServeFault::NoMemory),

@@ -1,0 +1,10 @@
+use Rattle.std.proofs.Common.{◌≡◌, ◌∷◌, [], sym, subst}
+use Rattle.json_text.specs.Shown.{shown_byte}
+use Rattle.json_text.proofs.Escapes.{plain-text, plain-token}
+use Rattle.json_text.proofs.escape.is_plain.Goals as goal
+
+pub returns-in-Text : goal.returns-in-Text
+returns-in-Text c = λ h. subst (λ w. shown_byte w c.args.byte ≡ c.args.byte ∷ []) (sym c.in-Text.is) (plain-text c.args.byte h)
+
+pub returns-in-Token : goal.returns-in-Token
+returns-in-Token c = λ h. subst (λ w. shown_byte w c.args.byte ≡ c.args.byte ∷ []) (sym c.in-Token.is) (plain-token c.args.byte h)

@@ -1,0 +1,6 @@
+use Rattle.std.proofs.Common.{◌≡◌, take}
+use Rattle.json_text.specs.Shown.{shown_bytes}
+use Rattle.json_text.proofs.escape.plain_len.Given as goal
+
+abbrev pub invariant-loop-i : goal.invariant-loop-i
+invariant-loop-i l = shown_bytes l.within (take l.i l.bytes) ≡ take l.i l.bytes

@@ -1,0 +1,3 @@
+pub mod Sinks
+pub mod Shown
+pub mod Members

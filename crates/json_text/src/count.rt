@@ -1,0 +1,30 @@
+//! How many bytes are put.
+ghost use Rattle.std.specs.Prelude.{◌≡◌, ◌+◌, length};
+
+use crate::sink::{Refused, Sink};
+
+/// A sink that counts what is put into it and keeps nothing. It refuses what it can't count.
+#[derive(Clone, Copy, Debug, Drop)]
+pub(crate) struct Count {
+    pub(crate) bytes: usize,
+}
+
+impl Sink for Count {
+    ghost use Rattle.json_text.specs.Sinks.{counts-none, counts-both};
+
+    ghost puts = { λ a bytes b. b.bytes ≡ a.bytes + length bytes };
+
+    ghost stays = { λ a. counts-none a.bytes };
+
+    ghost joins = { λ a b c x y p q. counts-both a.bytes b.bytes c.bytes x y p q };
+
+    fn put(&mut self, bytes: &[u8]) -> Result<(), Refused> {
+        match self.bytes.checked_add(bytes.len()) {
+            Some(sum) => {
+                self.bytes = sum;
+                Ok(())
+            }
+            None => Err(Refused),
+        }
+    }
+}

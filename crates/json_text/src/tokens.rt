@@ -1,0 +1,168 @@
+//! The tokens of a JSON text.
+ghost use Rattle.std.specs.Prelude.{◌≡◌, ◌∷◌, ◌++◌, [], true, false, OnOk, decimal};
+ghost use Rattle.json.specs.Token.{boolean};
+ghost use Rattle.json.specs.Print.{separator, token_text, quoted, ends};
+ghost use Rattle.json.specs.Reads.{token_of};
+ghost use Rattle.serde_json.specs.Written.{comma_if};
+ghost use Rattle.iodef_tree.specs.Pointer.{pointer_text};
+ghost use Rattle.json_text.specs.Members.{member_text};
+
+use crate::escape::{Within, put_escaped};
+use crate::sink::{Refused, Sink};
+use iodef_tree::Path;
+use json::Token;
+
+/// Puts the tokens of a JSON text (RFC 8259 section 2) into a sink, with the commas and colons between them. That each
+/// object and array ends is the caller's part.
+#[derive(Drop)]
+pub struct Tokens<S> {
+    pub sink: S,
+    /// Whether a value ended last.
+    pub after_value: bool,
+}
+
+impl<S: Sink> Tokens<S> {
+    /// A text of which nothing is put yet.
+    pub fn new(sink: S) -> Tokens<S>
+        ensures sink { result.sink ≡ sink }
+        ensures first { result.after_value ≡ false }
+    {
+        Tokens {
+            sink,
+            after_value: false,
+        }
+    }
+
+    /// Puts a comma where a value ended last.
+    fn separate(&mut self) -> Result<(), Refused>
+        ensures puts { OnOk result (S.puts self.old.sink (comma_if self.old.after_value)
+            self.new.sink) }
+    {
+        if self.after_value {
+            self.sink.put(b",")
+        } else {
+            self.sink.put(b"")
+        }
+    }
+
+    /// Puts what begins a value or is one.
+    fn begin(&mut self, text: &[u8], is_value: bool) -> Result<(), Refused>
+        ensures puts { OnOk result (S.puts self.old.sink
+            (comma_if self.old.after_value ++ text.now) self.new.sink) }
+        ensures after { OnOk result (self.new.after_value ≡ is_value) }
+    {
+        self.separate()?;
+        self.sink.put(text)?;
+        self.after_value = is_value;
+        Ok(())
+    }
+
+    /// Puts what ends a value.
+    fn end(&mut self, text: &[u8]) -> Result<(), Refused>
+        ensures puts { OnOk result (S.puts self.old.sink text.now self.new.sink) }
+        ensures after { OnOk result (self.new.after_value ≡ true) }
+    {
+        self.sink.put(text)?;
+        self.after_value = true;
+        Ok(())
+    }
+
+    /// Puts a text in quotation marks.
+    fn quote(&mut self, text: &str) -> Result<(), Refused>
+        ensures puts { OnOk result (S.puts self.old.sink
+            (comma_if self.old.after_value ++ quoted text.now) self.new.sink) }
+        ensures after { OnOk result (self.new.after_value ≡ true) }
+    {
+        self.begin(b"\"", true)?;
+        put_escaped(&mut self.sink, Within::Text, text.as_bytes())?;
+        self.end(b"\"")
+    }
+
+    /// Puts the name of a member.
+    pub fn name(&mut self, name: &str) -> Result<(), Refused>
+        ensures puts { OnOk result (S.puts self.old.sink
+            (comma_if self.old.after_value ++ (quoted name.now ++ 58 ∷ [])) self.new.sink) }
+        ensures after { OnOk result (self.new.after_value ≡ false) }
+    {
+        self.quote(name)?;
+        self.sink.put(b":")?;
+        self.after_value = false;
+        Ok(())
+    }
+
+    /// Puts a token, and before it a comma where it begins what comes behind a value.
+    pub fn token(&mut self, token: Token<'_>) -> Result<(), Refused>
+        ensures puts { OnOk result (S.puts self.old.sink
+            (separator self.old.after_value (token_of token.entry) ++
+            token_text (token_of token.entry)) self.new.sink) }
+        ensures after { OnOk result (self.new.after_value ≡ ends (token_of token.entry)) }
+    {
+        match token {
+            Token::BeginObject => self.begin(b"{", false),
+            Token::EndObject => self.end(b"}"),
+            Token::BeginArray => self.begin(b"[", false),
+            Token::EndArray => self.end(b"]"),
+            Token::Key(name) => self.name(name),
+            Token::String(text) => self.quote(text),
+            Token::Number(text) => self.begin(text.as_bytes(), true),
+            Token::Bool(true) => self.begin(b"true", true),
+            Token::Bool(false) => self.begin(b"false", true),
+            Token::Null => self.begin(b"null", true),
+            Token::Bad => self.begin(b"", true),
+        }
+    }
+
+    /// Puts a whole number.
+    pub fn number(&mut self, number: u32) -> Result<(), Refused>
+        ensures puts { OnOk result (S.puts self.old.sink
+            (comma_if self.old.after_value ++ decimal number) self.new.sink) }
+        ensures after { OnOk result (self.new.after_value ≡ true) }
+    {
+        let mut buffer = itoa::Buffer::new();
+        self.begin(buffer.format(number).as_bytes(), true)
+    }
+
+    /// Puts a member that is a whole number.
+    pub fn number_member(&mut self, name: &str, number: u32) -> Result<(), Refused>
+        ensures puts { OnOk result (S.puts self.old.sink
+            (member_text self.old.after_value name.now (decimal number)) self.new.sink) }
+        ensures after { OnOk result (self.new.after_value ≡ true) }
+    {
+        self.name(name)?;
+        self.number(number)
+    }
+
+    /// Puts a member that is a text.
+    pub fn text_member(&mut self, name: &str, text: &str) -> Result<(), Refused>
+        ensures puts { OnOk result (S.puts self.old.sink
+            (member_text self.old.after_value name.now (quoted text.now)) self.new.sink) }
+        ensures after { OnOk result (self.new.after_value ≡ true) }
+    {
+        self.name(name)?;
+        self.quote(text)
+    }
+
+    /// Puts a member that is a truth value.
+    pub fn flag_member(&mut self, name: &str, flag: bool) -> Result<(), Refused>
+        ensures puts { OnOk result (S.puts self.old.sink
+            (member_text self.old.after_value name.now (token_text (boolean flag))) self.new.sink) }
+        ensures after { OnOk result (self.new.after_value ≡ true) }
+    {
+        self.name(name)?;
+        self.token(Token::Bool(flag))
+    }
+
+    /// Puts a string whose text is the JSON pointer of the path (RFC 6901 section 3).
+    pub fn pointer(&mut self, path: &Path) -> Result<(), Refused>
+        ensures puts { OnOk result (S.puts self.old.sink
+            (comma_if self.old.after_value ++ quoted (pointer_text path.now)) self.new.sink) }
+        ensures after { OnOk result (self.new.after_value ≡ true) }
+    {
+        self.begin(b"\"", true)?;
+        for token in path.tokens() {
+            self.sink.put(b"/")?;
+            put_escaped(&mut self.sink, Within::Token, token.as_str().as_bytes())?;
+        }
+        self.end(b"\"")
+    }
+}
