@@ -211,7 +211,11 @@ pub fn body_text(alloc: Global, reply: &Reply) -> Result<String, AllocError>
 pub fn reply_bytes(alloc: Global, reply: &Reply) -> Result<Vec<u8>, AllocError>
     ensures { IfOk result (λ v. v.items ≡ spec.reply_text reply.now) }
 {
-    let message = Message::of_reply(reply);
+    // Written out here, as the checker has to be told the type of the body.
+    let message = Message {
+        status: status(reply),
+        body: Body::Answer(reply),
+    };
     bytes_of(alloc, &message)
 }
 
