@@ -15,9 +15,9 @@ use crate::refusal::{Code, Refusal};
 use crate::{COMMUNITY_LIMIT, GROUP_LIMIT, ORG_LIMIT, PERSON_LIMIT};
 use std::alloc::Global;
 
-/// The refusal of the actor's command, or the whole change that it makes: for each directory of which
-/// these are the facts, and where a number is given for each sound one. Want of memory is `F2`, which
-/// may stand in place of any answer.
+/// The refusal of the actor's command, or the whole change that it makes. The refusal is the first ground of the facts,
+/// whatever facts they are, and that of each directory of which these are the facts. Where a number is given the change is
+/// that of each sound one. Want of memory is `F2`, which may stand in place of any answer.
 pub fn judge(
     alloc: Global,
     actor: &Person,
@@ -28,6 +28,8 @@ pub fn judge(
         IfErr result (RefusedAs (refusal_of d actor.now command.now)) }
     ensures allowed { (d : Directory) → facts.now ≡ facts_of d actor.now command.now →
         OnOk result (refusal_of d actor.now command.now ≡ None) }
+    ensures refused_by { IfErr result (RefusedAs (refusal_by facts.now actor.now command.now)) }
+    ensures allowed_by { OnOk result (refusal_by facts.now actor.now command.now ≡ None) }
     ensures edit { IfOk result (λ edit. edit ≡
         edit_of (facts.now.count + 1) actor.now command.now) }
     ensures made { (d : Directory) → IsSound d → facts.now ≡ facts_of d actor.now command.now →

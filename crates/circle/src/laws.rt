@@ -1,6 +1,8 @@
 //! Laws of the definitions, each the contract of a function that does nothing.
 ghost use Rattle.circle.specs.Laws.{EditsAreRows, EmptyIsSound, NothingVanishes, OrganisationsKeepApart, OwnersStay, RefusalsLeaveAll, StaysSound, SuspendedStays};
 ghost use Rattle.circle.specs.Order.{GroundsAscend};
+ghost use Rattle.circle.specs.declared.TheConstants.{ORG_LIMIT, PERSON_LIMIT, COMMUNITY_LIMIT, GROUP_LIMIT, NAME_LIMIT, RELEASABILITY_LIMIT};
+ghost use Rattle.std.specs.Prelude.{◌≡◌};
 
 /// What a person of a sound directory changes leaves it sound.
 pub fn stays_sound()
@@ -46,4 +48,15 @@ pub fn nothing_vanishes()
 /// An edit is the edits of its rows, one after another.
 pub fn edits_are_rows()
     ensures { EditsAreRows }
+{}
+
+/// The limits of the directory: how many organisations, persons, communities and groups there may be, and how many bytes a
+/// name and a releasability may have.
+pub fn limits_of_the_circle()
+    ensures orgs { ORG_LIMIT ≡ 1000 }
+    ensures persons { PERSON_LIMIT ≡ 10000 }
+    ensures communities { COMMUNITY_LIMIT ≡ 1000 }
+    ensures groups { GROUP_LIMIT ≡ 1000 }
+    ensures names { NAME_LIMIT ≡ 128 }
+    ensures releasabilities { RELEASABILITY_LIMIT ≡ 512 }
 {}

@@ -1,6 +1,8 @@
 //! Laws of the definitions, each the contract of a function that does nothing.
 ghost use Rattle.hub.specs.Alike.{AlikeIsAnsweredAlike};
 ghost use Rattle.hub.specs.Laws.{RunsStaySound, ShownIsServed, UnmadeLeavesAll};
+ghost use Rattle.hub.specs.declared.TheConstants.{PAGE_LIMIT};
+ghost use Rattle.std.specs.Prelude.{◌≡◌};
 
 /// A run from a sound state ends in a sound state.
 pub fn runs_stay_sound()
@@ -20,4 +22,9 @@ pub fn unmade_leaves_all()
 /// A class is told as Shown by Explain exactly where View serves it to that person, in one state and at one moment.
 pub fn shown_is_served()
     ensures { ShownIsServed }
+{}
+
+/// How many incidents a page lists at most.
+pub fn limit_of_a_page()
+    ensures { PAGE_LIMIT ≡ 100 }
 {}

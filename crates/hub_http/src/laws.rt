@@ -1,5 +1,7 @@
 //! Laws of the definitions, each the contract of a function that does nothing.
 ghost use Rattle.hub_http.specs.Laws.{HasOneAnswer, AnswersStand};
+ghost use Rattle.hub_http.specs.declared.TheConstants.{HEAD_LIMIT, FIELD_LIMIT, BODY_LIMIT, KEY_LIMIT};
+ghost use Rattle.std.specs.Prelude.{◌≡◌};
 
 /// Bytes ask one thing, or have one fault first; but where they end inside a target that nothing could make whole,
 /// two are right.
@@ -10,4 +12,12 @@ pub fn one_answer()
 /// What bytes ask, or a fault of theirs that isn't Truncated, stays so whatever bytes follow.
 pub fn answers_stand()
     ensures { AnswersStand }
+{}
+
+/// The limits of the wire: how many bytes and fields a head may have, and how many bytes a body and a key.
+pub fn limits_of_the_wire()
+    ensures head { HEAD_LIMIT ≡ 8192 }
+    ensures fields { FIELD_LIMIT ≡ 64 }
+    ensures body { BODY_LIMIT ≡ 262144 }
+    ensures key { KEY_LIMIT ≡ 128 }
 {}
