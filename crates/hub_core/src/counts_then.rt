@@ -6,7 +6,7 @@ ghost use Rattle.hub_core.specs.Documents.{made_at};
 ghost use Rattle.hub_core.specs.Edits.{with_edits};
 ghost use Rattle.hub_core.specs.Reads.{its_gates, its_permissions};
 ghost use Rattle.hub_core.specs.Requests.{looked_up, incident_asked};
-ghost use Rattle.hub_core.specs.inner.Shared.{counts_in, counts_of, sharing_asked, sharing_of};
+ghost use Rattle.hub_core.specs.inner.Shared.{counts_in, counts_of, sharing_asked, sharing_named};
 ghost use Rattle.hub_core.specs.Sound.{IsSound};
 ghost use Rattle.hub_core.specs.State.{State, class_gates, permissions_of};
 ghost use Rattle.hub_core.specs.declared.edit.Edit.TheVariants as edit;
@@ -104,7 +104,7 @@ fn permissions_without(
 
 /// How many stand.
 fn standing_counts(sharing: &Sharing) -> Counts
-    ensures { (s : State) → (n : ℕ) → IsSound s → sharing.now ≡ sharing_of n s →
+    ensures { (s : State) → (n : ℕ) → IsSound s → sharing.now ≡ sharing_named n s →
         result ≡ counts_of n s }
 {
     Counts {

@@ -1,15 +1,15 @@
 //! What the shelf in memory looks up.
 use crate::list_shelf::ListShelf;
-use crate::look_ups::{GroupsJoined, LookUps};
+use crate::look_ups::{LookUps, Reader, Shared, Ties};
 use crate::recipients::Recipients;
 use crate::rows::Named;
 use crate::shelf::ShelfFault;
 use crate::state::Naming;
 use circle::command::{CircleCommand, CircleFacts};
-use circle::directory::{Handling, Person};
+use circle::directory::Person;
 use circle::text::Text;
 use iodef_tree::Document;
-use policy::{Gates, Numbers, Permissions};
+use policy::{Gates, Permissions};
 
 impl LookUps for ListShelf {
     ghost use Rattle.std.specs.Prelude.{◌≡◌, Some};
@@ -61,36 +61,16 @@ impl LookUps for ListShelf {
         Ok(self.directory().has_group_member(group, org))
     }
 
-    fn groups_joined(&mut self, org: u32) -> Result<GroupsJoined, ShelfFault> {
-        let alloc = self.alloc();
-        let all = self.directory().groups_joined(alloc, org)?;
-        let active = self.directory().active_groups_joined(alloc, org)?;
-        Ok(GroupsJoined {
-            all: Numbers::new(all),
-            active: Numbers::new(active),
-        })
+    fn reader_of(&mut self, person: u32) -> Result<Option<Reader>, ShelfFault> {
+        Ok(self.find_reader(person)?)
     }
 
-    fn communities_of(&mut self, org: u32) -> Result<Vec<u32>, ShelfFault> {
-        let alloc = self.alloc();
-        Ok(self.directory().communities_of(alloc, org)?)
+    fn ties_of(&mut self, org: u32, source: u32, named: Option<u32>) -> Result<Ties, ShelfFault> {
+        Ok(self.ties(org, source, named))
     }
 
-    fn share_community(&mut self, org: u32, other: u32) -> Result<bool, ShelfFault> {
-        Ok(self.directory().share_community(org, other))
-    }
-
-    fn are_connected(&mut self, org: u32, other: u32) -> Result<bool, ShelfFault> {
-        Ok(self.directory().are_connected(org, other))
-    }
-
-    fn arranged(&mut self, source: u32, org: u32) -> Result<Option<Handling>, ShelfFault> {
-        Ok(self.directory().arranged(source, org))
-    }
-
-    fn orgs_whose_client(&mut self, client: u32) -> Result<Vec<u32>, ShelfFault> {
-        let alloc = self.alloc();
-        Ok(self.directory().orgs_whose_client(alloc, client)?)
+    fn sharing_of(&mut self, incident: u32) -> Result<Option<Shared>, ShelfFault> {
+        Ok(self.find_shared(incident)?)
     }
 
     fn incident_count(&mut self) -> Result<u32, ShelfFault> {

@@ -2,17 +2,18 @@
 ghost use Rattle.std.specs.Prelude.{◌≡◌, option_map, IfOk};
 ghost use Rattle.std.specs.Option.{option_copied};
 ghost use Rattle.circle.specs.Reads.{person_of};
-ghost use Rattle.hub_core.specs.Reads.{case_of, document_of, served_of_incident, met_by_incident, joined, naming_of};
+ghost use Rattle.hub_core.specs.Reads.{case_of, document_of, served_of_incident, met_by_incident, joined, naming_of, reader_of, reader_with, sharing_of, ties_of};
 ghost use Rattle.hub_core.specs.Reads as spec;
 ghost use Rattle.redact.specs.Excerpts.{told_by};
 ghost use Rattle.hub_core.specs.Sound.{IsSound};
 
 use crate::list_shelf::ListShelf;
+use crate::look_ups::{Reader, Shared, Ties};
 use crate::reply::JoinedGroup;
 use crate::state::Naming;
 use circle::directory::{Group, GroupMember, Person};
 use iodef_tree::Document;
-use policy::{Case, Standing};
+use policy::{Case, Numbers, Standing};
 use redact::{Excerpt, Want, excerpt_if_marked, meets};
 use std::alloc::AllocError;
 
@@ -27,6 +28,62 @@ impl ListShelf {
         ensures { IfOk result (λ found. found ≡ person_of number self.now.directory) }
     {
         copy_of(self.directory().person_of(number))
+    }
+
+    fn reader_with(&self, person: Person) -> Result<Reader, AllocError>
+        ensures { IfOk result (λ found. found ≡ reader_with self.now person) }
+    {
+        let directory = self.directory();
+        let alloc = self.alloc();
+        let served = Numbers::new(directory.orgs_whose_client(alloc, person.org)?);
+        let groups = Numbers::new(directory.groups_joined(alloc, person.org)?);
+        let active_groups = Numbers::new(directory.active_groups_joined(alloc, person.org)?);
+        let communities = Numbers::new(directory.communities_of(alloc, person.org)?);
+        Ok(Reader {
+            person,
+            served,
+            groups,
+            active_groups,
+            communities,
+        })
+    }
+
+    pub(crate) fn find_reader(&self, person: u32) -> Result<Option<Reader>, AllocError>
+        ensures { IfOk result (λ found. found ≡ reader_of person self.now) }
+    {
+        match self.find_person_of(person)? {
+            None => Ok(None),
+            Some(person) => Ok(Some(self.reader_with(person)?)),
+        }
+    }
+
+    pub(crate) fn ties(&self, org: u32, source: u32, named: Option<u32>) -> Ties
+        ensures { result ≡ ties_of org source named self.now }
+    {
+        let directory = self.directory();
+        let community = directory.share_community(org, source);
+        let peer = match named {
+            None => community,
+            Some(named) => directory.has_membership(named, org),
+        };
+        Ties {
+            community,
+            peer,
+            connected: directory.are_connected(org, source),
+            arrangement: directory.arranged(source, org),
+        }
+    }
+
+    pub(crate) fn find_shared(&self, incident: u32) -> Result<Option<Shared>, AllocError>
+        ensures { IfOk result (λ found. found ≡ sharing_of incident self.now) }
+    {
+        match self.find_naming(incident)? {
+            None => Ok(None),
+            Some(naming) => {
+                let recipients = self.copied_recipients(naming.number)?;
+                Ok(Some(Shared { naming, recipients }))
+            }
+        }
     }
 
     pub(crate) fn find_case(&self, incident: u32) -> Result<Option<Case>, AllocError>

@@ -3,7 +3,7 @@ ghost use Rattle.std.specs.Prelude.{◌≡◌, ◌==◌, ℕ, Option, option_map
 ghost use Rattle.circle.specs.Directory.{has_org as is_org, has_person as is_person, has_community as is_community, has_membership as is_membership, has_group_member as is_group_member};
 ghost use Rattle.circle.specs.Facts.{facts_of as directory_facts};
 ghost use Rattle.circle.specs.Reads as spec;
-ghost use Rattle.hub_core.specs.Reads.{document_of, its_gates, its_permissions, its_recipients, naming_of};
+ghost use Rattle.hub_core.specs.Reads.{document_of, its_gates, its_permissions, its_recipients, naming_of, reader_of, sharing_of, ties_of};
 ghost use Rattle.hub_core.specs.Shelves.{Reads, last_count};
 ghost use Rattle.hub_core.specs.Sound.{IsSound};
 ghost use Rattle.hub_core.specs.State.{State, incident_named, incident_number};
@@ -17,11 +17,38 @@ use circle::text::Text;
 use iodef_tree::Document;
 use policy::{Gates, Numbers, Permissions};
 
-/// The groups of which an organisation is a member, by number, and those of them that are active.
+/// What a reader has of its own, whatever the incident.
 #[derive(Drop)]
-pub struct GroupsJoined {
-    pub all: Numbers,
-    pub active: Numbers,
+pub struct Reader {
+    pub person: Person,
+    /// The organisations whose client the reader's organisation is.
+    pub served: Numbers,
+    /// The groups of which the reader's organisation is a member.
+    pub groups: Numbers,
+    /// Those of the groups that are active.
+    pub active_groups: Numbers,
+    /// The communities of which the reader's organisation is a member.
+    pub communities: Numbers,
+}
+
+/// How an organisation stands to a source and to the community that is named.
+#[derive(Drop)]
+pub struct Ties {
+    /// The organisation and the source are in one community.
+    pub community: bool,
+    /// The organisation is a member of the community that is named; where none is named, as `community`.
+    pub peer: bool,
+    /// The organisation is in a community that is connected to one of the source's.
+    pub connected: bool,
+    /// What the source arranged with the organisation.
+    pub arrangement: Option<Handling>,
+}
+
+/// How an incident is shared, beside its gates and permissions.
+#[derive(Drop)]
+pub struct Shared {
+    pub naming: Naming,
+    pub recipients: Recipients,
 }
 
 /// What a shelf looks up in its rows. Standings and facts are made of these, in the same way over each shelf. Each
@@ -79,38 +106,20 @@ pub trait LookUps {
         ensures { Reads has doubts failed may_remain self.old self.new (λ s found. found ≡
             is_group_member group org s.directory) result };
 
-    /// The groups of which an organisation is a member, and those of them that are active.
-    fn groups_joined(&mut self, org: u32) -> Result<GroupsJoined, ShelfFault>
+    /// The person with this number, active or not, with what it has of its own.
+    fn reader_of(&mut self, person: u32) -> Result<Option<Reader>, ShelfFault>
         ensures { Reads has doubts failed may_remain self.old self.new (λ s found. found ≡
-            record {
-              all = spec.groups_joined org s.directory;
-              active = spec.active_groups_joined org s.directory;
-            }) result };
+            reader_of person s) result };
 
-    /// The communities of which an organisation is a member, by number.
-    fn communities_of(&mut self, org: u32) -> Result<Vec<u32>, ShelfFault>
-        ensures { Reads has doubts failed may_remain self.old self.new (λ s found.
-            found.items ≡ spec.communities_of org s.directory) result };
-
-    /// Whether they are in one community.
-    fn share_community(&mut self, org: u32, other: u32) -> Result<bool, ShelfFault>
+    /// How an organisation stands to a source, and to a community if one is named.
+    fn ties_of(&mut self, org: u32, source: u32, named: Option<u32>) -> Result<Ties, ShelfFault>
         ensures { Reads has doubts failed may_remain self.old self.new (λ s found. found ≡
-            spec.share_community org other s.directory) result };
+            ties_of org source named s) result };
 
-    /// Whether they are in communities that are connected.
-    fn are_connected(&mut self, org: u32, other: u32) -> Result<bool, ShelfFault>
+    /// What an incident is known by, and to whom it is addressed.
+    fn sharing_of(&mut self, incident: u32) -> Result<Option<Shared>, ShelfFault>
         ensures { Reads has doubts failed may_remain self.old self.new (λ s found. found ≡
-            spec.are_connected org other s.directory) result };
-
-    /// What a source arranged with an organisation.
-    fn arranged(&mut self, source: u32, org: u32) -> Result<Option<Handling>, ShelfFault>
-        ensures { Reads has doubts failed may_remain self.old self.new (λ s found. found ≡
-            spec.arranged source org s.directory) result };
-
-    /// The organisations whose client one is.
-    fn orgs_whose_client(&mut self, client: u32) -> Result<Vec<u32>, ShelfFault>
-        ensures { Reads has doubts failed may_remain self.old self.new (λ s found.
-            found.items ≡ spec.orgs_whose_client client s.directory) result };
+            sharing_of incident s) result };
 
     /// How many incidents there are.
     fn incident_count(&mut self) -> Result<u32, ShelfFault>

@@ -4,7 +4,7 @@ ghost use Rattle.hub_core.specs.Documents.{at_pointer};
 ghost use Rattle.hub_core.specs.Facts.{stands_in};
 ghost use Rattle.hub_core.specs.inner.Questions as spec;
 ghost use Rattle.hub_core.specs.Requests.{incident_asked};
-ghost use Rattle.hub_core.specs.inner.Shared.{sharing_asked, sharing_of};
+ghost use Rattle.hub_core.specs.inner.Shared.{sharing_asked, sharing_named};
 ghost use Rattle.hub_core.specs.Shelves.{Finds};
 ghost use Rattle.hub_core.specs.State.{State};
 
@@ -37,9 +37,9 @@ fn nothing_shared(alloc: Global) -> Sharing
     }
 }
 
-fn find_sharing_of<L: LookUps>(shelf: &mut L, incident: u32) -> Result<Sharing, ShelfFault>
+fn find_sharing_named<L: LookUps>(shelf: &mut L, incident: u32) -> Result<Sharing, ShelfFault>
     ensures { Finds L.has L.doubts L.failed L.may_remain shelf.old shelf.new result (λ s.
-        IfOk result (λ found. found ≡ sharing_of incident s)) }
+        IfOk result (λ found. found ≡ sharing_named incident s)) }
 {
     let gates = shelf.gates_of(incident)?;
     let recipients = shelf.recipients_of(incident)?;
@@ -62,7 +62,7 @@ pub(crate) fn find_sharing<L: LookUps>(
 {
     match incident {
         None => Ok(nothing_shared(alloc)),
-        Some(incident) => find_sharing_of(shelf, incident),
+        Some(incident) => find_sharing_named(shelf, incident),
     }
 }
 

@@ -9,13 +9,13 @@ use Rattle.hub_core.specs.declared.request.Request.{Request}
 use Rattle.hub_core.specs.declared.sharing.Sharing.{Sharing}
 
 -- how the incident of this number is shared
-abbrev pub sharing_of : ℕ → State → Sharing
-sharing_of n s = record { gates = its_gates n s.gates; recipients = its_recipients n s.recipients; permissions = its_permissions n s.permissions }
+abbrev pub sharing_named : ℕ → State → Sharing
+sharing_named n s = record { gates = its_gates n s.gates; recipients = its_recipients n s.recipients; permissions = its_permissions n s.permissions }
 
 -- without a number there is nothing
 abbrev pub sharing_asked : Option ℕ → State → Sharing
 sharing_asked None s = record { gates = []; recipients = []; permissions = [] }
-sharing_asked (Some n) s = sharing_of n s
+sharing_asked (Some n) s = sharing_named n s
 
 -- ---- counts
 
