@@ -81,7 +81,7 @@ either_way false true = refl
 either_way false false = refl
 
 -- a community is one of an organisation's where the organisation is a member of it
-among_communities : (n org : ℕ) (d : Directory) → is_one_of (communities_of org d) n ≡ has_membership n org d
+pub among_communities : (n org : ℕ) (d : Directory) → is_one_of (communities_of org d) n ≡ has_membership n org d
 among_communities n org d =
     any_map (λ m. m == n) (λ (m : Membership). m.community) (filter (λ (m : Membership). m.org == org) d.memberships)
     ∙ any_having (λ (m : Membership). m.org == org) (λ (m : Membership). m.community == n) d.memberships

@@ -61,6 +61,8 @@ pub mod TextsHighest
 pub mod Highest
 pub mod Left
 pub mod Telling
+pub mod KeptReader
+pub mod KeptReads
 pub mod AnySchema
 pub mod AnyVersion
 pub mod VersionRows
@@ -79,6 +81,7 @@ pub mod Drops
 pub mod Parts
 pub mod PartRows
 pub mod LineRows
+pub mod Ties
 pub mod TwentyLines
 pub mod LineParams
 pub mod Inside

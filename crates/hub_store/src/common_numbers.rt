@@ -5,7 +5,7 @@ ghost use Rattle.std.specs.List.{list_any};
 ghost use Rattle.hub_store.specs.inner.ShownPairs.{AreRising, is_one_of};
 
 /// Whether the number is one of these, which rise; it is found by halving.
-fn is_among(number: u32, numbers: &[u32]) -> bool
+pub(crate) fn is_among(number: u32, numbers: &[u32]) -> bool
     ensures { AreRising numbers.now → result ≡ is_one_of numbers.now number }
 {
     numbers.binary_search(&number).is_ok()

@@ -2,17 +2,43 @@
 
 ghost use Rattle.std.specs.Prelude.{◌≡◌, false};
 ghost use Rattle.sqlite.specs.Held.{state};
-ghost use Rattle.hub_core.specs.Reads.{case_of};
+ghost use Rattle.hub_core.specs.Reads.{case_of, its_gates};
 ghost use Rattle.hub_store.specs.inner.Queries.{IsReadInside, IsReadOutside};
 ghost use Rattle.hub_store.specs.inner.Shown.{IsCase};
 
 use crate::find_gates::read_gates;
 use crate::find_naming::read_naming;
 use crate::find_permissions::read_permissions;
+use crate::from_row::STRANGE;
 use hub_core::Naming;
-use policy::Case;
+use policy::{Case, Gates};
 use sqlite::{Alter, Connection, Error, Transaction};
 use std::alloc::Global;
+
+/// Whether one of the gates stands at the root.
+fn has_root_gate(gates: &Gates) -> bool {
+    gates
+        .as_slice()
+        .iter()
+        .any(|gate| gate.path.tokens().is_empty())
+}
+
+/// The gates of an incident. One without a gate at its root isn't the hub's work: it would be open to everybody.
+fn read_rooted_gates<S: Alter>(
+    tx: &mut Transaction<'_, S>,
+    alloc: Global,
+    incident: u32,
+) -> Result<Gates, Error>
+    ensures same_reference { tx.new.conn.ghost_name ≡ tx.old.conn.ghost_name }
+    ensures read { IsReadInside (state S.Store tx.old.conn.now)
+        (state S.Store tx.new.conn.now) (λ s found. found ≡ its_gates incident s.gates) result }
+{
+    let gates = read_gates(tx, alloc, incident)?;
+    if !has_root_gate(&gates) {
+        return Err(STRANGE);
+    }
+    Ok(gates)
+}
 
 /// The gates and the permissions of an incident, beside what it is known by.
 fn read_policy<S: Alter>(
@@ -25,7 +51,7 @@ fn read_policy<S: Alter>(
     ensures read { IsReadInside (state S.Store tx.old.conn.now)
         (state S.Store tx.new.conn.now) (λ s case. IsCase naming.now incident s case) result }
 {
-    let gates = read_gates(tx, alloc, incident)?;
+    let gates = read_rooted_gates(tx, alloc, incident)?;
     let permissions = read_permissions(tx, alloc, incident)?;
     Ok(Case {
         source: naming.source,

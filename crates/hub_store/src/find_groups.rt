@@ -18,10 +18,17 @@ use crate::pair_kind::PairKind;
 use crate::query::ask;
 use crate::read_pairs::read_has_pair;
 use circle::directory::{Group, Person};
-use hub_core::{GroupsJoined, JoinedGroup};
+use hub_core::JoinedGroup;
 use policy::Numbers;
 use sqlite::{Alter, Connection, Error, Transaction, params};
 use std::alloc::{AllocError, Global};
+
+/// The groups of which an organisation is a member, by number, and those of them that are active.
+#[derive(Drop)]
+pub(crate) struct GroupsJoined {
+    pub(crate) all: Numbers,
+    pub(crate) active: Numbers,
+}
 
 pub(crate) fn read_has_group_member<S: Alter>(
     tx: &mut Transaction<'_, S>,
@@ -132,7 +139,8 @@ fn active_numbers(alloc: Global, groups: &[JoinedGroup]) -> Result<Vec<u32>, All
         .collect(alloc)
 }
 
-fn read_groups_joined<S: Alter>(
+/// The groups of which the organisation is a member, and those of them that are active, in a transaction.
+pub(crate) fn read_groups_joined<S: Alter>(
     tx: &mut Transaction<'_, S>,
     alloc: Global,
     org: u32,
@@ -167,27 +175,6 @@ pub(crate) fn has_group_member<S: Alter>(
 {
     let mut tx = conn.transaction();
     let found = read_has_group_member(&mut tx, group, org);
-    tx.rollback();
-    found
-}
-
-/// The groups of which the organisation is a member, by number, and those of them that are active.
-pub(crate) fn groups_joined<S: Alter>(
-    conn: &mut Connection<S>,
-    alloc: Global,
-    org: u32,
-) -> Result<GroupsJoined, Error>
-    requires { conn.old.in_transaction ≡ false }
-    ensures idle { conn.new.in_transaction ≡ false }
-    ensures answers { IsReadOutside (state S.Store conn.old)
-        (state S.Store conn.new) (λ s found. found ≡
-        record {
-          all = circle_reads.groups_joined org s.directory;
-          active = circle_reads.active_groups_joined org s.directory;
-        }) result }
-{
-    let mut tx = conn.transaction();
-    let found = read_groups_joined(&mut tx, alloc, org);
     tx.rollback();
     found
 }

@@ -12,7 +12,7 @@ use sqlite::{Alter, Connection, Error, Transaction, params};
 use std::alloc::Global;
 
 /// To whom an incident is addressed, in a transaction.
-fn read_recipients<S: Alter>(
+pub(crate) fn read_recipients<S: Alter>(
     tx: &mut Transaction<'_, S>,
     alloc: Global,
     incident: u32,

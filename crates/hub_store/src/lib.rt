@@ -8,7 +8,7 @@
 //! 2. `Rows`, `Items`, `Values` and `Pairs`: each element of a set as a row, and each line of a document; `Fit`: the limits
 //!    that every row keeps.
 //! 3. `Means`: which state the tables stand for, set by set; `Content`: what a connection has, and what an open after a
-//!    crash may find; `Opening` and `Failing`: why a store isn't opened; `Laws`: what is found of what a crash left.
+//!    crash may find; `Shelved`: what the shelf has, by its connection and what it keeps; `Opening` and `Failing`: why a store isn't opened; `Laws`: what is found of what a crash left.
 //!
 //! The rooms, in the way of the data:
 //!
@@ -19,8 +19,8 @@
 //! - `statement` and `query`: a text that is prepared and run, and asked in a transaction; `any_row`, `ask_pairs`,
 //!   `read_pairs`: the queries that several of these ask;
 //! - `find_person`, `find_numbered`, `find_number`, `find_naming`, `find_document`, `find_excerpt`, `find_met`, `find_gates`, `find_recipients`,
-//!   `find_permissions`, `find_case`, `find_groups`, `find_communities`, `find_arranged`, `list_entries`, `has_row`,
-//!   `has_pair`, `common_numbers`: what is looked up;
+//!   `find_permissions`, `find_case`, `find_sharing`, `find_groups`, `find_communities`, `find_arranged`, `find_reader`, `find_ties`,
+//!   `list_entries`, `has_row`, `has_pair`, `common_numbers`: what is looked up; `kept_reader`: what of it is kept;
 //! - `feed_rows`: the lines of an incident, fed to the pass of an excerpt as they come; `probe_rows`: to a search, until it is sure;
 //! - `counts`, `count_incidents`, `directory_facts`: what the facts of a request want;
 //! - `directory_edits`, `put_naming`, `put_lines`, `incident_edits` and `apply`: the edits, each by its statements, in one
@@ -53,7 +53,10 @@ mod find_number;
 mod find_numbered;
 mod find_permissions;
 mod find_person;
+mod find_reader;
 mod find_recipients;
+mod find_sharing;
+mod find_ties;
 mod from_row;
 mod has_pair;
 mod has_row;
@@ -61,6 +64,7 @@ mod incident_edits;
 mod incident_rows;
 mod item_rows;
 mod joined_rows;
+mod kept_reader;
 pub mod laws;
 mod list_entries;
 mod migrate;

@@ -1,6 +1,6 @@
 //! The shelf over a connection.
 
-ghost use Rattle.std.specs.Prelude.{◌≡◌, ◌≢◌, ◌<◌, ◌↔◌, Option, Some, false, IfOk, IfErr, IsTrue, OnOk};
+ghost use Rattle.std.specs.Prelude.{◌≡◌, ◌≢◌, ◌<◌, ◌↔◌, Option, Some, None, false, IfOk, IfErr, IsTrue, OnOk};
 ghost use Rattle.hub_core.specs.Shelves.{last_count};
 ghost use Rattle.hub_store.specs.Tables.{no_schema};
 ghost use Rattle.hub_store.specs.Opening.{opened_as};
@@ -12,7 +12,7 @@ mod shelf;
 use crate::create::make_store;
 use crate::failures::fault_of;
 use crate::version::{NEWEST, version};
-use hub_core::ShelfFault;
+use hub_core::{Reader, ShelfFault};
 use sqlite::{Alter, Connection};
 use sqlite_schema::schema::Schema;
 use std::alloc::Global;
@@ -31,23 +31,23 @@ pub enum OpenFault {
 }
 
 /// The hub's tables in a connection that is in no transaction between two calls. Contracts see the connection, and how often
-/// the store has failed.
+/// the store has failed, and what is kept.
 #[derive(Drop)]
 pub struct SqlShelf<S: Alter> {
     alloc: Global,
     conn: Connection<S>,
     failures: u64,
+    /// What the reader that was asked for last has of its own, until an edit.
+    kept: Option<Reader>,
 }
 
 impl<S: Alter> Model for SqlShelf<S> {
     ghost use Rattle.std.specs.Prelude.{◌≡◌, false};
-    ghost use Rattle.hub_store.specs.Shelved.{Shelved, shelved_code};
+    ghost use Rattle.hub_store.specs.Shelved.{Shelved};
 
     ghost Value = { Shelved S };
 
-    ghost coded = { shelved_code S.code };
-
-    ghost view = { λ shelf. record { conn = shelf.conn; failures = shelf.failures } };
+    ghost view = { λ shelf. record { conn = shelf.conn; failures = shelf.failures; kept = shelf.kept } };
 
     ghost invariant = { λ shelf. shelf.conn.in_transaction ≡ false };
 }
@@ -81,11 +81,13 @@ impl<S: Alter> SqlShelf<S> {
         requires { conn.in_transaction ≡ false }
         ensures same { result.conn ≡ conn }
         ensures begun { result.failures ≡ 0 }
+        ensures unkept { result.kept ≡ None }
     {
         SqlShelf {
             alloc,
             conn,
             failures: 0,
+            kept: None,
         }
     }
 
@@ -111,6 +113,7 @@ impl<S: Alter> SqlShelf<S> {
         ensures made { IfOk result (λ shelf.
             HasCleanDisk (state S.Store shelf.conn) → Has (state S.Store shelf.conn) empty) }
         ensures begun { IfOk result (λ shelf. shelf.failures ≡ 0) }
+        ensures unkept { IfOk result (λ shelf. shelf.kept ≡ None) }
         ensures taken { (state S.Store conn).now.schema ≢ no_schema →
             result ≡ Err (ShelfFault.Failed, conn) }
         ensures cause { (state S.Store conn).now.schema ≡ no_schema →
@@ -153,6 +156,7 @@ impl<S: Alter> SqlShelf<S> {
         requires { conn.in_transaction ≡ false }
         ensures opened { IfOk result (λ shelf.
             IsOpened (state S.Store conn) (state S.Store shelf.conn) shelf.failures) }
+        ensures unkept { IfOk result (λ shelf. shelf.kept ≡ None) }
         ensures refused { IfErr result (λ e.
             IsRefused (state S.Store conn) (state S.Store e.1) e.0) }
         ensures idle { IfErr result (λ e. e.1.in_transaction ≡ false) }
@@ -176,6 +180,7 @@ impl<S: Alter> SqlShelf<S> {
             MayLeave (state S.Store self.new.conn) left ↔ MayLeave
             (state S.Store self.old.conn) left }
         ensures failures { self.new.failures ≡ self.old.failures }
+        ensures kept { self.new.kept ≡ self.old.kept }
     {
         let limit = if steps == 0 { None } else { Some(steps) };
         self.conn.set_step_limit(limit);
@@ -190,6 +195,7 @@ impl<S: Alter> SqlShelf<S> {
             alloc: _,
             conn,
             failures: _,
+            kept: _,
         } = self;
         conn
     }

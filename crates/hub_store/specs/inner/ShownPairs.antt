@@ -1,6 +1,7 @@
 -- What the rows of the directory's queries show.
 use Rattle.std.specs.Prelude.{◌≡◌, ◌<◌, ◌==◌, ℕ, pos, Bool, List, [], ◌∷◌, ◌++◌, map, Option, option_map}
 use Rattle.std.specs.List.{list_any, filter_map}
+use Rattle.std.specs.Option.{option_map_or}
 use Rattle.sqlite_value.specs.declared.value.Value.TheVariants.{Int, Text}
 use Rattle.sqlite_value.specs.Order.{Row, column}
 use Rattle.sqlite_trees.specs.Tree.{IsAscending}
@@ -11,6 +12,7 @@ use Rattle.circle.specs.Directory.{Directory}
 use Rattle.circle.specs.Reads.{group_of, memberships_in_groups}
 use Rattle.hub_core.specs.Reads.{joined}
 use Rattle.hub_core.specs.declared.reply.JoinedGroup.{JoinedGroup}
+use Rattle.hub_core.specs.declared.look_ups.Ties.{Ties}
 use Rattle.hub_store.specs.Values.{flag}
 use Rattle.hub_store.specs.Rows.{handling_number}
 use Rattle.hub_store.specs.Pairs.{Pair}
@@ -59,3 +61,20 @@ group_if_any d j = option_map (joined_group j) (group_of j.group d)
 abbrev pub groups_in : ℕ → Directory → List JoinedGroup
 groups_in org d =
     filter_map (λ (m : GroupMember). option_map (joined m) (group_of m.group d)) (memberships_in_groups org d)
+
+-- one of these communities is connected with one of those
+abbrev pub are_linked : List ℕ → List ℕ → Directory → Bool
+are_linked own others d = list_any (λ n. list_any (is_one_of others) (linked_with n d)) own
+
+-- the community that is named is one of these; where none is named, whether they share one
+abbrev pub is_peer : List ℕ → Option ℕ → Bool → Bool
+is_peer own named shares = option_map_or (is_one_of own) named shares
+
+-- how an organisation in these communities stands to a source in those
+abbrev pub ties_between : List ℕ → List ℕ → Option ℕ → Bool → Option Handling → Ties
+ties_between own others named connected arrangement = record {
+  community = list_any (is_one_of others) own;
+  peer = is_peer own named (list_any (is_one_of others) own);
+  connected = connected;
+  arrangement = arrangement;
+}

@@ -1,35 +1,64 @@
 //! What the tables look up for standings and facts.
 
 ghost use Rattle.std.specs.Prelude.{◌<◌};
+ghost use Rattle.hub_core.specs.Shelves.{last_count};
 
 use super::SqlShelf;
 use crate::count_incidents::incident_count;
 use crate::directory_facts::find_circle_facts;
 use crate::failures::count_failure;
-use crate::find_arranged::{arranged, orgs_whose_client};
-use crate::find_communities::{are_connected, communities_of, has_membership, share_community};
+use crate::find_communities::has_membership;
 use crate::find_document::find_document;
 use crate::find_gates::find_gates;
-use crate::find_groups::{groups_joined, has_group_member};
+use crate::find_groups::has_group_member;
 use crate::find_naming::find_naming;
 use crate::find_number::number_of;
 use crate::find_numbered::{has_community, has_org, has_person, person_of};
 use crate::find_permissions::find_permissions;
+use crate::find_reader::find_reader;
 use crate::find_recipients::find_recipients;
+use crate::find_sharing::find_sharing;
+use crate::find_ties::find_ties;
+use crate::kept_reader::{communities_kept, copy_of, kept_copy, kept_of};
 use circle::command::{CircleCommand, CircleFacts};
-use circle::directory::{Handling, Person};
+use circle::directory::Person;
 use circle::text::Text;
-use hub_core::{GroupsJoined, LookUps, Naming, Recipients, ShelfFault};
+use hub_core::{LookUps, Naming, Reader, Recipients, Shared, ShelfFault, Ties};
 use iodef_tree::Document;
 use policy::{Gates, Permissions};
 use sqlite::Alter;
 
+impl<S: Alter> SqlShelf<S> {
+    ghost use Rattle.std.specs.Prelude.{◌≡◌};
+    ghost use Rattle.sqlite.specs.Held.{state};
+    ghost use Rattle.sqlite_trees.specs.View.{doubt};
+    ghost use Rattle.hub_core.specs.Reads as spec;
+    ghost use Rattle.hub_core.specs.Shelves.{Reads};
+    ghost use Rattle.hub_store.specs.Content.{MayLeave};
+    ghost use Rattle.hub_store.specs.Shelved.{ShelfHas};
+
+    /// Reads what a reader has of its own, and keeps it in the place of what is kept.
+    fn read_reader(&mut self, person: u32) -> Result<Option<Reader>, ShelfFault>
+        requires { self.old.failures < last_count }
+        ensures { Reads (λ shelf s. ShelfHas S.Store shelf s)
+            (λ shelf. doubt (state S.Store shelf.conn).is_clean) (λ shelf. shelf.failures)
+            (λ shelf left. MayLeave (state S.Store shelf.conn) left) self.old self.new (λ s found.
+            found ≡ spec.reader_of person s) result }
+    {
+        let found = find_reader(&mut self.conn, self.alloc, person);
+        let found = count_failure(&mut self.failures, found)?;
+        self.kept = kept_copy(self.alloc, &found)?;
+        Ok(found)
+    }
+}
+
 impl<S: Alter> LookUps for SqlShelf<S> {
     ghost use Rattle.sqlite_trees.specs.View.{doubt};
     ghost use Rattle.sqlite.specs.Held.{state};
-    ghost use Rattle.hub_store.specs.Content.{Has, MayLeave};
+    ghost use Rattle.hub_store.specs.Content.{MayLeave};
+    ghost use Rattle.hub_store.specs.Shelved.{ShelfHas};
 
-    ghost has = { λ shelf s. Has (state S.Store shelf.conn) s };
+    ghost has = { λ shelf s. ShelfHas S.Store shelf s };
 
     ghost doubts = { λ shelf. doubt (state S.Store shelf.conn).is_clean };
 
@@ -37,7 +66,7 @@ impl<S: Alter> LookUps for SqlShelf<S> {
 
     ghost may_remain = { λ shelf left. MayLeave (state S.Store shelf.conn) left };
 
-    ghost sound = { λ shelf s has. has.sound };
+    ghost sound = { λ shelf s has. has.0.sound };
 
     fn has_ended(&self) -> bool {
         self.failures == u64::MAX
@@ -89,39 +118,24 @@ impl<S: Alter> LookUps for SqlShelf<S> {
         count_failure(&mut self.failures, found)
     }
 
-    fn groups_joined(&mut self, org: u32) -> Result<GroupsJoined, ShelfFault> {
+    fn reader_of(&mut self, person: u32) -> Result<Option<Reader>, ShelfFault> {
         self.may_ask()?;
-        let found = groups_joined(&mut self.conn, self.alloc, org);
+        match kept_of(&self.kept, person) {
+            Some(reader) => Ok(Some(copy_of(self.alloc, reader)?)),
+            None => self.read_reader(person),
+        }
+    }
+
+    fn ties_of(&mut self, org: u32, source: u32, named: Option<u32>) -> Result<Ties, ShelfFault> {
+        self.may_ask()?;
+        let own = communities_kept(&self.kept, org);
+        let found = find_ties(&mut self.conn, self.alloc, own, org, source, named);
         count_failure(&mut self.failures, found)
     }
 
-    fn communities_of(&mut self, org: u32) -> Result<Vec<u32>, ShelfFault> {
+    fn sharing_of(&mut self, incident: u32) -> Result<Option<Shared>, ShelfFault> {
         self.may_ask()?;
-        let found = communities_of(&mut self.conn, self.alloc, org);
-        count_failure(&mut self.failures, found)
-    }
-
-    fn share_community(&mut self, org: u32, other: u32) -> Result<bool, ShelfFault> {
-        self.may_ask()?;
-        let found = share_community(&mut self.conn, self.alloc, org, other);
-        count_failure(&mut self.failures, found)
-    }
-
-    fn are_connected(&mut self, org: u32, other: u32) -> Result<bool, ShelfFault> {
-        self.may_ask()?;
-        let found = are_connected(&mut self.conn, self.alloc, org, other);
-        count_failure(&mut self.failures, found)
-    }
-
-    fn arranged(&mut self, source: u32, org: u32) -> Result<Option<Handling>, ShelfFault> {
-        self.may_ask()?;
-        let found = arranged(&mut self.conn, self.alloc, source, org);
-        count_failure(&mut self.failures, found)
-    }
-
-    fn orgs_whose_client(&mut self, client: u32) -> Result<Vec<u32>, ShelfFault> {
-        self.may_ask()?;
-        let found = orgs_whose_client(&mut self.conn, self.alloc, client);
+        let found = find_sharing(&mut self.conn, self.alloc, incident);
         count_failure(&mut self.failures, found)
     }
 

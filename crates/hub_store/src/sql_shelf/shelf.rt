@@ -24,9 +24,10 @@ use sqlite::Alter;
 impl<S: Alter> Shelf for SqlShelf<S> {
     ghost use Rattle.sqlite_trees.specs.View.{doubt};
     ghost use Rattle.sqlite.specs.Held.{state};
-    ghost use Rattle.hub_store.specs.Content.{Has, MayLeave};
+    ghost use Rattle.hub_store.specs.Content.{MayLeave};
+    ghost use Rattle.hub_store.specs.Shelved.{ShelfHas};
 
-    ghost has = { λ shelf s. Has (state S.Store shelf.conn) s };
+    ghost has = { λ shelf s. ShelfHas S.Store shelf s };
 
     ghost doubts = { λ shelf. doubt (state S.Store shelf.conn).is_clean };
 
@@ -107,6 +108,8 @@ impl<S: Alter> Shelf for SqlShelf<S> {
 
     fn apply(&mut self, edits: &[Edit]) -> Result<(), ShelfFault> {
         self.may_ask()?;
+        // Before the edits, so that nothing is kept that no longer stands, whatever comes of them.
+        self.kept = None;
         let made = apply(&mut self.conn, self.alloc, edits);
         count_failure(&mut self.failures, made)
     }

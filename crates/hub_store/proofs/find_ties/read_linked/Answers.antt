@@ -6,7 +6,7 @@ use Rattle.hub_store.specs.inner.ShownPairs.{AreRising, is_one_of, linked_with}
 use Rattle.hub_store.specs.declared.pair_kind.PairKind.TheVariants as kind
 use Rattle.hub_store.proofs.Reading.{read_then, read_gives}
 use Rattle.hub_store.proofs.Stepping.{found_above, found_below}
-use Rattle.hub_store.proofs.find_communities.read_linked.Goals as goal
+use Rattle.hub_store.proofs.find_ties.read_linked.Goals as goal
 
 pub returns-then-have_common-clause-read : goal.returns-then-have_common-clause-read
 returns-then-have_common-clause-read g c =

@@ -1,0 +1,18 @@
+use Rattle.std.proofs.Common.{◌≡◌, Ok}
+use Rattle.circle.specs.Reads.{communities_of, arranged}
+use Rattle.hub_core.specs.Reads.{ties_of}
+use Rattle.hub_store.specs.inner.ShownPairs.{are_linked}
+use Rattle.hub_store.proofs.Reading.{read_then, read_gives}
+use Rattle.hub_store.proofs.Ties.{ties_are}
+use Rattle.hub_store.proofs.find_ties.read_ties_of.Goals as goal
+
+pub returns-clause-read : goal.returns-clause-read
+returns-clause-read g c =
+    let org = c.args.org in
+    let source = c.args.source in
+    let own = c.args.own.now in
+    let others = c.in_ok-others.others in
+    let arrangement = c.in_ok-arrangement.arrangement in
+    read_gives _ _ _ (λ s found. own ≡ communities_of org s.directory → found ≡ ties_of org source c.args.named s) arrangement c.ties_with.result
+    (read_then _ _ _ (λ s found. (found.communities.items ≡ communities_of source s.directory) × (found.connected ≡ are_linked own (communities_of source s.directory) s.directory)) (λ s found. found ≡ arranged source org s.directory) others (Ok arrangement) c.in_ok-others.ensures.read c.in_ok-arrangement.ensures.read)
+    (λ s sound both is. ties_are org source own others.communities.items s is both.0.0 c.args.named others.connected arrangement c.ties_with.result sound.directory both.0.1 both.1 c.ties_with.ensures)
