@@ -11,6 +11,7 @@ pub mod Going
 pub mod Entering
 pub mod Filling
 pub mod Alike
+pub mod PrintedOrder
 pub mod Needles
 pub mod Searching
 pub mod Promised

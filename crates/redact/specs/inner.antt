@@ -7,3 +7,4 @@ pub mod Search
 pub mod Seeking
 pub mod Ties
 pub mod Tokens
+pub mod Weights

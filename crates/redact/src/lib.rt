@@ -7,7 +7,7 @@
 //!
 //! - `given`: [`excerpt`]; `kept`: [`Excerpt`];
 //! - `pass`: the one pass down, for a `reader`, by its `trail`; `attributes`: a label put in;
-//! - `note`: what is withheld, as it is noted; `sorted_withheld`: the same in order;
+//! - `note`: what is withheld, as it is noted; `order`: which of two places comes first; `sorted_withheld`: all notes in order;
 //! - `search`: [`finds`] and [`is_listed`]; `want`: [`meets`], one or the other by a [`Want`];
 //! - `rows`: [`RowPass`], an excerpt by lines that come one at a time: `marks`, whether their markings are accepted; `sieve`,
 //!   those of them that matter, by the `way` to each and the gates that are `refusing` there (`permitting`, the permissions); `fed`, all of them, for the
@@ -25,6 +25,7 @@ mod kept;
 pub mod laws;
 mod marks;
 mod note;
+mod order;
 mod pass;
 mod permitting;
 mod probe;

@@ -1,19 +1,21 @@
 //! What is withheld, as a pass notes it on its way.
 
-ghost use Rattle.std.specs.Prelude.{◌≡◌, IfOk, OnOk, string_bytes};
-ghost use Rattle.iodef_tree.specs.Pointer.{pointer_text};
-ghost use Rattle.iodef_tree.specs.Text.{same_path};
+ghost use Rattle.std.specs.Prelude.{◌≡◌, IfOk, OnOk};
+ghost use Rattle.std.proofs.Common.{rules};
+ghost use Rattle.std.specs.Cmp.Rules.{comparing};
 ghost use Rattle.redact.specs.inner.Tokens.{path_of};
-ghost use Rattle.redact.specs.Withheld.{has_rule, with_rule};
+ghost use Rattle.redact.specs.Withheld.{has_rule, with_rule, withheld_cmp};
 
-use crate::trail::{Token, are_same, path_at, print};
+use crate::order::compare;
+use crate::trail::{Token, path_at};
 use iodef_tree::Path;
 use policy::Rule;
 use std::alloc::{AllocError, Global};
+use std::cmp::Ordering;
 use std::marker::Model;
 
 /// A place of the excerpt and the rule by which something is withheld there, as contracts see it. A path is made only of
-/// what is listed.
+/// what is listed. Notes are in order by the bytes of the place's JSON pointer and then of the rule's name.
 #[derive(Drop)]
 pub struct Note<'a> {
     place: Vec<Token<'a>>,
@@ -37,24 +39,12 @@ impl<'a> Note<'a> {
         Ok(Note { place, rule })
     }
 
-    pub fn rule(&self) -> Rule
-        ensures { result ≡ self.now.1 }
+    /// Compares the places, and then the rules. Takes no memory.
+    fn compare(&self, other: &Note<'_>) -> Ordering
+        ensures { result ≡ withheld_cmp self.now other.now }
     {
-        self.rule
-    }
-
-    /// The place as a JSON pointer.
-    pub fn print_place(&self, alloc: Global) -> Result<String, AllocError>
-        ensures { IfOk result (λ s. string_bytes s ≡ pointer_text self.now.0) }
-    {
-        print(alloc, self.place.as_slice())
-    }
-
-    /// Whether both are noted at one place.
-    pub fn is_beside(&self, other: &Note<'_>) -> bool
-        ensures { result ≡ same_path self.now.0 other.now.0 }
-    {
-        are_same(self.place.as_slice(), other.place.as_slice())
+        let places = compare(self.place.as_slice(), other.place.as_slice());
+        places.then(self.rule.name().cmp(other.rule.name()))
     }
 
     pub fn into_pair(self, alloc: Global) -> Result<(Path, Rule), AllocError>
@@ -62,6 +52,55 @@ impl<'a> Note<'a> {
     {
         let place = path_at(alloc, self.place.as_slice())?;
         Ok((place, self.rule))
+    }
+}
+
+impl<'a> PartialEq for Note<'a> {
+    ghost use Rattle.std.specs.Cmp.{partial_equiv_from_equiv};
+    ghost use Rattle.redact.specs.Withheld.{same_withheld};
+
+    ghost eq = { same_withheld };
+
+    ghost laws = { partial_equiv_from_equiv (Prim.search (comparing, rules)) };
+
+    fn eq(&self, other: &Note<'a>) -> bool {
+        self.compare(other).is_eq()
+    }
+}
+
+impl<'a> Eq for Note<'a> {
+    ghost laws = { Prim.search (comparing, rules) };
+}
+
+impl<'a> Ord for Note<'a> {
+    ghost use Rattle.redact.specs.Withheld.{withheld_cmp};
+    ghost use Rattle.redact.specs.inner.Ties.{withheld-ties};
+
+    ghost cmp = { withheld_cmp };
+
+    ghost total = { Prim.search (comparing, rules) };
+
+    ghost matches_partial_cmp = { Prim.search (comparing, rules) };
+
+    ghost matches_eq = { withheld-ties };
+
+    fn cmp(&self, other: &Note<'a>) -> Ordering {
+        self.compare(other)
+    }
+}
+
+impl<'a> PartialOrd for Note<'a> {
+    ghost use Rattle.std.specs.Cmp.{partial_order_from_own_ties};
+    ghost use Rattle.std.specs.Ordering.{as_partial_cmp};
+    ghost use Rattle.redact.specs.Withheld.{withheld_cmp};
+    ghost use Rattle.redact.specs.inner.Ties.{withheld-ties};
+
+    ghost partial_cmp = { as_partial_cmp withheld_cmp };
+
+    ghost laws = { partial_order_from_own_ties (Prim.search (comparing, rules)) withheld-ties };
+
+    fn partial_cmp(&self, other: &Note<'a>) -> Option<Ordering> {
+        Some(self.compare(other))
     }
 }
 

@@ -1,13 +1,12 @@
 //! Where a pass is: the tokens of a path, without memory of their own.
 
-ghost use Rattle.std.specs.Prelude.{◌≡◌, ◌++◌, ◌∷◌, [], IfOk, OnOk, string_bytes, decimal};
-ghost use Rattle.std.specs.Str.{byte, bytes_eq};
-ghost use Rattle.iodef_tree.specs.Pointer.{escaped, pointer_text};
+ghost use Rattle.std.specs.Prelude.{◌≡◌, ◌∷◌, [], IfOk, decimal};
+ghost use Rattle.std.specs.Str.{bytes_eq};
 ghost use Rattle.iodef_tree.specs.Text.{same_path};
 ghost use Rattle.marking.specs.Marks.{incident_path};
 ghost use Rattle.redact.specs.inner.Tokens.{token_of, path_of};
 
-use iodef_tree::{Path, Text, push_token};
+use iodef_tree::{Path, Text};
 use policy::Spot;
 use std::alloc::{AllocError, Global};
 
@@ -16,6 +15,18 @@ use std::alloc::{AllocError, Global};
 pub enum Token<'a> {
     Name(&'a str),
     Index(usize),
+}
+
+impl<'a> Token<'a> {
+    /// Its text: of a place in an array the digits, which are written into the buffer.
+    pub fn as_str(self, digits: &'a mut itoa::Buffer) -> &'a str
+        ensures { result.now ≡ token_of self.entry }
+    {
+        match self {
+            Token::Name(name) => name,
+            Token::Index(place) => digits.format(place),
+        }
+    }
 }
 
 /// Where a pass is, by its tokens.
@@ -65,21 +76,8 @@ fn leads_to_incident(first: &str, second: Token<'_>) -> bool
     }
 }
 
-/// Whether both are the same path.
-pub fn are_same(one: &[Token<'_>], other: &[Token<'_>]) -> bool
-    ensures { result ≡ same_path (path_of one.now) (path_of other.now) }
-{
-    match (one.split_first(), other.split_first()) {
-        (None, None) => true,
-        (Some((first, behind)), Some((second, rest))) => {
-            is_same(*first, *second) && are_same(behind, rest)
-        }
-        _ => false,
-    }
-}
-
 /// Whether both are written alike.
-fn is_same(one: Token<'_>, other: Token<'_>) -> bool
+pub fn is_same(one: Token<'_>, other: Token<'_>) -> bool
     ensures { result ≡ bytes_eq (token_of one.entry) (token_of other.entry) }
 {
     match (one, other) {
@@ -96,31 +94,6 @@ pub(crate) fn is_place(name: &str, place: usize) -> bool
 {
     let mut digits = itoa::Buffer::new();
     name == digits.format(place)
-}
-
-/// Writes the token behind a pointer.
-fn push(pointer: &mut String, token: Token<'_>) -> Result<(), AllocError>
-    ensures { OnOk result (string_bytes pointer.new ≡
-        string_bytes pointer.old ++ byte "/" ∷ escaped (token_of token.entry)) }
-{
-    match token {
-        Token::Name(name) => push_token(pointer, name),
-        Token::Index(place) => {
-            let mut digits = itoa::Buffer::new();
-            push_token(pointer, digits.format(place))
-        }
-    }
-}
-
-/// The path with these tokens as a JSON pointer (RFC 6901 section 3).
-pub fn print(alloc: Global, trail: &[Token<'_>]) -> Result<String, AllocError>
-    ensures { IfOk result (λ s. string_bytes s ≡ pointer_text (path_of trail.now)) }
-{
-    let mut pointer = String::new(alloc);
-    for token in trail {
-        push(&mut pointer, *token)?;
-    }
-    Ok(pointer)
 }
 
 fn text_of(alloc: Global, token: Token<'_>) -> Result<Text, AllocError>

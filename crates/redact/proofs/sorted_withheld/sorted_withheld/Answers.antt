@@ -1,4 +1,4 @@
-use Rattle.std.proofs.Common.{◌≡◌, List, ◌∙◌, subst, IsPermutation}
+use Rattle.std.proofs.Common.{◌≡◌, List, ◌∙◌}
 use Rattle.std.proofs.lemmas.Result.{IfOk-weaker}
 use Rattle.std.specs.List.{dedup}
 use Rattle.std.proofs.lemmas.List.Filters.{dedup_is}
@@ -13,5 +13,5 @@ returns c =
     let ys : List Withheld = c.sort.new.self.items in
     let zs : List Withheld = c.dedup.new.self.items in
     let once : zs ≡ dedup same_withheld ys = dedup_is same_withheld ys zs c.dedup.ensures.filtered in
-    let moved : IsPermutation xs ys = subst (λ ws. IsPermutation ws ys) c.in_ok-entries.ensures c.in_ok-sort.ensures.permutation in
-    IfOk-weaker c.pairs_of.result _ _ (λ v is. is ∙ once ∙ listed_in_order xs (dedup same_withheld ys) (lists-dedup xs ys moved c.in_ok-sort.ensures.sorted)) c.pairs_of.ensures
+    let listed = listed_in_order xs (dedup same_withheld ys) (lists-dedup xs ys c.in_ok-sort.ensures.permutation c.in_ok-sort.ensures.sorted) in
+    IfOk-weaker c.pairs_of.result _ _ (λ v is. is ∙ once ∙ listed) c.pairs_of.ensures
