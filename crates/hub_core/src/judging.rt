@@ -6,7 +6,7 @@ ghost use Rattle.hub_core.specs.State.{State};
 ghost use Rattle.hub_core.specs.Edits as spec;
 ghost use Rattle.hub_core.specs.Sound.{IsSound};
 ghost use Rattle.hub_core.specs.Facts.{facts_of};
-ghost use Rattle.hub_core.specs.Refusals.{refusal_of, state_after};
+ghost use Rattle.hub_core.specs.Refusals.{refusal_of, refusal_by, state_after};
 ghost use Rattle.hub_core.specs.Aftermath.{edits_by};
 ghost use Rattle.hub_core.specs.inner.Asked.{Asks};
 
@@ -38,9 +38,10 @@ use search::search;
 use std::alloc::Global;
 use stop::Stop;
 
-/// The refusal of the actor's request, or the edits that make its whole change: for each state of which these are the
-/// facts, and where a number is given for each sound one. A request that reads and isn't refused changes nothing; whether
-/// a person may see an incident isn't asked here. Want of memory is `F2`, which may stand in place of any answer.
+/// The refusal of the actor's request, or the edits that make its whole change: by the facts handed in, whatever they are;
+/// for each state of which these are the facts, and where a number is given for each sound one. A request that reads and
+/// isn't refused changes nothing; whether a person may see an incident isn't asked here. Want of memory is `F2`, which may
+/// stand in place of any answer.
 pub fn judge(
     alloc: Global,
     actor: &Person,
@@ -51,10 +52,27 @@ pub fn judge(
         IfErr result (RefusedAs (refusal_of s actor.now request.now)) }
     ensures allowed { (s : State) → facts.now ≡ facts_of s actor.now request.now →
         OnOk result (refusal_of s actor.now request.now ≡ None) }
+    ensures refused_by { IfErr result (RefusedAs (refusal_by facts.now actor.now request.now)) }
+    ensures allowed_by { OnOk result (refusal_by facts.now actor.now request.now ≡ None) }
     ensures edits { facts.now.circle.count < 4294967295 →
         IfOk result (λ edits. edits.items ≡ edits_by facts.now actor.now request.now) }
     ensures made { (s : State) → IsSound s → facts.now ≡ facts_of s actor.now request.now →
         IfOk result (λ edits. spec.with_edits edits.items s ≡ state_after s actor.now request.now) }
+{
+    judge_by_facts(alloc, actor, facts, request)
+}
+
+/// The refusal, or the edits, by the facts alone, whatever the state.
+fn judge_by_facts(
+    alloc: Global,
+    actor: &Person,
+    facts: &Facts,
+    request: &Request,
+) -> Result<Vec<Edit>, Refusal>
+    ensures refused { IfErr result (RefusedAs (refusal_by facts.now actor.now request.now)) }
+    ensures allowed { OnOk result (refusal_by facts.now actor.now request.now ≡ None) }
+    ensures edits { IfOk result (λ edits.
+        edits.items ≡ edits_by facts.now actor.now request.now) }
 {
     match request {
         Request::Circle(command) => judge_command(alloc, actor, &facts.circle, command),

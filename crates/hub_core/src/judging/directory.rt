@@ -1,12 +1,8 @@
 //! Commands of the directory: circle judges them.
 ghost use Rattle.std.specs.Prelude.{◌≡◌, ◌+◌, IfErr, IfOk, None, OnOk, map};
 ghost use Rattle.circle.specs.Outcomes.{RefusedAs};
-ghost use Rattle.circle.specs.Aftermath.{edit_of, rows_of, state_after};
-ghost use Rattle.circle.specs.Facts.{facts_of};
-ghost use Rattle.circle.specs.Refusals.{refusal_of};
-ghost use Rattle.circle.specs.Sound.{IsSound};
-ghost use Rattle.hub_core.specs.State.{State};
-ghost use Rattle.hub_core.specs.Edits.{with_edits};
+ghost use Rattle.circle.specs.Aftermath.{edit_of, rows_of};
+ghost use Rattle.circle.specs.Judgement.{refusal_by};
 ghost use Rattle.hub_core.specs.declared.edit.Edit.TheVariants as edit;
 
 use crate::edit::Edit;
@@ -23,18 +19,11 @@ pub fn judge_command(
     facts: &CircleFacts,
     command: &CircleCommand,
 ) -> Result<Vec<Edit>, Refusal>
-    ensures refused { (s : State) → facts.now ≡ facts_of s.directory actor.now command.now →
-        IfErr result (RefusedAs (refusal_of s.directory actor.now command.now)) }
-    ensures allowed { (s : State) → facts.now ≡ facts_of s.directory actor.now command.now →
-        OnOk result (refusal_of s.directory actor.now command.now ≡ None) }
+    ensures refused { IfErr result (RefusedAs (refusal_by facts.now actor.now command.now)) }
+    ensures allowed { OnOk result (refusal_by facts.now actor.now command.now ≡ None) }
     ensures edits { IfOk result (λ edits.
         edits.items ≡
         map edit.Directory (rows_of (edit_of (facts.now.count + 1) actor.now command.now))) }
-    ensures made { (s : State) → IsSound s.directory →
-        facts.now ≡ facts_of s.directory actor.now command.now →
-        IfOk result (λ edits.
-        with_edits edits.items s ≡
-        record s { directory = state_after s.directory actor.now command.now }) }
 {
     let change = judge(alloc, actor, facts, command)?;
     match rows(alloc, change) {
