@@ -19,7 +19,8 @@ use Rattle.hub_core.specs.State.{State}
 use Rattle.hub_core.specs.Aftermath.{next_incident, put_gate, put_incident, put_incidents, edits_of, edits_by}
 use Rattle.hub_core.specs.Facts.{facts_of}
 use Rattle.hub_core.specs.Requests.{looked_up, incident_facts, known_of, incident_asked}
-use Rattle.hub_core.specs.Refusals.{refusal_of, next_revision}
+use Rattle.hub_core.specs.Refusals.{refusal_of}
+use Rattle.hub_core.specs.Judgement.{next_revision}
 use Rattle.hub_core.specs.Laws.{is_reading}
 use Rattle.hub_core.specs.Sound.{IsSound}
 use Rattle.hub_core.proofs.Agrees.{same_edits}

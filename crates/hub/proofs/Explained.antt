@@ -18,10 +18,13 @@ use Rattle.hub_core.specs.State.{State, incident_of}
 use Rattle.hub_core.specs.Documents.{Lines}
 use Rattle.hub_core.specs.Reads.{case_for}
 use Rattle.hub_core.specs.Requests.{incident_facts}
-use Rattle.hub_core.specs.Refusals.{is_class_at, grounds, refusal_of}
+use Rattle.hub_core.specs.Facts.{facts_of}
+use Rattle.hub_core.specs.Refusals.{refusal_of}
+use Rattle.hub_core.specs.Judgement.{grounds_by, is_class_at}
 use Rattle.hub_core.specs.declared.state.Incident.{Incident}
 use Rattle.hub_core.specs.declared.request.Explain.{Explain}
 use Rattle.hub_core.specs.declared.request.Request.TheVariants as ask
+use Rattle.hub_core.proofs.Agrees.{agrees}
 use Rattle.hub.specs.Told.{standing_at, trace_of}
 use Rattle.hub.specs.inner.Explaining.{standing_between, text_at, text_of}
 
@@ -42,7 +45,7 @@ there s now (Some p) (Some i) (Some path) wanted posted active class = told_of (
 pub explained : (s : State) (now : ℤ) (a : Person) (r : Explain) → refusal_of s a (ask.Explain r) ≡ None →
     text_of s now (person_of r.person s.directory) (incident_of r.incident s) (pointer_tokens r.path) ≡ Some (trace_of s now (person_of r.person s.directory) (incident_of r.incident s) (pointer_tokens r.path))
 explained s now a r fine =
-    let p = passed (grounds s a (ask.Explain r)) fine in
+    let p = passed (grounds_by (facts_of s a (ask.Explain r)) a (ask.Explain r)) (agrees s a (ask.Explain r) ∙ fine) in
     there s now (person_of r.person s.directory) (incident_of r.incident s) (pointer_tokens r.path) p.1.0 p.1.1.0 p.1.1.1.0 p.1.1.1.1.0
 
 -- ---- what is read

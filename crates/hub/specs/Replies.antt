@@ -14,7 +14,8 @@ use Rattle.hub_core.specs.Documents.{Lines, documents_in}
 use Rattle.hub_core.specs.State.{State, incident_of}
 use Rattle.hub_core.specs.Aftermath.{next_incident}
 use Rattle.hub_core.specs.Requests.{known_of}
-use Rattle.hub_core.specs.Refusals.{refusal_of, next_revision}
+use Rattle.hub_core.specs.Refusals.{refusal_of}
+use Rattle.hub_core.specs.Judgement.{next_revision}
 use Rattle.hub_core.specs.Reads.{person_by_key, entry_of, incidents_above, groups_of}
 use Rattle.hub_core.specs.declared.state.Incident.{Incident}
 use Rattle.hub_core.specs.declared.reply.Entry.{Entry}

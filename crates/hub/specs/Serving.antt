@@ -5,7 +5,8 @@ use Rattle.circle.specs.declared.directory.Person.{Person}
 use Rattle.circle.specs.declared.command.CircleCommand.TheVariants.{AddOrg, AddPerson, AddCommunity, NewGroup}
 use Rattle.circle.specs.declared.command.RowEdit.TheVariants.{PutOrg, PutAccount, PutCommunity, PutGroup}
 use Rattle.hub_core.specs.State.{State}
-use Rattle.hub_core.specs.Refusals.{refusal_of, next_revision}
+use Rattle.hub_core.specs.Refusals.{refusal_of}
+use Rattle.hub_core.specs.Judgement.{next_revision}
 use Rattle.hub_core.specs.Laws.{is_reading}
 use Rattle.hub_core.specs.declared.edit.Edit.{Edit}
 use Rattle.hub_core.specs.declared.edit.Edit.TheVariants.{Directory, PutIncident}

@@ -4,7 +4,7 @@ ghost use Rattle.circle.specs.Sound.{IsOrg};
 ghost use Rattle.hub_core.specs.State.{State};
 ghost use Rattle.hub_core.specs.Sound.{IsSound};
 ghost use Rattle.hub_core.specs.Refusals.{state_after};
-ghost use Rattle.hub_core.specs.Refusals as spec;
+ghost use Rattle.hub_core.specs.Judgement as spec;
 ghost use Rattle.hub_core.specs.Laws.{is_reading};
 ghost use Rattle.hub_core.specs.Shelves.{KeepsContent};
 ghost use Rattle.hub.specs.Serving.{IsCounted, IsDoneAsDue, due_to, gives_numbers, is_made, is_made_by, made_reply, number_put, numbers_put};

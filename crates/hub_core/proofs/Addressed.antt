@@ -1,5 +1,5 @@
 -- A recipient more or less leaves a sound state.
-use Rattle.std.proofs.Common.{◌≡◌, ◌≤◌, ◌==◌, not, List, None, filter, subst}
+use Rattle.std.proofs.Common.{◌≡◌, ◌≤◌, ◌==◌, not, List, None, filter, subst, ◌∙◌}
 use Rattle.std.proofs.lemmas.Bool.{ltb-false, not-false}
 use Rattle.circle.specs.Ordered.{put_by}
 use Rattle.circle.specs.declared.directory.Person.{Person}
@@ -7,9 +7,10 @@ use Rattle.circle.proofs.Judged.{passed}
 use Rattle.circle.proofs.Keeping.{each_put, each_left, each_weaker, pairs_left, order_put, none_of}
 use Rattle.hub_core.specs.declared.TheConstants.{RECIPIENT_LIMIT}
 use Rattle.hub_core.specs.Aftermath.{changed}
-use Rattle.hub_core.specs.Refusals.{grounds, refusal_of}
+use Rattle.hub_core.specs.Refusals.{refusal_of}
+use Rattle.hub_core.specs.Judgement.{grounds_by}
 use Rattle.hub_core.specs.Requests.{is_target}
-use Rattle.hub_core.specs.Facts.{recipients_then}
+use Rattle.hub_core.specs.Facts.{facts_of, recipients_then}
 use Rattle.hub_core.specs.Sound.{IsSound, SoundRecipients}
 use Rattle.hub_core.specs.State.{State, recipient_cmp, recipients_of, is_recipient_being}
 use Rattle.hub_core.specs.declared.request.Request.TheVariants as ask
@@ -17,6 +18,7 @@ use Rattle.hub_core.specs.declared.request.Address.{Address}
 use Rattle.hub_core.specs.declared.request.Unaddress.{Unaddress}
 use Rattle.hub_core.specs.declared.state.Recipient.{Recipient}
 use Rattle.hub_core.specs.Orders.{recipient_total}
+use Rattle.hub_core.proofs.Agrees.{agrees}
 use Rattle.hub_core.proofs.Keys.{apart_recipient}
 use Rattle.hub_core.proofs.Named.{own, is_incident, counted_is, target_is}
 use Rattle.hub_core.proofs.Limits.{limit_put}
@@ -29,7 +31,7 @@ pub address_kept : (s : State) (a : Person) (r : Address) → IsSound s → refu
 address_kept s a r h fine =
     let n = r.incident in
     let target = r.target in
-    let p = passed (grounds s a (ask.Address r)) fine in
+    let p = passed (grounds_by (facts_of s a (ask.Address r)) a (ask.Address r)) (agrees s a (ask.Address r) ∙ fine) in
     let row : Recipient = record { incident = n; target = target } in
     let it = own s a n p.1.0 in
     let few : recipients_then s a (ask.Address r) ≤ RECIPIENT_LIMIT = ltb-false RECIPIENT_LIMIT _ p.1.1.1.1.0 in

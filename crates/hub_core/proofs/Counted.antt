@@ -103,7 +103,7 @@ permission_among_until n p grantee until s =
     (λ x. sym (and_and (x.incident == n) (is_permission_of p grantee x.permission) (same_end x.permission.until until)))
 
 -- at the path that a text is the pointer of
-at_same : (f g : Tokens → Bool) (path : Bytes) → ((p : Tokens) → f p ≡ g p) → at_pointer f path ≡ at_pointer g path
+pub at_same : (f g : Tokens → Bool) (path : Bytes) → ((p : Tokens) → f p ≡ g p) → at_pointer f path ≡ at_pointer g path
 at_same f g path same = split (pointer_tokens path)
   where
     split : (o : Option Tokens) → option_map_or f o false ≡ option_map_or g o false

@@ -15,9 +15,10 @@ use Rattle.hub_core.specs.declared.TheConstants.{PERMISSION_LIMIT}
 use Rattle.hub_core.specs.Aftermath.{changed, put_permission}
 use Rattle.hub_core.specs.Documents.{at_pointer, is_class_in}
 use Rattle.hub_core.specs.Edits.{with_edits}
-use Rattle.hub_core.specs.Refusals.{grounds, refusal_of, is_class_at}
+use Rattle.hub_core.specs.Refusals.{refusal_of}
+use Rattle.hub_core.specs.Judgement.{grounds_by, is_class_at}
 use Rattle.hub_core.specs.Requests.{is_grantee}
-use Rattle.hub_core.specs.Facts.{permissions_then}
+use Rattle.hub_core.specs.Facts.{facts_of, permissions_then}
 use Rattle.hub_core.specs.Sound.{IsSound, SoundPermissions, IsGrantee}
 use Rattle.hub_core.specs.State.{State, permission_cmp, permission_with, permissions_of, is_permission_being, is_class_of, incident_of}
 use Rattle.hub_core.specs.declared.edit.Edit.TheVariants.{TakePermission}
@@ -27,6 +28,7 @@ use Rattle.hub_core.specs.declared.request.Withdraw.{Withdraw}
 use Rattle.hub_core.specs.declared.state.Permission.{Permission}
 use Rattle.hub_core.specs.declared.state.PermissionKey.{PermissionKey}
 use Rattle.hub_core.specs.Orders.{permission_total}
+use Rattle.hub_core.proofs.Agrees.{agrees}
 use Rattle.hub_core.proofs.Keys.{apart_permission}
 use Rattle.hub_core.proofs.Named.{own, counted_is, grantee_is, of_document}
 use Rattle.hub_core.proofs.Limits.{limit_put}
@@ -63,7 +65,7 @@ pub grant_kept : (s : State) (a : Person) (r : Grant) → IsSound s → refusal_
 grant_kept s a r h fine =
     let n = r.incident in
     let path = r.path in
-    let p = passed (grounds s a (ask.Grant r)) fine in
+    let p = passed (grounds_by (facts_of s a (ask.Grant r)) a (ask.Grant r)) (agrees s a (ask.Grant r) ∙ fine) in
     let it = own s a n p.1.1.0 in
     let few : permissions_then s a (ask.Grant r) ≤ PERMISSION_LIMIT = ltb-false PERMISSION_LIMIT _ p.1.1.1.1.1.1.1.0 in
     granted_at s n (pointer_tokens path) r.grantee r.until h (sym (of_document is_class_in (incident_of n s) path) ∙ not-false (at_pointer (is_class_at (option_map (λ (i : Incident). i.document) (incident_of n s))) path) p.1.1.1.1.0)

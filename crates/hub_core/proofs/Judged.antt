@@ -8,7 +8,8 @@ use Rattle.circle.specs.declared.refusal.Refusal.{Refusal}
 use Rattle.hub_core.specs.State.{State}
 use Rattle.hub_core.specs.Edits.{with_edits}
 use Rattle.hub_core.specs.Facts.{facts_of}
-use Rattle.hub_core.specs.Refusals.{refusal_of, state_after, grounds_by, refusal_by}
+use Rattle.hub_core.specs.Refusals.{refusal_of, state_after}
+use Rattle.hub_core.specs.Judgement.{grounds_by, refusal_by}
 use Rattle.hub_core.specs.Aftermath.{edits_by}
 use Rattle.hub_core.specs.Sound.{IsSound}
 use Rattle.hub_core.specs.inner.Asked.{Asks}

@@ -16,12 +16,14 @@ use Rattle.hub_core.specs.declared.TheConstants.{INCIDENT_LIMIT, REVISION_LIMIT,
 use Rattle.hub_core.specs.Aftermath.{changed, next_incident, put_gates, put_next, put_revision}
 use Rattle.hub_core.specs.Documents.{Lines, documents_in, ident_of}
 use Rattle.hub_core.specs.Edits.{with_edits}
-use Rattle.hub_core.specs.Refusals.{grounds, refusal_of, are_bad_gates, has_several, has_some, stand_at_classes, keep_ident, next_revision, unless_refused}
+use Rattle.hub_core.specs.Refusals.{refusal_of, are_bad_gates, has_several, has_some, stand_at_classes, unless_refused}
+use Rattle.hub_core.specs.Judgement.{grounds_by, keep_ident, next_revision}
 use Rattle.hub_core.specs.Requests.{incident_facts, has_joined_all}
-use Rattle.hub_core.specs.Facts.{number_of}
+use Rattle.hub_core.specs.Facts.{facts_of, number_of}
 use Rattle.hub_core.specs.Laws.{StaysSound}
 use Rattle.hub_core.specs.Sound.{IsSound}
 use Rattle.hub_core.specs.State.{State, incident_number, incident_of}
+use Rattle.hub_core.specs.declared.edit.Edit.{Edit}
 use Rattle.hub_core.specs.declared.edit.Edit.TheVariants.{TakePolicy}
 use Rattle.hub_core.specs.declared.request.Request.{Request}
 use Rattle.hub_core.specs.declared.request.Request.TheVariants as ask
@@ -29,8 +31,10 @@ use Rattle.hub_core.specs.declared.request.Distribution.{Distribution}
 use Rattle.hub_core.specs.declared.request.Post.{Post}
 use Rattle.hub_core.specs.declared.request.Replace.{Replace}
 use Rattle.hub_core.specs.declared.state.Incident.{Incident}
+use Rattle.hub_core.proofs.Agrees.{agrees}
 use Rattle.hub_core.proofs.Addressed.{address_kept, unaddress_kept}
 use Rattle.hub_core.proofs.Bodies.{body_read, fit, not_posted, wishes}
+use Rattle.hub_core.proofs.ByRows.{replace_edits}
 use Rattle.hub_core.proofs.Exchanged.{with_document, exchanged}
 use Rattle.hub_core.proofs.Gated.{after_gates}
 use Rattle.hub_core.proofs.Granted.{grant_kept, withdraw_kept}
@@ -44,7 +48,7 @@ post_kept : (s : State) (a : Person) (r : Post) → IsSound s → IsOrg s.direct
 post_kept s a r h known fine =
     let d = r.distribution in
     let docs = documents_in r.document in
-    let p = passed (grounds s a (ask.Post r)) fine in
+    let p = passed (grounds_by (facts_of s a (ask.Post r)) a (ask.Post r)) (agrees s a (ask.Post r) ∙ fine) in
     let next : next_incident s ≡ length s.incidents + 1 = next_number incident_number INCIDENT_LIMIT s.incidents h.incidents.numbered in
     let room : length s.incidents + length docs ≤ INCIDENT_LIMIT = ltb-false INCIDENT_LIMIT _ p.1.1.1.1.1.1.1.1.1.1.0 in
     let classes : stand_at_classes d.gates docs ≡ true = not-false (stand_at_classes d.gates docs) p.1.1.1.1.1.1.1.1.0 in
@@ -78,7 +82,7 @@ replace_kept s a r h fine =
     let n = r.incident in
     let d = r.distribution in
     let docs = documents_in r.document in
-    let p = passed (grounds s a (ask.Replace r)) fine in
+    let p = passed (grounds_by (facts_of s a (ask.Replace r)) a (ask.Replace r)) (agrees s a (ask.Replace r) ∙ fine) in
     let it = own s a n p.1.1.1.1.1.1.1.0 in
     let i = it.incident in
     let found : incident_of n s ≡ Some i = it.found in
@@ -93,7 +97,7 @@ replace_kept s a r h fine =
     let same : list_all (λ (doc : Lines). bytes_eq (ident_of doc) i.naming.ident) (one.0 ∷ []) ≡ true =
     ap (list_all (λ (doc : Lines). bytes_eq (ident_of doc) i.naming.ident)) (sym one.1) ∙ (sym (ap (λ o. keep_ident (option_map incident_facts o) docs) found) ∙ kept) in
     let ident : ident_of one.0 ≡ i.naming.ident = bytes_eq-true (ident_of one.0) i.naming.ident (all_each (λ (doc : Lines). bytes_eq (ident_of doc) i.naming.ident) (one.0 ∷ []) same).0 in
-    subst IsSound (sym (after_replace s i n d docs one.0 it.number found one.1))
+    subst IsSound (sym (ap (λ (edits : List Edit). with_edits edits s) (replace_edits s a r) ∙ after_replace s i n d docs one.0 it.number found one.1))
     (exchanged s i d one.0 h (subst (λ m. incident_of m s ≡ Some i) (sym it.number) found)
     (record { accepted = fits.accepted; named = fits.named ∙ ap Some ident; room = subst (λ o. next_revision (option_map incident_facts o) ≤ REVISION_LIMIT) found room })
     fits.classes (wishes s a d h.directory p.1.1.1.0 own few))

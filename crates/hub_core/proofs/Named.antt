@@ -12,7 +12,7 @@ use Rattle.circle.specs.Sound as circle
 use Rattle.circle.specs.Sound.{Each, IsCommunity, IsGroup}
 use Rattle.circle.specs.declared.directory.Person.{Person}
 use Rattle.circle.proofs.Keeping.{found_then, each_weaker}
-use Rattle.hub_core.specs.Refusals.{is_own}
+use Rattle.hub_core.specs.Judgement.{is_own}
 use Rattle.hub_core.specs.Requests.{incident_facts, is_own_community, is_own_group, are_own_groups, has_joined_all, is_target, is_grantee}
 use Rattle.hub_core.specs.Facts.{counted}
 use Rattle.hub_core.specs.Documents.{Lines, at_pointer}

@@ -3,6 +3,7 @@ use Rattle.std.proofs.Common.{◌≡◌, ◌≢◌, ℕ, ◌+◌, ◌≤◌, ◌
 use Rattle.std.specs.Prelude.{option_map}
 use Rattle.hub_core.specs.declared.facts.IncidentFacts.{IncidentFacts}
 use Rattle.hub_core.specs.Requests.{incident_facts}
+use Rattle.hub_core.specs.Facts.{facts_of}
 use Rattle.std.proofs.lemmas.Bool.{and_left, eqb-true, false_from_ne_true, ne_eqb, not-true, not_from_false}
 use Rattle.std.specs.List.{flat_map}
 use Rattle.std.specs.Option.{option_map_or}
@@ -23,7 +24,8 @@ use Rattle.hub_core.specs.Documents.{Lines, documents_in, made_at}
 use Rattle.hub_core.specs.Edits.{with_edits, edited}
 use Rattle.hub_core.specs.Laws.{OthersStay, ReplacesTakePermissionsOut}
 use Rattle.hub_core.specs.Others.{LeavesIncident, HasPermissionsTakenOut, recipients_at, permissions_at}
-use Rattle.hub_core.specs.Refusals.{grounds, refusal_of, is_own, unless_refused}
+use Rattle.hub_core.specs.Refusals.{refusal_of, unless_refused}
+use Rattle.hub_core.specs.Judgement.{grounds_by, is_own}
 use Rattle.hub_core.specs.Sound.{IsSound}
 use Rattle.hub_core.specs.State.{State, incident_number, incident_of, gate_cmp, recipient_cmp, permission_cmp, is_gate_at, is_recipient_being, is_permission_being, same_target, same_grantee}
 use Rattle.hub_core.specs.declared.edit.Edit.{Edit}
@@ -36,6 +38,8 @@ use Rattle.hub_core.specs.declared.state.Gate.{Gate}
 use Rattle.hub_core.specs.declared.state.Incident.{Incident}
 use Rattle.hub_core.specs.declared.state.Permission.{Permission}
 use Rattle.hub_core.specs.declared.state.Recipient.{Recipient}
+use Rattle.hub_core.proofs.Agrees.{agrees}
+use Rattle.hub_core.proofs.ByRows.{replace_edits}
 use Rattle.hub_core.proofs.Gated.{after_append}
 use Rattle.hub_core.proofs.Named.{own, is_incident}
 use Rattle.hub_core.proofs.Keeping.{not_both, turned, find_put, find_left, filter_put, filter_left, filter_none}
@@ -143,27 +147,28 @@ all_spared s a (ask.Post r) i h found other fine =
     incidents_spare i.naming.number a.org (next_incident s) r.distribution (documents_in r.document) (omega (arith, next, low))
 all_spared s a (ask.Replace r) i h found other fine =
     let n = r.incident in
-    let p = passed (grounds s a (ask.Replace r)) fine in
+    let p = passed (grounds_by (facts_of s a (ask.Replace r)) a (ask.Replace r)) (agrees s a (ask.Replace r) ∙ fine) in
     let apart : (n == i.naming.number) ≡ false = not_theirs s a n i found other p.1.1.1.1.1.1.1.0 in
     let docs = documents_in r.document in
     let k = option_map incident_facts (incident_of n s) in
-    each_append (Spares i.naming.number) (put_next n k r.distribution.community docs) (TakePolicy n ∷ put_gates n r.distribution)
+    subst (Each (Spares i.naming.number)) (sym (replace_edits s a r))
+    (each_append (Spares i.naming.number) (put_next n k r.distribution.community docs) (TakePolicy n ∷ put_gates n r.distribution)
     (next_spares i.naming.number n k r.distribution.community docs apart)
-    (apart, gates_spare i.naming.number n r.distribution apart)
+    (apart, gates_spare i.naming.number n r.distribution apart))
 all_spared s a (ask.Redistribute r) i h found other fine =
-    let p = passed (grounds s a (ask.Redistribute r)) fine in
+    let p = passed (grounds_by (facts_of s a (ask.Redistribute r)) a (ask.Redistribute r)) (agrees s a (ask.Redistribute r) ∙ fine) in
     let apart : (r.incident == i.naming.number) ≡ false = not_theirs s a r.incident i found other p.1.1.1.1.0 in
     each_made (Spares i.naming.number) (λ p. TakeGate (record { incident = r.incident; path = p }) ∷ put_gate r.incident r.level r.group p) (pointer_tokens r.path) (λ q. (apart, (apart, tt)))
 all_spared s a (ask.Address r) i h found other fine =
-    let p = passed (grounds s a (ask.Address r)) fine in (not_theirs s a r.incident i found other p.1.0, tt)
+    let p = passed (grounds_by (facts_of s a (ask.Address r)) a (ask.Address r)) (agrees s a (ask.Address r) ∙ fine) in (not_theirs s a r.incident i found other p.1.0, tt)
 all_spared s a (ask.Unaddress r) i h found other fine =
-    let p = passed (grounds s a (ask.Unaddress r)) fine in (not_theirs s a r.incident i found other p.1.0, tt)
+    let p = passed (grounds_by (facts_of s a (ask.Unaddress r)) a (ask.Unaddress r)) (agrees s a (ask.Unaddress r) ∙ fine) in (not_theirs s a r.incident i found other p.1.0, tt)
 all_spared s a (ask.Grant r) i h found other fine =
-    let p = passed (grounds s a (ask.Grant r)) fine in
+    let p = passed (grounds_by (facts_of s a (ask.Grant r)) a (ask.Grant r)) (agrees s a (ask.Grant r) ∙ fine) in
     let apart : (r.incident == i.naming.number) ≡ false = not_theirs s a r.incident i found other p.1.1.0 in
     each_made (Spares i.naming.number) (λ p. put_permission (record { incident = r.incident; path = p; grantee = r.grantee }) r.until) (pointer_tokens r.path) (λ q. (apart, (apart, tt)))
 all_spared s a (ask.Withdraw r) i h found other fine =
-    let p = passed (grounds s a (ask.Withdraw r)) fine in
+    let p = passed (grounds_by (facts_of s a (ask.Withdraw r)) a (ask.Withdraw r)) (agrees s a (ask.Withdraw r) ∙ fine) in
     let apart : (r.incident == i.naming.number) ≡ false = not_theirs s a r.incident i found other p.1.1.0 in
     each_made (Spares i.naming.number) (λ p. TakePermission (record { incident = r.incident; path = p; grantee = r.grantee }) ∷ []) (pointer_tokens r.path) (λ q. (apart, tt))
 all_spared s a (ask.View n) i h found other fine = tt
@@ -234,4 +239,5 @@ replaced s n d k docs =
 pub replaces_take_permissions_out : ReplacesTakePermissionsOut
 replaces_take_permissions_out s a r fine =
     let n = r.incident in
-    subst (λ o. HasPermissionsTakenOut n s (unless_refused o s (changed s a (ask.Replace r)))) (sym fine) (replaced s n r.distribution (option_map incident_facts (incident_of n s)) (documents_in r.document))
+    subst (λ o. HasPermissionsTakenOut n s (unless_refused o s (changed s a (ask.Replace r)))) (sym fine)
+    (subst (λ (edits : List Edit). HasPermissionsTakenOut n s (with_edits edits s)) (sym (replace_edits s a r)) (replaced s n r.distribution (option_map incident_facts (incident_of n s)) (documents_in r.document)))

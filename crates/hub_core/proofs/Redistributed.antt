@@ -15,8 +15,9 @@ use Rattle.hub_core.specs.declared.TheConstants.{GATE_LIMIT}
 use Rattle.hub_core.specs.Aftermath.{changed, put_gate}
 use Rattle.hub_core.specs.Documents.{at_pointer, is_class_in}
 use Rattle.hub_core.specs.Edits.{with_edits}
-use Rattle.hub_core.specs.Refusals.{grounds, refusal_of, is_place_at}
-use Rattle.hub_core.specs.Facts.{gates_then}
+use Rattle.hub_core.specs.Refusals.{refusal_of}
+use Rattle.hub_core.specs.Judgement.{grounds_by, is_place_at}
+use Rattle.hub_core.specs.Facts.{facts_of, gates_then}
 use Rattle.hub_core.specs.Requests.{is_own_group}
 use Rattle.hub_core.specs.Sound.{IsSound, SoundGates, IsGroupIfAny}
 use Rattle.hub_core.specs.State.{State, gate_cmp, gate_key, gate_with, is_gate_at, is_place_of, root_gates, class_gates, incident_of}
@@ -26,6 +27,7 @@ use Rattle.hub_core.specs.declared.request.Request.TheVariants as ask
 use Rattle.hub_core.specs.declared.state.Gate.{Gate}
 use Rattle.hub_core.specs.declared.state.GateKey.{GateKey}
 use Rattle.hub_core.specs.Orders.{gate_total}
+use Rattle.hub_core.proofs.Agrees.{agrees}
 use Rattle.hub_core.proofs.Keys.{apart_gate}
 use Rattle.hub_core.proofs.Named.{own, counted_is, group_if_any, of_document}
 use Rattle.hub_core.proofs.Keeping.{never, each_passes, count_more, count_same, count_none, count_kept}
@@ -111,7 +113,7 @@ redistributed_at s n (Some p) level group h place known few =
 pub redistribute_kept : (s : State) (a : Person) (r : Redistribute) → IsSound s → refusal_of s a (ask.Redistribute r) ≡ None → IsSound (changed s a (ask.Redistribute r))
 redistribute_kept s a r h fine =
     let n = r.incident in
-    let p = passed (grounds s a (ask.Redistribute r)) fine in
+    let p = passed (grounds_by (facts_of s a (ask.Redistribute r)) a (ask.Redistribute r)) (agrees s a (ask.Redistribute r) ∙ fine) in
     let it = own s a n p.1.1.1.1.0 in
     let few : gates_then s a (ask.Redistribute r) ≤ GATE_LIMIT = ltb-false GATE_LIMIT _ p.1.1.1.1.1.1.1.1.1.0 in
     redistributed_at s n (pointer_tokens r.path) r.level r.group h (sym (of_document (λ doc p. is_root p || is_class_in doc p) (incident_of n s) r.path) ∙ not-false (at_pointer (is_place_at (option_map (λ (i : Incident). i.document) (incident_of n s))) r.path) p.1.1.1.1.1.1.0) (group_if_any s a r.group h.directory (not-false (is_own_group s a r.group) p.1.1.1.1.1.0))

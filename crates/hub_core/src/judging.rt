@@ -6,7 +6,8 @@ ghost use Rattle.hub_core.specs.State.{State};
 ghost use Rattle.hub_core.specs.Edits as spec;
 ghost use Rattle.hub_core.specs.Sound.{IsSound};
 ghost use Rattle.hub_core.specs.Facts.{facts_of};
-ghost use Rattle.hub_core.specs.Refusals.{refusal_of, refusal_by, state_after};
+ghost use Rattle.hub_core.specs.Refusals.{refusal_of, state_after};
+ghost use Rattle.hub_core.specs.Judgement.{refusal_by};
 ghost use Rattle.hub_core.specs.Aftermath.{edits_by};
 ghost use Rattle.hub_core.specs.inner.Asked.{Asks};
 

@@ -1,6 +1,6 @@
 //! Recipients, permissions and gates, one at a time.
 ghost use Rattle.std.specs.Prelude.{◌≡◌, [], ◌∷◌, IfOk};
-ghost use Rattle.hub_core.specs.Refusals.{grounds_by, is_class_at, is_place_at};
+ghost use Rattle.hub_core.specs.Judgement.{grounds_by, is_class_at, is_place_at};
 ghost use Rattle.hub_core.specs.Aftermath.{edits_by, put_permission};
 ghost use Rattle.hub_core.specs.inner.Asked.{Asks};
 ghost use Rattle.hub_core.specs.declared.request.Request.TheVariants as ask;

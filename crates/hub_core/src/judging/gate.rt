@@ -1,7 +1,7 @@
 //! The levels and the groups of gates (the MISP book's distribution levels).
 ghost use Rattle.std.specs.Prelude.{◌≡◌, IfOk};
 ghost use Rattle.iodef_tree.specs.Text as text;
-ghost use Rattle.hub_core.specs.Refusals.{root_gate};
+ghost use Rattle.hub_core.specs.Judgement.{root_gate};
 ghost use Rattle.hub_core.specs.Refusals as spec;
 ghost use Rattle.hub_core.specs.inner.Asked.{Asks};
 

@@ -3,7 +3,7 @@ ghost use Rattle.std.specs.Prelude.{◌≡◌, ◌+◌, ◌<◌, ◌≤◌, ◌^
 ghost use Rattle.hub_core.specs.Documents.{documents_in};
 ghost use Rattle.hub_core.specs.Aftermath.{edits_by};
 ghost use Rattle.hub_core.specs.Aftermath as spec;
-ghost use Rattle.hub_core.specs.Refusals.{grounds_by, post_arguments, post_facts};
+ghost use Rattle.hub_core.specs.Judgement.{grounds_by, post_arguments, post_facts};
 ghost use Rattle.hub_core.specs.inner.Asked.{Asks};
 ghost use Rattle.hub_core.specs.declared.request.Request.TheVariants as ask;
 

@@ -3,7 +3,7 @@ ghost use Rattle.std.specs.Prelude.{◌≡◌, ◌+◌, ◌≤◌, true, Some, l
 ghost use Rattle.std.specs.List.{list_all};
 ghost use Rattle.std.specs.Str.{bytes_eq};
 ghost use Rattle.hub_core.specs.Documents.{Lines, documents_in, ident_of};
-ghost use Rattle.hub_core.specs.Refusals.{grounds_by, replace_arguments, replace_facts};
+ghost use Rattle.hub_core.specs.Judgement.{grounds_by, replace_arguments, replace_facts};
 ghost use Rattle.hub_core.specs.Aftermath.{edits_by, put_revision};
 ghost use Rattle.hub_core.specs.inner.Asked.{Asks};
 ghost use Rattle.hub_core.specs.declared.request.Request.TheVariants as ask;

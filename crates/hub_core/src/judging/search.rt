@@ -1,6 +1,6 @@
 //! What may be wrong with a search.
 ghost use Rattle.std.specs.Prelude.{◌≡◌, IfOk};
-ghost use Rattle.hub_core.specs.Refusals.{grounds_by};
+ghost use Rattle.hub_core.specs.Judgement.{grounds_by};
 ghost use Rattle.hub_core.specs.Refusals as spec;
 ghost use Rattle.hub_core.specs.Aftermath.{edits_by};
 ghost use Rattle.hub_core.specs.inner.Asked.{Asks};

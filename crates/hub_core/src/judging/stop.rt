@@ -2,7 +2,8 @@
 ghost use Rattle.std.specs.Prelude.{◌≡◌, [], ◌∷◌, IfOk, option_map, decimal};
 ghost use Rattle.circle.specs.Refusals.{refuse, bad, unless_administrator};
 ghost use Rattle.iodef_tree.specs.Pointer.{pointer_tokens};
-ghost use Rattle.hub_core.specs.Refusals.{because, unless_poster, is_bad_pointer, unless_own};
+ghost use Rattle.hub_core.specs.Refusals.{because, unless_poster, is_bad_pointer};
+ghost use Rattle.hub_core.specs.Judgement.{unless_own};
 ghost use Rattle.hub_core.specs.Refusals as spec;
 ghost use Rattle.hub_core.specs.inner.Asked.{Asks};
 ghost use Rattle.hub_core.specs.declared.judging.stop.Stop.TheVariants.{NoMemory};

@@ -1,13 +1,16 @@
-use Rattle.std.proofs.Common.{◌≡◌, ◌∙◌, length, ◌+◌, ◌-◌, ◌^◌, true, sym, ap, subst}
+use Rattle.std.proofs.Common.{◌≡◌, List, ◌∙◌, length, ◌+◌, ◌-◌, ◌^◌, true, sym, ap, subst}
 use Rattle.std.specs.Prelude.{is_some, min}
 use Rattle.hub_core.specs.Documents.{documents_in}
 use Rattle.hub_core.specs.Requests.{incident_asked, known_of, looked_up}
 use Rattle.hub_core.specs.inner.Shared.{counts_in, sharing_asked}
-use Rattle.hub_core.specs.State.{permissions_of, recipients_of}
+use Rattle.hub_core.specs.Edits.{with_edits}
+use Rattle.hub_core.specs.State.{State, permissions_of, recipients_of}
+use Rattle.hub_core.specs.declared.edit.Edit.{Edit}
 use Rattle.hub_core.specs.declared.counts_then.Counts.{Counts}
 use Rattle.hub_core.specs.declared.request.Request.{Request}
 use Rattle.hub_core.specs.declared.request.Request.TheVariants as ask
 use Rattle.hub_core.specs.declared.sharing.Sharing.{Sharing}
+use Rattle.hub_core.proofs.ByRows.{replace_edits}
 use Rattle.hub_core.proofs.Bounded.{recipients_told_left, recipients_told_with}
 use Rattle.hub_core.proofs.Then.{counts_are, exchanged_permissions, exchanged_recipients, none_left}
 use Rattle.hub_core.proofs.counts_then.counts_there.Goals as goal
@@ -21,9 +24,10 @@ returns-in-Replace c = λ s sound is there actor.
     subst P (sym c.in-Replace.is)
     (λ same here.
     let e = c.standing_counts-counts.ensures s r.incident sound same in
+    let edits = ap (λ (es : List Edit). with_edits es s) (replace_edits s actor r) in
     counts_are counts _ _ _ _ here (c.capped.ensures ∙ ap (λ l. min (length l) 4294967295) c.as_slice.ensures)
-    (ap (λ (k : Counts). k.recipients) e ∙ ap (recipients_of r.incident) (sym (exchanged_recipients known (documents_in r.document) r.incident r.distribution s)))
-    (sym (ap (permissions_of r.incident) (exchanged_permissions known (documents_in r.document) r.incident r.distribution s) ∙ none_left r.incident s.permissions)))
+    (ap (λ (k : Counts). k.recipients) e ∙ ap (recipients_of r.incident) (sym (ap (λ (t : State). t.recipients) edits ∙ exchanged_recipients known (documents_in r.document) r.incident r.distribution s)))
+    (sym (ap (permissions_of r.incident) (ap (λ (t : State). t.permissions) edits ∙ exchanged_permissions known (documents_in r.document) r.incident r.distribution s) ∙ none_left r.incident s.permissions)))
     is there
 
 pub returns-in-Address : goal.returns-in-Address

@@ -1,6 +1,7 @@
 use Rattle.std.proofs.Common.{[], ◌∷◌, rules}
 use Rattle.hub_core.specs.Documents.{documents_in}
-use Rattle.hub_core.specs.Refusals.{unless_poster, root_gate, replace_arguments, replace_facts}
+use Rattle.hub_core.specs.Refusals.{unless_poster}
+use Rattle.hub_core.specs.Judgement.{root_gate, replace_arguments, replace_facts}
 use Rattle.hub_core.specs.inner.Asked.{Asks}
 use Rattle.hub_core.proofs.Asking.{fourth}
 use Rattle.hub_core.proofs.judging.replace.replace.Goals as goal
