@@ -4,6 +4,7 @@ ghost use Rattle.std.specs.Option.{option_copied};
 ghost use Rattle.hub_core.specs.State.{State, empty, incident_of, incident_named, incident_number};
 ghost use Rattle.hub_core.specs.Reads.{its_gates, its_permissions, its_recipients, entries_after};
 ghost use Rattle.hub_core.specs.Edits as spec;
+ghost use Rattle.hub_core.specs.Shelves.{HasCause};
 ghost use Rattle.hub_core.specs.Sound.{IsSound};
 
 use crate::change::changes_of;
@@ -207,7 +208,12 @@ impl Shelf for ListShelf {
         facts_by(self, alloc, actor, request)
     }
 
-    fn apply(&mut self, edits: &[Edit]) -> Result<(), ShelfFault> {
+    /// Makes all edits, or, where the memory doesn't suffice, none: whether or not the state with the edits made is sound.
+    fn apply(&mut self, edits: &[Edit]) -> Result<(), ShelfFault>
+        ensures made { OnOk result (self.new ≡ spec.with_edits edits.now self.old) }
+        ensures none { OnErr result (self.new ≡ self.old) }
+        ensures cause { HasCause 0 0 result }
+    {
         Ok(self.make(edits)?)
     }
 }
