@@ -11,6 +11,7 @@ pub mod Served
 pub mod Failures
 pub mod Runs
 pub mod Stopped
+pub mod OneMore
 pub mod ToldSame
 pub mod OtherUnseen
 pub mod OtherDocument

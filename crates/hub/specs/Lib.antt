@@ -4,6 +4,7 @@ pub mod Machine
 pub mod Faults
 pub mod Serving
 pub mod Stops
+pub mod OneByOne
 pub mod Laws
 pub mod Alike
 pub mod inner

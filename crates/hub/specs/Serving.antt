@@ -86,8 +86,9 @@ pub record IsDoneAsDue {D : Type 0} (has : D → State → Type 0) (may_remain :
   -- after a change that is answered as made a crash may leave what the request leaves, and nothing else
   pub durable : IfOk result (λ reply. IsTrue (is_made reply) →
       (left : Option State) → may_remain new left ↔ (left ≡ Some after))
-  -- a crash leaves what it could have left before, or what the request leaves
-  pub crash : (left : Option State) → may_remain new left → may_remain old left ⊎ (left ≡ Some after)
+  -- a crash leaves what it could have left before, or, where a change is due, what the request leaves
+  pub crash : (left : Option State) → may_remain new left →
+      may_remain old left ⊎ (IsTrue (is_made due) × (left ≡ Some after))
 
 -- failures and doubts grow, and Failed has its cause
 pub record IsCounted {D T : Type 0} (doubts failed : D → ℕ) (old new : D) (result : Result T ShelfFault) : Type 0 where

@@ -1,23 +1,33 @@
--- What a stop may leave behind a list of requests.
-use Rattle.std.specs.Prelude.{◌≡◌, ◌⊎◌, Bool, false, List, [], ◌∷◌, if◌then◌else◌}
-use Rattle.std.specs.List.{list_any}
+-- What a stop may leave behind a request, and behind a list of requests.
+use Rattle.std.specs.Prelude.{◌≡◌, ◌⊎◌, Bool, false, List, [], ◌∷◌, Option, Some, IsTrue, if◌then◌else◌}
 use Rattle.hub_core.specs.State.{State}
 use Rattle.hub_core.specs.declared.reply.Reply.{Reply}
-use Rattle.hub.specs.Machine.{Asked, IsGivenUp, state_left}
+use Rattle.hub.specs.Machine.{Asked, state_left}
+use Rattle.hub.specs.Replies.{reply_of}
 use Rattle.hub.specs.Serving.{is_made}
 
--- some reply tells of a change that was made
-abbrev pub any_made : List Reply → Bool
-any_made replies = list_any is_made replies
+-- A change is due: it is known who asks, nothing refuses the request, and it isn't one that only reads. It is made, or given up.
+abbrev pub is_change_due : State → Asked → Bool
+is_change_due s asked = is_made (reply_of s asked.0 asked.1 asked.2)
+
+-- what a request leaves by which a change is due
+abbrev pub IsDueChange : State → Asked → Option State → Type 0
+IsDueChange s asked left = IsTrue (is_change_due s asked) × (left ≡ Some (state_left s asked.1 asked.2))
+
+-- What a stop may leave behind a request, of what it could have left Before: that, unless the request is answered as a change
+-- that was made; or what the request leaves, where a change is due.
+abbrev pub MayBeLeftBy : (Option State → Type 0) → State → Asked → Reply → Option State → Type 0
+MayBeLeftBy Before s asked reply left = (Before left × (is_made reply ≡ false)) ⊎ IsDueChange s asked left
 
 -- the content after a request: what it leaves, if it is answered as a change that was made, and else the content that there was
 abbrev pub content_after : State → Asked → Reply → State
 content_after s asked reply = if is_made reply then state_left s asked.1 asked.2 else s
 
--- The content after all changes that were answered as made, with or without one that was given up since.
-abbrev pub MayBeLeft : State → List Asked → List Reply → State → Type 0
-MayBeLeft s [] [] left = left ≡ s
-MayBeLeft s (asked ∷ others) (reply ∷ replies) left = MayBeLeft (content_after s asked reply) others replies left
-    ⊎ (IsGivenUp reply × (any_made replies ≡ false) × (left ≡ state_left s asked.1 asked.2))
-MayBeLeft s [] (reply ∷ replies) left = ⊥
-MayBeLeft s (asked ∷ others) [] left = ⊥
+-- The same behind a list of requests: so the content after all changes that were answered as made, with or without one that was
+-- given up since; and what could have been left Before, where no change was answered as made.
+abbrev pub MayBeLeft : (Option State → Type 0) → State → List Asked → List Reply → Option State → Type 0
+MayBeLeft Before s [] [] left = Before left
+MayBeLeft Before s (asked ∷ others) (reply ∷ replies) left =
+    MayBeLeft (MayBeLeftBy Before s asked reply) (content_after s asked reply) others replies left
+MayBeLeft Before s [] (reply ∷ replies) left = ⊥
+MayBeLeft Before s (asked ∷ others) [] left = ⊥

@@ -1,5 +1,5 @@
 //! The hub over a shelf: one request, and a list of them.
-ghost use Rattle.std.specs.Prelude.{◌≡◌, ◌⊎◌, ◌≤◌, ◌↔◌, Option, Some, true, false, IsTrue, IfOk, IsSomeAnd, OnErr};
+ghost use Rattle.std.specs.Prelude.{◌≡◌, ◌⊎◌, ◌≤◌, ◌↔◌, Option, Some, true, false, IsTrue, IfOk, OnErr};
 ghost use Rattle.circle.specs.Outcomes.{bare};
 ghost use Rattle.circle.specs.declared.directory.Account.{Account};
 ghost use Rattle.circle.specs.declared.refusal.Code.TheVariants.{F1};
@@ -12,7 +12,8 @@ ghost use Rattle.hub.specs.Faults.{AreCounted, failures_told};
 ghost use Rattle.hub.specs.Machine.{IsGivenUp, IsRun, IsStep, state_left};
 ghost use Rattle.hub.specs.Replies.{reply_of};
 ghost use Rattle.hub.specs.Serving.{is_made};
-ghost use Rattle.hub.specs.Stops.{MayBeLeft, any_made};
+ghost use Rattle.hub.specs.OneByOne.{AreAnswers, IsOneAnswer};
+ghost use Rattle.hub.specs.Stops.{IsDueChange, MayBeLeft};
 ghost use Rattle.hub.specs.declared.key.Key.TheVariants.{Digest};
 
 use crate::fault::given_up;
@@ -53,8 +54,9 @@ impl<Sh: Shelf> Hub<Sh> {
     ///
     /// The reply is made before anything is changed, so `F2` means that nothing changed; so does `F1`, which is answered
     /// only where the shelf failed. If everything stops behind a change that is answered as made, what the request leaves
-    /// may be left, and nothing else, also nothing that stands for no sound state; otherwise what could have been left
-    /// before, or what the request leaves.
+    /// may be left, and nothing else, also nothing that stands for no sound state. Otherwise what could have been left before
+    /// may be left. Where a change was due and is given up, what the request would have left may be left, too. So a request that
+    /// reads, and one that is refused, add nothing.
     ///
     /// What isn't answered as a change that was made, as each refusal, leaves whatever content the shelf has.
     ///
@@ -76,7 +78,7 @@ impl<Sh: Shelf> Hub<Sh> {
             Sh.may_remain self.new left ↔ (left ≡ Some (state_left s key.now request.now)) }
         ensures crash { Sh.doubts self.new ≡ 0 → (s : State) → Sh.has self.old s → IsSound s →
             (left : Option State) → Sh.may_remain self.new left →
-            Sh.may_remain self.old left ⊎ (left ≡ Some (state_left s key.now request.now)) }
+            Sh.may_remain self.old left ⊎ IsDueChange s (now, key.now, request.now) left }
         ensures later { Sh.failed self.old ≤ Sh.failed self.new }
         ensures doubt { Sh.doubts self.old ≤ Sh.doubts self.new }
     {
@@ -87,34 +89,29 @@ impl<Sh: Shelf> Hub<Sh> {
     }
 
     fn step(&mut self, alloc: Global, asked: &(i64, Key, Request)) -> Reply
-        ensures step { Sh.doubts self.new ≡ 0 → (s : State) → Sh.has self.old s → IsSound s →
-            (left : State) × IsStep s asked.now result left × Sh.has self.new left }
-        ensures cause { Sh.doubts self.new ≡ 0 → (s : State) → Sh.has self.old s → IsSound s →
-            result ≡ Refused (bare F1) → HasFailed (Sh.failed self.old) (Sh.failed self.new) }
-        ensures durable { Sh.doubts self.new ≡ 0 → (s : State) → Sh.has self.old s → IsSound s →
-            IsTrue (is_made result) → (left : Option State) →
-            Sh.may_remain self.new left ↔ (left ≡ Some (state_left s asked.now.1 asked.now.2)) }
-        ensures crash { Sh.doubts self.new ≡ 0 → (s : State) → Sh.has self.old s → IsSound s →
-            (left : Option State) → Sh.may_remain self.new left →
-            Sh.may_remain self.old left ⊎ (left ≡ Some (state_left s asked.now.1 asked.now.2)) }
-        ensures later { Sh.failed self.old ≤ Sh.failed self.new }
-        ensures doubt { Sh.doubts self.old ≤ Sh.doubts self.new }
+        ensures { IsOneAnswer Sh.has Sh.doubts Sh.failed Sh.may_remain self.old asked.now result
+            self.new }
     {
         self.answer(alloc, asked.0, &asked.1, &asked.2)
     }
 
-    /// Answers a list of requests, one after another: a run, from whatever sound state the shelf has. `F1` is among the
-    /// replies at most as often as the shelf counted a failure meanwhile, unless that count stands at its last value. The
-    /// memory for the list of replies is taken first, so want of memory is told before the first request or never.
+    /// Answers a list of requests, one after another, each as [`Hub::answer`] does, from the shelf that the one before it left:
+    /// a run, from whatever sound state the shelf has. `F1` is the reply to a request only where the shelf counted a failure in
+    /// it. Among the replies it stands at most as often as the shelf counted one. Both hold unless that count stands at its
+    /// last value. The memory for the list of replies is taken first, so want of memory is told before the first request or
+    /// never.
     ///
     /// If everything stops behind the list, the content after all changes that are answered as made may be left, with or
-    /// without one that was given up since. What could have been left before, also what stands for no sound state, may be left
-    /// only where no change is answered as made.
+    /// without one that was due and was given up since. What could have been left before, also what stands for no sound state,
+    /// may be left only where no change is answered as made. Where no change was due, nothing else may be.
     pub fn run(
         &mut self,
         alloc: Global,
         asked: &[(i64, Key, Request)],
     ) -> Result<Vec<Reply>, AllocError>
+        ensures each { IfOk result (λ replies.
+            AreAnswers Sh.has Sh.doubts Sh.failed Sh.may_remain self.old asked.now replies.items
+            self.new) }
         ensures run { Sh.doubts self.new ≡ 0 → (s : State) → Sh.has self.old s → IsSound s →
             IfOk result (λ replies.
             (end : State) × IsRun s asked.now replies.items end × Sh.has self.new end) }
@@ -124,8 +121,7 @@ impl<Sh: Shelf> Hub<Sh> {
         ensures crash { Sh.doubts self.new ≡ 0 → (s : State) → Sh.has self.old s → IsSound s →
             IfOk result (λ replies.
             (left : Option State) → Sh.may_remain self.new left →
-            (Sh.may_remain self.old left × (any_made replies.items ≡ false)) ⊎
-            IsSomeAnd left (λ content. MayBeLeft s asked.now replies.items content)) }
+            MayBeLeft (Sh.may_remain self.old) s asked.now replies.items left) }
         ensures none { OnErr result (self.new ≡ self.old) }
         ensures later { Sh.failed self.old ≤ Sh.failed self.new }
         ensures doubt { Sh.doubts self.old ≤ Sh.doubts self.new }

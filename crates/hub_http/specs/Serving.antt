@@ -11,6 +11,7 @@ use Rattle.hub_core.specs.declared.reply.Reply.TheVariants.{Refused}
 use Rattle.hub_core.specs.Shelves.{HasFailed}
 use Rattle.hub.specs.Machine.{IsStep, state_left}
 use Rattle.hub.specs.Serving.{is_made}
+use Rattle.hub.specs.Stops.{IsDueChange}
 use Rattle.hub.specs.declared.key.Key.{Key}
 use Rattle.hub_http.specs.declared.wire_fault.WireFault.{WireFault}
 use Rattle.hub_http.specs.declared.wire_fault.WireFault.TheVariants as fault
@@ -58,9 +59,9 @@ pub record Steps {D : Type 0} (has : D → State → Type 0) (doubts failed : D 
   -- after a change that is answered as made a crash may leave what the request leaves, and nothing else
   pub durable : doubts new ≡ 0 → (s : State) → has old s → IsSound s → IsTrue (is_made reply) →
       (left : Option State) → may_remain new left ↔ (left ≡ Some (state_left s asked.0 asked.1))
-  -- a crash leaves what it could have left before, or what the request leaves
+  -- a crash leaves what it could have left before, or, where a change is due, what the request leaves
   pub crash : doubts new ≡ 0 → (s : State) → has old s → IsSound s → (left : Option State) →
-      may_remain new left → may_remain old left ⊎ (left ≡ Some (state_left s asked.0 asked.1))
+      may_remain new left → may_remain old left ⊎ IsDueChange s (now, asked.0, asked.1) left
 
 -- what was asked was answered with a reply, which is written or not; Does reply says that the hub answered so
 abbrev pub Replies : (Reply → Type 0) → Option (List ℕ) → Option (List ℕ) → Result Served ServeFault → Type 0

@@ -4,7 +4,7 @@ use Rattle.hub_core.specs.Edits.{with_edits}
 use Rattle.hub_core.specs.Sound.{IsSound}
 use Rattle.hub_core.specs.Refusals.{state_after}
 use Rattle.hub_core.proofs.Kept.{stays_sound}
-use Rattle.hub.specs.Serving.{made_reply}
+use Rattle.hub.specs.Serving.{due_to, is_made, made_reply}
 use Rattle.hub.proofs.Changing.{changed_reply}
 use Rattle.hub.proofs.change.change.Goals as goal
 
@@ -25,21 +25,22 @@ returns-in-Ok-apply-clause-step g c = λ clean s has sound org changes.
     let edits = c.as_slice-2.ensures.value in
     let done : with_edits c.as_slice-2.result.now s ≡ state_after s p r = ap (λ xs. with_edits xs s) edits ∙ same in
     let whole : IsSound (with_edits c.as_slice-2.result.now s) = subst IsSound (sym done) (stays_sound s p r sound org) in
+    let due : c.in_ok-reply.reply ≡ due_to s now p r =
+    changed_reply s now p r f es c.in_ok-reply.reply sound changes told judged.edits (judged.allowed s told) (λ fits. c.in_ok-reply.ensures.reply fits ∙ ap (made_reply f r) c.as_slice.ensures.value) in
     record {
-      settled = (
-        changed_reply s now p r f es c.in_ok-reply.reply sound changes told judged.edits (judged.allowed s told) (λ fits. c.in_ok-reply.ensures.reply fits ∙ ap (made_reply f r) c.as_slice.ensures.value),
-        subst (g.Sh.Shelf.has c.apply.new.self) done (made.made clean s here whole),
-      );
+      settled = (due, subst (g.Sh.Shelf.has c.apply.new.self) done (made.made clean s here whole));
       durable = λ is left.
           let both = made.durable clean s here whole left in
           (λ leaves. both.0 leaves ∙ ap Some done, λ same. both.1 (same ∙ sym (ap Some done)));
-      crash = λ left leaves. elim (made.crash clean s here whole left leaves) [ inl before ↦ inl (read.kept.crash mid left before) | inr is ↦ inr (is ∙ ap Some done) ];
+      crash = λ left leaves. elim (made.crash clean s here whole left leaves) [ inl before ↦ inl (read.kept.crash mid left before) | inr is ↦ inr (sym (ap is_made due) ∙ c.in_ok-reply.ensures.made, is ∙ ap Some done) ];
     }
 
 pub returns-clause-step : goal.returns-clause-step
 returns-clause-step g c = λ clean s has sound org changes.
+    let now = c.args.asker.now in
     let p = c.args.asker.person.now in
     let r = c.args.request.now in
+    let f = c.in_ok-facts.facts in
     let es = c.in-Ok.edits.items in
     let read = c.in_ok-facts.ensures in
     let judged = c.in-Ok.ensures in
@@ -50,10 +51,12 @@ returns-clause-step g c = λ clean s has sound org changes.
     let same : with_edits es s ≡ state_after s p r = judged.made s sound told in
     let done : with_edits c.as_slice-2.result.now s ≡ state_after s p r = ap (λ xs. with_edits xs s) c.as_slice-2.ensures.value ∙ same in
     let whole : IsSound (with_edits c.as_slice-2.result.now s) = subst IsSound (sym done) (stays_sound s p r sound org) in
+    let due : c.in_ok-reply.reply ≡ due_to s now p r =
+    changed_reply s now p r f es c.in_ok-reply.reply sound changes told judged.edits (judged.allowed s told) (λ fits. c.in_ok-reply.ensures.reply fits ∙ ap (made_reply f r) c.as_slice.ensures.value) in
     record {
       settled = made.none clean s here;
       durable = tt;
-      crash = λ left leaves. elim (made.crash clean s here whole left leaves) [ inl before ↦ inl (read.kept.crash mid left before) | inr is ↦ inr (is ∙ ap Some done) ];
+      crash = λ left leaves. elim (made.crash clean s here whole left leaves) [ inl before ↦ inl (read.kept.crash mid left before) | inr is ↦ inr (sym (ap is_made due) ∙ c.in_ok-reply.ensures.made, is ∙ ap Some done) ];
     }
 
 pub returns-in-Ok-apply-clause-kept : goal.returns-in-Ok-apply-clause-kept

@@ -63,3 +63,16 @@ returns-clause-kept g c = λ unmade.
       | in-Err w ↦
           subst P c.self.view_is (w.in-Err.ensures.kept refl)
     ]
+
+pub returns-clause-crash : goal.returns-clause-crash
+returns-clause-crash g c = λ clean s has sound left leaves.
+    let P : g.row.Sh.Denot → Type 0 = λ shelf. g.Sh.Shelf.has shelf s in
+    let B : g.row.Sh.Denot → Type 0 = λ shelf. g.Sh.Shelf.may_remain shelf left in
+    let moment = ap (λ (t : ℤ). is_made (reply_of s t c.args.key.now c.args.request.now)) (to_z-of_z w64 c.args.now c.ranges.now) in
+    let here : g.Sh.Shelf.has c.self.inside.shelf s = subst P (sym c.self.view_is) has in
+    elim c.match-answer_key.branch [
+      | in-Ok w ↦
+          elim ((w.in-Ok.ensures.step clean s here sound).crash left leaves) [ inl before ↦ inl (subst B c.self.view_is before) | inr due ↦ inr (sym moment ∙ due.0, due.1) ]
+      | in-Err w ↦
+          elim ((w.in-Err.ensures.step clean s here sound).crash left leaves) [ inl before ↦ inl (subst B c.self.view_is before) | inr due ↦ inr (sym moment ∙ due.0, due.1) ]
+    ]

@@ -1,11 +1,11 @@
-use Rattle.std.proofs.Common.{◌≡◌, ◌⊎◌, ◌≤◌, false, Option, take, length, vec_len}
-use Rattle.std.specs.Option.{IsSomeAnd}
+use Rattle.std.proofs.Common.{◌≡◌, ◌≤◌, Option, take, length, vec_len}
 use Rattle.std.specs.Vec.{vec_capacity}
 use Rattle.hub_core.specs.State.{State}
 use Rattle.hub_core.specs.Sound.{IsSound}
 use Rattle.hub.specs.Faults.{AreCounted, failures_told}
 use Rattle.hub.specs.Machine.{IsRun}
-use Rattle.hub.specs.Stops.{MayBeLeft, any_made}
+use Rattle.hub.specs.OneByOne.{AreAnswers}
+use Rattle.hub.specs.Stops.{MayBeLeft}
 use Rattle.hub.proofs.hub.Hub.run.Given as goal
 
 abbrev pub invariant-loop-one : goal.invariant-loop-one
@@ -16,9 +16,9 @@ invariant-loop-one g l =
       count : vec_len l.replies ≡ l.one-index;
       later : shelf.failed l.fn.self ≤ shelf.failed l.self;
       doubt : shelf.doubts l.fn.self ≤ shelf.doubts l.self;
+      each : AreAnswers shelf.has shelf.doubts shelf.failed shelf.may_remain l.fn.self (take l.one-index l.asked) l.replies.items l.self;
       told : shelf.doubts l.self ≡ 0 → (s : State) → shelf.has l.fn.self s → IsSound s
           → (mid : State) × IsRun s (take l.one-index l.asked) l.replies.items mid × shelf.has l.self mid;
       cause : shelf.doubts l.self ≡ 0 → (s : State) → shelf.has l.fn.self s → IsSound s → AreCounted (failures_told l.replies.items) (shelf.failed l.fn.self) (shelf.failed l.self);
-      crash : shelf.doubts l.self ≡ 0 → (s : State) → shelf.has l.fn.self s → IsSound s → (left : Option State) → shelf.may_remain l.self left
-          → (shelf.may_remain l.fn.self left × (any_made l.replies.items ≡ false)) ⊎ IsSomeAnd left (λ content. MayBeLeft s (take l.one-index l.asked) l.replies.items content);
+      crash : shelf.doubts l.self ≡ 0 → (s : State) → shelf.has l.fn.self s → IsSound s → (left : Option State) → shelf.may_remain l.self left → MayBeLeft (shelf.may_remain l.fn.self) s (take l.one-index l.asked) l.replies.items left;
     }
