@@ -18,3 +18,4 @@ pub mod OtherDocument
 pub mod OtherLines
 pub mod OtherRows
 pub mod AnsweredAlike
+mod Worlds

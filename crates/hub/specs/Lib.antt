@@ -7,4 +7,5 @@ pub mod Stops
 pub mod OneByOne
 pub mod Laws
 pub mod Alike
+pub mod Examples
 pub mod inner

@@ -22,11 +22,12 @@
 //!   by `explaining`; `root_gate`: what pages and views ask before a line is read;
 //! - `change`: a change is judged, its reply is made, and only then the shelf is asked to make it;
 //! - `asking`: the reads of the shelf that several of these need; `fault`: why an answer is given up;
-//! - [`laws`]: a run keeps a state sound.
+//! - [`laws`]: a run keeps a state sound; [`examples`], worlds by hand that are alike for a reader.
 #![tactic(auto)]
 
 mod asking;
 mod change;
+pub mod examples;
 mod explaining;
 mod fault;
 mod hub;

@@ -1,0 +1,149 @@
+-- Worlds by hand that are alike for a reader who is served something in each of them: to be computed by the definitions alone.
+use Rattle.std.specs.Prelude.{◌≡◌, ℕ, true, false, List, [], ◌∷◌, ◌++◌, map, None, codes}
+use Rattle.iodef_tree.specs.Text.{Bytes}
+use Rattle.iodef_tree.specs.declared.line.Line.{Line}
+use Rattle.marking.specs.Examples.{class_line, text_line, value_line}
+use Rattle.marking.specs.Marks.{incident_path}
+use Rattle.policy.specs.declared.permission.Grantee.TheVariants as grantee
+use Rattle.policy.specs.declared.rule.Rule.TheVariants.{HRed}
+use Rattle.circle.specs.Directory.{Directory}
+use Rattle.circle.specs.declared.directory.Person.{Person}
+use Rattle.circle.specs.declared.directory.Account.{Account}
+use Rattle.hub_core.specs.Documents.{Lines}
+use Rattle.hub_core.specs.Examples.{banker, clerk, professor, circle, incident, gate, june}
+use Rattle.hub_core.specs.State.{State}
+use Rattle.hub_core.specs.declared.reply.Reply.{Reply}
+use Rattle.hub_core.specs.declared.reply.Reply.TheVariants.{View}
+use Rattle.hub_core.specs.declared.request.Request.TheVariants as ask
+use Rattle.hub_core.specs.declared.request.Target.TheVariants as target
+use Rattle.hub_core.specs.declared.state.Incident.{Incident}
+use Rattle.hub_core.specs.declared.state.Permission.{Permission}
+use Rattle.hub.specs.Alike.{HasOtherPlainLines, HasOtherHiddenClass, HasOtherUnseenIncident, HasOtherRows, IsAlike}
+use Rattle.hub.specs.Replies.{reply_of}
+use Rattle.hub.specs.declared.key.Key.TheVariants.{Digest}
+
+-- ---- who is in it
+
+-- by a key of one byte, to be short
+abbrev pub account : ℕ → Person → Account
+account byte p = record { person = p; key = byte ∷ [] }
+
+-- who asks: the clerk of the insurer, which is in one community with the bank
+abbrev pub reader : Account
+reader = account 2 clerk
+
+abbrev pub keyed_circle : Directory
+keyed_circle = record circle { accounts = account 1 banker ∷ reader ∷ account 3 professor ∷ [] }
+
+-- ---- what the bank posted
+
+abbrev pub event : List Line → List Line
+event plain = class_line 2 (codes "EventData") true ∷ plain
+
+-- a public report with an EventData that the reader sees, and these behind it
+abbrev pub report : List Line → Lines
+report others =
+    class_line 1 (codes "Incident") true
+    ∷ value_line 2 (codes "Contact") false (codes "[]")
+    ∷ class_line 2 (codes "EventData") true
+    ∷ text_line 3 (codes "Description") true (codes "seen")
+    ∷ others
+    ++ text_line 2 (codes "GenerationTime") false (codes "g")
+    ∷ text_line 2 (codes "IncidentID") false (codes "7")
+    ∷ text_line 2 (codes "purpose") false (codes "p")
+    ∷ text_line 2 (codes "restriction") false (codes "public")
+    ∷ []
+
+abbrev pub red : Line
+red = text_line 3 (codes "restriction") false (codes "red")
+
+abbrev pub described : Bytes → Line
+described text = text_line 3 (codes "Description") true text
+
+-- with two red EventData behind that which is seen
+abbrev pub two_red : Lines
+two_red = report (event (described (codes "x") ∷ red ∷ []) ++ event (red ∷ []))
+
+-- the same, where the first of them is described in other words, and says more
+abbrev pub rewritten : Lines
+rewritten = report (event (described (codes "y") ∷ described (codes "z") ∷ red ∷ []) ++ event (red ∷ []))
+
+-- the same without the second of them
+abbrev pub one_red : Lines
+one_red = report (event (described (codes "y") ∷ described (codes "z") ∷ red ∷ []))
+
+abbrev pub bank_report : Lines → Incident
+bank_report document = record (incident 1 1 1 (codes "\"7\"")) { document = document }
+
+-- a permission at an EventData of the bank's report, for the university
+abbrev pub for_university : Bytes → Permission
+for_university n = record { incident = 1; permission = record { path = incident_path ++ codes "EventData" ∷ n ∷ []; grantee = grantee.Org 3; until = None } }
+
+-- ---- worlds
+
+abbrev pub world : Lines → List Permission → State
+world document permissions = record {
+  directory = keyed_circle;
+  incidents = bank_report document ∷ [];
+  gates = gate 1 [] 3 None ∷ [];
+  recipients = [];
+  permissions = permissions;
+}
+
+-- the university may see the last EventData
+abbrev pub first : State
+first = world two_red (for_university (codes "2") ∷ [])
+
+abbrev pub with_other_words : State
+with_other_words = world rewritten (for_university (codes "2") ∷ [])
+
+-- the last EventData is taken out, and with it the permission that stood there
+abbrev pub without_last_event : State
+without_last_event = world one_red []
+
+-- the university posts an incident for itself alone
+abbrev pub with_second_incident : State
+with_second_incident = record without_last_event {
+  incidents = bank_report one_red ∷ incident 2 3 1 (codes "\"7\"") ∷ [];
+  gates = gate 1 [] 3 None ∷ gate 2 [] 0 None ∷ [];
+}
+
+-- The professor is suspended, and the bank's report is addressed to it; the university may see the red EventData of that, has
+-- nothing arranged with the bank any more, and the bank may no longer extend its own group.
+abbrev pub with_other_rows : State
+with_other_rows = record with_second_incident {
+  directory = record keyed_circle {
+    accounts = account 1 banker ∷ reader ∷ account 3 (record professor { active = false }) ∷ [];
+    group_members = record { group = 1; org = 1; extend = false } ∷ record { group = 1; org = 2; extend = false } ∷ [];
+    arrangements = [];
+  };
+  recipients = record { incident = 1; target = target.Person 3 } ∷ [];
+  permissions = for_university (codes "1") ∷ [];
+}
+
+-- ---- what is alike
+
+-- what the reader is answered that asks for the bank's report
+abbrev pub view_in : State → Reply
+view_in s = reply_of s june (Digest reader.key) (ask.View 1)
+
+-- the report without what is red, which is told once, at the Incident
+abbrev pub what_is_seen : Reply
+what_is_seen = View (record { number = 1; revision = 1; source = 1; classes = 2; document = report []; withheld = (incident_path, HRed) ∷ [] })
+
+-- In each of these worlds the reader is served the same, and something.
+abbrev pub EachIsServed : Type 0
+EachIsServed =
+    map view_in (first ∷ with_other_words ∷ without_last_event ∷ with_second_incident ∷ with_other_rows ∷ [])
+    ≡ what_is_seen ∷ what_is_seen ∷ what_is_seen ∷ what_is_seen ∷ what_is_seen ∷ []
+
+-- Each step that makes worlds alike joins two of them.
+pub record StepsJoin : Type 0 where
+  pub plain_lines : HasOtherPlainLines june reader first with_other_words
+  pub hidden_class : HasOtherHiddenClass june reader with_other_words without_last_event
+  pub unseen_incident : HasOtherUnseenIncident june reader without_last_event with_second_incident
+  pub rows : HasOtherRows june reader with_second_incident with_other_rows
+
+-- So all of them are alike: a chain of sound worlds joins the first and the last.
+abbrev pub EndsAreAlike : Type 0
+EndsAreAlike = IsAlike june reader first with_other_rows
