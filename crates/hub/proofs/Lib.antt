@@ -17,5 +17,6 @@ pub mod OtherUnseen
 pub mod OtherDocument
 pub mod OtherLines
 pub mod OtherRows
+pub mod OtherEnded
 pub mod AnsweredAlike
 mod Worlds

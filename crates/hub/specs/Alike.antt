@@ -3,7 +3,7 @@
 use Rattle.std.specs.Prelude.{◌≡◌, ◌⊎◌, ℕ, ℤ, Bool, true, false, not, ◌&&◌, ◌||◌, ◌==◌, List, [], ◌∷◌, map, filter, Some, Contains, if◌then◌else◌}
 use Rattle.std.specs.Option.{option_map_or}
 use Rattle.iodef_tree.specs.Text.{Tokens, is_root, is_prefix}
-use Rattle.policy.specs.Permissions.{includes}
+use Rattle.policy.specs.Permissions.{includes, is_before}
 use Rattle.policy.specs.Standing.{stranger}
 use Rattle.policy.specs.declared.permission.Grantee.{Grantee}
 use Rattle.redact.specs.Alike as report
@@ -188,4 +188,20 @@ is_told _ = false
 -- in two worlds that are alike for a person the same is due to it, at the same moment
 abbrev pub AlikeIsAnsweredAlike : Type 0
 AlikeIsAnsweredAlike = (now : ℤ) (a : Account) (s t : State) (request : Request) → IsAlike now a s t → is_told request ≡ true →
+    reply_of s now (Digest a.key) request ≡ reply_of t now (Digest a.key) request
+
+-- ---- permissions that have ended
+
+abbrev pub live_permissions : ℤ → State → List Permission
+live_permissions now s = filter (λ (x : Permission). is_before now x.permission.until) s.permissions
+
+-- Put in, taken out or exchanged are permissions that have ended at this moment, whoever their grantees are.
+pub record HasOtherEndedPermissions (now : ℤ) (s t : State) : Type 0 where
+  pub permissions : live_permissions now s ≡ live_permissions now t
+  pub after : t ≡ record s { permissions = t.permissions }
+
+-- So no person feels a permission of its own that has ended: in both worlds the same is due to it.
+abbrev pub EndedPermissionsAreNotFelt : Type 0
+EndedPermissionsAreNotFelt = (now : ℤ) (a : Account) (s t : State) (request : Request) → IsSound s → IsSound t →
+    Contains s.directory.accounts a → HasOtherEndedPermissions now s t → is_told request ≡ true →
     reply_of s now (Digest a.key) request ≡ reply_of t now (Digest a.key) request

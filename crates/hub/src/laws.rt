@@ -1,5 +1,5 @@
 //! Laws of the definitions, each the contract of a function that does nothing.
-ghost use Rattle.hub.specs.Alike.{AlikeIsAnsweredAlike};
+ghost use Rattle.hub.specs.Alike.{AlikeIsAnsweredAlike, EndedPermissionsAreNotFelt};
 ghost use Rattle.hub.specs.Laws.{RunsStaySound, ShownIsServed, UnmadeLeavesAll};
 ghost use Rattle.hub.specs.declared.TheConstants.{PAGE_LIMIT};
 ghost use Rattle.std.specs.Prelude.{◌≡◌};
@@ -12,6 +12,11 @@ pub fn runs_stay_sound()
 /// In two worlds that are alike for a person the same is due to it, at the same moment.
 pub fn alike_is_answered_alike()
     ensures { AlikeIsAnsweredAlike }
+{}
+
+/// In two worlds that differ in permissions that have ended alone, the same is due to each person, also to their grantees.
+pub fn ended_permissions_are_not_felt()
+    ensures { EndedPermissionsAreNotFelt }
 {}
 
 /// A step that isn't told as a change that was made leaves the state: so does each refusal.
