@@ -37,6 +37,17 @@ left_on Before s mid (q ∷ others) [] asked reply left run may = absurd run
 left_on Before s mid (q ∷ others) (r ∷ replies) asked reply left run may =
     left_on (MayBeLeftBy Before s q r) (content_after s q r) mid others replies asked reply left (subst (λ u. IsRun u others replies mid) (step_content s run.0 q r run.1) run.2) may
 
+-- What may be left behind one request, of what could have been left before it.
+pub left_behind_one : (Before After : Option State → Type 0) (s end : State) (asked : Asked) (reply : Reply) → IsStep s asked reply end
+    → (IsTrue (is_made reply) → (left : Option State) → After left ↔ (left ≡ Some (state_left s asked.1 asked.2)))
+    → ((left : Option State) → After left → Before left ⊎ IsDueChange s asked left)
+    → (left : Option State) → After left → MayBeLeftBy Before s asked reply left
+left_behind_one Before After s end asked reply step durable crash left may = by_case (is_made reply) refl
+  where
+    by_case : (b : Bool) → is_made reply ≡ b → MayBeLeftBy Before s asked reply left
+    by_case true made = inr (made_due s end asked reply step made, (durable made left).0 may)
+    by_case false unmade = elim (crash left may) [ inl there ↦ inl (there, unmade) | inr due ↦ inr due ]
+
 -- what holds after i requests, and what one leaves, make what holds after i + 1
 pub stops_on : {D : Type 0} (may_remain : D → Option State → Type 0) (old before after : D) (s mid end : State) (all : List Asked) (i : ℕ) (asked : Asked) (replies : List Reply) (reply : Reply) → asked ≡ get_or all i asked → i < length all
     → IsRun s (take i all) replies mid
@@ -47,8 +58,26 @@ pub stops_on : {D : Type 0} (may_remain : D → Option State → Type 0) (old be
     → (left : Option State) → may_remain after left → MayBeLeft (may_remain old) s (take (i + 1) all) (replies ++ reply ∷ []) left
 stops_on may_remain old before after s mid end all i asked replies reply is low run step earlier durable crash left may =
     subst (λ q. MayBeLeft (may_remain old) s q (replies ++ reply ∷ []) left) (sym (take_more all i asked low))
-    (subst (λ q. MayBeLeft (may_remain old) s (take i all ++ q ∷ []) (replies ++ reply ∷ []) left) is (left_on (may_remain old) s mid (take i all) replies asked reply left run (by_case (is_made reply) refl)))
-  where
-    by_case : (b : Bool) → is_made reply ≡ b → MayBeLeftBy (MayBeLeft (may_remain old) s (take i all) replies) mid asked reply left
-    by_case true made = inr (made_due mid end asked reply step made, (durable made left).0 may)
-    by_case false unmade = elim (crash left may) [ inl there ↦ inl (earlier left there, unmade) | inr due ↦ inr due ]
+    (subst (λ q. MayBeLeft (may_remain old) s (take i all ++ q ∷ []) (replies ++ reply ∷ []) left) is (left_on (may_remain old) s mid (take i all) replies asked reply left run
+    (left_behind_one (MayBeLeft (may_remain old) s (take i all) replies) (may_remain after) mid end asked reply step durable (λ l there. elim (crash l there) [ inl kept ↦ inl (earlier l kept) | inr due ↦ inr due ]) left may)))
+
+-- ---- a list behind a list
+
+-- more may be left behind a list where more could have been left before
+pub left_more : (Before More : Option State → Type 0) (s : State) (all : List Asked) (replies : List Reply) → ((left : Option State) → Before left → More left)
+    → (left : Option State) → MayBeLeft Before s all replies left → MayBeLeft More s all replies left
+left_more Before More s [] [] on left may = on left may
+left_more Before More s [] (r ∷ replies) on left may = absurd may
+left_more Before More s (q ∷ others) [] on left may = absurd may
+left_more Before More s (q ∷ others) (r ∷ replies) on left may =
+    left_more (MayBeLeftBy Before s q r) (MayBeLeftBy More s q r) (content_after s q r) others replies (λ l by. elim by [ inl both ↦ inl (on l both.0, both.1) | inr due ↦ inr due ]) left may
+
+-- behind both lists may be left what may be behind the second, of what may be behind the first
+pub left_joined : (Before : Option State → Type 0) (s mid : State) (first second : List Asked) (told more : List Reply) (left : Option State) → IsRun s first told mid
+    → MayBeLeft (MayBeLeft Before s first told) mid second more left → MayBeLeft Before s (first ++ second) (told ++ more) left
+left_joined Before s mid [] second [] more left run may =
+    subst (λ u. MayBeLeft Before u second more left) run (left_more (MayBeLeft Before s [] []) Before mid second more (λ l there. there) left may)
+left_joined Before s mid [] second (r ∷ told) more left run may = absurd run
+left_joined Before s mid (q ∷ first) second [] more left run may = absurd run
+left_joined Before s mid (q ∷ first) second (r ∷ told) more left run may =
+    left_joined (MayBeLeftBy Before s q r) (content_after s q r) mid first second told more left (subst (λ u. IsRun u first told mid) (step_content s run.0 q r run.1) run.2) may

@@ -1,18 +1,21 @@
 -- What serving connections leaves, and what is told of one that wasn't served to its end.
-use Rattle.std.specs.Prelude.{ℕ, ◌≤◌, List, length, codes}
+use Rattle.std.specs.Prelude.{ℕ, ◌≤◌, List, length, Option, codes}
 use Rattle.iodef_tree.specs.Text.{Bytes}
 use Rattle.hub_core.specs.State.{State}
 use Rattle.hub_core.specs.Sound.{IsSound}
 use Rattle.hub_core.specs.declared.reply.Reply.{Reply}
 use Rattle.hub.specs.Machine.{Asked, IsRun}
+use Rattle.hub.specs.Stops.{MayBeLeft}
 use Rattle.hub_http.specs.declared.serve.ServeFault.{ServeFault}
 use Rattle.hub_http.specs.declared.serve.ServeFault.TheVariants.{Truncated, ReadFailed, WriteFailed, NoMemory}
 
--- From whatever sound state the hub had, what was asked of it is a run of at most so many requests.
-abbrev pub HasRun : {D : Type 0} → (D → State → Type 0) → D → D → ℕ → Type 0
-HasRun has old new most = (s : State) → has old s → IsSound s
-    → (asked : List Asked) × (replies : List Reply) × (left : State) × (length asked ≤ most) ×
-    IsRun s asked replies left × has new left
+-- From whatever sound state the hub had, what was asked of it is a run of at most so many requests. If everything stops behind
+-- it, there may be left what may be behind that run.
+abbrev pub HasRun : {D : Type 0} → (D → State → Type 0) → (D → Option State → Type 0) → D → D → ℕ → Type 0
+HasRun has may_remain old new most = (s : State) → has old s → IsSound s
+    → (asked : List Asked) × (replies : List Reply) × (end : State) × (length asked ≤ most) ×
+    IsRun s asked replies end × has new end ×
+    ((left : Option State) → may_remain new left → MayBeLeft (may_remain old) s asked replies left)
 
 abbrev pub fault_told : ServeFault → Bytes
 fault_told Truncated = codes "Truncated"

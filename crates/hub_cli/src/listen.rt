@@ -41,7 +41,7 @@ fn serve_stream<Sh: Shelf, C: Clock>(
     clock: &C,
     now: i64,
 ) -> Result<(), ServeFault>
-    ensures run { Sh.doubts hub.new ≡ 0 → HasRun Sh.has hub.old hub.new 1 }
+    ensures run { Sh.doubts hub.new ≡ 0 → HasRun Sh.has Sh.may_remain hub.old hub.new 1 }
     ensures later { Sh.failed hub.old ≤ Sh.failed hub.new }
     ensures doubt { Sh.doubts hub.old ≤ Sh.doubts hub.new }
 {
@@ -58,7 +58,7 @@ fn serve_next<Sh: Shelf, C: Clock>(
     hub: &mut Hub<Sh>,
     clock: &C,
 ) -> Result<(), ServeFault>
-    ensures run { Sh.doubts hub.new ≡ 0 → HasRun Sh.has hub.old hub.new 1 }
+    ensures run { Sh.doubts hub.new ≡ 0 → HasRun Sh.has Sh.may_remain hub.old hub.new 1 }
     ensures later { Sh.failed hub.old ≤ Sh.failed hub.new }
     ensures doubt { Sh.doubts hub.old ≤ Sh.doubts hub.new }
 {
@@ -73,6 +73,9 @@ fn serve_next<Sh: Shelf, C: Clock>(
 
 /// Serves so many connections, each at the moment at which it is accepted. A fault is told by its name, with nothing about
 /// who asked; it counts as a connection, and ends nothing. Whether every fault could be told.
+///
+/// What was asked of the hub is a run of at most so many requests. If everything stops behind it, all changes that were answered
+/// as made are left. What came over the sockets isn't told, as they have no model.
 pub fn serve_count<Sh: Shelf, C: Clock, E: Write>(
     alloc: Global,
     listener: &TcpListener,
@@ -81,7 +84,7 @@ pub fn serve_count<Sh: Shelf, C: Clock, E: Write>(
     clock: &C,
     errors: &mut E,
 ) -> Status
-    ensures run { Sh.doubts hub.new ≡ 0 → HasRun Sh.has hub.old hub.new count }
+    ensures run { Sh.doubts hub.new ≡ 0 → HasRun Sh.has Sh.may_remain hub.old hub.new count }
     ensures later { Sh.failed hub.old ≤ Sh.failed hub.new }
     ensures doubt { Sh.doubts hub.old ≤ Sh.doubts hub.new }
 {

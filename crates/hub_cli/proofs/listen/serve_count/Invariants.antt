@@ -6,7 +6,7 @@ abbrev pub invariant-loop : goal.invariant-loop
 invariant-loop g l =
     let shelf = g.Sh.Shelf in
     record {
-      run : shelf.doubts l.hub ≡ 0 → HasRun shelf.has l.fn.hub l.hub l.counter;
+      run : shelf.doubts l.hub ≡ 0 → HasRun shelf.has shelf.may_remain l.fn.hub l.hub l.counter;
       later : shelf.failed l.fn.hub ≤ shelf.failed l.hub;
       doubt : shelf.doubts l.fn.hub ≤ shelf.doubts l.hub;
     }
