@@ -1,4 +1,5 @@
-//! ROLE|FACTS|COUNT|COMMAND|ONE|OTHER|FLAG|TEXT|MORE: what is answered to the command of person 2 of organisation 2.
+//! WHO|FACTS|COUNT|COMMAND|ONE|OTHER|FLAG|TEXT|MORE: what is answered to the command of an actor. WHO is ROLE NUMBER/ORG, or
+//! ROLE alone for person 2 of organisation 2.
 use crate::commands::{Named, command_fields, command_of, role_of};
 use crate::told;
 use crate::written::number_of;
@@ -8,9 +9,17 @@ use circle::judge::judge;
 use circle::name::Name;
 use std::alloc::{AllocError, Global};
 
+/// Who commands.
+#[derive(Clone, Copy)]
+struct Actor {
+    role: Role,
+    number: u32,
+    org: u32,
+}
+
 #[derive(Clone, Copy)]
 struct Case<'a> {
-    role: Role,
+    actor: Actor,
     facts: CircleFacts,
     named: Named<'a>,
 }
@@ -28,25 +37,35 @@ fn facts_of(letters: &str, count: u32) -> CircleFacts {
     }
 }
 
+fn actor_of(word: &str) -> Actor {
+    let (role, numbers) = word.split_once(' ').unwrap_or((word, "2/2"));
+    let (number, org) = numbers.split_once('/').unwrap_or((numbers, ""));
+    Actor {
+        role: role_of(role),
+        number: number_of(number),
+        org: number_of(org),
+    }
+}
+
 fn case_of(line: &str) -> Option<Case<'_>> {
     let mut words = line.split('|');
-    let role = role_of(words.next()?);
+    let actor = actor_of(words.next()?);
     let letters = words.next()?;
     let count = number_of(words.next()?);
     Some(Case {
-        role,
+        actor,
         facts: facts_of(letters, count),
         named: command_fields(&mut words)?,
     })
 }
 
-fn actor(alloc: Global, role: Role) -> Result<Option<Person>, AllocError> {
+fn person_of(alloc: Global, actor: Actor) -> Result<Option<Person>, AllocError> {
     match Name::of(alloc, "anna")? {
         Some(name) => Ok(Some(Person {
-            number: 2,
-            org: 2,
+            number: actor.number,
+            org: actor.org,
             name,
-            role,
+            role: actor.role,
             active: true,
             nominated: false,
         })),
@@ -73,7 +92,7 @@ fn judged_by(alloc: Global, actor: &Person, case: &Case<'_>) -> Result<String, A
 }
 
 fn judged(alloc: Global, case: &Case<'_>) -> Result<String, AllocError> {
-    match actor(alloc, case.role)? {
+    match person_of(alloc, case.actor)? {
         Some(actor) => judged_by(alloc, &actor, case),
         None => String::from_str(alloc, "no actor"),
     }
