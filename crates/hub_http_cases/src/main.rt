@@ -8,9 +8,8 @@
 //!
 //! - `done`; `numbers|1,2`; `revision|2`; `trace|TEXT`; `caller|NUMBER|ORG|NAME|ROLE|nominated`, the last empty where it isn't
 //! - `incidents|NUMBER REVISION SOURCE,..` and `groups|NUMBER:OWNER:NAME:RELEASABILITY:FLAGS,..` with the flags `active` and `extend`
-//! - `view|NUMBER|REVISION|SOURCE|READER|PERMITTED|DOCUMENT`: what a reader is served of a document under a gate that everybody
-//!   passes. READER are words, `source`, `community`, `nominated` and `client`; a permission for the reader stands at PERMITTED,
-//!   unless that is empty.
+//! - `view|NUMBER|REVISION|SOURCE|STANDING|GATES|PERMISSIONS|DOCUMENT`: what a reader is served of a document, if anything.
+//!   `words` of `trying_policy` tells how standings, gates and permissions are written.
 //! - `refused|CODE|DETAIL`
 //!
 //! and `fault|NAME` is answered by the bytes of that fault.
@@ -19,6 +18,7 @@
 //! line to line; it begins with organisation 1 and its administrator, person 1, whose key is `abc`. WAY is one of
 //!
 //! - `whole`: the reader gives all bytes at once;
+//! - `unchanged`: the same; where something is changed by it that the six persons are told, `changed` stands before the answer;
 //! - `bytes`: it gives them one by one, and the count of reads is told;
 //! - `prefixes`: each proper prefix, and how many of them ended as cut off with nothing written;
 //! - `reads`: one by one, and the k-th read fails, for each k up to the last read that a request takes; told is how many ended so with
@@ -33,6 +33,7 @@
 mod asked;
 mod bytes;
 mod commands;
+mod content;
 mod replies;
 mod serving;
 mod streams;

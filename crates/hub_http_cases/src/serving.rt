@@ -1,6 +1,7 @@
 //! Serves a request over memory, in the way that the line names.
 
 use crate::bytes::bytes_of;
+use crate::content::content;
 use crate::streams::{Disturbed, Drip, Full, Narrow};
 use crate::written::shown_bytes;
 use hub::Hub;
@@ -9,7 +10,7 @@ use hub_http::{ServeFault, Served, serve_one};
 use std::alloc::{AllocError, Global};
 
 /// The moment of each request, in seconds since 1970.
-const NOW: i64 = 1_700_000_000;
+pub const NOW: i64 = 1_700_000_000;
 
 fn outcome(served: Result<Served, ServeFault>) -> &'static str {
     match served {
@@ -37,6 +38,18 @@ fn whole(alloc: Global, hub: &mut Hub<ListShelf>, bytes: &[u8]) -> Result<String
     let mut out: Vec<u8> = Vec::new(alloc);
     let served = serve_one(alloc, &mut reader, &mut out, hub, NOW);
     describe(alloc, served, &out)
+}
+
+/// The same, and whether all that the persons are told is the same behind it as before.
+fn unchanged(alloc: Global, hub: &mut Hub<ListShelf>, bytes: &[u8]) -> Result<String, AllocError> {
+    let before = content(alloc, hub)?;
+    let told = whole(alloc, hub, bytes)?;
+    let behind = content(alloc, hub)?;
+    if behind.as_slice() == before.as_slice() {
+        Ok(told)
+    } else {
+        format!(in alloc; "changed: {told}")
+    }
 }
 
 fn by_bytes(alloc: Global, hub: &mut Hub<ListShelf>, bytes: &[u8]) -> Result<String, AllocError> {
@@ -166,6 +179,7 @@ pub fn answer(
     let bytes = bytes_of(alloc, request)?;
     match way {
         "whole" => whole(alloc, hub, &bytes),
+        "unchanged" => unchanged(alloc, hub, &bytes),
         "bytes" => by_bytes(alloc, hub, &bytes),
         "prefixes" => prefixes(alloc, hub, &bytes),
         "reads" => failing_reads(alloc, hub, &bytes),

@@ -12,8 +12,9 @@ struct Asked<'a> {
     number: u32,
     revision: u32,
     source: u32,
-    reader: &'a str,
-    permitted: &'a str,
+    standing: &'a str,
+    gates: &'a str,
+    permissions: &'a str,
     document: &'a str,
 }
 
@@ -23,26 +24,19 @@ fn asked_of(fields: &str) -> Option<Asked<'_>> {
         number: number_of(parts.next()?),
         revision: number_of(parts.next()?),
         source: number_of(parts.next()?),
-        reader: parts.next()?,
-        permitted: parts.next()?,
+        standing: parts.next()?,
+        gates: parts.next()?,
+        permissions: parts.next()?,
         document: parts.next()?,
     })
 }
 
-/// What person 4 of organisation 4, of whom the words hold, is served behind a gate at the root that everybody passes, and
-/// perhaps by a permission for organisation 4.
+/// What the reader is served of the document, by the gates and the permissions.
 fn serve_excerpt(alloc: Global, asked: &Asked<'_>) -> Result<Option<Excerpt>, Unfit> {
     let mut report = Report::new();
     report.read(alloc, asked.document)?;
-    let (reader, permitted) = (asked.reader, asked.permitted);
-    let reader = format!(in alloc; "4/4 {reader}")?;
-    let standing = standing_of(alloc, reader.as_str().trim_end())?;
-    let permissions = if permitted.is_empty() {
-        String::new(alloc)
-    } else {
-        format!(in alloc; "org:4@{permitted}")?
-    };
-    let case = case_of(alloc, asked.source, "3@", permissions.as_str())?;
+    let standing = standing_of(alloc, asked.standing)?;
+    let case = case_of(alloc, asked.source, asked.gates, asked.permissions)?;
     Ok(excerpt(alloc, report.document()?, &case, &standing)?)
 }
 
