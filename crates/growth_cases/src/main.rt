@@ -1,6 +1,6 @@
 //! `growth_cases [FIRST STEP]`: runs each case on standard input once for each growth of the heap that its call makes, has
-//! that growth refused, and prints whether each was told; or else the first that wasn't, and what was told in its place. A
-//! line that begins with `#` is printed as it is. What a line may say stands in `cases`.
+//! that growth refused, and prints how many were refused, each of which was told; or else the first that wasn't, and what was
+//! told in its place. A line that begins with `#` is printed as it is. What a line may say stands in `cases`.
 //!
 //! A call whose growth is refused has to answer want of memory, or what it answers where nothing is refused. Of a list of
 //! requests at most one may be given up; all others have to be answered as a hub in memory answers them that isn't asked that
@@ -9,8 +9,8 @@
 //! or, of a change that stands by then, as one that stands already.
 //!
 //! A heap refuses growths where it is told so by sizes that it is asked for (`heap`), as that of `scripts/refuse-growth`. Any
-//! other refuses none, and each case runs with ample memory. With two numbers the growths FIRST, FIRST + STEP and so on are
-//! refused, and the last line says how many were, in how many runs.
+//! other refuses none: each case runs with ample memory, and `no growth refused` is printed. With two numbers the growths
+//! FIRST, FIRST + STEP and so on are refused, and the last line says how many were, in how many runs.
 #![tactic(auto)]
 
 mod cases;

@@ -55,27 +55,35 @@ fn wrong(alloc: Global, n: u32, met: &Met) -> Result<String, AllocError> {
     format!(in alloc; "growth {n}: {told}")
 }
 
+/// What is printed of a case in which nothing went wrong: how many growths were refused, and the answer's first line.
+fn right(alloc: Global, refused: u32, due: &str) -> Result<String, AllocError> {
+    let head = head_of(due);
+    if refused == 0 {
+        return format!(in alloc; "no growth refused: {head}");
+    }
+    format!(in alloc; "{refused} growths refused, each told: {head}")
+}
+
 impl Sweep {
     fn count(&mut self, refused: bool) {
         self.runs = self.runs.saturating_add(1);
         self.growths = self.growths.saturating_add(u64::from(refused));
     }
 
-    /// What is printed of a case: whether each growth that was refused was told, or the first that wasn't.
+    /// What is printed of a case: how many growths were refused, if each was told, or the first that wasn't.
     pub fn report<T: Trial>(&mut self, alloc: Global, trial: &T) -> Result<String, AllocError> {
         let Some(due) = trial.run(alloc, 0)?.told else {
             return String::from_str(alloc, "no memory");
         };
         let mut n = self.first;
-        for _ in 0..MOST_RUNS {
+        for refused in 0..MOST_RUNS {
             let met = trial.run(alloc, n)?;
             self.count(met.refused);
             if !is_right(&met, due.as_str()) {
                 return wrong(alloc, n, &met);
             }
             if !met.refused {
-                let head = head_of(due.as_str());
-                return format!(in alloc; "every growth told: {head}");
+                return right(alloc, refused, due.as_str());
             }
             n = n.saturating_add(self.step);
         }
