@@ -1,5 +1,6 @@
--- Why a command over a store isn't done: the name that is told, with the reason where there is one, and how the program ends.
-use Rattle.std.specs.Prelude.{codes}
+-- Why a command over a store isn't done: the name that is told, the reason behind it where there is one, and how the program
+-- ends.
+use Rattle.std.specs.Prelude.{Option, None, Some, codes}
 use Rattle.iodef_tree.specs.Text.{Bytes}
 use Rattle.hub_core.specs.declared.shelf.ShelfFault.{ShelfFault}
 use Rattle.hub_core.specs.declared.shelf.ShelfFault.TheVariants as shelf
@@ -7,6 +8,7 @@ use Rattle.hub_store.specs.declared.sql_shelf.OpenFault.{OpenFault}
 use Rattle.hub_store.specs.declared.sql_shelf.OpenFault.TheVariants as opening
 use Rattle.hub_cli.specs.declared.fault.Fault.{Fault}
 use Rattle.hub_cli.specs.declared.fault.Fault.TheVariants.{BadArgument, NotOurs, WrongVersion, Failed, NotOpened, ListenFailed, ReadFailed, WriteFailed, NoMemory}
+use Rattle.hub_cli.specs.declared.fault.Reason.{Reason}
 use Rattle.hub_cli.specs.declared.fault.Reason.TheVariants.{NoSuchFile, NoPermission, Locked, DiskFull}
 use Rattle.hub_cli.specs.declared.status.Status.{Status}
 use Rattle.hub_cli.specs.declared.status.Status.TheVariants as status
@@ -16,14 +18,22 @@ fault_name BadArgument = codes "B1"
 fault_name NotOurs = codes "NotOurs"
 fault_name WrongVersion = codes "WrongVersion"
 fault_name Failed = codes "Failed"
-fault_name (NotOpened NoSuchFile) = codes "Failed: no such file"
-fault_name (NotOpened NoPermission) = codes "Failed: no permission"
-fault_name (NotOpened Locked) = codes "Failed: locked by another program"
-fault_name (NotOpened DiskFull) = codes "Failed: disk full"
+fault_name (NotOpened reason) = codes "Failed"
 fault_name ListenFailed = codes "ListenFailed"
 fault_name ReadFailed = codes "ReadFailed"
 fault_name WriteFailed = codes "WriteFailed"
 fault_name NoMemory = codes "NoMemory"
+
+-- why the store's file isn't opened, where the system tells it
+abbrev pub reason_of : Fault → Option Reason
+reason_of (NotOpened reason) = Some reason
+reason_of _ = None
+
+abbrev pub reason_text : Reason → Bytes
+reason_text NoSuchFile = codes "no such file"
+reason_text NoPermission = codes "no permission"
+reason_text Locked = codes "locked by another program"
+reason_text DiskFull = codes "disk full"
 
 -- a bad argument is refused, all else has failed
 abbrev pub fault_status : Fault → Status

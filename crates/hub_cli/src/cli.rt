@@ -4,10 +4,42 @@ use crate::commands::{explanation, init, mark, migrate, serve, view};
 use crate::fault::Fault;
 use crate::output::{end_with, tell};
 use crate::status::Status;
-use crate::words::{Asked, command_line, read_words};
+use crate::words::{Asked, command_line, read_words, usage_of_other_words};
 use clap::Error;
 use clap::error::ErrorKind;
+use std::alloc::Global;
+use std::env::Args;
+use std::io;
 use std::io::{Read, Write};
+
+/// Does what the words of the program's start say, its name first. One that isn't UTF-8 is usage.
+pub fn cli_start<R: Read, W: Write, E: Write>(
+    rt: &HostRuntime,
+    words: io::Result<Args>,
+    reader: &mut R,
+    writer: &mut W,
+    errors: &mut E,
+) -> Status {
+    match words_behind(rt.alloc(), words) {
+        Ok(words) => cli_run(rt, &words, reader, writer, errors),
+        Err(error) => refuse_words(rt.alloc(), &error, errors),
+    }
+}
+
+/// The words behind the program's name.
+fn words_behind(alloc: Global, words: io::Result<Args>) -> io::Result<Vec<String>> {
+    Ok(words?.skip(1).collect(alloc)?)
+}
+
+fn refuse_words<E: Write>(alloc: Global, error: &io::Error, errors: &mut E) -> Status {
+    if error.kind() == io::ErrorKind::OutOfMemory {
+        return end_with(errors, Err(Fault::NoMemory));
+    }
+    match usage_of_other_words(alloc) {
+        Ok(error) => usage(errors, &error),
+        Err(_) => end_with(errors, Err(Fault::NoMemory)),
+    }
+}
 
 /// Does what the words say, which are those behind the program's name; no words act as `mark`.
 pub fn cli_run<R: Read, W: Write, E: Write>(

@@ -382,10 +382,10 @@ fn faults_of_explain_in_order(rt: HostRuntime) -> io::Result<()> {
         tells(
             &["explain", "", "99", "9", "a"],
             line,
-            "Failed: no such file\n",
+            "Failed\nno such file\n",
             Status::Failed,
         ),
-        tells(asked, line, "Failed: no such file\n", Status::Failed),
+        tells(asked, line, "Failed\nno such file\n", Status::Failed),
         makes(),
         tells(asked, line, "ReadFailed\n", Status::Failed),
     ];

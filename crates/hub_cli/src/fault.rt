@@ -1,6 +1,6 @@
 //! Why a command over a store isn't done.
 ghost use Rattle.std.specs.Prelude.{◌≡◌};
-ghost use Rattle.hub_cli.specs.Faults.{fault_name, fault_status};
+ghost use Rattle.hub_cli.specs.Faults.{fault_name, fault_status, reason_of, reason_text};
 ghost use Rattle.hub_cli.specs.declared.fault.Fault.TheVariants.{NoMemory};
 
 use crate::status::Status;
@@ -14,6 +14,20 @@ pub enum Reason {
     /// Another program has it open.
     Locked,
     DiskFull,
+}
+
+impl Reason {
+    /// The reason in words.
+    pub fn text(self) -> &'static str
+        ensures { result.now ≡ reason_text self }
+    {
+        match self {
+            Reason::NoSuchFile => "no such file",
+            Reason::NoPermission => "no permission",
+            Reason::Locked => "locked by another program",
+            Reason::DiskFull => "disk full",
+        }
+    }
 }
 
 /// Why a command over a store isn't done.
@@ -38,7 +52,7 @@ pub enum Fault {
 }
 
 impl Fault {
-    /// The fault's name, and behind it the reason, where there is one.
+    /// The fault's name.
     pub fn name(self) -> &'static str
         ensures { result.now ≡ fault_name self }
     {
@@ -46,15 +60,21 @@ impl Fault {
             Fault::BadArgument => "B1",
             Fault::NotOurs => "NotOurs",
             Fault::WrongVersion => "WrongVersion",
-            Fault::Failed => "Failed",
-            Fault::NotOpened(Reason::NoSuchFile) => "Failed: no such file",
-            Fault::NotOpened(Reason::NoPermission) => "Failed: no permission",
-            Fault::NotOpened(Reason::Locked) => "Failed: locked by another program",
-            Fault::NotOpened(Reason::DiskFull) => "Failed: disk full",
+            Fault::Failed | Fault::NotOpened(_) => "Failed",
             Fault::ListenFailed => "ListenFailed",
             Fault::ReadFailed => "ReadFailed",
             Fault::WriteFailed => "WriteFailed",
             Fault::NoMemory => "NoMemory",
+        }
+    }
+
+    /// Why the store's file isn't opened, where the system tells it.
+    pub fn reason(self) -> Option<Reason>
+        ensures { result ≡ reason_of self }
+    {
+        match self {
+            Fault::NotOpened(reason) => Some(reason),
+            _ => None,
         }
     }
 

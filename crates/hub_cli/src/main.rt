@@ -33,11 +33,10 @@ mod words;
 use std::process::ExitCode;
 use std::{env, io};
 
-fn main(rt: HostRuntime) -> io::Result<ExitCode> {
-    let words: Vec<String> = env::args(&rt)?.skip(1).collect(rt.alloc())?;
+fn main(rt: HostRuntime) -> ExitCode {
     let mut reader = rt.reader();
     let mut writer = io::writer(&rt);
     let mut errors = rt.stderr();
-    let status = cli::cli_run(&rt, &words, &mut reader, &mut writer, &mut errors);
-    Ok(ExitCode::from(status.code()))
+    let status = cli::cli_start(&rt, env::args(&rt), &mut reader, &mut writer, &mut errors);
+    ExitCode::from(status.code())
 }

@@ -15,11 +15,20 @@ pub fn print<W: Write>(writer: &mut W, text: &str) -> Result<Status, Fault> {
     }
 }
 
-/// Tells a fault by its name, on a line of its own.
-pub fn tell<E: Write>(errors: &mut E, name: &str, status: Status) -> Status {
-    match writeln!(errors, "{name}") {
+/// Tells a fault's name, or its reason, on a line of its own.
+pub fn tell<E: Write>(errors: &mut E, line: &str, status: Status) -> Status {
+    match writeln!(errors, "{line}") {
         Ok(()) => status,
         Err(_) => Status::Failed,
+    }
+}
+
+/// Tells a fault by its name, and on a second line its reason, where there is one.
+fn tell_fault<E: Write>(errors: &mut E, fault: Fault) -> Status {
+    let status = tell(errors, fault.name(), fault.status());
+    match fault.reason() {
+        Some(reason) => tell(errors, reason.text(), status),
+        None => status,
     }
 }
 
@@ -27,6 +36,6 @@ pub fn tell<E: Write>(errors: &mut E, name: &str, status: Status) -> Status {
 pub fn end_with<E: Write>(errors: &mut E, outcome: Result<Status, Fault>) -> Status {
     match outcome {
         Ok(status) => status,
-        Err(fault) => tell(errors, fault.name(), fault.status()),
+        Err(fault) => tell_fault(errors, fault),
     }
 }

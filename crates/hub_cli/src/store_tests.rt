@@ -63,7 +63,7 @@ fn names_and_digests_come_before_the_store(rt: HostRuntime) -> io::Result<()> {
         tells(
             &["init", "", "Hub", ABC],
             "",
-            "Failed: no such file\n",
+            "Failed\nno such file\n",
             Status::Failed,
         ),
     ];
@@ -88,7 +88,7 @@ fn a_file_that_is_missing(rt: HostRuntime) -> io::Result<()> {
     let serve = ["serve", STORE, port.as_str(), "0"];
     let line = line_of(&rt, INPUT_LIMIT + 1)?;
     let line = line.as_str();
-    let told = "Failed: no such file\n";
+    let told = "Failed\nno such file\n";
     let cases = [
         tells(&serve, "", told, Status::Failed),
         tells(&["migrate", STORE], "", told, Status::Failed),
@@ -124,7 +124,7 @@ fn a_store_is_its_owners(rt: HostRuntime) -> io::Result<()> {
 /// Names that stand for no file.
 #[test]
 fn no_file_of_such_a_name(rt: HostRuntime) -> io::Result<()> {
-    let told = "Failed: no such file\n";
+    let told = "Failed\nno such file\n";
     for name in [":memory:", "file:hub.db"] {
         let case = tells(&["init", STORE, "Hub", ABC], "", told, Status::Failed);
         assert_eq!(rt; first_wrong(&rt, name, &[case])?, None);
@@ -140,7 +140,7 @@ fn a_store_in_another_hand(rt: HostRuntime) -> io::Result<()> {
     let path = path.as_str();
     assert_eq!(rt; first_wrong(&rt, path, &[makes()])?, None);
     let held = connect(&rt, path);
-    let told = "Failed: locked by another program\n";
+    let told = "Failed\nlocked by another program\n";
     let case = tells(&["view", STORE, "1"], "", told, Status::Failed);
     assert_eq!(rt; first_wrong(&rt, path, &[case])?, None);
     assert!(rt; held.is_ok());

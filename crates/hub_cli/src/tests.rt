@@ -1,14 +1,15 @@
 //! The program on whole inputs: what it prints, what it tells, how it ends.
 
 use crate::cases::{Case, Expected, first_wrong, prints, tells};
-use crate::cli::cli_run;
+use crate::cli::{cli_run, cli_start};
 use crate::examples::{
     BOTNET, BOTNET_MARKS, DENIAL_OF_SERVICE, DENIAL_OF_SERVICE_MARKS, PHISHING, PHISHING_MARKS,
 };
 use crate::input::INPUT_LIMIT;
 use crate::status::Status;
-use std::io;
+use std::env::{Args, Env, FillError};
 use std::io::{ErrorKind, Read, Write};
+use std::{env, io};
 
 const UNMARKED: &str =
     r#"{"Incident":[{"Contact":[{"role":"creator","type":"organization"}],"GenerationTime":"2024-01-01T00:00:00Z","IncidentID":{"id":"1","name":"src.example"},"purpose":"reporting"}],"version":"2.0"}"#;
@@ -147,6 +148,56 @@ fn other_words(rt: HostRuntime) -> io::Result<()> {
         assert_eq!(rt; first_wrong(&rt, "", &[usage(words)])?, None);
     }
     Ok(())
+}
+
+/// The program's name and its words, of which the last isn't UTF-8.
+const START: [&[u8]; 3] = [b"iodef-hub", b"mark", b"/caf\xe9"];
+
+/// A start with these words.
+#[derive(Drop)]
+struct Started;
+
+impl Env for Started {
+    fn arg(&self, i: usize, buf: &mut [u8]) -> Result<usize, FillError> {
+        let Some(word) = START.get(i) else {
+            return Err(FillError::NotPresent);
+        };
+        let Some(room) = buf.get_mut(..word.len()) else {
+            return Err(FillError::TooLong);
+        };
+        room.copy_from_slice(word);
+        Ok(word.len())
+    }
+
+    fn var(&self, _name: &str, _buf: &mut [u8]) -> Result<usize, FillError> {
+        Err(FillError::NotPresent)
+    }
+
+    fn var_at(&self, _i: usize, _buf: &mut [u8]) -> Result<usize, FillError> {
+        Err(FillError::NotPresent)
+    }
+}
+
+/// Whether nothing is read or printed for these words, and this told first.
+fn is_told(rt: &HostRuntime, words: io::Result<Args>, told: &str, status: Status) -> bool {
+    let mut reader = Spaces {
+        left: 0,
+        fails: true,
+    };
+    let mut output: Vec<u8> = Vec::new(rt.alloc());
+    let mut errors: Vec<u8> = Vec::new(rt.alloc());
+    let ended = cli_start(rt, words, &mut reader, &mut output, &mut errors);
+    let is_silent = output.is_empty();
+    is_silent && ended == status && errors.as_slice().starts_with(told.as_bytes())
+}
+
+#[test]
+fn words_that_cannot_be_taken(rt: HostRuntime) {
+    let words = env::args(&(Started, rt.alloc()));
+    let told = "error: a word isn't UTF-8\n\nUsage: iodef-hub <COMMAND>\n";
+    assert!(rt; is_told(&rt, words, told, Status::Usage));
+    let words = Err(io::Error::from(ErrorKind::OutOfMemory));
+    assert!(rt; is_told(&rt, words, "NoMemory\n", Status::Failed));
 }
 
 /// Gives so many spaces, and then fails or ends.

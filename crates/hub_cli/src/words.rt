@@ -1,5 +1,6 @@
 //! The words of the command line.
 
+use clap::error::ErrorKind;
 use clap::{Arg, ArgMatches, Command, Error, value_parser};
 use std::alloc::{AllocError, Global};
 
@@ -204,4 +205,9 @@ pub fn read_words<'a>(alloc: Global, line: &'a [&'a str]) -> Result<Asked<'a>, E
             pointer: None,
         }),
     }
+}
+
+/// The usage where a word isn't UTF-8.
+pub fn usage_of_other_words(alloc: Global) -> Result<Error, AllocError> {
+    program(alloc)?.error(ErrorKind::InvalidValue, "a word isn't UTF-8")
 }
