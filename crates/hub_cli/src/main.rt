@@ -17,6 +17,8 @@ mod input;
 mod keys;
 mod listen;
 mod mark;
+#[cfg(test)]
+mod old_store_tests;
 mod output;
 mod peer;
 mod replies;

@@ -97,18 +97,20 @@ impl Read for Starved {
     }
 }
 
-/// The input is read before the clock: where both fail, the input's failure is told.
+/// What is told where the clock is stopped.
+fn told_without_a_clock<R: Read>(rt: &HostRuntime, reader: &mut R) -> io::Result<Option<Fault>> {
+    let mut hub = new_hub(rt)?;
+    let asked = reply_to_input(rt.alloc(), &mut hub, &Stopped, &Request::WhoAmI, reader);
+    Ok(asked.err())
+}
+
+/// The input is read before the clock: where both fail, the input's failure is told, and else the clock's.
 #[test]
 fn the_input_before_the_clock(rt: HostRuntime) -> io::Result<()> {
-    let mut hub = new_hub(&rt)?;
-    let asked = reply_to_input(
-        rt.alloc(),
-        &mut hub,
-        &Stopped,
-        &Request::WhoAmI,
-        &mut Starved,
-    );
-    assert!(rt; matches!(asked, Err(Fault::NoMemory)));
+    let starved = told_without_a_clock(&rt, &mut Starved)?;
+    assert!(rt; starved == Some(Fault::NoMemory));
+    let read = told_without_a_clock(&rt, &mut "abc\n".as_bytes())?;
+    assert!(rt; read == Some(Fault::ReadFailed));
     Ok(())
 }
 

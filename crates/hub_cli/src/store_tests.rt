@@ -71,6 +71,12 @@ fn names_and_digests_come_before_the_store(rt: HostRuntime) -> io::Result<()> {
     Ok(())
 }
 
+/// A port that was free just now.
+pub fn free_port(rt: &HostRuntime) -> io::Result<u16> {
+    let listener = TcpListener::bind(rt, (Ipv4Addr::LOCALHOST, 0))?;
+    Ok(listener.local_addr()?.port())
+}
+
 /// Another program's port, and its number.
 fn taken_port(rt: &HostRuntime) -> io::Result<(TcpListener, String)> {
     let listener = TcpListener::bind(rt, (Ipv4Addr::LOCALHOST, 0))?;
@@ -147,9 +153,13 @@ fn a_store_in_another_hand(rt: HostRuntime) -> io::Result<()> {
     remove(&rt, path)
 }
 
+/// An empty file, and one with another table.
 #[test]
 fn a_file_without_a_store(rt: HostRuntime) -> io::Result<()> {
     let path = new_path(&rt, "empty")?;
+    fs::write(&rt, path.as_str(), "")?;
+    let view = tells(&["view", STORE, "1"], "", "NotOurs\n", Status::Failed);
+    assert_eq!(rt; first_wrong(&rt, path.as_str(), &[view])?, None);
     change(&rt, path.as_str(), "CREATE TABLE other (number INTEGER)")?;
     let (_listener, port) = taken_port(&rt)?;
     let serve = ["serve", STORE, port.as_str(), "0"];
