@@ -18,11 +18,11 @@ same_reader a b e = cc
 
 account_numbered : (n : ℕ) (xs : List Account) (a : Account) → find (λ (x : Account). x.person.number == n) xs ≡ Some a → a.person.number ≡ n
 account_numbered n [] a e = absurd cc
-account_numbered n (x ∷ xs) a e = go (x.person.number == n) refl e
+account_numbered n (x ∷ xs) a e = go (x.person.number == n) refl e (account_numbered n xs a)
   where
-    go : (b : Bool) → (x.person.number == n) ≡ b → cond b (Some x) (find (λ (x : Account). x.person.number == n) xs) ≡ Some a → a.person.number ≡ n
-    go true is f = ap (λ (y : Account). y.person.number) (sym (same_account x a f)) ∙ eqb-true x.person.number n is
-    go false is f = account_numbered n xs a f
+    go : (b : Bool) → (x.person.number == n) ≡ b → cond b (Some x) (find (λ (x : Account). x.person.number == n) xs) ≡ Some a → (find (λ (x : Account). x.person.number == n) xs ≡ Some a → a.person.number ≡ n) → a.person.number ≡ n
+    go true is f later = ap (λ (y : Account). y.person.number) (sym (same_account x a f)) ∙ eqb-true x.person.number n is
+    go false is f later = later f
 
 -- what a reader has of its own is that of its person, who has the number that was asked for
 own_part : (n : ℕ) (s : State) (r : Reader) → reader_of n s ≡ Some r → (r ≡ reader_with s r.person) × (r.person.number ≡ n)

@@ -42,9 +42,9 @@ module _ {S : Type 0} (g : store.Ghosts S) where
 -- a read of the connection is a read of the shelf, and keeps what is kept
 pub read_keeps : {S : Type 0} (g : store.Ghosts S) (conn : Held S) (failures : ℕ) (kept : Option Reader) (old : Shelved S) (now : Held S) (count : ℕ) {T : Type 0} (Right : core.State → T → Type 0) (outcome : Result T Error) (result : Result T ShelfFault)
     → seen conn failures kept ≡ old → IsReadOutside (state g conn) (state g now) Right outcome → HasCause failures count result
-    → IsRead (has g) (doubts g) failed (may_remain g) old (seen now count kept) result
+    → IsRead (has g) (doubts g) (failed g) (may_remain g) old (seen now count kept) result
 read_keeps {S} g conn failures kept old now count Right outcome result same answers cause =
-    subst (λ (h : Shelved S). IsRead (has g) (doubts g) failed (may_remain g) h (seen now count kept) result) same
+    subst (λ (h : Shelved S). IsRead (has g) (doubts g) (failed g) (may_remain g) h (seen now count kept) result) same
     (record {
       cause = cause;
       doubt = answers.survives.clean;

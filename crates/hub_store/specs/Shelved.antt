@@ -1,11 +1,16 @@
 -- The shelf over a connection, as its callers see it.
-use Rattle.std.specs.Prelude.{◌≡◌, ℕ, List, Option, Some, None, IfSome}
+use Rattle.std.specs.Prelude.{◌≡◌, ℕ, zero, suc, Bool, List, Option, Some, None, IfSome, refl}
+use Rattle.std.specs.Coded.{Coded, code_by, coded×, coded_ℕ, coded_bool, coded_list, coded_option}
 use Rattle.sqlite_trees.specs.declared.store.Store as store
-use Rattle.sqlite.specs.Held.{Held, state}
+use Rattle.sqlite.specs.Held.{Held, held_code, state}
+use Rattle.circle.specs.declared.directory.Role.{Role}
+use Rattle.circle.specs.declared.directory.Role.TheVariants as role
+use Rattle.circle.specs.declared.directory.Person.{Person}
 use Rattle.hub_core.specs.State.{State}
 use Rattle.hub_core.specs.Reads.{reader_of}
 use Rattle.hub_core.specs.declared.look_ups.Reader.{Reader}
 use Rattle.hub_store.specs.Content.{Has}
+use Rattle.hub_store.specs.Rows.{role_number}
 
 pub record Shelved (S : Type 0) : Type 0 where
   pub conn : Held S
@@ -13,6 +18,45 @@ pub record Shelved (S : Type 0) : Type 0 where
   pub failures : ℕ
   -- what the reader that was asked for last has of its own, until an edit
   pub kept : Option Reader
+
+-- ---- it is stored as the tuple of its fields
+
+abbrev role_numbered : ℕ → Role
+role_numbered zero = role.Administrator
+role_numbered (suc zero) = role.Coordinator
+role_numbered (suc (suc zero)) = role.Poster
+role_numbered (suc (suc (suc n))) = role.Reader
+
+pub role_again : (r : Role) → role_numbered (role_number r) ≡ r
+role_again role.Administrator = refl
+role_again role.Coordinator = refl
+role_again role.Poster = refl
+role_again role.Reader = refl
+
+abbrev role_code : Coded Role
+role_code = code_by ℕ coded_ℕ role_number role_numbered role_again
+
+abbrev person_code : Coded Person
+person_code =
+    code_by (ℕ × (ℕ × (List ℕ × (Role × (Bool × Bool))))) (coded× coded_ℕ (coded× coded_ℕ (coded× (coded_list coded_ℕ) (coded× role_code (coded× coded_bool coded_bool)))))
+    (λ p. (p.number, (p.org, (p.name, (p.role, (p.active, p.nominated))))))
+    (λ t. record { number = t.0; org = t.1.0; name = t.1.1.0; role = t.1.1.1.0; active = t.1.1.1.1.0; nominated = t.1.1.1.1.1 }) (λ _. refl)
+
+abbrev numbers_code : Coded (List ℕ)
+numbers_code = coded_list coded_ℕ
+
+abbrev reader_code : Coded Reader
+reader_code =
+    code_by (Person × (List ℕ × (List ℕ × (List ℕ × List ℕ)))) (coded× person_code (coded× numbers_code (coded× numbers_code (coded× numbers_code numbers_code))))
+    (λ r. (r.person, (r.served, (r.groups, (r.active_groups, r.communities)))))
+    (λ t. record { person = t.0; served = t.1.0; groups = t.1.1.0; active_groups = t.1.1.1.0; communities = t.1.1.1.1 }) (λ _. refl)
+
+abbrev pub shelved_code : {S : Type 0} → Coded S → Coded (Shelved S)
+shelved_code {S} store =
+    code_by (Held S × (ℕ × Option Reader)) (coded× (held_code store) (coded× coded_ℕ (coded_option reader_code)))
+    (λ h. (h.conn, (h.failures, h.kept))) (λ t. record { conn = t.0; failures = t.1.0; kept = t.1.1 }) (λ _. refl)
+
+-- ---- what it has
 
 -- what is kept is what that person has of its own in this state
 abbrev pub IsRightOf : Option Reader → State → Type 0

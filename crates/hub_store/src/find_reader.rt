@@ -64,7 +64,7 @@ pub(crate) fn find_reader<S: Alter>(
     requires { conn.old.in_transaction ≡ false }
     ensures idle { conn.new.in_transaction ≡ false }
     ensures answers { IsReadOutside (state S.Store conn.old)
-        (state S.Store conn.new) (λ s found. found ≡ reader_of number s) }
+        (state S.Store conn.new) (λ s found. found ≡ reader_of number s) result }
 {
     let mut tx = conn.transaction();
     let found = read_reader(&mut tx, alloc, number);

@@ -150,7 +150,7 @@ fn read_ties<S: Alter>(
     ensures same_reference { tx.new.conn.ghost_name ≡ tx.old.conn.ghost_name }
     ensures read { IsReadInside (state S.Store tx.old.conn.now)
         (state S.Store tx.new.conn.now) (λ s found.
-        IfSome own (λ ns. ns.now ≡ communities_of org s.directory) →
+        IfSome own.entry (λ ns. ns.now ≡ communities_of org s.directory) →
         found ≡ ties_of org source named s) result }
 {
     match own {
@@ -173,7 +173,7 @@ pub(crate) fn find_ties<S: Alter>(
     ensures idle { conn.new.in_transaction ≡ false }
     ensures answers { IsReadOutside (state S.Store conn.old)
         (state S.Store conn.new) (λ s found.
-        IfSome own (λ ns. ns.now ≡ communities_of org s.directory) →
+        IfSome own.entry (λ ns. ns.now ≡ communities_of org s.directory) →
         found ≡ ties_of org source named s) result }
 {
     let mut tx = conn.transaction();

@@ -8,7 +8,8 @@
 //! 2. `Rows`, `Items`, `Values` and `Pairs`: each element of a set as a row, and each line of a document; `Fit`: the limits
 //!    that every row keeps.
 //! 3. `Means`: which state the tables stand for, set by set; `Content`: what a connection has, and what an open after a
-//!    crash may find; `Shelved`: what the shelf has, by its connection and what it keeps; `Opening` and `Failing`: why a store isn't opened; `Laws`: what is found of what a crash left.
+//!    crash may find; `Shelved`: what the shelf has, by its connection and by what it keeps; `Opening` and `Failing`: why a
+//!    store isn't opened; `Laws`: what is found of what a crash left.
 //!
 //! The rooms, in the way of the data:
 //!

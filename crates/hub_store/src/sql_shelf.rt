@@ -30,22 +30,23 @@ pub enum OpenFault {
     NoMemory,
 }
 
-/// The hub's tables in a connection that is in no transaction between two calls. Contracts see the connection, and how often
-/// the store has failed, and what is kept.
+/// The hub's tables in a connection that is in no transaction between two calls. It keeps what the reader that was asked for
+/// last has of its own, until an edit. Contracts see the connection, how often the store has failed, and what is kept.
 #[derive(Drop)]
 pub struct SqlShelf<S: Alter> {
     alloc: Global,
     conn: Connection<S>,
     failures: u64,
-    /// What the reader that was asked for last has of its own, until an edit.
     kept: Option<Reader>,
 }
 
 impl<S: Alter> Model for SqlShelf<S> {
     ghost use Rattle.std.specs.Prelude.{◌≡◌, false};
-    ghost use Rattle.hub_store.specs.Shelved.{Shelved};
+    ghost use Rattle.hub_store.specs.Shelved.{Shelved, shelved_code};
 
     ghost Value = { Shelved S };
+
+    ghost coded = { shelved_code S.code };
 
     ghost view = { λ shelf. record { conn = shelf.conn; failures = shelf.failures; kept = shelf.kept } };
 
