@@ -50,7 +50,7 @@ answer_kept n s (Some k) r copy is number same right =
     ap Some (same ∙ sym one) ∙ (sym right ∙ ap (λ m. reader_of m s) (ap (λ (x : Reader). x.person.number) one ∙ number))
 
 -- the communities that are kept are those of the organisation
-communities_right : (org : ℕ) (s : State) (kept : Option Reader) (communities : List ℕ) → IsKeptOf kept org communities → IsRightOf kept s → communities ≡ communities_of org s.directory
+pub communities_right : (org : ℕ) (s : State) (kept : Option Reader) (communities : List ℕ) → IsKeptOf kept org communities → IsRightOf kept s → communities ≡ communities_of org s.directory
 communities_right org s None communities of right = absurd of
 communities_right org s (Some r) communities of right =
     sym of.1 ∙ (ap (λ (x : Reader). x.communities) (own_part r.person.number s r right).0 ∙ ap (λ o. communities_of o s.directory) of.0)
