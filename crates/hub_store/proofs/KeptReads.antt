@@ -52,9 +52,9 @@ module _ {S : Type 0} (g : store.Ghosts S) (conn : Held S) (failures : ℕ) (kep
       record {
         value = right;
         kept = record {
-              cause = read.cause;
-              doubt = read.doubt;
-              content = λ clean s here. ((read.content clean s here).0, right_of_read n s found copy is (right clean s here));
-              crash = read.crash;
-            };
+          cause = read.cause;
+          doubt = read.doubt;
+          content = λ clean s here. ((read.content clean s here).0, right_of_read n s found copy is (right clean s here));
+          crash = read.crash;
+        };
       }

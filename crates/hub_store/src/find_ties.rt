@@ -57,7 +57,7 @@ fn read_others<S: Alter>(
     ensures read { IsReadInside (state S.Store tx.old.conn.now)
         (state S.Store tx.new.conn.now) (λ s found.
         (found.communities.items ≡ communities_of source s.directory)
-            × (found.connected ≡ are_linked own.now (communities_of source s.directory) s.directory)) result }
+        × (found.connected ≡ are_linked own.now (communities_of source s.directory) s.directory)) result }
 {
     let communities = read_communities(tx, alloc, source)?;
     for community in own {
