@@ -4,9 +4,9 @@
 usage: bench/dearest.py [--program PATH] [--reports 10000] [--instructions] [--only ROW ..]
 
 The reports are of 204 lines, each for every organisation by its level and for its source alone by its labels. Each row is asked
-five times; the middle time is printed, and the most memory that the process had since the row began, beside what it had before.
-With --instructions each row is asked once more of a hub under callgrind, which counts from behind the opening. Wanted: Python 3.11,
-for --instructions valgrind. It takes some minutes, with --instructions an hour.
+five times; the middle time is printed, and the most memory that the process took from the system meanwhile (VmSize, looked at each
+5 milliseconds), beside what it had before. With --instructions each row is asked once more of a hub under callgrind, which counts
+from behind the opening. Wanted: Python 3.11, for --instructions valgrind. It takes some minutes, with --instructions an hour.
 """
 
 import argparse
@@ -19,6 +19,7 @@ import statistics
 import subprocess
 import sys
 import tempfile
+import threading
 import time
 import typing
 from collections.abc import Callable
@@ -106,13 +107,11 @@ class Hub:
             sys.exit(f"dearest.py: {method} {target[:80]}: {status} {told[:200]!r}")
         return told
 
-    def memory(self, field: str) -> float:
+    def memory(self) -> float:
+        """The memory that the process has from the system, in megabytes, whether it stands in RAM or not."""
         text = pathlib.Path(f"/proc/{self.process.pid}/status").read_text()
-        found = re.search(rf"^{field}:\s+(\d+) kB$", text, re.M)
+        found = re.search(r"^VmSize:\s+(\d+) kB$", text, re.M)
         return int(found[1]) / 1024 if found else 0.0
-
-    def forget_peak(self) -> None:
-        pathlib.Path(f"/proc/{self.process.pid}/clear_refs").write_text("5")
 
     def control(self, *words: str) -> None:
         subprocess.run(["callgrind_control", *words, str(self.process.pid)], check=True, stdout=subprocess.DEVNULL)
@@ -217,16 +216,31 @@ ROWS = [
 ]
 
 
+class Watch(threading.Thread):
+    """Looks at the memory of a hub until it is told to stop."""
+
+    def __init__(self, hub: Hub) -> None:
+        super().__init__(daemon=True)
+        self.hub, self.most, self.ended = hub, 0.0, threading.Event()
+
+    def run(self) -> None:
+        while not self.ended.wait(0.005):
+            self.most = max(self.most, self.hub.memory())
+
+
 def measure(hub: Hub, row: Row, says: Callable[[str], None]) -> None:
     row.before(hub)
-    resting = hub.memory("VmRSS")
-    hub.forget_peak()
+    resting = hub.memory()
+    watch = Watch(hub)
+    watch.start()
     times = []
     for turn in range(TURNS):
         begun = time.perf_counter()
         row.asked(hub, turn)
         times.append(time.perf_counter() - begun)
-    says(f"| {row.name} | {statistics.median(times):.3f} s | {hub.memory('VmHWM'):.0f} MB, {resting:.0f} before |")
+    watch.ended.set()
+    watch.join()
+    says(f"| {row.name} | {statistics.median(times):.3f} s | {watch.most:.0f} MB, {resting:.0f} before |")
 
 
 def main() -> None:
