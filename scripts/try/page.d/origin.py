@@ -4,6 +4,7 @@ import base64
 import hashlib
 import http.client
 import http.server
+import json
 import pathlib
 import re
 import threading
@@ -42,10 +43,13 @@ class Origin:
         self.page = page
         self.hub_port = hub_port
         self.names: bytes | None = None
+        self.listed: list[int] | None = None  # the numbers of a list that it answers in the hub's place
+        self.at_once = self.most_at_once = 0  # how many excerpts are asked for now, and were at most
         self.instead: dict[str, Answer] = {}
         self.asked: list[tuple[str, str]] = []
         self.bodies: list[bytes] = []
         self.one_at_a_time = threading.Lock()
+        self.counting = threading.Lock()
         origin = self
 
         class Handler(http.server.BaseHTTPRequestHandler):
@@ -99,7 +103,26 @@ class Origin:
             return 404, "text/plain", b""
         if path in self.instead:
             return self.instead.pop(path)
-        return self.answer_of_hub(method, target, key, body)
+        if path == "/incidents" and method == "GET" and self.listed is not None:
+            return self.answer_of_list(target)
+        if not re.fullmatch(r"/incidents/\d+", path) or method != "GET":
+            return self.answer_of_hub(method, target, key, body)
+        self.count_asked(1)
+        try:
+            return self.answer_of_hub(method, target, key, body)
+        finally:
+            self.count_asked(-1)
+
+    def count_asked(self, step: int) -> None:
+        with self.counting:
+            self.at_once += step
+            self.most_at_once = max(self.most_at_once, self.at_once)
+
+    def answer_of_list(self, target: str) -> Answer:
+        after = int(dict(urllib.parse.parse_qsl(urllib.parse.urlsplit(target).query)).get("after", "0"))
+        found = [number for number in self.listed or [] if number > after][:100]
+        entries = [{"number": number, "revision": 1, "source": 2} for number in found]
+        return 200, "application/json", json.dumps({"incidents": entries}).encode()
 
     def answer_of_hub(self, method: str, target: str, key: str | None, body: bytes) -> Answer:
         with self.one_at_a_time:
