@@ -138,6 +138,14 @@ class Browser:
     def size(self, width: int, height: int) -> None:
         self.cdp("Emulation.setDeviceMetricsOverride", width=width, height=height, deviceScaleFactor=1, mobile=False)
 
+    def save_into(self, folder: pathlib.Path) -> None:
+        """What the page saves comes into this folder, and what it copies can be read back."""
+        self.cdp("Browser.setDownloadBehavior", behavior="allow", downloadPath=str(folder))
+        self.cdp("Browser.grantPermissions", permissions=["clipboardReadWrite", "clipboardSanitizedWrite"])
+
+    def copied(self) -> str:
+        return str(self.run("return await navigator.clipboard.readText()"))
+
     def scheme(self, name: str) -> None:
         self.cdp("Emulation.setEmulatedMedia", features=[{"name": "prefers-color-scheme", "value": name}])
 

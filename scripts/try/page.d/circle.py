@@ -42,13 +42,19 @@ class Circle:
     def ask(
         self, who: str, method: str, path: str, form: Pairs = (), query: Pairs = (), report: bytes | None = None
     ) -> typing.Any:
+        return json.loads(self.text(who, method, path, form, query, report))
+
+    def text(
+        self, who: str, method: str, path: str, form: Pairs = (), query: Pairs = (), report: bytes | None = None
+    ) -> str:
+        """The answer as it is served."""
         body: bytes | None = urllib.parse.urlencode(form).encode() if report is None else report
         if method == "GET":
             body = None
         target = path + ("?" + urllib.parse.urlencode(query) if query else "")
         connection = http.client.HTTPConnection("127.0.0.1", self.port, timeout=600)
         connection.request(method, target, body, {"Authorization": f"Bearer {KEYS.get(who, who)}"})
-        answer = json.loads(connection.getresponse().read())
+        answer = connection.getresponse().read().decode()
         connection.close()
         return answer
 
