@@ -138,8 +138,9 @@ class Trial:
 
     def row_is_read(self, number: int) -> bool:
         """Waits until the row of an incident tells more than numbers."""
-        self.browser.run("document.querySelector(`#found a[data-number='${arguments[0]}']`).scrollIntoView()", str(number))
-        return self.browser.wait("document.querySelector(`#found a[data-number='${arguments[0]}'] .chip`)", str(number))
+        link = f"#found a[data-number='{number}']"
+        # Rows above it grow when they are read.
+        return self.browser.wait("(document.querySelector(arguments[0]).scrollIntoView(), document.querySelector(arguments[0] + ' .chip'))", link)
 
     def held(self, title: str, words: str) -> typing.Any:
         """What the control holds whose label begins with these words, in the form of this title."""
