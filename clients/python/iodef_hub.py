@@ -22,7 +22,9 @@ import json
 import os
 import pathlib
 import secrets
+import shutil
 import ssl
+import subprocess
 import sys
 import time
 import urllib.parse
@@ -36,6 +38,7 @@ LAST_NUMBER = 2**32 - 1
 LAST_MOMENT = datetime.datetime(9999, 12, 30, 22, tzinfo=datetime.timezone.utc)
 PAGE = 100  # incidents in one answer
 LONGEST_REPLY = 64 * 1024 * 1024
+COMMAND_SECONDS = 60  # of a command that a watch runs
 GRANTEES = ("person", "org", "community", "group")
 RECIPIENTS = ("person", "org")
 ROLES = ("administrator", "coordinator", "poster", "reader")
@@ -821,20 +824,97 @@ def do_indicators(hub: Hub, given: argparse.Namespace, teller: Teller) -> None:
         print(f"iodef-hub-ask: {rest} more stand elsewhere, as the addresses of victims do; --all lists them with their role", file=sys.stderr)
 
 
+class Watched:
+    """The incidents that a watch has told: the highest number, or with --all the revision of each. A file keeps them from one run
+    to the next. If a new file is given and no --from, nothing that stands at the hub is news, so `is_first` is true for one look."""
+
+    def __init__(self, file: str | None, start: int | None, is_all: bool) -> None:
+        self.file, self.is_all, self.last = file, is_all, start or 0
+        self.revisions: dict[int, int] = {}
+        self.is_first = file is not None and start is None
+        if file is not None and os.path.exists(file):
+            self.read(file)
+
+    def read(self, file: str) -> None:
+        bad = Usage(f"{file} was written by no watch {'with' if self.is_all else 'without'} --all")
+        try:
+            value = json.loads(pathlib.Path(file).read_bytes())
+            self.last = _member(value, "last", int)
+            revisions = value.get("revisions")
+            if isinstance(revisions, dict) != self.is_all:
+                raise bad
+            self.revisions = {int(number): _member(revisions, number, int) for number in revisions or {}}
+        except (ValueError, RecursionError, NotHub):
+            raise bad from None
+        self.is_first = False
+
+    def is_news(self, entry: Entry) -> bool:
+        return self.revisions.get(entry.number) != entry.revision if self.is_all else entry.number > self.last
+
+    def note(self, entry: Entry) -> None:
+        self.last = max(self.last, entry.number)
+        if self.is_all:
+            self.revisions[entry.number] = entry.revision
+
+    def keep(self) -> None:
+        """Writes the file, whole or not at all."""
+        if self.file is None:
+            return
+        with open(f"{self.file}.new", "w") as new:
+            json.dump({"last": self.last, **({"revisions": self.revisions} if self.is_all else {})}, new)
+            new.flush()
+            os.fsync(new.fileno())
+        os.replace(new.name, self.file)
+
+
+def handed_over(command: str, entry: Entry) -> bool:
+    """Whether a command that was run with the number and the source of an incident ended well. It gets nothing else: no content,
+    no key, an empty standard input."""
+    environment = {name: value for name, value in os.environ.items() if name not in ("IODEF_HUB_KEY", "IODEF_HUB_KEY_FILE")}
+    words = [command, str(entry.number), str(entry.source)]
+    try:
+        status = subprocess.run(words, stdin=subprocess.DEVNULL, stdout=sys.stderr, env=environment, timeout=COMMAND_SECONDS).returncode
+        if status == 0:
+            return True
+        why = f"ended with status {status}" if status > 0 else f"was ended by signal {-status}"
+    except subprocess.TimeoutExpired:
+        why = f"didn't end within {COMMAND_SECONDS} seconds"
+    except OSError as fault:
+        why = f"wasn't run: {fault.strerror}"
+    told = f"{command} {why}; incident {entry.number} and those behind it are tried again at the next look"
+    print(f"iodef-hub-ask: {shown(told)}", file=sys.stderr, flush=True)
+    return False
+
+
+def look(hub: Hub, given: argparse.Namespace, watched: Watched) -> None:
+    """Tells what is new. If the command fails, the look ends there, so that no incident is told before one that stands ahead of it."""
+    for entry in hub.every_incident(0 if given.all else watched.last):
+        if not watched.is_news(entry):
+            continue
+        if not watched.is_first:
+            if given.exec is not None and not handed_over(given.exec, entry):
+                return
+            print(json.dumps(asdict(entry), separators=(",", ":")) if given.json else entry_line(entry), flush=True)
+        watched.note(entry)
+        if not watched.is_first:
+            watched.keep()
+    if watched.is_first:
+        watched.is_first = False
+        watched.keep()
+
+
 def do_watch(hub: Hub, given: argparse.Namespace, teller: Teller) -> None:
     """New incidents by number; with --all also new revisions and what becomes visible, which costs a whole list each time."""
-    known: dict[int, int] = {}
-    last, rounds = given.start, 0
+    if given.exec is not None and shutil.which(given.exec) is None:
+        raise Usage(f"--exec {given.exec}: there is no such program")
+    watched = Watched(given.state, given.start, given.all)
+    rounds = 0
     while True:
         try:
-            for entry in hub.every_incident(0 if given.all else last):
-                if known.get(entry.number) != entry.revision and (given.all or entry.number > last):
-                    line = json.dumps(asdict(entry), separators=(",", ":")) if given.json else entry_line(entry)
-                    print(line, flush=True)
-                if given.all:
-                    known[entry.number] = entry.revision
-                last = max(last, entry.number)
-        except Unreachable as fault:
+            look(hub, given, watched)
+        except (Unreachable, Refused) as fault:
+            if isinstance(fault, Refused) and fault.status not in (429, 502, 503, 504):
+                raise
             print(f"iodef-hub-ask: {shown(str(fault))}; goes on", file=sys.stderr, flush=True)
         rounds += 1
         if rounds == given.rounds:
@@ -1060,9 +1140,13 @@ class Words:
                  "the incidents in which you may read a text, in a class of this name if one is given", "needle", "class_name?")
         watch = self.add("watch", do_watch, "tells new incidents as they come")
         watch.add_argument("--every", type=float, default=60, help="seconds between two looks (%(default)s)")
-        watch.add_argument("--from", dest="start", type=number, default=0, help="incidents above this number are new")
+        watch.add_argument("--from", dest="start", type=number, metavar="NUMBER", help="incidents above this number are new (0)")
         watch.add_argument("--all", action="store_true", help="also new revisions, and what becomes visible: a whole list each time")
         watch.add_argument("--rounds", type=number, default=0, help="how often to look; 0 is for ever")
+        watch.add_argument("--exec", metavar="COMMAND", help="runs COMMAND NUMBER SOURCE for each, without a shell, and never with content or"
+                           " the key; if it fails, that incident and those behind it are tried again at the next look")
+        watch.add_argument("--state", metavar="FILE", help="keeps in FILE what was told; if it isn't there and --from isn't given, what stands at"
+                           " the hub now isn't new")
 
     def add_reports(self) -> None:
         post = self.add("post", told(lambda hub, given: [str(each) for each in hub.post(
