@@ -54,10 +54,11 @@ def strange_names(trial: Trial, number: int) -> None:
     """Names that are nobody's, two persons', a number, or have signs that aren't seen."""
     browser = trial.browser
     path = f"/incidents/{number}/grant"
-    strange = {"2": "Twin", "3": "Twin", "4": "3", "5": "Te\u202elco", "1": "x (3)"}
+    strange = {"2": "Twin", "3": "Twin", "4": "3", "5": "Te\u202elco", "6": "<img src=x onerror=window.hit=1>", "1": "x (3)"}
     trial.origin.names = json.dumps({"orgs": strange, "persons": NAMES["persons"]}).encode()
     trial.enter("bank")
     trial.go(f"#incidents/{number}")
+    trial.no_markup("names that are offered")
     for text, words in (("Nobody", "No organisation of this name is known"), ("Twin", "More than one has this name"), ("telco", "No organisation")):
         before = trial.sent("POST", path)
         trial.fill(PERMIT, {"Class": PLACE, "To": ["org", text]})

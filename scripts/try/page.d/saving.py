@@ -34,7 +34,7 @@ def odd_report() -> bytes:
         system("source", "192.0.2.1"), system("target", "203.0.113.1"), system("source", "203.0.113.2", spoofed="yes"),
         system(["source"], "203.0.113.3"), {"category": "target", "AdditionalData": [{"System": system("source", "192.0.2.3")}], "URL": "http://v.example"},
     ]  # fmt: skip
-    bulk = {"type": "domain-name", "BulkObservableList": ["a\tb\nc", "\u202egpj.exe", "\u00e9\u00a0x", "\U000e0001y", 7, "<b>&amp;"]}
+    bulk = {"type": "domain-name", "BulkObservableList": ["a\tb\nc", "\u202egpj.exe", "\u00e9\u00a0x", "\U000e0001y", 7, "<b>&amp;", "</textarea><img src=x onerror=window.hit=1>"]}
     return report(
         incident(
             "../../etc/x.html",
@@ -65,6 +65,7 @@ def saving(trial: Trial, folder: pathlib.Path) -> None:
         (into / f"{name}.json").unlink()
         browser.run("[...document.querySelectorAll('#report summary')].find(one => one.textContent.startsWith('Indicators')).click()")
         indicators(trial, into, who, number, name)
+    trial.no_markup("lines of indicators")
     trial.check("what is saved is named by numbers alone", [it.name for it in into.iterdir()] == [], list(into.iterdir()))
     trial.check_has("signs that forge a line are spelled", told_by_client(trial, "telco", odd), "a\\u0009b\\u000ac", "\\u202egpj.exe", "\\U000e0001y")
     numbers = trial.circle.ask("bank", "POST", "/incidents", query=[("level", 3)], report=report(incident("without")))["numbers"]

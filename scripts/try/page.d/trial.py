@@ -24,7 +24,7 @@ const form = [...document.querySelectorAll('main form')].find(one => one.querySe
 for (let above = form; above; above = above.parentElement) if (above.tagName === 'DETAILS') above.open = true;
 const put = (control, value) => {
   if (['checkbox', 'radio'].includes(control.type)) control.checked = value; else control.value = value;
-  control.dispatchEvent(new Event('change'));
+  control.dispatchEvent(new Event('change', { bubbles: true }));
 };
 for (const [words, value] of Object.entries(values)) {
   const label = [...form.querySelectorAll('label, legend')].find(one => one.textContent.trim().startsWith(words));
@@ -47,6 +47,18 @@ for (const label of form.querySelectorAll('label, legend')) {
   held[label.textContent.trim()] = label.tagName === 'LEGEND' ? values : values[0];
 }
 return held;
+"""
+
+# Elements and attributes that a served text could only have brought in as markup.
+FOREIGN = """
+const tags = ['IMG', 'SVG', 'IFRAME', 'OBJECT', 'EMBED', 'B', 'SCRIPT', 'STYLE', 'LINK', 'META', 'BASE', 'VIDEO', 'AUDIO'];
+const found = [];
+for (const node of document.querySelectorAll('body *')) {
+  if (tags.includes(node.tagName.toUpperCase()) && node !== document.querySelector('body > script')) found.push(node.tagName);
+  for (const { name } of node.attributes) if (name.startsWith('on') || ['style', 'srcdoc', 'src'].includes(name)) found.push(name);
+  if (node.tagName === 'A' && !/^#[a-z]+(\\/[0-9]+)?$/.test(node.getAttribute('href'))) found.push(node.getAttribute('href'));
+}
+return found;
 """
 
 # The titles of forms
@@ -141,6 +153,10 @@ class Trial:
         link = f"#found a[data-number='{number}']"
         # Rows above it grow when they are read.
         return self.browser.wait("(document.querySelector(arguments[0]).scrollIntoView(), document.querySelector(arguments[0] + ' .chip'))", link)
+
+    def no_markup(self, what: str) -> None:
+        found = self.browser.run(FOREIGN)
+        self.check(f"no element comes of {what}, and no script ran", found == [] and self.browser.run("return window.hit === undefined"), found)
 
     def held(self, title: str, words: str) -> typing.Any:
         """What the control holds whose label begins with these words, in the form of this title."""

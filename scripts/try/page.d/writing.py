@@ -4,7 +4,6 @@ import json
 import pathlib
 import re
 import subprocess
-import typing
 
 from saving import saved
 from trial import Trial
@@ -41,7 +40,7 @@ MADE: dict[str, object] = {
     "purpose": "reporting", "restriction": "green", "IncidentID": {"id": "W-1", "name": "csirt.bank.example"},
     "StartTime": "2030-07-01T18:00:00+02:00", "DetectTime": "2030-12-31T18:00:00+01:00", "Description": [WRITTEN["Description"]],
     "Contact": [{"role": "creator", "type": "organization", "restriction": "red", "ContactName": ["CSIRT of the Bank"], "Email": [{"EmailTo": "csirt@bank.example"}]}],
-    "EventData": [{**STRICT, "Description": ["Mailboxes were opened."]}],
+    "EventData": [STRICT | {"Description": ["Mailboxes were opened."]}],
     "Indicator": INDICATORS,
 }  # fmt: skip
 MARKED = {
@@ -80,13 +79,14 @@ def writing(trial: Trial, folder: pathlib.Path) -> None:
     trial.check("and the time at which it was made", re.fullmatch(r"20\d\d-\d\d-\d\dT\d\d:\d\d:00\+0[12]:00", time) is not None, time)
     trial.check("and is shown in lines", text.startswith('{\n  "version": "2.0",\n  "Incident": [\n'), text)
     trial.check("the focus stands at it", browser.run("return document.activeElement.tagName") == "TEXTAREA")
+    trial.no_markup("a report that was written by the form")
     trial.check("nothing was sent", len([1 for method, _ in trial.origin.asked if method != "GET"]) == before)
-    browser.run("[...document.querySelectorAll('#pane button')].find(one => one.textContent === 'Save the report as a file').click()")
+    browser.run("[...document.querySelectorAll('#pane button')].find(one => one.textContent === 'Save report.json').click()")
     trial.check("it is saved as it is shown", saved(into, "report.json") == text)
     status, lines = marked_by(trial.circle.program, text)
     told = {path: f"{label} {handling}" for path, label, handling, _ in lines}
     trial.check("the program's own mark reads its labels so", status == 0 and told.items() >= MARKED.items(), lines)
-    trial.check_has("the page tells the command that does", browser.text("#pane"), "iodef-hub mark < report.json")
+    trial.check_has("the page tells the command that does", browser.run("return document.querySelector('#pane pre').textContent"), "iodef-hub mark < report.json\n")
     trial.fill(POST, {"Who may get it": "3"})
     trial.done("it is posted", "Posted as incident ")
     number = browser.run("return document.querySelector('#done a').hash").split("/")[1]
@@ -119,7 +119,7 @@ def least(trial: Trial) -> None:
         ("TLP:CLEAR", {"restriction": "white"}), ("TLP:AMBER", {"restriction": "ext-value", "ext-restriction": "TLP:AMBER"}), ("TLP:RED", {"restriction": "red"}), ("default", {"restriction": "default"}),
     )  # fmt: skip
     for label, members in labels:
-        values: dict[str, typing.Any] = {**{name: "" for name in empty}, "Number of": "W-2", "Label of the report": label, "Contact: what": "person"}
+        values: dict[str, object] = {**{name: "" for name in empty}, "Number of": "W-2", "Label of the report": label, "Contact: what": "person"}
         trial.fill(MAKE, values)
         made = json.loads(text_of(trial))["Incident"][0]
         made.pop("GenerationTime")
