@@ -18,8 +18,8 @@ def rows_of_list(trial: Trial) -> None:
             f"a row tells what {who} is shown: name, description, date, strongest label, source",
             browser.text("#found a[data-number='1']"),
             *words,
-            "Bank (organisation 2)",
-            "Incident 1, revision ",
+            "Bank",
+            "Incident 1",
         )
     row = browser.text("#found a[data-number='1']")
     trial.check("a row tells nothing that is withheld", "2026-0417" not in row and "2026-04-16" not in row, row)
