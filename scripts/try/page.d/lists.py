@@ -53,6 +53,9 @@ def sizes_of_list(trial: Trial) -> None:
     browser.settle()
     browser.wait("false", seconds=1)
     trial.check("an excerpt that was read for the list isn't read again", trial.sent("GET", path) == before)
+    trial.origin.instead[path] = (429, "application/json", b'{"code":"TooMany","detail":"","reason":"too many requests"}')
+    trial.enter("telco")
+    trial.check("a row that a proxy refuses is read later", trial.row_is_read(newest) and browser.text("#refused") == "", browser.text("#refused"))
     trial.origin.instead[path] = (200, "application/json", b'{"document":{},"x":"' + b"x" * 1048576 + b'"}')
     trial.enter("telco")
     row = f"#found a[data-number='{newest}']"

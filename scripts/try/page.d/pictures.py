@@ -41,6 +41,7 @@ def take(trial: Trial) -> None:
     trial.go("#incidents/1")
     trial.picture_for_readme("page-excerpt", FOLDED)
     trial.enter("admin")
+    trial.row_is_read(1)
     trial.go("#explain")
     trial.fill("Explain", {"Person": "Cleo", "Incident": "1", "Class": "/Incident/0/EventData/1"})
     trial.picture_for_readme("page-explain")
