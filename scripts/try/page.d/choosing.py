@@ -59,7 +59,8 @@ def strange_names(trial: Trial, number: int) -> None:
     trial.enter("bank")
     trial.go(f"#incidents/{number}")
     trial.no_markup("names that are offered")
-    for text, words in (("Nobody", "No organisation of this name is known"), ("Twin", "More than one has this name"), ("telco", "No organisation")):
+    unknown, double = "No organisation of this name is known", "More than one has this name"
+    for text, words in (("Nobody", unknown), ("Twin", double), ("telco", unknown)):
         before = trial.sent("POST", path)
         trial.fill(PERMIT, {"Class": PLACE, "To": ["org", text]})
         trial.check_has(f"{text} is refused before anything is sent", browser.text("#refused"), words, "Nothing was sent.")
@@ -120,7 +121,8 @@ def in_lines(trial: Trial, folder: pathlib.Path) -> None:
     lines = [each.split("\t") for each in saved(into, "done.txt").splitlines()]
     trial.check("each change that was made is saved as a line, and none that was refused", [each[1:] for each in lines] == wanted, lines)
     moments = [each[0] for each in lines]
-    trial.check("in the order of their moments", moments == sorted(moments) and all(each.endswith("Z") and len(each) == 20 for each in moments), moments)
+    are_whole = all(each.endswith("Z") and len(each) == 20 for each in moments)
+    trial.check("in the order of their moments", moments == sorted(moments) and are_whole, moments)
     trial.enter("bank")
     trial.go("#done")
     trial.check("they are forgotten with the key", browser.run("return document.querySelector('#pane textarea').value") == "")

@@ -32,10 +32,12 @@ return [...document.querySelectorAll(arguments[0] + ' .marks tbody tr')].map(row
 def odd() -> bytes:
     """Labels and names in each form that the hub takes, out of their stored order."""
     signs = "a\u2028\u007f\u001b\"\\/\u00e9\U0001f600<b>"
-    parts = [{"restriction": "ext-value", "ext-restriction": text} for text in ("tlp:green", "TLP:AMBER", "TLP:amber+strict", "tlp:white", "TLP:RED", "red", "", signs)]
+    texts = ("tlp:green", "TLP:AMBER", "TLP:amber+strict", "tlp:white", "TLP:RED", "red", "", signs)
+    parts = [{"restriction": "ext-value", "ext-restriction": text} for text in texts]
     names = ("public", "white", "partner", "green", "need-to-know", "amber", "private", "red", "default")
     plain = [{"restriction": name, "ext-restriction": "TLP:CLEAR"} for name in names]
-    strange: dict[str, object] = {name: {"a": [{"b": {}}, 1, {}]} for name in ("\uffff", "\U0001f600", "10", "9", "__proto__", "constructor", "a~b/c", "<img src=x onerror=window.hit=1>")}
+    members = ("\uffff", "\U0001f600", "10", "9", "__proto__", "constructor", "a~b/c", "<img src=x onerror=window.hit=1>")
+    strange: dict[str, object] = {name: {"a": [{"b": {}}, 1, {}]} for name in members}
     one = incident("odd", Many=parts + plain + [{"x": "y"}], Last={"Deep": [{"Deeper": {}}]}, **strange)
     del one["restriction"]
     whole = {"z": {"q": {"restriction": "green", "r": {}}}, "Beside": [{"s": {}}], "Incident": [one, incident("second")]}
@@ -71,33 +73,37 @@ def looking(trial: Trial, folder: pathlib.Path) -> None:
         (into / "report.marks").unlink(missing_ok=True)
     two = show(trial, POST, {"or its text": odd().decode()})
     _, second = marked_by(trial.circle.program, odd().decode(), "--incident", "1")
-    trial.check("each Incident has a table of its own", [[row[0], row[2]] for row in two][-len(second) :] == [[line[0], line[2]] for line in second], two)
+    last = [[row[0], row[2]] for row in two][-len(second) :]
+    trial.check("each Incident has a table of its own", last == [[line[0], line[2]] for line in second], two)
     trial.no_markup("a report that is about to be posted")
     levels(trial)
     wrongs(trial)
     trial.go("#incidents/1")
-    rows = show(trial, REPLACE, {"or its text": report(incident("again")).decode(), "these parts": True, "Levels of": "0:0:/Incident/0/Contact/0", "Who may get it": "1"}, "#report")
-    trial.check("a new revision is shown too", [row[3] for row in rows] == ["level 1", "level 1; level 0 at /Incident/0/Contact/0", "level 1"][: len(rows)] and len(rows) > 1, rows)
+    again = {"or its text": report(incident("again")).decode(), "Who may get it": "1"}
+    rows = show(trial, REPLACE, again | {"these parts": True, "Levels of": "0:0:/Incident/0/Contact/0"}, "#report")
+    wanted = ["level 1", "level 1; level 0 at /Incident/0/Contact/0", "level 1"]
+    trial.check("a new revision is shown too", [row[3] for row in rows] == wanted, rows)
     trial.go("#incidents/2")
     trial.go("#post")
 
 
 def levels(trial: Trial) -> None:
     phishing = (EXAMPLES / "phishing.json").read_text()
-    rows = show(trial, POST, {"or its text": phishing, "Who may get it": "", "Levels of single": "4:1:/Incident/0/EventData/1\n0:0:/Incident/0/EventData/1/Record"})
+    event, record = "/Incident/0/EventData/1", "/Incident/0/EventData/1/Record"
+    given: dict[str, object] = {"or its text": phishing, "Levels of single": f"4:1:{event}\n0:0:{record}"}
+    rows = show(trial, POST, given | {"Who may get it": ""})
     seen = {row[0]: row[3] for row in rows}
     trial.check("a level that isn't chosen is told", seen["/Incident/0"] == "no level is chosen yet", seen)
-    rows = show(trial, POST, {"or its text": phishing, "Levels of single": "4:1:/Incident/0/EventData/1\n0:0:/Incident/0/EventData/1/Record"})
+    rows = show(trial, POST, given)
     seen = {row[0]: row[3] for row in rows}
-    group = "level 3; level 4, phishing (sharing group 1) at /Incident/0/EventData/1"
-    trial.check("each class has the levels on its way", [seen[place] for place in ("/Incident/0", "/Incident/0/EventData/0", "/Incident/0/EventData/1")] == ["level 3", "level 3", group], seen)
-    trial.check("from that of the report down", seen["/Incident/0/EventData/1/Record"] == f"{group}; level 0 at /Incident/0/EventData/1/Record", seen)
+    group = f"level 3; level 4, phishing (sharing group 1) at {event}"
+    found = [seen[place] for place in ("/Incident/0", "/Incident/0/EventData/0", event)]
+    trial.check("each class has the levels on its way", found == ["level 3", "level 3", group], seen)
+    trial.check("from that of the report down", seen[record] == f"{group}; level 0 at {record}", seen)
     labels = {row[0]: row[1] for row in rows}
-    trial.check(
-        "and its label, with an arrow where it comes from above",
-        [labels[place] for place in ("/Incident/0", "/Incident/0/Contact/0", "/Incident/0/EventData/1")] == ["TLP:GREEN", "TLP:GREEN \u2191", "TLP:AMBER+STRICT need-to-know"],
-        labels,
-    )
+    found = [labels[place] for place in ("/Incident/0", "/Incident/0/Contact/0", event)]
+    wanted = ["TLP:GREEN", "TLP:GREEN \u2191", "TLP:AMBER+STRICT need-to-know"]
+    trial.check("and its label, with an arrow where it comes from above", found == wanted, labels)
     rows = show(trial, POST, {"or its text": phishing, "Who may get it": "4", "Sharing group": "phishing"})
     trial.check("a group that is chosen by name", {row[3] for row in rows} == {"level 4, phishing (sharing group 1)"}, rows[:2])
     trial.picture("look")
@@ -105,21 +111,27 @@ def levels(trial: Trial) -> None:
 
 def wrongs(trial: Trial) -> None:
     browser = trial.browser
-    for text, words in (("", "There is no report yet."), ("{", "This is no JSON text."), ("[1]", "There is no Incident in it."), ('{"a":' * 60 + "{}" + "}" * 60, "There is no Incident")):
+    for text, words in (
+        ("", "There is no report yet."), ("{", "This is no JSON text."), ("[1]", "There is no Incident in it."),
+        ('{"a":' * 60 + "{}" + "}" * 60, "There is no Incident"),
+    ):  # fmt: skip
         show(trial, POST, {"or its text": text})
         trial.check_has(f"of {text[:12] or 'nothing'} it is told that it is none", browser.text("#pane form details"), words)
     deep = report(incident("deep", Deep=json.loads('{"a":' * 60 + "{}" + "}" * 60))).decode()
     show(trial, POST, {"or its text": deep})
     trial.check_has("a report that is nested too deep", browser.text("#pane form details"), "nested too deep")
     bad: tuple[dict[str, object], ...] = (
-        {"restriction": "pink"}, {"restriction": "ext-value"}, {"ext-restriction": "TLP:RED"}, {"restriction": ["green"]}, {"restriction": "green", "ext-restriction": 1}, {"restriction": None},
+        {"restriction": "pink"}, {"restriction": "ext-value"}, {"ext-restriction": "TLP:RED"}, {"restriction": ["green"]},
+        {"restriction": "green", "ext-restriction": 1}, {"restriction": None},
     )  # fmt: skip
     for members in bad:
         text = report(incident("bad", Contact=[members | {"role": "creator"}])).decode()
         rows = show(trial, POST, {"or its text": text})
         status, _ = marked_by(trial.circle.program, text)
         told = {row[0]: row[1] for row in rows}["/Incident/0/Contact/0"]
-        trial.check(f"{json.dumps(members)} is no label, to the page and to the program", status != 0 and told.startswith("none that the hub knows"), (status, told))
+        is_refused = status != 0 and told.startswith("none that the hub knows")
+        trial.check(f"{json.dumps(members)} is no label, to the page and to the program", is_refused, (status, told))
     show(trial, POST, {"or its text": report(incident("x")).decode(), "Levels of single": "0:0:/Incident/0/Contact/9"})
-    trial.check_has("a level of no class is told", browser.text("#pane form details"), "No class is at /Incident/0/Contact/9: the hub refuses this level.")
+    words = "No class is at /Incident/0/Contact/9: the hub refuses this level."
+    trial.check_has("a level of no class is told", browser.text("#pane form details"), words)
     show(trial, POST, {})

@@ -32,15 +32,18 @@ def odd_report() -> bytes:
     """Values of each kind, in each role, and in forms that IODEF doesn't have; signs that would forge a line or a file's name."""
     systems = [
         system("source", "192.0.2.1"), system("target", "203.0.113.1"), system("source", "203.0.113.2", spoofed="yes"),
-        system(["source"], "203.0.113.3"), {"category": "target", "AdditionalData": [{"System": system("source", "192.0.2.3")}], "URL": "http://v.example"},
+        system(["source"], "203.0.113.3"),
+        {"category": "target", "AdditionalData": [{"System": system("source", "192.0.2.3")}], "URL": "http://v.example"},
     ]  # fmt: skip
-    bulk = {"type": "domain-name", "BulkObservableList": ["a\tb\nc", "\u202egpj.exe", "\u00e9\u00a0x", "\U000e0001y", 7, "<b>&amp;", "</textarea><img src=x onerror=window.hit=1>"]}
+    values = ["a\tb\nc", "\u202egpj.exe", "\u00e9\u00a0x", "\U000e0001y", 7, "<b>&amp;", "</textarea><img src=x onerror=window.hit=1>"]
+    bulk = {"type": "domain-name", "BulkObservableList": values}
+    file = {"FileName": "f", "HashData": {"Hash": [{"DigestValue": "d"}]}}
     return report(
         incident(
             "../../etc/x.html",
             EventData=[{"Flow": [{"System": systems}], "Counter": [18446744073709551615]}],
             Indicator=[{"Observable": {"System": system("target", "192.0.2.4"), "BulkObservable": bulk}, "Reference": [{"URL": ["http://c.example"]}]}],
-            Method=[{"BulkObservable": {"BulkObservableList": "one  two\nthree"}, "File": {"FileName": "f", "HashData": {"Hash": [{"DigestValue": "d"}]}}}],
+            Method=[{"BulkObservable": {"BulkObservableList": "one  two\nthree"}, "File": file}],
             Key=[{"KeyName": "k"}], Address=[{"value": 1}, {"value": "x", "category": 2}, {"value": "constructor"}], constructor={"URL": ["u", 1]},
         )
     )  # fmt: skip

@@ -24,7 +24,8 @@ WRITTEN: dict[str, str] = {
     "Description": 'Mails <b>lead</b> to "a page" \\ \u202e.', "It began": "2030-07-01T18:00", "It was noticed": "2030-12-31T18:00",
     "Contact: name": "CSIRT of the Bank", "Contact: mail": "csirt@bank.example", "Contact: what": "organization", "Label of the contact": "TLP:RED",
     "Details": "Mailboxes were opened.", "Label of the details": "TLP:AMBER+STRICT",
-    "Indicators, one": "192.0.2.7\n\n payroll[.]example \nhxxp://payroll.example/a?b=1", "What the indicators": "The page's address", "Label of the indicators": "TLP:CLEAR",
+    "Indicators, one": "192.0.2.7\n\n payroll[.]example \nhxxp://payroll.example/a?b=1", "What the indicators": "The page's address",
+    "Label of the indicators": "TLP:CLEAR",
 }  # fmt: skip
 STRICT: dict[str, object] = {"restriction": "ext-value", "ext-restriction": "TLP:AMBER+STRICT"}
 
@@ -35,11 +36,16 @@ def indicator(place: int, kind: str, value: str) -> dict[str, object]:
     return {"restriction": "white", "IndicatorID": named, "Description": ["The page's address"], "Observable": bulk}
 
 
-INDICATORS = [indicator(1, "ipv4-addr", "192.0.2.7"), indicator(2, "domain-name", "payroll.example"), indicator(3, "site-uri", "http://payroll.example/a?b=1")]
+INDICATORS = [
+    indicator(1, "ipv4-addr", "192.0.2.7"),
+    indicator(2, "domain-name", "payroll.example"),
+    indicator(3, "site-uri", "http://payroll.example/a?b=1"),
+]
+CONTACT: dict[str, object] = {"role": "creator", "type": "organization", "restriction": "red", "ContactName": ["CSIRT of the Bank"]}
 MADE: dict[str, object] = {
     "purpose": "reporting", "restriction": "green", "IncidentID": {"id": "W-1", "name": "csirt.bank.example"},
     "StartTime": "2030-07-01T18:00:00+02:00", "DetectTime": "2030-12-31T18:00:00+01:00", "Description": [WRITTEN["Description"]],
-    "Contact": [{"role": "creator", "type": "organization", "restriction": "red", "ContactName": ["CSIRT of the Bank"], "Email": [{"EmailTo": "csirt@bank.example"}]}],
+    "Contact": [CONTACT | {"Email": [{"EmailTo": "csirt@bank.example"}]}],
     "EventData": [STRICT | {"Description": ["Mailboxes were opened."]}],
     "Indicator": INDICATORS,
 }  # fmt: skip
@@ -86,14 +92,16 @@ def writing(trial: Trial, folder: pathlib.Path) -> None:
     status, lines = marked_by(trial.circle.program, text)
     told = {path: f"{label} {handling}" for path, label, handling, _ in lines}
     trial.check("the program's own mark reads its labels so", status == 0 and told.items() >= MARKED.items(), lines)
-    trial.check_has("the page tells the command that does", browser.run("return document.querySelector('#pane pre').textContent"), "iodef-hub mark < report.json\n")
+    command = browser.run("return document.querySelector('#pane pre').textContent")
+    trial.check_has("the page tells the command that does", command, "iodef-hub mark < report.json\n")
     trial.fill(POST, {"Who may get it": "3"})
     trial.done("it is posted", "Posted as incident ")
     number = browser.run("return document.querySelector('#done a').hash").split("/")[1]
     view = trial.circle.ask("bank", "GET", f"/incidents/{number}")
     trial.check("and is served to its source as it was made", view["document"] == json.loads(text), view)
     view = trial.circle.ask("telco", "GET", f"/incidents/{number}")
-    trial.check("to a partner without what is stricter", view["withheld"] == [["/Incident/0", "H-RED"], ["/Incident/0", "H-STRICT"]], view["withheld"])
+    withheld = [["/Incident/0", "H-RED"], ["/Incident/0", "H-STRICT"]]
+    trial.check("to a partner without what is stricter", view["withheld"] == withheld, view["withheld"])
     browser.cdp("Emulation.setTimezoneOverride", timezoneId="")
     kinds(trial)
     least(trial)
@@ -103,7 +111,8 @@ def kinds(trial: Trial) -> None:
     lines = [value for values in VALUES.values() for value in values]
     trial.fill(MAKE, {"Indicators, one": "\n".join(lines)})
     found = json.loads(text_of(trial))["Incident"][0]["Indicator"]
-    seen = {each["Observable"]["BulkObservable"]["type"]: each["Observable"]["BulkObservable"]["BulkObservableList"] for each in found}
+    bulks = [each["Observable"]["BulkObservable"] for each in found]
+    seen = {bulk["type"]: bulk["BulkObservableList"] for bulk in bulks}
     trial.check("each value has the kind that its form tells", seen == VALUES, seen)
     before = text_of(trial)
     for wrong in ("192.0.2.256", "192.0.2.0/33", "2001:db8::g", "two words", "localhost", "abc123", "<img src=x>", "://x"):
@@ -114,17 +123,21 @@ def kinds(trial: Trial) -> None:
 
 def least(trial: Trial) -> None:
     """What is left empty isn't in the report."""
-    empty = ("It began", "It was noticed", "Contact: mail", "Label of the contact", "Details", "Label of the details", "Indicators, one", "What the indicators", "Label of the indicators")
+    labels_of_parts = ("Label of the contact", "Label of the details", "Label of the indicators")
+    empty = ("It began", "It was noticed", "Contact: mail", "Details", "Indicators, one", "What the indicators", *labels_of_parts)
     labels: tuple[tuple[str, dict[str, str]], ...] = (
-        ("TLP:CLEAR", {"restriction": "white"}), ("TLP:AMBER", {"restriction": "ext-value", "ext-restriction": "TLP:AMBER"}), ("TLP:RED", {"restriction": "red"}), ("default", {"restriction": "default"}),
+        ("TLP:CLEAR", {"restriction": "white"}), ("TLP:AMBER", {"restriction": "ext-value", "ext-restriction": "TLP:AMBER"}),
+        ("TLP:RED", {"restriction": "red"}), ("default", {"restriction": "default"}),
     )  # fmt: skip
     for label, members in labels:
-        values: dict[str, object] = {**{name: "" for name in empty}, "Number of": "W-2", "Label of the report": label, "Contact: what": "person"}
-        trial.fill(MAKE, values)
+        chosen = {"Number of": "W-2", "Label of the report": label, "Contact: what": "person"}
+        trial.fill(MAKE, {name: "" for name in empty} | chosen)
         made = json.loads(text_of(trial))["Incident"][0]
         made.pop("GenerationTime")
         contact = [{"role": "creator", "type": "person", "ContactName": ["CSIRT of the Bank"]}]
-        wanted: dict[str, object] = {"purpose": "reporting", **members, "IncidentID": {"id": "W-2", "name": "csirt.bank.example"}, "Description": MADE["Description"], "Contact": contact}
+        named = {"id": "W-2", "name": "csirt.bank.example"}
+        wanted: dict[str, object] = {"purpose": "reporting", "IncidentID": named, "Description": MADE["Description"], "Contact": contact}
+        wanted |= members
         trial.check(f"a report of {label} has no more than was given", made == wanted, made)
         status, lines = marked_by(trial.circle.program, text_of(trial))
         handling = {"TLP:CLEAR": "CLEAR", "TLP:AMBER": "AMBER", "TLP:RED": "RED", "default": "RED"}[label]
