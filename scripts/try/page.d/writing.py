@@ -87,6 +87,12 @@ def writing(trial: Trial, folder: pathlib.Path) -> None:
     trial.check("the focus stands at it", browser.run("return document.activeElement.tagName") == "TEXTAREA")
     trial.no_markup("a report that was written by the form")
     trial.check("nothing was sent", len([1 for method, _ in trial.origin.asked if method != "GET"]) == before)
+    trial.check("nothing is said of a change as there is none", browser.texts("#pane .wrong") == [], browser.texts("#pane .wrong"))
+    browser.run("document.querySelector('#pane form select').dispatchEvent(new Event('change', { bubbles: true }))")
+    trial.check_has("a field that is changed later is told", browser.text("#pane .wrong"), "changed since the report below was made: make it again")
+    trial.fill(MAKE, {})
+    trial.check("until the report is made again", browser.texts("#pane .wrong") == [], browser.texts("#pane .wrong"))
+    text = text_of(trial)  # its minute may be another one
     browser.run("[...document.querySelectorAll('#pane button')].find(one => one.textContent === 'Save report.json').click()")
     trial.check("it is saved as it is shown", saved(into, "report.json") == text)
     status, lines = marked_by(trial.circle.program, text)
