@@ -1,4 +1,4 @@
-//! A store of which somebody took a row away, in the middle of a report: the label of an event.
+//! A store of which somebody took a row away: in the middle of a report the label of an event, or the gate at its root.
 
 use crate::block::Block;
 use crate::stored_lines::post_all;
@@ -16,43 +16,83 @@ const POSTS: [&str; 2] = [
     "p2|Post|3|-||{\"Incident\":[{\"Contact\":[],\"EventData\":[{\"Description\":[\"x\"],\"restriction\":\"red\"}],\"GenerationTime\":\"g\",\"IncidentID\":\"8\",\"purpose\":\"reporting\",\"restriction\":\"public\"}],\"version\":\"2.0\"}",
 ];
 
-/// The label of the event in the first of them.
-const TAKEN: &str = "DELETE FROM item WHERE incident = 1 AND place = 5";
+/// A row of the first report that somebody takes away, and what is asked behind it.
+#[derive(Clone, Copy)]
+struct Loss {
+    name: &'static str,
+    taken: &'static str,
+    asked: &'static [&'static str],
+}
 
-/// What is asked of that one, and of the other.
-const ASKED: [&str; 9] = [
-    "p4|View|1",
-    "p4|List|0",
-    "p4|Search|x|-|0",
-    "p1|Explain|4|1|/Incident/0/EventData/0",
-    "p4|View|2",
-    "p4|List|1",
-    "p4|Search|x|-|1",
-    "p2|Search|x|-|1",
-    "p1|Explain|4|2|/Incident/0/EventData/0",
+/// The label of the event, and the gate at the root, which the source sets again.
+const LOSSES: [Loss; 2] = [
+    Loss {
+        name: "a row",
+        taken: "DELETE FROM item WHERE incident = 1 AND place = 5",
+        asked: &[
+            "p4|View|1",
+            "p4|List|0",
+            "p4|Search|x|-|0",
+            "p1|Explain|4|1|/Incident/0/EventData/0",
+            "p4|View|2",
+            "p4|List|1",
+            "p4|Search|x|-|1",
+            "p2|Search|x|-|1",
+            "p1|Explain|4|2|/Incident/0/EventData/0",
+        ],
+    },
+    Loss {
+        name: "a gate at the root",
+        taken: "DELETE FROM gate WHERE incident = 1 AND path = ''",
+        asked: &[
+            "p4|View|1",
+            "p4|List|0",
+            "p4|Search|x|-|0",
+            "p1|Explain|4|1|/Incident/0/EventData/0",
+            "p4|View|2",
+            "p4|List|1",
+            "p2|Redistribute|1|1||3|-",
+            "p4|View|1",
+            "p4|List|0",
+        ],
+    },
 ];
 
 /// The shelf over the tables without that row; none where the statement or the opening is refused.
-fn without_row(alloc: Global, mut conn: Connection<MemStore>) -> Option<SqlShelf<MemStore>> {
-    match conn.execute(TAKEN, &[]) {
+fn without_row(
+    alloc: Global,
+    mut conn: Connection<MemStore>,
+    taken: &str,
+) -> Option<SqlShelf<MemStore>> {
+    match conn.execute(taken, &[]) {
         Ok(1) => open_tables(alloc, conn, false).ok(),
         _ => None,
     }
 }
 
-/// What is printed of it.
-pub fn all(alloc: Global, world: &Block) -> Result<Vec<String>, AllocError> {
+/// What is printed behind one of the losses.
+fn told_behind(alloc: Global, world: &Block, loss: Loss) -> Result<Vec<String>, AllocError> {
     let mut all = Vec::new(alloc);
     let whole = post_all(alloc, world, &POSTS)?;
-    let Some(shelf) = whole.and_then(|shelf| without_row(alloc, shelf.release())) else {
+    let Some(shelf) = whole.and_then(|shelf| without_row(alloc, shelf.release(), loss.taken)) else {
         all.push(String::from_str(alloc, "the row was not taken away")?)?;
         return Ok(all);
     };
     let mut hub = Hub::new(shelf);
-    let asked = requests_of(alloc, &ASKED, None)?;
-    for (line, (now, key, request)) in ASKED.iter().zip(asked.iter()) {
+    let asked = requests_of(alloc, loss.asked, None)?;
+    for (line, (now, key, request)) in loss.asked.iter().zip(asked.iter()) {
         let told = reply(alloc, &hub.answer(alloc, *now, key, request))?;
-        all.push(format!(in alloc; "without a row, {line}: {told}")?)?;
+        let name = loss.name;
+        all.push(format!(in alloc; "without {name}, {line}: {told}")?)?;
+    }
+    Ok(all)
+}
+
+/// What is printed of all losses.
+pub fn all(alloc: Global, world: &Block) -> Result<Vec<String>, AllocError> {
+    let mut all = Vec::new(alloc);
+    for loss in LOSSES {
+        all.append(&mut told_behind(alloc, world, loss)?)?;
     }
     Ok(all)
 }
