@@ -1,17 +1,19 @@
 #!/usr/bin/env python3
-"""What the dearest requests cost a hub with many ordinary reports: seconds, the most memory, and instructions.
+"""What the dearest requests cost a hub with many ordinary reports: seconds of a processor, the most memory, and instructions.
 
 usage: bench/dearest.py [--program PATH] [--reports 10000] [--instructions] [--only ROW ..]
 
 The reports are of 204 lines, each for every organisation by its level and for its source alone by its labels. Each row is asked
-five times; the middle time is printed, and the most memory that the process took from the system meanwhile (VmSize, looked at each
-5 milliseconds), beside what it had before. With --instructions each row is asked once more of a hub under callgrind, which counts
-from behind the opening. Wanted: Python 3.11, for --instructions valgrind. It takes some minutes, with --instructions an hour.
+five times. Printed are the middle of the times that the hub took of a processor, and the most memory that the process took from the
+system meanwhile (VmSize, looked at each 5 milliseconds), beside what it had before. With --instructions each row is asked once more
+of a hub under callgrind, which counts from behind the opening. Wanted: Python 3.11, for --instructions valgrind. It takes some
+minutes, with --instructions an hour.
 """
 
 import argparse
 import hashlib
 import json
+import os
 import pathlib
 import re
 import socket
@@ -86,6 +88,11 @@ class Hub:
         assert self.process.stdout is not None
         if not self.process.stdout.readline().startswith(b"listening"):
             sys.exit("dearest.py: the program doesn't serve")
+
+    def seconds(self) -> float:
+        """What the process has taken of a processor, by itself and in the system for it."""
+        fields = pathlib.Path(f"/proc/{self.process.pid}/stat").read_text().rpartition(")")[2].split()
+        return (int(fields[11]) + int(fields[12])) / os.sysconf("SC_CLK_TCK")
 
     def ask(self, key: str, method: str, target: str, body: bytes = b"") -> tuple[int, bytes, int]:
         """The status, the reply's first bytes, and how many it has."""
@@ -235,12 +242,12 @@ def measure(hub: Hub, row: Row, says: Callable[[str], None]) -> None:
     watch.start()
     times = []
     for turn in range(TURNS):
-        begun = time.perf_counter()
+        begun = hub.seconds()
         row.asked(hub, turn)
-        times.append(time.perf_counter() - begun)
+        times.append(hub.seconds() - begun)
     watch.ended.set()
     watch.join()
-    says(f"| {row.name} | {statistics.median(times):.3f} s | {watch.most:.0f} MB, {resting:.0f} before |")
+    says(f"| {row.name} | {statistics.median(times):.2f} s | {watch.most:.0f} MB, {resting:.0f} before |")
 
 
 def main() -> None:
@@ -257,7 +264,7 @@ def main() -> None:
         begin(said.program, store, said.reports)
         print(f"{said.reports} reports, posted in {time.perf_counter() - begun:.0f} s", flush=True)
         hub = Hub(said.program, store)
-        print("| Request | Seconds | The most memory |\n|---|---|---|", flush=True)
+        print("| Request | Seconds of a processor | The most memory |\n|---|---|---|", flush=True)
         for row in rows:
             measure(hub, row, lambda line: print(line, flush=True))
         hub.close()
