@@ -42,11 +42,6 @@ classes-low (branch name place kids rest) = let a = classes-low kids in let b = 
 pub sound : (f : Forest) → IsOrdered f → height f ≤ DEPTH_LIMIT → line_count f ≤ LINE_LIMIT → HasTexts f → IsSound f
 sound f o h n t = grind (arith, classes-low, count_by-le-length, length-lines)
 
--- one document more, behind the others
-one_more : {A : Type 0} (s d : Result A ReadFault) (front rest : Result (List A) ReadFault) → rest ≡ (front >>= λ xs. d >>= λ x. Ok (xs ++ x ∷ []))
-    → (s >>= λ x. rest >>= λ xs. Ok (x ∷ xs)) ≡ ((s >>= λ x. front >>= λ xs. Ok (x ∷ xs)) >>= λ xs. d >>= λ x. Ok (xs ++ x ∷ []))
-one_more s d front rest is = grind arith
-
 pub documents_then : (root : json.Members) (vs : List Value) (v : Value)
     → documents root (items_view (vs ++ v ∷ [])) ≡ (documents root (items_view vs) >>= λ front. if_short (lines 1 (document_of (view v) root)) >>= λ d. Ok (front ++ d ∷ []))
 documents_then root [] v = refl

@@ -1,5 +1,5 @@
 -- A body that can be read has a document, and each of its documents has an IncidentID.
-use Rattle.std.proofs.Common.{◌≡◌, Bool, true, false, if◌then◌else◌, List, [], ◌∷◌, Option, Some, None, option_map, option_and_then, ap, ◌∙◌, is_some, is_none, Ok, codes, arith}
+use Rattle.std.proofs.Common.{◌≡◌, Bool, true, false, List, [], ◌∷◌, Option, None, option_map, option_and_then, ap, ◌∙◌, is_some, is_none, Ok, codes, arith}
 use Rattle.std.specs.List.{AllByRecursion}
 use Rattle.serde_json.specs.Data as json
 use Rattle.serde_json.specs.Data.{Data}
@@ -9,16 +9,12 @@ use Rattle.serde_json.proofs.Views.{get_member-put}
 use Rattle.iodef_tree.specs.Json.{zeroth, id_in, incident_id}
 use Rattle.iodef_tree.specs.Reading.{reading, are_incidents, lacking, documents}
 use Rattle.json_pointer.specs.Text.{Bytes}
-use Rattle.iodef_tree.specs.declared.fault.Required.{Required}
 use Rattle.iodef_tree.specs.declared.line.Line.{Line}
 use Rattle.iodef_tree.proofs.Passed.{passed}
 use Rattle.iodef_tree.proofs.ReadBack.{IsRoot, HasLines, means, each-document}
 
 abbrev id_name : Bytes
 id_name = codes "IncidentID"
-
-none_said : (b : Bool) (r : Required) (rest : Option Required) → (if b then Some r else rest) ≡ None → (b ≡ false) × (rest ≡ None)
-none_said b r rest h = grind arith
 
 has_id : (d : Data) → lacking d ≡ None → is_none (get id_name d) ≡ false
 has_id d h = grind arith

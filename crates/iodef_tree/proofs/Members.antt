@@ -4,23 +4,17 @@ use Rattle.std.specs.Option.{option_map_or}
 use Rattle.std.proofs.lemmas.List.{at_drop_more}
 use Rattle.std.proofs.lemmas.Grind.{common_steps}
 use Rattle.json_pointer.specs.Text.{Bytes, Tokens}
-use Rattle.iodef_tree.specs.Tree.{Forest, Body, Bodies, member_front}
+use Rattle.iodef_tree.specs.Tree.{Body, member_front}
 use Rattle.iodef_tree.specs.inner.Lookup.{class_at, object_in, part_at}
 use Rattle.iodef_tree.specs.View.{body, bodies, members_forest}
 use Rattle.json_pointer.specs.declared.text.Text.{Text}
 use Rattle.iodef_tree.specs.declared.object.Item.{Item}
 use Rattle.iodef_tree.specs.declared.object.Member.{Member}
-use Rattle.iodef_tree.proofs.ByPath.{part_or, class_at-here, class_at-other}
+use Rattle.iodef_tree.proofs.ByPath.{class_at-here, class_at-other}
 
 pub members-next : (ms : List (Text × Member)) (i : ℕ) (m : Text × Member) → i < length ms → m ≡ get_or ms i m →
     members_forest (drop i ms) ≡ member_front m.0 (bodies m.1) (members_forest (drop (i + 1) ms))
 members-next ms i m h is = at_drop_more members_forest ms i m h ∙ ap (λ (y : Text × Member). members_forest (y ∷ drop (i + 1) ms)) (sym is)
-
--- what was found in a member, as the code holds it
-taken : (r : Option (Bor Item × Bor (List Text))) (m : Bodies) (p : Tokens) (rest : Option Forest) → is_some r ≡ true →
-    option_map (λ (x : Bor Item × Bor (List Text)). let y : Body × Tokens = (body x.0.now, x.1.now) in y) r ≡ part_at m p →
-    option_map_or (λ (x : Bor Item × Bor (List Text)). object_in (body x.0.now) x.1.now) r None ≡ part_or m p rest
-taken r m p rest some is = grind arith
 
 pub found-here : (ms : List (Text × Member)) (i : ℕ) (m : Text × Member) (x : Bytes) (p : Tokens) (r : Option (Bor Item × Bor (List Text))) → i < length ms → m ≡ get_or ms i m → bytes_eq m.0 x ≡ true →
     is_some r ≡ true → option_map (λ (y : Bor Item × Bor (List Text)). let z : Body × Tokens = (body y.0.now, y.1.now) in z) r ≡ part_at (bodies m.1) p →
