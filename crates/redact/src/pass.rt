@@ -37,6 +37,15 @@ pub enum Surrounding {
     Class(bool),
 }
 
+/// Where an item stands, one token below its class or array: in the document, and in the excerpt if it is left.
+#[derive(Clone, Copy)]
+struct Slot<'a> {
+    token: Token<'a>,
+    place: Token<'a>,
+    /// How many tokens lead to its class in the excerpt.
+    base: usize,
+}
+
 /// Where the pass is, in the document and in the excerpt, and what it met so far.
 #[derive(Drop)]
 pub struct State<'a> {
@@ -236,17 +245,12 @@ impl<'a> Reader<'a> {
     {
         match member {
             Member::One(item) => {
-                let base = state.place.len();
-                match self.cut_item(
-                    state,
-                    home,
-                    ahead,
-                    above,
-                    base,
-                    Token::Name(name),
-                    Token::Name(name),
-                    item,
-                )? {
+                let slot = Slot {
+                    token: Token::Name(name),
+                    place: Token::Name(name),
+                    base: state.place.len(),
+                };
+                match self.cut_item(state, home, ahead, above, slot, item)? {
                     Some(kept) => Ok(Some(Member::One(kept))),
                     None => Ok(None),
                 }
@@ -326,24 +330,19 @@ impl<'a> Reader<'a> {
     {
         let mut kept = Vec::new(state.alloc);
         for (i, item) in items.iter().enumerate() {
-            let n = kept.len();
-            if let Some(x) = self.cut_item(
-                state,
-                home,
-                ahead,
-                array,
+            let slot = Slot {
+                token: Token::Index(i),
+                place: Token::Index(kept.len()),
                 base,
-                Token::Index(i),
-                Token::Index(n),
-                item,
-            )? {
+            };
+            if let Some(x) = self.cut_item(state, home, ahead, array, slot, item)? {
                 kept.push(x)?;
             }
         }
         Ok(kept)
     }
 
-    /// What is left of what stands under a token, and under another one in the excerpt, if it is left.
+    /// What is left of what stands in a slot.
     #[cycle(cut)]
     fn cut_item(
         &self,
@@ -351,36 +350,34 @@ impl<'a> Reader<'a> {
         home: Surrounding,
         ahead: &Ahead<'a>,
         door: Carried<'a>,
-        base: usize,
-        token: Token<'a>,
-        place: Token<'a>,
+        slot: Slot<'a>,
         item: &'a Item,
     ) -> Result<Option<Item>, AllocError>
-        requires base { base ≤ length state.old.place.items }
+        requires base { slot.base ≤ length state.old.place.items }
         requires filled { IsItemFilled item.now }
         requires ahead { LiesAhead self.now state.old.path.items ahead.now }
         ensures left { IfOk result (λ r. option_map body r ≡
             left_at self.now.case.now self.now.standing.now (home_of home)
-            (carries state.old.path.items door.entry) (token_of token.entry) (body item.now)) }
+            (carries state.old.path.items door.entry) (token_of slot.entry.token) (body item.now)) }
         ensures filled { IfOk result (λ r. IfSome r (λ i. IsItemFilled i)) }
         ensures goes { IfOk result (λ r.
-            Goes (path_of (take base state.old.place.items)) state.old state.new
+            Goes (path_of (take slot.entry.base state.old.place.items)) state.old state.new
             (told_at self.now.case.now self.now.standing.now
             (carries state.old.path.items door.entry)
-            (path_of (take base state.old.place.items))
-            (path_of (state.old.place.items ++ place.entry ∷ [])) (token_of token.entry)
+            (path_of (take slot.entry.base state.old.place.items))
+            (path_of (state.old.place.items ++ slot.entry.place ∷ [])) (token_of slot.entry.token)
             (body item.now)) []
             (count_at self.now.case.now self.now.standing.now
-            (carries state.old.path.items door.entry) (token_of token.entry) (body item.now)) 0) }
+            (carries state.old.path.items door.entry) (token_of slot.entry.token) (body item.now)) 0) }
         ensures quiet { IfOk result (λ r. r ≡ None →
             state.new.withheld.items ≡ state.old.withheld.items) }
     {
         match item {
             Item::Class(object) => {
-                let inside = self.step(state.alloc, &mut state.path, ahead, token)?;
-                state.place.push(place)?;
+                let inside = self.step(state.alloc, &mut state.path, ahead, slot.token)?;
+                state.place.push(slot.place)?;
                 let at = self.at_class(state.path.as_slice(), &inside, door, written(object));
-                let left = self.cut_class(state, home, &inside, at, base, object)?;
+                let left = self.cut_class(state, home, &inside, at, slot.base, object)?;
                 state.path.pop();
                 state.place.pop();
                 Ok(left.map(Item::Class))

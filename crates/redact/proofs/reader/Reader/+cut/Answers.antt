@@ -216,7 +216,7 @@ cut_items-loop-i-preserved t c =
       goes = subst (λ j. F j (length new)) (sym (add-one i)) (subst (F (suc i)) size
           (goes-step q st c.loop-i.state c.cut_item.new.state _ (told_at C S A q (r ++ decimal (length ks) ∷ []) (decimal i) (body x)) (told_items C S H A q r (suc i) m R)
           _ (count_at C S A (decimal i) (body x)) (count_items C S A (suc i) R)
-          (rw split at inv.goes) (simp (inv.goes.path, inv.goes.place, map-append token_of st.place.items, c.len-n.ensures ∙ c.loop-i.kept.ok.0) at c.in_ok-x.ensures.goes)));
+          (rw split at inv.goes) (simp (inv.goes.path, inv.goes.place, map-append token_of st.place.items, c.len.ensures ∙ c.loop-i.kept.ok.0) at c.in_ok-x.ensures.goes)));
       quiet = λ none. let z = pushed-none own ks o (ap length (sym grown) ∙ none) in c.in_ok-x.ensures.quiet z.0 ∙ inv.quiet z.1;
     }
 
@@ -239,13 +239,13 @@ cut_items-returns-clause-goes t c = grind (arith, common_steps)
 -- `search` finds these two only after long
 pub cut_item-returns-in_ok-left-in-Class-clause-left : goal.cut_item-returns-in_ok-left-in-Class-clause-left
 cut_item-returns-in_ok-left-in-Class-clause-left t c =
-    class-left c.args.self.now.case.now c.args.self.now.standing.now c.args.state.now.path.items c.step.new.trail.items c.as_slice.result.now c.args.door c.at_class-at.result c.args.token c.args.item.now c.in-Class.object
+    class-left c.args.self.now.case.now c.args.self.now.standing.now c.args.state.now.path.items c.step.new.trail.items c.as_slice.result.now c.args.door c.at_class-at.result c.args.slot.token c.args.item.now c.in-Class.object
     (option_map marking_of c.written.result) c.in-Class.is c.in_ok-inside-in-Class.ensures.trail c.written.ensures c.as_slice.ensures.value c.at_class-at.ensures
     (home_of c.args.home) c.in_ok-left-in-Class.left c.map.result (search (rules, c.map.ensures.cases)) c.in_ok-left-in-Class.ensures.left
 
 pub cut_item-returns-in_ok-left-in-Class-clause-goes : goal.cut_item-returns-in_ok-left-in-Class-clause-goes
 cut_item-returns-in_ok-left-in-Class-clause-goes t c =
-    class-goes c.args.self.now.case.now c.args.self.now.standing.now c.args.state.now.path.items c.step.new.trail.items c.as_slice.result.now c.args.door c.at_class-at.result c.args.token c.args.item.now c.in-Class.object
+    class-goes c.args.self.now.case.now c.args.self.now.standing.now c.args.state.now.path.items c.step.new.trail.items c.as_slice.result.now c.args.door c.at_class-at.result c.args.slot.token c.args.item.now c.in-Class.object
     (option_map marking_of c.written.result) c.in-Class.is c.in_ok-inside-in-Class.ensures.trail c.written.ensures c.as_slice.ensures.value c.at_class-at.ensures
-    c.args.base c.args.state.now c.cut_class.new.state c.step.new.trail c.push.new.self c.pop.new.self c.pop-in-Class.new.self c.args.place c.requires.base refl refl c.in_ok-push-in-Class.ensures.items
+    c.args.slot.base c.args.state.now c.cut_class.new.state c.step.new.trail c.push.new.self c.pop.new.self c.pop-in-Class.new.self c.args.slot.place c.requires.base refl refl c.in_ok-push-in-Class.ensures.items
     c.in_ok-left-in-Class.ensures.goes c.pop.ensures.rest c.pop-in-Class.ensures.rest
