@@ -29,6 +29,7 @@ impl Fed {
     pub(crate) fn with_line(&self, line: &Line) -> Fed
         ensures { result.lines ≡ self.now.lines ++ line.now ∷ [] }
     {
+        // for the proof: the clause alone keeps the line
         let _ = line;
         Fed {
             marker: PhantomData,

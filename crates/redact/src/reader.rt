@@ -68,6 +68,7 @@ impl<'a> Reader<'a> {
             ≡ array_step self.now.case.now self.now.standing.now (carries trail.now above.entry)
             (path_of trail.now) }
     {
+        // for the proof: the clauses name the path, which the code needn't know
         let _ = trail;
         above.in_array(ahead)
     }
