@@ -46,9 +46,6 @@ last-none (x ∷ q) h n z = absurd (omega (arith, h))
 pub step-place : (z : Tokens) (s : Step) → s.in_array ≡ true → z ++ step_tokens s ≡ (z ++ s.name ∷ []) ++ decimal s.place ∷ []
 step-place z s h = ap (λ b. z ++ steps s.name (place_of b s.place)) h ∙ sym (append_assoc z (s.name ∷ []) (decimal s.place ∷ []))
 
-pub step-name : (z : Tokens) (s : Step) → s.in_array ≡ false → z ++ step_tokens s ≡ z ++ s.name ∷ []
-step-name z s h = ap (λ b. z ++ steps s.name (place_of b s.place)) h
-
 pub way_more : (ss : List Step) (s : Step) → way (ss ++ s ∷ []) ≡ way ss ++ step_tokens s
 way_more ss s = flat_map-append step_tokens ss (s ∷ []) ∙ ap (λ ts. way ss ++ ts) (append-nil (step_tokens s))
 

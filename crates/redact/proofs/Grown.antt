@@ -19,11 +19,6 @@ use Rattle.iodef_tree.proofs.Sounds.{outline-sound}
 
 -- ---- siblings
 
-last-append : (o : Option SiblingPlace) (f g : Forest) → last_place o (append f g) ≡ last_place (last_place o f) g
-last-append o end g = refl
-last-append o (leaf i rest) g = last-append (Some (i.name, i.place)) rest g
-last-append o (branch n p kids rest) g = last-append (Some (n, p)) rest g
-
 numbered-append : (o : Option SiblingPlace) (f g : Forest) → IsNumberedBehind o f → IsNumberedBehind (last_place o f) g → IsNumberedBehind o (append f g)
 numbered-append o end g h k = k
 numbered-append o (leaf i rest) g h k = (h.0, numbered-append (Some (i.name, i.place)) rest g h.1 k)
