@@ -1,5 +1,5 @@
 -- What is looked for in an incident.
-use Rattle.std.specs.Prelude.{Bool, List, Option, Some, None, option_map, string_bytes}
+use Rattle.std.specs.Prelude.{◌≡◌, Bool, List, Option, Some, None, option_map, string_bytes}
 use Rattle.iodef_tree.specs.Text.{Bytes}
 use Rattle.iodef_tree.specs.declared.line.Line.{Line}
 use Rattle.policy.specs.declared.standing.Standing.{Standing}
@@ -15,3 +15,8 @@ meets_by (Some needle) class ls c s = finds ls c s needle class
 -- these lines meet the want, for this case and standing
 abbrev pub meets : Want → List Line → Case → Standing → Bool
 meets want ls c s = meets_by (option_map string_bytes want.needle) (option_map string_bytes want.class) ls c s
+
+-- what the two look for is the same
+pub record HasSameWords (copy want : Want) : Type 0 where
+  pub needle : option_map string_bytes copy.needle ≡ option_map string_bytes want.needle
+  pub class : option_map string_bytes copy.class ≡ option_map string_bytes want.class

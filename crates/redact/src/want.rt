@@ -17,6 +17,20 @@ pub struct Want {
     pub class: Option<String>,
 }
 
+// By hand, so that the clause speaks of the words.
+impl Clone for Want {
+    ghost use Rattle.redact.specs.Wants.{HasSameWords};
+
+    ghost is_clone = { λ want copy. HasSameWords copy want };
+
+    fn clone(&self) -> Result<Want, AllocError> {
+        Ok(Want {
+            needle: self.needle.clone()?,
+            class: self.class.clone()?,
+        })
+    }
+}
+
 fn text_of(text: &Option<String>) -> Option<&str>
     ensures { option_map (λ t. t.now) result ≡ option_map string_bytes text.now }
 {
