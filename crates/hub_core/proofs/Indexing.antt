@@ -1,28 +1,18 @@
 -- Rows told apart by their keys, and the index of the incidents.
 use Rattle.std.proofs.Common.{◌≡◌, ℕ, ◌==◌, ◌&&◌, ◌||◌, Bool, true, false, not, List, [], ◌∷◌, filter, if◌then◌else◌, refl, sym, ap, ◌∙◌, arith}
 use Rattle.std.specs.declared.cmp.Ordering.{Ordering}
-use Rattle.std.specs.declared.cmp.Ordering.TheVariants.{Less, Equal, Greater}
 use Rattle.std.specs.Ordering.{is_lt, is_eq, nat_cmp, ordering_then}
-use Rattle.std.specs.Cmp.Lexicographic.{slice_cmp}
 use Rattle.std.specs.List.{list_any}
 use Rattle.std.specs.Str.{bytes_eq}
 use Rattle.std.proofs.lemmas.Bool.Decides.{Decides-like, same_from_decides, nat_tests}
-use Rattle.std.proofs.lemmas.List.Elements.{filter_agree}
-use Rattle.std.proofs.lemmas.Map.Text.{is_eq-slice_cmp}
 use Rattle.std.proofs.lemmas.Slice.Eq.{bytes_eq-Decides, slice_eq-Decides}
-use Rattle.circle.specs.Ordered.{pair_cmp}
-use Rattle.hub_core.specs.State.{same_pair}
 use Rattle.iodef_tree.specs.Text.{Tokens, same_path}
 use Rattle.iodef_tree.specs.Pointer.{pointer_text}
 use Rattle.circle.specs.Ordered.{put_by}
 use Rattle.circle.proofs.Lookup.{any_having}
-use Rattle.hub_core.specs.InOrder.{is_alike}
-use Rattle.hub_core.specs.State.{gate_cmp, permission_cmp, gate_key, permission_key, is_gate_at, is_permission_being, same_grantee, grantee_key}
 use Rattle.hub_core.specs.Lists.{IsIndexOf}
 use Rattle.hub_core.specs.Orders.{incident_cmp, named_cmp, named}
 use Rattle.hub_core.specs.declared.state.Incident.{Incident}
-use Rattle.hub_core.specs.declared.state.Gate.{Gate}
-use Rattle.hub_core.specs.declared.state.Permission.{Permission}
 use Rattle.hub_core.specs.declared.rows.Named.{Named}
 use Rattle.hub_core.proofs.Keys.{one_path}
 
@@ -59,40 +49,9 @@ paths_by_pointers p q =
     let t = pointer_text q in
     same_from_decides (bytes_eq s t) (same_path p q) (Decides-like (bytes_eq s t) (one_path p q) (λ e. ap pointer_text e) (bytes_eq-Decides s t)) (slice_eq-Decides bytes_eq-Decides p q (same_path p q) refl)
 
-same_pointers : (p q : Tokens) → is_eq (slice_cmp nat_cmp (pointer_text p) (pointer_text q)) ≡ same_path p q
-same_pointers p q = is_eq-slice_cmp (pointer_text p) (pointer_text q) ∙ paths_by_pointers p q
-
 pub equal_then : (m n : ℕ) (o : Ordering) → is_eq (ordering_then (nat_cmp m n) o) ≡ ((m == n) && is_eq o)
 equal_then m n o = grind (arith, nat_tests)
-
-then_equal : (o u : Ordering) → is_eq (ordering_then o u) ≡ (is_eq o && is_eq u)
-then_equal Less u = refl
-then_equal Equal u = refl
-then_equal Greater u = refl
-
-same_pairs : (a b : ℕ × ℕ) → is_eq (pair_cmp a b) ≡ same_pair a b
-same_pairs a b = grind (arith, nat_tests)
-
-pub gates_alike : (row g : Gate) → is_alike gate_cmp g row ≡ is_gate_at (gate_key row) g
-gates_alike row g = equal_then g.incident row.incident (slice_cmp nat_cmp (pointer_text g.gate.path) (pointer_text row.gate.path)) ∙ ap (λ b. (g.incident == row.incident) && b) (same_pointers g.gate.path row.gate.path)
 
 pub and_and : (a b c : Bool) → ((a && b) && c) ≡ (a && (b && c))
 and_and true b c = refl
 and_and false b c = refl
-
-pub permissions_alike : (row x : Permission) → is_alike permission_cmp x row ≡ is_permission_being (permission_key row) x
-permissions_alike row x =
-    let p = x.permission.path in
-    let q = row.permission.path in
-    let a = x.permission.grantee in
-    let b = row.permission.grantee in
-    then_equal (ordering_then (nat_cmp x.incident row.incident) (slice_cmp nat_cmp (pointer_text p) (pointer_text q))) (pair_cmp (grantee_key a) (grantee_key b))
-    ∙ (ap (λ c. c && is_eq (pair_cmp (grantee_key a) (grantee_key b))) (equal_then x.incident row.incident (slice_cmp nat_cmp (pointer_text p) (pointer_text q)) ∙ ap (λ c. (x.incident == row.incident) && c) (same_pointers p q))
-    ∙ (ap (λ c. ((x.incident == row.incident) && same_path p q) && c) (same_pairs (grantee_key a) (grantee_key b))
-    ∙ and_and (x.incident == row.incident) (same_path p q) (same_grantee a b)))
-
-pub gates_without : (row : Gate) (xs : List Gate) → filter (λ (g : Gate). not (is_alike gate_cmp g row)) xs ≡ filter (λ (g : Gate). not (is_gate_at (gate_key row) g)) xs
-gates_without row xs = filter_agree (λ (g : Gate). not (is_alike gate_cmp g row)) (λ (g : Gate). not (is_gate_at (gate_key row) g)) (λ g. ap not (gates_alike row g)) xs
-
-pub permissions_without : (row : Permission) (xs : List Permission) → filter (λ (x : Permission). not (is_alike permission_cmp x row)) xs ≡ filter (λ (x : Permission). not (is_permission_being (permission_key row) x)) xs
-permissions_without row xs = filter_agree (λ (x : Permission). not (is_alike permission_cmp x row)) (λ (x : Permission). not (is_permission_being (permission_key row) x)) (λ x. ap not (permissions_alike row x)) xs

@@ -1,9 +1,8 @@
 //! Edits for which memory is taken already.
 ghost use Rattle.std.specs.Prelude.{◌≡◌, IfOk, map};
 ghost use Rattle.hub_core.specs.inner.Changes.{edit_in, row_edit, directory_edits, row_edits};
-ghost use Rattle.hub_core.specs.State.{gate_key, permission_key};
 
-use crate::copies::{copy_of_gate, copy_of_permission};
+use crate::copies::{copy_of_gate, copy_of_gate_key, copy_of_permission, copy_of_permission_key};
 use crate::edit::Edit;
 use crate::rows::{Indexed, PlacedGate, PlacedPermission};
 use crate::state::{Gate, GateKey, Incident, Permission, PermissionKey, Recipient};
@@ -24,13 +23,11 @@ pub(crate) enum RowChange {
     TakeIncident(u32),
     TakePolicy(u32),
     PutGate(PlacedGate),
-    /// The gate that stands where this one does.
-    TakeGate(PlacedGate),
+    TakeGate(GateKey),
     PutRecipient(Recipient),
     TakeRecipient(Recipient),
     PutPermission(PlacedPermission),
-    /// The permission at the same class for the same grantee.
-    TakePermission(PlacedPermission),
+    TakePermission(PermissionKey),
 }
 
 /// Edits of the directory, and edits of the other rows.
@@ -67,13 +64,13 @@ fn change_of(alloc: Global, edit: &Edit) -> Result<Change, AllocError>
         Edit::TakeIncident(number) => RowChange::TakeIncident(*number),
         Edit::TakePolicy(number) => RowChange::TakePolicy(*number),
         Edit::PutGate(gate) => RowChange::PutGate(copy_gate(alloc, gate)?),
-        Edit::TakeGate(key) => RowChange::TakeGate(gate_at(alloc, key)?),
+        Edit::TakeGate(key) => RowChange::TakeGate(copy_of_gate_key(key)?),
         Edit::PutRecipient(recipient) => RowChange::PutRecipient(*recipient),
         Edit::TakeRecipient(recipient) => RowChange::TakeRecipient(*recipient),
         Edit::PutPermission(permission) => {
             RowChange::PutPermission(copy_permission(alloc, permission)?)
         }
-        Edit::TakePermission(key) => RowChange::TakePermission(permission_at(alloc, key)?),
+        Edit::TakePermission(key) => RowChange::TakePermission(copy_of_permission_key(key)?),
     };
     Ok(Change::Row(row))
 }
@@ -97,22 +94,6 @@ fn copy_gate(alloc: Global, gate: &Gate) -> Result<PlacedGate, AllocError>
     PlacedGate::new(alloc, copy)
 }
 
-/// Some gate with this key.
-fn gate_at(alloc: Global, key: &GateKey) -> Result<PlacedGate, AllocError>
-    ensures { IfOk result (λ g. gate_key g ≡ key.now) }
-{
-    let gate = policy::Gate {
-        path: key.path.clone()?,
-        level: 0,
-        group: None,
-    };
-    let row = Gate {
-        incident: key.incident,
-        gate,
-    };
-    PlacedGate::new(alloc, row)
-}
-
 fn copy_permission(alloc: Global, permission: &Permission) -> Result<PlacedPermission, AllocError>
     ensures { IfOk result (λ x. x ≡ permission.now) }
 {
@@ -121,20 +102,4 @@ fn copy_permission(alloc: Global, permission: &Permission) -> Result<PlacedPermi
         permission: copy_of_permission(&permission.permission)?,
     };
     PlacedPermission::new(alloc, copy)
-}
-
-/// Some permission with this key.
-fn permission_at(alloc: Global, key: &PermissionKey) -> Result<PlacedPermission, AllocError>
-    ensures { IfOk result (λ x. permission_key x ≡ key.now) }
-{
-    let permission = policy::Permission {
-        path: key.path.clone()?,
-        grantee: key.grantee,
-        until: None,
-    };
-    let row = Permission {
-        incident: key.incident,
-        permission,
-    };
-    PlacedPermission::new(alloc, row)
 }

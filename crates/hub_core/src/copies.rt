@@ -1,6 +1,7 @@
-//! Copies of a gate and of a permission, as policy has them.
+//! Copies of a gate and of a permission, as policy has them, and of their keys.
 ghost use Rattle.std.specs.Prelude.{◌≡◌, IfOk};
 
+use crate::state::{GateKey, PermissionKey};
 use policy::{Gate, Permission};
 use std::alloc::AllocError;
 
@@ -21,5 +22,24 @@ pub(crate) fn copy_of_permission(permission: &Permission) -> Result<Permission, 
         path: permission.path.clone()?,
         grantee: permission.grantee,
         until: permission.until,
+    })
+}
+
+pub(crate) fn copy_of_gate_key(key: &GateKey) -> Result<GateKey, AllocError>
+    ensures { IfOk result (λ k. k ≡ key.now) }
+{
+    Ok(GateKey {
+        incident: key.incident,
+        path: key.path.clone()?,
+    })
+}
+
+pub(crate) fn copy_of_permission_key(key: &PermissionKey) -> Result<PermissionKey, AllocError>
+    ensures { IfOk result (λ k. k ≡ key.now) }
+{
+    Ok(PermissionKey {
+        incident: key.incident,
+        path: key.path.clone()?,
+        grantee: key.grantee,
     })
 }

@@ -1,16 +1,17 @@
 //! The incidents, their gates, recipients and permissions in memory, each list in the order of its rows.
 ghost use Rattle.std.specs.Prelude.{◌≡◌, length, map, OnOk};
 ghost use Rattle.circle.specs.Directory.{Directory};
-ghost use Rattle.hub_core.specs.State.{empty, gate_key, permission_key};
+ghost use Rattle.hub_core.specs.State.{empty};
 ghost use Rattle.hub_core.specs.Edits.{with_edits};
 ghost use Rattle.hub_core.specs.inner.Changes.{row_edit};
 ghost use Rattle.hub_core.specs.Lists.{AreInOrder, HasRoom, IsMade, with_directory};
 ghost use Rattle.hub_core.specs.declared.edit.Edit.TheVariants as edit;
 
 use crate::change::RowChange;
+use crate::row_keys::{is_gate_at, is_permission_being};
 use crate::rows::{Indexed, Named, PlacedGate, PlacedPermission};
 use crate::sorted_rows::{put, take, take_all};
-use crate::state::{Incident, Recipient};
+use crate::state::{GateKey, Incident, PermissionKey, Recipient};
 use std::alloc::{AllocError, Global};
 
 /// The rows but those of the directory, with an index of the incidents by source and ident.
@@ -75,11 +76,11 @@ impl Lists {
             RowChange::TakeIncident(number) => self.take_incident(number),
             RowChange::TakePolicy(number) => self.take_policy(number),
             RowChange::PutGate(gate) => self.put_gate(gate),
-            RowChange::TakeGate(gate) => self.take_gate(&gate),
+            RowChange::TakeGate(key) => self.take_gate(&key),
             RowChange::PutRecipient(recipient) => self.put_recipient(recipient),
             RowChange::TakeRecipient(recipient) => self.take_recipient(&recipient),
             RowChange::PutPermission(permission) => self.put_permission(permission),
-            RowChange::TakePermission(permission) => self.take_permission(&permission),
+            RowChange::TakePermission(key) => self.take_permission(&key),
         }
     }
 
@@ -117,12 +118,12 @@ impl Lists {
         put(&mut self.gates, gate);
     }
 
-    // Takes out the gate that stands where this one does.
-    fn take_gate(&mut self, gate: &PlacedGate)
+    // Takes out the gate that the key names. One pass: closing the gap moves as many rows.
+    fn take_gate(&mut self, key: &GateKey)
         requires { AreInOrder self.old }
-        ensures { IsMade (edit.TakeGate (gate_key gate.now)) self.old self.new }
+        ensures { IsMade (edit.TakeGate key.now) self.old self.new }
     {
-        take(&mut self.gates, gate);
+        self.gates.retain(|gate| !is_gate_at(gate.row(), key));
     }
 
     fn put_recipient(&mut self, recipient: Recipient)
@@ -148,11 +149,12 @@ impl Lists {
         put(&mut self.permissions, permission);
     }
 
-    // Takes out the permission that is at the same class for the same grantee.
-    fn take_permission(&mut self, permission: &PlacedPermission)
+    // Takes out the permission that the key names, likewise.
+    fn take_permission(&mut self, key: &PermissionKey)
         requires { AreInOrder self.old }
-        ensures { IsMade (edit.TakePermission (permission_key permission.now)) self.old self.new }
+        ensures { IsMade (edit.TakePermission key.now) self.old self.new }
     {
-        take(&mut self.permissions, permission);
+        self.permissions
+            .retain(|permission| !is_permission_being(permission.row(), key));
     }
 }

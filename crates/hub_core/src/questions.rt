@@ -4,7 +4,6 @@ ghost use Rattle.iodef_tree.specs.Text.{is_root, same_path};
 ghost use Rattle.hub_core.specs.inner.Questions as spec;
 
 use crate::request::Target;
-use crate::row_keys::{are_same_ends, are_same_groups, is_same_grantee, is_same_target};
 use iodef_tree::Path;
 use policy::{Gate, Grantee, Permission};
 
@@ -13,20 +12,20 @@ pub(crate) fn is_gate_among(gates: &[Gate], path: &Path, level: u32, group: Opti
     ensures { result ≡ spec.is_gate_among path.now level group gates.now }
 {
     gates.iter().any(|gate| {
-        gate.path == *path && u32::from(gate.level) == level && are_same_groups(gate.group, group)
+        gate.path == *path && u32::from(gate.level) == level && gate.group == group
     })
 }
 
 pub(crate) fn is_target_among(targets: &[Target], target: Target) -> bool
     ensures { result ≡ spec.is_target_among target targets.now }
 {
-    targets.iter().any(|other| is_same_target(*other, target))
+    targets.iter().any(|other| *other == target)
 }
 
 fn is_permission_of(permission: &Permission, path: &Path, grantee: Grantee) -> bool
     ensures { result ≡ spec.is_permission_of path.now grantee permission.now }
 {
-    permission.path == *path && is_same_grantee(permission.grantee, grantee)
+    permission.path == *path && permission.grantee == grantee
 }
 
 /// Whether a permission of this path and grantee is among them, whatever its end.
@@ -48,7 +47,7 @@ pub(crate) fn is_permission_among_until(
     ensures { result ≡ spec.is_permission_among_until path.now grantee until permissions.now }
 {
     permissions.iter().any(|permission| {
-        is_permission_of(permission, path, grantee) && are_same_ends(permission.until, until)
+        is_permission_of(permission, path, grantee) && permission.until == until
     })
 }
 
@@ -98,10 +97,7 @@ pub(crate) fn count_class_gates_with(gates: &[Gate], path: &Path) -> usize
 pub(crate) fn count_targets_beside(targets: &[Target], target: Target) -> usize
     ensures { result ≡ spec.targets_beside target targets.now }
 {
-    targets
-        .iter()
-        .filter(|other| !is_same_target(**other, target))
-        .count()
+    targets.iter().filter(|other| **other != target).count()
 }
 
 /// How many there are beside the one of this path and grantee.

@@ -6,7 +6,6 @@ use Rattle.hub_core.specs.declared.change.Change.{Change}
 use Rattle.hub_core.specs.declared.change.Change.TheVariants.{Directory, Row}
 use Rattle.hub_core.specs.declared.change.RowChange.{RowChange}
 use Rattle.hub_core.specs.declared.change.RowChange.TheVariants.{PutIncident, TakeIncident, TakePolicy, PutGate, TakeGate, PutRecipient, TakeRecipient, PutPermission, TakePermission}
-use Rattle.hub_core.specs.State.{gate_key, permission_key}
 use Rattle.hub_core.specs.declared.edit.Edit.{Edit}
 use Rattle.hub_core.specs.declared.edit.Edit.TheVariants as edit
 
@@ -15,11 +14,11 @@ row_edit (PutIncident incident) = edit.PutIncident incident
 row_edit (TakeIncident n) = edit.TakeIncident n
 row_edit (TakePolicy n) = edit.TakePolicy n
 row_edit (PutGate gate) = edit.PutGate gate
-row_edit (TakeGate gate) = edit.TakeGate (gate_key gate)
+row_edit (TakeGate key) = edit.TakeGate key
 row_edit (PutRecipient recipient) = edit.PutRecipient recipient
 row_edit (TakeRecipient recipient) = edit.TakeRecipient recipient
 row_edit (PutPermission permission) = edit.PutPermission permission
-row_edit (TakePermission permission) = edit.TakePermission (permission_key permission)
+row_edit (TakePermission key) = edit.TakePermission key
 
 abbrev pub edit_in : Change → Edit
 edit_in (Directory row) = edit.Directory row
