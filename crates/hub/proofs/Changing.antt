@@ -133,53 +133,13 @@ module _ (edits : List Edit) (i : ℕ) (edit : Edit) (old new : List ℕ) where
       ∙ ap (λ o. old ++ cons_option o D) (sym told)
       ∙ ap (λ es. old ++ numbers_put es) (sym front) ∙ left
 
--- ---- how many rows there are
-
-circle_count : (s : State) (a : Person) (c : CircleCommand) → IsSound s → (facts_of s a (ask.Circle c)).circle.count < 4294967295
-circle_count s a (AddOrg name) sound = let few = sound.directory.orgs.numbered.1 in omega (arith, few)
-circle_count s a (AddPerson org name role key) sound = let few = sound.directory.accounts.numbered.1 in omega (arith, few)
-circle_count s a (SuspendPerson person) sound = omega arith
-circle_count s a (AddClient org client) sound = omega arith
-circle_count s a (RemoveClient org client) sound = omega arith
-circle_count s a (AddCommunity name) sound = let few = sound.directory.communities.numbered.1 in omega (arith, few)
-circle_count s a (Join community org) sound = omega arith
-circle_count s a (Leave community org) sound = omega arith
-circle_count s a (Link community other) sound = omega arith
-circle_count s a (Unlink community other) sound = omega arith
-circle_count s a (NewGroup name releasability) sound = let few = sound.directory.groups.numbered.1 in omega (arith, few)
-circle_count s a (GroupAdd group org extend) sound = omega arith
-circle_count s a (GroupRemove group org) sound = omega arith
-circle_count s a (GroupActive group active) sound = omega arith
-circle_count s a (Arrange org handling) sound = omega arith
-circle_count s a (CancelArrange org) sound = omega arith
-circle_count s a (Nominate person) sound = omega arith
-circle_count s a (Unnominate person) sound = omega arith
-
-count_fits : (s : State) (a : Person) (r : Request) → IsSound s → (facts_of s a r).circle.count < 4294967295
-count_fits s a (ask.Circle command) sound = circle_count s a command sound
-count_fits s a (ask.Post r) sound = let few = sound.incidents.numbered.1 in omega (arith, few)
-count_fits s a (ask.Replace r) sound = omega arith
-count_fits s a (ask.Redistribute r) sound = omega arith
-count_fits s a (ask.Address r) sound = omega arith
-count_fits s a (ask.Unaddress r) sound = omega arith
-count_fits s a (ask.Grant r) sound = omega arith
-count_fits s a (ask.Withdraw r) sound = omega arith
-count_fits s a (ask.View n) sound = omega arith
-count_fits s a (ask.Explain r) sound = omega arith
-count_fits s a (ask.List after) sound = omega arith
-count_fits s a (ask.Search r) sound = omega arith
-count_fits s a (ask.Addressed after) sound = omega arith
-count_fits s a ask.MyGroups sound = omega arith
-count_fits s a ask.WhoAmI sound = omega arith
-
 -- ---- what a change settles
 
-pub changed_reply : (s : State) (now : ℤ) (p : Person) (r : Request) (f : Facts) (edits : List Edit) (reply : Reply) → IsSound s → is_reading r ≡ false → f ≡ facts_of s p r → (f.circle.count < 4294967295 → edits ≡ edits_by f p r) →
+pub changed_reply : (s : State) (now : ℤ) (p : Person) (r : Request) (f : Facts) (edits : List Edit) (reply : Reply) → IsSound s → is_reading r ≡ false → f ≡ facts_of s p r → edits ≡ edits_by f p r →
     refusal_of s p r ≡ None → (next_revision f.incident < 2 ^ 32 → reply ≡ made_reply f r edits) → reply ≡ due_to s now p r
 changed_reply s now p r f edits reply sound changes told is free made =
     let fits : next_revision f.incident < 2 ^ 32 = subst (λ (g : Facts). next_revision g.incident < 2 ^ 32) (sym told) (revision_fits s p r sound) in
-    let few : f.circle.count < 4294967295 = subst (λ (g : Facts). g.circle.count < 4294967295) (sym told) (count_fits s p r sound) in
-    let all : edits ≡ edits_of s p r = is few ∙ ap (λ (g : Facts). edits_by g p r) told ∙ same_edits s p r sound in
+    let all : edits ≡ edits_of s p r = is ∙ ap (λ (g : Facts). edits_by g p r) told ∙ same_edits s p r sound in
     made fits
     ∙ ap (λ (g : Facts). made_reply g r edits) told
     ∙ ap (made_reply (facts_of s p r) r) all

@@ -1,5 +1,5 @@
 //! Why a request is refused, or what it changes: by the facts alone.
-ghost use Rattle.std.specs.Prelude.{◌≡◌, ◌<◌, List, IfErr, IfOk, None, OnOk};
+ghost use Rattle.std.specs.Prelude.{◌≡◌, List, IfErr, IfOk, None, OnOk};
 ghost use Rattle.circle.specs.Outcomes.{RefusedAs};
 ghost use Rattle.circle.specs.Refusals.{Ground, first_answer};
 ghost use Rattle.hub_core.specs.State.{State};
@@ -55,8 +55,8 @@ pub fn judge(
         OnOk result (refusal_of s actor.now request.now ≡ None) }
     ensures refused_by { IfErr result (RefusedAs (refusal_by facts.now actor.now request.now)) }
     ensures allowed_by { OnOk result (refusal_by facts.now actor.now request.now ≡ None) }
-    ensures edits { facts.now.circle.count < 4294967295 →
-        IfOk result (λ edits. edits.items ≡ edits_by facts.now actor.now request.now) }
+    ensures edits { IfOk result (λ edits.
+        edits.items ≡ edits_by facts.now actor.now request.now) }
     ensures made { (s : State) → IsSound s → facts.now ≡ facts_of s actor.now request.now →
         IfOk result (λ edits. spec.with_edits edits.items s ≡ state_after s actor.now request.now) }
 {
