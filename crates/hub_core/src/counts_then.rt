@@ -1,25 +1,25 @@
 //! How many class gates, recipients and permissions of an incident would stand after a request.
-ghost use Rattle.std.specs.Prelude.{◌≡◌, ◌∷◌, [], true, false, ℕ, is_some, IfOk};
+ghost use Rattle.std.specs.Prelude.{◌≡◌, ◌∷◌, [], true, false, ℕ, is_some};
 ghost use Rattle.circle.specs.declared.directory.Person.{Person as ThePerson};
+ghost use Rattle.iodef_tree.specs.Pointer.{pointer_tokens};
 ghost use Rattle.hub_core.specs.Aftermath.{put_gate, put_permission};
 ghost use Rattle.hub_core.specs.Documents.{made_at};
 ghost use Rattle.hub_core.specs.Edits.{with_edits};
 ghost use Rattle.hub_core.specs.Reads.{its_gates, its_permissions};
 ghost use Rattle.hub_core.specs.Requests.{looked_up, incident_asked};
-ghost use Rattle.hub_core.specs.inner.Shared.{counts_in, counts_of, sharing_asked, sharing_named};
+ghost use Rattle.hub_core.specs.inner.Shared.{counts_in, counts_of, path_asked, sharing_asked, sharing_named};
 ghost use Rattle.hub_core.specs.Sound.{IsSound};
 ghost use Rattle.hub_core.specs.State.{State, class_gates, permissions_of};
 ghost use Rattle.hub_core.specs.declared.edit.Edit.TheVariants as edit;
 
-use crate::named_there::path_of;
 use crate::questions::{
     count_class_gates, count_class_gates_with, count_permissions_beside, count_targets_beside,
 };
 use crate::request::{Grant, Redistribute, Request, Withdraw};
 use crate::sharing::Sharing;
 use crate::small_counts::capped;
+use iodef_tree::Path;
 use policy::{Gate, Permission};
-use std::alloc::{AllocError, Global};
 
 /// How many of an incident's rows would stand.
 #[derive(Drop)]
@@ -30,9 +30,10 @@ pub(crate) struct Counts {
 }
 
 /// How many class gates there would be with the gate asked for, if its text is the pointer of a path.
-fn gates_with(alloc: Global, asked: &Redistribute, gates: &[Gate]) -> Result<u32, AllocError>
+fn gates_with(path: &Option<Path>, asked: &Redistribute, gates: &[Gate]) -> u32
+    requires { path.now ≡ pointer_tokens asked.now.path }
     ensures { (s : State) → IsSound s → gates.now ≡ its_gates asked.now.incident s.gates →
-        IfOk result (λ k. k ≡
+        result ≡
         class_gates asked.now.incident
         (with_edits (made_at (λ p.
         edit.TakeGate
@@ -40,23 +41,20 @@ fn gates_with(alloc: Global, asked: &Redistribute, gates: &[Gate]) -> Result<u32
           incident = asked.now.incident;
           path = p;
         }) ∷ put_gate asked.now.incident asked.now.level asked.now.group p)
-        asked.now.path) s).gates) }
+        asked.now.path) s).gates }
 {
-    match path_of(alloc, &asked.path)? {
-        None => Ok(capped(count_class_gates(gates))),
-        Some(path) => Ok(capped(count_class_gates_with(gates, &path))),
+    match path {
+        None => capped(count_class_gates(gates)),
+        Some(path) => capped(count_class_gates_with(gates, path)),
     }
 }
 
 /// How many permissions there would be with the one asked for, if its text is the pointer of a path.
-fn permissions_with(
-    alloc: Global,
-    asked: &Grant,
-    permissions: &[Permission],
-) -> Result<u32, AllocError>
+fn permissions_with(path: &Option<Path>, asked: &Grant, permissions: &[Permission]) -> u32
+    requires { path.now ≡ pointer_tokens asked.now.path }
     ensures { (s : State) → IsSound s →
         permissions.now ≡ its_permissions asked.now.incident s.permissions →
-        IfOk result (λ k. k ≡
+        result ≡
         permissions_of asked.now.incident
         (with_edits (made_at (λ p.
         put_permission
@@ -64,26 +62,23 @@ fn permissions_with(
           incident = asked.now.incident;
           path = p;
           grantee = asked.now.grantee;
-        }) asked.now.until) asked.now.path) s).permissions) }
+        }) asked.now.until) asked.now.path) s).permissions }
 {
-    match path_of(alloc, &asked.path)? {
-        None => Ok(capped(permissions.len())),
+    match path {
+        None => capped(permissions.len()),
         Some(path) => {
-            let beside = count_permissions_beside(permissions, &path, asked.grantee);
-            Ok(capped(beside).saturating_add(1))
+            let beside = count_permissions_beside(permissions, path, asked.grantee);
+            capped(beside).saturating_add(1)
         }
     }
 }
 
 /// How many permissions there would be without the one named.
-fn permissions_without(
-    alloc: Global,
-    asked: &Withdraw,
-    permissions: &[Permission],
-) -> Result<u32, AllocError>
+fn permissions_without(path: &Option<Path>, asked: &Withdraw, permissions: &[Permission]) -> u32
+    requires { path.now ≡ pointer_tokens asked.now.path }
     ensures { (s : State) → IsSound s →
         permissions.now ≡ its_permissions asked.now.incident s.permissions →
-        IfOk result (λ k. k ≡
+        result ≡
         permissions_of asked.now.incident
         (with_edits (made_at (λ p.
         edit.TakePermission
@@ -91,13 +86,13 @@ fn permissions_without(
           incident = asked.now.incident;
           path = p;
           grantee = asked.now.grantee;
-        }) ∷ []) asked.now.path) s).permissions) }
+        }) ∷ []) asked.now.path) s).permissions }
 {
-    match path_of(alloc, &asked.path)? {
-        None => Ok(capped(permissions.len())),
+    match path {
+        None => capped(permissions.len()),
         Some(path) => {
-            let beside = count_permissions_beside(permissions, &path, asked.grantee);
-            Ok(capped(beside))
+            let beside = count_permissions_beside(permissions, path, asked.grantee);
+            capped(beside)
         }
     }
 }
@@ -115,42 +110,43 @@ fn standing_counts(sharing: &Sharing) -> Counts
 }
 
 /// How many would stand of the incident that the request names, which is there.
-fn counts_there(alloc: Global, request: &Request, sharing: &Sharing) -> Result<Counts, AllocError>
+fn counts_there(path: &Option<Path>, request: &Request, sharing: &Sharing) -> Counts
+    requires { path.now ≡ path_asked request.now }
     ensures { (s : State) → IsSound s → sharing.now ≡ sharing_asked (incident_asked request.now) s →
         is_some (looked_up s (incident_asked request.now)) ≡ true → (actor : ThePerson) →
-        IfOk result (λ found. found ≡ counts_in s actor request.now) }
+        result ≡ counts_in s actor request.now }
 {
     let counts = standing_counts(sharing);
     let targets = sharing.recipients.as_slice();
     let permissions = sharing.permissions.as_slice();
     match request {
-        Request::Replace(asked) => Ok(Counts {
+        Request::Replace(asked) => Counts {
             gates: capped(asked.distribution.gates.as_slice().len()),
             // an exchanged document ends them
             permissions: 0,
             ..counts
-        }),
-        Request::Redistribute(asked) => Ok(Counts {
-            gates: gates_with(alloc, asked, sharing.gates.as_slice())?,
+        },
+        Request::Redistribute(asked) => Counts {
+            gates: gates_with(path, asked, sharing.gates.as_slice()),
             ..counts
-        }),
-        Request::Address(asked) => Ok(Counts {
+        },
+        Request::Address(asked) => Counts {
             recipients: capped(count_targets_beside(targets, asked.target)).saturating_add(1),
             ..counts
-        }),
-        Request::Unaddress(asked) => Ok(Counts {
+        },
+        Request::Unaddress(asked) => Counts {
             recipients: capped(count_targets_beside(targets, asked.target)),
             ..counts
-        }),
-        Request::Grant(asked) => Ok(Counts {
-            permissions: permissions_with(alloc, asked, permissions)?,
+        },
+        Request::Grant(asked) => Counts {
+            permissions: permissions_with(path, asked, permissions),
             ..counts
-        }),
-        Request::Withdraw(asked) => Ok(Counts {
-            permissions: permissions_without(alloc, asked, permissions)?,
+        },
+        Request::Withdraw(asked) => Counts {
+            permissions: permissions_without(path, asked, permissions),
             ..counts
-        }),
-        _ => Ok(counts),
+        },
+        _ => counts,
     }
 }
 
@@ -172,20 +168,22 @@ fn counts_apart(request: &Request) -> Counts
     }
 }
 
-/// How many would stand after a request, by how the incident that it names is shared; whether it is there is known.
+/// How many would stand after a request, which names this path if any, by how the incident that it names is shared; whether
+/// that is there is known.
 pub(crate) fn counts_then(
-    alloc: Global,
+    path: &Option<Path>,
     request: &Request,
     sharing: &Sharing,
     is_there: bool,
-) -> Result<Counts, AllocError>
+) -> Counts
+    requires { path.now ≡ path_asked request.now }
     ensures { (s : State) → IsSound s → sharing.now ≡ sharing_asked (incident_asked request.now) s →
         is_there ≡ is_some (looked_up s (incident_asked request.now)) → (actor : ThePerson) →
-        IfOk result (λ found. found ≡ counts_in s actor request.now) }
+        result ≡ counts_in s actor request.now }
 {
     if is_there {
-        counts_there(alloc, request, sharing)
+        counts_there(path, request, sharing)
     } else {
-        Ok(counts_apart(request))
+        counts_apart(request)
     }
 }

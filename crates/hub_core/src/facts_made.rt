@@ -3,7 +3,7 @@ ghost use Rattle.std.specs.Prelude.{◌≡◌, IfOk, option_map};
 ghost use Rattle.hub_core.specs.Facts.{plain_facts, exists_in, stands_in, count_in, circle_facts_of, facts_of};
 ghost use Rattle.hub_core.specs.Requests.{incident_facts, looked_up};
 ghost use Rattle.hub_core.specs.Requests as spec;
-ghost use Rattle.hub_core.specs.inner.Shared.{sharing_asked};
+ghost use Rattle.hub_core.specs.inner.Shared.{path_asked, sharing_asked};
 ghost use Rattle.hub_core.specs.Shelves.{Finds, Reads};
 ghost use Rattle.hub_core.specs.State.{State};
 ghost use Rattle.hub_core.specs.declared.state.Incident.{Incident};
@@ -11,7 +11,9 @@ ghost use Rattle.hub_core.specs.declared.state.Incident.{Incident};
 use crate::counts_then::counts_then;
 use crate::facts::{Facts, IncidentFacts};
 use crate::look_ups::LookUps;
-use crate::named_there::{has_joined_all, is_active, is_grantee, is_own_group, is_target};
+use crate::named_there::{
+    has_joined_all, is_active, is_grantee, is_own_group, is_target, path_asked,
+};
 use crate::posted_earlier::find_posted;
 use crate::request::{
     Address, Explain, Grant, Redistribute, Replace, Request, Unaddress, Withdraw,
@@ -21,7 +23,7 @@ use crate::shelf::ShelfFault;
 use crate::state::Naming;
 use circle::command::CircleFacts;
 use circle::directory::Person;
-use iodef_tree::Document;
+use iodef_tree::{Document, Path};
 use std::alloc::Global;
 
 /// The incident that a request names.
@@ -89,18 +91,19 @@ fn find_count<L: LookUps>(shelf: &mut L, request: &Request) -> Result<u32, Shelf
 /// The facts that the directory has of a request that isn't its own.
 fn find_plain_facts<L: LookUps>(
     shelf: &mut L,
-    alloc: Global,
     actor: &Person,
     request: &Request,
+    path: &Option<Path>,
     sharing: &Sharing,
 ) -> Result<CircleFacts, ShelfFault>
+    requires { path.now ≡ path_asked request.now }
     ensures { Finds L.has L.doubts L.failed L.may_remain shelf.old shelf.new result (λ s.
         sharing.now ≡ sharing_asked (spec.incident_asked request.now) s →
         IfOk result (λ facts. facts ≡
         plain_facts (exists_in s actor.now request.now) (stands_in s request.now)
         (count_in s request.now))) }
 {
-    let stands = stands(alloc, request, sharing)?;
+    let stands = stands(path, request, sharing);
     let exists = find_exists(shelf, actor, request)?;
     let count = find_count(shelf, request)?;
     Ok(plain_facts(exists, stands, count))
@@ -109,18 +112,19 @@ fn find_plain_facts<L: LookUps>(
 /// The facts that the directory has of a request.
 fn find_circle_facts<L: LookUps>(
     shelf: &mut L,
-    alloc: Global,
     actor: &Person,
     request: &Request,
+    path: &Option<Path>,
     sharing: &Sharing,
 ) -> Result<CircleFacts, ShelfFault>
+    requires { path.now ≡ path_asked request.now }
     ensures { Finds L.has L.doubts L.failed L.may_remain shelf.old shelf.new result (λ s.
         sharing.now ≡ sharing_asked (spec.incident_asked request.now) s →
         IfOk result (λ facts. facts ≡ circle_facts_of s actor.now request.now)) }
 {
     match request {
         Request::Circle(command) => shelf.circle_facts(actor, command),
-        _ => find_plain_facts(shelf, alloc, actor, request, sharing),
+        _ => find_plain_facts(shelf, actor, request, path, sharing),
     }
 }
 
@@ -178,11 +182,12 @@ fn find_facts<L: LookUps>(
         IfOk result (λ facts. facts ≡ facts_of s actor.now request.now)) }
 {
     let asked = incident_asked(request);
-    let circle = find_circle_facts(shelf, alloc, actor, request, sharing)?;
+    let path = path_asked(alloc, request)?;
+    let circle = find_circle_facts(shelf, actor, request, &path, sharing)?;
     let incident = known_asked(shelf, asked)?;
     let document = document_asked(shelf, asked)?;
     let posted = find_posted(shelf, alloc, actor, request)?;
-    let counts = counts_then(alloc, request, sharing, incident.is_some())?;
+    let counts = counts_then(&path, request, sharing, incident.is_some());
     Ok(Facts {
         circle,
         incident,

@@ -3,11 +3,12 @@ ghost use Rattle.std.specs.Prelude.{◌≡◌, IfOk};
 ghost use Rattle.std.specs.List.{list_all};
 ghost use Rattle.iodef_tree.specs.Pointer.{pointer_tokens};
 ghost use Rattle.hub_core.specs.Requests.{is_own_community, is_own_group, are_own_groups, has_joined_all, is_target, is_grantee, is_active};
+ghost use Rattle.hub_core.specs.inner.Shared.{path_asked};
 ghost use Rattle.hub_core.specs.Shelves.{Finds};
 ghost use Rattle.hub_core.specs.State.{State};
 
 use crate::look_ups::LookUps;
-use crate::request::{Distribution, Target, WantedGate};
+use crate::request::{Distribution, Grant, Redistribute, Request, Target, WantedGate, Withdraw};
 use crate::shelf::ShelfFault;
 use circle::directory::Person;
 use circle::text::Text;
@@ -16,13 +17,25 @@ use policy::Grantee;
 use std::alloc::{AllocError, Global};
 
 /// The path that the text is the pointer of.
-pub(crate) fn path_of(alloc: Global, text: &Text) -> Result<Option<Path>, AllocError>
+fn path_of(alloc: Global, text: &Text) -> Result<Option<Path>, AllocError>
     ensures { IfOk result (λ path. path ≡ pointer_tokens text.now) }
 {
     match Path::parse(alloc, text.as_str()) {
         Ok(path) => Ok(Some(path)),
         Err(PathFault::BadPath) => Ok(None),
         Err(PathFault::NoMemory) => Err(AllocError),
+    }
+}
+
+/// The path of what a request would put or take, if its text is the pointer of one.
+pub(crate) fn path_asked(alloc: Global, request: &Request) -> Result<Option<Path>, AllocError>
+    ensures { IfOk result (λ path. path ≡ path_asked request.now) }
+{
+    match request {
+        Request::Redistribute(Redistribute { path, .. })
+        | Request::Grant(Grant { path, .. })
+        | Request::Withdraw(Withdraw { path, .. }) => path_of(alloc, path),
+        _ => Ok(None),
     }
 }
 

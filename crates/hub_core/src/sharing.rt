@@ -1,23 +1,24 @@
 //! How an incident is shared, as a shelf looks it up, and whether what a request would put or take stands there.
 ghost use Rattle.std.specs.Prelude.{◌≡◌, [], IfOk};
+ghost use Rattle.iodef_tree.specs.Pointer.{pointer_tokens};
 ghost use Rattle.hub_core.specs.Documents.{at_pointer};
 ghost use Rattle.hub_core.specs.Facts.{stands_in};
 ghost use Rattle.hub_core.specs.inner.Questions as spec;
 ghost use Rattle.hub_core.specs.Requests.{incident_asked};
-ghost use Rattle.hub_core.specs.inner.Shared.{sharing_asked, sharing_named};
+ghost use Rattle.hub_core.specs.inner.Shared.{path_asked, sharing_asked, sharing_named};
 ghost use Rattle.hub_core.specs.Shelves.{Finds};
 ghost use Rattle.hub_core.specs.State.{State};
 
 use crate::look_ups::LookUps;
-use crate::named_there::path_of;
 use crate::questions::{
     is_gate_among, is_permission_among, is_permission_among_until, is_target_among,
 };
 use crate::recipients::Recipients;
 use crate::request::{Grant, Redistribute, Request, Withdraw};
 use crate::shelf::ShelfFault;
+use iodef_tree::Path;
 use policy::{Gate, Gates, Permission, Permissions};
-use std::alloc::{AllocError, Global};
+use std::alloc::Global;
 
 /// The gates, recipients and permissions of an incident.
 #[derive(Drop)]
@@ -66,67 +67,59 @@ pub(crate) fn find_sharing<L: LookUps>(
     }
 }
 
-fn stands_gate(alloc: Global, asked: &Redistribute, gates: &[Gate]) -> Result<bool, AllocError>
-    ensures { IfOk result (λ b. b ≡
+fn stands_gate(path: &Option<Path>, asked: &Redistribute, gates: &[Gate]) -> bool
+    requires { path.now ≡ pointer_tokens asked.now.path }
+    ensures { result ≡
         at_pointer (λ p.
-        spec.is_gate_among p asked.now.level asked.now.group gates.now) asked.now.path) }
+        spec.is_gate_among p asked.now.level asked.now.group gates.now) asked.now.path }
 {
-    match path_of(alloc, &asked.path)? {
-        None => Ok(false),
-        Some(path) => Ok(is_gate_among(gates, &path, asked.level, asked.group)),
+    match path {
+        None => false,
+        Some(path) => is_gate_among(gates, path, asked.level, asked.group),
     }
 }
 
 /// Whether the permission asked for stands with the end asked for.
-fn stands_granted(
-    alloc: Global,
-    asked: &Grant,
-    permissions: &[Permission],
-) -> Result<bool, AllocError>
-    ensures { IfOk result (λ b. b ≡
+fn stands_granted(path: &Option<Path>, asked: &Grant, permissions: &[Permission]) -> bool
+    requires { path.now ≡ pointer_tokens asked.now.path }
+    ensures { result ≡
         at_pointer (λ p.
         spec.is_permission_among_until p asked.now.grantee asked.now.until permissions.now)
-        asked.now.path) }
+        asked.now.path }
 {
-    match path_of(alloc, &asked.path)? {
-        None => Ok(false),
-        Some(path) => Ok(is_permission_among_until(permissions, &path, asked.grantee, asked.until)),
+    match path {
+        None => false,
+        Some(path) => is_permission_among_until(permissions, path, asked.grantee, asked.until),
     }
 }
 
 /// Whether the permission named stands, ended or not.
-fn stands_permission(
-    alloc: Global,
-    asked: &Withdraw,
-    permissions: &[Permission],
-) -> Result<bool, AllocError>
-    ensures { IfOk result (λ b. b ≡
+fn stands_permission(path: &Option<Path>, asked: &Withdraw, permissions: &[Permission]) -> bool
+    requires { path.now ≡ pointer_tokens asked.now.path }
+    ensures { result ≡
         at_pointer (λ p.
-        spec.is_permission_among p asked.now.grantee permissions.now) asked.now.path) }
+        spec.is_permission_among p asked.now.grantee permissions.now) asked.now.path }
 {
-    match path_of(alloc, &asked.path)? {
-        None => Ok(false),
-        Some(path) => Ok(is_permission_among(permissions, &path, asked.grantee)),
+    match path {
+        None => false,
+        Some(path) => is_permission_among(permissions, path, asked.grantee),
     }
 }
 
-/// Whether what a request would put or take stands in the sharing of the incident that it names.
-pub(crate) fn stands(
-    alloc: Global,
-    request: &Request,
-    sharing: &Sharing,
-) -> Result<bool, AllocError>
+/// Whether what a request would put or take, at this path if at any, stands in the sharing of the incident that it names.
+pub(crate) fn stands(path: &Option<Path>, request: &Request, sharing: &Sharing) -> bool
+    requires { path.now ≡ path_asked request.now }
     ensures { (s : State) → sharing.now ≡ sharing_asked (incident_asked request.now) s →
-        IfOk result (λ b. b ≡ stands_in s request.now) }
+        result ≡ stands_in s request.now }
 {
     let targets = sharing.recipients.as_slice();
     let permissions = sharing.permissions.as_slice();
     match request {
-        Request::Redistribute(asked) => stands_gate(alloc, asked, sharing.gates.as_slice()),
-        Request::Address(asked) => Ok(is_target_among(targets, asked.target)),
-        Request::Unaddress(asked) => Ok(is_target_among(targets, asked.target)),
-        Request::Grant(asked) => stands_granted(alloc, asked, permissions),
-        Request::Withdraw(asked) => stands_permission(alloc, asked, permissions),
-        _ => Ok(false),
+        Request::Redistribute(asked) => stands_gate(path, asked, sharing.gates.as_slice()),
+        Request::Address(asked) => is_target_among(targets, asked.target),
+        Request::Unaddress(asked) => is_target_among(targets, asked.target),
+        Request::Grant(asked) => stands_granted(path, asked, permissions),
+        Request::Withdraw(asked) => stands_permission(path, asked, permissions),
+        _ => false,
     }
 }

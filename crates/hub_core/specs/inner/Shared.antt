@@ -1,11 +1,14 @@
 -- How an incident is shared, and how many rows of it would stand after a request.
 use Rattle.std.specs.Prelude.{ℕ, [], Option, Some, None}
+use Rattle.iodef_tree.specs.Text.{Tokens}
+use Rattle.iodef_tree.specs.Pointer.{pointer_tokens}
 use Rattle.circle.specs.declared.directory.Person.{Person}
 use Rattle.hub_core.specs.Facts.{gates_then, recipients_then, permissions_then}
 use Rattle.hub_core.specs.Reads.{its_gates, its_permissions, its_recipients}
 use Rattle.hub_core.specs.State.{State, class_gates, recipients_of, permissions_of}
 use Rattle.hub_core.specs.declared.counts_then.Counts.{Counts}
 use Rattle.hub_core.specs.declared.request.Request.{Request}
+use Rattle.hub_core.specs.declared.request.Request.TheVariants as ask
 use Rattle.hub_core.specs.declared.sharing.Sharing.{Sharing}
 
 -- how the incident of this number is shared
@@ -16,6 +19,13 @@ sharing_named n s = record { gates = its_gates n s.gates; recipients = its_recip
 abbrev pub sharing_asked : Option ℕ → State → Sharing
 sharing_asked None s = record { gates = []; recipients = []; permissions = [] }
 sharing_asked (Some n) s = sharing_named n s
+
+-- the path of what the request would put or take, if its text is the pointer of one
+abbrev pub path_asked : Request → Option Tokens
+path_asked (ask.Redistribute r) = pointer_tokens r.path
+path_asked (ask.Grant r) = pointer_tokens r.path
+path_asked (ask.Withdraw r) = pointer_tokens r.path
+path_asked _ = None
 
 -- ---- counts
 

@@ -14,7 +14,7 @@ returns-in-None c = λ s sound is.
     c.capped.ensures
     ∙ (ap (λ m. min m 4294967295) c.count_class_gates.ensures
     ∙ (gates_told s r.incident _ sound is
-    ∙ ap (λ o. class_gates r.incident (with_edits (option_map_or (λ p. edit.TakeGate (record { incident = r.incident; path = p }) ∷ put_gate r.incident r.level r.group p) o []) s).gates) (sym c.in-None.is ∙ c.in_ok-path_of.ensures)))
+    ∙ ap (λ o. class_gates r.incident (with_edits (option_map_or (λ p. edit.TakeGate (record { incident = r.incident; path = p }) ∷ put_gate r.incident r.level r.group p) o []) s).gates) (sym c.in-None.is ∙ c.requires)))
 
 pub returns-in-Some : goal.returns-in-Some
 returns-in-Some c = λ s sound is.
@@ -22,4 +22,4 @@ returns-in-Some c = λ s sound is.
     c.capped-in-Some.ensures
     ∙ (ap (λ m. min m 4294967295) c.count_class_gates_with.ensures
     ∙ (gates_told_with s r.incident c.in-Some.path r.level r.group _ sound is
-    ∙ ap (λ o. class_gates r.incident (with_edits (option_map_or (λ p. edit.TakeGate (record { incident = r.incident; path = p }) ∷ put_gate r.incident r.level r.group p) o []) s).gates) (sym c.in-Some.is ∙ c.in_ok-path_of.ensures)))
+    ∙ ap (λ o. class_gates r.incident (with_edits (option_map_or (λ p. edit.TakeGate (record { incident = r.incident; path = p }) ∷ put_gate r.incident r.level r.group p) o []) s).gates) (sym c.in-Some.is ∙ c.requires)))

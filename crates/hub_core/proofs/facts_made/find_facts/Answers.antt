@@ -38,7 +38,7 @@ returns g c = record {
       told s c.args.actor.now c.args.request.now _ _ _ _ _ (c.in_ok-circle.ensures.value first s has shared) incident
       (c.in_ok-document.ensures.value third s has-2 ∙ ap (λ n. option_map (λ (i : Incident). i.document) (looked_up s n)) asked)
       (c.in_ok-posted.ensures.value clean s has-3)
-      (c.in_ok-counts.ensures s (g.met.L.LookUps.sound c.args.shelf.now s has) shared there c.args.actor.now);
+      (c.counts_then-counts.ensures s (g.met.L.LookUps.sound c.args.shelf.now s has) shared there c.args.actor.now);
   kept = search rules;
   cause = search rules;
 }
