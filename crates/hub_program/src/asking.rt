@@ -1,0 +1,70 @@
+//! One thing that is asked of the hub over a store.
+ghost use Rattle.std.specs.Prelude.{◌≡◌};
+ghost use Rattle.hub_core.specs.State.{State};
+ghost use Rattle.hub_core.specs.Sound.{IsSound};
+ghost use Rattle.hub.specs.Machine.{IsStep};
+ghost use Rattle.hub_program.specs.Keys as spec;
+
+use crate::clock::seconds;
+use crate::fault::Fault;
+use crate::input::read_line;
+use crate::keys::line_key;
+use crate::output::print;
+use crate::replies::{reply_lines, status_of};
+use crate::status::Status;
+use crate::store::{close, open_store};
+use hub::Hub;
+use hub_core::{Reply, Request, Shelf};
+use std::alloc::Global;
+use std::io::{Read, Write};
+use std::time::Clock;
+
+/// What the hub replies to who has this line as key.
+pub fn reply_to<Sh: Shelf>(
+    alloc: Global,
+    hub: &mut Hub<Sh>,
+    now: i64,
+    line: &[u8],
+    request: &Request,
+) -> Reply
+    ensures step { Sh.doubts hub.new ≡ 0 → (s : State) → Sh.has hub.old s → IsSound s →
+        (left : State) × IsStep s (now, spec.line_key line.now, request.now) result left ×
+        Sh.has hub.new left }
+{
+    hub.answer(alloc, now, &line_key(line), request)
+}
+
+/// The reply to who has the first line of the input as key, at the present moment. It knows no more of the shelf than any
+/// shelf promises, which is all that its proof has to carry from call to call.
+pub fn reply_to_input<Sh: Shelf, R: Read, C: Clock>(
+    alloc: Global,
+    hub: &mut Hub<Sh>,
+    clock: &C,
+    request: &Request,
+    reader: &mut R,
+) -> Result<Reply, Fault> {
+    let line = read_line(alloc, reader)?;
+    let now = seconds(clock)?;
+    Ok(reply_to(alloc, hub, now, &line, request))
+}
+
+/// Prints the reply, and tells how the program ends with it.
+fn print_reply<W: Write>(alloc: Global, writer: &mut W, reply: &Reply) -> Result<Status, Fault> {
+    print(writer, reply_lines(alloc, reply)?.as_str())?;
+    Ok(status_of(reply))
+}
+
+/// Asks this at the present moment for who has the first line of the input as key, and prints the reply.
+pub fn ask<R: Read, W: Write>(
+    rt: &HostRuntime,
+    store: &str,
+    request: &Request,
+    reader: &mut R,
+    writer: &mut W,
+) -> Result<Status, Fault> {
+    let alloc = rt.alloc();
+    let mut hub = Hub::new(open_store(rt, store)?);
+    let answered = reply_to_input(alloc, &mut hub, rt, request, reader);
+    close(hub.into_shelf());
+    print_reply(alloc, writer, &answered?)
+}

@@ -1,0 +1,54 @@
+//! The bytes of standard input.
+ghost use Rattle.std.specs.Prelude.{IfOk, IfErr, ◌≡◌, ◌⊎◌};
+ghost use Rattle.hub_program.specs.Keys.{IsFirstLine};
+
+use crate::fault::Fault;
+use std::alloc::Global;
+use std::io::{ErrorKind, Read};
+
+/// How many bytes of input are read.
+pub const INPUT_LIMIT: usize = 1_048_576;
+
+/// Why the input isn't read; want of memory is told apart.
+fn read_fault(kind: ErrorKind) -> Fault {
+    match kind {
+        ErrorKind::OutOfMemory => Fault::NoMemory,
+        _ => Fault::ReadFailed,
+    }
+}
+
+/// All bytes of the input, where they are within the limit.
+pub fn read_input<R: Read>(alloc: Global, reader: &mut R) -> Result<Vec<u8>, Fault> {
+    let mut bytes = Vec::new(alloc);
+    match reader
+        .by_ref()
+        .take(INPUT_LIMIT as u64 + 1)
+        .read_to_end(&mut bytes)
+    {
+        Ok(_) => {}
+        Err(error) => return Err(read_fault(error.kind())),
+    }
+    if bytes.len() > INPUT_LIMIT {
+        return Err(Fault::ReadFailed);
+    }
+    Ok(bytes)
+}
+
+/// The first line of the input without its newline, where both are within the limit. Nothing is read behind it.
+pub fn read_line<R: Read>(alloc: Global, reader: &mut R) -> Result<Vec<u8>, Fault>
+    ensures { IfOk result (λ line.
+        IsFirstLine (R.remaining reader.old) (R.remaining reader.new) line.items) }
+{
+    let mut line = Vec::new(alloc);
+    for _ in 0..=INPUT_LIMIT {
+        let mut byte = [0];
+        match reader.read(&mut byte) {
+            Ok(0) => return Ok(line),
+            Ok(_) if line.len() == INPUT_LIMIT => return Err(Fault::ReadFailed),
+            Ok(_) if byte[0] == b'\n' => return Ok(line),
+            Ok(_) => line.push(byte[0])?,
+            Err(error) => return Err(read_fault(error.kind())),
+        }
+    }
+    Err(Fault::ReadFailed)
+}

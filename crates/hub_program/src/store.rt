@@ -1,0 +1,130 @@
+//! The store in a file.
+ghost use Rattle.std.specs.Prelude.{◌≡◌, false, IfOk};
+ghost use Rattle.hub_program.specs.Faults.{told_of_shelf, told_of_opening};
+
+use crate::fault::{Fault, Reason};
+use hub_core::ShelfFault;
+use hub_store::{OpenFault, SqlShelf};
+use kept_documents::{KeptDocuments, MOST_WEIGHT};
+use sqlite::{Alter, Connection, Error, ErrorCode, File, FileStore};
+use std::alloc::Global;
+use std::fs;
+use std::fs::OpenOptions;
+use std::io::ErrorKind;
+use std::os::unix::fs::OpenOptionsExt;
+
+/// The hub's tables in a file.
+pub type FileShelf = SqlShelf<FileStore<File>>;
+
+/// What is told of a shelf's fault.
+pub fn shelf_fault(fault: ShelfFault) -> Fault
+    ensures { result ≡ told_of_shelf fault }
+{
+    match fault {
+        ShelfFault::NoMemory => Fault::NoMemory,
+        ShelfFault::Failed => Fault::Failed,
+    }
+}
+
+/// What is told of a store that isn't opened.
+pub fn open_fault(fault: OpenFault) -> Fault
+    ensures { result ≡ told_of_opening fault }
+{
+    match fault {
+        OpenFault::NotOurs => Fault::NotOurs,
+        OpenFault::WrongVersion(_) => Fault::WrongVersion,
+        OpenFault::Failed => Fault::Failed,
+        OpenFault::NoMemory => Fault::NoMemory,
+    }
+}
+
+/// Why the system doesn't open the file.
+fn system_fault(kind: ErrorKind) -> Fault {
+    match kind {
+        ErrorKind::NotFound => Fault::NotOpened(Reason::NoSuchFile),
+        ErrorKind::PermissionDenied => Fault::NotOpened(Reason::NoPermission),
+        ErrorKind::StorageFull => Fault::NotOpened(Reason::DiskFull),
+        ErrorKind::OutOfMemory => Fault::NoMemory,
+        _ => Fault::Failed,
+    }
+}
+
+/// Why there is no connection over a file that is there.
+fn connection_fault(error: Error) -> Fault {
+    match error {
+        Error::SqliteFailure(ErrorCode::OutOfMemory) => Fault::NoMemory,
+        Error::SqliteFailure(ErrorCode::DatabaseBusy) => Fault::NotOpened(Reason::Locked),
+        _ => Fault::Failed,
+    }
+}
+
+/// A connection over the file that is there, and its log, which is made with the file's mode where it isn't there.
+pub fn connect(rt: &HostRuntime, path: &str) -> Result<Connection<FileStore<File>>, Fault>
+    ensures { IfOk result (λ conn. conn.in_transaction ≡ false) }
+{
+    // `Connection::open` would make a file that is missing.
+    if let Err(error) = fs::metadata(rt, path) {
+        return Err(system_fault(error.kind()));
+    }
+    Connection::open(rt, path).map_err(connection_fault)
+}
+
+/// Makes the file, for its owner alone, where there is none of the name. The names that the connection takes for no file are
+/// left to it, which refuses them.
+fn make_file(rt: &HostRuntime, path: &str) -> Result<(), Fault> {
+    if path == ":memory:" || path.starts_with("file:") {
+        return Ok(());
+    }
+    match OpenOptions::new()
+        .write(true)
+        .create_new(true)
+        .mode(0o600)
+        .open(rt, path)
+    {
+        Err(error) if error.kind() != ErrorKind::AlreadyExists => Err(system_fault(error.kind())),
+        _ => Ok(()),
+    }
+}
+
+/// A connection over the file, which is made where it isn't there.
+pub fn connect_or_make(rt: &HostRuntime, path: &str) -> Result<Connection<FileStore<File>>, Fault>
+    ensures { IfOk result (λ conn. conn.in_transaction ≡ false) }
+{
+    make_file(rt, path)?;
+    connect(rt, path)
+}
+
+/// The shelf over a connection whose tables are of the newest version.
+fn open_over<S: Alter + Drop>(alloc: Global, conn: Connection<S>) -> Result<SqlShelf<S>, Fault>
+    requires { conn.in_transaction ≡ false }
+{
+    match SqlShelf::open(alloc, conn) {
+        Ok(shelf) => Ok(shelf),
+        Err((fault, _)) => Err(open_fault(fault)),
+    }
+}
+
+/// The shelf over the file, whose tables are of the newest version.
+pub fn open_store(rt: &HostRuntime, path: &str) -> Result<FileShelf, Fault> {
+    open_over(rt.alloc(), connect(rt, path)?)
+}
+
+/// The shelf over the file, which keeps the documents that are read lately.
+pub fn open_kept(
+    rt: &HostRuntime,
+    path: &str,
+) -> Result<KeptDocuments<FileShelf, MOST_WEIGHT>, Fault> {
+    match KeptDocuments::new(rt.alloc(), open_store(rt, path)?) {
+        Ok(kept) => Ok(kept),
+        Err((_, shelf)) => {
+            close(shelf);
+            Err(Fault::NoMemory)
+        }
+    }
+}
+
+/// Gives up a shelf. What was committed stands in the log beside the file already, so a fault here loses nothing: the next
+/// open finds it there.
+pub fn close(shelf: FileShelf) {
+    let _ = shelf.release().close();
+}
