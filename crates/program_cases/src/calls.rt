@@ -1,0 +1,96 @@
+//! Callers over loopback.
+
+use crate::told::push_reply;
+use std::io;
+use std::io::{ErrorKind, Read, Write};
+use std::net::{Ipv4Addr, TcpStream};
+
+/// What a caller sends who leaves at once.
+const LEAVES: &[u8] = b"-";
+
+/// A caller of the port who has sent these bytes, unless it left.
+fn call(rt: &HostRuntime, port: u16, bytes: &[u8]) -> io::Result<Option<TcpStream>> {
+    let mut caller = TcpStream::connect(rt, (Ipv4Addr::LOCALHOST, port))?;
+    if bytes == LEAVES {
+        return Ok(None);
+    }
+    caller.write_all(bytes)?;
+    Ok(Some(caller))
+}
+
+/// The callers of a port, each of whom has sent its bytes, but for those that left.
+pub fn call_all(
+    rt: &HostRuntime,
+    port: u16,
+    requests: &[Vec<u8>],
+    callers: &mut Vec<TcpStream>,
+) -> io::Result<()> {
+    for bytes in requests {
+        if let Some(caller) = call(rt, port, bytes)? {
+            callers.push(caller)?;
+        }
+    }
+    Ok(())
+}
+
+/// All that a caller is replied, as far as it comes.
+pub fn reply_to(rt: &HostRuntime, caller: &mut TcpStream) -> Vec<u8> {
+    let mut reply = Vec::new(rt.alloc());
+    let _ = caller.read_to_end(&mut reply);
+    reply
+}
+
+/// What each caller is replied, a line each.
+pub fn push_replies(
+    rt: &HostRuntime,
+    callers: &mut Vec<TcpStream>,
+    all: &mut String,
+) -> io::Result<()> {
+    for caller in callers.iter_mut() {
+        push_reply(all, &reply_to(rt, caller))?;
+    }
+    Ok(())
+}
+
+/// Standard output, behind which callers connect to a port as soon as it is flushed. It takes all bytes, or none.
+#[derive(Drop)]
+pub struct Calling<'a> {
+    pub rt: &'a HostRuntime,
+    pub port: u16,
+    pub requests: &'a [Vec<u8>],
+    pub callers: Vec<TcpStream>,
+    pub written: Vec<u8>,
+    pub takes: bool,
+}
+
+impl<'a> Calling<'a> {
+    pub fn new(
+        rt: &'a HostRuntime,
+        port: u16,
+        requests: &'a [Vec<u8>],
+        takes: bool,
+    ) -> Calling<'a> {
+        Calling {
+            rt,
+            port,
+            requests,
+            callers: Vec::new(rt.alloc()),
+            written: Vec::new(rt.alloc()),
+            takes,
+        }
+    }
+}
+
+impl Write for Calling<'_> {
+    fn write(&mut self, bytes: &[u8]) -> io::Result<usize> {
+        if !self.takes {
+            return Err(io::Error::from(ErrorKind::StorageFull));
+        }
+        self.written.extend_from_slice(bytes)?;
+        Ok(bytes.len())
+    }
+
+    fn flush(&mut self) -> io::Result<()> {
+        call_all(self.rt, self.port, self.requests, &mut self.callers)
+    }
+}

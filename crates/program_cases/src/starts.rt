@@ -1,0 +1,174 @@
+//! Starts of the program.
+
+use crate::calls::{Calling, push_replies, reply_to};
+use crate::place::Place;
+use crate::streams::{Ending, Input, Output};
+use crate::texts::{field_of, fields_of};
+use crate::told::{ended, push_reply};
+use crate::words::{args_of, no_args};
+use hub_program::{Status, cli_start};
+use std::alloc::{AllocError, Global};
+use std::env::Args;
+use std::io;
+use std::net::{Ipv4Addr, TcpListener, TcpStream};
+use std::str::from_utf8;
+
+/// The start that all cases make.
+fn begin(
+    rt: &HostRuntime,
+    words: io::Result<Args>,
+    input: &mut Input<'_>,
+    output: &mut Calling<'_>,
+    errors: &mut Output,
+) -> Status {
+    cli_start(rt, words, input, output, errors)
+}
+
+/// A port that nobody has, held for as long as it isn't let go of, and its number.
+fn held_port(rt: &HostRuntime) -> io::Result<(TcpListener, u16)> {
+    let listener = TcpListener::bind(rt, (Ipv4Addr::LOCALHOST, 0))?;
+    let port = listener.local_addr()?.port();
+    Ok((listener, port))
+}
+
+/// How the program ended, with `PORT` for the number of the port.
+fn told_of(
+    alloc: Global,
+    status: Status,
+    output: &Calling<'_>,
+    errors: &Output,
+) -> Result<String, AllocError> {
+    let port = output.port;
+    let listening = format!(in alloc; "listening {port}\n")?;
+    let mut written: &[u8] = &output.written;
+    if written == listening.as_bytes() {
+        written = b"listening PORT\n";
+    }
+    ended(alloc, status, written, &errors.written)
+}
+
+/// What comes behind the input, and whether standard output and standard error take anything.
+fn streams_of(way: &str) -> (Ending, bool, bool) {
+    match way {
+        "cut" => (Ending::Failure, true, true),
+        "starved" => (Ending::NoMemory, true, true),
+        "unwritten" => (Ending::Nothing, false, true),
+        "untold" => (Ending::Nothing, false, false),
+        _ => (Ending::Nothing, true, true),
+    }
+}
+
+fn start_at(
+    rt: &HostRuntime,
+    place: &Place,
+    port: u16,
+    way: &str,
+    rest: &str,
+) -> io::Result<String> {
+    let alloc = rt.alloc();
+    let (words, input) = rest.split_once('|').unwrap_or((rest, ""));
+    let bytes = field_of(rt, input)?;
+    let (ending, takes, tells) = streams_of(way);
+    let mut input = Input {
+        bytes: &bytes,
+        ending,
+    };
+    let mut output = Calling::new(rt, port, &[], takes);
+    let mut errors = Output::new(alloc, tells);
+    let args = if way == "wordless" {
+        no_args()
+    } else {
+        args_of(alloc, place, port, words)
+    };
+    let status = begin(rt, args, &mut input, &mut output, &mut errors);
+    Ok(told_of(alloc, status, &output, &errors)?)
+}
+
+/// What comes of a start in this way.
+pub fn start(rt: &HostRuntime, place: &Place, way: &str, rest: &str) -> io::Result<String> {
+    let (listener, port) = held_port(rt)?;
+    if way == "taken" {
+        let told = start_at(rt, place, port, way, rest);
+        drop(listener);
+        return told;
+    }
+    drop(listener);
+    start_at(rt, place, port, way, rest)
+}
+
+/// What comes of a `serve` for as many callers as there are requests, and the callers.
+fn served(
+    rt: &HostRuntime,
+    place: &Place,
+    requests: &[Vec<u8>],
+) -> io::Result<(String, Vec<TcpStream>)> {
+    let alloc = rt.alloc();
+    let (listener, port) = held_port(rt)?;
+    drop(listener);
+    let count = requests.len();
+    let words = format!(in alloc; "serve STORE PORT {count}")?;
+    let args = args_of(alloc, place, port, words.as_str());
+    let mut input = Input {
+        bytes: b"",
+        ending: Ending::Nothing,
+    };
+    let mut output = Calling::new(rt, port, requests, true);
+    let mut errors = Output::new(alloc, true);
+    let status = begin(rt, args, &mut input, &mut output, &mut errors);
+    let told = told_of(alloc, status, &output, &errors)?;
+    Ok((told, output.callers))
+}
+
+/// What comes of a `serve`, and what each caller is replied.
+pub fn serve(rt: &HostRuntime, place: &Place, rest: &str) -> io::Result<String> {
+    let requests = fields_of(rt, rest)?;
+    let (mut all, mut callers) = served(rt, place, &requests)?;
+    push_replies(rt, &mut callers, &mut all)?;
+    Ok(all)
+}
+
+/// The bytes of a post that is written KEY|TARGET|BODY.
+fn post_of(alloc: Global, line: &str) -> Result<Vec<u8>, AllocError> {
+    let (key, rest) = line.split_once('|').unwrap_or((line, ""));
+    let (target, body) = rest.split_once('|').unwrap_or((rest, ""));
+    let length = body.len();
+    let bytes = format!(in alloc;
+        "POST {target} HTTP/1.1\r\nAuthorization: Bearer {key}\r\nContent-Length: {length}\r\n\r\n{body}"
+    )?;
+    Ok(bytes.into_bytes())
+}
+
+fn posts_of(rt: &HostRuntime, field: &str) -> io::Result<Vec<Vec<u8>>> {
+    let text = field_of(rt, field)?;
+    let mut all = Vec::new(rt.alloc());
+    for line in from_utf8(&text).unwrap_or("").lines() {
+        all.push(post_of(rt.alloc(), line)?)?;
+    }
+    Ok(all)
+}
+
+/// How many callers are told that it is done; the first other reply, if there is one.
+fn told_done(rt: &HostRuntime, callers: &mut Vec<TcpStream>) -> io::Result<String> {
+    let alloc = rt.alloc();
+    let mut count: usize = 0;
+    for caller in callers.iter_mut() {
+        let reply = reply_to(rt, caller);
+        if !reply.as_slice().starts_with(b"HTTP/1.1 200 OK\r\n") {
+            let mut told = String::new(alloc);
+            push_reply(&mut told, &reply)?;
+            return Ok(told);
+        }
+        count = count.saturating_add(1);
+    }
+    Ok(format!(in alloc; "{count} done\n")?)
+}
+
+/// Posts to the store.
+pub fn post(rt: &HostRuntime, place: &Place, field: &str) -> io::Result<String> {
+    let requests = posts_of(rt, field)?;
+    let (told, mut callers) = served(rt, place, &requests)?;
+    if told.as_str() != "status 0\n> listening PORT\n" {
+        return Ok(told);
+    }
+    told_done(rt, &mut callers)
+}

@@ -1,0 +1,59 @@
+//! How what comes of a case is printed.
+
+use hub_program::Status;
+use std::alloc::{AllocError, Global};
+use std::str::from_utf8;
+
+/// Each of the first lines of a text behind a mark; one that isn't ended has `..` behind it.
+fn push_lines(all: &mut String, mark: &str, text: &str, most: usize) -> Result<(), AllocError> {
+    for line in text.split_inclusive('\n').take(most) {
+        all.push_str(mark)?;
+        all.push_str(line)?;
+        if !line.ends_with('\n') {
+            all.push_str("..\n")?;
+        }
+    }
+    Ok(())
+}
+
+/// Each of the first lines of an output behind a mark.
+fn push_output(all: &mut String, mark: &str, bytes: &[u8], most: usize) -> Result<(), AllocError> {
+    push_lines(all, mark, from_utf8(bytes).unwrap_or("not UTF-8"), most)
+}
+
+/// What is printed.
+pub fn push_printed(all: &mut String, output: &[u8]) -> Result<(), AllocError> {
+    push_output(all, "> ", output, usize::MAX)
+}
+
+/// How the program ended, and what it printed and told.
+pub fn ended(
+    alloc: Global,
+    status: Status,
+    output: &[u8],
+    errors: &[u8],
+) -> Result<String, AllocError> {
+    let code = status.code();
+    let mut all = format!(in alloc; "status {code}\n")?;
+    push_printed(&mut all, output)?;
+    let most = match status {
+        Status::Usage => 1,
+        Status::Done | Status::Refused | Status::Failed => usize::MAX,
+    };
+    push_output(&mut all, "! ", errors, most)?;
+    Ok(all)
+}
+
+/// A reply behind its mark, on one line.
+pub fn push_reply(all: &mut String, reply: &[u8]) -> Result<(), AllocError> {
+    all.push_str("< ")?;
+    for c in from_utf8(reply).unwrap_or("not UTF-8").chars() {
+        match c {
+            '\r' => all.push_str("\\r")?,
+            '\n' => all.push_str("\\n")?,
+            _ => all.push(c)?,
+        }
+    }
+    all.push('\n')?;
+    Ok(())
+}
