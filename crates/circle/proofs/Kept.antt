@@ -75,9 +75,6 @@ client_put d client h new known = record {
 clients_left : (d : Directory) (p : Client → Bool) → IsSound d → SoundClients d.orgs (filter p d.clients)
 clients_left d p h = record { rising = pairs_left _ p d.clients h.clients.rising; ends = each_left _ p d.clients h.clients.ends }
 
-exchanged_person : (n : ℕ) (f : Person → Person) (a : Account) → Account
-exchanged_person n f a = if a.person.number == n then record a { person = f a.person } else a
-
 pub same_when : {X Y : Type 0} (show : X → Y) (b : Bool) (x y : X) → show x ≡ show y → show (if b then x else y) ≡ show y
 same_when show true x y e = e
 same_when show false x y e = refl

@@ -1,7 +1,6 @@
--- Looking rows up: a number's row by its place where the numbers have no gap, and the rows of a key by halving.
+-- Looking rows up: the rows of a key by halving.
 use Rattle.std.proofs.Common.{◌≡◌, ℕ, zero, suc, ◌+◌, ◌-◌, ◌≤◌, ◌<◌, ◌==◌, ◌&&◌, ◌||◌, not, Bool, true, false, List, [], ◌∷◌, filter, length, take, drop, get_or, Some, if◌then◌else◌, refl, sym, ap, ◌∙◌, subst, arith}
 use Rattle.std.specs.Prelude.{find, slice_get}
-use Rattle.std.specs.Option.{option_map_or}
 use Rattle.std.specs.List.{list_any, AllWithin, insert}
 use Rattle.std.specs.List.Sorted.{IsPartitionedBy}
 use Rattle.std.specs.Ordering.{is_lt}
@@ -9,58 +8,8 @@ use Rattle.std.specs.declared.cmp.Ordering.{Ordering}
 use Rattle.std.proofs.lemmas.List.{get_or-drop, length-drop}
 use Rattle.std.proofs.lemmas.Bool.Decides.{nat_tests}
 use Rattle.circle.specs.Ordered.{pair_cmp, put_by, by_pair}
-use Rattle.circle.specs.Sound.{CountsFrom, IsNumbered, Each}
+use Rattle.circle.specs.Sound.{Each}
 use Rattle.circle.specs.Stretches.{same_pair, Ascend, having}
-
--- ---- by number
-
-is_number : (a b : ℕ) → a ≡ b → (a == b) ≡ true
-is_number a b e = grind (arith, nat_tests)
-
-other_number : (a b : ℕ) → a < b → (a == b) ≡ false
-other_number a b h = grind (arith, nat_tests)
-
-higher_number : (a b : ℕ) → b < a → (a == b) ≡ false
-higher_number a b h = grind (arith, nat_tests)
-
--- the row of number n + k + 1 stands at place k where the numbers count from n
-find_counted : {X : Type 0} (number : X → ℕ) (n k m : ℕ) (rows : List X) → m ≡ n + k + 1 → CountsFrom number n rows → find (λ x. number x == m) rows ≡ slice_get rows k
-find_counted number n k m [] e h = refl
-find_counted number n zero m (x ∷ xs) e h =
-    let first : number x ≡ n + 1 = h.0 in
-    ap (λ b. if b then Some x else find (λ x. number x == m) xs) (is_number (number x) m (omega arith))
-find_counted number n (suc k) m (x ∷ xs) e h =
-    let first : number x ≡ n + 1 = h.0 in
-    ap (λ b. if b then Some x else find (λ x. number x == m) xs) (other_number (number x) m (omega arith)) ∙ find_counted number (n + 1) k m xs (omega arith) h.1
-
--- the row of number n + 1 stands at place n
-pub find_numbered : {X : Type 0} (number : X → ℕ) (limit : ℕ) (rows : List X) (n : ℕ) → IsNumbered number limit rows → find (λ x. number x == n + 1) rows ≡ slice_get rows n
-find_numbered number limit rows n h = find_counted number 0 n (n + 1) rows (omega arith) h.0
-
-or_false : (b : Bool) → (b || false) ≡ b
-or_false true = refl
-or_false false = refl
-
--- no number that is counted is as low as where the count begins
-none_counted : {X : Type 0} (number : X → ℕ) (test : X → Bool) (n m : ℕ) (rows : List X) → m ≤ n → CountsFrom number n rows → list_any (λ x. number x == m && test x) rows ≡ false
-none_counted number test n m [] low h = refl
-none_counted number test n m (x ∷ xs) low h =
-    let first : number x ≡ n + 1 = h.0 in
-    ap (λ b. (b && test x) || list_any (λ y. number y == m && test y) xs) (higher_number (number x) m (omega arith)) ∙ none_counted number test (n + 1) m xs (omega arith) h.1
-
-any_counted : {X : Type 0} (number : X → ℕ) (test : X → Bool) (n k m : ℕ) (rows : List X) → m ≡ n + k + 1 → CountsFrom number n rows → list_any (λ x. number x == m && test x) rows ≡ option_map_or test (slice_get rows k) false
-any_counted number test n k m [] e h = refl
-any_counted number test n zero m (x ∷ xs) e h =
-    let first : number x ≡ n + 1 = h.0 in
-    ap (λ b. (b && test x) || list_any (λ y. number y == m && test y) xs) (is_number (number x) m (omega arith))
-    ∙ (ap (λ b. test x || b) (none_counted number test (n + 1) m xs (omega arith) h.1) ∙ or_false (test x))
-any_counted number test n (suc k) m (x ∷ xs) e h =
-    let first : number x ≡ n + 1 = h.0 in
-    ap (λ b. (b && test x) || list_any (λ y. number y == m && test y) xs) (other_number (number x) m (omega arith)) ∙ any_counted number test (n + 1) k m xs (omega arith) h.1
-
--- a test of the row of number n + 1 is one of the row at place n
-pub any_numbered : {X : Type 0} (number : X → ℕ) (limit : ℕ) (test : X → Bool) (rows : List X) (n : ℕ) → IsNumbered number limit rows → list_any (λ x. number x == n + 1 && test x) rows ≡ option_map_or test (slice_get rows n) false
-any_numbered number limit test rows n h = any_counted number test 0 n (n + 1) rows (omega arith) h.0
 
 -- ---- pairs
 
@@ -209,8 +158,3 @@ first_having p (x ∷ xs) = split (p x) (first_having p xs)
 pub found_with : {X : Type 0} (key : X → ℕ × ℕ) (k : ℕ × ℕ) (q : X → Bool) (xs slice rows : List X) → slice ≡ xs → (Ascend key slice → rows ≡ having key k slice) → Ascend key xs → list_any q rows ≡ list_any (λ x. same_pair (key x) k && q x) xs
 found_with key k q xs slice rows same found up =
     ap (λ l. list_any q l) (found (subst (Ascend key) (sym same) up) ∙ ap (having key k) same) ∙ any_having (λ x. same_pair (key x) k) q xs
-
--- the first row of a key, looked for among the rows of the key alone
-pub found_first : {X : Type 0} (key : X → ℕ × ℕ) (k : ℕ × ℕ) (xs slice rows : List X) → slice ≡ xs → (Ascend key slice → rows ≡ having key k slice) → Ascend key xs → slice_get rows 0 ≡ find (λ x. same_pair (key x) k) xs
-found_first key k xs slice rows same found up =
-    ap (λ l. slice_get l 0) (found (subst (Ascend key) (sym same) up) ∙ ap (having key k) same) ∙ first_having (λ x. same_pair (key x) k) xs

@@ -1,3 +1,2 @@
 mod Passages
 mod Parts
-mod Placing

@@ -1,11 +1,10 @@
 -- Reading goes on: what several calls leave.
-use Rattle.std.proofs.Common.{◌≡◌, ◌≤◌, inl, inr, ℕ, arith}
+use Rattle.std.proofs.Common.{◌≡◌, ℕ, arith}
 use Rattle.std.specs.Prelude.{Option, Result}
-use Rattle.std.proofs.lemmas.Bool.Decides.{leb_tells}
 use Rattle.hub_core.specs.State.{State}
-use Rattle.hub_core.specs.Shelves.{IsRead, last_count}
+use Rattle.hub_core.specs.Shelves.{IsRead}
 use Rattle.hub_core.specs.declared.shelf.ShelfFault.{ShelfFault}
-use Rattle.hub_core.specs.Shelves.{HasFailed, IsKept}
+use Rattle.hub_core.specs.Shelves.{IsKept}
 
 pub kept_on : {D : Type 0} {has : D → State → Type 0} {doubts failed : D → ℕ} {may_remain : D → Option State → Type 0} {old mid new : D} →
     IsKept has doubts failed may_remain old mid → IsKept has doubts failed may_remain mid new → IsKept has doubts failed may_remain old new
@@ -20,12 +19,3 @@ kept_on {doubts = doubts} {old = old} {mid = mid} {new = new} first then = recor
 pub kept_read : {D T : Type 0} {has : D → State → Type 0} {doubts failed : D → ℕ} {may_remain : D → Option State → Type 0} {old new : D} {result : Result T ShelfFault} →
     IsRead has doubts failed may_remain old new result → IsKept has doubts failed may_remain old new
 kept_read read = record { later = read.cause.later; doubt = read.doubt; content = read.content; crash = read.crash }
-
--- a failure stands whatever came before it, and whatever comes behind it
-pub failed_before : (a b c : ℕ) → a ≤ b → HasFailed b c → HasFailed a c
-failed_before a b c low (inl rose) = inl (omega (arith, low, rose))
-failed_before a b c low (inr last) = inr last
-
-pub failed_later : (a b c : ℕ) → a ≤ b → HasFailed a b → b ≤ c → HasFailed a c
-failed_later a b c low (inl rose) more = inl (omega (arith, rose, more))
-failed_later a b c low (inr last) more = elim (leb_tells c last_count) [ inl tells ↦ inr (omega (arith, last, more, tells.1)) | inr tells ↦ inl (omega (arith, low, last, more, tells.1)) ]

@@ -1,5 +1,5 @@
 -- Other permissions, recipients, persons, arrangements and memberships, none of which concern a person.
-use Rattle.std.proofs.Common.{◌≡◌, ◌⊎◌, ℕ, Bool, true, false, List, [], ◌∷◌, refl, sym, ◌∙◌, ap, subst, ◌&&◌, ◌||◌, ◌==◌, if◌then◌else◌, inl, inr}
+use Rattle.std.proofs.Common.{◌≡◌, ◌⊎◌, Bool, true, false, List, [], ◌∷◌, refl, sym, ◌∙◌, ap, subst, ◌&&◌, ◌||◌, ◌==◌, if◌then◌else◌, inl, inr}
 use Rattle.std.specs.Prelude.{ℤ, Option, Some, None, filter, find, map, Contains, option_map}
 use Rattle.std.specs.List.{AllByRecursion, list_any, filter_map}
 use Rattle.std.proofs.lemmas.List.{map-id}
@@ -61,9 +61,6 @@ filter-in f (y ∷ ys) x h = by_test (f y) h (filter-in f ys x)
 
 or-false : (b c : Bool) → (b || c) ≡ false → b ≡ false
 or-false b c h = (or_parts b c h).0
-
-group_in : GroupMember → ℕ
-group_in m = m.group
 
 module _ (now : ℤ) (a : Account) (s : State) (accounts : List Account) (arrangements : List Arrangement) (members : List GroupMember) (recipients : List Recipient) (permissions : List Permission) where
   abbrev p : Person

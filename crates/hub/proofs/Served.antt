@@ -127,13 +127,6 @@ read_is s now p r reply h = by_case (is_reading r) refl h
     by_case true is k = let same : reply ≡ due_to s now p r = cc in (is, same)
     by_case false is k = cc
 
-pub not_read : (s : State) (now : ℤ) (p : Person) (r : Request) → None ≡ read_by s now p r → is_reading r ≡ false
-not_read s now p r h = by_case (is_reading r) h
-  where
-    by_case : (b : Bool) → None ≡ cond b (Some (due_to s now p r)) None → b ≡ false
-    by_case true k = cc
-    by_case false k = refl
-
 -- ---- what is served
 
 module _ {D : Type 0} {has : D → State → Type 0} {doubts failed : D → ℕ} {may_remain : D → Option State → Type 0} {old new : D} where

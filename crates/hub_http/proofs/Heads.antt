@@ -1,10 +1,10 @@
 -- What the parser of heads answers, and what the bytes ask.
-use Rattle.std.proofs.Common.{◌≡◌, ℕ, ◌+◌, ◌<◌, ◌≤◌, List, [], ◌∷◌, ◌++◌, length, map, drop, Bor, Some, Err, refl, ap, ◌∙◌, subst, inl, arith, append-nil, length-append, length-drop, length-take, nat_le, false, sym, option_copied}
+use Rattle.std.proofs.Common.{◌≡◌, ℕ, ◌+◌, ◌<◌, ◌≤◌, List, [], ◌∷◌, ◌++◌, length, drop, Err, refl, ap, ◌∙◌, subst, inl, arith, append-nil, length-append, length-take, nat_le, false, sym}
 use Rattle.std.specs.List.{flat_map}
 use Rattle.std.proofs.lemmas.List.{length-map}
 use Rattle.std.proofs.lemmas.Bool.Decides.{nat_tests}
 use Rattle.httparse.specs.Grammar.{RequestHead, Field, lf, print_end, print_field, print_request, ReadsRequest}
-use Rattle.httparse.specs.Borrowed.{HoldsRequest, HoldsSomeRequest, header_parts}
+use Rattle.httparse.specs.Borrowed.{HoldsSomeRequest}
 use Rattle.httparse.specs.Spans.{RequestOverflows, RequestExceeds}
 use Rattle.httparse.specs.declared.borrowed.Request.{Request}
 use Rattle.hub_http.specs.declared.TheConstants.{HEAD_LIMIT, FIELD_LIMIT}
@@ -13,16 +13,6 @@ use Rattle.hub_http.specs.declared.wire.Arrival.{Arrival}
 use Rattle.hub_http.specs.declared.wire.Arrival.TheVariants.{Wants, Asks, Refused}
 use Rattle.hub_http.specs.Wire.{Asked, Wire, AsksByHead, asked_by, window, fields_of}
 use Rattle.hub_http.specs.inner.Arrivals.{Stands, Arrives}
-
--- what the parts that the parser holds ask is what the head asks
-asks_same : (bytes : List ℕ) (len : ℕ) (r : Request) (h : RequestHead) (method target : Bor (List ℕ))
-    → HoldsRequest (window bytes) len r h → r.method ≡ Some method → r.path ≡ Some target
-    → asked_by method.now target.now (map header_parts r.headers.now) (drop len bytes)
-    ≡ asked_by h.method h.target (fields_of h) (drop (length (print_request h)) bytes)
-asks_same bytes len r h method target holds m t =
-    let a : method.now ≡ h.method = grind (arith, ap option_copied m, holds.method) in
-    let b : target.now ≡ h.target = grind (arith, ap option_copied t, holds.path) in
-    rw (a, b, holds.fields, holds.len_is) refl
 
 module _ (bytes : List ℕ) (asked : Asked) (by_head : AsksByHead bytes asked) where
   is_wire : (other : Asked) → asked ≡ other → Wire bytes other
@@ -40,15 +30,6 @@ module _ (bytes : List ℕ) (asked : Asked) (by_head : AsksByHead bytes asked) w
   arrives here le (Refused fault.NoRoute) s = is_wire _ s
   arrives here le (Refused fault.BadBody) s = is_wire _ s
   arrives here le (Refused fault.NoMemory) s = tt
-
--- a whole head that the parser holds
-pub head_arrives : (bytes : List ℕ) (len : ℕ) (r : Request) (method target : Bor (List ℕ))
-    → HoldsSomeRequest (window bytes) r len → r.method ≡ Some method → r.path ≡ Some target → (a : Arrival)
-    → Stands (asked_by method.now target.now (map header_parts r.headers.now) (drop len bytes)) (len + length (drop len bytes)) a
-    → Arrives bytes a
-head_arrives bytes len r method target holds m t a s =
-    let same = asks_same bytes len r holds.0 method target holds.1 m t in
-    arrives bytes _ (holds.0, _, holds.1.reads, same) (len + length (drop len bytes)) (omega (arith, length-drop len bytes)) a s
 
 -- the head lies in the window
 pub head_fits : (bytes : List ℕ) (h : RequestHead) (rest : List ℕ) → ReadsRequest (window bytes) h rest → (length (print_request h) ≤ HEAD_LIMIT) × (length (print_request h) ≤ length bytes)

@@ -1,8 +1,7 @@
 -- What a JSON string has for a byte.
-use Rattle.std.proofs.Common.{◌≡◌, ℕ, ◌+◌, ◌/◌, ◌%◌, ◌<◌, ◌≤◌, List, [], ◌∷◌, ◌++◌, IsTrue, not, ◌||◌, nat_lt, nat_eq, length, take, drop, get_or, refl, sym, ap, ◌∙◌, subst, append_assoc, take-append-drop, arith}
+use Rattle.std.proofs.Common.{◌≡◌, ℕ, ◌+◌, ◌/◌, ◌%◌, ◌<◌, ◌≤◌, List, [], ◌∷◌, ◌++◌, IsTrue, not, ◌||◌, nat_lt, nat_eq, take, drop, refl, sym, ap, ◌∙◌, subst, append_assoc, take-append-drop, arith}
 use Rattle.std.proofs.lemmas.Bool.Decides.{nat_tests}
-use Rattle.std.proofs.lemmas.Grind.{common_steps, flat_map-append}
-use Rattle.std.proofs.Math.Seq.{take-suc}
+use Rattle.std.proofs.lemmas.Grind.{flat_map-append}
 use Rattle.std.specs.Char.{digit_char}
 use Rattle.json.specs.Print.{escape_letter, escape_byte, escape}
 use Rattle.iodef_tree.specs.Pointer.{escaped_byte}
@@ -50,10 +49,6 @@ unfolding escape_byte
 slash-token = refl
 
 -- ---- several
-
-pub plain-more : (w : Within) (bs : List ℕ) (i : ℕ) → i < length bs → shown_bytes w (take i bs) ≡ take i bs →
-    shown_byte w (get_or bs i 0) ≡ get_or bs i 0 ∷ [] → shown_bytes w (take (i + 1) bs) ≡ take (i + 1) bs
-plain-more w bs i h before here = grind (arith, common_steps, flat_map-append)
 
 -- what stands for itself at the front, and the rest
 pub front-shown : (w : Within) (t xs front back all : List ℕ) (n : ℕ) → front ≡ take n xs → back ≡ drop n xs →
