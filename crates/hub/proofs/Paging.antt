@@ -16,11 +16,11 @@ use Rattle.hub_core.specs.declared.state.Incident.{Incident}
 use Rattle.hub_core.specs.declared.reply.Entry.{Entry}
 use Rattle.policy.specs.declared.standing.Standing.{Standing}
 use Rattle.policy.specs.declared.case.Case.{Case}
-use Rattle.redact.specs.Wants.{meets, meets_by}
+use Rattle.redact.specs.Wants.{HasSameWords, meets, meets_by}
 use Rattle.redact.specs.declared.want.Want.{Want}
 use Rattle.hub_core.specs.Documents.{Lines}
 use Rattle.hub.specs.declared.TheConstants.{PAGE_LIMIT}
-use Rattle.hub.specs.inner.PageFilter.{HasSameWords, admits, is_shut_out, passes_filter, number_at_end}
+use Rattle.hub.specs.inner.PageFilter.{admits, is_shut_out, passes_filter, number_at_end}
 use Rattle.hub.specs.declared.page_filter.PageFilter.{PageFilter}
 use Rattle.hub.proofs.Numbered.{above-numbered, counts-drop, counts-take, all_found}
 use Rattle.hub.proofs.ShutOut.{shut-tells-nothing}

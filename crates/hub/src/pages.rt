@@ -1,5 +1,5 @@
 //! Pages: the incidents of which something holds, by number.
-ghost use Rattle.std.specs.Prelude.{◌≡◌, ◌≤◌, ◌++◌, false, not, IfOk, OnOk, IfErr, filter, take, length, option_map, string_bytes};
+ghost use Rattle.std.specs.Prelude.{◌≡◌, ◌≤◌, ◌++◌, false, not, IfOk, OnOk, filter, take, length};
 ghost use Rattle.std.specs.Option.{option_map_or};
 ghost use Rattle.hub_core.specs.State.{State, incident_of};
 ghost use Rattle.hub_core.specs.Sound.{IsSound};
@@ -7,7 +7,7 @@ ghost use Rattle.hub_core.specs.Reads.{case_for};
 ghost use Rattle.hub_core.specs.declared.state.Incident.{Incident};
 ghost use Rattle.hub_core.specs.declared.reply.Entry.{Entry as TheEntry};
 ghost use Rattle.hub.specs.Replies.{page_of};
-ghost use Rattle.hub.specs.inner.PageFilter.{HasSameWords, admits, passes_filter, is_wanted, is_wanted_at, number_at_end};
+ghost use Rattle.hub.specs.inner.PageFilter.{admits, passes_filter, is_wanted, is_wanted_at, number_at_end};
 ghost use Rattle.hub_core.specs.Shelves.{Finds};
 ghost use Rattle.hub.specs.inner.Asking.{IsThere};
 
@@ -18,33 +18,7 @@ use crate::page_filter::PageFilter;
 use crate::root_gate::is_shut;
 use hub_core::{Entry, Shelf, ShelfFault};
 use policy::Standing;
-use redact::Want;
 use std::alloc::Global;
-
-fn copy_text(alloc: Global, text: &Option<String>) -> Result<Option<String>, ShelfFault>
-    ensures value { IfOk result (λ copy.
-        option_map string_bytes copy ≡ option_map string_bytes text.now) }
-    ensures fault { IfErr result (λ e. e ≡ ShelfFault.NoMemory) }
-{
-    match text {
-        None => Ok(None),
-        Some(text) => {
-            let copy = ample(String::from_str(alloc, text.as_str()))?;
-            Ok(Some(copy))
-        }
-    }
-}
-
-/// A want of the same words.
-fn copy_want(alloc: Global, want: &Want) -> Result<Want, ShelfFault>
-    ensures same { IfOk result (λ copy. HasSameWords copy want.now) }
-    ensures fault { IfErr result (λ e. e ≡ ShelfFault.NoMemory) }
-{
-    Ok(Want {
-        needle: copy_text(alloc, &want.needle)?,
-        class: copy_text(alloc, &want.class)?,
-    })
-}
 
 /// Whether a standing rules an incident out, whatever it holds.
 fn is_ruled_out(wanted: PageFilter<'_>, standing: &Standing) -> bool
@@ -57,7 +31,6 @@ fn is_ruled_out(wanted: PageFilter<'_>, standing: &Standing) -> bool
 /// where a gate at the root shuts the person out, no line of it.
 fn is_wanted_by<Sh: Shelf>(
     shelf: &mut Sh,
-    alloc: Global,
     wanted: PageFilter<'_>,
     standing: Standing,
     incident: u32,
@@ -77,14 +50,13 @@ fn is_wanted_by<Sh: Shelf>(
     if is_shut(&case, &standing) {
         return Ok(false);
     }
-    let want = copy_want(alloc, wanted.want)?;
+    let want = ample(wanted.want.clone())?;
     is_met(shelf, incident, case, standing, want)
 }
 
 /// Whether a page lists the incident of this number for the person, at a moment.
 fn lists<Sh: Shelf>(
     shelf: &mut Sh,
-    alloc: Global,
     asker: Asker<'_>,
     wanted: PageFilter<'_>,
     incident: u32,
@@ -96,14 +68,13 @@ fn lists<Sh: Shelf>(
 {
     match standing(shelf, asker, incident)? {
         None => Ok(false),
-        Some(standing) => is_wanted_by(shelf, alloc, wanted, standing, incident),
+        Some(standing) => is_wanted_by(shelf, wanted, standing, incident),
     }
 }
 
 /// Adds those of the incidents that a page lists to it, until it is full.
 fn pick<Sh: Shelf>(
     shelf: &mut Sh,
-    alloc: Global,
     asker: Asker<'_>,
     wanted: PageFilter<'_>,
     entries: &[Entry],
@@ -123,7 +94,7 @@ fn pick<Sh: Shelf>(
         if listed.len() == PAGE_LIMIT {
             return Ok(());
         }
-        if lists(shelf, alloc, asker, wanted, entry.number)? {
+        if lists(shelf, asker, wanted, entry.number)? {
             if listed.push(*entry).is_err() {
                 return Err(ShelfFault::NoMemory);
             }
@@ -157,6 +128,7 @@ pub fn page<Sh: Shelf>(
 {
     let mut listed = Vec::new(alloc);
     let mut above = after;
+    // for the proof: the label names the loop there
     'pages: while listed.len() < PAGE_LIMIT {
         let entries = shelf.incidents_after(above, PAGE_LIMIT as u32)?;
         match last_number(entries.as_slice()) {
@@ -169,7 +141,7 @@ pub fn page<Sh: Shelf>(
                 above = last;
             }
         }
-        pick(shelf, alloc, asker, wanted, entries.as_slice(), &mut listed)?;
+        pick(shelf, asker, wanted, entries.as_slice(), &mut listed)?;
     }
     Ok(listed)
 }

@@ -1,5 +1,5 @@
 -- What a page lists.
-use Rattle.std.specs.Prelude.{◌≡◌, ℕ, ℤ, Bool, false, not, ◌&&◌, ◌||◌, ◌-◌, List, length, slice_get, Option, option_map, is_some, string_bytes}
+use Rattle.std.specs.Prelude.{ℕ, ℤ, Bool, false, not, ◌&&◌, ◌||◌, ◌-◌, List, length, slice_get, Option, option_map, is_some}
 use Rattle.std.specs.List.{list_any}
 use Rattle.std.specs.Option.{option_map_or}
 use Rattle.iodef_tree.specs.Text.{is_root}
@@ -8,7 +8,6 @@ use Rattle.policy.specs.declared.gate.Gate.{Gate}
 use Rattle.policy.specs.declared.standing.Standing.{Standing}
 use Rattle.policy.specs.declared.case.Case.{Case}
 use Rattle.redact.specs.Wants.{meets}
-use Rattle.redact.specs.declared.want.Want.{Want}
 use Rattle.circle.specs.declared.directory.Person.{Person}
 use Rattle.hub_core.specs.Documents.{Lines}
 use Rattle.hub_core.specs.State.{State, incident_of}
@@ -29,11 +28,6 @@ shuts_out st g = is_root g.path && is_some (refusal_of_gate st g)
 -- a gate does, and the reader isn't of the source
 abbrev pub is_shut_out : Case → Standing → Bool
 is_shut_out c st = not st.source && list_any (shuts_out st) c.gates
-
--- what the two look for is the same
-pub record HasSameWords (copy want : Want) : Type 0 where
-  pub needle : option_map string_bytes copy.needle ≡ option_map string_bytes want.needle
-  pub class : option_map string_bytes copy.class ≡ option_map string_bytes want.class
 
 -- a page of this kind lists a report, for a reader of this standing
 abbrev pub passes_filter : PageFilter → Lines → Case → Standing → Bool

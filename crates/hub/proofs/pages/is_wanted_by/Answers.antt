@@ -31,7 +31,7 @@ returns g c = record {
       let P : Bool → Type 0 = λ due. IfOk c.is_met.result (λ b. b ≡ due) in
       subst P
       (told_there s c.args.wanted c.in_ok-want.want c.args.standing (incident_of c.args.incident s) c.in-Some.case (sym c.is_ruled_out.ensures ∙ c.if-is_ruled_out.false)
-      (sym c.in-Some.is ∙ first.value mid s has) c.in_ok-want.ensures.same)
+      (sym c.in-Some.is ∙ first.value mid s has) (rw c.in_ok-want.ensures.value at c.clone.ensures.cases))
       (c.is_met.ensures.value clean s (first.kept.content mid s has) sound);
   kept = search rules;
   cause = search rules;
