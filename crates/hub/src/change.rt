@@ -9,7 +9,7 @@ ghost use Rattle.hub_core.specs.Laws.{is_reading};
 ghost use Rattle.hub_core.specs.Shelves.{KeepsContent};
 ghost use Rattle.hub.specs.Serving.{IsCounted, IsDoneAsDue, due_to, gives_numbers, is_made, is_made_by, made_reply, number_put, numbers_put};
 
-use crate::asking::Asker;
+use crate::asker::Asker;
 use crate::fault::{ample, refuse};
 use circle::command::{CircleCommand, RowEdit};
 use hub_core::{Code, Edit, Facts, Refusal, Reply, Request, Shelf, ShelfFault, judge, lacks_role};

@@ -16,9 +16,9 @@ ghost use Rattle.hub.specs.OneByOne.{AreAnswers, IsOneAnswer};
 ghost use Rattle.hub.specs.Stops.{IsDueChange, MayBeLeft};
 ghost use Rattle.hub.specs.declared.key.Key.TheVariants.{Digest};
 
+use crate::answers::answer_key;
 use crate::fault::given_up;
 use crate::key::Key;
-use crate::serving::answer_key;
 use hub_core::{Reply, Request, Shelf};
 use std::alloc::{AllocError, Global};
 use std::marker::Model;

@@ -17,27 +17,27 @@
 //! The rooms, in the way of a request:
 //!
 //! - `hub`: [`Hub`], one request and a list of them; `key`: [`Key`], by what a caller is known;
-//! - `serving`: who asks, and what is answered;
-//! - `reading`: requests that only read: a page by `pages` (`page_filter`: what it lists), a view by `view`, an explanation
-//!   by `explaining`; `root_gate`: what pages and views ask before a line is read;
+//! - `answers`: who asks, and what is answered;
+//! - `reads`: requests that only read: a page by `pages` (`page_filter`: what it lists), a view by `view`, an explanation
+//!   by `explanations`; `root_gate`: what pages and views ask before a line is read;
 //! - `change`: a change is judged, its reply is made, and only then the shelf is asked to make it;
-//! - `asking`: the reads of the shelf that several of these need; `fault`: why an answer is given up;
+//! - `asker`: the reads of the shelf that several of these need; `fault`: why an answer is given up;
 //! - [`laws`]: a run keeps a state sound; [`examples`], worlds by hand that are alike for a reader.
 #![tactic(auto)]
 
-mod asking;
+mod answers;
+mod asker;
 mod change;
 pub mod examples;
-mod explaining;
+mod explanations;
 mod fault;
 mod hub;
 mod key;
 pub mod laws;
 mod page_filter;
 mod pages;
-mod reading;
+mod reads;
 mod root_gate;
-mod serving;
 mod view;
 
 pub use hub::Hub;

@@ -12,7 +12,7 @@ ghost use Rattle.hub_core.specs.Shelves.{Finds};
 ghost use Rattle.hub.specs.inner.Asking.{IsThere};
 
 use crate::PAGE_LIMIT;
-use crate::asking::{Asker, case_of, is_met, standing};
+use crate::asker::{Asker, case_of, is_met, standing};
 use crate::fault::ample;
 use crate::page_filter::PageFilter;
 use crate::root_gate::is_shut;

@@ -9,7 +9,7 @@ ghost use Rattle.hub.specs.inner.Viewing.{first_being, view_made};
 ghost use Rattle.hub_core.specs.Shelves.{Finds};
 ghost use Rattle.hub.specs.inner.Asking.{IsThere};
 
-use crate::asking::{Asker, case_of, excerpt_of, standing};
+use crate::asker::{Asker, case_of, excerpt_of, standing};
 use crate::root_gate::is_shut;
 use hub_core::{Entry, Shelf, ShelfFault, View, Withheld};
 use redact::Excerpt;

@@ -6,7 +6,7 @@ use Rattle.std.proofs.lemmas.Grind.{flat_map-append}
 use Rattle.iodef_tree.specs.Text.{Bytes, Tokens, is_root, is_prefix, same_path}
 use Rattle.iodef_tree.specs.Tree.{steps, place_of}
 use Rattle.redact.specs.Sifted.{step_tokens, way}
-use Rattle.redact.specs.declared.way.Step.{Step}
+use Rattle.redact.specs.declared.steps.Step.{Step}
 
 pub only-root : (p : Tokens) → (length p == 0) ≡ is_root p
 only-root [] = refl

@@ -15,7 +15,7 @@ use Rattle.redact.specs.Told.{excerpt_of}
 use Rattle.redact.specs.Excerpts.{LabelsSurvive}
 use Rattle.redact.specs.Marked.{marks_of, is_accepted}
 use Rattle.redact.specs.Sifted.{Knows}
-use Rattle.redact.specs.declared.kept.Excerpt.{Excerpt}
+use Rattle.redact.specs.declared.excerpts.Excerpt.{Excerpt}
 use Rattle.redact.specs.declared.marks.Marks.{Marks}
 use Rattle.redact.specs.declared.sieve.Sieve.{Sieve}
 use Rattle.redact.proofs.MarkedTree.{accepted-outline}

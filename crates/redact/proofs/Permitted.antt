@@ -19,7 +19,7 @@ use Rattle.policy.proofs.Steps.{covers-push, covers-root}
 use Rattle.redact.specs.Sifted.{way, went_on, located_back, Tracks}
 use Rattle.redact.specs.inner.Seeking.{permits, is_permitted, IsSeen}
 use Rattle.redact.specs.declared.want.Want.{Want}
-use Rattle.redact.specs.declared.way.Step.{Step}
+use Rattle.redact.specs.declared.steps.Step.{Step}
 use Rattle.redact.proofs.Stopped.{refused-any}
 use Rattle.redact.proofs.Sifting.{back-lines}
 use Rattle.redact.proofs.Tracking.{path-is}

@@ -21,8 +21,8 @@ use Rattle.policy.specs.declared.case.Case.{Case}
 use Rattle.redact.specs.Sifted.{located_back}
 use Rattle.redact.specs.Probed.{InEach}
 use Rattle.redact.specs.inner.Seeking.{some_refuses, is_cleared_beside, is_cleared_by, is_cleared_text, IsBeside}
-use Rattle.redact.specs.declared.seeking.Beside.{Beside}
-use Rattle.redact.specs.declared.seeking.Beside.TheVariants as beside
+use Rattle.redact.specs.declared.open_classes.Beside.{Beside}
+use Rattle.redact.specs.declared.open_classes.Beside.TheVariants as beside
 use Rattle.redact.proofs.Lengthened.{located-append, any-stays}
 use Rattle.redact.proofs.Unrefused.{unrefused, seen}
 

@@ -15,7 +15,7 @@ use Rattle.policy.specs.declared.standing.Standing.{Standing}
 use Rattle.policy.specs.declared.case.Case.{Case}
 use Rattle.redact.specs.Matters.{is_refused}
 use Rattle.redact.specs.Sifted.{step_tokens, stops}
-use Rattle.redact.specs.declared.way.Step.{Step}
+use Rattle.redact.specs.declared.steps.Step.{Step}
 use Rattle.redact.proofs.Filtered.{each-from, none-any}
 use Rattle.redact.proofs.Ends.{prefix-step}
 

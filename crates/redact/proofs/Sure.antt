@@ -27,12 +27,12 @@ use Rattle.redact.specs.Wants.{meets, meets_by}
 use Rattle.redact.specs.Sifted.{way, IsCounted, went_on, located_back, Tracks}
 use Rattle.redact.specs.Probed.{InEach, IsSure, ProbeState, ProbesLine}
 use Rattle.redact.specs.inner.Seeking.{wants_name_by, wants_name, wants_line_by, wants_line, holds_wanted_by, holds_wanted, is_wanted_at, some_refuses, sees_all, sight_of, is_everything, is_cleared_sight, text_by_kind, plain_text, beside_by, first_beside, beside_with, is_cleared_if, is_restriction, shows_class, entered, holding, innermost_holding, is_permitted, with_opened_class, open_with_line, is_settled, IsBeside, IsSeen, IsOpen, AreOpen, Follows, IsKnown, TakesTo}
-use Rattle.redact.specs.declared.seeking.Sight.{Sight}
-use Rattle.redact.specs.declared.seeking.Sight.TheVariants as sight
-use Rattle.redact.specs.declared.seeking.Beside.{Beside}
-use Rattle.redact.specs.declared.seeking.Beside.TheVariants as beside
-use Rattle.redact.specs.declared.seeking.Open.{Open}
-use Rattle.redact.specs.declared.seeking.Seeker.{Seeker}
+use Rattle.redact.specs.declared.open_classes.Sight.{Sight}
+use Rattle.redact.specs.declared.open_classes.Sight.TheVariants as sight
+use Rattle.redact.specs.declared.open_classes.Beside.{Beside}
+use Rattle.redact.specs.declared.open_classes.Beside.TheVariants as beside
+use Rattle.redact.specs.declared.open_classes.Open.{Open}
+use Rattle.redact.specs.declared.open_classes.Seeker.{Seeker}
 use Rattle.redact.specs.declared.want.Want.{Want}
 use Rattle.redact.proofs.Taking.{more-outline}
 use Rattle.redact.proofs.Lengthened.{located-append, onto-push, any-stays, any-implied, parent-old, parent-new}

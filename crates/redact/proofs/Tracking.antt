@@ -16,7 +16,7 @@ use Rattle.policy.specs.declared.standing.Standing.{Standing}
 use Rattle.policy.specs.declared.case.Case.{Case}
 use Rattle.redact.specs.Matters.{is_refused}
 use Rattle.redact.specs.Sifted.{step_tokens, way, next_place, IsCounted, step_of, went_on, located_back, lines_of, sibling_at, is_behind, is_shutting, is_stopped, Leads, Tracks}
-use Rattle.redact.specs.declared.way.Step.{Step}
+use Rattle.redact.specs.declared.steps.Step.{Step}
 use Rattle.redact.proofs.Reached.{parent-old, parent-new}
 use Rattle.redact.proofs.SameLocated.{place-past, place-here}
 use Rattle.redact.proofs.Ends.{way_more}

@@ -6,7 +6,7 @@ use Rattle.marking.specs.Marks.{label_at, first_bad_marking}
 use Rattle.policy.specs.declared.standing.Standing.{Standing}
 use Rattle.policy.specs.declared.case.Case.{Case}
 use Rattle.redact.specs.Told.{Told, is_seen_class, excerpt_place, excerpt_of}
-use Rattle.redact.specs.declared.kept.Excerpt.{Excerpt}
+use Rattle.redact.specs.declared.excerpts.Excerpt.{Excerpt}
 
 -- what an excerpt that is served tells
 abbrev pub told_by : Excerpt → Told

@@ -18,7 +18,7 @@ use Rattle.policy.specs.declared.case.Case.{Case}
 use Rattle.redact.specs.Matters.{is_refused, lines_that_matter}
 use Rattle.redact.specs.Marked.{marks_of, none_noted, with_marked_lines}
 use Rattle.redact.specs.declared.marks.Marks.{Marks}
-use Rattle.redact.specs.declared.way.Step.{Step}
+use Rattle.redact.specs.declared.steps.Step.{Step}
 use Rattle.redact.specs.declared.sieve.Sieve.{Sieve}
 
 -- ---- the way to a line

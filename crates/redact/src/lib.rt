@@ -5,43 +5,44 @@
 //!
 //! The rooms, in the way of a document:
 //!
-//! - `given`: [`excerpt`]; `kept`: [`Excerpt`];
+//! - `document_excerpt`: [`excerpt`]; `excerpts`: [`Excerpt`];
 //! - `pass`: the one pass down, for a `reader`, by its `trail`; `attributes`: a label put in;
 //! - `note`: what is withheld, as it is noted; `order`: which of two places comes first; `sorted_withheld`: all notes in order;
 //! - `search`: [`finds`] and [`is_listed`]; `want`: [`meets`], one or the other by a [`Want`];
 //! - `rows`: [`RowPass`], an excerpt by lines that come one at a time: `marks`, whether their markings are accepted; `sieve`,
-//!   those of them that matter, by the `way` to each and the gates that are `refusing` there (`permitting`, the permissions); `fed`, all of them, for the
-//!   clauses alone; `building`, the document of those that are kept;
-//! - `probe`: [`Probe`], a search of such lines: `seeking`, what is sure of the classes that may still get lines;
+//!   those of them that matter, by the `steps` to each and the `gate_refusals` there; `fed_lines`, all of them, for the
+//!   clauses alone; `outline_document`, the document of those that are kept;
+//! - `probe`: [`Probe`], a search of such lines: `open_classes`, what is sure of the classes that may still get lines, also
+//!   by the `class_permissions`;
 //! - [`laws`]: what excerpts and searches promise; [`examples`], the definitions computed on small reports.
 #![tactic(auto)]
 
 mod attributes;
-mod building;
+mod class_permissions;
+mod document_excerpt;
 pub mod examples;
-mod fed;
-mod given;
-mod kept;
+mod excerpts;
+mod fed_lines;
+mod gate_refusals;
 pub mod laws;
 mod marks;
 mod note;
+mod open_classes;
 mod order;
+mod outline_document;
 mod pass;
-mod permitting;
 mod probe;
 mod reader;
-mod refusing;
 mod rows;
 mod search;
-mod seeking;
 mod sieve;
 mod sorted_withheld;
+mod steps;
 mod trail;
 mod want;
-mod way;
 
-pub use given::excerpt;
-pub use kept::Excerpt;
+pub use document_excerpt::excerpt;
+pub use excerpts::Excerpt;
 pub use probe::Probe;
 pub use rows::{RowPass, excerpt_if_marked};
 pub use search::{finds, is_listed};

@@ -7,9 +7,9 @@ ghost use Rattle.marking.specs.Marks.{first_bad_marking};
 ghost use Rattle.redact.specs.Wants as spec;
 ghost use Rattle.redact.specs.Probed.{ProbesLine};
 
-use crate::building::document_of;
-use crate::fed::Fed;
-use crate::seeking::Seeker;
+use crate::fed_lines::Fed;
+use crate::open_classes::Seeker;
+use crate::outline_document::document_of;
 use crate::want::{Want, meets};
 use iodef_tree::{Line, OutlineFault};
 use policy::{Case, Standing};

@@ -13,11 +13,11 @@ ghost use Rattle.redact.specs.Excerpts.{told_by, LabelsSurvive};
 ghost use Rattle.redact.specs.Feeding.{FeedsLine};
 ghost use Rattle.redact.specs.Sifted.{Knows};
 
-use crate::building::document_of;
-use crate::fed::Fed;
-use crate::given::excerpt;
-use crate::kept::Excerpt;
+use crate::document_excerpt::excerpt;
+use crate::excerpts::Excerpt;
+use crate::fed_lines::Fed;
 use crate::marks::Marks;
+use crate::outline_document::document_of;
 use crate::sieve::Sieve;
 use iodef_tree::{Document, Line, OutlineFault, Shape};
 use marking::{MarkingFault, check};

@@ -7,8 +7,8 @@ ghost use Rattle.policy.specs.declared.standing.Standing.{Standing as TheStandin
 ghost use Rattle.policy.specs.declared.case.Case.{Case as TheCase};
 ghost use Rattle.redact.specs.Sifted.{IsCounted, is_stopped, went_on, is_beyond, shut_by, Sifts};
 
-use crate::refusing::refuses;
-use crate::way::{Step, step_to};
+use crate::gate_refusals::refuses;
+use crate::steps::{Step, step_to};
 use iodef_tree::Line;
 use policy::{Case, Standing};
 use std::alloc::{AllocError, Global};

@@ -23,12 +23,12 @@ use Rattle.policy.specs.declared.case.Case.{Case}
 use Rattle.redact.specs.Told.{is_named, is_hit, holds_needle}
 use Rattle.redact.specs.Sifted.{located_back, Tracks}
 use Rattle.redact.specs.declared.want.Want.{Want}
-use Rattle.redact.specs.declared.seeking.Sight.{Sight}
-use Rattle.redact.specs.declared.seeking.Sight.TheVariants as sight
-use Rattle.redact.specs.declared.seeking.Beside.{Beside}
-use Rattle.redact.specs.declared.seeking.Beside.TheVariants as beside
-use Rattle.redact.specs.declared.seeking.Open.{Open}
-use Rattle.redact.specs.declared.seeking.Seeker.{Seeker}
+use Rattle.redact.specs.declared.open_classes.Sight.{Sight}
+use Rattle.redact.specs.declared.open_classes.Sight.TheVariants as sight
+use Rattle.redact.specs.declared.open_classes.Beside.{Beside}
+use Rattle.redact.specs.declared.open_classes.Beside.TheVariants as beside
+use Rattle.redact.specs.declared.open_classes.Open.{Open}
+use Rattle.redact.specs.declared.open_classes.Seeker.{Seeker}
 use Rattle.redact.specs.Probed.{InEach, IsSure}
 
 -- ---- what is wanted

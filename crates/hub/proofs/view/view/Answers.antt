@@ -1,7 +1,7 @@
 use Rattle.std.proofs.Common.{rules, ◌≡◌, Option, Some, sym, ap, subst, ◌∙◌, arith}
 use Rattle.std.specs.Prelude.{option_map}
 use Rattle.redact.specs.Excerpts.{told_by}
-use Rattle.redact.specs.declared.kept.Excerpt.{Excerpt}
+use Rattle.redact.specs.declared.excerpts.Excerpt.{Excerpt}
 use Rattle.hub_core.specs.State.{incident_of}
 use Rattle.hub_core.specs.Reads.{served_of_incident}
 use Rattle.hub_core.proofs.Marked.{marked_found}

@@ -1,6 +1,0 @@
-use Rattle.std.proofs.Common.{◌∙◌}
-use Rattle.redact.proofs.Ends.{only-root}
-use Rattle.redact.proofs.refusing.is_root.Goals as goal
-
-pub returns : goal.returns
-returns c = c.is_empty.ensures ∙ only-root c.args.path.now
