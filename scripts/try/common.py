@@ -1,4 +1,4 @@
-"""The words that scripts of this folder are started with: `--program FILE`, `--port N` and `--help`.
+"""The words that scripts of this folder are started with: `--program FILE`, `--port N` and `--help`; and `say_progress`.
 
 A word that is missing or wrong ends a script with status 2 and a message. No script builds a program.
 """
@@ -7,8 +7,19 @@ import argparse
 import os
 import pathlib
 import socket
+import sys
+from collections.abc import Callable
 
 TOP = pathlib.Path(__file__).resolve().parent.parent.parent
+sys.path.insert(0, str(TOP / "scripts"))
+
+import progress  # noqa: E402
+
+
+def say_progress(script: str, minutes: float, done: Callable[[], int], share: float = 1) -> None:
+    """Says how many minutes a run takes and how many checks it has, and while it runs how many are done. `minutes` are those of
+    a whole run, of which this one is a share."""
+    progress.say(minutes * share, done, round(progress.checks_of(script) * share))
 
 
 def free_port() -> int:

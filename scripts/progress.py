@@ -1,0 +1,79 @@
+#!/usr/bin/env python3
+"""Says on standard error how long a script takes, when it begins, and every ten seconds how far it is.
+
+A script in Python calls `say`. A script in bash starts this file beside itself, and ends it when it ends:
+
+    scripts/progress.py MINUTES SCRIPT FILE
+
+SCRIPT is one of scripts/try, and FILE is where a line `ok: ..` or `FAILED: ..` appears for each of its checks.
+Minutes are those of a run on four processors. How many checks a script has is what its last run had, by docs/TESTED.md.
+"""
+from __future__ import annotations
+
+import contextlib
+import os
+import pathlib
+import re
+import sys
+import threading
+import time
+from collections.abc import Callable
+
+TESTED = pathlib.Path(__file__).resolve().parent.parent / "docs" / "TESTED.md"
+SECONDS_BETWEEN = 10
+
+
+def checks_of(script: str) -> int:
+    """How many checks the last run of this script of scripts/try had, or 0 if the page doesn't tell."""
+    found = re.search(rf"^\| `{re.escape(script)}` \|.*?([\d,]+) passed, ", TESTED.read_text(), re.M)
+    return int(found[1].replace(",", "")) if found else 0
+
+
+def length(minutes: float) -> str:
+    if minutes < 1:
+        return f"about {round(minutes * 60)} seconds"
+    return "about a minute" if minutes < 1.5 else f"about {minutes:.0f} minutes"
+
+
+def say(minutes: float, done: Callable[[], int] | None = None, count: int = 0, of: str = "checks", also: str = "") -> None:
+    """Says how many minutes a run takes and how many of what it does (of an unknown number where `count` is 0); and then, by
+    `done`, how many are done, until the script ends. `also` is what else is said at the start."""
+    begun = time.monotonic()
+    whole = f"about {count:,} {of}" if count else of
+    usual = length(minutes)
+
+    def how_far() -> str:
+        spent = f"{(time.monotonic() - begun) / 60:.1f} minutes"
+        if done is None:
+            return f"{spent} of {usual}"
+        return f"{done():,} {'of ' if count else ''}{whole} after {spent}"
+
+    def repeat() -> None:
+        while True:
+            time.sleep(SECONDS_BETWEEN)
+            write(how_far())
+
+    write(usual + (f", {whole}" if count else "") + (f"; {also}" if also else ""))
+    threading.Thread(target=repeat, daemon=True).start()
+
+
+def write(line: str) -> None:
+    # By one call of the system, as the script may end within it.
+    with contextlib.suppress(OSError):
+        os.write(2, f"{line}\n".encode())
+
+
+def main() -> None:
+    if len(sys.argv) != 4:
+        sys.exit(__doc__)
+    minutes, script, file = float(sys.argv[1]), sys.argv[2], pathlib.Path(sys.argv[3])
+
+    def done() -> int:
+        return len(re.findall(r"^(?:ok|FAILED): ", file.read_text(), re.M)) if file.exists() else 0
+
+    say(minutes, done, checks_of(script))
+    threading.Event().wait()
+
+
+if __name__ == "__main__":
+    main()
