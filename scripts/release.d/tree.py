@@ -1,0 +1,119 @@
+"""What the files of a commit tell of a release: their digests, crates and edits, the kit's line, and what its gate has to tell."""
+from __future__ import annotations
+
+import datetime
+import hashlib
+import pathlib
+import re
+import subprocess
+from collections.abc import Iterable
+from typing import Any
+
+TOP = pathlib.Path(__file__).resolve().parent.parent.parent
+PROGRAM = "hub_cli"
+# The file that lists the digests of all others, and its signature.
+SUMS, SIGNATURE = "SHA256SUMS", "SHA256SUMS.asc"
+SBOM, PROVENANCE = "sbom.cdx.json", "PROVENANCE.json"
+
+
+class Refused(Exception):
+    """Why no release is made, or why it can't be looked at."""
+
+
+def git(*words: str) -> str:
+    told = subprocess.run(["git", "-C", TOP, *words], capture_output=True, text=True)
+    if told.returncode:
+        raise Refused(f"git {words[0]}: {told.stderr.strip()}")
+    return told.stdout.strip()
+
+
+def sha256(file: pathlib.Path) -> str:
+    return hashlib.sha256(file.read_bytes()).hexdigest()
+
+
+class Tree:
+    """The files of a commit, in a new folder."""
+
+    def __init__(self, commit: str, folder: pathlib.Path) -> None:
+        try:
+            self.commit = git("rev-parse", "--verify", "--quiet", f"{commit}^{{commit}}")
+        except Refused:
+            raise Refused(f"{commit} is no commit of this repository") from None
+        self.seconds = int(git("show", "-s", "--format=%ct", self.commit))
+        self.folder = folder
+        folder.mkdir()
+        words = ["git", "-C", str(TOP), "-c", "tar.umask=0022", "archive", self.commit]
+        with subprocess.Popen(words, stdout=subprocess.PIPE) as packed:
+            subprocess.run(["tar", "-x", "-C", folder], stdin=packed.stdout, check=True)
+        if packed.returncode:
+            raise Refused(f"git archive {self.commit} failed")
+
+    def text(self, path: str) -> str:
+        return (self.folder / path).read_text()
+
+    def moment(self) -> str:
+        """When it was committed, in UTC."""
+        return datetime.datetime.fromtimestamp(self.seconds, datetime.timezone.utc).strftime("%Y-%m-%dT%H:%M:%SZ")
+
+    def digest(self, files: Iterable[pathlib.Path]) -> dict[str, Any]:
+        """The SHA-256 of what `sha256sum` prints of the files in the order of their paths, and their number."""
+        lines = sorted((str(it.relative_to(self.folder)), sha256(it)) for it in files if it.is_file())
+        text = "".join(f"{one}  {path}\n" for path, one in lines)
+        return {"files": len(lines), "sha256": hashlib.sha256(text.encode()).hexdigest()}
+
+    def sources(self) -> dict[str, Any]:
+        """Of all that the program is made of and its proofs read, as the launcher has it."""
+        within = (it for it in (self.folder / "crates").rglob("*") if "must-fail" not in it.parts)
+        return self.digest([self.folder / "HANDLES", self.folder / "crates.txt", *within])
+
+    def definitions(self, crate: str = "*") -> dict[str, Any]:
+        return self.digest((self.folder / "crates").glob(f"{crate}/specs/**/*"))
+
+    def crates(self) -> dict[str, list[str]]:
+        """Each crate with the libraries that it uses, of the repository and of the kit."""
+        return {name: uses.split() for name, uses in re.findall(r"^(\w+):(.*)$", self.text("crates.txt"), re.M)}
+
+    def of_program(self) -> list[str]:
+        """The crates that the program stands on, and its own."""
+        crates, found, left = self.crates(), set[str](), [PROGRAM]
+        while left:
+            name = left.pop()
+            if name in crates and name not in found:
+                found.add(name)
+                left += crates[name]
+        return sorted(found)
+
+    def edits(self) -> int:
+        return len(list((self.folder / "crates").glob("*/must-fail/*.edit")))
+
+    def kit_line(self) -> str:
+        """The kit that README says it is proved with."""
+        found = re.search(r"^    (rattle-kit-\S+ logic [0-9a-f]+)$", self.text("README.md"), re.M)
+        if not found:
+            raise Refused("README.md names no kit")
+        return found[1]
+
+    def gate(self, log: str) -> dict[str, Any]:
+        """The last lines and the counts of a log of `rt ci`, which passes each crate and refuses each edit of this tree."""
+        lines = log.rstrip("\n").split("\n")
+        ends = re.fullmatch(r"(\d+) passed, (\d+) failed", lines[-1])
+        said = [it for it in lines[-20:] if "ok; handles allowed: " in it]
+        if not ends or ends[2] != "0" or not said:
+            raise Refused(f"the gate's log isn't that of a gate that passed; it ends: {lines[-1]}")
+        due = len(self.crates()) + self.edits()
+        if int(ends[1]) != due:
+            raise Refused(f"the gate's log is of {ends[1]} crates and edits, and {self.commit[:10]} has {due}")
+        return {"passed": due, "failed": 0, "lines": [said[-1], lines[-1]]}
+
+    def provenance(self, log: str, version: str, programs: dict[str, str]) -> dict[str, Any]:
+        return {
+            "commit": self.commit,
+            "committed": self.moment(),
+            "definitions": self.definitions(),
+            "gate": self.gate(log),
+            "kit": self.kit_line(),
+            "policy": self.definitions("policy"),
+            "programs": programs,
+            "sources": self.sources(),
+            "version": version,
+        }
