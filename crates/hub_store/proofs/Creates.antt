@@ -55,6 +55,7 @@ still_empty (t ∷ ts) last old new keeps empty one = (keeps.0 ∙ empty.0, stil
 more : (schema : Schema) (table : Table) (old new : Database) → Made schema table old new → HasEmpty schema old → HasEmpty (created schema table) new
 more schema table old new made has = record {
   known = made.schema_is;
+  whole = λ some. made.whole;
   empty = still_empty schema.tables (record table { tree = next_tree schema }) old.trees new.trees made.others has.empty made.empty;
 }
 

@@ -25,7 +25,7 @@ use Rattle.hub_store.specs.Keeps.{Goes, HasRun, HasFailed}
 use Rattle.hub_store.specs.inner.Makes.{HasEmpty, Creates}
 use Rattle.hub_store.proofs.Causes.{IsWhole, plain_of, fails_as, stops}
 use Rattle.hub_store.proofs.Drops.{Dropped, dropped_by}
-use Rattle.hub_store.proofs.FirstRow.{none_refer}
+use Rattle.hub_store.proofs.Beside.{none_refer}
 use Rattle.hub_store.proofs.Statements.{other_one}
 use Rattle.hub_store.proofs.Steps.{created_by}
 
@@ -78,6 +78,7 @@ module _ (schema : Schema) (sql : List ℕ) (at : ℕ) (table : Table) (it : IsD
   still_empty : (old new : Database) → Dropped schema table.tree old new → HasEmpty schema old → HasEmpty (without_table schema table.tree) new
   still_empty old new dropped has = record {
     known = dropped.schema_is;
+    whole = λ some. dropped.whole;
     empty = both (without_table schema table.tree).tables dropped.others (all-filter (λ (t : Table). old.trees t.tree ≡ []) (λ (t : Table). not (t.tree == table.tree)) schema.tables has.empty);
   }
     where

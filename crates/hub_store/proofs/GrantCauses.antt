@@ -37,7 +37,7 @@ use Rattle.sqlite_tied.specs.Compute.{everything}
 use Rattle.sqlite.specs.declared.error.Error.{Error}
 use Rattle.sqlite.specs.declared.error.Error.TheVariants.{SqliteFailure}
 use Rattle.sqlite.specs.declared.error.ErrorCode.TheVariants as code
-use Rattle.sqlite.specs.Effect.{IsDatabase}
+use Rattle.sqlite.specs.Effect.{Database, IsDatabase}
 use Rattle.sqlite.specs.Listing.{understood}
 use Rattle.sqlite.specs.State as sql
 use Rattle.sqlite.specs.State.{Executes, ExecutesInside}
@@ -46,13 +46,16 @@ use Rattle.iodef_tree.proofs.Order.{bytes_eq-true}
 use Rattle.circle.specs.Sound.{Pairwise}
 use Rattle.hub_core.specs.State.{State, grantee_key}
 use Rattle.hub_core.specs.declared.state.Permission.{Permission}
+use Rattle.hub_store.specs.declared.next_version.TheConstants.{PUT_PERMISSION}
 use Rattle.hub_store.specs.Failing.{HasReason}
 use Rattle.hub_store.specs.Fit.{IsShort}
 use Rattle.hub_store.specs.Tables.{schema_by}
-use Rattle.hub_store.specs.Rows.{endless_row}
-use Rattle.hub_store.specs.Layout.{permission_part_3}
-use Rattle.hub_store.specs.inner.Beside.{AreNumbered, HoldsGranted, CanGrant, GrantsApart, granted_alike, without_end}
-use Rattle.hub_store.proofs.Causes.{IsWhole, fails_as}
+use Rattle.hub_store.specs.Rows.{endless_row, without_end}
+use Rattle.hub_store.specs.Layout.{permission_part_3, permission_step, parts_2, under}
+use Rattle.hub_store.specs.inner.Beside.{AreNumbered, CanGrant, GrantsApart, granted_alike}
+use Rattle.hub_store.specs.inner.Remakes.{HoldsAnew}
+use Rattle.hub_store.proofs.Beside.{is_unique_in, still_unique}
+use Rattle.hub_store.proofs.Causes.{fails_as}
 use Rattle.hub_store.proofs.Compare.{cast_int, cast_null, column_past, and_true}
 use Rattle.hub_store.proofs.Counting.{labelled, PutBehind, put_behind, past_labels}
 use Rattle.hub_store.proofs.Standing.{OneApart, pairs_permuted, pairs_seen, no_clash}
@@ -60,7 +63,11 @@ use Rattle.hub_store.proofs.Statements.{inserted}
 use Rattle.hub_store.proofs.WriteCauses.{Breaks, IsWritable, insert_stops}
 
 abbrev pub put_grant : List ℕ
-put_grant = codes "INSERT INTO permission (incident, path, kind, target) VALUES (?1, ?2, ?3, ?4)"
+put_grant = PUT_PERMISSION.now
+
+-- these permissions in the table, beside all else of a state
+abbrev pub Granted : List Row → State → Database → Type 0
+Granted rows s = HoldsAnew permission_step rows (under 3 (drop 1 (parts_2 s)))
 
 abbrev pub grant_terms : List Term
 grant_terms = lit Null ∷ col 0 0 ∷ col 0 1 ∷ col 0 2 ∷ col 0 3 ∷ lit Null ∷ []
@@ -125,11 +132,11 @@ as_seen a b =
     ap (λ c. equal Binary (column a 1) (column b 1) && (equal Binary (column a 2) (column b 2) && (equal Binary (column a 3) (column b 3) && c))) (and_true _)
     ∙ rw (column_past a 0, column_past b 0, column_past a 1, column_past b 1, column_past a 2, column_past b 2, column_past a 3, column_past b 3) (sym (both_first (equal Binary (column (drop 1 a) 0) (column (drop 1 b) 0)) (equal Binary (column (drop 1 a) 1) (column (drop 1 b) 1)) (equal Binary (column (drop 1 a) 2) (column (drop 1 b) 2) && equal Binary (column (drop 1 a) 3) (column (drop 1 b) 3))))
 
-unique_rows : (rows : List Row) → Pairwise (OneApart granted_alike) (map (λ (r : Row). drop 1 r) rows) → AllByRecursion (λ row. list_all (λ i. not (guards i permission && clashes i.order i.columns rows row)) schema_3.indexes ≡ true) rows
+unique_rows : (t : Table) → t.tree ≡ permission.tree → (rows : List Row) → Pairwise (OneApart granted_alike) (map (λ (r : Row). drop 1 r) rows) → AllByRecursion (λ row. is_unique_in schema_3 t rows row ≡ true) rows
 unfolding agrees
-unique_rows rows apart =
+unique_rows t at rows apart =
     let pairs = pairs_seen granted_alike agrees (λ (r : Row). drop 1 r) as_seen rows apart in
-    all_from _ rows (λ row h. and_true _ ∙ ap not (no_clash agrees rows pairs row h))
+    all_from _ rows (λ row h. ap (λ n. is_unique_in schema_3 (record t { tree = n }) rows row) at ∙ and_true _ ∙ ap not (no_clash agrees rows pairs row h))
 
 module _ (db : Trees) (whole : IsDatabase (record { schema = schema_3; trees = db })) (counts : AreNumbered 1 (db permission.tree)) (x : Permission) (rows : List Row) (held : IsPermutation rows (map (λ (r : Row). drop 1 r) (db permission.tree))) (can : CanGrant (row_of x ∷ rows)) (short : IsShort (Null ∷ row_of x)) where
   start : ℕ
@@ -157,9 +164,7 @@ module _ (db : Trees) (whole : IsDatabase (record { schema = schema_3; trees = d
       (pairs_permuted granted_alike (row_of x ∷ rows) (seen ++ row_of x ∷ []) (IsPermutation-trans _ _ _ (IsPermutation-cons (row_of x) _ _ held) (IsPermutation-append_comm (row_of x ∷ []) seen)) can.apart)
 
   unique : Keeps Unique schema_3 (with_tree db permission.tree (edited db edit))
-  unique =
-      let u = whole.obeys.rules Unique in
-      (u.0, (u.1.0, (u.1.1.0, (u.1.1.1.0, (u.1.1.1.1.0, (u.1.1.1.1.1.0, (u.1.1.1.1.1.1.0, (u.1.1.1.1.1.1.1.0, (u.1.1.1.1.1.1.1.1.0, (u.1.1.1.1.1.1.1.1.1.0, (unique_rows (edited db edit) apart, tt)))))))))))
+  unique = still_unique schema_3 db permission.tree (edited db edit) (λ t at. unique_rows t at (edited db edit) apart) (whole.obeys.rules Unique)
 
   unrefused : (why : Refusal) → ¬ IsRefused schema_3 Enforced db edit why
   unfolding edit start
@@ -185,28 +190,28 @@ stands = record { listed = refl; uncounted = refl; alone = λ tree olds news. re
 
 -- a permission fails for a reason alone
 pub grant_fails : (x : Permission) (rows : List Row) (s : State) → CanGrant (row_of x ∷ rows)
-    → (old new : sql.State) (e : Error) → ExecutesInside 0 put_grant (endless_row x) old new (Err e) → HoldsGranted rows s old.now → e ≢ SqliteFailure code.OutOfMemory → HasReason old new
+    → (old new : sql.State) (e : Error) → ExecutesInside 0 put_grant (endless_row x) old new (Err e) → Granted rows s old.now → e ≢ SqliteFailure code.OutOfMemory → HasReason old new
 unfolding understood everything edit start
 grant_fails x rows s can old new e h has other =
     let db = old.now.trees in
     let sound : IsDatabase (record { schema = schema_3; trees = db }) = subst (λ k. IsDatabase (record { schema = k; trees = db })) has.parts.known has.parts.whole in
     let held = has.parts.means.1.1.1.1.1.1.1.1.1.1.0 in
     let own = can.grants.0 in
-    let news = ap (λ r. numbered Chosen (db permission.tree) (r ∷ [])) (cast_grant x) ∙ (put_behind (db permission.tree) (row_of x ∷ []) has.numbered).news in
+    let news = ap (λ r. numbered Chosen (db permission.tree) (r ∷ [])) (cast_grant x) ∙ (put_behind (db permission.tree) (row_of x ∷ []) (has.numbered refl)).news in
     elim (fails_as put_grant (endless_row x) old new schema_3 has.parts.known (Insert 10 (Values grant_terms 6)) refl tt (refl, refl, refl, refl) e other h) [
       | inl reason ↦ reason
       | inr refused ↦ elim (insert_stops schema_3 permission 10 stands old (statement_of put_grant (understood schema_3 put_grant)) (endless_row x) grant_terms 6 has.parts.known refl refused.0 refused.1) [
         | inl limited ↦ inr (inr limited)
-        | inr broken ↦ absurd (unbroken db sound has.numbered x rows held.same can own.2 (subst (λ l. Breaks schema_3 db (record { table = permission; gone = []; news = l })) news broken))
+        | inr broken ↦ absurd (unbroken db sound (has.numbered refl) x rows held.same can own.2 (subst (λ l. Breaks schema_3 db (record { table = permission; gone = []; news = l })) news broken))
       ]
     ]
 
 -- and the rowids count on
-pub grant_counts : (x : Permission) (rows : List Row) (s : State) (old new : sql.State) (count : ℕ) → Executes put_grant (endless_row x) old new (Ok count) → HoldsGranted rows s old.now → AreNumbered 1 (new.now.trees permission.tree)
+pub grant_counts : (x : Permission) (rows : List Row) (s : State) (old new : sql.State) (count : ℕ) → Executes put_grant (endless_row x) old new (Ok count) → Granted rows s old.now → AreNumbered 1 (new.now.trees permission.tree)
 unfolding understood everything
 grant_counts x rows s old new count h has =
     let before = old.now.trees permission.tree in
     let changed = inserted schema_3 permission 10 refl refl refl (λ tree olds news. refl) put_grant (endless_row x) old new has.parts.known (refl, refl) count h grant_terms 6 refl in
-    let put = put_behind before (row_of x ∷ []) has.numbered in
+    let put = put_behind before (row_of x ∷ []) (has.numbered refl) in
     let news = ap (λ r. numbered Chosen before (r ∷ [])) (cast_grant x) ∙ put.news in
     subst (AreNumbered 1) (sym (changed.applies.rows ∙ ap (put_all before) news ∙ put.all)) put.counts

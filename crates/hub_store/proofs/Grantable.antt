@@ -29,9 +29,9 @@ use Rattle.hub_core.specs.declared.state.Permission.{Permission}
 use Rattle.hub_core.proofs.Bounded.{few_permissions}
 use Rattle.hub_core.proofs.Keeping.{count_left, found_each, found_is, found_passing}
 use Rattle.hub_core.proofs.Keys.{one_path}
-use Rattle.hub_store.specs.inner.Beside.{granted_alike, GrantsApart, IsShortGrant, CanGrant, IsEndlessRow, without_end}
+use Rattle.hub_store.specs.inner.Beside.{granted_alike, GrantsApart, IsShortGrant, CanGrant, IsEndlessRow}
 use Rattle.hub_store.specs.Fit.{AreTaken, AreEndless, IsEndless, ShortPermission, IsShort}
-use Rattle.hub_store.specs.Rows.{endless_row, permission_row}
+use Rattle.hub_store.specs.Rows.{endless_row, permission_row, without_end}
 use Rattle.hub_store.specs.Values.{moment_or_null}
 use Rattle.hub_store.proofs.Compare.{equal_numbers, equal_texts}
 use Rattle.hub_store.proofs.Lists.{has_permuted}
@@ -171,33 +171,16 @@ grant_permuted xs ys is can = record {
 pub grants_stand : (s : core.State) (rows : List Row) → IsSound s → AreEndless s → AreTaken s → IsPermutation (map endless_row s.permissions) rows → CanGrant (map without_end rows)
 grants_stand s rows sound endless taken is = grant_permuted (map without_end (map endless_row s.permissions)) (map without_end rows) (IsPermutation-map without_end _ _ is) (stand s sound endless taken)
 
--- one of them is such a row, too
-pub at_place : (rows : List Row) (i : ℕ) (row : Row) → i < length rows → row ≡ get_or rows i row → AllByRecursion IsEndlessRow rows → IsEndlessRow row
-at_place [] i row low is all = absurd (omega (arith, low))
-at_place (r ∷ rows) zero row low is all = subst IsEndlessRow (sym is) all.0
-at_place (r ∷ rows) (suc i) row low is all = at_place rows i row (omega (arith, low)) is all.1
+-- and so do the first of them
+pub grants_before : (rows rest : List Row) → CanGrant (rows ++ rest) → CanGrant rows
+grants_before rows rest can = record { apart = pairs_before granted_alike rows rest can.apart; grants = all_before IsShortGrant rows rest can.grants; few = omega (arith, can.few, length-append rows rest) }
 
--- the first permissions stand, with one of them in front
-pub first_grants : (new : Row) (before rows rest : List Row) → IsPermutation (new ∷ before) rows → CanGrant (rows ++ rest) → CanGrant (new ∷ before)
-first_grants new before rows rest is can =
-    grant_permuted rows (new ∷ before) (IsPermutation-sym (new ∷ before) rows is)
-    (record { apart = pairs_before granted_alike rows rest can.apart; grants = all_before IsShortGrant rows rest can.grants; few = omega (arith, can.few, length-append rows rest) })
-
-pub four_long : (row : Row) → IsEndlessRow row → length row ≡ 4
-four_long row is = ap length is.1
-
-all_endless : (xs : List Permission) → AllByRecursion IsEndlessRow (map endless_row xs)
+-- each is a row of version 2
+pub all_endless : (xs : List Permission) → AllByRecursion IsEndlessRow (map endless_row xs)
 all_endless [] = tt
 all_endless (x ∷ xs) = ((x, refl), all_endless xs)
 
--- each is a row of version 2
-pub rows_endless : (s : core.State) (rows : List Row) → IsPermutation (map endless_row s.permissions) rows → AllByRecursion IsEndlessRow rows
-rows_endless s rows is = all_from IsEndlessRow rows (λ y h. all_has IsEndlessRow (map endless_row s.permissions) y (all_endless s.permissions) (has_permuted rows (map endless_row s.permissions) (IsPermutation-sym _ _ is) y h))
-
-as_kept : (xs : List Permission) → AllByRecursion IsEndless xs → map without_end (map endless_row xs) ≡ map permission_row xs
+-- together they are those of version 3
+pub as_kept : (xs : List Permission) → AllByRecursion IsEndless xs → map without_end (map endless_row xs) ≡ map permission_row xs
 as_kept [] endless = refl
 as_kept (x ∷ xs) endless = ap₂ (λ (r : Row) (l : List Row). r ∷ l) (ap (λ u. endless_row x ++ moment_or_null u ∷ []) (sym endless.0)) (as_kept xs endless.1)
-
--- and together they are those of version 3
-pub rows_kept : (s : core.State) (rows : List Row) → AreEndless s → IsPermutation (map endless_row s.permissions) rows → IsPermutation (map without_end rows) (map permission_row s.permissions)
-rows_kept s rows endless is = subst (IsPermutation (map without_end rows)) (as_kept s.permissions endless) (IsPermutation-sym _ _ (IsPermutation-map without_end _ _ is))

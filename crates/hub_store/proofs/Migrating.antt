@@ -20,8 +20,8 @@ use Rattle.iodef_tree.specs.declared.line.Line.{Line}
 use Rattle.hub_store.specs.Items.{Item, placed_lines, item_row, line_shown, kind_number}
 use Rattle.hub_store.specs.Rows.{naming_row_2}
 use Rattle.hub_store.specs.Tables.{schema_by, beside_item, without_incident, up_to_permission, hub_table, incident_table, item_table, incident_table_2}
-use Rattle.hub_store.specs.Parts.{Part, schema_of, HoldsParts}
-use Rattle.hub_store.specs.Layout.{part_without_rowids, in_versions_1_and_2, incident_part, item_part, incident_part_2, parts_1, with_items, without_incidents, tables_2, unversioned_2}
+use Rattle.hub_store.specs.Parts.{schema_of, HoldsParts}
+use Rattle.hub_store.specs.Layout.{in_versions_1_and_2, incident_part, item_part, incident_part_2, parts_1, with_items, without_incidents, tables_2}
 use Rattle.hub_store.specs.inner.Beside.{AreNumbered, HoldsBeside, CanStand}
 use Rattle.hub_store.specs.Failing.{HasReason}
 use Rattle.hub_store.proofs.Causes.{IsCreation, naming}
@@ -30,12 +30,11 @@ use Rattle.hub_store.proofs.Drops.{dropped_by}
 use Rattle.hub_store.proofs.DropCauses.{IsDropping}
 use Rattle.hub_store.proofs.Compare.{cast_int, cast_null, cast_flag}
 use Rattle.hub_store.proofs.Parts.{drops, adds}
-use Rattle.hub_store.proofs.PartRows.{Stands, puts, takes}
+use Rattle.hub_store.proofs.PartRows.{Stands, puts}
 use Rattle.hub_store.proofs.LineRows.{cast_items}
 use Rattle.hub_store.proofs.LineCauses.{lines_count, lines_fail, terms_accepted, lines_bound}
 use Rattle.hub_store.proofs.Standing.{stand_permuted}
-use Rattle.hub_store.proofs.VersionCauses.{take_fails}
-use Rattle.hub_store.proofs.Texts.{put_line, put_naming_2, put_version, line_terms}
+use Rattle.hub_store.proofs.Texts.{put_line, put_naming_2, line_terms}
 
 -- the schema that the statements of version 1 make is that of its parts
 first_version : (s : State) → created up_to_permission incident_table ≡ schema_of (parts_1 s)
@@ -117,35 +116,6 @@ unfolding understood everything
 moves_naming old new naming s items incidents more same count h has =
     puts (in_versions_1_and_2 1 s ++ item_part items ∷ []) (incident_part_2 incidents) [] 10 (stands_incidents s items incidents) put_naming_2 _ old new (refl, refl) count h has (col 0 0 ∷ lit Null ∷ col 0 1 ∷ col 0 2 ∷ col 0 3 ∷ []) 5 refl (naming_row_2 naming) refl
     (rw (cast_int naming.number, cast_int naming.source, cast_int naming.revision, cast_null) refl) (naming_row_2 naming) (λ rows. refl) more same
-
--- ---- the version is exchanged
-
--- the parts of version 2 behind the first
-abbrev rest_2 : List Row → List Row → State → List Part
-rest_2 items incidents s = drop 1 (tables_2 0 items incidents s)
-
-stands_first : (rows items incidents : List Row) (s : State) → Stands [] (part_without_rowids 0 hub_table rows) (rest_2 items incidents s) 0
-stands_first rows items incidents s = record { listed = refl; uncounted = refl; timeless = refl; alone = λ tree olds news. refl; apart = refl; same = λ rows. refl }
-
-abbrev pub take_version : List ℕ
-take_version = codes "DELETE FROM hub"
-
-pub takes_version : (old new : sql.State) (version : ℕ) (s : State) (items incidents : List Row) (count : ℕ) → Executes take_version [] old new (Ok count) → HoldsParts (tables_2 version items incidents s) old.now → HoldsParts (unversioned_2 items incidents s) new.now
-unfolding understood everything
-takes_version old new version s items incidents count h has =
-    takes [] (part_without_rowids 0 hub_table ((Int (pos version) ∷ []) ∷ [])) (rest_2 items incidents s) 0 (stands_first _ items incidents s) take_version [] old new (refl, refl) count h has [] refl (λ r. true) (λ r. refl) [] refl
-
--- the version is taken, or there is a reason
-pub version_kept : (version : ℕ) (items incidents : List Row) (s : State) (old new : sql.State) (e : Error) → ExecutesInside 0 take_version [] old new (Err e) → HoldsParts (tables_2 version items incidents s) old.now → e ≢ SqliteFailure code.OutOfMemory → HasReason old new
-unfolding understood everything
-version_kept version items incidents s old new e h has other = take_fails take_version version items incidents s refl (refl, refl, refl, refl) old new e h has other
-
-pub puts_version : (old new : sql.State) (version : ℕ) (s : State) (items incidents : List Row) (count : ℕ) → Executes put_version (Int (pos version) ∷ []) old new (Ok count) → HoldsParts (unversioned_2 items incidents s) old.now → HoldsParts (tables_2 version items incidents s) new.now
-unfolding understood everything
-puts_version old new version s items incidents count h has =
-    let row = Int (pos version) ∷ [] in
-    let put = puts [] (part_without_rowids 0 hub_table []) (rest_2 items incidents s) 0 (stands_first [] items incidents s) put_version _ old new (refl, refl) count h has (lit Null ∷ col 0 0 ∷ []) 2 refl (Null ∷ row) refl (rw (cast_int version, cast_null) refl) row (λ rows. refl) (row ∷ []) (IsPermutation-refl _) in
-    record { known = put.known; whole = put.whole; means = put.means }
 
 -- one more of a list, whose rows are put one after another
 pub one_more : {X : Type 0} (row : X → Row) (xs : List X) (i : ℕ) (x : X) → i < length xs → x ≡ get_or xs i x → IsPermutation (row x ∷ map row (take i xs)) (map row (take (i + 1) xs))

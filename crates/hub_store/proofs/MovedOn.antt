@@ -14,7 +14,7 @@ use Rattle.hub_core.specs.declared.TheConstants.{INCIDENT_LIMIT}
 use Rattle.hub_core.proofs.Keeping.{found_is, found_each}
 use Rattle.hub_store.specs.Fit.{FitAs}
 use Rattle.hub_store.specs.Items.{items_in, items_of, item_row}
-use Rattle.hub_store.specs.Layout.{parts_1, parts_2}
+use Rattle.hub_store.specs.Layout.{newest, parts_1, parts_2}
 use Rattle.hub_store.specs.Means.{HoldsAs}
 use Rattle.hub_store.specs.inner.Moving.{HasTexts, HoldsMoved, HoldsNext, incident_above, naming_in}
 use Rattle.hub_store.specs.Parts.{HoldsParts}
@@ -68,14 +68,11 @@ texts_of_1 db s sound held = record { sound = sound; texts = held.fit.1; unnamed
 pub only_1 : (v : ℕ) → 0 < v → v < 2 → v ≡ 1
 only_1 v some low = grind (arith, nat_tests)
 
-pub only_2 : (v : ℕ) → v < 3 → 2 ≤ v → v ≡ 2
-only_2 v low high = grind (arith, nat_tests)
-
-pub only_3 : (v : ℕ) → IsTrue (is_older v) → 3 ≤ v → v ≡ 3
-only_3 v older high = grind (arith, nat_tests)
-
 pub above_none : (v : ℕ) → IsTrue (is_older v) → 0 < v
 above_none v older = grind (arith, nat_tests)
+
+pub at_most_newest : (v : ℕ) → IsTrue (is_older v) → v ≤ newest
+at_most_newest v older = grind (arith, nat_tests)
 
 -- ---- version 2
 

@@ -30,7 +30,7 @@ use Rattle.hub_store.proofs.Exchanged.{exchanges}
 use Rattle.hub_store.proofs.Forms.{is_param, one_table}
 use Rattle.hub_store.proofs.Held.{AreHeld, is_other, one_changes, permuted, comes_in, goes_out}
 use Rattle.hub_store.proofs.Statements.{Changed, inserted, deleted, updated, keeps, shows}
-use Rattle.hub_store.proofs.Texts.{put_version, put_version_is, put_version_plain, put_org, put_org_is, put_org_plain, put_person, put_person_is, put_person_plain, put_community, put_community_is, put_community_plain, put_group, put_group_is, put_group_plain, put_pair_is, put_pair_plain, put_gate, put_gate_is, put_gate_plain, put_recipient, put_recipient_is, put_recipient_plain, put_permission, put_permission_is, put_permission_plain, put_naming, put_naming_is, put_naming_plain, put_line, put_line_is, put_line_plain, take_pair_is, take_pair_plain, take_gate, take_gate_is, take_gate_plain, take_gates, take_gates_is, take_gates_plain, take_recipient, take_recipient_is, take_recipient_plain, take_permission, take_permission_is, take_permission_plain, take_permissions, take_permissions_is, take_permissions_plain, take_lines, take_lines_is, take_lines_plain, take_incident, take_incident_is, take_incident_plain, set_active, set_active_is, set_active_plain, set_nominated, set_nominated_is, set_nominated_plain, set_group_active, set_group_active_is, set_group_active_plain}
+use Rattle.hub_store.proofs.Texts.{put_org, put_org_is, put_org_plain, put_person, put_person_is, put_person_plain, put_community, put_community_is, put_community_plain, put_group, put_group_is, put_group_plain, put_pair_is, put_pair_plain, put_gate, put_gate_is, put_gate_plain, put_recipient, put_recipient_is, put_recipient_plain, put_permission, put_permission_is, put_permission_plain, put_naming, put_naming_is, put_naming_plain, put_line, put_line_is, put_line_plain, take_pair_is, take_pair_plain, take_gate, take_gate_is, take_gate_plain, take_gates, take_gates_is, take_gates_plain, take_recipient, take_recipient_is, take_recipient_plain, take_permission, take_permission_is, take_permission_plain, take_permissions, take_permissions_is, take_permissions_plain, take_lines, take_lines_is, take_lines_plain, take_incident, take_incident_is, take_incident_plain, set_active, set_active_is, set_active_plain, set_nominated, set_nominated_is, set_nominated_plain, set_group_active, set_group_active_is, set_group_active_plain}
 pub use Rattle.hub_store.proofs.Places.{hubs, orgs, persons, communities, groups, pairs, gates, recipients, permissions, items, incidents}
 use Rattle.hub_store.proofs.Places.{item_place, community_place, gate_place, grp_place, hub_place, incident_place, org_place, pair_place, permission_place, person_place, recipient_place}
 
@@ -103,9 +103,6 @@ past_four u v w x [] = refl
 past_four u v w x (y ∷ r) = refl
 
 -- ---- rows come in
-
-pub puts_version : (old new : State) (version : ℕ) → old.now.schema ≡ hub_schema → (count : ℕ) → Executes put_version (Int (pos version) ∷ []) old new (Ok count) → Put hubs (Null ∷ Int (pos version) ∷ []) old new
-puts_version old new version has count h = put_one hubs hub_place refl refl refl (λ tree olds news. refl) put_version _ old new has put_version_plain count h _ _ put_version_is _ refl (rw (cast_int version, cast_null) refl)
 
 pub puts_org : (old new : State) (number : ℕ) (name : List ℕ) → old.now.schema ≡ hub_schema → (count : ℕ) → Executes put_org (Int (pos number) ∷ Text name ∷ []) old new (Ok count) → Put orgs (Int (pos number) ∷ Null ∷ Text name ∷ []) old new
 puts_org old new number name has count h = put_one orgs org_place refl refl refl (λ tree olds news. refl) put_org _ old new has put_org_plain count h _ _ put_org_is _ refl (rw (cast_int number, cast_null) refl)

@@ -17,14 +17,6 @@ use Rattle.hub_store.proofs.Places.{community_place, community_tree, gate_place,
 abbrev pub put_version : List ℕ
 put_version = codes "INSERT INTO hub (version) VALUES (?1)"
 
-pub put_version_is : command_of (understood hub_schema put_version) ≡ Insert hub_place (Values (lit Null ∷ col 0 0 ∷ []) 2)
-unfolding understood everything
-put_version_is = refl
-
-pub put_version_plain : IsPlain (understood hub_schema put_version)
-unfolding understood everything
-put_version_plain = (refl, refl)
-
 abbrev pub put_org : List ℕ
 put_org = codes "INSERT INTO org (number, name) VALUES (?1, ?2)"
 

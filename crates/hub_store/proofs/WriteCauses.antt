@@ -26,7 +26,7 @@ use Rattle.sqlite.specs.Rows.{Task, Written, Sourced, Queried, Counter, Edited, 
 use Rattle.sqlite.specs.Does.{Does, AtPlace, OnRows, Concludes, Tested}
 use Rattle.sqlite.specs.State.{State, mode_of}
 use Rattle.hub_store.proofs.Causes.{stops}
-use Rattle.hub_store.proofs.FirstRow.{none_refer}
+use Rattle.hub_store.proofs.Beside.{none_refer}
 use Rattle.hub_store.proofs.Statements.{other_one}
 
 gave : {A E : Type 0} {a : A} {e : E} → ◌≡◌ {A = Result A E} (Err e) (Ok a) → ⊥

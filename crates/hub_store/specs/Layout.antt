@@ -1,14 +1,16 @@
 -- Each version of the tables: which tables there are, by which trees, and what each holds of a state.
-use Rattle.std.specs.Prelude.{ℕ, pos, ◌==◌, if◌then◌else◌, List, [], ◌∷◌, ◌++◌, drop, map}
+use Rattle.std.specs.Prelude.{ℕ, pos, ◌==◌, not, if◌then◌else◌, List, [], ◌∷◌, ◌++◌, drop, map, filter}
+use Rattle.std.specs.Str.{bytes_eq}
 use Rattle.sqlite_value.specs.declared.value.Value.TheVariants.{Int}
 use Rattle.sqlite_value.specs.Order.{Row}
 use Rattle.sqlite_schema.specs.declared.schema.Table.{Table}
-use Rattle.hub_core.specs.State.{State}
+use Rattle.sqlite_catalog.specs.Change.{next_tree}
+use Rattle.hub_core.specs.State.{State, empty}
 use Rattle.hub_store.specs.Shapes.{hub_table, org_table, person_table, community_table, grp_table, pair_table, gate_table, recipient_table, permission_table, incident_table, item_table, incident_table_2, permission_table_3, incident_table_4}
 use Rattle.hub_store.specs.Pairs.{rows_of_pairs}
-use Rattle.hub_store.specs.Rows.{org_row, account_row, community_row, group_row, pair_sets, gate_row, recipient_row, endless_row, permission_row, incident_row, named_row_2, named_row}
+use Rattle.hub_store.specs.Rows.{org_row, account_row, community_row, group_row, pair_sets, gate_row, recipient_row, endless_row, permission_row, incident_row, named_row_2, named_row, without_end, without_community}
 use Rattle.hub_store.specs.Items.{items_of, item_row}
-use Rattle.hub_store.specs.Parts.{Part}
+use Rattle.hub_store.specs.Parts.{Part, schema_of}
 
 -- the number of each element is its rowid
 abbrev pub part_by_number : {X : Type 0} → ℕ → Table → (X → Row) → List X → Part
@@ -18,18 +20,25 @@ part_by_number tree table row xs = record { table = record table { tree = tree }
 abbrev pub part_without_rowids : ℕ → Table → List Row → Part
 part_without_rowids tree table rows = record { table = record table { tree = tree }; seen = drop 1; rows = rows }
 
--- The tables that all versions have alike. The trees between are those of the indexes. The first table holds the version.
+-- the table that holds the version stands first
+abbrev pub hub_part : List Row → Part
+hub_part = part_without_rowids 0 hub_table
+
+-- these parts under a version
+abbrev pub under : ℕ → List Part → List Part
+under version ps = hub_part ((Int (pos version) ∷ []) ∷ []) ∷ ps
+
+-- The tables that all versions have alike. The trees between are those of the indexes.
 abbrev pub in_every_version : ℕ → State → List Part
-in_every_version version s =
-    part_without_rowids 0 hub_table ((Int (pos version) ∷ []) ∷ [])
-    ∷ part_by_number 1 org_table org_row s.directory.orgs
+in_every_version version s = under version (
+    part_by_number 1 org_table org_row s.directory.orgs
     ∷ part_by_number 3 person_table account_row s.directory.accounts
     ∷ part_by_number 5 community_table community_row s.directory.communities
     ∷ part_by_number 7 grp_table group_row s.directory.groups
     ∷ part_without_rowids 9 pair_table (rows_of_pairs (pair_sets s.directory))
     ∷ part_without_rowids 12 gate_table (map gate_row s.gates)
     ∷ part_without_rowids 14 recipient_table (map recipient_row s.recipients)
-    ∷ []
+    ∷ [])
 
 -- permissions without their ends
 abbrev pub permission_part : State → Part
@@ -69,40 +78,50 @@ with_items items s = in_versions_1_and_2 1 s ++ incident_part s ∷ item_part it
 abbrev pub without_incidents : List Row → State → List Part
 without_incidents items s = in_versions_1_and_2 1 s ++ item_part items ∷ []
 
--- the tables of version 2, and no version
-abbrev pub unversioned_2 : List Row → List Row → State → List Part
-unversioned_2 items incidents s = part_without_rowids 0 hub_table [] ∷ drop 1 (tables_2 0 items incidents s)
+-- ---- from version 2 on a step to the next version makes one table anew, which then stands behind all others
+
+-- The table as its text makes it, how a row of it is seen, what it holds of a state, and a row that was read of the table before
+-- it, as it is kept.
+pub record Step : Type 0 where
+  pub table : Table
+  pub seen : Row → Row
+  pub rows : State → List Row
+  pub row : Row → Row
+
+-- the parts but that of the table of this name
+abbrev pub apart_from : List ℕ → List Part → List Part
+apart_from name ps = filter (λ (p : Part). not (bytes_eq p.table.name name)) ps
+
+-- the table of a step behind these parts, with these rows
+abbrev pub behind : Step → List Row → List Part → List Part
+behind step rows ps = ps ++ record { table = record step.table { tree = next_tree (schema_of ps) }; seen = step.seen; rows = rows } ∷ []
+
+-- the same in place of the one that there is of its name
+abbrev pub made_anew : Step → List Row → List Part → List Part
+made_anew step rows ps = behind step rows (apart_from step.table.name ps)
+
+-- the parts of the version before, brought to this version
+abbrev pub stepped : Step → ℕ → State → List Part → List Part
+stepped step version s ps = made_anew step (step.rows s) (under version (drop 1 ps))
 
 -- ---- version 3: a permission may have an end
 
-abbrev pub permission_part_3 : List Row → Part
-permission_part_3 = part_without_rowids 24 permission_table_3
-
--- With these incidents and permissions, and all else as in a state. While a migration makes them another version may stand there.
-abbrev pub tables_3 : ℕ → List Row → List Row → State → List Part
-tables_3 version incidents permissions s =
-    in_every_version version s
-    ++ item_part (map item_row (items_of s)) ∷ incident_part_2 incidents ∷ permission_part_3 permissions ∷ []
+abbrev pub permission_step : Step
+permission_step = record { table = permission_table_3; seen = drop 1; rows = λ s. map permission_row s.permissions; row = without_end }
 
 abbrev pub parts_3 : State → List Part
-parts_3 s = tables_3 3 (map named_row_2 s.incidents) (map permission_row s.permissions) s
-
--- ---- between version 2 and version 3
-
--- the tables of version 2 under the version that is to come
-abbrev pub renumbered_2 : State → List Part
-renumbered_2 s = tables_2 3 (map item_row (items_of s)) (map named_row_2 s.incidents) s
-
-abbrev pub without_permissions : State → List Part
-without_permissions s =
-    in_every_version 3 s
-    ++ item_part (map item_row (items_of s)) ∷ incident_part_2 (map named_row_2 s.incidents) ∷ []
-
--- with these permissions
-abbrev pub with_permissions : List Row → State → List Part
-with_permissions permissions s = tables_3 3 (map named_row_2 s.incidents) permissions s
+parts_3 s = stepped permission_step 3 s (parts_2 s)
 
 -- ---- version 4: an incident may name a community
+
+abbrev pub incident_step : Step
+incident_step = record { table = incident_table_4; seen = λ r. r; rows = λ s. map named_row s.incidents; row = without_community }
+
+abbrev pub parts_4 : State → List Part
+parts_4 s = stepped incident_step 4 s (parts_3 s)
+
+abbrev pub permission_part_3 : List Row → Part
+permission_part_3 = part_without_rowids 24 permission_table_3
 
 abbrev pub incident_part_4 : List Row → Part
 incident_part_4 rows = record { table = record incident_table_4 { tree = 26 }; seen = λ r. r; rows = rows }
@@ -113,27 +132,6 @@ tables_4 items incidents s =
     in_every_version 4 s
     ++ item_part items ∷ permission_part_3 (map permission_row s.permissions) ∷ incident_part_4 incidents ∷ []
 
-abbrev pub parts_4 : State → List Part
-parts_4 s = tables_4 (map item_row (items_of s)) (map named_row s.incidents) s
-
--- ---- between version 3 and version 4
-
--- the tables of version 3, and no version
-abbrev pub unversioned_3 : State → List Part
-unversioned_3 s = part_without_rowids 0 hub_table [] ∷ drop 1 (parts_3 s)
-
--- the tables of version 3 under any version, as the one that is to come
-abbrev pub renumbered_3 : ℕ → State → List Part
-renumbered_3 version s = tables_3 version (map named_row_2 s.incidents) (map permission_row s.permissions) s
-
-abbrev pub without_namings : State → List Part
-without_namings s = in_every_version 4 s
-    ++ item_part (map item_row (items_of s)) ∷ permission_part_3 (map permission_row s.permissions) ∷ []
-
--- with these incidents
-abbrev pub with_namings : List Row → State → List Part
-with_namings incidents s = tables_4 (map item_row (items_of s)) incidents s
-
 -- ---- every version: its schema, what it means and where its statements find a table follow from its parts
 
 -- the newest version of the tables
@@ -143,3 +141,7 @@ newest = 4
 -- by the version that stands in them; any other number is taken for the newest
 abbrev pub parts_by : ℕ → State → List Part
 parts_by v s = if v == 1 then parts_1 s else if v == 2 then parts_2 s else if v == 3 then parts_3 s else parts_4 s
+
+-- its tables where there is no row yet, not even the version
+abbrev pub bare_by : ℕ → List Part
+bare_by v = hub_part [] ∷ drop 1 (parts_by v empty)

@@ -1,6 +1,6 @@
 -- A list of tables with what each holds, as the one description of a version, and of a moment within a migration.
-use Rattle.std.specs.Prelude.{◌≡◌, ◌+◌, List, map, flat_map, []}
-use Rattle.std.specs.List.{AllByRecursion}
+use Rattle.std.specs.Prelude.{◌≡◌, ◌==◌, ◌&&◌, ◌+◌, ℕ, Bool, not, List, length, map, flat_map, []}
+use Rattle.std.specs.List.{AllByRecursion, list_all}
 use Rattle.sqlite_value.specs.Order.{Row}
 use Rattle.sqlite_schema.specs.declared.schema.Index.{Index}
 use Rattle.sqlite_schema.specs.declared.schema.Table.{Table}
@@ -34,3 +34,7 @@ pub record HoldsParts (ps : List Part) (db : Database) : Type 0 where
   pub known : db.schema ≡ schema_of ps
   pub whole : IsDatabase db
   pub means : AllByRecursion (IsHeld db.trees) (map held ps)
+
+-- none of the tables has this tree, and none refers to another
+abbrev pub are_beside : ℕ → List Part → Bool
+are_beside tree ps = list_all (λ (p : Part). not (p.table.tree == tree) && (length p.table.references == 0)) ps

@@ -3,7 +3,7 @@ use Rattle.std.specs.Prelude.{ℕ, pos, Bool, if◌then◌else◌, List, [], ◌
 use Rattle.serde_json.specs.Data.{object}
 use Rattle.serde_json.specs.Written.{compact_text}
 use Rattle.sqlite_value.specs.declared.value.Value.TheVariants.{Null, Int, Text, Blob}
-use Rattle.sqlite_value.specs.Order.{Row}
+use Rattle.sqlite_value.specs.Order.{Row, column}
 use Rattle.iodef_tree.specs.Json.{data_of}
 use Rattle.iodef_tree.specs.Pointer.{pointer_text}
 use Rattle.circle.specs.declared.directory.Role.{Role}
@@ -100,6 +100,16 @@ endless_row x =
 -- with its end, as later versions keep it
 abbrev pub permission_row : Permission → Row
 permission_row x = endless_row x ++ moment_or_null x.permission.until ∷ []
+
+-- ---- a row that was read of an older version, as the next one keeps it
+
+-- a permission, without its end
+abbrev pub without_end : Row → Row
+without_end row = row ++ Null ∷ []
+
+-- an incident, which names no community
+abbrev pub without_community : Row → Row
+without_community r = column r 0 ∷ Null ∷ column r 1 ∷ column r 2 ∷ column r 3 ∷ Null ∷ []
 
 -- ---- five sets in one table, each under its name: two numbers, and a third if there is one
 

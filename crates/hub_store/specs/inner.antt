@@ -9,5 +9,6 @@ pub mod Partly
 pub mod ProbesRows
 pub mod PutsLines
 pub mod Queries
+pub mod Remakes
 pub mod Shown
 pub mod ShownPairs

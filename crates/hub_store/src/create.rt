@@ -4,27 +4,32 @@ ghost use Rattle.std.specs.Prelude.{◌≡◌, ◌≢◌, false, OnOk, OnErr, If
 ghost use Rattle.sqlite.specs.State.{HasCleanDisk, Survives};
 ghost use Rattle.sqlite.specs.Held.{state};
 ghost use Rattle.hub_core.specs.State.{empty};
-ghost use Rattle.hub_store.specs.Tables.{no_schema, hub_schema};
+ghost use Rattle.hub_store.specs.Layout.{newest, bare_by};
+ghost use Rattle.hub_store.specs.Parts.{HoldsParts};
+ghost use Rattle.hub_store.specs.Tables.{no_schema, schema_by};
 ghost use Rattle.hub_store.specs.inner.Makes.{Creates, HasEmpty};
 ghost use Rattle.hub_store.specs.Means.{Holds, TreesHold};
 ghost use Rattle.hub_store.specs.Content.{CommitsState};
 ghost use Rattle.hub_store.specs.Keeps.{KeepsCommitted};
 ghost use Rattle.hub_store.specs.Failing.{HasReason};
 
-use crate::statement::run;
+use crate::next_version::make_next;
+use crate::set_version::put_version;
 use crate::tables::make_tables;
 use crate::to_version_2::make_tables_2;
-use crate::to_version_3::make_tables_3;
-use crate::to_version_4::make_tables_4;
 use crate::version::NEWEST;
-use sqlite::{Alter, Connection, Error, ErrorCode, Transaction, params};
+use sqlite::{Alter, Connection, Error, ErrorCode, Transaction};
 
-fn put_version<S: Alter>(tx: &mut Transaction<'_, S>) -> Result<(), Error>
+/// Makes the tables of each version from those of the one before.
+fn make_newest<S: Alter>(tx: &mut Transaction<'_, S>) -> Result<(), Error>
     ensures same_reference { tx.new.conn.ghost_name ≡ tx.old.conn.ghost_name }
     ensures made { Creates (state S.Store tx.old.conn.now) (state S.Store tx.new.conn.now)
-        (HasEmpty hub_schema) (λ db. Holds db empty) result }
+        (HasEmpty (schema_by 2)) (HoldsParts (bare_by newest)) result }
 {
-    run(tx, "INSERT INTO hub (version) VALUES (?1)", params![NEWEST])
+    for from in 2..NEWEST {
+        make_next(tx, from)?;
+    }
+    Ok(())
 }
 
 fn make_in<S: Alter>(tx: &mut Transaction<'_, S>) -> Result<(), Error>
@@ -34,9 +39,8 @@ fn make_in<S: Alter>(tx: &mut Transaction<'_, S>) -> Result<(), Error>
 {
     make_tables(tx)?;
     make_tables_2(tx)?;
-    make_tables_3(tx)?;
-    make_tables_4(tx)?;
-    put_version(tx)
+    make_newest(tx)?;
+    put_version(tx, NEWEST)
 }
 
 /// Makes the tables and the version in one transaction, where there is no table yet.

@@ -13,9 +13,8 @@
 //!
 //! The rooms, in the way of the data:
 //!
-//! - `tables`, `to_version_2`, `to_version_3`, `to_version_4`, `set_version`, `create` and `version`: a new store, and the
-//!   version of one that is there;
-//!   `migrate` and `old_rows`: a store of an older version, brought to the newest;
+//! - `tables`, `to_version_2`, `remake`, `next_version`, `set_version`, `create` and `version`: a new store, the step to each version,
+//!   and the version of a store that is there; `migrate` and `old_rows`: a store of an older version, brought to the newest;
 //! - `pair_kind`, `numbers`, `from_row`, `person_rows`, `joined_rows`, `incident_rows`, `item_rows`: values as rows, and rows as values;
 //! - `statement` and `query`: a text that is prepared and run, and asked in a transaction; `any_row`, `ask_pairs`,
 //!   `read_pairs`: the queries that several of these ask;
@@ -69,6 +68,7 @@ mod kept_reader;
 pub mod laws;
 mod list_entries;
 mod migrate;
+mod next_version;
 mod numbers;
 mod old_rows;
 mod pair_kind;
@@ -78,13 +78,12 @@ mod put_lines;
 mod put_naming;
 mod query;
 mod read_pairs;
+mod remake;
 mod set_version;
 mod sql_shelf;
 mod statement;
 mod tables;
 mod to_version_2;
-mod to_version_3;
-mod to_version_4;
 mod version;
 
 pub use sql_shelf::{OpenFault, SqlShelf};

@@ -1,6 +1,6 @@
 //! A store of an older version, brought to the newest in one transaction.
 
-ghost use Rattle.std.specs.Prelude.{◌≡◌, ◌≢◌, ◌<◌, ◌&&◌, List, [], map, false, OnOk, OnErr, IfOk, IfErr, IsTrue};
+ghost use Rattle.std.specs.Prelude.{◌≡◌, ◌≢◌, ◌<◌, ◌≤◌, ◌&&◌, List, [], map, false, OnOk, OnErr, IfOk, IfErr, IsTrue};
 ghost use Rattle.sqlite_value.specs.Order.{Row};
 ghost use Rattle.sqlite.specs.State.{HasCleanDisk, Survives};
 ghost use Rattle.sqlite.specs.Held.{state};
@@ -8,7 +8,7 @@ ghost use Rattle.hub_core.specs.State.{State};
 ghost use Rattle.hub_core.specs.Sound.{IsSound};
 ghost use Rattle.hub_store.specs.Fit.{AreTaken};
 ghost use Rattle.hub_store.specs.Items.{items_of, item_row};
-ghost use Rattle.hub_store.specs.Layout.{parts_1, with_items, without_incidents, tables_2};
+ghost use Rattle.hub_store.specs.Layout.{newest, parts_1, without_incidents, tables_2};
 ghost use Rattle.hub_store.specs.Rows.{naming_row_2};
 ghost use Rattle.hub_store.specs.Parts.{HoldsParts};
 ghost use Rattle.hub_store.specs.inner.Beside.{HoldsBeside, CanName};
@@ -21,14 +21,13 @@ ghost use Rattle.hub_store.specs.inner.Moving.{HasTexts, HoldsMoved, HoldsNext, 
 ghost use Rattle.hub_store.specs.Opening as spec;
 
 use crate::from_row::STRANGE;
+use crate::next_version::go_next;
 use crate::old_rows::first_incident;
 use crate::put_lines::put_lines;
 use crate::put_naming::put_naming_2;
 use crate::query::{ask, probe};
 use crate::set_version::set_version;
 use crate::to_version_2::{create_incident, create_item, drop_incident};
-use crate::to_version_3::to_version_3;
-use crate::to_version_4::to_version_4;
 use crate::version::NEWEST;
 use hub_core::{Incident, Naming};
 use sqlite::{Alter, Connection, Error, ErrorCode, Transaction, params};
@@ -195,25 +194,21 @@ fn to_version_2<S: Alter>(tx: &mut Transaction<'_, S>, alloc: Global) -> Result<
     set_version(tx, 2)
 }
 
-/// From version 1 or 2 to version 3.
-fn to_version_3_from<S: Alter>(
-    tx: &mut Transaction<'_, S>,
-    alloc: Global,
-    version: u32,
-) -> Result<(), Error>
+/// From version 2 or a later one, step by step.
+fn go_on<S: Alter>(tx: &mut Transaction<'_, S>, alloc: Global, version: u32) -> Result<(), Error>
     ensures same_reference { tx.new.conn.ghost_name ≡ tx.old.conn.ghost_name }
     ensures goes { Goes (state S.Store tx.old.conn.now) (state S.Store tx.new.conn.now) result }
-    ensures made { 0 < version → version < 3 → (s : State) → IsSound s →
+    ensures made { 2 ≤ version → version ≤ newest → (s : State) →
         Makes (state S.Store tx.old.conn.now) (state S.Store tx.new.conn.now) (λ db.
-        HoldsAs version db s) (λ db. HoldsAs 3 db s) result }
-    ensures cause { 0 < version → version < 3 → (s : State) → IsSound s → AreTaken s →
+        HoldsAs version db s) (λ db. Holds db s) result }
+    ensures cause { 2 ≤ version → version ≤ newest → (s : State) → IsSound s → AreTaken s →
         FailsOnly (state S.Store tx.old.conn.now) (state S.Store tx.new.conn.now) (λ db.
         HoldsAs version db s) result }
 {
-    if version < 2 {
-        to_version_2(tx, alloc)?;
+    for from in version..NEWEST {
+        go_next(tx, alloc, from)?;
     }
-    to_version_3(tx)
+    Ok(())
 }
 
 /// Each step leads from one version to the next.
@@ -227,10 +222,12 @@ fn go_steps<S: Alter>(tx: &mut Transaction<'_, S>, alloc: Global, version: u32) 
         FailsOnly (state S.Store tx.old.conn.now) (state S.Store tx.new.conn.now) (λ db.
         HoldsAs version db s) result }
 {
-    if version < 3 {
-        to_version_3_from(tx, alloc, version)?;
+    if version < 2 {
+        to_version_2(tx, alloc)?;
+        go_on(tx, alloc, 2)
+    } else {
+        go_on(tx, alloc, version)
     }
-    to_version_4(tx)
 }
 
 /// Brings a store from an older version to the newest in one transaction, or leaves it. Nothing is asked of the store after the

@@ -1,11 +1,9 @@
-//! The version of a store, as a migration sets it.
+//! The version of a store, whatever tables stand behind the one that holds it.
 
-ghost use Rattle.std.specs.Prelude.{◌≡◌, ℕ, List};
-ghost use Rattle.sqlite_value.specs.Order.{Row};
+ghost use Rattle.std.specs.Prelude.{◌≡◌, ℕ, List, [], ◌∷◌, IsTrue};
 ghost use Rattle.sqlite.specs.Held.{state};
-ghost use Rattle.hub_core.specs.State.{State};
-ghost use Rattle.hub_store.specs.Layout.{tables_2, unversioned_2, renumbered_3, unversioned_3};
-ghost use Rattle.hub_store.specs.Parts.{HoldsParts};
+ghost use Rattle.hub_store.specs.Layout.{hub_part, under};
+ghost use Rattle.hub_store.specs.Parts.{Part, are_beside, HoldsParts};
 ghost use Rattle.hub_store.specs.inner.Makes.{Makes, FailsOnly};
 
 use crate::statement::run;
@@ -13,38 +11,25 @@ use sqlite::{Alter, Error, Transaction, params};
 
 fn take_version<S: Alter>(tx: &mut Transaction<'_, S>) -> Result<(), Error>
     ensures same_reference { tx.new.conn.ghost_name ≡ tx.old.conn.ghost_name }
-    ensures made { (s : State) → (items incidents : List Row) → (before : ℕ) →
+    ensures made { (before : ℕ) → (ps : List Part) → IsTrue (are_beside 0 ps) →
         Makes (state S.Store tx.old.conn.now) (state S.Store tx.new.conn.now)
-        (HoldsParts (tables_2 before items incidents s))
-        (HoldsParts (unversioned_2 items incidents s)) result }
-    ensures cause { (s : State) → (items incidents : List Row) → (before : ℕ) →
+        (HoldsParts (under before ps)) (HoldsParts (hub_part [] ∷ ps)) result }
+    ensures cause { (before : ℕ) → (ps : List Part) → IsTrue (are_beside 0 ps) →
         FailsOnly (state S.Store tx.old.conn.now) (state S.Store tx.new.conn.now)
-        (HoldsParts (tables_2 before items incidents s)) result }
-    ensures made_3 { (s : State) → (before : ℕ) →
-        Makes (state S.Store tx.old.conn.now) (state S.Store tx.new.conn.now)
-        (HoldsParts (renumbered_3 before s)) (HoldsParts (unversioned_3 s)) result }
-    ensures cause_3 { (s : State) → (before : ℕ) →
-        FailsOnly (state S.Store tx.old.conn.now) (state S.Store tx.new.conn.now)
-        (HoldsParts (renumbered_3 before s)) result }
+        (HoldsParts (under before ps)) result }
 {
     run(tx, "DELETE FROM hub", &[])
 }
 
-fn put_version<S: Alter>(tx: &mut Transaction<'_, S>, version: u32) -> Result<(), Error>
+/// Puts the version where none stands.
+pub(crate) fn put_version<S: Alter>(tx: &mut Transaction<'_, S>, version: u32) -> Result<(), Error>
     ensures same_reference { tx.new.conn.ghost_name ≡ tx.old.conn.ghost_name }
-    ensures made { (s : State) → (items incidents : List Row) →
+    ensures made { (ps : List Part) → IsTrue (are_beside 0 ps) →
         Makes (state S.Store tx.old.conn.now) (state S.Store tx.new.conn.now)
-        (HoldsParts (unversioned_2 items incidents s))
-        (HoldsParts (tables_2 version items incidents s)) result }
-    ensures cause { (s : State) → (items incidents : List Row) →
+        (HoldsParts (hub_part [] ∷ ps)) (HoldsParts (under version ps)) result }
+    ensures cause { (ps : List Part) → IsTrue (are_beside 0 ps) →
         FailsOnly (state S.Store tx.old.conn.now) (state S.Store tx.new.conn.now)
-        (HoldsParts (unversioned_2 items incidents s)) result }
-    ensures made_3 { (s : State) →
-        Makes (state S.Store tx.old.conn.now) (state S.Store tx.new.conn.now)
-        (HoldsParts (unversioned_3 s)) (HoldsParts (renumbered_3 version s)) result }
-    ensures cause_3 { (s : State) →
-        FailsOnly (state S.Store tx.old.conn.now) (state S.Store tx.new.conn.now)
-        (HoldsParts (unversioned_3 s)) result }
+        (HoldsParts (hub_part [] ∷ ps)) result }
 {
     run(
         tx,
@@ -53,23 +38,15 @@ fn put_version<S: Alter>(tx: &mut Transaction<'_, S>, version: u32) -> Result<()
     )
 }
 
-/// Sets the version beside the tables of version 2, or those of version 3. It is taken and put, as its row has no number by
-/// which it would be exchanged.
+/// Sets the version. It is taken and put, as its row has no number by which it would be exchanged.
 pub(crate) fn set_version<S: Alter>(tx: &mut Transaction<'_, S>, version: u32) -> Result<(), Error>
     ensures same_reference { tx.new.conn.ghost_name ≡ tx.old.conn.ghost_name }
-    ensures made { (s : State) → (items incidents : List Row) → (before : ℕ) →
+    ensures made { (before : ℕ) → (ps : List Part) → IsTrue (are_beside 0 ps) →
         Makes (state S.Store tx.old.conn.now) (state S.Store tx.new.conn.now)
-        (HoldsParts (tables_2 before items incidents s))
-        (HoldsParts (tables_2 version items incidents s)) result }
-    ensures cause { (s : State) → (items incidents : List Row) → (before : ℕ) →
+        (HoldsParts (under before ps)) (HoldsParts (under version ps)) result }
+    ensures cause { (before : ℕ) → (ps : List Part) → IsTrue (are_beside 0 ps) →
         FailsOnly (state S.Store tx.old.conn.now) (state S.Store tx.new.conn.now)
-        (HoldsParts (tables_2 before items incidents s)) result }
-    ensures made_3 { (s : State) → (before : ℕ) →
-        Makes (state S.Store tx.old.conn.now) (state S.Store tx.new.conn.now)
-        (HoldsParts (renumbered_3 before s)) (HoldsParts (renumbered_3 version s)) result }
-    ensures cause_3 { (s : State) → (before : ℕ) →
-        FailsOnly (state S.Store tx.old.conn.now) (state S.Store tx.new.conn.now)
-        (HoldsParts (renumbered_3 before s)) result }
+        (HoldsParts (under before ps)) result }
 {
     take_version(tx)?;
     put_version(tx, version)

@@ -13,10 +13,10 @@ use Rattle.hub_core.specs.State.{State}
 use Rattle.hub_store.specs.Items.{Item, item_row}
 use Rattle.hub_core.specs.declared.state.Naming.{Naming}
 use Rattle.hub_core.specs.declared.state.Permission.{Permission}
-use Rattle.hub_store.specs.Rows.{naming_row_2, endless_row}
+use Rattle.hub_store.specs.Rows.{naming_row_2, endless_row, without_end}
 use Rattle.hub_store.specs.inner.Shown.{naming_shown_2}
 use Rattle.hub_store.specs.Fit.{ShortItem, IsShort}
-use Rattle.hub_store.specs.Layout.{with_items, item_part, with_permissions, permission_part_3}
+use Rattle.hub_store.specs.Layout.{with_items, item_part}
 use Rattle.hub_store.specs.Parts.{HoldsParts}
 
 -- the rowids count on from a number, with no gap
@@ -69,26 +69,15 @@ pub record CanName (kept : Naming → Row) (rows : List Row) : Type 0 where
 abbrev pub unnamed_row : Naming → Row
 unnamed_row k = naming_row_2 k ++ Null ∷ []
 
--- the columns that the query of all incidents of version 3 shows, as version 4 keeps them
-abbrev pub without_community : Row → Row
-without_community r = column r 0 ∷ Null ∷ column r 1 ∷ column r 2 ∷ column r 3 ∷ Null ∷ []
-
+-- the row is what the query of all incidents of version 3 shows
 abbrev pub IsShownBefore4 : Row → Type 0
 IsShownBefore4 row = (k : Naming) × (row ≡ naming_shown_2 k)
 
 -- ---- the table of the permissions, while it is filled again
 
--- a row of version 2 as version 3 keeps it
-abbrev pub without_end : Row → Row
-without_end row = row ++ Null ∷ []
-
+-- the row is what the query of all permissions of version 2 shows
 abbrev pub IsEndlessRow : Row → Type 0
 IsEndlessRow row = (x : Permission) × (row ≡ endless_row x)
-
--- these permissions beside all else, in a table that was made empty
-pub record HoldsGranted (permissions : List Row) (s : State) (db : Database) : Type 0 where
-  pub parts : HoldsParts (with_permissions permissions s) db
-  pub numbered : AreNumbered 1 (db.trees (permission_part_3 permissions).table.tree)
 
 -- as SQL compares them, two rows have the same incident, path, kind and target
 abbrev pub granted_alike : Row → Row → Bool

@@ -6,14 +6,15 @@ use Rattle.sqlite_schema.specs.declared.schema.Schema.{Schema}
 use Rattle.sqlite.specs.declared.error.Error.{Error}
 use Rattle.sqlite.specs.declared.error.Error.TheVariants.{SqliteFailure}
 use Rattle.sqlite.specs.declared.error.ErrorCode.TheVariants as code
-use Rattle.sqlite.specs.Effect.{Database}
+use Rattle.sqlite.specs.Effect.{Database, IsDatabase}
 use Rattle.sqlite.specs.State.{State, HasCleanDisk}
 use Rattle.hub_store.specs.Failing.{HasReason}
 use Rattle.hub_store.specs.Keeps.{Goes}
 
--- the tables of the schema are there, with no row
+-- the tables of the schema are there, with no row; the database obeys them, where there is any
 pub record HasEmpty (schema : Schema) (db : Database) : Type 0 where
   pub known : db.schema ≡ schema
+  pub whole : schema.tables ≢ [] → IsDatabase db
   pub empty : AllByRecursion (λ (t : Table). db.trees t.tree ≡ []) schema.tables
 
 -- Nothing is committed, and where the one held before, the other holds after an Ok.

@@ -8,6 +8,7 @@ use Rattle.hub_core.specs.State.{empty}
 use Rattle.hub_store.specs.Content.{CommitsState}
 use Rattle.hub_store.specs.Means.{TreesHold, Holds}
 use Rattle.hub_store.proofs.Left.{trees_hold}
+use Rattle.hub_store.proofs.Empty.{no_tables}
 use Rattle.hub_store.proofs.Runs.{committed_made}
 use Rattle.hub_store.proofs.Steps.{on_ok}
 use Rattle.hub_store.proofs.create.make_store.Goals as goal
@@ -20,7 +21,7 @@ returns-clause-made g c clean blank =
     let same : end ≡ c.conn-2-1.given.0 = search rules in
     let late : HasCleanDisk (state g.S.Store end) = search rules in
     let before : HasCleanDisk (state g.S.Store mid) = omega (arith, c.commit.ensures.survives.clean) in
-    let made : Holds (state g.S.Store mid).now empty = (rw begun at c.in_ok-make_in.ensures.made).makes.made before refl (record { known = blank; empty = tt }) in
+    let made : Holds (state g.S.Store mid).now empty = (rw begun at c.in_ok-make_in.ensures.made).makes.made before refl (no_tables _ blank) in
     subst (λ h. OnOk c.commit.result (CommitsState (state g.S.Store h) empty)) same
     (on_ok c.commit.result _ _ (λ ok. committed_made (state g.S.Store mid) (state g.S.Store end) _ made ok.1) (c.commit.ensures.ok late))
 
@@ -36,7 +37,7 @@ returns-clause-survives g c blank =
     let whole = survives_then (state g.S.Store old) (state g.S.Store mid) (state g.S.Store end) (λ _. ⊥) (λ db. db ≡ (state g.S.Store mid).now.trees) P (λ _ db none. absurd none)
     (λ clean db is.
     let before : HasCleanDisk (state g.S.Store mid) = omega (arith, c.commit.ensures.survives.clean) in
-    let made : Holds (state g.S.Store mid).now empty = inside.made before refl (record { known = blank; empty = tt }) in
+    let made : Holds (state g.S.Store mid).now empty = inside.made before refl (no_tables _ blank) in
     subst P (sym is) (trees_hold (state g.S.Store mid).now empty made))
     (survives_begin g.S.Store old (state g.S.Store mid) _ inside.goes.survives) c.commit.ensures.survives in
     subst (λ h. Survives (state g.S.Store old) (state g.S.Store h) P) same whole

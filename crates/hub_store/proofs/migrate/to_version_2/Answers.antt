@@ -1,18 +1,23 @@
-use Rattle.std.proofs.Common.{[], map, Ok, rules, sym, subst, ◌∙◌}
+use Rattle.std.proofs.Common.{List, [], map, drop, Ok, rules, refl, sym, subst, ◌∙◌}
+use Rattle.sqlite_value.specs.Order.{Row}
 use Rattle.sqlite.specs.Held.{state}
-use Rattle.hub_core.specs.State.{empty}
+use Rattle.hub_core.specs.State.{State}
 use Rattle.hub_store.specs.Items.{items_of, item_row}
 use Rattle.hub_store.specs.inner.Beside.{CanName}
 use Rattle.hub_store.specs.Layout.{tables_2, without_incidents}
 use Rattle.hub_store.specs.inner.Makes.{Makes}
 use Rattle.hub_store.specs.Means.{HoldsAs}
 use Rattle.hub_store.specs.Rows.{named_row_2, naming_row_2}
-use Rattle.hub_store.specs.Parts.{HoldsParts}
+use Rattle.hub_store.specs.Parts.{Part, HoldsParts}
 use Rattle.hub_store.proofs.Inside.{goes_then}
 use Rattle.hub_store.proofs.Movable.{names_stand}
 use Rattle.hub_store.proofs.MovedOn.{tables_of_1, texts_of_1, held_as_2, rows_of_namings}
 use Rattle.hub_store.proofs.Steps.{on_ok, clean_before, fails_then, fails_passed}
 use Rattle.hub_store.proofs.migrate.to_version_2.Goals as goal
+
+-- the tables of version 2 behind that of the version
+abbrev behind : List Row → State → List Part
+behind items s = drop 1 (tables_2 1 items (map named_row_2 s.incidents) s)
 
 pub returns-in_err-kept-clause-goes : goal.returns-in_err-kept-clause-goes
 returns-in_err-kept-clause-goes g c =
@@ -35,16 +40,16 @@ returns-in_err-move_incidents-clause-made g c s sound =
     record { goes = record { kept = whole.kept; inside = λ _ _. search rules; survives = whole.survives }; made = λ _ _ _. search rules }
 
 pub returns-clause-goes : goal.returns-clause-goes
-returns-clause-goes g c = goes_then _ _ _ _ _ (goes_then _ _ _ _ _ c.in_ok-kept.ensures.goes c.in_ok-move_incidents.ensures.goes) (c.set_version.ensures.made empty [] [] 1).goes
+returns-clause-goes g c = goes_then _ _ _ _ _ (goes_then _ _ _ _ _ c.in_ok-kept.ensures.goes c.in_ok-move_incidents.ensures.goes) (c.set_version.ensures.made 1 [] refl).goes
 
 pub returns-clause-made : goal.returns-clause-made
 returns-clause-made g c s sound = record {
-  goes = goes_then _ _ _ _ _ (goes_then _ _ _ _ _ c.in_ok-kept.ensures.goes c.in_ok-move_incidents.ensures.goes) (c.set_version.ensures.made empty [] [] 1).goes;
+  goes = goes_then _ _ _ _ _ (goes_then _ _ _ _ _ c.in_ok-kept.ensures.goes c.in_ok-move_incidents.ensures.goes) (c.set_version.ensures.made 1 [] refl).goes;
   made = λ clean inside before.
       let items = map item_row (items_of s) in
       let move = c.in_ok-kept.ensures in
       let put = c.in_ok-move_incidents.ensures in
-      let set = c.set_version.ensures.made s items (map named_row_2 s.incidents) 1 in
+      let set = c.set_version.ensures.made 1 (behind items s) refl in
       let late = clean_before _ _ set.goes.survives clean in
       let early = clean_before _ _ put.goes.survives late in
       let moved = move.moved early inside s (texts_of_1 _ s sound before) (tables_of_1 _ s before) in
@@ -88,4 +93,4 @@ returns-clause-cause g c s sound taken =
           let moved = move.moved early inside s (texts_of_1 _ s sound before) (tables_of_1 _ s before) in
           subst (λ rows. HoldsParts (tables_2 1 items rows s) (state g.S.Store c.move_incidents.new.tx.conn.now).now) (rows_of_namings _ s.incidents (c.deref.ensures.value ∙ moved.1)) ((put.made s items).made clean (move.goes.inside early inside).0 moved.0);
     } in
-    fails_then two (set.made empty [] [] 1).goes (set.cause s items (map named_row_2 s.incidents) 1)
+    fails_then two (set.made 1 [] refl).goes (set.cause 1 (behind items s) refl)

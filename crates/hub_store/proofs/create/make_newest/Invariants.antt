@@ -1,0 +1,13 @@
+use Rattle.std.proofs.Common.{◌≡◌, Ok}
+use Rattle.sqlite.specs.Held.{state}
+use Rattle.hub_store.specs.Layout.{bare_by}
+use Rattle.hub_store.specs.Parts.{HoldsParts}
+use Rattle.hub_store.specs.Tables.{schema_by}
+use Rattle.hub_store.specs.inner.Makes.{Creates, HasEmpty}
+use Rattle.hub_store.proofs.create.make_newest.Given as goal
+
+abbrev pub invariant-loop-from : goal.invariant-loop-from
+invariant-loop-from g l = record {
+  same_reference : l.tx.conn.ghost_name ≡ l.fn.tx.conn.ghost_name;
+  made : Creates {T = Unit {0}} (state g.S.Store l.fn.tx.conn.now) (state g.S.Store l.tx.conn.now) (HasEmpty (schema_by 2)) (HoldsParts (bare_by l.from)) (Ok tt);
+}

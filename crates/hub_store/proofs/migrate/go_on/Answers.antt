@@ -1,0 +1,41 @@
+use Rattle.std.proofs.Common.{◌≡◌, ◌≤◌, ◌<◌, Ok, arith, rules}
+use Rattle.sqlite.specs.Held.{state}
+use Rattle.hub_store.specs.Layout.{newest}
+use Rattle.hub_store.specs.Means.{HoldsAs}
+use Rattle.hub_store.proofs.Inside.{goes_then}
+use Rattle.hub_store.proofs.Steps.{makes_start, makes_then, fails_then, fails_passed}
+use Rattle.hub_store.proofs.migrate.go_on.Goals as goal
+
+pub loop-from-preserved : goal.loop-from-preserved
+loop-from-preserved g c = record {
+  same_reference = search rules;
+  above = omega (arith, c.loop-from.invariant.above);
+  goes = goes_then _ _ _ _ _ c.loop-from.invariant.goes c.in_ok-go_next.ensures.goes;
+  made = λ low s. makes_then _ _ _ _ (λ db. HoldsAs c.loop-from.from db s) _ _ _ (c.loop-from.invariant.made low s) (c.in_ok-go_next.ensures.made (omega (arith, low, c.loop-from.invariant.above)) (omega arith) s);
+}
+
+pub returns-in_err-go_next-clause-goes : goal.returns-in_err-go_next-clause-goes
+returns-in_err-go_next-clause-goes g c =
+    let whole = goes_then _ _ _ _ _ c.loop-from.invariant.goes c.in_err-go_next.ensures.goes in
+    record { kept = whole.kept; inside = λ _ _. search rules; survives = whole.survives }
+
+pub returns-in_err-go_next-clause-made : goal.returns-in_err-go_next-clause-made
+returns-in_err-go_next-clause-made g c low high s =
+    let whole = goes_then _ _ _ _ _ c.loop-from.invariant.goes c.in_err-go_next.ensures.goes in
+    record { goes = record { kept = whole.kept; inside = λ _ _. search rules; survives = whole.survives }; made = λ _ _ _. search rules }
+
+pub returns-in_err-go_next-clause-cause : goal.returns-in_err-go_next-clause-cause
+returns-in_err-go_next-clause-cause g c low high s sound taken =
+    fails_passed c.from_residual.ensures.1
+    (fails_then (c.loop-from.invariant.made low s) c.in_err-go_next.ensures.goes (c.in_err-go_next.ensures.cause (omega (arith, low, c.loop-from.invariant.above)) (omega arith) s sound taken))
+
+pub returns-clause-goes : goal.returns-clause-goes
+returns-clause-goes g c = c.loop-from.invariant.goes
+
+pub returns-clause-made : goal.returns-clause-made
+returns-clause-made g c low high s =
+    let last : c.loop-from.from ≡ newest = omega (arith, high, c.loop-from.invariant.above) in
+    rw last at (c.loop-from.invariant.made low s)
+
+pub returns-clause-cause : goal.returns-clause-cause
+returns-clause-cause g c low high s sound taken = record { cause = λ clean inside before. tt }
