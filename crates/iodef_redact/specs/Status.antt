@@ -1,0 +1,10 @@
+-- The exit status of the program.
+use Rattle.std.specs.Prelude.{ℕ}
+use Rattle.iodef_redact.specs.declared.status.Status.{Status}
+use Rattle.iodef_redact.specs.declared.status.Status.TheVariants.{Done, Refused, Usage, Failed}
+
+abbrev pub exit_status : Status → ℕ
+exit_status Done = 0
+exit_status Refused = 1
+exit_status Usage = 2
+exit_status Failed = 3

@@ -1,0 +1,6 @@
+mod Numbers
+mod SoFar
+mod Unique
+mod Parsed
+mod FirstFaults
+mod ShortForm

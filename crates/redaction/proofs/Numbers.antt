@@ -1,0 +1,41 @@
+-- Whole numbers of a description, and how many items there are.
+use Rattle.std.proofs.Common.{◌≡◌, ℕ, ◌+◌, ◌<◌, ◌^◌, List, [], ◌∷◌, length, true, false, ◌&&◌, Result, Ok, Err, refl, rules, arith, nat_lt, sym, if◌then◌else◌}
+use Rattle.std.specs.List.{list_all}
+use Rattle.std.specs.Char.{is_ascii_digit}
+use Rattle.std.specs.Result.{OkIff}
+use Rattle.std.specs.Str.Parse.{digits_value, ParsesUnsigned}
+use Rattle.std.proofs.lemmas.Str.Parse.{IsNumeralModel, numerals_by_value, parse_digits}
+use Rattle.std.proofs.lemmas.Grind.{common_steps}
+use Rattle.json.specs.Value.{items_view}
+use Rattle.json.specs.declared.value.Value.{Value}
+use Rattle.redaction.specs.Values.{is_whole, whole, count_of}
+use borrow.Author.Tests.{ltb-true}
+use Rattle.redaction.specs.declared.fault.Fault.{Fault}
+use Rattle.redaction.specs.declared.fault.Fault.TheVariants.{OutOfRange}
+
+own : IsNumeralModel (λ ds. list_all is_ascii_digit ds ≡ true) (digits_value 10)
+own = numerals_by_value _ (search rules)
+
+digits : (text : List ℕ) → is_whole text ≡ true → list_all is_ascii_digit text ≡ true
+digits text plain = grind (arith, common_steps)
+
+some-digits : (text : List ℕ) → is_whole text ≡ true → 0 < length text
+some-digits text plain = grind (arith, common_steps)
+
+-- what parse gives where the digits are plain
+pub whole_parses : {E : Type 0} (text : List ℕ) (r : Result ℕ E) → is_whole text ≡ true → ParsesUnsigned 32 10 text r
+    → OkIff r ((0 < length text) × (digits_value 10 text < 2 ^ 32)) (digits_value 10 text)
+whole_parses text r plain h = parse_digits own 32 text r h (digits text plain)
+
+pub too_large : {E : Type 0} (text : List ℕ) (e : E) → is_whole text ≡ true → ParsesUnsigned 32 10 text (Err e)
+    → Err OutOfRange ≡ whole text
+too_large text e plain h =
+    let no = whole_parses text (Err e) plain h in
+    elim (nat_lt (digits_value 10 text) (2 ^ 32)) as (λ b. b ≡ nat_lt (digits_value 10 text) (2 ^ 32) → ◌≡◌ {A = Result ℕ Fault} (Err OutOfRange) (if is_whole text && b then Ok (digits_value 10 text) else Err OutOfRange)) [
+      | true ↦ λ e. absurd (no (some-digits text plain, ltb-true _ _ (sym e)))
+      | false ↦ λ e. rw plain refl
+    ] refl
+
+pub count-is : {A : Type 0} (xs : List (Value A)) → count_of (items_view xs) ≡ length xs
+count-is [] = refl
+count-is (x ∷ xs) = grind (arith, common_steps, count-is xs)

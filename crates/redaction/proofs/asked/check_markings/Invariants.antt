@@ -1,0 +1,8 @@
+use Rattle.std.proofs.Common.{◌≡◌, drop}
+use Rattle.std.specs.List.{list_all}
+use Rattle.redaction.specs.Asked.{is_well_marked}
+use Rattle.redaction.proofs.asked.check_markings.Given as goal
+
+abbrev pub invariant-loop-document : goal.invariant-loop-document
+invariant-loop-document l =
+    list_all is_well_marked (drop l.document-index l.documents) ≡ list_all is_well_marked l.documents

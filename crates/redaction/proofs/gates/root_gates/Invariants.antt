@@ -1,0 +1,10 @@
+use Rattle.std.proofs.Common.{◌≡◌, ◌+◌, ◌≤◌, drop}
+use Rattle.json.specs.Value.{items_view}
+use Rattle.redaction.specs.Described.{root_gates}
+use Rattle.redaction.proofs.gates.root_gates.Given as goal
+
+abbrev pub invariant-loop-item : goal.invariant-loop-item
+invariant-loop-item l = record {
+  counted : l.count + root_gates (items_view (drop l.item-index l.item-items)) ≡ root_gates (items_view l.items.items);
+  within : l.count ≤ l.item-index;
+}

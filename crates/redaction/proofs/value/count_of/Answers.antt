@@ -1,0 +1,6 @@
+use Rattle.std.proofs.Common.{length, sym, ap, ◌∙◌}
+use Rattle.redaction.proofs.Numbers.{count-is}
+use Rattle.redaction.proofs.value.count_of.Goals as goal
+
+pub returns : goal.returns
+returns c = ap length c.as_slice.ensures.value ∙ sym (count-is c.args.items.now.items)

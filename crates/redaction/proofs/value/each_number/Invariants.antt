@@ -1,0 +1,10 @@
+use Rattle.std.proofs.Common.{◌≡◌, drop}
+use Rattle.json.specs.Value.{items_view}
+use Rattle.redaction.specs.Values.{each}
+use Rattle.redaction.specs.Values.{number_in}
+use Rattle.redaction.proofs.SoFar.{joined}
+use Rattle.redaction.proofs.value.each_number.Given as goal
+
+abbrev pub invariant-loop-item : goal.invariant-loop-item
+invariant-loop-item l =
+    joined l.first l.found.items (each number_in (items_view (drop l.item-index l.item-items))) ≡ each number_in (items_view l.items.items)

@@ -1,0 +1,12 @@
+use Rattle.std.proofs.Common.{ap₂, ◌∙◌}
+use Rattle.json.specs.Value.{value_view}
+use Rattle.redaction.specs.Outcome.{◌&◌}
+use Rattle.redaction.proofs.FirstFaults.{long-is}
+use Rattle.redaction.proofs.view.long_in.Goals as goal
+
+pub returns : goal.returns
+returns c =
+    let w = c.both-when.ensures ∙ ap₂ (λ a b. a & b) c.now_in.ensures c.number_or_zero.ensures in
+    let names = c.both.ensures ∙ ap₂ (λ a b. a & b) c.only-names.ensures w in
+    let whom = c.both-2.ensures ∙ ap₂ (λ a b. a & b) c.in_ok-case.ensures c.in_ok-reader.ensures in
+    c.view_read.ensures ∙ long-is (value_view c.args.value.now) c.both-3.result (c.both-3.ensures ∙ ap₂ (λ a b. a & b) names whom)

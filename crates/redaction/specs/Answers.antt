@@ -1,0 +1,119 @@
+-- What is answered of a report.
+use Rattle.std.specs.Prelude.{ℕ, List, [], ◌∷◌, ◌++◌, map, Bool, if◌then◌else◌, Option, Some, None, Ok, Err, codes}
+use Rattle.std.specs.List.{flat_map}
+use Rattle.std.specs.Str.{is_utf8}
+use Rattle.serde_json.specs.Data.{Data, number, unsigned, string, array, object, no_members, member}
+use Rattle.serde_json.specs.View.{items_of}
+use Rattle.serde_json.specs.Written.{compact_text}
+use Rattle.iodef_tree.specs.Text.{Bytes, Tokens}
+use Rattle.iodef_tree.specs.Json.{data_of}
+use Rattle.iodef_tree.specs.Paths.{LocatedLine, located, class_paths}
+use Rattle.iodef_tree.specs.Pointer.{pointer_text}
+use Rattle.marking.specs.Label.{handling_of, name_of as handling_name, text_of}
+use Rattle.marking.specs.Marks.{Marked, marked_at}
+use Rattle.policy.specs.Rule.{name_of as rule_name}
+use Rattle.policy.specs.declared.rule.Rule.{Rule}
+use Rattle.redact.specs.Told.{Told, excerpt_of, finds}
+use Rattle.explain.specs.Explanation.{Explanation}
+use Rattle.explain.specs.Explained.{explained_at}
+use Rattle.explain.specs.Lines.{trace_text}
+use Rattle.redaction.specs.Outcome.{Read, ◌>>=◌, or_fault}
+use Rattle.redaction.specs.Values.{path_of}
+use Rattle.redaction.specs.Described.{described}
+use Rattle.redaction.specs.Asked.{asked_of, incident_of}
+use Rattle.redaction.specs.declared.asked.Asked.{Asked}
+use Rattle.redaction.specs.declared.fault.Fault.TheVariants.{NotUtf8, NoClass, NothingVisible}
+
+-- ---- the excerpt
+
+-- what is withheld: the JSON pointer of its place in the excerpt (RFC 6901), and the rule
+abbrev pub withheld_pair : Tokens × Rule → Data
+withheld_pair pair = array (items_of (string (pointer_text pair.0) ∷ string (rule_name pair.1) ∷ []))
+
+-- how many classes are visible, the excerpt's document, and what is withheld
+abbrev pub excerpt_object : Told → Data
+excerpt_object t =
+    object (member (codes "classes") (number (unsigned t.classes))
+    (member (codes "document") (object (data_of t.outline))
+    (member (codes "withheld") (array (items_of (map withheld_pair t.withheld))) no_members)))
+
+-- what the reader of a view may see of the Incident, where it may see some class
+unfoldable pub told_of : Bytes → Bytes → Read Told
+told_of report description = do
+  view ← described description
+  asked ← asked_of report view
+  or_fault NothingVisible (excerpt_of asked.document asked.case asked.reader)
+
+unfoldable pub excerpt_text : Bytes → Bytes → Read Bytes
+excerpt_text report description = do
+  told ← told_of report description
+  Ok (compact_text (excerpt_object told))
+
+-- the document of the excerpt alone
+unfoldable pub document_text : Bytes → Bytes → Read Bytes
+document_text report description = do
+  told ← told_of report description
+  Ok (compact_text (object (data_of told.outline)))
+
+-- ---- the search
+
+-- the bytes, where they are a text in UTF-8
+abbrev pub word_of : Bytes → Read Bytes
+word_of bytes = if is_utf8 bytes then Ok bytes else Err NotUtf8
+
+abbrev pub some_word_of : Option Bytes → Read (Option Bytes)
+some_word_of None = Ok None
+some_word_of (Some bytes) = word_of bytes >>= λ text. Ok (Some text)
+
+-- a truth as JSON writes it
+abbrev pub truth_text : Bool → Bytes
+truth_text b = if b then codes "true" else codes "false"
+
+-- whether a class that the reader may see, of this name if one is given, directly holds a text with the needle
+unfoldable pub finds_text : Bytes → Bytes → Bytes → Option Bytes → Read Bytes
+finds_text report description needle class = do
+  view ← described description
+  text ← word_of needle
+  name ← some_word_of class
+  asked ← asked_of report view
+  Ok (truth_text (finds asked.document asked.case asked.reader text name))
+
+-- ---- the explanation
+
+-- the path that the bytes are the JSON pointer of
+unfoldable pub pointer_of : Bytes → Read Tokens
+pointer_of bytes = do
+  text ← word_of bytes
+  path_of text
+
+-- why the reader sees the class at the path, or doesn't
+abbrev pub explained : Asked → Tokens → Read Explanation
+explained asked path = or_fault NoClass (explained_at (located asked.document) asked.case asked.reader path)
+
+unfoldable pub explain_text : Bytes → Bytes → Bytes → Read Bytes
+explain_text report description pointer = do
+  view ← described description
+  path ← pointer_of pointer
+  asked ← asked_of report view
+  explanation ← explained asked path
+  Ok (trace_text explanation)
+
+-- ---- the labels
+
+-- the compact JSON array of a class's path, its label, the label's handling where nothing is arranged, and its site
+abbrev pub mark_row : Marked → Data
+mark_row t =
+    array (items_of (string t.path ∷ string (text_of t.label) ∷ string (handling_name (handling_of t.label None)) ∷ string t.site ∷ []))
+
+-- and the newline behind it
+abbrev pub mark_line : Marked → Bytes
+mark_line t = compact_text (mark_row t) ++ 10 ∷ []
+
+-- a line for each class of the Incident at a place, in stored order
+abbrev pub mark_lines : List LocatedLine → Bytes
+mark_lines es = flat_map mark_line (map (marked_at es) (class_paths es))
+
+unfoldable pub marks_text : Bytes → ℕ → Read Bytes
+marks_text report place = do
+  document ← incident_of report place
+  Ok (mark_lines (located document))

@@ -1,0 +1,104 @@
+//! What is asked of a report: one of its documents, with a case and a reader.
+ghost use Rattle.std.specs.Prelude.{◌≡◌, None, IfOk};
+ghost use Rattle.std.specs.List.{list_all};
+ghost use Rattle.iodef_tree.specs.Paths.{located};
+ghost use Rattle.marking.specs.Marks.{first_bad_marking};
+ghost use Rattle.redaction.specs.Outcome.{Yields, YieldsAs, require};
+ghost use Rattle.redaction.specs.Asked as spec;
+
+use crate::fault::{Fault, of_report};
+use crate::view::View;
+use iodef_tree::Document;
+use marking::{MarkingFault, check};
+use policy::{Case, Gate, Permission, Standing};
+use std::alloc::Global;
+
+/// The document of an Incident, the case that it is judged by, and a reader.
+#[derive(Drop)]
+pub(crate) struct Asked {
+    pub(crate) document: Document,
+    pub(crate) case: Case,
+    pub(crate) reader: Standing,
+}
+
+fn read_documents(alloc: Global, report: &[u8]) -> Result<Vec<Document>, Fault>
+    ensures { YieldsAs (λ v. v.items) result (spec.read_of report.now) }
+{
+    match Document::read(alloc, report) {
+        Ok(documents) => Ok(documents),
+        Err(fault) => Err(of_report(&fault)),
+    }
+}
+
+/// Accepts the documents where each keeps the marking rule.
+fn check_markings(alloc: Global, documents: &[Document]) -> Result<(), Fault>
+    ensures { Yields result (require (list_all spec.is_well_marked documents.now) Fault.BadMarking) }
+{
+    for document in documents {
+        match check(alloc, document) {
+            Ok(()) => {}
+            Err(MarkingFault::BadMarking(_)) => return Err(Fault::BadMarking),
+            Err(MarkingFault::NoMemory) => return Err(Fault::NoMemory),
+        }
+    }
+    Ok(())
+}
+
+/// The document of the Incident at a place of the report; its markings were accepted.
+#[tactic(auto, unfolding(crate::specs::Asked::incident_of, crate::specs::Asked::reported))]
+pub(crate) fn read_incident(alloc: Global, report: &[u8], place: u32) -> Result<Document, Fault>
+    ensures read { Yields result (spec.incident_of report.now place) }
+    ensures marked { IfOk result (λ d. first_bad_marking (located d) ≡ None) }
+{
+    let mut documents = read_documents(alloc, report)?;
+    check_markings(alloc, documents.as_slice())?;
+    let place = place as usize;
+    if place >= documents.len() {
+        return Err(Fault::NoIncident);
+    }
+    Ok(documents.swap_remove(place))
+}
+
+fn gate_stands(document: &Document, gate: &Gate) -> bool
+    ensures { result ≡ spec.gate_stands (located document.now) gate.now }
+{
+    gate.path.tokens().is_empty() || document.has_class(&gate.path)
+}
+
+fn gates_stand(document: &Document, gates: &[Gate]) -> bool
+    ensures { result ≡ list_all (spec.gate_stands (located document.now)) gates.now }
+{
+    gates.iter().all(|gate| gate_stands(document, gate))
+}
+
+fn permissions_stand(document: &Document, permissions: &[Permission]) -> bool
+    ensures { result ≡ list_all (spec.permission_stands (located document.now)) permissions.now }
+{
+    permissions
+        .iter()
+        .all(|permission| document.has_class(&permission.path))
+}
+
+fn case_stands(document: &Document, case: &Case) -> bool
+    ensures { result ≡ spec.case_stands (located document.now) case.now }
+{
+    gates_stand(document, case.gates.as_slice())
+        && permissions_stand(document, case.permissions.as_slice())
+}
+
+/// What is asked of a report by a view.
+#[tactic(auto, unfolding(crate::specs::Asked::asked_of))]
+pub(crate) fn read_asked(alloc: Global, report: &[u8], view: View) -> Result<Asked, Fault>
+    ensures read { Yields result (spec.asked_of report.now view) }
+    ensures marked { IfOk result (λ a. first_bad_marking (located a.document) ≡ None) }
+{
+    let document = read_incident(alloc, report, view.incident)?;
+    if !case_stands(&document, &view.case) {
+        return Err(Fault::NoClass);
+    }
+    Ok(Asked {
+        document,
+        case: view.case,
+        reader: view.reader,
+    })
+}

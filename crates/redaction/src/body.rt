@@ -1,0 +1,101 @@
+//! An excerpt as a JSON text (RFC 8259).
+ghost use Rattle.std.specs.Prelude.{◌≡◌, ◌++◌, OnOk, IfOk, map, true};
+ghost use Rattle.serde_json.specs.Data.{object, array};
+ghost use Rattle.serde_json.specs.View.{items_of};
+ghost use Rattle.serde_json.specs.Written.{comma_if, compact_text};
+ghost use Rattle.iodef_tree.specs.Json.{data_of};
+ghost use Rattle.redact.specs.Excerpts.{told_by};
+ghost use Rattle.redaction.specs.Answers as spec;
+
+use iodef_tree::Path;
+use json::Token;
+use json_text::{Refused, Sink, Source, Tokens, bytes_of};
+use policy::Rule;
+use redact::Excerpt;
+use std::alloc::{AllocError, Global};
+
+fn put_withheld_pair<S: Sink>(out: &mut Tokens<S>, pair: &(Path, Rule)) -> Result<(), Refused>
+    ensures puts { OnOk result (S.puts out.old.sink (comma_if out.old.after_value ++
+        compact_text (spec.withheld_pair pair.now)) out.new.sink) }
+    ensures after { OnOk result (out.new.after_value ≡ true) }
+{
+    out.token(Token::BeginArray)?;
+    out.pointer(&pair.0)?;
+    out.token(Token::String(pair.1.name()))?;
+    out.token(Token::EndArray)
+}
+
+fn put_withheld<S: Sink>(out: &mut Tokens<S>, pairs: &[(Path, Rule)]) -> Result<(), Refused>
+    ensures puts { OnOk result (S.puts out.old.sink (comma_if out.old.after_value ++
+        compact_text (array (items_of (map spec.withheld_pair pairs.now)))) out.new.sink) }
+    ensures after { OnOk result (out.new.after_value ≡ true) }
+{
+    out.token(Token::BeginArray)?;
+    for pair in pairs {
+        put_withheld_pair(out, pair)?;
+    }
+    out.token(Token::EndArray)
+}
+
+fn put_excerpt<S: Sink>(out: &mut Tokens<S>, excerpt: &Excerpt) -> Result<(), Refused>
+    ensures puts { OnOk result (S.puts out.old.sink (comma_if out.old.after_value ++
+        compact_text (spec.excerpt_object (told_by excerpt.now))) out.new.sink) }
+    ensures after { OnOk result (out.new.after_value ≡ true) }
+{
+    out.token(Token::BeginObject)?;
+    out.number_member("classes", excerpt.classes)?;
+    out.name("document")?;
+    out.document(&excerpt.document)?;
+    out.name("withheld")?;
+    put_withheld(out, excerpt.withheld.as_slice())?;
+    out.token(Token::EndObject)
+}
+
+/// What is written of an excerpt.
+#[derive(Clone, Copy, Drop)]
+pub(crate) enum Body<'a> {
+    /// All that is told.
+    Whole(&'a Excerpt),
+    /// Its document alone.
+    Document(&'a Excerpt),
+}
+
+impl<'a> Body<'a> {
+    ghost use Rattle.redaction.specs.inner.Bodies.{body_text};
+
+    fn put<S: Sink>(&self, out: &mut Tokens<S>) -> Result<(), Refused>
+        ensures { OnOk result (S.puts out.old.sink
+            (comma_if out.old.after_value ++ body_text self.now) out.new.sink) }
+    {
+        match self {
+            Body::Whole(excerpt) => put_excerpt(out, excerpt),
+            Body::Document(excerpt) => out.document(&excerpt.document),
+        }
+    }
+}
+
+impl<'a> Source for Body<'a> {
+    ghost use Rattle.redaction.specs.inner.Bodies.{body_text};
+
+    ghost bytes = { body_text };
+
+    fn put_into<S: Sink + Drop>(&self, sink: S) -> Result<S, Refused> {
+        let mut out = Tokens::new(sink);
+        self.put(&mut out)?;
+        Ok(out.sink)
+    }
+}
+
+/// The bytes of all that is told.
+pub(crate) fn excerpt_bytes(alloc: Global, excerpt: &Excerpt) -> Result<Vec<u8>, AllocError>
+    ensures { IfOk result (λ v. v.items ≡ compact_text (spec.excerpt_object (told_by excerpt.now))) }
+{
+    bytes_of(alloc, &Body::Whole(excerpt))
+}
+
+/// The bytes of the document alone.
+pub(crate) fn document_bytes(alloc: Global, excerpt: &Excerpt) -> Result<Vec<u8>, AllocError>
+    ensures { IfOk result (λ v. v.items ≡ compact_text (object (data_of excerpt.now.document))) }
+{
+    bytes_of(alloc, &Body::Document(excerpt))
+}

@@ -1,0 +1,69 @@
+//! The short form of a view: what the reader is cleared for, and nothing else.
+ghost use Rattle.std.specs.Prelude.{◌≡◌, IfOk};
+ghost use Rattle.json.specs.Value.{value_view};
+ghost use Rattle.redaction.specs.Described as spec;
+
+use crate::both::{Read, both};
+use crate::reader::wanted_handling;
+use crate::value::{number_or_zero, only};
+use crate::view::View;
+use iodef_tree::Path;
+use json::Value;
+use marking::Handling;
+use policy::{Case, Gate, Gates, Permissions, Standing};
+use std::alloc::{AllocError, Global};
+
+/// A case in which gates and permissions change nothing.
+fn open_case(alloc: Global) -> Result<Case, AllocError>
+    ensures { IfOk result (λ c. c ≡ spec.open_case) }
+{
+    let mut gates = Vec::new(alloc);
+    gates.push(Gate {
+        path: Path::root(alloc),
+        level: 3,
+        group: None,
+    })?;
+    Ok(Case {
+        source: 1,
+        community: None,
+        gates: Gates::new(gates),
+        permissions: Permissions::new(Vec::new(alloc)),
+    })
+}
+
+/// A reader of another organisation who is cleared for this, and for nothing stricter. Takes no memory.
+pub(crate) fn cleared_reader(alloc: Global, handling: Handling) -> Standing
+    ensures { result ≡ spec.cleared_reader handling }
+{
+    let mut reader = Standing::stranger(alloc, 2, 2);
+    match handling {
+        Handling::Clear => {}
+        Handling::Green => reader.peer = true,
+        Handling::Amber => {
+            reader.nominated = true;
+            reader.client = true;
+        }
+        Handling::Strict => {
+            reader.nominated = true;
+            reader.addressed = true;
+        }
+        Handling::Red => reader.person = true,
+    }
+    reader
+}
+
+#[tactic(auto, unfolding(crate::specs::Described::short_in))]
+pub(crate) fn short_in(alloc: Global, value: &Value<'_>) -> Result<Read<View>, AllocError>
+    ensures { IfOk result (λ r. r ≡ spec.short_in (value_view value.now)) }
+{
+    let names = only(value, &["clearance", "incident"]);
+    let clearance = wanted_handling(value, "clearance");
+    match both(both(names, clearance), number_or_zero(value, "incident")) {
+        Ok((((), clearance), incident)) => Ok(Ok(View {
+            incident,
+            case: open_case(alloc)?,
+            reader: cleared_reader(alloc, clearance),
+        })),
+        Err(fault) => Ok(Err(fault)),
+    }
+}

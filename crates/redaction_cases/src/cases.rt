@@ -1,0 +1,167 @@
+//! A case: a verb and what it is about, with a space between two parts. The last part is the rest of the line. `%` and two
+//! hexadecimal digits stand for a byte in it.
+//!
+//! - `report BYTES`: the report of the cases behind it; nothing is answered.
+//! - `excerpt VIEW`, `document VIEW`: what is answered, and a newline.
+//! - `finds NEEDLE VIEW`, `finds NEEDLE@CLASS VIEW`: the same.
+//! - `explain POINTER VIEW`, `marks PLACE`: the lines that are answered.
+//! - `faults`: each fault's number, name and reason.
+//!
+//! In place of an answer that isn't given stands the fault's number and name.
+
+use percent_encoding::percent_decode;
+use redaction::Fault;
+use std::alloc::{AllocError, Global};
+
+/// The report that the cases are about.
+#[derive(Drop)]
+pub struct Table {
+    report: Vec<u8>,
+}
+
+/// All faults, in their order.
+const FAULTS: [Fault; 23] = [
+    Fault::NoMemory,
+    Fault::ViewNotJson,
+    Fault::DoubledMember,
+    Fault::NotObject,
+    Fault::UnknownMember,
+    Fault::MissingMember,
+    Fault::WrongKind,
+    Fault::OutOfRange,
+    Fault::BadPointer,
+    Fault::BadMoment,
+    Fault::SourceUnsaid,
+    Fault::NotUtf8,
+    Fault::NotJson,
+    Fault::NotDocument,
+    Fault::Missing,
+    Fault::NotWhole,
+    Fault::NestedClass,
+    Fault::TooDeep,
+    Fault::TooManyLines,
+    Fault::BadMarking,
+    Fault::NoIncident,
+    Fault::NoClass,
+    Fault::NothingVisible,
+];
+
+/// The bytes that a part stands for.
+fn bytes_of(alloc: Global, part: &str) -> Result<Vec<u8>, AllocError> {
+    let mut bytes = Vec::new(alloc);
+    percent_decode(part.as_bytes()).append_to(&mut bytes)?;
+    Ok(bytes)
+}
+
+/// The text of an answer, or its fault's number and name.
+fn told(alloc: Global, answer: Result<Vec<u8>, Fault>) -> Result<String, AllocError> {
+    match answer {
+        Ok(bytes) => {
+            let text = String::from_utf8_lossy(alloc, &bytes)?;
+            String::from_str(alloc, text.as_str())
+        }
+        Err(fault) => {
+            let (number, name) = (fault.number(), fault.name());
+            format!(in alloc; "{number} {name}")
+        }
+    }
+}
+
+/// The answer on a line that ends.
+fn line_of(alloc: Global, answer: Result<Vec<u8>, Fault>) -> Result<String, AllocError> {
+    let mut text = told(alloc, answer)?;
+    if !text.ends_with('\n') {
+        text.push_str("\n")?;
+    }
+    Ok(text)
+}
+
+fn faults(alloc: Global) -> Result<String, AllocError> {
+    let mut text = String::new(alloc);
+    for fault in FAULTS {
+        let (number, name, reason) = (fault.number(), fault.name(), fault.reason());
+        let line = format!(in alloc; "{number} {name}: {reason}\n")?;
+        text.push_str(line.as_str())?;
+    }
+    Ok(text)
+}
+
+impl Table {
+    pub fn new(alloc: Global) -> Table {
+        Table {
+            report: Vec::new(alloc),
+        }
+    }
+
+    /// The answer to a case.
+    pub fn answer(&mut self, alloc: Global, line: &str) -> Result<String, AllocError> {
+        let (verb, rest) = line.split_once(' ').unwrap_or((line, ""));
+        match verb {
+            "report" => {
+                self.report = bytes_of(alloc, rest)?;
+                Ok(String::new(alloc))
+            }
+            "faults" => faults(alloc),
+            _ => line_of(alloc, self.asked(alloc, verb, rest)?),
+        }
+    }
+
+    /// What the library answers.
+    fn asked(
+        &self,
+        alloc: Global,
+        verb: &str,
+        rest: &str,
+    ) -> Result<Result<Vec<u8>, Fault>, AllocError> {
+        let report = self.report.as_slice();
+        if verb == "marks" {
+            let place = rest.parse::<u32>().unwrap_or(0);
+            return Ok(redaction::marks(alloc, report, place));
+        }
+        if verb == "excerpt" || verb == "document" {
+            return self.excerpt(alloc, verb, rest);
+        }
+        let (word, view) = rest.split_once(' ').unwrap_or((rest, ""));
+        let view = bytes_of(alloc, view)?;
+        if verb == "explain" {
+            let pointer = bytes_of(alloc, word)?;
+            return Ok(redaction::explain(alloc, report, &view, &pointer));
+        }
+        self.finds(alloc, word, &view)
+    }
+
+    fn excerpt(
+        &self,
+        alloc: Global,
+        verb: &str,
+        view: &str,
+    ) -> Result<Result<Vec<u8>, Fault>, AllocError> {
+        let report = self.report.as_slice();
+        let view = bytes_of(alloc, view)?;
+        Ok(if verb == "document" {
+            redaction::excerpt_document(alloc, report, &view)
+        } else {
+            redaction::excerpt(alloc, report, &view)
+        })
+    }
+
+    fn finds(
+        &self,
+        alloc: Global,
+        word: &str,
+        view: &[u8],
+    ) -> Result<Result<Vec<u8>, Fault>, AllocError> {
+        let report = self.report.as_slice();
+        match word.split_once('@') {
+            None => {
+                let needle = bytes_of(alloc, word)?;
+                Ok(redaction::finds(alloc, report, view, &needle, None))
+            }
+            Some((needle, class)) => {
+                let needle = bytes_of(alloc, needle)?;
+                let class = bytes_of(alloc, class)?;
+                Ok(redaction::finds(alloc, report, view, &needle, Some(class.as_slice())))
+            }
+        }
+    }
+}
