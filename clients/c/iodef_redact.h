@@ -1,0 +1,202 @@
+/* What a reader may see of an incident report: the library iodef_redact for C and C++. clients/c/README.md shows its use.
+ *
+ * Each call takes a report (an IODEF v2 document in JSON, RFC 7970 and RFC 8727) and mostly a view description (JSON: for whom
+ * the report is redacted, and by which case), and gives an answer, a text in UTF-8. It returns 0 where there is an answer, and
+ * otherwise the number of the fault.
+ *
+ *   - On 0, *needed is the answer's length in bytes. If out_length is at least that, the answer begins out, with no NUL behind
+ *     it; otherwise out stays as it is. So call again with *needed bytes where they are more than out_length.
+ *   - On a fault, *needed is 0 and out stays as it is.
+ *
+ * A length is in bytes, and NULL may be passed with length 0. NULL with another length, or for needed, is the fault
+ * IODEF_REDACT_NULL_POINTER.
+ *
+ * What the caller owes, which nothing checks:
+ *
+ *   - out, needed and the bytes that are read do not overlap. While a call runs, no other thread writes to any of them, nor
+ *     reads out and needed. Otherwise calls may run in parallel: the library has no state.
+ *   - malloc, realloc and free are of one allocator. malloc and realloc align a block to each power of two up to 16 that
+ *     divides its size.
+ *   - No call is made in a signal handler, nor in the forked child of a process that has threads. The child may exec first.
+ *   - The stack has IODEF_REDACT_STACK bytes left.
+ *
+ * The functions whose names end in _into are the library itself. They take no NULL. */
+#ifndef IODEF_REDACT_H
+#define IODEF_REDACT_H
+
+#include <stddef.h>
+#include <stdint.h>
+
+#ifdef __cplusplus
+extern "C" {
+#endif
+
+/* The faults in their order: of several the first is told. IODEF_REDACT_NO_MEMORY may stand in place of any answer. Each has a
+ * number, the name by which the program iodef-redact tells it, and a reason. */
+#define IODEF_REDACT_FAULTS(FAULT) \
+    FAULT(NO_MEMORY, 1, "NoMemory", "memory ran out") \
+    FAULT(VIEW_NOT_JSON, 2, "ViewNotJson", "the view is no JSON text in UTF-8") \
+    FAULT(DOUBLED_MEMBER, 3, "DoubledMember", "an object of the view has a member twice") \
+    FAULT(NOT_OBJECT, 4, "NotObject", "the view is no object") \
+    FAULT(UNKNOWN_MEMBER, 5, "UnknownMember", "an object of the view has an unknown member") \
+    FAULT(MISSING_MEMBER, 6, "MissingMember", "an object of the view lacks a member") \
+    FAULT(WRONG_KIND, 7, "WrongKind", "a value of the view is of the wrong kind") \
+    FAULT(OUT_OF_RANGE, 8, "OutOfRange", "a value of the view is out of range") \
+    FAULT(BAD_POINTER, 9, "BadPointer", "a path is no JSON pointer") \
+    FAULT(BAD_MOMENT, 10, "BadMoment", "a moment of the view is no whole second with an offset") \
+    FAULT(SOURCE_UNSAID, 11, "SourceUnsaid", "the reader's organisation is the source, and `source` isn't true") \
+    FAULT(NOT_UTF8, 12, "NotUtf8", "a word isn't UTF-8") \
+    FAULT(NOT_JSON, 13, "NotJson", "the report is no JSON text in UTF-8") \
+    FAULT(NOT_DOCUMENT, 14, "NotDocument", "the report is no IODEF document") \
+    FAULT(MISSING, 15, "Missing", "an Incident lacks a member") \
+    FAULT(NOT_WHOLE, 16, "NotWhole", "a number is no whole one of 64 bits") \
+    FAULT(NESTED_CLASS, 17, "NestedClass", "an object stands in an array inside an array") \
+    FAULT(TOO_DEEP, 18, "TooDeep", "a member stands too deep") \
+    FAULT(TOO_MANY_LINES, 19, "TooManyLines", "an Incident has too many lines") \
+    FAULT(BAD_MARKING, 20, "BadMarking", "a class breaks the marking rule") \
+    FAULT(NO_INCIDENT, 21, "NoIncident", "there is no Incident at that place") \
+    FAULT(NO_CLASS, 22, "NoClass", "there is no class at a path") \
+    FAULT(NOTHING_VISIBLE, 23, "NothingVisible", "no class is visible")
+
+enum {
+    IODEF_REDACT_DONE = 0,
+#define IODEF_REDACT_FAULT_(NAME, NUMBER, WORD, REASON) IODEF_REDACT_##NAME = NUMBER,
+    IODEF_REDACT_FAULTS(IODEF_REDACT_FAULT_)
+#undef IODEF_REDACT_FAULT_
+    /* of this header: a pointer is NULL where it may not be, or a length is above PTRDIFF_MAX */
+    IODEF_REDACT_NULL_POINTER = 255
+};
+
+/* The name of a fault; "" of 0, and of a number that is none. */
+static inline const char *iodef_redact_fault_name(uint32_t fault) {
+    switch (fault) {
+#define IODEF_REDACT_FAULT_(NAME, NUMBER, WORD, REASON) case NUMBER: return WORD;
+        IODEF_REDACT_FAULTS(IODEF_REDACT_FAULT_)
+#undef IODEF_REDACT_FAULT_
+        case IODEF_REDACT_NULL_POINTER: return "NullPointer";
+        default: return "";
+    }
+}
+
+/* Why there is no answer; "" of 0, and of a number that is no fault's. */
+static inline const char *iodef_redact_fault_reason(uint32_t fault) {
+    switch (fault) {
+#define IODEF_REDACT_FAULT_(NAME, NUMBER, WORD, REASON) case NUMBER: return REASON;
+        IODEF_REDACT_FAULTS(IODEF_REDACT_FAULT_)
+#undef IODEF_REDACT_FAULT_
+        case IODEF_REDACT_NULL_POINTER: return "a pointer is NULL, or a length is too large";
+        default: return "";
+    }
+}
+
+/* How much of the stack a call needs at most, in bytes. */
+#define IODEF_REDACT_STACK (256 * 1024)
+
+/* ---- the library itself ---- */
+
+uint32_t iodef_redact_excerpt_into(const uint8_t *report, size_t report_length, const uint8_t *view, size_t view_length,
+                                   uint8_t *out, size_t out_length, size_t *needed);
+uint32_t iodef_redact_document_into(const uint8_t *report, size_t report_length, const uint8_t *view, size_t view_length,
+                                    uint8_t *out, size_t out_length, size_t *needed);
+uint32_t iodef_redact_finds_into(const uint8_t *report, size_t report_length, const uint8_t *view, size_t view_length,
+                                 const uint8_t *text, size_t text_length, uint8_t *out, size_t out_length, size_t *needed);
+uint32_t iodef_redact_finds_in_class_into(const uint8_t *report, size_t report_length, const uint8_t *view, size_t view_length,
+                                          const uint8_t *text, size_t text_length, const uint8_t *name, size_t name_length,
+                                          uint8_t *out, size_t out_length, size_t *needed);
+uint32_t iodef_redact_explain_into(const uint8_t *report, size_t report_length, const uint8_t *view, size_t view_length,
+                                   const uint8_t *pointer, size_t pointer_length, uint8_t *out, size_t out_length, size_t *needed);
+uint32_t iodef_redact_marks_into(const uint8_t *report, size_t report_length, uint32_t incident, uint8_t *out, size_t out_length,
+                                 size_t *needed);
+
+/* ---- what to call ---- */
+
+/* Bytes as the library takes them: never NULL. */
+typedef struct {
+    const uint8_t *start;
+    size_t length;
+    int is_good;
+} iodef_redact_bytes_;
+
+static inline iodef_redact_bytes_ iodef_redact_bytes_of_(const void *start, size_t length) {
+    iodef_redact_bytes_ bytes;
+    bytes.start = start ? (const uint8_t *)start : (const uint8_t *)"";
+    bytes.length = length;
+    bytes.is_good = start ? length <= PTRDIFF_MAX : length == 0;
+    return bytes;
+}
+
+/* The answer's bytes as the library takes them. Nothing is written to the empty text, as its length is 0. */
+static inline uint8_t *iodef_redact_start_of_(void *out) {
+    return out ? (uint8_t *)out : (uint8_t *)(uintptr_t) "";
+}
+
+static inline int iodef_redact_takes_(const void *out, size_t out_length, size_t *needed) {
+    if (needed) *needed = 0;
+    return needed && (out ? out_length <= PTRDIFF_MAX : out_length == 0);
+}
+
+/* What the reader may see of the report, and what is withheld, as a JSON object: {"classes":N,"document":{..},
+ * "withheld":[[POINTER,RULE],..]}. `classes` is how many classes the reader may see, `document` the report without the others,
+ * and `withheld` says at which of its places something is withheld, and by which rule. */
+static inline uint32_t iodef_redact_excerpt(const void *report, size_t report_length, const void *view, size_t view_length,
+                                            void *out, size_t out_length, size_t *needed) {
+    iodef_redact_bytes_ r = iodef_redact_bytes_of_(report, report_length), v = iodef_redact_bytes_of_(view, view_length);
+    if (!iodef_redact_takes_(out, out_length, needed) || !r.is_good || !v.is_good) return IODEF_REDACT_NULL_POINTER;
+    return iodef_redact_excerpt_into(r.start, r.length, v.start, v.length, iodef_redact_start_of_(out), out_length, needed);
+}
+
+/* The member `document` of that, alone: a report again. */
+static inline uint32_t iodef_redact_document(const void *report, size_t report_length, const void *view, size_t view_length,
+                                             void *out, size_t out_length, size_t *needed) {
+    iodef_redact_bytes_ r = iodef_redact_bytes_of_(report, report_length), v = iodef_redact_bytes_of_(view, view_length);
+    if (!iodef_redact_takes_(out, out_length, needed) || !r.is_good || !v.is_good) return IODEF_REDACT_NULL_POINTER;
+    return iodef_redact_document_into(r.start, r.length, v.start, v.length, iodef_redact_start_of_(out), out_length, needed);
+}
+
+/* `true` or `false`: whether a class that the reader may see directly holds a text in which this one stands. */
+static inline uint32_t iodef_redact_finds(const void *report, size_t report_length, const void *view, size_t view_length,
+                                          const void *text, size_t text_length, void *out, size_t out_length, size_t *needed) {
+    iodef_redact_bytes_ r = iodef_redact_bytes_of_(report, report_length), v = iodef_redact_bytes_of_(view, view_length);
+    iodef_redact_bytes_ t = iodef_redact_bytes_of_(text, text_length);
+    if (!iodef_redact_takes_(out, out_length, needed) || !r.is_good || !v.is_good || !t.is_good) return IODEF_REDACT_NULL_POINTER;
+    return iodef_redact_finds_into(r.start, r.length, v.start, v.length, t.start, t.length, iodef_redact_start_of_(out), out_length,
+                                   needed);
+}
+
+/* The same of the classes of one name, as "Address". */
+static inline uint32_t iodef_redact_finds_in_class(const void *report, size_t report_length, const void *view, size_t view_length,
+                                                   const void *text, size_t text_length, const void *name, size_t name_length,
+                                                   void *out, size_t out_length, size_t *needed) {
+    iodef_redact_bytes_ r = iodef_redact_bytes_of_(report, report_length), v = iodef_redact_bytes_of_(view, view_length);
+    iodef_redact_bytes_ t = iodef_redact_bytes_of_(text, text_length), n = iodef_redact_bytes_of_(name, name_length);
+    if (!iodef_redact_takes_(out, out_length, needed) || !r.is_good || !v.is_good || !t.is_good || !n.is_good)
+        return IODEF_REDACT_NULL_POINTER;
+    return iodef_redact_finds_in_class_into(r.start, r.length, v.start, v.length, t.start, t.length, n.start, n.length,
+                                            iodef_redact_start_of_(out), out_length, needed);
+}
+
+/* Why the reader sees the class at a JSON pointer (RFC 6901), or doesn't: lines, each ended by a newline. */
+static inline uint32_t iodef_redact_explain(const void *report, size_t report_length, const void *view, size_t view_length,
+                                            const void *pointer, size_t pointer_length, void *out, size_t out_length,
+                                            size_t *needed) {
+    iodef_redact_bytes_ r = iodef_redact_bytes_of_(report, report_length), v = iodef_redact_bytes_of_(view, view_length);
+    iodef_redact_bytes_ p = iodef_redact_bytes_of_(pointer, pointer_length);
+    if (!iodef_redact_takes_(out, out_length, needed) || !r.is_good || !v.is_good || !p.is_good) return IODEF_REDACT_NULL_POINTER;
+    return iodef_redact_explain_into(r.start, r.length, v.start, v.length, p.start, p.length, iodef_redact_start_of_(out),
+                                     out_length, needed);
+}
+
+/* For each class of the Incident at a place of the report, from 0, a line with the JSON array of its path, its label, the label's
+ * handling, and the path of the class where that label stands. */
+static inline uint32_t iodef_redact_marks(const void *report, size_t report_length, uint32_t incident, void *out,
+                                          size_t out_length, size_t *needed) {
+    iodef_redact_bytes_ r = iodef_redact_bytes_of_(report, report_length);
+    if (!iodef_redact_takes_(out, out_length, needed) || !r.is_good) return IODEF_REDACT_NULL_POINTER;
+    return iodef_redact_marks_into(r.start, r.length, incident, iodef_redact_start_of_(out), out_length, needed);
+}
+
+#ifdef __cplusplus
+}
+#endif
+
+#endif

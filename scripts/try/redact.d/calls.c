@@ -1,0 +1,337 @@
+/* Calls each function of clients/c/iodef_redact.h, on the table of cases that redaction_cases reads from standard input.
+ *
+ *     calls               answers each case with a room of every length from 0 to one above the answer's (of long answers, of
+ *                         some lengths), looks at what was told and written, and prints what redaction_cases prints
+ *     calls threads N     answers all cases in N threads at once
+ *     calls stack N       answers all cases in a thread with a stack of N bytes
+ *     calls null          passes NULL
+ *     calls refuse        answers each case while the first, second, .. piece of memory is refused; wanted for it are
+ *                         -DREFUSE and -Wl,--wrap=malloc,--wrap=realloc,--wrap=free
+ */
+#include "iodef_redact.h"
+
+#include <errno.h>
+#include <pthread.h>
+#include <stdio.h>
+#include <stdlib.h>
+#include <string.h>
+
+enum { FILL = 0xA5, ALL_LENGTHS = 3000 };
+
+typedef struct {
+    uint8_t *start; /* of a piece of its own, with nothing behind it; NULL where it is empty */
+    size_t length;
+} Bytes;
+
+typedef struct {
+    char verb;  /* its first letter, or n for finds in one class */
+    Bytes report, view, word, name;
+    uint32_t incident;
+} Case;
+
+typedef struct {
+    uint32_t number;
+    Bytes text;
+} Answer;
+
+static void fail(const char *what, size_t place) {
+    fprintf(stderr, "calls: case %zu: %s\n", place, what);
+    exit(1);
+}
+
+/* ---- memory that is refused ---- */
+
+#ifdef REFUSE
+static long allowed = -1, taken = 0, live = 0; /* allowed: how many pieces more are given, or -1 */
+void *__real_malloc(size_t);
+void *__real_realloc(void *, size_t);
+void __real_free(void *);
+
+static int is_refused(void) {
+    taken++;
+    return allowed >= 0 && taken > allowed;
+}
+void *__wrap_malloc(size_t size) {
+    void *piece = is_refused() ? NULL : __real_malloc(size);
+    if (piece) live++;
+    return piece;
+}
+void *__wrap_realloc(void *piece, size_t size) { return is_refused() ? NULL : __real_realloc(piece, size); }
+void __wrap_free(void *piece) {
+    if (piece) live--;
+    __real_free(piece);
+}
+#endif
+
+/* ---- the table ---- */
+
+static int digit_of(int c) { return c <= '9' ? c - '0' : (c | 32) - 'a' + 10; }
+
+static int is_digit(int c) { return (c >= '0' && c <= '9') || ((c | 32) >= 'a' && (c | 32) <= 'f'); }
+
+/* The bytes that a part of a line stands for: % and two hexadecimal digits stand for one. */
+static Bytes bytes_of(const char *from, size_t length) {
+    Bytes bytes = {NULL, 0};
+    size_t at = 0;
+    uint8_t *made = malloc(length + 1);
+    while (at < length) {
+        int is_escape = from[at] == '%' && at + 2 < length && is_digit(from[at + 1]) && is_digit(from[at + 2]);
+        made[bytes.length++] = (uint8_t)(is_escape ? digit_of(from[at + 1]) * 16 + digit_of(from[at + 2]) : from[at]);
+        at += is_escape ? 3 : 1;
+    }
+    if (bytes.length) {
+        bytes.start = malloc(bytes.length);
+        memcpy(bytes.start, made, bytes.length);
+    }
+    free(made);
+    return bytes;
+}
+
+/* One case of a line; the reports stay until the end. */
+static Case case_of(char *line, Bytes *report) {
+    Case made = {0, {NULL, 0}, {NULL, 0}, {NULL, 0}, {NULL, 0}, 0};
+    char *rest = strchr(line, ' '), *view, *at;
+    made.verb = line[0] == 'f' && line[1] == 'a' ? 'F' : line[0];
+    rest = rest ? rest + 1 : line + strlen(line);
+    if (made.verb == 'r') *report = bytes_of(rest, strlen(rest));
+    made.report = *report;
+    if (!strncmp(line, "excerpt", 7) || made.verb == 'd') made.view = bytes_of(rest, strlen(rest));
+    if (!strncmp(line, "excerpt", 7)) made.verb = 'x';
+    if (made.verb == 'm') made.incident = (uint32_t)strtoul(rest, NULL, 10);
+    if (made.verb == 'e' || made.verb == 'f') {
+        view = strchr(rest, ' ');
+        view = view ? view + 1 : rest + strlen(rest);
+        made.view = bytes_of(view, strlen(view));
+        at = made.verb == 'f' ? memchr(rest, '@', (size_t)(view - rest)) : NULL;
+        if (at) made.verb = 'n', made.name = bytes_of(at + 1, (size_t)(view - at) - 1 - (*view != 0 || view[-1] == ' '));
+        made.word = bytes_of(rest, at ? (size_t)(at - rest) : (size_t)(view - rest) - (*view != 0 || view[-1] == ' '));
+    }
+    return made;
+}
+
+static Case *cases;
+static size_t count;
+
+static void read_table(void) {
+    char *line = NULL;
+    size_t room = 0;
+    ssize_t length;
+    Bytes report = {NULL, 0};
+    while ((length = getline(&line, &room, stdin)) >= 0) {
+        if (length && line[length - 1] == '\n') line[length - 1] = 0;
+        cases = realloc(cases, (count + 1) * sizeof *cases);
+        cases[count++] = case_of(line, &report);
+    }
+    free(line);
+}
+
+static void free_table(void) {
+    for (size_t at = 0; at < count; at++) {
+        if (cases[at].verb == 'r') free(cases[at].report.start);
+        free(cases[at].view.start);
+        free(cases[at].word.start);
+        free(cases[at].name.start);
+    }
+    free(cases);
+}
+
+/* ---- calls ---- */
+
+static uint32_t call(const Case *c, uint8_t *out, size_t room, size_t *needed) {
+    Bytes r = c->report, v = c->view, w = c->word, n = c->name;
+    switch (c->verb) {
+        case 'x': return iodef_redact_excerpt(r.start, r.length, v.start, v.length, out, room, needed);
+        case 'd': return iodef_redact_document(r.start, r.length, v.start, v.length, out, room, needed);
+        case 'f': return iodef_redact_finds(r.start, r.length, v.start, v.length, w.start, w.length, out, room, needed);
+        case 'n':
+            return iodef_redact_finds_in_class(r.start, r.length, v.start, v.length, w.start, w.length, n.start, n.length, out, room,
+                                               needed);
+        case 'e': return iodef_redact_explain(r.start, r.length, v.start, v.length, w.start, w.length, out, room, needed);
+        default: return iodef_redact_marks(r.start, r.length, c->incident, out, room, needed);
+    }
+}
+
+/* What is answered of a case, in a room of just this length: what was told and written is looked at. */
+static uint32_t call_in(const Case *c, size_t room, size_t wanted_length, uint8_t *out, size_t place) {
+    size_t needed = 12345;
+    memset(out, FILL, room);
+    uint32_t number = call(c, room ? out : NULL, room, &needed);
+    if (number && needed) fail("needed isn't 0 on a fault", place);
+    if (!number && needed != wanted_length) fail("needed isn't the answer's length", place);
+    for (size_t at = !number && needed <= room ? needed : 0; at < room; at++)
+        if (out[at] != FILL) fail("a byte was written that isn't of the answer", place);
+    return number;
+}
+
+static Answer answer_of(const Case *c, size_t place) {
+    Answer answer = {0, {NULL, 0}};
+    size_t needed = 0;
+    answer.number = call(c, NULL, 0, &needed);
+    if (answer.number) return answer;
+    answer.text.start = malloc(needed ? needed : 1);
+    answer.text.length = needed;
+    if (call(c, answer.text.start, needed, &needed)) fail("asked again, it has a fault", place);
+    return answer;
+}
+
+static void call_in_all(const Case *c, const Answer *answer, size_t place) {
+    size_t length = answer->text.length;
+    for (size_t room = 0; room <= length + 1; room++) {
+        if (length > ALL_LENGTHS && room > 2 && room + 2 < length && room % (length / 16)) continue;
+        uint8_t *out = malloc(room ? room : 1);
+        if (call_in(c, room, length, out, place) != answer->number) fail("another number in another room", place);
+        if (!answer->number && room >= length && memcmp(out, answer->text.start, length)) fail("another answer in another room", place);
+        free(out);
+    }
+}
+
+static void print_faults(void) {
+    for (uint32_t number = 1; number < IODEF_REDACT_NULL_POINTER; number++)
+        if (*iodef_redact_fault_name(number))
+            printf("%u %s: %s\n", (unsigned)number, iodef_redact_fault_name(number), iodef_redact_fault_reason(number));
+}
+
+static void print(const Answer *answer) {
+    if (answer->number) {
+        printf("%u %s\n", (unsigned)answer->number, iodef_redact_fault_name(answer->number));
+        return;
+    }
+    fwrite(answer->text.start, 1, answer->text.length, stdout);
+    if (!answer->text.length || answer->text.start[answer->text.length - 1] != '\n') putchar('\n');
+}
+
+static void by_lengths(void) {
+    for (size_t at = 0; at < count; at++) {
+        if (cases[at].verb == 'F') print_faults();
+        if (strchr("rF", cases[at].verb)) continue;
+        Answer answer = answer_of(&cases[at], at + 1);
+        call_in_all(&cases[at], &answer, at + 1);
+        print(&answer);
+        free(answer.text.start);
+    }
+}
+
+/* ---- threads ---- */
+
+static Answer *answers; /* those of one thread alone */
+
+static void *answer_all(void *unused) {
+    for (size_t at = 0; at < count; at++) {
+        if (strchr("rF", cases[at].verb)) continue;
+        Answer answer = answer_of(&cases[at], at + 1);
+        if (answer.number != answers[at].number || answer.text.length != answers[at].text.length ||
+            (answer.text.length && memcmp(answer.text.start, answers[at].text.start, answer.text.length)))
+            fail("another answer in another thread", at + 1);
+        free(answer.text.start);
+    }
+    return unused;
+}
+
+static void by_threads(size_t threads, size_t stack) {
+    pthread_t *all = calloc(threads, sizeof *all);
+    pthread_attr_t how;
+    answers = calloc(count + 1, sizeof *answers);
+    for (size_t at = 0; at < count; at++)
+        if (!strchr("rF", cases[at].verb)) answers[at] = answer_of(&cases[at], at + 1);
+    pthread_attr_init(&how);
+    if (stack && pthread_attr_setstacksize(&how, stack)) fail("no such stack", 0);
+    for (size_t at = 0; at < threads; at++)
+        if (pthread_create(&all[at], &how, answer_all, NULL)) fail("no thread", 0);
+    for (size_t at = 0; at < threads; at++) pthread_join(all[at], NULL);
+    pthread_attr_destroy(&how);
+    for (size_t at = 0; at < count; at++) free(answers[at].text.start);
+    free(answers);
+    free(all);
+    printf("%zu threads\n", threads);
+}
+
+/* ---- NULL ---- */
+
+#define WANTED(CALL, NUMBER) \
+    do { \
+        needed = 7; \
+        uint32_t number = CALL; \
+        if (number != (NUMBER)) fprintf(stderr, "calls: %s: %u\n", #CALL, (unsigned)number), exit(1); \
+        if (number && needed != 0) fprintf(stderr, "calls: %s: needed is %zu\n", #CALL, needed), exit(1); \
+    } while (0)
+
+static void by_null(void) {
+    uint8_t out[4] = {FILL, FILL, FILL, FILL};
+    size_t needed, *none = NULL;
+    const char *view = "{\"clearance\":\"GREEN\"}";
+    size_t length = strlen(view), huge = (size_t)PTRDIFF_MAX + 1;
+    /* NULL with length 0 is an empty text: no report, and no view */
+    WANTED(iodef_redact_excerpt(NULL, 0, view, length, out, 4, &needed), IODEF_REDACT_NOT_JSON);
+    WANTED(iodef_redact_excerpt(NULL, 0, NULL, 0, NULL, 0, &needed), IODEF_REDACT_VIEW_NOT_JSON);
+    WANTED(iodef_redact_document(NULL, 0, NULL, 0, NULL, 0, &needed), IODEF_REDACT_VIEW_NOT_JSON);
+    WANTED(iodef_redact_finds(NULL, 0, view, length, NULL, 0, NULL, 0, &needed), IODEF_REDACT_NOT_JSON);
+    WANTED(iodef_redact_finds_in_class(NULL, 0, view, length, NULL, 0, NULL, 0, NULL, 0, &needed), IODEF_REDACT_NOT_JSON);
+    WANTED(iodef_redact_explain(NULL, 0, view, length, NULL, 0, NULL, 0, &needed), IODEF_REDACT_NOT_JSON);
+    WANTED(iodef_redact_marks(NULL, 0, 0, NULL, 0, &needed), IODEF_REDACT_NOT_JSON);
+    /* any other NULL is refused, and so is a length that nothing has */
+    WANTED(iodef_redact_excerpt(NULL, 1, view, length, out, 4, &needed), IODEF_REDACT_NULL_POINTER);
+    WANTED(iodef_redact_excerpt("", 0, NULL, length, out, 4, &needed), IODEF_REDACT_NULL_POINTER);
+    WANTED(iodef_redact_excerpt("", 0, view, length, NULL, 4, &needed), IODEF_REDACT_NULL_POINTER);
+    WANTED(iodef_redact_excerpt("", huge, view, length, out, 4, &needed), IODEF_REDACT_NULL_POINTER);
+    WANTED(iodef_redact_excerpt("", 0, view, length, out, huge, &needed), IODEF_REDACT_NULL_POINTER);
+    WANTED(iodef_redact_document(NULL, 1, view, length, out, 4, &needed), IODEF_REDACT_NULL_POINTER);
+    WANTED(iodef_redact_document("", 0, NULL, 1, out, 4, &needed), IODEF_REDACT_NULL_POINTER);
+    WANTED(iodef_redact_finds("", 0, view, length, NULL, 1, out, 4, &needed), IODEF_REDACT_NULL_POINTER);
+    WANTED(iodef_redact_finds_in_class("", 0, view, length, "", 0, NULL, 1, out, 4, &needed), IODEF_REDACT_NULL_POINTER);
+    WANTED(iodef_redact_explain("", 0, view, length, NULL, 1, out, 4, &needed), IODEF_REDACT_NULL_POINTER);
+    WANTED(iodef_redact_marks(NULL, 1, 0, out, 4, &needed), IODEF_REDACT_NULL_POINTER);
+    needed = 0;
+    if (iodef_redact_marks("", 0, 0, out, 4, none) != IODEF_REDACT_NULL_POINTER) fail("needed may be NULL", 0);
+    for (int at = 0; at < 4; at++)
+        if (out[at] != FILL) fail("a byte was written on a fault", 0);
+    if (strcmp(iodef_redact_fault_name(IODEF_REDACT_NULL_POINTER), "NullPointer") || *iodef_redact_fault_name(0) ||
+        *iodef_redact_fault_name(24) || *iodef_redact_fault_reason(0))
+        fail("the table of faults", 0);
+    puts("NULL");
+}
+
+/* ---- memory that is refused ---- */
+
+static void by_refusals(void) {
+#ifdef REFUSE
+    long refusals = 0;
+    for (size_t at = 0; at < count; at++) {
+        if (strchr("rF", cases[at].verb)) continue;
+        Answer answer = answer_of(&cases[at], at + 1);
+        uint8_t *out = malloc(answer.text.length + 1);
+        for (long given = 0;; given++) {
+            long before = live;
+            taken = 0;
+            allowed = given;
+            uint32_t number = call_in(&cases[at], answer.text.length + 1, answer.text.length, out, at + 1);
+            int is_hit = taken > allowed;
+            allowed = -1;
+            if (live != before) fail("memory was kept", at + 1);
+            if (number != answer.number && number != IODEF_REDACT_NO_MEMORY) fail("another fault where memory is refused", at + 1);
+            if (!is_hit && number != answer.number) fail("no memory, and none was refused", at + 1);
+            if (!number && memcmp(out, answer.text.start, answer.text.length)) fail("another answer where memory is refused", at + 1);
+            if (!is_hit) break;
+            refusals++;
+        }
+        free(out);
+        free(answer.text.start);
+    }
+    printf("%ld refusals\n", refusals);
+#else
+    fail("this build refuses nothing", 0);
+#endif
+}
+
+int main(int argc, char **argv) {
+    const char *how = argc > 1 ? argv[1] : "lengths";
+    size_t number = argc > 2 ? strtoul(argv[2], NULL, 10) : 0;
+    if (!strcmp(how, "null")) return by_null(), 0;
+    read_table();
+    if (!strcmp(how, "lengths")) by_lengths();
+    else if (!strcmp(how, "threads")) by_threads(number, 0);
+    else if (!strcmp(how, "stack")) by_threads(1, number);
+    else if (!strcmp(how, "refuse")) by_refusals();
+    else fail("no such word", 0);
+    free_table();
+    return 0;
+}
