@@ -1,7 +1,7 @@
 """Builds the wheel that `pip install clients/python` installs; pyproject.toml names this module as the build backend (PEP 517).
 
 It needs neither setuptools nor a network. Each client is one file, and only a package can say that it has types (PEP 561). So the
-wheel has iodef_hub.py as the package iodef_hub, with the marker py.typed beside it.
+wheel has iodef_hub.py and iodef_redact.py as packages of these names, each with the marker py.typed beside it.
 """
 from __future__ import annotations
 
@@ -36,6 +36,8 @@ def contents(table: dict[str, Any], stem: str) -> dict[str, bytes]:
     made = {
         "iodef_hub/__init__.py": (HERE / "iodef_hub.py").read_bytes(),
         "iodef_hub/py.typed": b"",
+        "iodef_redact/__init__.py": (HERE / "iodef_redact.py").read_bytes(),
+        "iodef_redact/py.typed": b"",
         "iodef_hub_misp.py": (HERE / "iodef_hub_misp.py").read_bytes(),
     }
     for page in sorted(HERE.glob("*.1")):

@@ -23,10 +23,13 @@ typedef struct {
     size_t length;
 } Bytes;
 
+typedef enum { TEXT, REPORT, FAULTS, EXCERPT, DOCUMENT, FINDS, FINDS_IN_CLASS, EXPLAIN, MARKS } Verb;
+
 typedef struct {
-    char verb;  /* its first letter, or n for finds in one class */
+    Verb verb;
     Bytes report, view, word, name;
     uint32_t incident;
+    char *text; /* a line that is printed as it is */
 } Case;
 
 typedef struct {
@@ -87,25 +90,33 @@ static Bytes bytes_of(const char *from, size_t length) {
     return bytes;
 }
 
-/* One case of a line; the reports stay until the end. */
-static Case case_of(char *line, Bytes *report) {
-    Case made = {0, {NULL, 0}, {NULL, 0}, {NULL, 0}, {NULL, 0}, 0};
-    char *rest = strchr(line, ' '), *view, *at;
-    made.verb = line[0] == 'f' && line[1] == 'a' ? 'F' : line[0];
-    rest = rest ? rest + 1 : line + strlen(line);
-    if (made.verb == 'r') *report = bytes_of(rest, strlen(rest));
-    made.report = *report;
-    if (!strncmp(line, "excerpt", 7) || made.verb == 'd') made.view = bytes_of(rest, strlen(rest));
-    if (!strncmp(line, "excerpt", 7)) made.verb = 'x';
-    if (made.verb == 'm') made.incident = (uint32_t)strtoul(rest, NULL, 10);
-    if (made.verb == 'e' || made.verb == 'f') {
-        view = strchr(rest, ' ');
-        view = view ? view + 1 : rest + strlen(rest);
+static int is_word(const char *line, size_t length, const char *word) { return strlen(word) == length && !strncmp(line, word, length); }
+
+/* What a line asks. A report is for the lines behind it too, and is freed with its own. */
+static Case case_of(const char *line, Bytes *report) {
+    Case made = {0, {NULL, 0}, {NULL, 0}, {NULL, 0}, {NULL, 0}, 0, NULL};
+    size_t verb = strcspn(line, " ");
+    const char *rest = line[verb] ? line + verb + 1 : "";
+    size_t word = strcspn(rest, " "), name = strcspn(rest, " @");
+    const char *view = rest[word] ? rest + word + 1 : "";
+    made.verb = is_word(line, verb, "report")     ? REPORT
+                : is_word(line, verb, "excerpt")  ? EXCERPT
+                : is_word(line, verb, "document") ? DOCUMENT
+                : is_word(line, verb, "finds")    ? (name < word ? FINDS_IN_CLASS : FINDS)
+                : is_word(line, verb, "explain")  ? EXPLAIN
+                : is_word(line, verb, "marks")    ? MARKS
+                : is_word(line, verb, "faults")   ? FAULTS
+                                                  : TEXT;
+    if (made.verb == REPORT) *report = bytes_of(rest, strlen(rest));
+    if (made.verb == EXCERPT || made.verb == DOCUMENT) made.view = bytes_of(rest, strlen(rest));
+    if (made.verb == MARKS) made.incident = (uint32_t)strtoul(rest, NULL, 10);
+    if (made.verb == FINDS || made.verb == FINDS_IN_CLASS || made.verb == EXPLAIN) {
         made.view = bytes_of(view, strlen(view));
-        at = made.verb == 'f' ? memchr(rest, '@', (size_t)(view - rest)) : NULL;
-        if (at) made.verb = 'n', made.name = bytes_of(at + 1, (size_t)(view - at) - 1 - (*view != 0 || view[-1] == ' '));
-        made.word = bytes_of(rest, at ? (size_t)(at - rest) : (size_t)(view - rest) - (*view != 0 || view[-1] == ' '));
+        made.word = bytes_of(rest, made.verb == FINDS_IN_CLASS ? name : word);
     }
+    if (made.verb == FINDS_IN_CLASS) made.name = bytes_of(rest + name + 1, word - name - 1);
+    if (made.verb == TEXT) made.text = strdup(line);
+    made.report = *report;
     return made;
 }
 
@@ -119,6 +130,7 @@ static void read_table(void) {
     Bytes report = {NULL, 0};
     while ((length = getline(&line, &room, stdin)) >= 0) {
         if (length && line[length - 1] == '\n') line[length - 1] = 0;
+        if (!*line) continue;
         cases = realloc(cases, (count + 1) * sizeof *cases);
         cases[count++] = case_of(line, &report);
     }
@@ -127,7 +139,8 @@ static void read_table(void) {
 
 static void free_table(void) {
     for (size_t at = 0; at < count; at++) {
-        if (cases[at].verb == 'r') free(cases[at].report.start);
+        if (cases[at].verb == REPORT) free(cases[at].report.start);
+        free(cases[at].text);
         free(cases[at].view.start);
         free(cases[at].word.start);
         free(cases[at].name.start);
@@ -137,16 +150,19 @@ static void free_table(void) {
 
 /* ---- calls ---- */
 
+/* Whether a case is a call of the library. */
+static int asks(const Case *c) { return c->verb >= EXCERPT; }
+
 static uint32_t call(const Case *c, uint8_t *out, size_t room, size_t *needed) {
     Bytes r = c->report, v = c->view, w = c->word, n = c->name;
     switch (c->verb) {
-        case 'x': return iodef_redact_excerpt(r.start, r.length, v.start, v.length, out, room, needed);
-        case 'd': return iodef_redact_document(r.start, r.length, v.start, v.length, out, room, needed);
-        case 'f': return iodef_redact_finds(r.start, r.length, v.start, v.length, w.start, w.length, out, room, needed);
-        case 'n':
+        case EXCERPT: return iodef_redact_excerpt(r.start, r.length, v.start, v.length, out, room, needed);
+        case DOCUMENT: return iodef_redact_document(r.start, r.length, v.start, v.length, out, room, needed);
+        case FINDS: return iodef_redact_finds(r.start, r.length, v.start, v.length, w.start, w.length, out, room, needed);
+        case FINDS_IN_CLASS:
             return iodef_redact_finds_in_class(r.start, r.length, v.start, v.length, w.start, w.length, n.start, n.length, out, room,
                                                needed);
-        case 'e': return iodef_redact_explain(r.start, r.length, v.start, v.length, w.start, w.length, out, room, needed);
+        case EXPLAIN: return iodef_redact_explain(r.start, r.length, v.start, v.length, w.start, w.length, out, room, needed);
         default: return iodef_redact_marks(r.start, r.length, c->incident, out, room, needed);
     }
 }
@@ -202,8 +218,9 @@ static void print(const Answer *answer) {
 
 static void by_lengths(void) {
     for (size_t at = 0; at < count; at++) {
-        if (cases[at].verb == 'F') print_faults();
-        if (strchr("rF", cases[at].verb)) continue;
+        if (cases[at].verb == FAULTS) print_faults();
+        if (cases[at].verb == TEXT) puts(cases[at].text);
+        if (!asks(&cases[at])) continue;
         Answer answer = answer_of(&cases[at], at + 1);
         call_in_all(&cases[at], &answer, at + 1);
         print(&answer);
@@ -217,7 +234,7 @@ static Answer *answers; /* those of one thread alone */
 
 static void *answer_all(void *unused) {
     for (size_t at = 0; at < count; at++) {
-        if (strchr("rF", cases[at].verb)) continue;
+        if (!asks(&cases[at])) continue;
         Answer answer = answer_of(&cases[at], at + 1);
         if (answer.number != answers[at].number || answer.text.length != answers[at].text.length ||
             (answer.text.length && memcmp(answer.text.start, answers[at].text.start, answer.text.length)))
@@ -232,7 +249,7 @@ static void by_threads(size_t threads, size_t stack) {
     pthread_attr_t how;
     answers = calloc(count + 1, sizeof *answers);
     for (size_t at = 0; at < count; at++)
-        if (!strchr("rF", cases[at].verb)) answers[at] = answer_of(&cases[at], at + 1);
+        if (asks(&cases[at])) answers[at] = answer_of(&cases[at], at + 1);
     pthread_attr_init(&how);
     if (stack && pthread_attr_setstacksize(&how, stack)) fail("no such stack", 0);
     for (size_t at = 0; at < threads; at++)
@@ -296,7 +313,7 @@ static void by_refusals(void) {
 #ifdef REFUSE
     long refusals = 0;
     for (size_t at = 0; at < count; at++) {
-        if (strchr("rF", cases[at].verb)) continue;
+        if (!asks(&cases[at])) continue;
         Answer answer = answer_of(&cases[at], at + 1);
         uint8_t *out = malloc(answer.text.length + 1);
         for (long given = 0;; given++) {
