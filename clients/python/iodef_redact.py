@@ -360,6 +360,6 @@ def _answer(name: str, report: bytes | str, *words: object) -> bytes:
         out = ctypes.create_string_buffer(room or 1)
         number = function(*taken, out, room, ctypes.byref(needed))
         if number:
-            raise FAULTS[number]()
+            raise FAULTS.get(number, Fault)()
         if needed.value <= room:
             return ctypes.string_at(out, needed.value)
