@@ -26,6 +26,7 @@ import shutil
 import ssl
 import subprocess
 import sys
+import tempfile
 import time
 import urllib.parse
 from collections.abc import Callable, Iterator, Mapping, Sequence
@@ -776,6 +777,10 @@ def moment(text: str) -> str:
     return read.isoformat()
 
 
+class Unseen(Exception):
+    """A reader would get nothing of a report."""
+
+
 class Teller:
     """Writes results: in lines for people, or with --json the hub's own answers, one a line."""
 
@@ -1059,6 +1064,66 @@ def do_add_person(hub: Hub, given: argparse.Namespace, teller: Teller) -> None:
         print(f"key, shown this once: {key}", file=sys.stderr)
 
 
+# What another reader would get of a report that isn't posted yet. The verdicts are those of iodef-redact, which is proved.
+
+# What holds of a reader that --for names; of the source nothing is known but that the reader is of another organisation.
+READERS: dict[str, dict[str, object]] = {
+    "stranger": {"who": 1, "org": 1},
+    "partner": {"who": 1, "org": 1, "community": True, "peer": True},
+    "addressed": {"who": 1, "org": 1, "community": True, "peer": True, "addressed": True, "nominated": True},
+}
+NO_ORGANISATION = 0  # stands for the source, as organisations are numbered from 1
+
+
+def reader_of(name: str) -> dict[str, object]:
+    """The reader of this name, or the one in a file: a JSON object with `who`, `org` and what holds of the reader."""
+    if name in READERS:
+        return READERS[name]
+    try:
+        value = json.loads(pathlib.Path(name).read_bytes())
+    except (ValueError, RecursionError):
+        raise Usage(f"{name} holds no JSON") from None
+    if not isinstance(value, dict):
+        raise Usage(f"{name} holds no JSON object")
+    return value
+
+
+def description_of(given: argparse.Namespace) -> dict[str, object]:
+    """The view description of iodef-redact: the report's gates as `post` would store them, no permissions, and the reader."""
+    gates = [Gate(given.level, given.group or 0, ""), *given.gate]
+    told = [{"path": each.path, "level": each.level, **({"group": each.group} if each.level == 4 else {})} for each in gates]
+    named = {} if given.community is None else {"community": given.community}
+    groups = {"groups": given.in_group, "active_groups": given.in_group} if given.in_group else {}
+    case = {"source": NO_ORGANISATION, **named, "gates": told}
+    return {"incident": given.incident, "case": case, "reader": {**reader_of(given.reader), **groups}}
+
+
+def previewed(report: bytes, description: Mapping[str, object], engine: str) -> bytes:
+    """The body of the View that such a reader would get. Raises Usage with the engine's words if it has none."""
+    with tempfile.NamedTemporaryFile("w", suffix=".json") as file:
+        json.dump(description, file)
+        file.flush()
+        try:
+            ran = subprocess.run([engine, "excerpt", "--for", file.name], input=report, capture_output=True, check=False)
+        except FileNotFoundError:
+            raise Usage(f"there is no {engine}: install it, or name the program by --engine") from None
+    if ran.returncode == 0:
+        return ran.stdout
+    told = " ".join(ran.stderr.decode(errors="replace").split("\n")).strip()
+    raise Unseen("such a reader would get nothing") if told.startswith("NothingVisible") else Usage(f"{engine}: {told}")
+
+
+def do_preview(given: argparse.Namespace) -> None:
+    whole = previewed(report_bytes(read_file(given.file)), description_of(given), given.engine)
+    if given.json:
+        print(whole.decode().rstrip("\n"))
+        return
+    value = json.loads(whole)
+    print(shown_json(value["document"]))
+    for place, rule in value["withheld"]:
+        print(f"withheld at {shown(place) or 'the root'}: {RULES.get(rule, 'withheld')} ({shown(rule)})", file=sys.stderr)
+
+
 Command = Callable[[Hub, argparse.Namespace, Teller], None]
 
 
@@ -1107,6 +1172,7 @@ class Words:
         add("--version", action="version", version=f"%(prog)s {__version__}")
         self.commands = self.parser.add_subparsers(dest="command", required=True, metavar="COMMAND")
         self.known: dict[str, Command] = {}
+        self.offline: dict[str, Callable[[argparse.Namespace], None]] = {"preview": do_preview}
         self.add_reading()
         self.add_reports()
         self.add_sharing()
@@ -1162,6 +1228,17 @@ class Words:
         add_communities(post_all)
         post_all.add_argument("--replace", action="store_true", help="puts a new revision in place of a report that was posted before")
         add_dropping(post_all, False)
+        preview = self.commands.add_parser("preview", help="what a reader would get of a report, before it is posted; asks no hub",
+                                           description="What a reader would get of a report, before it is posted. Asks no hub.")
+        preview.add_argument("file", metavar="FILE", help=HELPS["file"])
+        preview.add_argument("level", type=number, metavar="LEVEL", help=HELPS["level"])
+        add_spread(preview)
+        preview.add_argument("--for", dest="reader", required=True, metavar="READER", help="stranger: of an organisation that shares no community"
+                             " with yours; partner: of one that does; addressed: a nominated person of a partner that is a recipient; or a"
+                             " file with a JSON object, as {\"who\":4,\"org\":2,\"peer\":true}")
+        preview.add_argument("--in-group", type=number, action="append", default=[], metavar="N", help="the reader's organisation is a member of this group")
+        preview.add_argument("--incident", type=number, default=0, metavar="K", help="the place of the Incident in the report, from 0 (%(default)s)")
+        preview.add_argument("--engine", default="iodef-redact", metavar="PROGRAM", help="the program that redacts (%(default)s)")
 
     def add_sharing(self) -> None:
         redistribute = self.add("redistribute", done(lambda hub, given: hub.redistribute(
@@ -1250,6 +1327,9 @@ def main() -> int:
     words = Words()
     given = words.parser.parse_args()
     try:
+        if offline := words.offline.get(given.command):
+            offline(given)
+            return 0
         hub = Hub(given.url, key_of(os.environ), given.ca, given.timeout, given.tries)
         try:
             words.known[given.command](hub, given, Teller(hub, given.json))
@@ -1260,9 +1340,9 @@ def main() -> int:
     except BrokenPipeError:
         os.dup2(os.open(os.devnull, os.O_WRONLY), sys.stdout.fileno())
         return 0
-    except (HubError, Usage, ValueError, OSError) as fault:
+    except (HubError, Usage, Unseen, ValueError, OSError) as fault:
         print(f"iodef-hub-ask: {told_of(fault)}", file=sys.stderr)
-        return 1 if isinstance(fault, Refused) else 4 if isinstance(fault, MayBeTaken) else 3 if isinstance(fault, HubError) else 2
+        return 1 if isinstance(fault, (Refused, Unseen)) else 4 if isinstance(fault, MayBeTaken) else 3 if isinstance(fault, HubError) else 2
     except KeyboardInterrupt:
         return 130
     return 0

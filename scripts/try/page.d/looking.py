@@ -28,6 +28,8 @@ return [...document.querySelectorAll(arguments[0] + ' .marks tbody tr')].map(row
   row.querySelector('.where').textContent, row.cells[1].innerText.replace(/\\s+/g, ' '), row.cells[2].innerText, row.cells[3].innerText]);
 """
 
+COMMAND = "return document.querySelector('#pane .preview')?.textContent"
+
 
 def odd() -> bytes:
     """Labels and names in each form that the hub takes, out of their stored order."""
@@ -94,19 +96,30 @@ def levels(trial: Trial) -> None:
     rows = show(trial, POST, given | {"Who may get it": ""})
     seen = {row[0]: row[3] for row in rows}
     trial.check("a level that isn't chosen is told", seen["/Incident/0"] == "no level is chosen yet", seen)
+    asks(trial, "without a level", f"LEVEL --gate 4:1:{event} --gate 0:0:{record}")
     rows = show(trial, POST, given)
     seen = {row[0]: row[3] for row in rows}
     group = f"level 3; level 4, phishing (sharing group 1) at {event}"
     found = [seen[place] for place in ("/Incident/0", "/Incident/0/EventData/0", event)]
     trial.check("each class has the levels on its way", found == ["level 3", "level 3", group], seen)
     trial.check("from that of the report down", seen[record] == f"{group}; level 0 at {record}", seen)
+    asks(trial, "with the levels of parts", f"3 --gate 4:1:{event} --gate 0:0:{record}")
     labels = {row[0]: row[1] for row in rows}
     found = [labels[place] for place in ("/Incident/0", "/Incident/0/Contact/0", event)]
     wanted = ["TLP:GREEN", "TLP:GREEN \u2191", "TLP:AMBER+STRICT need-to-know"]
     trial.check("and its label, with an arrow where it comes from above", found == wanted, labels)
     rows = show(trial, POST, {"or its text": phishing, "Who may get it": "4", "Sharing group": "phishing"})
     trial.check("a group that is chosen by name", {row[3] for row in rows} == {"level 4, phishing (sharing group 1)"}, rows[:2])
+    asks(trial, "with a group that is chosen by name", "4 --group 1")
     trial.picture("look")
+    show(trial, POST, {"or its text": phishing, "Community": "payments", "Levels of single": "0:0:/Incident/0/it's"})
+    asks(trial, "with a community, and a place in quotes", "3 --community 1 --gate '0:0:/Incident/0/it'\\''s'")
+    show(trial, POST, {"Community": ""})
+
+
+def asks(trial: Trial, what: str, words: str) -> None:
+    told = trial.browser.run(COMMAND)
+    trial.check(f"the command that asks the engine, {what}", told == f"iodef-hub-ask preview report.json {words} --for partner", told)
 
 
 def wrongs(trial: Trial) -> None:

@@ -98,7 +98,7 @@ def writing(trial: Trial, folder: pathlib.Path) -> None:
     status, lines = marked_by(trial.circle.program, text)
     told = {path: f"{label} {handling}" for path, label, handling, _ in lines}
     trial.check("the program's own mark reads its labels so", status == 0 and told.items() >= MARKED.items(), lines)
-    command = browser.run("return document.querySelector('#pane pre').textContent")
+    command = browser.run("return document.querySelector('#pane pre:not(.preview)').textContent")
     trial.check_has("the page tells the command that does", command, "iodef-hub mark < report.json\n")
     trial.fill(POST, {"Who may get it": "3"})
     trial.done("it is posted", "Posted as incident ")
