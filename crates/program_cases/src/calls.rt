@@ -33,11 +33,13 @@ pub fn call_all(
     Ok(())
 }
 
-/// All that a caller is replied, as far as it comes.
-pub fn reply_to(rt: &HostRuntime, caller: &mut TcpStream) -> Vec<u8> {
+/// All that a caller is replied, and `(reset)` behind it if the connection isn't ended in order.
+pub fn reply_to(rt: &HostRuntime, caller: &mut TcpStream) -> io::Result<Vec<u8>> {
     let mut reply = Vec::new(rt.alloc());
-    let _ = caller.read_to_end(&mut reply);
-    reply
+    if caller.read_to_end(&mut reply).is_err() {
+        reply.extend_from_slice(b"(reset)")?;
+    }
+    Ok(reply)
 }
 
 /// What each caller is replied, a line each.
@@ -47,7 +49,8 @@ pub fn push_replies(
     all: &mut String,
 ) -> io::Result<()> {
     for caller in callers.iter_mut() {
-        push_reply(all, &reply_to(rt, caller))?;
+        let reply = reply_to(rt, caller)?;
+        push_reply(all, &reply)?;
     }
     Ok(())
 }

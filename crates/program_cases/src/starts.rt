@@ -152,7 +152,7 @@ fn told_done(rt: &HostRuntime, callers: &mut Vec<TcpStream>) -> io::Result<Strin
     let alloc = rt.alloc();
     let mut count: usize = 0;
     for caller in callers.iter_mut() {
-        let reply = reply_to(rt, caller);
+        let reply = reply_to(rt, caller)?;
         if !reply.as_slice().starts_with(b"HTTP/1.1 200 OK\r\n") {
             let mut told = String::new(alloc);
             push_reply(&mut told, &reply)?;
