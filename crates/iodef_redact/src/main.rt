@@ -5,8 +5,6 @@ mod cli;
 mod input;
 mod output;
 mod status;
-#[cfg(test)]
-mod tests;
 mod trouble;
 mod words;
 
