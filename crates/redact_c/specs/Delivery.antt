@@ -1,23 +1,22 @@
 -- What a caller in C gets: a number, the length of an answer, and the answer in bytes of its own.
-use Rattle.std.specs.Prelude.{◌≡◌, ◌≢◌, ℕ, ◌≤◌, ◌<◌, ◌++◌, length, drop, Ok, Err, IfOk}
-use Rattle.iodef_tree.specs.Text.{Bytes}
+use Rattle.std.specs.Prelude.{◌≡◌, ◌≢◌, ℕ, ◌≤◌, ◌<◌, List, ◌++◌, length, drop, Ok, Err, IfOk}
 use Rattle.redaction.specs.Faults.{number_of}
 use Rattle.redaction.specs.Outcome.{Read}
 use Rattle.redaction.specs.declared.fault.Fault.TheVariants.{NoMemory}
 
 -- 0 for an answer, and a fault's number for a fault
-abbrev pub number_for : Read Bytes → ℕ
+abbrev pub number_for : Read (List ℕ) → ℕ
 number_for (Ok text) = 0
 number_for (Err e) = number_of e
 
 -- an answer in the caller's bytes: it begins them where it fits, and otherwise they are as they were
-pub record Placed (text : Bytes) (needed : ℕ) (before after : Bytes) : Type 0 where
+pub record Placed (text : List ℕ) (needed : ℕ) (before after : List ℕ) : Type 0 where
   pub counted : needed ≡ length text
   pub fits : length text ≤ length before → after ≡ text ++ drop (length text) before
   pub too_long : length before < length text → after ≡ before
 
 -- what a call returned, the length that it told, and the caller's bytes before and after it, of what was wanted
-pub record Delivers (number needed : ℕ) (before after : Bytes) (wanted : Read Bytes) : Type 0 where
+pub record Delivers (number needed : ℕ) (before after : List ℕ) (wanted : Read (List ℕ)) : Type 0 where
   -- want of memory may stand in place of any answer
   pub numbered : number ≢ number_of NoMemory → number ≡ number_for wanted
   pub answered : number ≡ 0 → IfOk wanted (λ text. Placed text needed before after)
