@@ -5,6 +5,8 @@ mod cli;
 mod input;
 mod output;
 mod status;
+#[cfg(test)]
+mod tests;
 mod trouble;
 mod words;
 
