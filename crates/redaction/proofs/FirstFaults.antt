@@ -1,5 +1,5 @@
 -- What comes of readings side by side: their fault, or what is made of them.
-use Rattle.std.proofs.Common.{◌≡◌, ℕ, ℤ, [], ◌∷◌, Ok, Err, codes, sym, ap}
+use Rattle.std.proofs.Common.{◌≡◌, ℕ, ℤ, [], ◌∷◌, Err, codes, sym, ap}
 use Rattle.json.specs.Json.{Json}
 use Rattle.policy.specs.declared.case.Case.{Case}
 use Rattle.policy.specs.declared.standing.Standing.{Standing}

@@ -1,5 +1,5 @@
 -- Whole numbers of a description, and how many items there are.
-use Rattle.std.proofs.Common.{◌≡◌, ℕ, ◌+◌, ◌<◌, ◌^◌, List, [], ◌∷◌, length, true, false, ◌&&◌, Result, Ok, Err, refl, rules, arith, nat_lt, sym, if◌then◌else◌}
+use Rattle.std.proofs.Common.{◌≡◌, ℕ, ◌<◌, ◌^◌, List, [], ◌∷◌, length, true, false, ◌&&◌, Result, Ok, Err, refl, rules, arith, nat_lt, sym, if◌then◌else◌}
 use Rattle.std.specs.List.{list_all}
 use Rattle.std.specs.Char.{is_ascii_digit}
 use Rattle.std.specs.Result.{OkIff}

@@ -1,11 +1,9 @@
 -- The case and the readers of the short form.
-use Rattle.std.proofs.Common.{◌≡◌, List, [], ◌∷◌, ◌++◌, Bool, true, false, if◌then◌else◌, filter, None, refl, ap, ◌∙◌}
-use Rattle.std.specs.List.{flat_map, filter_map}
-use Rattle.iodef_tree.specs.Text.{Tokens, same_path, prefixes}
-use Rattle.marking.specs.declared.label.Handling.{Handling}
+use Rattle.std.proofs.Common.{◌≡◌, List, [], ◌∷◌, ◌++◌, refl, ap, ◌∙◌}
+use Rattle.std.specs.List.{flat_map}
+use Rattle.iodef_tree.specs.Text.{Tokens, prefixes}
 use Rattle.marking.specs.declared.label.Handling.TheVariants.{Clear, Green, Amber, Strict, Red}
 use Rattle.policy.specs.Verdict.{first_of, refusals_at}
-use Rattle.policy.specs.declared.rule.Rule.{Rule}
 use Rattle.policy.specs.declared.standing.Standing.{Standing}
 use Rattle.redaction.specs.Described.{open_case}
 use Rattle.redaction.specs.Laws.{ShortFormClears, OpenCaseRefusesNobody}

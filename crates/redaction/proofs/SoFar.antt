@@ -1,12 +1,12 @@
 -- Readings side by side, one after another.
-use Rattle.std.proofs.Common.{◌≡◌, ℕ, ◌+◌, ◌<◌, ◌≤◌, List, [], ◌∷◌, ◌++◌, length, drop, get_or, Bool, true, false, nat_lt, if◌then◌else◌, Option, Some, None, Result, Ok, Err, refl, sym, ap, ◌∙◌, arith, append_assoc, append-nil, drop_of_length-le}
+use Rattle.std.proofs.Common.{◌≡◌, ℕ, ◌+◌, ◌<◌, ◌≤◌, List, [], ◌∷◌, ◌++◌, length, drop, get_or, Option, Some, None, Ok, Err, refl, sym, ap, ◌∙◌, arith, append_assoc, append-nil, drop_of_length-le}
 use Rattle.std.proofs.lemmas.List.{drop_more}
 use Rattle.std.proofs.lemmas.Bool.Decides.{nat_tests}
 use Rattle.std.proofs.lemmas.Grind.{common_steps}
-use Rattle.json.specs.Json.{Json, Items, item, no_items}
+use Rattle.json.specs.Json.{Json, item}
 use Rattle.json.specs.Value.{value_view, items_view}
 use Rattle.json.specs.declared.value.Value.{Value}
-use Rattle.redaction.specs.Faults.{number_of, earlier}
+use Rattle.redaction.specs.Faults.{earlier}
 use Rattle.redaction.specs.Outcome.{Read, ◌>>=◌, ◌&◌}
 use Rattle.redaction.specs.Values.{each}
 use Rattle.redaction.specs.inner.SoFar.{noted, unless, collected}

@@ -1,11 +1,11 @@
 -- No member stands twice: the test, and what a strict read says.
-use Rattle.std.proofs.Common.{◌≡◌, ◌≢◌, ℕ, List, [], ◌∷◌, Bool, true, false, ◌||◌, AllPairs, refl, sym, ap, ◌∙◌, bytes_eq, true≢false}
+use Rattle.std.proofs.Common.{◌≡◌, ℕ, List, [], ◌∷◌, Bool, true, false, ◌||◌, refl, sym, bytes_eq, true≢false}
 use Rattle.std.specs.List.{IsDistinct, AllByRecursion, list_any}
 use Rattle.std.proofs.lemmas.Map.Made.{AllPairs-from_IsDistinct, IsDistinct-from_AllPairs}
 use Rattle.std.proofs.lemmas.Slice.Eq.{bytes_eq-Decides}
 use Rattle.json.specs.Json as json
 use Rattle.json.specs.Json.{Json, Items, Members}
-use Rattle.json.specs.Strict.{keys, AreDistinct, HasUniqueKeys, ItemsHaveUniqueKeys, MembersHaveUniqueKeys}
+use Rattle.json.specs.Strict.{keys, HasUniqueKeys, ItemsHaveUniqueKeys, MembersHaveUniqueKeys}
 use Rattle.redaction.specs.Values.{stands_twice, has_doubled, items_have_doubled, members_have_doubled}
 
 neither : (a b : Bool) → (a || b) ≡ false → (a ≡ false) × (b ≡ false)

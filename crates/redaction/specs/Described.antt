@@ -1,6 +1,6 @@
 -- What a view description says: for whom a report is redacted, and by which case. Nothing is derived: what a description
 -- doesn't say of a reader doesn't hold, and what it doesn't grant isn't granted.
-use Rattle.std.specs.Prelude.{ℕ, ◌+◌, nat_le, nat_lt, ℤ, pos, List, [], ◌∷◌, Bool, true, false, not, ◌&&◌, ◌||◌, ◌==◌, if◌then◌else◌, Option, Some, None, is_some, is_none, option_and_then, Result, Ok, Err, codes}
+use Rattle.std.specs.Prelude.{ℕ, ◌+◌, nat_le, ℤ, pos, List, [], ◌∷◌, Bool, true, false, not, ◌&&◌, ◌||◌, ◌==◌, if◌then◌else◌, Option, Some, None, is_some, option_and_then, Ok, Err, codes}
 use Rattle.std.specs.Option.{option_map_or}
 use Rattle.std.specs.Str.{bytes_eq}
 use Rattle.json.specs.Json as json
@@ -17,7 +17,7 @@ use Rattle.policy.specs.declared.permission.Grantee.TheVariants as grantee
 use Rattle.policy.specs.declared.permission.Permission.{Permission}
 use Rattle.policy.specs.declared.standing.Standing.{Standing}
 use Rattle.redaction.specs.Outcome.{Read, ◌>>=◌, ◌&◌, require}
-use Rattle.redaction.specs.Values.{parsed, has_doubled, is_object, object_in, text_in, items_in, number_in, path_in, moment_from, only, member, wanted, read_or, given_or, given, flag, numbers_under, each, count_of}
+use Rattle.redaction.specs.Values.{parsed, has_doubled, is_object, object_in, text_in, items_in, number_in, path_in, moment_from, only, wanted, given_or, given, flag, numbers_under, each, count_of}
 use Rattle.redaction.specs.declared.TheConstants.{GATE_LIMIT, PERMISSION_LIMIT}
 use Rattle.redaction.specs.declared.reader.Flags.{Flags}
 use Rattle.redaction.specs.declared.reader.Lists.{Lists}

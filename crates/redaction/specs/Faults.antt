@@ -1,5 +1,5 @@
 -- The faults, in one order: of several the first is told. Want of memory may stand in place of any answer.
-use Rattle.std.specs.Prelude.{ℕ, nat_lt, List, if◌then◌else◌, codes}
+use Rattle.std.specs.Prelude.{ℕ, nat_lt, if◌then◌else◌, codes}
 use Rattle.iodef_tree.specs.Text.{Bytes}
 use Rattle.iodef_tree.specs.declared.fault.ReadFault.{ReadFault}
 use Rattle.iodef_tree.specs.declared.fault.ReadFault.TheVariants as read

@@ -1,5 +1,5 @@
 -- What reading gives: a value, or the first fault in their order.
-use Rattle.std.specs.Prelude.{◌≡◌, ◌≢◌, List, [], ◌∷◌, Bool, if◌then◌else◌, Option, Some, None, Result, Ok, Err}
+use Rattle.std.specs.Prelude.{◌≡◌, ◌≢◌, Bool, if◌then◌else◌, Option, Some, None, Result, Ok, Err}
 use Rattle.redaction.specs.Faults.{earlier}
 use Rattle.redaction.specs.declared.fault.Fault.{Fault}
 use Rattle.redaction.specs.declared.fault.Fault.TheVariants.{NoMemory}

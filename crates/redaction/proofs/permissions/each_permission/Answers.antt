@@ -1,4 +1,4 @@
-use Rattle.std.proofs.Common.{ap, sym, ◌∙◌}
+use Rattle.std.proofs.Common.{ap, ◌∙◌}
 use Rattle.redaction.specs.Described.{permission_in}
 use Rattle.redaction.specs.inner.SoFar.{unless}
 use Rattle.redaction.proofs.SoFar.{item-read, items-end}
