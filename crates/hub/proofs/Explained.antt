@@ -21,9 +21,9 @@ use Rattle.hub_core.specs.Requests.{incident_facts}
 use Rattle.hub_core.specs.Facts.{facts_of}
 use Rattle.hub_core.specs.Refusals.{refusal_of}
 use Rattle.hub_core.specs.Judgement.{grounds_by, is_class_at}
-use Rattle.hub_core.specs.declared.state.Incident.{Incident}
-use Rattle.hub_core.specs.declared.request.Explain.{Explain}
-use Rattle.hub_core.specs.declared.request.Request.TheVariants as ask
+use Rattle.hub_state.specs.declared.state.Incident.{Incident}
+use Rattle.hub_state.specs.declared.request.Explain.{Explain}
+use Rattle.hub_state.specs.declared.request.Request.TheVariants as ask
 use Rattle.hub_core.proofs.Agrees.{agrees}
 use Rattle.hub.specs.Told.{standing_at, trace_of}
 use Rattle.hub.specs.inner.Explaining.{standing_between, text_at, text_of}

@@ -6,8 +6,8 @@ use Rattle.circle.specs.Outcomes.{bare}
 use Rattle.circle.specs.declared.refusal.Code.TheVariants.{F1}
 use Rattle.hub_core.specs.State.{State}
 use Rattle.hub_core.specs.Shelves.{HasFailed}
-use Rattle.hub_core.specs.declared.reply.Reply.{Reply}
-use Rattle.hub_core.specs.declared.reply.Reply.TheVariants.{Refused}
+use Rattle.hub_state.specs.declared.reply.Reply.{Reply}
+use Rattle.hub_state.specs.declared.reply.Reply.TheVariants.{Refused}
 use Rattle.hub.specs.Faults.{AreCounted, failures_told, tells_failure}
 use Rattle.hub.specs.Machine.{Asked, IsStep}
 use Rattle.hub.proofs.Served.{due_untold}

@@ -3,7 +3,7 @@ use Rattle.std.proofs.Common.{◌≡◌, ℕ, arith}
 use Rattle.std.specs.Prelude.{Option, Result}
 use Rattle.hub_core.specs.State.{State}
 use Rattle.hub_core.specs.Shelves.{IsRead}
-use Rattle.hub_core.specs.declared.shelf.ShelfFault.{ShelfFault}
+use Rattle.hub_state.specs.declared.shelf.ShelfFault.{ShelfFault}
 use Rattle.hub_core.specs.Shelves.{IsKept}
 
 pub kept_on : {D : Type 0} {has : D → State → Type 0} {doubts failed : D → ℕ} {may_remain : D → Option State → Type 0} {old mid new : D} →

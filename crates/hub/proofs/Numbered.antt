@@ -4,7 +4,7 @@ use Rattle.std.specs.List.{AllByRecursion}
 use Rattle.std.proofs.lemmas.Bool.{lt-ltb, le-ltb, eq-eqb, cond-true, cond-false}
 use Rattle.std.proofs.lemmas.Bool.Decides.{eqb_tells}
 use Rattle.circle.specs.Sound.{CountsFrom}
-use Rattle.hub_core.proofs.Keeping.{numbers_above}
+use Rattle.hub_state.proofs.Keeping.{numbers_above}
 
 module _ {X : Type 0} (number : X → ℕ) where
   pub counts_on : (n m : ℕ) (xs : List X) → n ≡ m → CountsFrom number n xs → CountsFrom number m xs

@@ -3,7 +3,7 @@ use Rattle.std.proofs.Common.{◌≡◌, ℕ, ◌+◌, ◌<◌, List, [], ◌∷
 use Rattle.std.specs.Prelude.{Option}
 use Rattle.std.proofs.lemmas.List.{take_more}
 use Rattle.hub_core.specs.State.{State}
-use Rattle.hub_core.specs.declared.reply.Reply.{Reply}
+use Rattle.hub_state.specs.declared.reply.Reply.{Reply}
 use Rattle.hub.specs.Machine.{Asked}
 use Rattle.hub.specs.OneByOne.{AreAnswers, IsOneAnswer}
 

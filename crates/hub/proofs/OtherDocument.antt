@@ -10,7 +10,7 @@ use Rattle.circle.specs.declared.directory.Person.{Person}
 use Rattle.hub_core.specs.Documents.{Lines, ident_of}
 use Rattle.hub_core.specs.State.{State, incident_of}
 use Rattle.hub_core.specs.Reads.{standing_for, case_for, entry_of}
-use Rattle.hub_core.specs.declared.state.Incident.{Incident}
+use Rattle.hub_state.specs.declared.state.Incident.{Incident}
 use Rattle.hub.specs.declared.TheConstants.{PAGE_LIMIT}
 use Rattle.hub.specs.Told.{standing_at, is_served, is_found, is_addressed, view_with, view_of}
 use Rattle.hub.specs.Replies.{page_of, view_or_nothing, viewed}

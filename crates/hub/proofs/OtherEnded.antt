@@ -15,8 +15,8 @@ use Rattle.circle.specs.declared.directory.Account.{Account}
 use Rattle.hub_core.specs.State.{State, incident_of, incident_number}
 use Rattle.hub_core.specs.Reads.{case_for}
 use Rattle.hub_core.specs.Sound.{IsSound}
-use Rattle.hub_core.specs.declared.state.Incident.{Incident}
-use Rattle.hub_core.specs.declared.state.Permission.{Permission}
+use Rattle.hub_state.specs.declared.state.Incident.{Incident}
+use Rattle.hub_state.specs.declared.state.Permission.{Permission}
 use Rattle.hub.specs.Told.{standing_at, is_served, is_found, is_addressed, view_with}
 use Rattle.hub.specs.Alike.{report_of, live_permissions, EndedPermissionsAreNotFelt}
 use Rattle.hub.proofs.Numbered.{all_found}

@@ -18,15 +18,15 @@ use Rattle.hub_core.specs.Documents.{Lines}
 use Rattle.hub_core.specs.State.{State, incident_of, incident_number}
 use Rattle.hub_core.specs.Reads.{standing_for, case_for, its_gates, its_permissions}
 use Rattle.hub_core.specs.Sound.{IsSound, IsAccepted}
-use Rattle.hub_core.specs.declared.state.Incident.{Incident}
-use Rattle.hub_core.specs.declared.state.Gate.{Gate}
-use Rattle.hub_core.specs.declared.state.Permission.{Permission}
+use Rattle.hub_state.specs.declared.state.Incident.{Incident}
+use Rattle.hub_state.specs.declared.state.Gate.{Gate}
+use Rattle.hub_state.specs.declared.state.Permission.{Permission}
 use Rattle.hub.specs.Told.{standing_at, is_served, is_found, is_addressed, view_with}
 use Rattle.redact.specs.Alike.{IsMarked, is_hidden_from}
 use Rattle.hub.specs.Alike.{with_document, report_of, HasOtherPlainLines, HasOtherHiddenClass}
 use Rattle.redact.proofs.Filtered.{filter-both, filter-within, filter-map}
 use Rattle.redact.proofs.ToldAlike.{alike-told}
-use Rattle.hub_core.proofs.Keeping.{not_both, turned, found_each}
+use Rattle.hub_state.proofs.Keeping.{not_both, turned, found_each}
 use Rattle.hub.proofs.Numbered.{all_found}
 use Rattle.hub.proofs.Standings.{standing_at-is}
 use Rattle.hub.proofs.ToldSame.{TellsSame}

@@ -22,17 +22,17 @@ use Rattle.hub_core.specs.Handlings.{handling_in}
 use Rattle.hub_core.specs.State.{State, incident_of, incident_number, is_recipient_being, same_target}
 use Rattle.hub_core.specs.Reads.{is_peer, joined, standing_for, case_for}
 use Rattle.hub_core.specs.Sound.{IsSound}
-use Rattle.hub_core.specs.declared.request.Target.{Target}
-use Rattle.hub_core.specs.declared.request.Target.TheVariants as target
-use Rattle.hub_core.specs.declared.state.Incident.{Incident}
-use Rattle.hub_core.specs.declared.state.Recipient.{Recipient}
-use Rattle.hub_core.specs.declared.state.Permission.{Permission}
+use Rattle.hub_state.specs.declared.request.Target.{Target}
+use Rattle.hub_state.specs.declared.request.Target.TheVariants as target
+use Rattle.hub_state.specs.declared.state.Incident.{Incident}
+use Rattle.hub_state.specs.declared.state.Recipient.{Recipient}
+use Rattle.hub_state.specs.declared.state.Permission.{Permission}
 use Rattle.hub.specs.Told.{standing_at, is_served, is_found, is_addressed, view_with}
 use Rattle.redact.specs.Alike.{IsToldAlike}
 use Rattle.redact.proofs.Filtered.{any-each, any-kept, filter-both, filter-within, filter-map}
 use Rattle.redact.proofs.ToldAlike.{alike-told}
 use Rattle.hub.specs.Alike.{report_of, is_own, includes_person, is_org_or_person, staying_permissions, staying_recipients, staying_accounts, staying_arrangements, staying_members, HasOtherRows}
-use Rattle.hub_core.proofs.Keeping.{find_left}
+use Rattle.hub_state.proofs.Keeping.{find_left}
 use Rattle.hub.proofs.Numbered.{all_found}
 use Rattle.redact.proofs.InOrder.{In, in_contained, contains_in}
 use Rattle.hub.proofs.Standings.{standing_at-is}

@@ -13,12 +13,12 @@ use Rattle.circle.specs.declared.directory.Client.{Client}
 use Rattle.hub_core.specs.State.{State, incident_of, incident_number, is_recipient_being}
 use Rattle.hub_core.specs.Reads.{groups_of, standing_for, case_for, its_gates, its_permissions, entry_of}
 use Rattle.hub_core.specs.Sound.{IsSound}
-use Rattle.hub_core.specs.declared.request.Target.{Target}
-use Rattle.hub_core.specs.declared.request.Target.TheVariants as target
-use Rattle.hub_core.specs.declared.state.Incident.{Incident}
-use Rattle.hub_core.specs.declared.state.Gate.{Gate}
-use Rattle.hub_core.specs.declared.state.Recipient.{Recipient}
-use Rattle.hub_core.specs.declared.state.Permission.{Permission}
+use Rattle.hub_state.specs.declared.request.Target.{Target}
+use Rattle.hub_state.specs.declared.request.Target.TheVariants as target
+use Rattle.hub_state.specs.declared.state.Incident.{Incident}
+use Rattle.hub_state.specs.declared.state.Gate.{Gate}
+use Rattle.hub_state.specs.declared.state.Recipient.{Recipient}
+use Rattle.hub_state.specs.declared.state.Permission.{Permission}
 use Rattle.hub.specs.declared.TheConstants.{PAGE_LIMIT}
 use Rattle.hub.specs.Told.{standing_at, is_served, is_found, is_addressed, view_with}
 use Rattle.redact.proofs.Filtered.{each-from, any-each, any-kept, filter-within, filter-passing, filter-both, filter-agree}
@@ -31,7 +31,7 @@ use Rattle.circle.specs.Reads.{person_in}
 use Rattle.iodef_tree.proofs.Order.{bytes_eq-true, bytes_eq-refl}
 use Rattle.std.specs.Prelude.{option_map}
 use Rattle.hub.specs.Alike.{HasOtherUnseenIncident}
-use Rattle.hub_core.proofs.Keeping.{not_both, turned, find_left, found_is}
+use Rattle.hub_state.proofs.Keeping.{not_both, turned, find_left, found_is}
 use Rattle.redact.proofs.InOrder.{In, in_contained}
 use Rattle.hub.proofs.Numbered.{all_found}
 use Rattle.hub.proofs.Standings.{standing_at-is}

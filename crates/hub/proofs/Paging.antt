@@ -12,8 +12,8 @@ use Rattle.circle.specs.Sound.{CountsFrom}
 use Rattle.hub_core.specs.State.{State, incident_number, incident_of}
 use Rattle.hub_core.specs.Sound.{IsSound}
 use Rattle.hub_core.specs.Reads.{case_for, entry_of, incidents_above, entries_after}
-use Rattle.hub_core.specs.declared.state.Incident.{Incident}
-use Rattle.hub_core.specs.declared.reply.Entry.{Entry}
+use Rattle.hub_state.specs.declared.state.Incident.{Incident}
+use Rattle.hub_state.specs.declared.reply.Entry.{Entry}
 use Rattle.policy.specs.declared.standing.Standing.{Standing}
 use Rattle.policy.specs.declared.case.Case.{Case}
 use Rattle.redact.specs.Wants.{HasSameWords, meets, meets_by}

@@ -4,8 +4,8 @@ use Rattle.std.proofs.lemmas.List.{take_more}
 use Rattle.circle.specs.declared.directory.Person.{Person}
 use Rattle.hub_core.specs.State.{State}
 use Rattle.hub_core.specs.Sound.{IsSound}
-use Rattle.hub_core.specs.declared.reply.Reply.{Reply}
-use Rattle.hub_core.specs.declared.request.Request.{Request}
+use Rattle.hub_state.specs.declared.reply.Reply.{Reply}
+use Rattle.hub_state.specs.declared.request.Request.{Request}
 use Rattle.hub_core.proofs.Kept.{stays_sound}
 use Rattle.hub.specs.Replies.{caller_of}
 use Rattle.hub.specs.Machine.{Asked, IsStep, IsRun, left_by, state_left}

@@ -16,9 +16,9 @@ use Rattle.hub_core.specs.Documents.{Lines}
 use Rattle.hub_core.specs.State.{State, incident_number, incident_of}
 use Rattle.hub_core.specs.Sound.{IsSound}
 use Rattle.hub_core.specs.Reads.{case_for, entry_of, entries_after}
-use Rattle.hub_core.specs.declared.state.Incident.{Incident}
-use Rattle.hub_core.specs.declared.reply.Entry.{Entry}
-use Rattle.hub_core.proofs.Marked.{IsMarked}
+use Rattle.hub_state.specs.declared.state.Incident.{Incident}
+use Rattle.hub_state.specs.declared.reply.Entry.{Entry}
+use Rattle.hub_state.proofs.Marked.{IsMarked}
 use Rattle.hub.specs.Told.{standing_at, view_with, view_of}
 use Rattle.hub.specs.inner.PageFilter.{is_shut_out}
 use Rattle.hub.specs.inner.Viewing.{first_being, view_made}

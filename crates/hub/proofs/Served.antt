@@ -21,15 +21,15 @@ use Rattle.circle.specs.Reads.{person_in}
 use Rattle.hub_core.specs.Refusals.{grounds, refusal_of, state_after, unless_refused}
 use Rattle.hub_core.specs.Aftermath.{changed}
 use Rattle.hub_core.specs.Laws.{is_reading}
-use Rattle.hub_core.specs.declared.state.Incident.{Incident}
-use Rattle.hub_core.specs.declared.reply.Reply.{Reply}
-use Rattle.hub_core.specs.declared.reply.Reply.TheVariants.{Refused}
-use Rattle.hub_core.specs.declared.reply.View.{View as ViewOf}
-use Rattle.hub_core.specs.declared.request.Request.{Request}
-use Rattle.hub_core.specs.declared.request.Request.TheVariants as ask
-use Rattle.hub_core.specs.declared.shelf.ShelfFault.{ShelfFault}
-use Rattle.hub_core.specs.declared.shelf.ShelfFault.TheVariants.{NoMemory, Failed}
-use Rattle.hub_core.proofs.Keeping.{found_each}
+use Rattle.hub_state.specs.declared.state.Incident.{Incident}
+use Rattle.hub_state.specs.declared.reply.Reply.{Reply}
+use Rattle.hub_state.specs.declared.reply.Reply.TheVariants.{Refused}
+use Rattle.hub_state.specs.declared.reply.View.{View as ViewOf}
+use Rattle.hub_state.specs.declared.request.Request.{Request}
+use Rattle.hub_state.specs.declared.request.Request.TheVariants as ask
+use Rattle.hub_state.specs.declared.shelf.ShelfFault.{ShelfFault}
+use Rattle.hub_state.specs.declared.shelf.ShelfFault.TheVariants.{NoMemory, Failed}
+use Rattle.hub_state.proofs.Keeping.{found_each}
 use Rattle.hub.specs.Faults.{code_told, is_failure, tells_failure}
 use Rattle.hub.specs.Told.{view_of}
 use Rattle.hub.specs.Replies.{if_active, caller_of, view_or_nothing, viewed, circle_reply, refused_or, answer_to, reply_by, reply_of}

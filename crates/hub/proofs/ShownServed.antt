@@ -8,7 +8,7 @@ use Rattle.redact.proofs.Promised.{verdicts-served}
 use Rattle.circle.specs.declared.directory.Person.{Person}
 use Rattle.hub_core.specs.State.{State}
 use Rattle.hub_core.specs.Reads.{case_for}
-use Rattle.hub_core.specs.declared.state.Incident.{Incident}
+use Rattle.hub_state.specs.declared.state.Incident.{Incident}
 use Rattle.hub.specs.Laws.{IsExplainedAsServed}
 use Rattle.hub.specs.Told.{standing_at, view_with}
 

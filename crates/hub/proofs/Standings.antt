@@ -4,7 +4,7 @@ use Rattle.std.specs.Prelude.{ℤ, option_map, option_and_then}
 use Rattle.circle.specs.declared.directory.Person.{Person}
 use Rattle.hub_core.specs.State.{State, incident_of}
 use Rattle.hub_core.specs.Reads.{standing_for, standing_of}
-use Rattle.hub_core.specs.declared.state.Incident.{Incident}
+use Rattle.hub_state.specs.declared.state.Incident.{Incident}
 use Rattle.hub.specs.Told.{standing_at}
 use Rattle.circle.specs.Reads.{person_of}
 use Rattle.hub.specs.inner.Asking.{IsThere}

@@ -4,7 +4,7 @@ use Rattle.std.specs.Prelude.{IsTrue}
 use Rattle.std.proofs.lemmas.Bool.{true≢false}
 use Rattle.std.proofs.lemmas.List.{take_more}
 use Rattle.hub_core.specs.State.{State}
-use Rattle.hub_core.specs.declared.reply.Reply.{Reply}
+use Rattle.hub_state.specs.declared.reply.Reply.{Reply}
 use Rattle.hub.specs.Machine.{Asked, IsGivenUp, IsStep, IsRun, state_left}
 use Rattle.hub.specs.Serving.{is_made}
 use Rattle.hub.specs.Stops.{IsDueChange, MayBeLeft, MayBeLeftBy, content_after, is_change_due}

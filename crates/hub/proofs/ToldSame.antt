@@ -8,11 +8,11 @@ use Rattle.hub_core.specs.State.{State, incident_of}
 use Rattle.hub_core.specs.Sound.{IsSound}
 use Rattle.hub_core.specs.Reads.{groups_of}
 use Rattle.hub_core.specs.Refusals.{refusal_of}
-use Rattle.hub_core.specs.declared.state.Incident.{Incident}
-use Rattle.hub_core.specs.declared.reply.Reply.TheVariants.{Incidents, Groups}
+use Rattle.hub_state.specs.declared.state.Incident.{Incident}
+use Rattle.hub_state.specs.declared.reply.Reply.TheVariants.{Incidents, Groups}
 use Rattle.iodef_tree.specs.Text.{Bytes}
-use Rattle.hub_core.specs.declared.request.Request.{Request}
-use Rattle.hub_core.specs.declared.request.Request.TheVariants as ask
+use Rattle.hub_state.specs.declared.request.Request.{Request}
+use Rattle.hub_state.specs.declared.request.Request.TheVariants as ask
 use Rattle.hub.specs.Told.{is_served, is_found, is_addressed}
 use Rattle.hub.specs.Replies.{caller_of, if_active, page_of, viewed, answer_to, refused_or, reply_by, reply_of}
 use Rattle.hub.specs.declared.key.Key.TheVariants.{Digest}

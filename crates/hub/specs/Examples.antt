@@ -12,12 +12,12 @@ use Rattle.circle.specs.declared.directory.Account.{Account}
 use Rattle.hub_core.specs.Documents.{Lines}
 use Rattle.hub_core.specs.Examples.{banker, clerk, professor, circle, incident, gate, june}
 use Rattle.hub_core.specs.State.{State}
-use Rattle.hub_core.specs.declared.reply.Reply.{Reply}
-use Rattle.hub_core.specs.declared.reply.Reply.TheVariants.{View}
-use Rattle.hub_core.specs.declared.request.Request.TheVariants as ask
-use Rattle.hub_core.specs.declared.request.Target.TheVariants as target
-use Rattle.hub_core.specs.declared.state.Incident.{Incident}
-use Rattle.hub_core.specs.declared.state.Permission.{Permission}
+use Rattle.hub_state.specs.declared.reply.Reply.{Reply}
+use Rattle.hub_state.specs.declared.reply.Reply.TheVariants.{View}
+use Rattle.hub_state.specs.declared.request.Request.TheVariants as ask
+use Rattle.hub_state.specs.declared.request.Target.TheVariants as target
+use Rattle.hub_state.specs.declared.state.Incident.{Incident}
+use Rattle.hub_state.specs.declared.state.Permission.{Permission}
 use Rattle.hub.specs.Alike.{HasOtherPlainLines, HasOtherHiddenClass, HasOtherUnseenIncident, HasOtherRows, IsAlike}
 use Rattle.hub.specs.Replies.{reply_of}
 use Rattle.hub.specs.declared.key.Key.TheVariants.{Digest}

@@ -3,10 +3,10 @@ use Rattle.std.specs.Prelude.{◌⊎◌, ◌≤◌, ℕ, ◌+◌, Bool, true, fa
 use Rattle.circle.specs.declared.refusal.Code.{Code}
 use Rattle.circle.specs.declared.refusal.Code.TheVariants.{F1, F2}
 use Rattle.hub_core.specs.Shelves.{last_count}
-use Rattle.hub_core.specs.declared.reply.Reply.{Reply}
-use Rattle.hub_core.specs.declared.reply.Reply.TheVariants.{Refused}
-use Rattle.hub_core.specs.declared.shelf.ShelfFault.{ShelfFault}
-use Rattle.hub_core.specs.declared.shelf.ShelfFault.TheVariants.{NoMemory, Failed}
+use Rattle.hub_state.specs.declared.reply.Reply.{Reply}
+use Rattle.hub_state.specs.declared.reply.Reply.TheVariants.{Refused}
+use Rattle.hub_state.specs.declared.shelf.ShelfFault.{ShelfFault}
+use Rattle.hub_state.specs.declared.shelf.ShelfFault.TheVariants.{NoMemory, Failed}
 
 -- the code under which a shelf's fault is told
 abbrev pub code_told : ShelfFault → Code

@@ -5,9 +5,9 @@ use Rattle.circle.specs.declared.refusal.Code.TheVariants.{F1, F2}
 use Rattle.circle.specs.declared.directory.Person.{Person}
 use Rattle.hub_core.specs.State.{State}
 use Rattle.hub_core.specs.Refusals.{state_after}
-use Rattle.hub_core.specs.declared.reply.Reply.{Reply}
-use Rattle.hub_core.specs.declared.reply.Reply.TheVariants.{Refused}
-use Rattle.hub_core.specs.declared.request.Request.{Request}
+use Rattle.hub_state.specs.declared.reply.Reply.{Reply}
+use Rattle.hub_state.specs.declared.reply.Reply.TheVariants.{Refused}
+use Rattle.hub_state.specs.declared.request.Request.{Request}
 use Rattle.hub.specs.Replies.{caller_of, reply_of}
 use Rattle.hub.specs.declared.key.Key.{Key}
 

@@ -5,8 +5,8 @@ use Rattle.circle.specs.declared.refusal.Code.TheVariants.{F1}
 use Rattle.hub_core.specs.State.{State}
 use Rattle.hub_core.specs.Sound.{IsSound}
 use Rattle.hub_core.specs.Shelves.{HasFailed, KeepsContent}
-use Rattle.hub_core.specs.declared.reply.Reply.{Reply}
-use Rattle.hub_core.specs.declared.reply.Reply.TheVariants.{Refused}
+use Rattle.hub_state.specs.declared.reply.Reply.{Reply}
+use Rattle.hub_state.specs.declared.reply.Reply.TheVariants.{Refused}
 use Rattle.hub.specs.Machine.{Asked, IsStep, state_left}
 use Rattle.hub.specs.Serving.{is_made}
 use Rattle.hub.specs.Stops.{IsDueChange}

@@ -17,13 +17,13 @@ use Rattle.hub_core.specs.Requests.{known_of}
 use Rattle.hub_core.specs.Refusals.{refusal_of}
 use Rattle.hub_core.specs.Judgement.{next_revision}
 use Rattle.hub_core.specs.Reads.{person_by_key, entry_of, incidents_above, groups_of}
-use Rattle.hub_core.specs.declared.state.Incident.{Incident}
-use Rattle.hub_core.specs.declared.reply.Entry.{Entry}
-use Rattle.hub_core.specs.declared.reply.View.{View as ViewOf}
-use Rattle.hub_core.specs.declared.reply.Reply.{Reply}
-use Rattle.hub_core.specs.declared.reply.Reply.TheVariants.{Done, Numbers, Revision, View, Incidents, Groups, Caller, Trace, Refused}
-use Rattle.hub_core.specs.declared.request.Request.{Request}
-use Rattle.hub_core.specs.declared.request.Request.TheVariants as ask
+use Rattle.hub_state.specs.declared.state.Incident.{Incident}
+use Rattle.hub_state.specs.declared.reply.Entry.{Entry}
+use Rattle.hub_state.specs.declared.reply.View.{View as ViewOf}
+use Rattle.hub_state.specs.declared.reply.Reply.{Reply}
+use Rattle.hub_state.specs.declared.reply.Reply.TheVariants.{Done, Numbers, Revision, View, Incidents, Groups, Caller, Trace, Refused}
+use Rattle.hub_state.specs.declared.request.Request.{Request}
+use Rattle.hub_state.specs.declared.request.Request.TheVariants as ask
 use Rattle.hub.specs.declared.TheConstants.{PAGE_LIMIT}
 use Rattle.hub.specs.Told.{is_served, is_found, is_addressed, view_of, trace_of}
 use Rattle.hub.specs.declared.key.Key.{Key}

@@ -8,19 +8,19 @@ use Rattle.hub_core.specs.State.{State}
 use Rattle.hub_core.specs.Refusals.{refusal_of}
 use Rattle.hub_core.specs.Judgement.{next_revision}
 use Rattle.hub_core.specs.Laws.{is_reading}
-use Rattle.hub_core.specs.declared.edit.Edit.{Edit}
-use Rattle.hub_core.specs.declared.edit.Edit.TheVariants.{Directory, PutIncident}
-use Rattle.hub_core.specs.declared.facts.Facts.{Facts}
-use Rattle.hub_core.specs.declared.reply.Reply.{Reply}
-use Rattle.hub_core.specs.declared.reply.Reply.TheVariants.{Done, Numbers, Revision, Incidents}
-use Rattle.hub_core.specs.declared.request.Request.{Request}
-use Rattle.hub_core.specs.declared.request.Request.TheVariants as ask
-use Rattle.hub_core.specs.declared.request.Search.{Search}
-use Rattle.hub_core.specs.declared.shelf.ShelfFault.{ShelfFault}
-use Rattle.hub_core.specs.declared.shelf.ShelfFault.TheVariants.{Failed}
+use Rattle.hub_state.specs.declared.edit.Edit.{Edit}
+use Rattle.hub_state.specs.declared.edit.Edit.TheVariants.{Directory, PutIncident}
+use Rattle.hub_state.specs.declared.facts.Facts.{Facts}
+use Rattle.hub_state.specs.declared.reply.Reply.{Reply}
+use Rattle.hub_state.specs.declared.reply.Reply.TheVariants.{Done, Numbers, Revision, Incidents}
+use Rattle.hub_state.specs.declared.request.Request.{Request}
+use Rattle.hub_state.specs.declared.request.Request.TheVariants as ask
+use Rattle.hub_state.specs.declared.request.Search.{Search}
+use Rattle.hub_state.specs.declared.shelf.ShelfFault.{ShelfFault}
+use Rattle.hub_state.specs.declared.shelf.ShelfFault.TheVariants.{Failed}
 use Rattle.hub_core.specs.Shelves.{HasFailed}
 use Rattle.circle.specs.declared.refusal.Refusal.{Refusal}
-use Rattle.hub_core.specs.declared.state.Incident.{Incident}
+use Rattle.hub_state.specs.declared.state.Incident.{Incident}
 use Rattle.hub.specs.Told.{is_found}
 use Rattle.hub.specs.Replies.{page_of, refused_or, answer_to}
 

@@ -1,7 +1,7 @@
 -- What a stop may leave behind a request, and behind a list of requests.
 use Rattle.std.specs.Prelude.{◌≡◌, ◌⊎◌, Bool, false, List, [], ◌∷◌, Option, Some, IsTrue, if◌then◌else◌}
 use Rattle.hub_core.specs.State.{State}
-use Rattle.hub_core.specs.declared.reply.Reply.{Reply}
+use Rattle.hub_state.specs.declared.reply.Reply.{Reply}
 use Rattle.hub.specs.Machine.{Asked, state_left}
 use Rattle.hub.specs.Replies.{reply_of}
 use Rattle.hub.specs.Serving.{is_made}

@@ -6,7 +6,7 @@ ghost use Rattle.redact.specs.Excerpts.{told_by};
 ghost use Rattle.redact.specs.Wants.{meets};
 ghost use Rattle.hub_core.specs.Sound.{IsSound};
 ghost use Rattle.hub_core.specs.Reads.{case_for, served_of_incident};
-ghost use Rattle.hub_core.specs.declared.state.Incident.{Incident};
+ghost use Rattle.hub_state.specs.declared.state.Incident.{Incident};
 ghost use Rattle.circle.specs.Reads.{person_of};
 ghost use Rattle.hub.specs.Told.{standing_at};
 ghost use Rattle.hub.specs.inner.Explaining.{standing_between};

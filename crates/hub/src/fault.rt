@@ -1,7 +1,7 @@
 //! Why an answer is given up.
 ghost use Rattle.std.specs.Prelude.{◌≡◌, IfOk, IfErr, Ok};
 ghost use Rattle.circle.specs.Outcomes.{bare, no_memory};
-ghost use Rattle.hub_core.specs.declared.reply.Reply.TheVariants.{Refused};
+ghost use Rattle.hub_state.specs.declared.reply.Reply.TheVariants.{Refused};
 ghost use Rattle.hub.specs.Faults.{code_told};
 
 use hub_core::{Code, Refusal, Reply, ShelfFault};

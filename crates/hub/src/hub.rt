@@ -5,7 +5,7 @@ ghost use Rattle.circle.specs.declared.directory.Account.{Account};
 ghost use Rattle.circle.specs.declared.refusal.Code.TheVariants.{F1};
 ghost use Rattle.hub_core.specs.State.{State};
 ghost use Rattle.hub_core.specs.Sound.{IsSound};
-ghost use Rattle.hub_core.specs.declared.reply.Reply.TheVariants.{Refused};
+ghost use Rattle.hub_state.specs.declared.reply.Reply.TheVariants.{Refused};
 ghost use Rattle.hub_core.specs.Shelves.{HasFailed, KeepsContent};
 ghost use Rattle.hub.specs.Alike.{IsAlike, is_told};
 ghost use Rattle.hub.specs.Faults.{AreCounted, failures_told};

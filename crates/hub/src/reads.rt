@@ -3,11 +3,11 @@ ghost use Rattle.std.specs.Prelude.{◌≡◌, ◌&&◌, ◌||◌, not, Some, If
 ghost use Rattle.hub_core.specs.State.{State};
 ghost use Rattle.hub_core.specs.Sound.{IsSound};
 ghost use Rattle.hub_core.specs.Refusals.{refusal_of};
-ghost use Rattle.hub_core.specs.declared.reply.Reply.TheVariants.{Incidents, Refused};
+ghost use Rattle.hub_state.specs.declared.reply.Reply.TheVariants.{Incidents, Refused};
 ghost use Rattle.hub_core.specs.Reads as spec;
-ghost use Rattle.hub_core.specs.declared.reply.Reply.TheVariants.{Groups, View};
+ghost use Rattle.hub_state.specs.declared.reply.Reply.TheVariants.{Groups, View};
 ghost use Rattle.hub_core.specs.State.{incident_of};
-ghost use Rattle.hub_core.specs.declared.state.Incident.{Incident};
+ghost use Rattle.hub_state.specs.declared.state.Incident.{Incident};
 ghost use Rattle.hub.specs.Told.{is_served, is_addressed};
 ghost use Rattle.hub.specs.Replies.{page_of, viewed};
 ghost use Rattle.hub.specs.inner.PageFilter.{is_wanted};

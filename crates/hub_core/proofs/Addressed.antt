@@ -5,24 +5,24 @@ use Rattle.circle.specs.Ordered.{put_by}
 use Rattle.circle.specs.declared.directory.Person.{Person}
 use Rattle.circle.proofs.Judged.{passed}
 use Rattle.circle.proofs.Keeping.{each_put, each_left, each_weaker, pairs_left, order_put, none_of}
-use Rattle.hub_core.specs.declared.TheConstants.{RECIPIENT_LIMIT}
-use Rattle.hub_core.specs.Aftermath.{changed}
+use Rattle.hub_state.specs.declared.TheConstants.{RECIPIENT_LIMIT}
+use Rattle.hub_state.specs.Aftermath.{changed}
 use Rattle.hub_core.specs.Refusals.{refusal_of}
 use Rattle.hub_core.specs.Judgement.{grounds_by}
-use Rattle.hub_core.specs.Requests.{is_target}
-use Rattle.hub_core.specs.Facts.{facts_of, recipients_then}
-use Rattle.hub_core.specs.Sound.{IsSound, SoundRecipients}
-use Rattle.hub_core.specs.State.{State, recipient_cmp, recipients_of, is_recipient_being}
-use Rattle.hub_core.specs.declared.request.Request.TheVariants as ask
-use Rattle.hub_core.specs.declared.request.Address.{Address}
-use Rattle.hub_core.specs.declared.request.Unaddress.{Unaddress}
-use Rattle.hub_core.specs.declared.state.Recipient.{Recipient}
-use Rattle.hub_core.specs.Orders.{recipient_total}
+use Rattle.hub_state.specs.Requests.{is_target}
+use Rattle.hub_state.specs.Facts.{facts_of, recipients_then}
+use Rattle.hub_state.specs.Sound.{IsSound, SoundRecipients}
+use Rattle.hub_state.specs.State.{State, recipient_cmp, recipients_of, is_recipient_being}
+use Rattle.hub_state.specs.declared.request.Request.TheVariants as ask
+use Rattle.hub_state.specs.declared.request.Address.{Address}
+use Rattle.hub_state.specs.declared.request.Unaddress.{Unaddress}
+use Rattle.hub_state.specs.declared.state.Recipient.{Recipient}
+use Rattle.hub_state.specs.Orders.{recipient_total}
 use Rattle.hub_core.proofs.Agrees.{agrees}
-use Rattle.hub_core.proofs.Keys.{apart_recipient}
+use Rattle.hub_state.proofs.Keys.{apart_recipient}
 use Rattle.hub_core.proofs.Named.{own, is_incident, counted_is, target_is}
 use Rattle.hub_core.proofs.Limits.{limit_put}
-use Rattle.hub_core.proofs.Keeping.{count_left, at_most, none_taken}
+use Rattle.hub_state.proofs.Keeping.{count_left, at_most, none_taken}
 
 with_recipients : (s : State) (rows : List Recipient) → IsSound s → SoundRecipients s.directory s.incidents rows → IsSound (record s { recipients = rows })
 with_recipients s rows h new = record { directory = h.directory; incidents = h.incidents; gates = h.gates; recipients = new; permissions = h.permissions }

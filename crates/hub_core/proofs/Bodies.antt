@@ -17,18 +17,18 @@ use Rattle.circle.specs.Sound as circle
 use Rattle.circle.specs.Sound.{Each}
 use Rattle.circle.specs.declared.directory.Person.{Person}
 use Rattle.circle.proofs.Keeping.{each_weaker, none_of}
-use Rattle.hub_core.specs.declared.TheConstants.{GATE_LIMIT}
-use Rattle.hub_core.specs.Documents.{Lines, documents_of, documents_in, fault_of, fault_in, ident_of, is_class_in, at_pointer, bad_marking, bad_marking_from, marking_told}
-use Rattle.hub_core.specs.Requests.{has_joined_all}
+use Rattle.hub_state.specs.declared.TheConstants.{GATE_LIMIT}
+use Rattle.hub_state.specs.Documents.{Lines, documents_of, documents_in, fault_of, fault_in, ident_of, is_class_in, at_pointer, bad_marking, bad_marking_from, marking_told}
+use Rattle.hub_state.specs.Requests.{has_joined_all}
 use Rattle.hub_core.specs.Refusals.{is_bad_gate, is_bad_pointer, is_bad_level, is_bad_group, are_bad_gates, stands_twice, stand_at_classes}
-use Rattle.hub_core.specs.Facts.{first_number, posted_in, number_of}
-use Rattle.hub_core.specs.State.{State, incident_named}
-use Rattle.hub_core.specs.declared.request.Distribution.{Distribution}
-use Rattle.hub_core.specs.declared.request.WantedGate.{WantedGate}
-use Rattle.hub_core.specs.declared.state.Incident.{Incident}
+use Rattle.hub_state.specs.Facts.{first_number, posted_in, number_of}
+use Rattle.hub_state.specs.State.{State, incident_named}
+use Rattle.hub_state.specs.declared.request.Distribution.{Distribution}
+use Rattle.hub_state.specs.declared.request.WantedGate.{WantedGate}
+use Rattle.hub_state.specs.declared.state.Incident.{Incident}
 use Rattle.hub_core.proofs.Named.{all_there}
 use Rattle.hub_core.proofs.Posted.{Wishes, IsFit, IsNew, StandAtClasses}
-use Rattle.hub_core.proofs.Keeping.{all_each}
+use Rattle.hub_state.proofs.Keeping.{all_each}
 
 -- ---- the documents
 

@@ -21,42 +21,43 @@ use Rattle.circle.specs.Reads.{person_in}
 use Rattle.circle.specs.declared.directory.Account.{Account}
 use Rattle.circle.specs.declared.directory.Person.{Person}
 use Rattle.circle.specs.declared.refusal.Code.TheVariants.{L1, S1, S3}
-use Rattle.hub_core.specs.declared.TheConstants.{REVISION_LIMIT, GATE_LIMIT, RECIPIENT_LIMIT, PERMISSION_LIMIT}
-use Rattle.hub_core.specs.Aftermath.{changed, edits_of, next_row, put_gate, put_gates, put_next, put_permission, put_revised, put_revision}
-use Rattle.hub_core.specs.Documents.{Lines, documents_in, ident_of, is_class_in, at_pointer}
-use Rattle.hub_core.specs.Edits.{with_edits}
-use Rattle.hub_core.specs.Facts.{facts_of, first_number, posted_in, number_of, counted, gates_then, recipients_then, permissions_then}
+use Rattle.hub_state.specs.declared.TheConstants.{REVISION_LIMIT, GATE_LIMIT, RECIPIENT_LIMIT, PERMISSION_LIMIT}
+use Rattle.hub_state.specs.Aftermath.{changed, edits_of, next_row, put_gate, put_gates, put_next, put_permission, put_revised, put_revision}
+use Rattle.hub_state.specs.Documents.{Lines, documents_in, ident_of, is_class_in, at_pointer}
+use Rattle.hub_state.specs.Edits.{with_edits}
+use Rattle.hub_state.specs.Facts.{facts_of, first_number, posted_in, number_of, counted, gates_then, recipients_then, permissions_then}
 use Rattle.hub_core.specs.Judgement.{grounds_by, other_revision, next_revision, unless_own, keep_ident}
 use Rattle.hub_core.specs.Refusals as rows
 use Rattle.hub_core.specs.Refusals.{grounds, because, not_for_you, no_class_unless, over, over_at, other_than, given, first_of, numbers_under, holds_of, row_of, unless_ours, unless_joined, is_in_group, is_in_community, groups_given, is_recipient_there, is_grantee_there, is_addressed_to, is_granted_at, stands_gate, gates_with, recipients_with, permissions_with}
-use Rattle.hub_core.specs.Requests.{incident_facts, is_own_community, is_own_group, has_joined_all, is_target, is_grantee, is_active}
-use Rattle.hub_core.specs.State.{State, gate_cmp, recipient_cmp, permission_cmp, gate_with, permission_with, incident_of, incident_named, is_gate_at, is_recipient_being, is_permission_being, same_group, has_gate, class_gates, recipients_of, permissions_of}
-use Rattle.hub_core.specs.declared.edit.Edit.{Edit}
-use Rattle.hub_core.specs.declared.edit.Edit.TheVariants.{PutIncident, TakeGate, TakeIncident, TakePolicy}
-use Rattle.hub_core.specs.declared.facts.IncidentFacts.{IncidentFacts}
-use Rattle.hub_core.specs.declared.request.Address.{Address}
-use Rattle.hub_core.specs.declared.request.Distribution.{Distribution}
-use Rattle.hub_core.specs.declared.request.Explain.{Explain}
-use Rattle.hub_core.specs.declared.request.Grant.{Grant}
-use Rattle.hub_core.specs.declared.request.Post.{Post}
-use Rattle.hub_core.specs.declared.request.Redistribute.{Redistribute}
-use Rattle.hub_core.specs.declared.request.Replace.{Replace}
-use Rattle.hub_core.specs.declared.request.Request.TheVariants as ask
-use Rattle.hub_core.specs.declared.request.Target.{Target}
-use Rattle.hub_core.specs.declared.request.Target.TheVariants as target
-use Rattle.hub_core.specs.declared.request.Unaddress.{Unaddress}
-use Rattle.hub_core.specs.declared.request.WantedGate.{WantedGate}
-use Rattle.hub_core.specs.declared.request.Withdraw.{Withdraw}
-use Rattle.hub_core.specs.declared.state.Gate.{Gate}
-use Rattle.hub_core.specs.declared.state.GateKey.{GateKey}
-use Rattle.hub_core.specs.declared.state.Incident.{Incident}
-use Rattle.hub_core.specs.declared.state.Permission.{Permission}
-use Rattle.hub_core.specs.declared.state.PermissionKey.{PermissionKey}
-use Rattle.hub_core.specs.declared.state.Recipient.{Recipient}
-use Rattle.hub_core.proofs.Counted.{any_same, at_same, count_agree, count_filter}
-use Rattle.hub_core.proofs.Indexing.{and_and}
-use Rattle.hub_core.proofs.Keeping.{count_put, found_is}
+use Rattle.hub_state.specs.Requests.{incident_facts, is_own_community, is_own_group, has_joined_all, is_target, is_grantee, is_active}
+use Rattle.hub_state.specs.State.{State, gate_cmp, recipient_cmp, permission_cmp, gate_with, permission_with, incident_of, incident_named, is_gate_at, is_recipient_being, is_permission_being, same_group, has_gate, class_gates, recipients_of, permissions_of}
+use Rattle.hub_state.specs.declared.edit.Edit.{Edit}
+use Rattle.hub_state.specs.declared.edit.Edit.TheVariants.{PutIncident, TakeGate, TakeIncident, TakePolicy}
+use Rattle.hub_state.specs.declared.facts.IncidentFacts.{IncidentFacts}
+use Rattle.hub_state.specs.declared.request.Address.{Address}
+use Rattle.hub_state.specs.declared.request.Distribution.{Distribution}
+use Rattle.hub_state.specs.declared.request.Explain.{Explain}
+use Rattle.hub_state.specs.declared.request.Grant.{Grant}
+use Rattle.hub_state.specs.declared.request.Post.{Post}
+use Rattle.hub_state.specs.declared.request.Redistribute.{Redistribute}
+use Rattle.hub_state.specs.declared.request.Replace.{Replace}
+use Rattle.hub_state.specs.declared.request.Request.TheVariants as ask
+use Rattle.hub_state.specs.declared.request.Target.{Target}
+use Rattle.hub_state.specs.declared.request.Target.TheVariants as target
+use Rattle.hub_state.specs.declared.request.Unaddress.{Unaddress}
+use Rattle.hub_state.specs.declared.request.WantedGate.{WantedGate}
+use Rattle.hub_state.specs.declared.request.Withdraw.{Withdraw}
+use Rattle.hub_state.specs.declared.state.Gate.{Gate}
+use Rattle.hub_state.specs.declared.state.GateKey.{GateKey}
+use Rattle.hub_state.specs.declared.state.Incident.{Incident}
+use Rattle.hub_state.specs.declared.state.Permission.{Permission}
+use Rattle.hub_state.specs.declared.state.PermissionKey.{PermissionKey}
+use Rattle.hub_state.specs.declared.state.Recipient.{Recipient}
+use Rattle.hub_state.proofs.Counted.{any_same, at_same, count_agree, count_filter}
+use Rattle.hub_state.proofs.Indexing.{and_and}
+use Rattle.hub_state.proofs.Keeping.{count_put, found_is}
 use Rattle.hub_core.proofs.Named.{map_or_map, of_document}
+pub use Rattle.hub_state.proofs.Then.{replace_edits}
 
 -- ---- grounds one by one
 
@@ -423,18 +424,3 @@ explain s a r =
     (refl, λ _. (refl, λ _. (ap not_for_you (none_is (incident_of n s)), λ _. (ap unknown_unless (active_there s r.person), λ _. (class_at s n r.path, λ _. tt)))))
 
 -- ---- what is changed
-
-revision_same : (community : Option ℕ) (n : ℕ) (docs : List Lines) (i : Incident) → i.naming.number ≡ n → put_revised community docs i ≡ put_revision n (incident_facts i) community docs
-revision_same community n [] i is = refl
-revision_same community n (doc ∷ docs) i is = ap (λ m. TakeIncident m ∷ PutIncident (next_row m (incident_facts i) community doc) ∷ []) is
-
-next_same : (community : Option ℕ) (n : ℕ) (docs : List Lines) (o : Option Incident) → ((i : Incident) → o ≡ Some i → i.naming.number ≡ n) →
-    option_map_or (put_revised community docs) o [] ≡ put_next n (option_map incident_facts o) community docs
-next_same community n docs None number = refl
-next_same community n docs (Some i) number = revision_same community n docs i (number i refl)
-
--- an exchange by the rows is one by the facts
-pub replace_edits : (s : State) (a : Person) (r : Replace) → edits_of s a (ask.Replace r) ≡ put_next r.incident (option_map incident_facts (incident_of r.incident s)) r.distribution.community (documents_in r.document) ++ TakePolicy r.incident ∷ put_gates r.incident r.distribution
-replace_edits s a r = ap (λ (edits : List Edit). edits ++ TakePolicy r.incident ∷ put_gates r.incident r.distribution)
-    (next_same r.distribution.community r.incident (documents_in r.document) (incident_of r.incident s)
-    (λ i is. eqb-true i.naming.number r.incident (found_is (λ (i : Incident). i.naming.number == r.incident) s.incidents i is)))

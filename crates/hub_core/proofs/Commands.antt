@@ -3,9 +3,9 @@ use Rattle.std.proofs.Common.{◌≡◌, map, refl}
 use Rattle.circle.specs.Aftermath.{rows_of, edited}
 use Rattle.circle.specs.declared.command.Edit.{Edit as Change}
 use Rattle.circle.specs.declared.command.Edit.TheVariants.{Row, Found}
-use Rattle.hub_core.specs.State.{State}
-use Rattle.hub_core.specs.Edits.{with_edits}
-use Rattle.hub_core.specs.declared.edit.Edit.TheVariants as edit
+use Rattle.hub_state.specs.State.{State}
+use Rattle.hub_state.specs.Edits.{with_edits}
+use Rattle.hub_state.specs.declared.edit.Edit.TheVariants as edit
 
 pub rows_make : (change : Change) (s : State) → with_edits (map edit.Directory (rows_of change)) s ≡ record s { directory = edited change s.directory }
 rows_make (Row row) s = refl

@@ -12,19 +12,19 @@ use Rattle.circle.specs.Sound.{Each, CountsFrom, IsOrg}
 use Rattle.circle.specs.Directory.{Directory}
 use Rattle.circle.proofs.Keeping.{each_put, each_left, each_weaker, each_map, pairs_left, numbered_map, differ_map, names_map}
 use Rattle.circle.proofs.Kept.{same_when}
-use Rattle.hub_core.specs.declared.TheConstants.{INCIDENT_LIMIT, REVISION_LIMIT, GATE_LIMIT, RECIPIENT_LIMIT, PERMISSION_LIMIT}
-use Rattle.hub_core.specs.Requests.{incident_facts}
-use Rattle.hub_core.specs.Aftermath.{next_row}
-use Rattle.hub_core.specs.Documents.{Lines, is_class_in}
-use Rattle.hub_core.specs.Sound.{IsSound, SoundIncidents, SoundRecipients, SoundPermissions, IsAccepted, IsIncident, IsCommunityIfAny}
-use Rattle.hub_core.specs.State.{State, incident_number, incident_in, incident_of, root_gates, class_gates, recipients_of, permissions_of}
-use Rattle.hub_core.specs.declared.request.Distribution.{Distribution}
-use Rattle.hub_core.specs.declared.state.Incident.{Incident}
-use Rattle.hub_core.specs.declared.state.Gate.{Gate}
-use Rattle.hub_core.specs.declared.state.Permission.{Permission}
+use Rattle.hub_state.specs.declared.TheConstants.{INCIDENT_LIMIT, REVISION_LIMIT, GATE_LIMIT, RECIPIENT_LIMIT, PERMISSION_LIMIT}
+use Rattle.hub_state.specs.Requests.{incident_facts}
+use Rattle.hub_state.specs.Aftermath.{next_row}
+use Rattle.hub_state.specs.Documents.{Lines, is_class_in}
+use Rattle.hub_state.specs.Sound.{IsSound, SoundIncidents, SoundRecipients, SoundPermissions, IsAccepted, IsIncident, IsCommunityIfAny}
+use Rattle.hub_state.specs.State.{State, incident_number, incident_in, incident_of, root_gates, class_gates, recipients_of, permissions_of}
+use Rattle.hub_state.specs.declared.request.Distribution.{Distribution}
+use Rattle.hub_state.specs.declared.state.Incident.{Incident}
+use Rattle.hub_state.specs.declared.state.Gate.{Gate}
+use Rattle.hub_state.specs.declared.state.Permission.{Permission}
 use Rattle.hub_core.proofs.Gated.{IsBeside, put_all, given}
 use Rattle.hub_core.proofs.Posted.{Wishes, StandAtClasses, wanted_at}
-use Rattle.hub_core.proofs.Keeping.{never, numbers_above, not_both, turned, found_each, find_put, find_new, find_left, each_passed, each_passes, count_kept, count_left, at_most}
+use Rattle.hub_state.proofs.Keeping.{never, numbers_above, not_both, turned, found_each, find_put, find_new, find_left, each_passed, each_passes, count_kept, count_left, at_most}
 
 -- ---- a row taken out and put in again is one exchanged
 

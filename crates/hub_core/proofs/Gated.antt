@@ -12,21 +12,22 @@ use Rattle.circle.specs.Ordered.{put_by}
 use Rattle.circle.specs.Sound.{Each, Pairwise}
 use Rattle.circle.specs.declared.directory.Group.{Group}
 use Rattle.circle.proofs.Keeping.{each_put, each_weaker, order_put}
-use Rattle.hub_core.specs.declared.TheConstants.{GATE_LIMIT}
-use Rattle.hub_core.specs.Aftermath.{put_gate, put_gates}
-use Rattle.hub_core.specs.Documents.{at_pointer, made_at, is_class_in}
-use Rattle.hub_core.specs.Edits.{with_edits}
+use Rattle.hub_state.specs.declared.TheConstants.{GATE_LIMIT}
+use Rattle.hub_state.specs.Aftermath.{put_gate, put_gates}
+use Rattle.hub_state.specs.Documents.{at_pointer, made_at, is_class_in}
+use Rattle.hub_state.specs.Edits.{with_edits}
 use Rattle.hub_core.specs.Refusals.{stands_twice}
-use Rattle.hub_core.specs.Sound.{SoundGates, IsGroupIfAny}
-use Rattle.hub_core.specs.State.{State, gate_cmp, incident_in, is_class_of, is_place_of, root_gates, class_gates}
-use Rattle.hub_core.specs.declared.edit.Edit.{Edit}
-use Rattle.hub_core.specs.declared.request.Distribution.{Distribution}
-use Rattle.hub_core.specs.declared.request.WantedGate.{WantedGate}
-use Rattle.hub_core.specs.declared.state.Gate.{Gate}
-use Rattle.hub_core.specs.declared.state.Incident.{Incident}
-use Rattle.hub_core.specs.Orders.{gate_total}
-use Rattle.hub_core.proofs.Keys.{apart_gate, apart_text}
-use Rattle.hub_core.proofs.Keeping.{never, count_more, count_same, count_none, count_next, each_both}
+use Rattle.hub_state.specs.Sound.{SoundGates, IsGroupIfAny}
+use Rattle.hub_state.specs.State.{State, gate_cmp, incident_in, is_class_of, is_place_of, root_gates, class_gates}
+use Rattle.hub_state.specs.declared.edit.Edit.{Edit}
+use Rattle.hub_state.specs.declared.request.Distribution.{Distribution}
+use Rattle.hub_state.specs.declared.request.WantedGate.{WantedGate}
+use Rattle.hub_state.specs.declared.state.Gate.{Gate}
+use Rattle.hub_state.specs.declared.state.Incident.{Incident}
+use Rattle.hub_state.specs.Orders.{gate_total}
+use Rattle.hub_state.proofs.Keys.{apart_gate, apart_text}
+use Rattle.hub_state.proofs.Keeping.{never, count_more, count_same, count_none, count_next, each_both}
+pub use Rattle.hub_state.proofs.Then.{after_append}
 
 -- ---- what the edits make of the gates
 
@@ -36,10 +37,6 @@ put_wanted n (w ∷ ws) gates = put_wanted n ws (option_map_or (λ p. put_by gat
 
 abbrev pub put_all : ℕ → Distribution → List Gate → List Gate
 put_all n d gates = put_wanted n d.gates (put_by gate_cmp (record { incident = n; gate = record { path = []; level = d.level; group = d.group } }) gates)
-
-pub after_append : (xs ys : List Edit) (s : State) → with_edits (xs ++ ys) s ≡ with_edits ys (with_edits xs s)
-after_append [] ys s = refl
-after_append (x ∷ xs) ys s = after_append xs ys (with_edits (x ∷ []) s)
 
 after_wanted : (n : ℕ) (wanted : List WantedGate) (s : State) → with_edits (flat_map (λ (g : WantedGate). made_at (put_gate n g.level g.group) g.path) wanted) s ≡ record s { gates = put_wanted n wanted s.gates }
 after_wanted n [] s = refl

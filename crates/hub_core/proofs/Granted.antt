@@ -1,6 +1,6 @@
 -- A permission more or less leaves a sound state.
 use Rattle.std.proofs.Common.{◌≡◌, ℕ, ◌≤◌, ◌==◌, Bool, not, List, [], ◌∷◌, filter, Option, Some, None, true, false, subst, sym, ◌∙◌}
-use Rattle.hub_core.specs.declared.state.Incident.{Incident}
+use Rattle.hub_state.specs.declared.state.Incident.{Incident}
 use Rattle.std.specs.Prelude.{ℤ, option_map}
 use Rattle.std.proofs.lemmas.Bool.{ltb-false, not-false, not-true}
 use Rattle.std.specs.Option.{option_map_or}
@@ -11,28 +11,28 @@ use Rattle.circle.specs.Sound.{Each}
 use Rattle.circle.specs.declared.directory.Person.{Person}
 use Rattle.circle.proofs.Judged.{passed}
 use Rattle.circle.proofs.Keeping.{each_put, each_left, each_weaker, pairs_left, order_put}
-use Rattle.hub_core.specs.declared.TheConstants.{PERMISSION_LIMIT}
-use Rattle.hub_core.specs.Aftermath.{changed, put_permission}
-use Rattle.hub_core.specs.Documents.{at_pointer, is_class_in}
-use Rattle.hub_core.specs.Edits.{with_edits}
+use Rattle.hub_state.specs.declared.TheConstants.{PERMISSION_LIMIT}
+use Rattle.hub_state.specs.Aftermath.{changed, put_permission}
+use Rattle.hub_state.specs.Documents.{at_pointer, is_class_in}
+use Rattle.hub_state.specs.Edits.{with_edits}
 use Rattle.hub_core.specs.Refusals.{refusal_of}
 use Rattle.hub_core.specs.Judgement.{grounds_by, is_class_at}
-use Rattle.hub_core.specs.Requests.{is_grantee}
-use Rattle.hub_core.specs.Facts.{facts_of, permissions_then}
-use Rattle.hub_core.specs.Sound.{IsSound, SoundPermissions, IsGrantee}
-use Rattle.hub_core.specs.State.{State, permission_cmp, permission_with, permissions_of, is_permission_being, is_class_of, incident_of}
-use Rattle.hub_core.specs.declared.edit.Edit.TheVariants.{TakePermission}
-use Rattle.hub_core.specs.declared.request.Grant.{Grant}
-use Rattle.hub_core.specs.declared.request.Request.TheVariants as ask
-use Rattle.hub_core.specs.declared.request.Withdraw.{Withdraw}
-use Rattle.hub_core.specs.declared.state.Permission.{Permission}
-use Rattle.hub_core.specs.declared.state.PermissionKey.{PermissionKey}
-use Rattle.hub_core.specs.Orders.{permission_total}
+use Rattle.hub_state.specs.Requests.{is_grantee}
+use Rattle.hub_state.specs.Facts.{facts_of, permissions_then}
+use Rattle.hub_state.specs.Sound.{IsSound, SoundPermissions, IsGrantee}
+use Rattle.hub_state.specs.State.{State, permission_cmp, permission_with, permissions_of, is_permission_being, is_class_of, incident_of}
+use Rattle.hub_state.specs.declared.edit.Edit.TheVariants.{TakePermission}
+use Rattle.hub_state.specs.declared.request.Grant.{Grant}
+use Rattle.hub_state.specs.declared.request.Request.TheVariants as ask
+use Rattle.hub_state.specs.declared.request.Withdraw.{Withdraw}
+use Rattle.hub_state.specs.declared.state.Permission.{Permission}
+use Rattle.hub_state.specs.declared.state.PermissionKey.{PermissionKey}
+use Rattle.hub_state.specs.Orders.{permission_total}
 use Rattle.hub_core.proofs.Agrees.{agrees}
-use Rattle.hub_core.proofs.Keys.{apart_permission}
+use Rattle.hub_state.proofs.Keys.{apart_permission}
 use Rattle.hub_core.proofs.Named.{own, counted_is, grantee_is, of_document}
 use Rattle.hub_core.proofs.Limits.{limit_put}
-use Rattle.hub_core.proofs.Keeping.{count_left, at_most, each_passes}
+use Rattle.hub_state.proofs.Keeping.{count_left, at_most, each_passes}
 
 with_permissions : (s : State) (rows : List Permission) → IsSound s → SoundPermissions s.directory s.incidents rows → IsSound (record s { permissions = rows })
 with_permissions s rows h new = record { directory = h.directory; incidents = h.incidents; gates = h.gates; recipients = h.recipients; permissions = new }

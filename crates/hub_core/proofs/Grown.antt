@@ -13,13 +13,13 @@ use Rattle.circle.specs.declared.directory.Person.{Person}
 use Rattle.circle.proofs.Growth.{grows}
 use Rattle.circle.proofs.Keeping.{each_weaker}
 use Rattle.circle.proofs.Kept as kept
-use Rattle.hub_core.specs.Aftermath.{changed}
+use Rattle.hub_state.specs.Aftermath.{changed}
 use Rattle.hub_core.specs.Refusals.{refusal_of}
-use Rattle.hub_core.specs.Sound.{IsSound, IsTarget, IsGrantee, IsCommunityIfAny, IsGroupIfAny}
-use Rattle.hub_core.specs.State.{State}
-use Rattle.hub_core.specs.declared.request.Request.TheVariants as ask
-use Rattle.hub_core.specs.declared.request.Target.{Target}
-use Rattle.hub_core.specs.declared.request.Target.TheVariants as target
+use Rattle.hub_state.specs.Sound.{IsSound, IsTarget, IsGrantee, IsCommunityIfAny, IsGroupIfAny}
+use Rattle.hub_state.specs.State.{State}
+use Rattle.hub_state.specs.declared.request.Request.TheVariants as ask
+use Rattle.hub_state.specs.declared.request.Target.{Target}
+use Rattle.hub_state.specs.declared.request.Target.TheVariants as target
 use Rattle.hub_core.proofs.Commands.{rows_make}
 
 community_stays : (d e : Directory) → Grows d e → (community : Option ℕ) → IsCommunityIfAny d.communities community → IsCommunityIfAny e.communities community

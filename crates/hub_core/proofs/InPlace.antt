@@ -6,17 +6,17 @@ use Rattle.std.specs.Option.{option_map_or}
 use Rattle.iodef_tree.specs.Text.{Tokens}
 use Rattle.iodef_tree.specs.Pointer.{pointer_tokens}
 use Rattle.policy.specs.declared.permission.Grantee.{Grantee}
-use Rattle.hub_core.specs.declared.TheConstants.{PERMISSION_LIMIT}
-use Rattle.hub_core.specs.Aftermath.{changed, put_permission}
-use Rattle.hub_core.specs.Edits.{with_edits}
+use Rattle.hub_state.specs.declared.TheConstants.{PERMISSION_LIMIT}
+use Rattle.hub_state.specs.Aftermath.{changed, put_permission}
+use Rattle.hub_state.specs.Edits.{with_edits}
 use Rattle.hub_core.specs.Laws.{GrantsInPlaceMeetNoLimit}
-use Rattle.hub_core.specs.Sound.{IsSound}
-use Rattle.hub_core.specs.State.{State, has_permission, incident_of, is_permission_being, permission_cmp, permission_with, permissions_of}
-use Rattle.hub_core.specs.declared.request.Request.TheVariants as ask
-use Rattle.hub_core.specs.declared.state.Permission.{Permission}
-use Rattle.hub_core.specs.declared.state.PermissionKey.{PermissionKey}
-use Rattle.hub_core.proofs.Bounded.{few_permissions}
-use Rattle.hub_core.proofs.Keeping.{count_fewer, count_more}
+use Rattle.hub_state.specs.Sound.{IsSound}
+use Rattle.hub_state.specs.State.{State, has_permission, incident_of, is_permission_being, permission_cmp, permission_with, permissions_of}
+use Rattle.hub_state.specs.declared.request.Request.TheVariants as ask
+use Rattle.hub_state.specs.declared.state.Permission.{Permission}
+use Rattle.hub_state.specs.declared.state.PermissionKey.{PermissionKey}
+use Rattle.hub_state.proofs.Bounded.{few_permissions}
+use Rattle.hub_state.proofs.Keeping.{count_fewer, count_more}
 
 in_place : (s : State) (n : ℕ) (o : Option Tokens) (grantee : Grantee) (until : Option ℤ) → IsSound s → option_map_or (λ p. has_permission (record { incident = n; path = p; grantee = grantee }) s) o false ≡ true →
     permissions_of n (with_edits (option_map_or (λ p. put_permission (record { incident = n; path = p; grantee = grantee }) until) o []) s).permissions ≤ PERMISSION_LIMIT

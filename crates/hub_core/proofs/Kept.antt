@@ -12,25 +12,25 @@ use Rattle.circle.specs.Sound.{Each, IsOrg}
 use Rattle.circle.specs.declared.refusal.Refusal.{Refusal}
 use Rattle.circle.specs.declared.directory.Person.{Person}
 use Rattle.circle.proofs.Judged.{passed, next_number}
-use Rattle.hub_core.specs.declared.TheConstants.{INCIDENT_LIMIT, REVISION_LIMIT, GATE_LIMIT}
-use Rattle.hub_core.specs.Aftermath.{changed, next_incident, put_gates, put_next, put_revision}
-use Rattle.hub_core.specs.Documents.{Lines, documents_in, ident_of}
-use Rattle.hub_core.specs.Edits.{with_edits}
+use Rattle.hub_state.specs.declared.TheConstants.{INCIDENT_LIMIT, REVISION_LIMIT, GATE_LIMIT}
+use Rattle.hub_state.specs.Aftermath.{changed, next_incident, put_gates, put_next, put_revision}
+use Rattle.hub_state.specs.Documents.{Lines, documents_in, ident_of}
+use Rattle.hub_state.specs.Edits.{with_edits}
 use Rattle.hub_core.specs.Refusals.{refusal_of, are_bad_gates, has_several, has_some, stand_at_classes, unless_refused}
 use Rattle.hub_core.specs.Judgement.{grounds_by, keep_ident, next_revision}
-use Rattle.hub_core.specs.Requests.{incident_facts, has_joined_all}
-use Rattle.hub_core.specs.Facts.{facts_of, number_of}
+use Rattle.hub_state.specs.Requests.{incident_facts, has_joined_all}
+use Rattle.hub_state.specs.Facts.{facts_of, number_of}
 use Rattle.hub_core.specs.Laws.{StaysSound}
-use Rattle.hub_core.specs.Sound.{IsSound}
-use Rattle.hub_core.specs.State.{State, incident_number, incident_of}
-use Rattle.hub_core.specs.declared.edit.Edit.{Edit}
-use Rattle.hub_core.specs.declared.edit.Edit.TheVariants.{TakePolicy}
-use Rattle.hub_core.specs.declared.request.Request.{Request}
-use Rattle.hub_core.specs.declared.request.Request.TheVariants as ask
-use Rattle.hub_core.specs.declared.request.Distribution.{Distribution}
-use Rattle.hub_core.specs.declared.request.Post.{Post}
-use Rattle.hub_core.specs.declared.request.Replace.{Replace}
-use Rattle.hub_core.specs.declared.state.Incident.{Incident}
+use Rattle.hub_state.specs.Sound.{IsSound}
+use Rattle.hub_state.specs.State.{State, incident_number, incident_of}
+use Rattle.hub_state.specs.declared.edit.Edit.{Edit}
+use Rattle.hub_state.specs.declared.edit.Edit.TheVariants.{TakePolicy}
+use Rattle.hub_state.specs.declared.request.Request.{Request}
+use Rattle.hub_state.specs.declared.request.Request.TheVariants as ask
+use Rattle.hub_state.specs.declared.request.Distribution.{Distribution}
+use Rattle.hub_state.specs.declared.request.Post.{Post}
+use Rattle.hub_state.specs.declared.request.Replace.{Replace}
+use Rattle.hub_state.specs.declared.state.Incident.{Incident}
 use Rattle.hub_core.proofs.Agrees.{agrees}
 use Rattle.hub_core.proofs.Addressed.{address_kept, unaddress_kept}
 use Rattle.hub_core.proofs.Bodies.{body_read, fit, not_posted, wishes}
@@ -42,7 +42,7 @@ use Rattle.hub_core.proofs.Grown.{directory_kept}
 use Rattle.hub_core.proofs.Named.{own, counted_is}
 use Rattle.hub_core.proofs.Posted.{IsFit, posted}
 use Rattle.hub_core.proofs.Redistributed.{redistribute_kept}
-use Rattle.hub_core.proofs.Keeping.{all_each}
+use Rattle.hub_state.proofs.Keeping.{all_each}
 
 post_kept : (s : State) (a : Person) (r : Post) → IsSound s → IsOrg s.directory.orgs a.org → refusal_of s a (ask.Post r) ≡ None → IsSound (changed s a (ask.Post r))
 post_kept s a r h known fine =

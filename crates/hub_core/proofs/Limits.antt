@@ -6,8 +6,8 @@ use Rattle.std.specs.declared.cmp.Ordering.{Ordering}
 use Rattle.circle.specs.Ordered.{put_by}
 use Rattle.circle.specs.Sound.{Each}
 use Rattle.circle.proofs.Keeping.{each_weaker}
-use Rattle.hub_core.specs.declared.state.Incident.{Incident}
-use Rattle.hub_core.proofs.Keeping.{count_same}
+use Rattle.hub_state.specs.declared.state.Incident.{Incident}
+use Rattle.hub_state.proofs.Keeping.{count_same}
 
 still_within : {X : Type 0} (number : X → ℕ) (cmp : X → X → Ordering) (limit : ℕ) (x : X) (xs : List X) (n : ℕ) →
     count_by (λ y. number y == number x) (put_by cmp x xs) ≤ limit → count_by (λ y. number y == n) xs ≤ limit → count_by (λ y. number y == n) (put_by cmp x xs) ≤ limit

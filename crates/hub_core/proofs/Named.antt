@@ -13,18 +13,19 @@ use Rattle.circle.specs.Sound.{Each, IsCommunity, IsGroup}
 use Rattle.circle.specs.declared.directory.Person.{Person}
 use Rattle.circle.proofs.Keeping.{found_then, each_weaker}
 use Rattle.hub_core.specs.Judgement.{is_own}
-use Rattle.hub_core.specs.Requests.{incident_facts, is_own_community, is_own_group, are_own_groups, has_joined_all, is_target, is_grantee}
-use Rattle.hub_core.specs.Facts.{counted}
-use Rattle.hub_core.specs.Documents.{Lines, at_pointer}
-use Rattle.hub_core.specs.Sound.{IsIncident, IsTarget, IsGrantee, IsCommunityIfAny, IsGroupIfAny}
-use Rattle.hub_core.specs.State.{State, incident_of}
-use Rattle.hub_core.specs.declared.request.Distribution.{Distribution}
-use Rattle.hub_core.specs.declared.request.Target.{Target}
-use Rattle.hub_core.specs.declared.request.Target.TheVariants as target
-use Rattle.hub_core.specs.declared.request.WantedGate.{WantedGate}
-use Rattle.hub_core.specs.declared.state.Incident.{Incident}
-use Rattle.hub_core.specs.declared.facts.IncidentFacts.{IncidentFacts}
-use Rattle.hub_core.proofs.Keeping.{all_each, found_any, found_is, found_passing}
+use Rattle.hub_state.specs.Requests.{incident_facts, is_own_community, is_own_group, are_own_groups, has_joined_all, is_target, is_grantee}
+use Rattle.hub_state.specs.Facts.{counted}
+use Rattle.hub_state.specs.Documents.{Lines, at_pointer}
+use Rattle.hub_state.specs.Sound.{IsIncident, IsTarget, IsGrantee, IsCommunityIfAny, IsGroupIfAny}
+use Rattle.hub_state.specs.State.{State, incident_of}
+use Rattle.hub_state.specs.declared.request.Distribution.{Distribution}
+use Rattle.hub_state.specs.declared.request.Target.{Target}
+use Rattle.hub_state.specs.declared.request.Target.TheVariants as target
+use Rattle.hub_state.specs.declared.request.WantedGate.{WantedGate}
+use Rattle.hub_state.specs.declared.state.Incident.{Incident}
+use Rattle.hub_state.specs.declared.facts.IncidentFacts.{IncidentFacts}
+use Rattle.hub_state.proofs.Keeping.{all_each, found_any, found_is, found_passing}
+pub use Rattle.hub_state.proofs.Keeping.{some_is}
 
 -- ---- what is known of an incident
 
@@ -51,9 +52,6 @@ own s a n h =
     let theirs = λ (k : IncidentFacts). k.source == a.org in
     let f = found_passing (λ (i : Incident). i.naming.source == a.org) (incident_of n s) (sym (map_or_map theirs incident_facts (incident_of n s) false) ∙ not-false (is_own (option_map incident_facts (incident_of n s)) a) h) in
     record { incident = f.0; found = f.1; source = eqb-true f.0.naming.source a.org f.2; number = eqb-true f.0.naming.number n (found_is (λ (i : Incident). i.naming.number == n) s.incidents f.0 f.1) }
-
-pub some_is : {X : Type 0} (o : Option X) (x : X) → o ≡ Some x → is_some o ≡ true
-some_is o x h = ap is_some h
 
 pub is_incident : (s : State) (n : ℕ) (i : Incident) → incident_of n s ≡ Some i → IsIncident s.incidents n
 is_incident s n i h = found_any (λ (x : Incident). x.naming.number == n) s.incidents (some_is (incident_of n s) i h)

@@ -11,21 +11,21 @@ use Rattle.circle.specs.Ordered.{put_by, by_number}
 use Rattle.circle.specs.Sound.{Each, CountsFrom, IsOrg}
 use Rattle.circle.specs.Directory.{Directory}
 use Rattle.circle.proofs.Keeping.{each_put, each_weaker, pairs_put, numbered_put, length_put, any_put, names_within, pair_apart}
-use Rattle.hub_core.specs.declared.TheConstants.{INCIDENT_LIMIT, GATE_LIMIT, RECIPIENT_LIMIT, PERMISSION_LIMIT}
-use Rattle.hub_core.specs.Aftermath.{put_incident, put_incidents}
-use Rattle.hub_core.specs.Documents.{Lines, ident_of, at_pointer, is_class_in}
-use Rattle.hub_core.specs.Edits.{with_edits}
+use Rattle.hub_state.specs.declared.TheConstants.{INCIDENT_LIMIT, GATE_LIMIT, RECIPIENT_LIMIT, PERMISSION_LIMIT}
+use Rattle.hub_state.specs.Aftermath.{put_incident, put_incidents}
+use Rattle.hub_state.specs.Documents.{Lines, ident_of, at_pointer, is_class_in}
+use Rattle.hub_state.specs.Edits.{with_edits}
 use Rattle.hub_core.specs.Refusals.{stands_twice}
-use Rattle.hub_core.specs.Sound.{IsSound, SoundIncidents, SoundRecipients, SoundPermissions, IsAccepted, IsIncident, IsCommunityIfAny, IsGroupIfAny}
-use Rattle.hub_core.specs.State.{State, incident_number, incident_in, root_gates, class_gates, recipients_of, permissions_of}
-use Rattle.hub_core.specs.declared.request.Distribution.{Distribution}
-use Rattle.hub_core.specs.declared.request.WantedGate.{WantedGate}
-use Rattle.hub_core.specs.declared.state.Incident.{Incident}
-use Rattle.hub_core.specs.declared.state.Recipient.{Recipient}
-use Rattle.hub_core.specs.declared.state.Permission.{Permission}
+use Rattle.hub_state.specs.Sound.{IsSound, SoundIncidents, SoundRecipients, SoundPermissions, IsAccepted, IsIncident, IsCommunityIfAny, IsGroupIfAny}
+use Rattle.hub_state.specs.State.{State, incident_number, incident_in, root_gates, class_gates, recipients_of, permissions_of}
+use Rattle.hub_state.specs.declared.request.Distribution.{Distribution}
+use Rattle.hub_state.specs.declared.request.WantedGate.{WantedGate}
+use Rattle.hub_state.specs.declared.state.Incident.{Incident}
+use Rattle.hub_state.specs.declared.state.Recipient.{Recipient}
+use Rattle.hub_state.specs.declared.state.Permission.{Permission}
 use Rattle.hub_core.proofs.Gated.{IsWanted, IsBeside, put_all, after_append, after_gates, given}
 use Rattle.hub_core.proofs.Named.{AreThere, some_is}
-use Rattle.hub_core.proofs.Keeping.{never, turned, found_any, found_passing, find_put, find_new, count_none}
+use Rattle.hub_state.proofs.Keeping.{never, turned, found_any, found_passing, find_put, find_new, count_none}
 
 -- ---- what is asked for every incident alike
 

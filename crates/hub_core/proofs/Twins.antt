@@ -4,11 +4,7 @@ use Rattle.std.specs.List.{list_any}
 use Rattle.std.specs.Str.{bytes_eq}
 use Rattle.iodef_tree.specs.Text.{Bytes}
 use Rattle.hub_core.specs.Refusals.{stands_twice}
-
--- a test of what is made of the elements
-pub any_map : {X Y : Type 0} (test : Y → Bool) (f : X → Y) (xs : List X) → list_any test (map f xs) ≡ list_any (λ x. test (f x)) xs
-any_map test f [] = refl
-any_map test f (x ∷ xs) = ap (λ b. test (f x) || b) (any_map test f xs)
+pub use Rattle.hub_state.proofs.Keeping.{any_map}
 
 -- from an element on, as at a step of a loop
 pub from_here : {X : Type 0} (xs : List X) (i : ℕ) (x : X) → i < length xs → x ≡ get_or xs i x → drop i xs ≡ x ∷ drop (i + 1) xs

@@ -17,17 +17,17 @@ use Rattle.circle.specs.declared.directory.Role.{Role}
 use Rattle.circle.specs.declared.directory.Role.TheVariants.{Coordinator, Poster, Reader}
 use Rattle.circle.specs.declared.directory.Person.{Person}
 use Rattle.circle.specs.declared.directory.Account.{Account}
-use Rattle.hub_core.specs.Documents.{Lines}
-use Rattle.hub_core.specs.State.{State, permission_with}
+use Rattle.hub_state.specs.Documents.{Lines}
+use Rattle.hub_state.specs.State.{State, permission_with}
 use Rattle.hub_core.specs.Refusals.{refusal_of, state_after}
-use Rattle.hub_core.specs.Reads.{is_peer, standing_of}
-use Rattle.hub_core.specs.declared.request.Target.TheVariants as target
-use Rattle.hub_core.specs.declared.request.Distribution.{Distribution}
-use Rattle.hub_core.specs.declared.request.Request.{Request}
-use Rattle.hub_core.specs.declared.request.Request.TheVariants as ask
-use Rattle.hub_core.specs.declared.state.Incident.{Incident}
-use Rattle.hub_core.specs.declared.state.Gate.{Gate}
-use Rattle.hub_core.specs.declared.state.Permission.{Permission}
+use Rattle.hub_state.specs.Reads.{is_peer, standing_of}
+use Rattle.hub_state.specs.declared.request.Target.TheVariants as target
+use Rattle.hub_state.specs.declared.request.Distribution.{Distribution}
+use Rattle.hub_state.specs.declared.request.Request.{Request}
+use Rattle.hub_state.specs.declared.request.Request.TheVariants as ask
+use Rattle.hub_state.specs.declared.state.Incident.{Incident}
+use Rattle.hub_state.specs.declared.state.Gate.{Gate}
+use Rattle.hub_state.specs.declared.state.Permission.{Permission}
 
 -- ---- who is in it
 

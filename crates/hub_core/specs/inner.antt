@@ -1,5 +1,2 @@
 pub mod Asked
-pub mod Changes
-pub mod Questions
-pub mod Shared
 pub mod Wanted

@@ -2,13 +2,13 @@
 ghost use Rattle.std.specs.Prelude.{◌≡◌, List, IfErr, IfOk, None, OnOk};
 ghost use Rattle.circle.specs.Outcomes.{RefusedAs};
 ghost use Rattle.circle.specs.Refusals.{Ground, first_answer};
-ghost use Rattle.hub_core.specs.State.{State};
-ghost use Rattle.hub_core.specs.Edits as spec;
-ghost use Rattle.hub_core.specs.Sound.{IsSound};
-ghost use Rattle.hub_core.specs.Facts.{facts_of};
+ghost use Rattle.hub_state.specs.State.{State};
+ghost use Rattle.hub_state.specs.Edits as spec;
+ghost use Rattle.hub_state.specs.Sound.{IsSound};
+ghost use Rattle.hub_state.specs.Facts.{facts_of};
 ghost use Rattle.hub_core.specs.Refusals.{refusal_of, state_after};
 ghost use Rattle.hub_core.specs.Judgement.{refusal_by};
-ghost use Rattle.hub_core.specs.Aftermath.{edits_by};
+ghost use Rattle.hub_state.specs.Aftermath.{edits_by};
 ghost use Rattle.hub_core.specs.inner.Asked.{Asks};
 
 mod body;
@@ -24,14 +24,12 @@ mod role;
 mod search;
 mod stop;
 
-use crate::edit::Edit;
-use crate::facts::Facts;
-use crate::request::Request;
 use change::{address, grant, redistribute, unaddress, withdraw};
 use circle::directory::Person;
 use circle::refusal::{Code, Refusal};
 use directory::judge_command;
 use explain::explain;
+use hub_state::{Edit, Facts, Request};
 use post::post;
 use replace::replace;
 pub use role::lacks_role;

@@ -2,7 +2,7 @@
 use Rattle.std.proofs.Common.{◌≡◌, ℕ, ◌+◌, ◌<◌, List, [], ◌∷◌, ◌++◌, length, drop, Ok, Err, refl, ap, sym, ◌∙◌, subst, append_assoc, append-nil, Bor, get_or, drop_of_length-le, add-one, ◌≤◌}
 use Rattle.std.proofs.Math.Seq.{drop-cons}
 use Rattle.hub_http.specs.inner.Texts.{texts}
-use Rattle.hub_core.specs.declared.request.WantedGate.{WantedGate}
+use Rattle.hub_state.specs.declared.request.WantedGate.{WantedGate}
 use Rattle.hub_http.specs.declared.request_fault.RequestFault.{RequestFault}
 use Rattle.hub_http.specs.declared.request_fault.RequestFault.TheVariants.{NoRoute, BadBody, NoMemory}
 use Rattle.hub_http.specs.Outcome.{Read, ◌>>=◌, Fails}

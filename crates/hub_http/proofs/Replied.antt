@@ -1,7 +1,7 @@
 -- A reply to what was read is what a connection is served.
 use Rattle.std.proofs.Common.{List, ℕ, Option, Result, Ok, Err, inr}
-use Rattle.hub_core.specs.declared.reply.Reply.{Reply}
-use Rattle.hub_core.specs.declared.request.Request.{Request}
+use Rattle.hub_state.specs.declared.reply.Reply.{Reply}
+use Rattle.hub_state.specs.declared.request.Request.{Request}
 use Rattle.hub.specs.declared.key.Key.{Key}
 use Rattle.hub_http.specs.declared.serve.Served.{Served}
 use Rattle.hub_http.specs.declared.serve.Served.TheVariants.{Answered, WireRefused}

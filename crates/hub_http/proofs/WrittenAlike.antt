@@ -2,8 +2,8 @@
 use Rattle.std.proofs.Common.{◌≡◌, inl, inr, true, ℤ, sym, ◌∙◌, ap}
 use Rattle.circle.specs.declared.directory.Account.{Account}
 use Rattle.hub_core.specs.State.{State}
-use Rattle.hub_core.specs.declared.reply.Reply.{Reply}
-use Rattle.hub_core.specs.declared.request.Request.{Request}
+use Rattle.hub_state.specs.declared.reply.Reply.{Reply}
+use Rattle.hub_state.specs.declared.request.Request.{Request}
 use Rattle.hub.specs.Alike.{IsAlike, is_told}
 use Rattle.hub.specs.Machine.{IsGivenUp, IsStep}
 use Rattle.hub.specs.Replies.{reply_of}

@@ -3,8 +3,8 @@ use Rattle.std.specs.Prelude.{◌≡◌, ◌⊎◌, ℕ, List}
 use Rattle.circle.specs.Outcomes.{bare}
 use Rattle.circle.specs.declared.refusal.Code.TheVariants.{F1, F2}
 use Rattle.hub_core.specs.State.{State}
-use Rattle.hub_core.specs.declared.reply.Reply.{Reply}
-use Rattle.hub_core.specs.declared.reply.Reply.TheVariants.{Refused}
+use Rattle.hub_state.specs.declared.reply.Reply.{Reply}
+use Rattle.hub_state.specs.declared.reply.Reply.TheVariants.{Refused}
 use Rattle.hub.specs.Machine.{Asked, IsStep}
 use Rattle.hub_http.specs.Replies.{reply_text}
 

@@ -10,11 +10,11 @@ use Rattle.iodef_tree.specs.Json.{data_of}
 use Rattle.iodef_tree.specs.Pointer.{pointer_text}
 use Rattle.policy.specs.Rule.{name_of as rule_name}
 use Rattle.policy.specs.declared.rule.Rule.{Rule}
-use Rattle.hub_core.specs.declared.reply.Entry.{Entry}
-use Rattle.hub_core.specs.declared.reply.JoinedGroup.{JoinedGroup}
-use Rattle.hub_core.specs.declared.reply.View.{View}
-use Rattle.hub_core.specs.declared.reply.Reply.{Reply}
-use Rattle.hub_core.specs.declared.reply.Reply.TheVariants as reply
+use Rattle.hub_state.specs.declared.reply.Entry.{Entry}
+use Rattle.hub_state.specs.declared.reply.JoinedGroup.{JoinedGroup}
+use Rattle.hub_state.specs.declared.reply.View.{View}
+use Rattle.hub_state.specs.declared.reply.Reply.{Reply}
+use Rattle.hub_state.specs.declared.reply.Reply.TheVariants as reply
 
 -- ---- parts
 

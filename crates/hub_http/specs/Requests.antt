@@ -2,9 +2,9 @@
 use Rattle.std.specs.Prelude.{ℕ, List, [], ◌∷◌, length, ◌==◌, if◌then◌else◌, Option, Some, None, unwrap_or, Ok, Err, codes}
 use Rattle.circle.specs.declared.command.CircleCommand.{CircleCommand}
 use Rattle.circle.specs.declared.command.CircleCommand.TheVariants as command
-use Rattle.hub_core.specs.declared.request.Distribution.{Distribution}
-use Rattle.hub_core.specs.declared.request.Request.{Request}
-use Rattle.hub_core.specs.declared.request.Request.TheVariants as request
+use Rattle.hub_state.specs.declared.request.Distribution.{Distribution}
+use Rattle.hub_state.specs.declared.request.Request.{Request}
+use Rattle.hub_state.specs.declared.request.Request.TheVariants as request
 use Rattle.hub_http.specs.declared.request_fault.RequestFault.TheVariants.{BadBody}
 use Rattle.hub_http.specs.declared.routes.CircleChange.{CircleChange}
 use Rattle.hub_http.specs.declared.routes.CircleChange.TheVariants as circle

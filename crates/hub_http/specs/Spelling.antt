@@ -11,7 +11,7 @@ use Rattle.circle.specs.declared.directory.Role.{Role}
 use Rattle.circle.specs.declared.directory.Role.TheVariants as role
 use Rattle.circle.specs.declared.directory.Handling.{Handling}
 use Rattle.circle.specs.declared.directory.Handling.TheVariants as handling
-use Rattle.hub_core.specs.declared.request.WantedGate.{WantedGate}
+use Rattle.hub_state.specs.declared.request.WantedGate.{WantedGate}
 use Rattle.hub_http.specs.declared.request_fault.RequestFault.TheVariants.{BadBody}
 use Rattle.hub_http.specs.Outcome.{Read, ◌>>=◌}
 

@@ -6,7 +6,7 @@ ghost use Rattle.hub_core.specs.Shelves.{HasFailed};
 ghost use Rattle.hub_core.specs.Sound.{IsSound};
 ghost use Rattle.hub.specs.Alike.{IsAlike, is_told};
 ghost use Rattle.hub.specs.declared.key.Key.TheVariants.{Digest};
-ghost use Rattle.hub_core.specs.declared.reply.Reply.{Reply as TheReply};
+ghost use Rattle.hub_state.specs.declared.reply.Reply.{Reply as TheReply};
 ghost use Rattle.hub_http.specs.Alike.{HasStepped, IsWrittenAlike};
 ghost use Rattle.hub_http.specs.Replies.{reply_text};
 

@@ -2,8 +2,8 @@
 use Rattle.std.proofs.Common.{◌≡◌, inl, inr, ℕ, ◌+◌, ℤ, List, [], ◌∷◌, ◌++◌, Option, Result, Ok, Err, refl, sym, subst, arith}
 use Rattle.std.proofs.lemmas.List.{length-append}
 use Rattle.hub_core.specs.State.{State}
-use Rattle.hub_core.specs.declared.reply.Reply.{Reply}
-use Rattle.hub_core.specs.declared.request.Request.{Request}
+use Rattle.hub_state.specs.declared.reply.Reply.{Reply}
+use Rattle.hub_state.specs.declared.request.Request.{Request}
 use Rattle.hub.specs.Machine.{Asked, IsRun}
 use Rattle.hub.specs.declared.key.Key.{Key}
 use Rattle.hub.proofs.Runs.{runs_sound}

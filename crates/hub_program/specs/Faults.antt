@@ -2,8 +2,8 @@
 -- ends.
 use Rattle.std.specs.Prelude.{Option, None, Some, codes}
 use Rattle.iodef_tree.specs.Text.{Bytes}
-use Rattle.hub_core.specs.declared.shelf.ShelfFault.{ShelfFault}
-use Rattle.hub_core.specs.declared.shelf.ShelfFault.TheVariants as shelf
+use Rattle.hub_state.specs.declared.shelf.ShelfFault.{ShelfFault}
+use Rattle.hub_state.specs.declared.shelf.ShelfFault.TheVariants as shelf
 use Rattle.hub_store.specs.declared.sql_shelf.OpenFault.{OpenFault}
 use Rattle.hub_store.specs.declared.sql_shelf.OpenFault.TheVariants as opening
 use Rattle.hub_program.specs.declared.fault.Fault.{Fault}

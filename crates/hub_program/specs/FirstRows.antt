@@ -7,8 +7,8 @@ use Rattle.circle.specs.declared.directory.Account.{Account}
 use Rattle.circle.specs.declared.directory.Role.TheVariants.{Administrator}
 use Rattle.circle.specs.declared.command.RowEdit.TheVariants.{PutOrg, PutAccount}
 use Rattle.hub_core.specs.State.{State, empty}
-use Rattle.hub_core.specs.declared.edit.Edit.{Edit}
-use Rattle.hub_core.specs.declared.edit.Edit.TheVariants.{Directory}
+use Rattle.hub_state.specs.declared.edit.Edit.{Edit}
+use Rattle.hub_state.specs.declared.edit.Edit.TheVariants.{Directory}
 
 abbrev pub first_org : Bytes → Org
 first_org name = record { number = 1; name = name }

@@ -3,7 +3,7 @@ use Rattle.std.specs.Prelude.{ℕ, ◌≤◌, List, length, Option, codes}
 use Rattle.iodef_tree.specs.Text.{Bytes}
 use Rattle.hub_core.specs.State.{State}
 use Rattle.hub_core.specs.Sound.{IsSound}
-use Rattle.hub_core.specs.declared.reply.Reply.{Reply}
+use Rattle.hub_state.specs.declared.reply.Reply.{Reply}
 use Rattle.hub.specs.Machine.{Asked, IsRun}
 use Rattle.hub.specs.Stops.{MayBeLeft}
 use Rattle.hub_http.specs.declared.serve.ServeFault.{ServeFault}

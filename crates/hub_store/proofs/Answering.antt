@@ -9,8 +9,8 @@ use Rattle.sqlite.specs.Held.{Held, state}
 use Rattle.sqlite.specs.Listing.{understood, reads_listing}
 use Rattle.sqlite.specs.State.{HasCleanDisk, IsUnchanged, IsRolledBack, Survives}
 use Rattle.sqlite.proofs.Callers.{IsPlain, command_of, survives_begin}
-use Rattle.hub_core.specs.State as core
-use Rattle.hub_core.specs.Sound.{IsSound}
+use Rattle.hub_state.specs.State as core
+use Rattle.hub_state.specs.Sound.{IsSound}
 use Rattle.hub_store.specs.Tables.{hub_schema}
 use Rattle.hub_store.specs.Means.{Holds}
 use Rattle.hub_store.specs.inner.Queries.{HasShown, IsReadInside, IsReadOutside}

@@ -16,8 +16,8 @@ use Rattle.sqlite.proofs.Callers.{one_permutation}
 use Rattle.circle.specs.Ordered.{pair_cmp}
 use Rattle.circle.specs.Directory.{Directory}
 use Rattle.circle.specs.Sound as circle
-use Rattle.hub_core.specs.State as core
-use Rattle.hub_core.specs.Sound.{IsSound}
+use Rattle.hub_state.specs.State as core
+use Rattle.hub_state.specs.Sound.{IsSound}
 use Rattle.hub_store.specs.Holdings.{holding_without_rowids}
 use Rattle.hub_store.specs.Means.{Means}
 use Rattle.hub_store.specs.Pairs.{Pair, pair_row, rows_of_pairs}

@@ -3,7 +3,7 @@ use Rattle.std.proofs.Common.{◌≡◌, ◌+◌, ℕ, suc, List, [], ◌∷◌,
 use Rattle.std.proofs.lemmas.List.{map-append, length-append}
 use Rattle.sqlite_value.specs.Order.{Row}
 use Rattle.iodef_tree.specs.declared.line.Line.{Line}
-use Rattle.hub_core.specs.Documents.{Lines}
+use Rattle.hub_state.specs.Documents.{Lines}
 use Rattle.hub_store.specs.Items.{placed_shown, placed_from}
 use Rattle.hub_store.specs.inner.Shown.{IsShownBy, ShowsAll, ShowsPlaced}
 use Rattle.hub_store.specs.declared.item_rows.PlacedLine.{PlacedLine}

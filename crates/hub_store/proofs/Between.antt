@@ -3,7 +3,7 @@ use Rattle.std.proofs.Common.{map, Result}
 use Rattle.sqlite.specs.declared.error.Error.{Error}
 use Rattle.sqlite.specs.Effect.{Database}
 use Rattle.sqlite.specs.State.{State}
-use Rattle.hub_core.specs.State as core
+use Rattle.hub_state.specs.State as core
 use Rattle.hub_store.specs.Items.{items_of, item_row}
 use Rattle.hub_store.specs.Rows.{named_row}
 use Rattle.hub_store.specs.inner.Makes.{Makes}

@@ -11,8 +11,8 @@ use Rattle.sqlite_sql.specs.Query.{IsAnswer}
 use Rattle.circle.specs.Directory.{has_org, has_community, org_number, community_number, account_number}
 use Rattle.circle.specs.Reads.{person_in, person_of}
 use Rattle.circle.specs.Sound.{CountsFrom}
-use Rattle.hub_core.specs.State as core
-use Rattle.hub_core.specs.Sound.{IsSound}
+use Rattle.hub_state.specs.State as core
+use Rattle.hub_state.specs.Sound.{IsSound}
 use Rattle.hub_store.specs.Holdings.{IsHeld, holding_by_number}
 use Rattle.hub_store.specs.Means.{Means}
 use Rattle.hub_store.specs.Rows.{org_row, account_row, community_row}

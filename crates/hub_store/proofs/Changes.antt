@@ -26,20 +26,20 @@ use Rattle.circle.specs.declared.directory.Group.{Group}
 use Rattle.circle.specs.declared.directory.GroupMember.{GroupMember}
 use Rattle.circle.specs.declared.directory.Arrangement.{Arrangement}
 use Rattle.circle.specs.declared.command.RowEdit.TheVariants.{PutOrg, PutAccount, Suspend, PutClient, TakeClient, PutCommunity, PutMembership, TakeMembership, PutConnection, TakeConnection, PutGroup, PutGroupMember, TakeGroupMember, SetGroupActive, PutArrangement, TakeArrangement, SetNominated}
-use Rattle.hub_core.specs.State as core
-use Rattle.hub_core.specs.State.{gate_cmp, recipient_cmp, permission_cmp, is_gate_at, is_recipient_being, is_permission_being, target_key, grantee_key}
-use Rattle.hub_core.specs.Edits.{edited}
-use Rattle.hub_core.specs.declared.request.Target.{Target}
-use Rattle.hub_core.specs.declared.state.Incident.{Incident}
-use Rattle.hub_core.specs.declared.state.Naming.{Naming}
-use Rattle.hub_core.specs.declared.state.Gate.{Gate}
+use Rattle.hub_state.specs.State as core
+use Rattle.hub_state.specs.State.{gate_cmp, recipient_cmp, permission_cmp, is_gate_at, is_recipient_being, is_permission_being, target_key, grantee_key}
+use Rattle.hub_state.specs.Edits.{edited}
+use Rattle.hub_state.specs.declared.request.Target.{Target}
+use Rattle.hub_state.specs.declared.state.Incident.{Incident}
+use Rattle.hub_state.specs.declared.state.Naming.{Naming}
+use Rattle.hub_state.specs.declared.state.Gate.{Gate}
 use Rattle.iodef_tree.specs.declared.line.Line.{Line}
-use Rattle.hub_core.specs.declared.state.GateKey.{GateKey}
-use Rattle.hub_core.specs.declared.state.Recipient.{Recipient}
-use Rattle.hub_core.specs.declared.state.Permission.{Permission}
-use Rattle.hub_core.specs.declared.state.PermissionKey.{PermissionKey}
-use Rattle.hub_core.specs.declared.edit.Edit.TheVariants.{Directory, PutIncident, TakeIncident, TakePolicy, PutGate, TakeGate, PutRecipient, TakeRecipient, PutPermission, TakePermission}
-use Rattle.hub_core.proofs.Indexing.{paths_by_pointers}
+use Rattle.hub_state.specs.declared.state.GateKey.{GateKey}
+use Rattle.hub_state.specs.declared.state.Recipient.{Recipient}
+use Rattle.hub_state.specs.declared.state.Permission.{Permission}
+use Rattle.hub_state.specs.declared.state.PermissionKey.{PermissionKey}
+use Rattle.hub_state.specs.declared.edit.Edit.TheVariants.{Directory, PutIncident, TakeIncident, TakePolicy, PutGate, TakeGate, PutRecipient, TakeRecipient, PutPermission, TakePermission}
+use Rattle.hub_state.proofs.Indexing.{paths_by_pointers}
 use Rattle.hub_store.specs.Values.{number_or_null, flag}
 use Rattle.hub_store.specs.Pairs.{Pair, pair_row, rows_of_pairs, put_pair, take_pair}
 use Rattle.hub_store.specs.Rows.{role_number, org_row, account_row, community_row, group_row, naming_row, named_row, gate_row, recipient_row, permission_row, client_pair, membership_pair, connection_pair, group_member_pair, arrangement_pair, pair_sets}

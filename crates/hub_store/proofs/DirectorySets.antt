@@ -17,8 +17,8 @@ use Rattle.circle.specs.Directory.{Directory, has_membership, has_group_member}
 use Rattle.circle.specs.Reads.{communities_of, memberships_in_groups, share_community, joins, are_connected, arranged}
 use Rattle.circle.specs.Sound.{IsSound}
 use Rattle.circle.proofs.Lookup.{any_having}
-use Rattle.hub_core.proofs.Counted.{any_same}
-use Rattle.hub_core.proofs.Twins.{any_map}
+use Rattle.hub_state.proofs.Counted.{any_same}
+use Rattle.hub_state.proofs.Keeping.{any_map}
 use Rattle.hub_store.specs.Pairs.{Pair}
 use Rattle.hub_store.specs.inner.PairKinds.{pairs_of, pair_between, is_between, pairs_from, pairs_to, value_shown, first_shown}
 use Rattle.hub_store.specs.Rows.{one_if, membership_pair, connection_pair, group_member_pair, arrangement_pair}

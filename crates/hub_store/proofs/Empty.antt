@@ -10,8 +10,8 @@ use Rattle.sqlite_schema.specs.declared.schema.Table.{Table}
 use Rattle.sqlite.specs.Effect.{Database}
 use Rattle.sqlite.specs.State.{State}
 use Rattle.circle.proofs.Owners.{empty_sound}
-use Rattle.hub_core.specs.State.{empty}
-use Rattle.hub_core.specs.Sound.{IsSound}
+use Rattle.hub_state.specs.State.{empty}
+use Rattle.hub_state.specs.Sound.{IsSound}
 use Rattle.hub_store.specs.Content.{Has, CommitsState}
 use Rattle.hub_store.specs.Holdings.{IsHeld}
 use Rattle.hub_store.specs.Layout.{newest, parts_by, bare_by, under}

@@ -44,8 +44,8 @@ use Rattle.sqlite.specs.State.{Executes, ExecutesInside}
 use Rattle.sqlite.proofs.Callers.{IsPlain, command_of, statement_of}
 use Rattle.iodef_tree.proofs.Order.{bytes_eq-true}
 use Rattle.circle.specs.Sound.{Pairwise}
-use Rattle.hub_core.specs.State.{State, grantee_key}
-use Rattle.hub_core.specs.declared.state.Permission.{Permission}
+use Rattle.hub_state.specs.State.{State, grantee_key}
+use Rattle.hub_state.specs.declared.state.Permission.{Permission}
 use Rattle.hub_store.specs.declared.next_version.TheConstants.{PUT_PERMISSION}
 use Rattle.hub_store.specs.Failing.{HasReason}
 use Rattle.hub_store.specs.Fit.{IsShort}

@@ -18,17 +18,17 @@ use Rattle.policy.specs.declared.permission.Grantee.{Grantee}
 use Rattle.circle.specs.Sound.{Pairwise}
 use Rattle.circle.specs.Ordered.{pair_cmp}
 use Rattle.redact.proofs.Counts.{count_by-cons}
-use Rattle.hub_core.specs.Documents.{is_class_in}
-use Rattle.hub_core.specs.Orders.{permission_total}
-use Rattle.hub_core.specs.Sound.{IsSound}
-use Rattle.hub_core.specs.State as core
-use Rattle.hub_core.specs.State.{grantee_key, path_cmp, permission_cmp, permissions_of, incident_in, is_class_of}
-use Rattle.hub_core.specs.declared.TheConstants.{INCIDENT_LIMIT, PERMISSION_LIMIT}
-use Rattle.hub_core.specs.declared.state.Incident.{Incident}
-use Rattle.hub_core.specs.declared.state.Permission.{Permission}
-use Rattle.hub_core.proofs.Bounded.{few_permissions}
-use Rattle.hub_core.proofs.Keeping.{count_left, found_each, found_is, found_passing}
-use Rattle.hub_core.proofs.Keys.{one_path}
+use Rattle.hub_state.specs.Documents.{is_class_in}
+use Rattle.hub_state.specs.Orders.{permission_total}
+use Rattle.hub_state.specs.Sound.{IsSound}
+use Rattle.hub_state.specs.State as core
+use Rattle.hub_state.specs.State.{grantee_key, path_cmp, permission_cmp, permissions_of, incident_in, is_class_of}
+use Rattle.hub_state.specs.declared.TheConstants.{INCIDENT_LIMIT, PERMISSION_LIMIT}
+use Rattle.hub_state.specs.declared.state.Incident.{Incident}
+use Rattle.hub_state.specs.declared.state.Permission.{Permission}
+use Rattle.hub_state.proofs.Bounded.{few_permissions}
+use Rattle.hub_state.proofs.Keeping.{count_left, found_each, found_is, found_passing}
+use Rattle.hub_state.proofs.Keys.{one_path}
 use Rattle.hub_store.specs.inner.Beside.{granted_alike, GrantsApart, IsShortGrant, CanGrant, IsEndlessRow}
 use Rattle.hub_store.specs.Fit.{AreTaken, AreEndless, IsEndless, ShortPermission, IsShort}
 use Rattle.hub_store.specs.Rows.{endless_row, permission_row, without_end}

@@ -17,10 +17,10 @@ use Rattle.circle.specs.Reads.{group_of, memberships_in_groups, groups_joined, a
 use Rattle.circle.specs.Sound as circle
 use Rattle.circle.proofs.Keeping.{each_left, each_weaker}
 use Rattle.circle.proofs.Lookup.{any_having}
-use Rattle.hub_core.specs.State as core
-use Rattle.hub_core.specs.Sound.{IsSound}
-use Rattle.hub_core.specs.Reads.{joined}
-use Rattle.hub_core.specs.declared.reply.JoinedGroup.{JoinedGroup}
+use Rattle.hub_state.specs.State as core
+use Rattle.hub_state.specs.Sound.{IsSound}
+use Rattle.hub_state.specs.Reads.{joined}
+use Rattle.hub_state.specs.declared.reply.JoinedGroup.{JoinedGroup}
 use Rattle.hub_store.specs.Means.{Means}
 use Rattle.hub_store.specs.Rows.{group_row}
 use Rattle.hub_store.specs.inner.ShownPairs.{group_shown, joined_of, group_if_any, groups_in}

@@ -21,7 +21,7 @@ use Rattle.sqlite_sql.specs.Query.{IsAnswer, Output}
 use Rattle.sqlite.specs.declared.error.Error.{Error}
 use Rattle.iodef_tree.proofs.Siblings.{filter-all}
 use Rattle.circle.specs.Sound.{CountsFrom}
-use Rattle.hub_core.proofs.Keeping.{numbers_above}
+use Rattle.hub_state.proofs.Keeping.{numbers_above}
 use Rattle.hub_store.specs.inner.FirstShown.{number_shown, ShowsNumberOrZero}
 use Rattle.hub_store.specs.Holdings.{IsHeld, holding_by_number}
 use Rattle.hub_store.proofs.Compare.{more_than, and_true}

@@ -15,14 +15,14 @@ use Rattle.sqlite_sql.specs.Term.{Term, col, eval_all}
 use Rattle.sqlite_sql.specs.Query.{Query, IsAnswer, Output}
 use Rattle.sqlite.specs.declared.error.Error.{Error}
 use Rattle.iodef_tree.specs.Json.{incident_id}
-use Rattle.hub_core.specs.Documents.{Lines}
-use Rattle.hub_core.specs.Reads.{naming_of, entry_of, entries_after, its_gates, its_permissions, case_for, case_of}
-use Rattle.hub_core.specs.State as core
-use Rattle.hub_core.specs.State.{incident_number, incident_of}
-use Rattle.hub_core.specs.Sound.{IsSound}
-use Rattle.hub_core.proofs.Keeping.{found_is, found_each}
-use Rattle.hub_core.specs.declared.state.Naming.{Naming}
-use Rattle.hub_core.specs.declared.state.Incident.{Incident}
+use Rattle.hub_state.specs.Documents.{Lines}
+use Rattle.hub_state.specs.Reads.{naming_of, entry_of, entries_after, its_gates, its_permissions, case_for, case_of}
+use Rattle.hub_state.specs.State as core
+use Rattle.hub_state.specs.State.{incident_number, incident_of}
+use Rattle.hub_state.specs.Sound.{IsSound}
+use Rattle.hub_state.proofs.Keeping.{found_is, found_each}
+use Rattle.hub_state.specs.declared.state.Naming.{Naming}
+use Rattle.hub_state.specs.declared.state.Incident.{Incident}
 use Rattle.policy.specs.declared.case.Case.{Case}
 use Rattle.hub_store.specs.Means.{Means}
 use Rattle.hub_store.specs.Rows.{named_row}

@@ -18,11 +18,11 @@ use Rattle.sqlite_sql.specs.Term.{Term, lit, col, eval_all}
 use Rattle.sqlite_sql.specs.Query.{Query, IsAnswer, Output}
 use Rattle.iodef_tree.specs.declared.line.Kind.{Kind}
 use Rattle.iodef_tree.specs.declared.line.Kind.TheVariants as kind
-use Rattle.hub_core.specs.Documents.{Lines}
-use Rattle.hub_core.specs.State as core
-use Rattle.hub_core.specs.State.{incident_number, incident_of}
-use Rattle.hub_core.specs.Sound.{IsSound}
-use Rattle.hub_core.specs.declared.state.Incident.{Incident}
+use Rattle.hub_state.specs.Documents.{Lines}
+use Rattle.hub_state.specs.State as core
+use Rattle.hub_state.specs.State.{incident_number, incident_of}
+use Rattle.hub_state.specs.Sound.{IsSound}
+use Rattle.hub_state.specs.declared.state.Incident.{Incident}
 use Rattle.hub_store.specs.Holdings.{holding_without_rowids}
 use Rattle.hub_store.specs.Means.{Means}
 use Rattle.hub_store.specs.Items.{Item, items_from, items_in, items_of, item_row, line_shown, kind_number, placed_shown, placed_from}

@@ -5,9 +5,9 @@ use Rattle.std.proofs.lemmas.Bool.{eqb-true}
 use Rattle.circle.specs.declared.directory.Account.{Account}
 use Rattle.circle.specs.declared.directory.Person.{Person}
 use Rattle.circle.specs.Reads.{person_in, person_of, communities_of}
-use Rattle.hub_core.specs.State.{State}
-use Rattle.hub_core.specs.Reads.{reader_of, reader_with}
-use Rattle.hub_core.specs.declared.look_ups.Reader.{Reader}
+use Rattle.hub_state.specs.State.{State}
+use Rattle.hub_state.specs.Reads.{reader_of, reader_with}
+use Rattle.hub_state.specs.declared.look_ups.Reader.{Reader}
 use Rattle.hub_store.specs.Shelved.{IsRightOf, IsKeptOf}
 
 same_account : (a b : Account) → ◌≡◌ {A = Option Account} (Some a) (Some b) → a ≡ b

@@ -6,12 +6,12 @@ use Rattle.sqlite_trees.specs.declared.store.Store as store
 use Rattle.sqlite.specs.declared.error.Error.{Error}
 use Rattle.sqlite.specs.Held.{Held, state}
 use Rattle.sqlite.specs.State.{HasCleanDisk}
-use Rattle.hub_core.specs.State as core
-use Rattle.hub_core.specs.Reads.{reader_of}
-use Rattle.hub_core.specs.Shelves.{HasCause, Reads, last_count}
-use Rattle.hub_core.specs.declared.look_ups.Reader.{Reader}
-use Rattle.hub_core.specs.declared.shelf.ShelfFault.{ShelfFault}
-use Rattle.hub_core.specs.declared.shelf.ShelfFault.TheVariants.{NoMemory}
+use Rattle.hub_state.specs.State as core
+use Rattle.hub_state.specs.Reads.{reader_of}
+use Rattle.hub_state.specs.Shelves.{HasCause, Reads, last_count}
+use Rattle.hub_state.specs.declared.look_ups.Reader.{Reader}
+use Rattle.hub_state.specs.declared.shelf.ShelfFault.{ShelfFault}
+use Rattle.hub_state.specs.declared.shelf.ShelfFault.TheVariants.{NoMemory}
 use Rattle.hub_store.specs.inner.Queries.{IsReadOutside}
 use Rattle.hub_store.specs.Shelved.{Shelved, IsRightOf, ShelfHas}
 use Rattle.hub_store.proofs.KeptReader.{right_of_read}

@@ -7,8 +7,8 @@ use Rattle.sqlite_catalog.specs.Listing.{Lists}
 use Rattle.sqlite_catalog.proofs.ReadLemmas.{lists_once}
 use Rattle.sqlite.specs.Effect.{Database}
 use Rattle.sqlite.specs.State.{State, HasCleanDisk, Survives}
-use Rattle.hub_core.specs.State as core
-use Rattle.hub_core.specs.Sound.{IsSound}
+use Rattle.hub_state.specs.State as core
+use Rattle.hub_state.specs.Sound.{IsSound}
 use Rattle.hub_store.specs.Content.{Has, CommitsState, StandFor, IsMeaning, MayLeave}
 use Rattle.hub_store.specs.Laws.{FindsTrees}
 use Rattle.hub_store.specs.Means.{Means, Holds, TreesHold}

@@ -46,8 +46,8 @@ use Rattle.sqlite.specs.State.{Executes, ExecutesInside}
 use Rattle.sqlite.proofs.Callers.{IsPlain, command_of, statement_of}
 use Rattle.iodef_tree.proofs.Order.{bytes_eq-true}
 use Rattle.circle.specs.Sound.{Pairwise}
-use Rattle.hub_core.specs.Documents.{Lines}
-use Rattle.hub_core.specs.State.{State}
+use Rattle.hub_state.specs.Documents.{Lines}
+use Rattle.hub_state.specs.State.{State}
 use Rattle.hub_store.specs.Failing.{HasReason}
 use Rattle.hub_store.specs.Items.{Item, item_row, placed_lines}
 use Rattle.hub_store.specs.Fit.{ShortItem}

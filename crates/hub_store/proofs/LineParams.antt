@@ -7,7 +7,7 @@ use Rattle.sqlite_value.specs.Value.{owned}
 use Rattle.sqlite_value.specs.Order.{Row}
 use Rattle.sqlite.specs.Values.{bound, bound_value}
 use Rattle.iodef_tree.specs.declared.line.Line.{Line}
-use Rattle.hub_core.specs.Documents.{Lines}
+use Rattle.hub_state.specs.Documents.{Lines}
 use Rattle.hub_store.specs.Items.{line_columns, placed_lines}
 use Rattle.hub_store.proofs.PutsThen.{as_far, one_further}
 

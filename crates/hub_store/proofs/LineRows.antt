@@ -7,8 +7,8 @@ use Rattle.sqlite_sql.specs.Term.{Term, eval_all}
 use Rattle.sqlite_rules.specs.Cast.{cast_row}
 use Rattle.sqlite.specs.Effect.{value_rows}
 use Rattle.iodef_tree.specs.declared.line.Line.{Line}
-use Rattle.hub_core.specs.Documents.{Lines}
-use Rattle.hub_core.specs.State.{State}
+use Rattle.hub_state.specs.Documents.{Lines}
+use Rattle.hub_state.specs.State.{State}
 use Rattle.hub_store.specs.Items.{Item, items_from, item_row, placed_lines, kind_number}
 use Rattle.hub_store.specs.Rows.{permission_row}
 use Rattle.hub_store.specs.Layout.{newest, in_every_version, item_part, permission_part_3, incident_part_4}

@@ -14,8 +14,8 @@ use Rattle.sqlite.specs.State.{Executes, ExecutesInside}
 use Rattle.sqlite.specs.declared.error.Error.{Error}
 use Rattle.sqlite.specs.declared.error.Error.TheVariants.{SqliteFailure}
 use Rattle.sqlite.specs.declared.error.ErrorCode.TheVariants as code
-use Rattle.hub_core.specs.State.{State}
-use Rattle.hub_core.specs.declared.state.Naming.{Naming}
+use Rattle.hub_state.specs.State.{State}
+use Rattle.hub_state.specs.declared.state.Naming.{Naming}
 use Rattle.iodef_tree.specs.declared.line.Line.{Line}
 use Rattle.hub_store.specs.Items.{Item, placed_lines, item_row, line_shown, kind_number}
 use Rattle.hub_store.specs.Rows.{naming_row_2}

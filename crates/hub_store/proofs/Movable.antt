@@ -23,14 +23,14 @@ use Rattle.iodef_tree.proofs.Fitness.{bind-ok}
 use Rattle.circle.specs.Sound.{CountsFrom, Pairwise}
 use Rattle.circle.specs.Directory.{org_number}
 use Rattle.circle.specs.declared.directory.Org.{Org}
-use Rattle.hub_core.specs.Documents.{Lines}
-use Rattle.hub_core.specs.Sound.{IsSound, IsAccepted}
-use Rattle.hub_core.specs.State as core
-use Rattle.hub_core.specs.State.{incident_number}
-use Rattle.hub_core.specs.declared.TheConstants.{INCIDENT_LIMIT, REVISION_LIMIT}
-use Rattle.hub_core.specs.declared.state.Incident.{Incident}
-use Rattle.hub_core.specs.declared.state.Naming.{Naming}
-use Rattle.hub_core.proofs.Keeping.{numbers_above}
+use Rattle.hub_state.specs.Documents.{Lines}
+use Rattle.hub_state.specs.Sound.{IsSound, IsAccepted}
+use Rattle.hub_state.specs.State as core
+use Rattle.hub_state.specs.State.{incident_number}
+use Rattle.hub_state.specs.declared.TheConstants.{INCIDENT_LIMIT, REVISION_LIMIT}
+use Rattle.hub_state.specs.declared.state.Incident.{Incident}
+use Rattle.hub_state.specs.declared.state.Naming.{Naming}
+use Rattle.hub_state.proofs.Keeping.{numbers_above}
 use Rattle.hub_store.specs.inner.Beside.{begin_alike, Apart, IsShortLine, CanStand, NumbersApart, IdentsApart, IsShortNaming, CanName}
 use Rattle.hub_store.specs.Fit.{AreTaken, IsShort, ShortItem, ShortNaming, FitIncident}
 use Rattle.hub_store.specs.Items.{Item, items_from, items_in, item_row}

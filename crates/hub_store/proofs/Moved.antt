@@ -2,9 +2,9 @@
 use Rattle.std.proofs.Common.{◌≡◌, ℕ, [], ◌∷◌, ◌++◌, map, Some, None, sym, ap, subst, ◌∙◌, arith}
 use Rattle.std.proofs.lemmas.List.{map-append}
 use Rattle.std.proofs.lemmas.List.Sorted.{IsPermutation-append_comm}
-use Rattle.hub_core.specs.State.{State}
-use Rattle.hub_core.specs.Sound.{IsSound}
-use Rattle.hub_core.specs.declared.state.Incident.{Incident}
+use Rattle.hub_state.specs.State.{State}
+use Rattle.hub_state.specs.Sound.{IsSound}
+use Rattle.hub_state.specs.declared.state.Incident.{Incident}
 use Rattle.hub_store.specs.Items.{items_in, item_row}
 use Rattle.hub_store.specs.inner.Moving.{incident_above, incidents_up_to, naming_in}
 use Rattle.hub_store.specs.inner.PutsLines.{HasMore}

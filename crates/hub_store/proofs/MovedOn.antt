@@ -3,15 +3,15 @@ use Rattle.std.proofs.Common.{◌≡◌, ◌<◌, ◌≤◌, nat_lt, ℕ, List, 
 use Rattle.sqlite_trees.proofs.ListLemmas.{map-map}
 use Rattle.sqlite.specs.Effect.{Database}
 use Rattle.sqlite.specs.State.{State, HasCleanDisk}
-use Rattle.hub_core.specs.Sound.{IsSound}
-use Rattle.hub_core.specs.State as core
-use Rattle.hub_core.specs.declared.state.Incident.{Incident}
-use Rattle.hub_core.specs.declared.state.Naming.{Naming}
+use Rattle.hub_state.specs.Sound.{IsSound}
+use Rattle.hub_state.specs.State as core
+use Rattle.hub_state.specs.declared.state.Incident.{Incident}
+use Rattle.hub_state.specs.declared.state.Naming.{Naming}
 use Rattle.std.proofs.lemmas.Bool.{ltb-true}
 use Rattle.std.proofs.lemmas.Bool.Decides.{nat_tests}
 use Rattle.hub_store.specs.Opening.{is_older}
-use Rattle.hub_core.specs.declared.TheConstants.{INCIDENT_LIMIT}
-use Rattle.hub_core.proofs.Keeping.{found_is, found_each}
+use Rattle.hub_state.specs.declared.TheConstants.{INCIDENT_LIMIT}
+use Rattle.hub_state.proofs.Keeping.{found_is, found_each}
 use Rattle.hub_store.specs.Fit.{FitAs}
 use Rattle.hub_store.specs.Items.{items_in, items_of, item_row}
 use Rattle.hub_store.specs.Layout.{newest, parts_1, parts_2}

@@ -12,11 +12,11 @@ use Rattle.sqlite_sql.specs.Term.{col}
 use Rattle.sqlite_sql.specs.Query.{IsAnswer}
 use Rattle.sqlite.specs.declared.error.Error.{Error}
 use Rattle.circle.specs.Sound.{Differ}
-use Rattle.hub_core.specs.State as core
-use Rattle.hub_core.specs.State.{incident_named, incident_number}
-use Rattle.hub_core.specs.Sound.{IsSound}
-use Rattle.hub_core.specs.declared.state.Incident.{Incident}
-use Rattle.hub_core.proofs.Found.{one_name}
+use Rattle.hub_state.specs.State as core
+use Rattle.hub_state.specs.State.{incident_named, incident_number}
+use Rattle.hub_state.specs.Sound.{IsSound}
+use Rattle.hub_state.specs.declared.state.Incident.{Incident}
+use Rattle.hub_state.proofs.Found.{one_name}
 use Rattle.hub_store.specs.Means.{Means}
 use Rattle.hub_store.specs.inner.FirstShown.{number_shown}
 use Rattle.hub_store.specs.Rows.{named_row}

@@ -28,8 +28,8 @@ use Rattle.sqlite.specs.Effect.{Database}
 use Rattle.sqlite.specs.Listing.{understood}
 use Rattle.sqlite.specs.State.{State, ExecutesInside}
 use Rattle.circle.specs.Sound.{Pairwise}
-use Rattle.hub_core.specs.State as core
-use Rattle.hub_core.specs.declared.state.Naming.{Naming}
+use Rattle.hub_state.specs.State as core
+use Rattle.hub_state.specs.declared.state.Naming.{Naming}
 use Rattle.hub_store.specs.declared.next_version.TheConstants.{PUT_INCIDENT}
 use Rattle.hub_store.specs.Failing.{HasReason}
 use Rattle.hub_store.specs.Fit.{IsShort}

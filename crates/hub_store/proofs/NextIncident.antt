@@ -18,8 +18,8 @@ use Rattle.sqlite.specs.Held.{Held, state}
 use Rattle.sqlite.specs.Listing.{understood, reads_listing}
 use Rattle.sqlite.specs.State.{HasCleanDisk, IsUnchanged, Shown, Survives}
 use Rattle.sqlite.proofs.Callers.{IsPlain, command_of, reads_as, unchanged_then}
-use Rattle.hub_core.specs.State as core
-use Rattle.hub_core.specs.declared.state.Incident.{Incident}
+use Rattle.hub_state.specs.State as core
+use Rattle.hub_state.specs.declared.state.Incident.{Incident}
 use Rattle.hub_store.specs.Holdings.{IsHeld}
 use Rattle.hub_store.specs.Layout.{incident_part, with_items}
 use Rattle.hub_store.specs.inner.Makes.{Makes}

@@ -17,12 +17,12 @@ use Rattle.sqlite_sql.specs.Query.{Query, IsAnswer, Output}
 use Rattle.iodef_tree.specs.Reading.{reading}
 use Rattle.iodef_tree.proofs.ReadBack.{texts-read-back}
 use Rattle.circle.specs.Sound.{CountsFrom}
-use Rattle.hub_core.specs.Documents.{Lines}
-use Rattle.hub_core.specs.Sound.{IsSound, IsAccepted}
-use Rattle.hub_core.specs.State as core
-use Rattle.hub_core.specs.State.{incident_number}
-use Rattle.hub_core.specs.declared.state.Incident.{Incident}
-use Rattle.hub_core.proofs.Keeping.{numbers_above}
+use Rattle.hub_state.specs.Documents.{Lines}
+use Rattle.hub_state.specs.Sound.{IsSound, IsAccepted}
+use Rattle.hub_state.specs.State as core
+use Rattle.hub_state.specs.State.{incident_number}
+use Rattle.hub_state.specs.declared.state.Incident.{Incident}
+use Rattle.hub_state.proofs.Keeping.{numbers_above}
 use Rattle.hub_store.specs.Rows.{document_text, incident_row}
 use Rattle.hub_store.specs.Fit.{FitIncident, NamesNoCommunity}
 use Rattle.hub_store.specs.inner.Shown.{ShowsFirst}

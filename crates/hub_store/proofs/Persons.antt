@@ -9,10 +9,10 @@ use Rattle.sqlite_trees.specs.Tree.{Trees}
 use Rattle.sqlite_sql.specs.Term.{col}
 use Rattle.sqlite_sql.specs.Query.{IsAnswer}
 use Rattle.circle.specs.declared.directory.Account.{Account}
-use Rattle.hub_core.specs.State as core
-use Rattle.hub_core.specs.Sound.{IsSound}
+use Rattle.hub_state.specs.State as core
+use Rattle.hub_state.specs.Sound.{IsSound}
 use Rattle.circle.specs.Reads.{person_in}
-use Rattle.hub_core.specs.Reads.{person_by_key}
+use Rattle.hub_state.specs.Reads.{person_by_key}
 use Rattle.hub_store.specs.Means.{Means}
 use Rattle.hub_store.specs.Rows.{account_row}
 use Rattle.hub_store.specs.inner.Shown.{person_shown}

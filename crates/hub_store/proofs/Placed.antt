@@ -15,13 +15,13 @@ use Rattle.sqlite_trees.proofs.ListLemmas.{map-map}
 use Rattle.sqlite_sql.specs.Term.{Term, lit, col, eval_all}
 use Rattle.sqlite_sql.specs.Query.{Query, IsAnswer, Output}
 use Rattle.iodef_tree.specs.Pointer.{pointer_text}
-use Rattle.hub_core.specs.State as core
-use Rattle.hub_core.specs.State.{gate_cmp, recipient_cmp, permission_cmp, target_key, grantee_key}
-use Rattle.hub_core.specs.Reads.{its_gates, its_recipients, its_permissions}
-use Rattle.hub_core.specs.Sound.{IsSound}
-use Rattle.hub_core.specs.declared.state.Gate.{Gate}
-use Rattle.hub_core.specs.declared.state.Recipient.{Recipient}
-use Rattle.hub_core.specs.declared.state.Permission.{Permission}
+use Rattle.hub_state.specs.State as core
+use Rattle.hub_state.specs.State.{gate_cmp, recipient_cmp, permission_cmp, target_key, grantee_key}
+use Rattle.hub_state.specs.Reads.{its_gates, its_recipients, its_permissions}
+use Rattle.hub_state.specs.Sound.{IsSound}
+use Rattle.hub_state.specs.declared.state.Gate.{Gate}
+use Rattle.hub_state.specs.declared.state.Recipient.{Recipient}
+use Rattle.hub_state.specs.declared.state.Permission.{Permission}
 use Rattle.hub_store.specs.Means.{Means}
 use Rattle.hub_store.specs.Rows.{gate_row, recipient_row, permission_row}
 use Rattle.hub_store.specs.inner.Shown.{gate_shown, target_shown, permission_shown}

@@ -4,7 +4,7 @@ use Rattle.std.specs.List.{AllByRecursion, position_from}
 use Rattle.std.specs.Str.{bytes_eq}
 use Rattle.sqlite_trees.specs.Tree.{Trees}
 use Rattle.sqlite_schema.specs.declared.schema.Table.{Table}
-use Rattle.hub_core.specs.State.{State}
+use Rattle.hub_state.specs.State.{State}
 use Rattle.hub_store.specs.Tables.{hub_schema, hub_table}
 use Rattle.hub_store.specs.Holdings.{Holding, IsHeld}
 use Rattle.hub_store.specs.Means.{holdings, Means}

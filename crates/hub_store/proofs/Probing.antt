@@ -15,14 +15,14 @@ use Rattle.policy.specs.declared.case.Case.{Case}
 use Rattle.redact.specs.Probed.{ProbeState, IsSure}
 use Rattle.redact.specs.Wants.{meets, meets_by}
 use Rattle.redact.specs.declared.want.Want.{Want}
-use Rattle.hub_core.specs.Documents.{Lines}
-use Rattle.hub_core.specs.Reads.{met_by_incident}
-use Rattle.hub_core.specs.Sound.{IsSound, IsAccepted}
-use Rattle.hub_core.specs.State as core
-use Rattle.hub_core.specs.State.{incident_of}
-use Rattle.hub_core.specs.declared.state.Incident.{Incident}
-use Rattle.hub_core.proofs.Keeping.{found_each}
-use Rattle.hub_core.proofs.Marked.{met_found}
+use Rattle.hub_state.specs.Documents.{Lines}
+use Rattle.hub_state.specs.Reads.{met_by_incident}
+use Rattle.hub_state.specs.Sound.{IsSound, IsAccepted}
+use Rattle.hub_state.specs.State as core
+use Rattle.hub_state.specs.State.{incident_of}
+use Rattle.hub_state.specs.declared.state.Incident.{Incident}
+use Rattle.hub_state.proofs.Keeping.{found_each}
+use Rattle.hub_state.proofs.Marked.{met_found}
 use Rattle.hub_store.specs.inner.FeedsRows.{lines_of}
 use Rattle.hub_store.specs.inner.ProbesRows.{HasProbed, AreFirst}
 use Rattle.hub_store.specs.inner.Queries.{IsReadOutside}

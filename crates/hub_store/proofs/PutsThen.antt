@@ -7,7 +7,7 @@ use Rattle.sqlite_value.specs.Order.{Row}
 use Rattle.sqlite.specs.declared.error.Error.{Error}
 use Rattle.sqlite.specs.State.{State}
 use Rattle.iodef_tree.specs.declared.line.Line.{Line}
-use Rattle.hub_core.specs.Documents.{Lines}
+use Rattle.hub_state.specs.Documents.{Lines}
 use Rattle.hub_store.specs.Items.{items_from, item_row}
 use Rattle.hub_store.specs.Rows.{permission_row}
 use Rattle.hub_store.specs.Layout.{newest, in_every_version, in_versions_1_and_2, incident_part, item_part, incident_part_4, permission_part_3}

@@ -4,8 +4,8 @@ use Rattle.sqlite.specs.declared.error.Error.{Error}
 use Rattle.sqlite.specs.Effect.{Database}
 use Rattle.sqlite.specs.State.{State, IsUnchanged}
 use Rattle.sqlite.proofs.Callers.{unchanged_then}
-use Rattle.hub_core.specs.State as core
-use Rattle.hub_core.specs.Sound.{IsSound}
+use Rattle.hub_state.specs.State as core
+use Rattle.hub_state.specs.Sound.{IsSound}
 use Rattle.hub_store.specs.Keeps.{Knows}
 use Rattle.hub_store.specs.Means.{Holds}
 use Rattle.hub_store.specs.inner.Queries.{IsReadInside}

@@ -5,9 +5,9 @@ use Rattle.sqlite_trees.specs.Tree.{Trees}
 use Rattle.sqlite.specs.Effect.{Database}
 use Rattle.sqlite.specs.State.{State, HasCleanDisk, Survives}
 use Rattle.sqlite.proofs.StateLemmas.{survives_then}
-use Rattle.hub_core.specs.State as core
-use Rattle.hub_core.specs.declared.shelf.ShelfFault.{ShelfFault}
-use Rattle.hub_core.specs.declared.shelf.ShelfFault.TheVariants as shelf
+use Rattle.hub_state.specs.State as core
+use Rattle.hub_state.specs.declared.shelf.ShelfFault.{ShelfFault}
+use Rattle.hub_state.specs.declared.shelf.ShelfFault.TheVariants as shelf
 use Rattle.hub_store.specs.declared.sql_shelf.OpenFault.{OpenFault}
 use Rattle.hub_store.specs.declared.sql_shelf.OpenFault.TheVariants.{Failed, NoMemory}
 use Rattle.hub_store.specs.Content.{HasAs, Has, CommitsState}

@@ -4,7 +4,7 @@ use Rattle.sqlite_trees.specs.declared.store.Store as store
 use Rattle.sqlite_schema.specs.Names.{same_name}
 use Rattle.sqlite.specs.Held.{Held, state}
 use Rattle.sqlite.specs.State.{State, IsLive}
-use Rattle.hub_core.specs.State as core
+use Rattle.hub_state.specs.State as core
 use Rattle.hub_store.specs.Content.{HasAs}
 use Rattle.hub_store.specs.Failing.{HasReason}
 use Rattle.hub_store.specs.Opening.{is_older}

@@ -5,7 +5,7 @@ use Rattle.std.proofs.lemmas.Bool.Decides.{nat_tests}
 use Rattle.sqlite_trees.specs.Tree.{IsAscending}
 use Rattle.sqlite_trees.proofs.ListLemmas.{all_weaker}
 use Rattle.circle.specs.Sound.{Pairwise, CountsFrom}
-use Rattle.hub_core.proofs.Keeping.{numbers_above}
+use Rattle.hub_state.proofs.Keeping.{numbers_above}
 use Rattle.hub_store.proofs.Lists.{Rises}
 
 pub rising : {X : Type 0} (R : X → X → Type 0) (xs : List X) → Pairwise R xs → IsAscending R xs

@@ -4,10 +4,10 @@ use Rattle.std.proofs.lemmas.List.{take_more}
 use Rattle.sqlite_trees.specs.declared.store.Store as store
 use Rattle.sqlite.specs.Held.{Held, state}
 use Rattle.sqlite.specs.State.{State, Shows, IsUnchanged}
-use Rattle.hub_core.specs.State as core
-use Rattle.hub_core.specs.Edits.{edited, with_edits}
-use Rattle.hub_core.specs.declared.edit.Edit.{Edit}
-use Rattle.hub_core.proofs.Gated.{after_append}
+use Rattle.hub_state.specs.State as core
+use Rattle.hub_state.specs.Edits.{edited, with_edits}
+use Rattle.hub_state.specs.declared.edit.Edit.{Edit}
+use Rattle.hub_state.proofs.Then.{after_append}
 use Rattle.hub_store.specs.Content.{HasAs, Has, CommitsState}
 use Rattle.hub_store.specs.Keeps.{Knows, KeepsCommitted}
 use Rattle.hub_store.specs.Means.{HoldsAs, Holds}

@@ -17,7 +17,7 @@ use Rattle.sqlite_schema.specs.Rules.{differ}
 use Rattle.sqlite_rules.specs.Lists.{Has}
 use Rattle.sqlite_rules.proofs.ListLemmas.{all_has, all_from}
 use Rattle.circle.specs.Sound.{Pairwise}
-use Rattle.hub_core.specs.declared.state.Naming.{Naming}
+use Rattle.hub_state.specs.declared.state.Naming.{Naming}
 use Rattle.hub_store.specs.inner.Beside.{begin_alike, IsShortLine, CanStand, IsShortNaming, CanName}
 use Rattle.hub_store.proofs.Lists.{has_permuted}
 

@@ -6,7 +6,7 @@ use Rattle.std.proofs.lemmas.List.Folds.{list_any-append}
 use Rattle.circle.specs.declared.directory.Group.{Group}
 use Rattle.circle.specs.Directory.{Directory}
 use Rattle.circle.specs.Reads.{group_of}
-use Rattle.hub_core.specs.declared.reply.JoinedGroup.{JoinedGroup}
+use Rattle.hub_state.specs.declared.reply.JoinedGroup.{JoinedGroup}
 use Rattle.hub_store.specs.Pairs.{Pair}
 use Rattle.hub_store.specs.inner.PairKinds.{pairs_from, pairs_to}
 use Rattle.hub_store.specs.inner.ShownPairs.{joined_group, group_if_any, is_one_of, linked_with}

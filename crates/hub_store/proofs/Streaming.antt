@@ -18,10 +18,10 @@ use Rattle.sqlite.specs.State.{State, HasCleanDisk, IsUnchanged, Survives, Shown
 use Rattle.sqlite.proofs.Callers.{EndsIn, command_of, begins_shown, given_begin, unchanged_then}
 use Rattle.sqlite.proofs.StateLemmas.{survives_weaker}
 use Rattle.iodef_tree.specs.declared.line.Line.{Line}
-use Rattle.hub_core.specs.Documents.{Lines}
-use Rattle.hub_core.specs.State as core
-use Rattle.hub_core.specs.State.{incident_of}
-use Rattle.hub_core.specs.declared.state.Incident.{Incident}
+use Rattle.hub_state.specs.Documents.{Lines}
+use Rattle.hub_state.specs.State as core
+use Rattle.hub_state.specs.State.{incident_of}
+use Rattle.hub_state.specs.declared.state.Incident.{Incident}
 use Rattle.hub_store.specs.Content.{Has}
 use Rattle.hub_store.specs.inner.FeedsRows.{lines_of}
 use Rattle.hub_store.specs.Items.{placed_shown, placed_from}

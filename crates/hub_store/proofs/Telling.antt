@@ -5,10 +5,10 @@ use Rattle.sqlite_trees.specs.View.{doubt}
 use Rattle.sqlite.specs.declared.error.Error.{Error}
 use Rattle.sqlite.specs.Held.{Held, state}
 use Rattle.sqlite.specs.State.{State, HasCleanDisk, Survives}
-use Rattle.hub_core.specs.State as core
-use Rattle.hub_core.specs.Shelves.{HasCause, IsRead}
-use Rattle.hub_core.specs.declared.shelf.ShelfFault.{ShelfFault}
-use Rattle.hub_core.specs.declared.look_ups.Reader.{Reader}
+use Rattle.hub_state.specs.State as core
+use Rattle.hub_state.specs.Shelves.{HasCause, IsRead}
+use Rattle.hub_state.specs.declared.shelf.ShelfFault.{ShelfFault}
+use Rattle.hub_state.specs.declared.look_ups.Reader.{Reader}
 use Rattle.hub_store.specs.inner.Queries.{IsReadOutside}
 use Rattle.hub_store.specs.Content.{Has, MayLeave}
 use Rattle.hub_store.specs.Shelved.{Shelved, ShelfHas}

@@ -6,9 +6,9 @@ use Rattle.circle.specs.declared.directory.Handling.{Handling}
 use Rattle.circle.specs.Directory.{has_membership}
 use Rattle.circle.specs.Reads.{communities_of, share_community, are_connected, arranged}
 use Rattle.circle.specs.Sound as circle
-use Rattle.hub_core.specs.Reads as core
-use Rattle.hub_core.specs.State.{State}
-use Rattle.hub_core.specs.declared.look_ups.Ties.{Ties}
+use Rattle.hub_state.specs.Reads as core
+use Rattle.hub_state.specs.State.{State}
+use Rattle.hub_state.specs.declared.look_ups.Ties.{Ties}
 use Rattle.hub_store.specs.inner.ShownPairs.{AreRising, is_one_of, are_linked, is_peer, ties_between}
 use Rattle.hub_store.proofs.DirectorySets.{among_communities, communities_rise, share_is, connected_from}
 

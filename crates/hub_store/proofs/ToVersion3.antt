@@ -15,9 +15,9 @@ use Rattle.sqlite.specs.Held.{state}
 use Rattle.sqlite.specs.Listing.{understood}
 use Rattle.sqlite.specs.State.{Executes, ExecutesInside}
 use Rattle.sqlite.specs.Values.{bound_value}
-use Rattle.hub_core.specs.Sound.{IsSound}
-use Rattle.hub_core.specs.State as core
-use Rattle.hub_core.specs.declared.state.Permission.{Permission}
+use Rattle.hub_state.specs.Sound.{IsSound}
+use Rattle.hub_state.specs.State as core
+use Rattle.hub_state.specs.declared.state.Permission.{Permission}
 use Rattle.hub_store.specs.declared.next_version.TheConstants.{READ_PERMISSIONS, DROP_PERMISSIONS, CREATE_PERMISSIONS, PUT_PERMISSION}
 use Rattle.hub_store.specs.Fit.{FitAs, AreEndless, AreTaken}
 use Rattle.hub_store.specs.Layout.{hub_part, under, apart_from, made_anew, permission_part, permission_part_3, permission_step, parts_2}

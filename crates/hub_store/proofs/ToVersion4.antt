@@ -19,10 +19,10 @@ use Rattle.sqlite.specs.Held.{state}
 use Rattle.sqlite.specs.Listing.{understood}
 use Rattle.sqlite.specs.State.{Executes, ExecutesInside}
 use Rattle.sqlite.specs.Values.{bound_value}
-use Rattle.hub_core.specs.Sound.{IsSound}
-use Rattle.hub_core.specs.State as core
-use Rattle.hub_core.specs.declared.state.Incident.{Incident}
-use Rattle.hub_core.specs.declared.state.Naming.{Naming}
+use Rattle.hub_state.specs.Sound.{IsSound}
+use Rattle.hub_state.specs.State as core
+use Rattle.hub_state.specs.declared.state.Incident.{Incident}
+use Rattle.hub_state.specs.declared.state.Naming.{Naming}
 use Rattle.hub_store.specs.declared.next_version.TheConstants.{READ_INCIDENTS, DROP_INCIDENTS, CREATE_INCIDENTS, PUT_INCIDENT}
 use Rattle.hub_store.specs.Fit.{AreTaken, IsFit, NamesNoCommunity, NoneNamesCommunity, ShortNaming, IsShort}
 use Rattle.hub_store.specs.Layout.{hub_part, under, apart_from, made_anew, incident_part_2, incident_part_4, incident_step, parts_3}

@@ -18,8 +18,8 @@ use Rattle.sqlite_typing.specs.Types.{accepts_terms, class_of}
 use Rattle.std.specs.List.{AllByRecursion}
 use Rattle.std.proofs.lemmas.List.Sorted.{IsPermutation-sym}
 use Rattle.sqlite.proofs.Callers.{IsPlain, command_of}
-use Rattle.hub_core.specs.Documents.{Lines}
-use Rattle.hub_core.specs.State.{State, empty}
+use Rattle.hub_state.specs.Documents.{Lines}
+use Rattle.hub_state.specs.State.{State, empty}
 use Rattle.hub_store.specs.Items.{items_from, item_row, placed_lines}
 use Rattle.hub_store.specs.Rows.{permission_row}
 use Rattle.hub_store.specs.Layout.{newest, in_every_version, in_versions_1_and_2, incident_part, item_part, permission_part_3, incident_part_4, tables_4, with_items}

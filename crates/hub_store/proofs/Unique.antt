@@ -33,19 +33,19 @@ use Rattle.circle.specs.declared.directory.Connection.{Connection}
 use Rattle.circle.specs.declared.directory.Group.{Group}
 use Rattle.circle.specs.declared.directory.GroupMember.{GroupMember}
 use Rattle.circle.specs.declared.directory.Arrangement.{Arrangement}
-use Rattle.hub_core.specs.Documents.{Lines}
-use Rattle.hub_core.specs.Sound.{IsSound}
-use Rattle.hub_core.specs.State as core
-use Rattle.hub_core.specs.Orders.{gate_total, recipient_total, permission_total}
-use Rattle.hub_core.specs.State.{incident_number, incident_of, target_key, grantee_key}
-use Rattle.hub_core.specs.declared.request.Target.{Target}
-use Rattle.hub_core.specs.declared.request.Target.TheVariants as target
-use Rattle.hub_core.specs.declared.state.Incident.{Incident}
-use Rattle.hub_core.specs.declared.state.Naming.{Naming}
-use Rattle.hub_core.specs.declared.state.Gate.{Gate}
-use Rattle.hub_core.specs.declared.state.Recipient.{Recipient}
-use Rattle.hub_core.specs.declared.state.Permission.{Permission}
-use Rattle.hub_core.proofs.Keys.{one_path}
+use Rattle.hub_state.specs.Documents.{Lines}
+use Rattle.hub_state.specs.Sound.{IsSound}
+use Rattle.hub_state.specs.State as core
+use Rattle.hub_state.specs.Orders.{gate_total, recipient_total, permission_total}
+use Rattle.hub_state.specs.State.{incident_number, incident_of, target_key, grantee_key}
+use Rattle.hub_state.specs.declared.request.Target.{Target}
+use Rattle.hub_state.specs.declared.request.Target.TheVariants as target
+use Rattle.hub_state.specs.declared.state.Incident.{Incident}
+use Rattle.hub_state.specs.declared.state.Naming.{Naming}
+use Rattle.hub_state.specs.declared.state.Gate.{Gate}
+use Rattle.hub_state.specs.declared.state.Recipient.{Recipient}
+use Rattle.hub_state.specs.declared.state.Permission.{Permission}
+use Rattle.hub_state.proofs.Keys.{one_path}
 use Rattle.hub_store.specs.Values.{number_or_null, moment_or_null, flag}
 use Rattle.hub_store.specs.Pairs.{Pair, PairSet, pair_row, rows_of_pairs}
 use Rattle.hub_store.specs.Holdings.{IsHeld}

@@ -8,7 +8,7 @@ use Rattle.sqlite_schema.specs.Names.{same_name}
 use Rattle.sqlite.specs.Effect.{Database}
 use Rattle.sqlite.specs.State.{State}
 use Rattle.sqlite.proofs.Callers.{one_permutation}
-use Rattle.hub_core.specs.State as core
+use Rattle.hub_state.specs.State as core
 use Rattle.hub_store.specs.Content.{HasAs, Has}
 use Rattle.hub_store.specs.Means.{HoldsAs}
 use Rattle.hub_store.specs.Opening.{newest, is_older}

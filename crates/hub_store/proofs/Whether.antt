@@ -10,8 +10,8 @@ use Rattle.sqlite_trees.specs.Tree.{Trees}
 use Rattle.sqlite_sql.specs.Term.{Term}
 use Rattle.sqlite_sql.specs.Query.{IsAnswer}
 use Rattle.circle.proofs.Lookup.{any_having, some_having}
-use Rattle.hub_core.proofs.Counted.{any_same}
-use Rattle.hub_core.proofs.Twins.{any_map}
+use Rattle.hub_state.proofs.Counted.{any_same}
+use Rattle.hub_state.proofs.Keeping.{any_map}
 use Rattle.hub_store.specs.Holdings.{Holding, IsHeld}
 use Rattle.hub_store.proofs.Finding.{Once, only_one}
 use Rattle.hub_store.proofs.Forms.{one_table}

@@ -2,8 +2,8 @@
 use Rattle.std.specs.Prelude.{◌≡◌, ℕ, Option, Some, None, IsTrue}
 use Rattle.sqlite_trees.specs.Tree.{Trees}
 use Rattle.sqlite.specs.State.{State}
-use Rattle.hub_core.specs.State as core
-use Rattle.hub_core.specs.Sound.{IsSound}
+use Rattle.hub_state.specs.State as core
+use Rattle.hub_state.specs.Sound.{IsSound}
 use Rattle.hub_store.specs.Layout.{newest}
 use Rattle.hub_store.specs.Means.{TreesHoldAs, HoldsAs, Holds}
 

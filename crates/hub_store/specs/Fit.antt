@@ -9,10 +9,10 @@ use Rattle.circle.specs.declared.directory.Org.{Org}
 use Rattle.circle.specs.declared.directory.Account.{Account}
 use Rattle.circle.specs.declared.directory.Community.{Community}
 use Rattle.circle.specs.declared.directory.Group.{Group}
-use Rattle.hub_core.specs.State.{State}
-use Rattle.hub_core.specs.declared.state.Incident.{Incident}
-use Rattle.hub_core.specs.declared.state.Gate.{Gate}
-use Rattle.hub_core.specs.declared.state.Permission.{Permission}
+use Rattle.hub_state.specs.State.{State}
+use Rattle.hub_state.specs.declared.state.Incident.{Incident}
+use Rattle.hub_state.specs.declared.state.Gate.{Gate}
+use Rattle.hub_state.specs.declared.state.Permission.{Permission}
 use Rattle.hub_store.specs.Rows.{document_text, named_row, permission_row}
 use Rattle.hub_store.specs.Items.{Item, items_of, item_row}
 

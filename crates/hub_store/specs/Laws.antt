@@ -4,7 +4,7 @@ use Rattle.sqlite_trees.specs.Tree.{Trees}
 use Rattle.sqlite_trees.specs.declared.store.Store as store
 use Rattle.sqlite.specs.Held.{Held, state}
 use Rattle.sqlite.specs.State.{State, IsLive, Opens}
-use Rattle.hub_core.specs.State as core
+use Rattle.hub_state.specs.State as core
 use Rattle.hub_store.specs.Content.{Has, IsMeaning, MayLeave}
 
 -- a connection that was just opened finds these trees

@@ -20,13 +20,13 @@ use Rattle.circle.specs.declared.directory.Group.{Group}
 use Rattle.circle.specs.declared.directory.GroupMember.{GroupMember}
 use Rattle.circle.specs.declared.directory.Arrangement.{Arrangement}
 use Rattle.circle.specs.Directory.{Directory, client_key, membership_key, connection_key, group_member_key, arrangement_key}
-use Rattle.hub_core.specs.Documents.{Lines}
-use Rattle.hub_core.specs.State.{target_key, grantee_key}
-use Rattle.hub_core.specs.declared.state.Incident.{Incident}
-use Rattle.hub_core.specs.declared.state.Naming.{Naming}
-use Rattle.hub_core.specs.declared.state.Gate.{Gate}
-use Rattle.hub_core.specs.declared.state.Recipient.{Recipient}
-use Rattle.hub_core.specs.declared.state.Permission.{Permission}
+use Rattle.hub_state.specs.Documents.{Lines}
+use Rattle.hub_state.specs.State.{target_key, grantee_key}
+use Rattle.hub_state.specs.declared.state.Incident.{Incident}
+use Rattle.hub_state.specs.declared.state.Naming.{Naming}
+use Rattle.hub_state.specs.declared.state.Gate.{Gate}
+use Rattle.hub_state.specs.declared.state.Recipient.{Recipient}
+use Rattle.hub_state.specs.declared.state.Permission.{Permission}
 use Rattle.hub_store.specs.Values.{number_or_null, moment_or_null, flag}
 use Rattle.hub_store.specs.Pairs.{Pair, PairSet}
 

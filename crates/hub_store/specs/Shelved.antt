@@ -6,9 +6,9 @@ use Rattle.sqlite.specs.Held.{Held, held_code, state}
 use Rattle.circle.specs.declared.directory.Role.{Role}
 use Rattle.circle.specs.declared.directory.Role.TheVariants as role
 use Rattle.circle.specs.declared.directory.Person.{Person}
-use Rattle.hub_core.specs.State.{State}
-use Rattle.hub_core.specs.Reads.{reader_of}
-use Rattle.hub_core.specs.declared.look_ups.Reader.{Reader}
+use Rattle.hub_state.specs.State.{State}
+use Rattle.hub_state.specs.Reads.{reader_of}
+use Rattle.hub_state.specs.declared.look_ups.Reader.{Reader}
 use Rattle.hub_store.specs.Content.{Has}
 use Rattle.hub_store.specs.Rows.{role_number}
 

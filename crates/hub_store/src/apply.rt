@@ -3,8 +3,8 @@
 ghost use Rattle.std.specs.Prelude.{◌≡◌, false, OnOk, OnErr};
 ghost use Rattle.sqlite.specs.State.{HasCleanDisk, Survives};
 ghost use Rattle.sqlite.specs.Held.{state};
-ghost use Rattle.hub_core.specs.State.{State};
-ghost use Rattle.hub_core.specs.Edits.{with_edits};
+ghost use Rattle.hub_state.specs.State.{State};
+ghost use Rattle.hub_state.specs.Edits.{with_edits};
 ghost use Rattle.hub_store.specs.Content.{Has, CommitsState};
 ghost use Rattle.hub_store.specs.Keeps.{Goes, KeepsCommitted};
 ghost use Rattle.hub_store.specs.inner.Makes.{Makes};
@@ -12,7 +12,7 @@ ghost use Rattle.hub_store.specs.Means.{Holds, TreesHold};
 
 use crate::incident_edits::make_edit;
 use crate::query::probe;
-use hub_core::Edit;
+use hub_state::Edit;
 use sqlite::{Alter, Connection, Error, Transaction};
 use std::alloc::Global;
 

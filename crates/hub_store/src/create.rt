@@ -3,7 +3,7 @@
 ghost use Rattle.std.specs.Prelude.{◌≡◌, ◌≢◌, false, OnOk, OnErr, IfErr};
 ghost use Rattle.sqlite.specs.State.{HasCleanDisk, Survives};
 ghost use Rattle.sqlite.specs.Held.{state};
-ghost use Rattle.hub_core.specs.State.{empty};
+ghost use Rattle.hub_state.specs.State.{empty};
 ghost use Rattle.hub_store.specs.Layout.{newest, bare_by};
 ghost use Rattle.hub_store.specs.Parts.{HoldsParts};
 ghost use Rattle.hub_store.specs.Tables.{no_schema, schema_by};

@@ -5,9 +5,9 @@ ghost use Rattle.sqlite_value.specs.declared.value.Value.TheVariants.{Int, Text}
 ghost use Rattle.sqlite.specs.State.{HasCleanDisk};
 ghost use Rattle.sqlite.specs.Held.{state};
 ghost use Rattle.circle.specs.declared.command.RowEdit.TheVariants.{PutOrg, PutAccount, Suspend, PutClient, TakeClient, PutCommunity, PutMembership, TakeMembership, PutConnection, TakeConnection, PutGroup, PutGroupMember, TakeGroupMember, SetGroupActive, PutArrangement, TakeArrangement, SetNominated};
-ghost use Rattle.hub_core.specs.State.{State};
-ghost use Rattle.hub_core.specs.Edits.{edited};
-ghost use Rattle.hub_core.specs.declared.edit.Edit.TheVariants.{Directory};
+ghost use Rattle.hub_state.specs.State.{State};
+ghost use Rattle.hub_state.specs.Edits.{edited};
+ghost use Rattle.hub_state.specs.declared.edit.Edit.TheVariants.{Directory};
 ghost use Rattle.hub_store.specs.Pairs.{pair_row, put_pair, take_pair};
 ghost use Rattle.hub_store.specs.inner.PairKinds.{kind_name};
 ghost use Rattle.hub_store.specs.Means.{Holds};

@@ -1,9 +1,9 @@
 //! How a failure of the store is told.
 
 ghost use Rattle.std.specs.Prelude.{◌≡◌, ◌<◌, ◌+◌, ◌↔◌, IfOk, IsErrOf};
-ghost use Rattle.hub_core.specs.Shelves.{HasCause, last_count};
+ghost use Rattle.hub_state.specs.Shelves.{HasCause, last_count};
 
-use hub_core::ShelfFault;
+use hub_state::ShelfFault;
 use sqlite::{Error, ErrorCode};
 
 /// Want of memory is told apart from all else.

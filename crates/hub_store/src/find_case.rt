@@ -2,7 +2,7 @@
 
 ghost use Rattle.std.specs.Prelude.{◌≡◌, false};
 ghost use Rattle.sqlite.specs.Held.{state};
-ghost use Rattle.hub_core.specs.Reads.{case_of, its_gates};
+ghost use Rattle.hub_state.specs.Reads.{case_of, its_gates};
 ghost use Rattle.hub_store.specs.inner.Queries.{IsReadInside, IsReadOutside};
 ghost use Rattle.hub_store.specs.inner.Shown.{IsCase};
 
@@ -10,7 +10,7 @@ use crate::find_gates::read_gates;
 use crate::find_naming::read_naming;
 use crate::find_permissions::read_permissions;
 use crate::from_row::STRANGE;
-use hub_core::Naming;
+use hub_state::Naming;
 use policy::{Case, Gates};
 use sqlite::{Alter, Connection, Error, Transaction};
 use std::alloc::Global;

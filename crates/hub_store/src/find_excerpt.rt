@@ -3,7 +3,7 @@
 ghost use Rattle.std.specs.Prelude.{◌≡◌, false, None, option_map, IfOk};
 ghost use Rattle.sqlite.specs.Held.{state};
 ghost use Rattle.redact.specs.Excerpts.{told_by, served_of};
-ghost use Rattle.hub_core.specs.Reads.{served_of_incident};
+ghost use Rattle.hub_state.specs.Reads.{served_of_incident};
 ghost use Rattle.hub_store.specs.inner.Queries.{IsReadOutside};
 
 use crate::feed_rows::feed_rows;

@@ -3,9 +3,9 @@
 ghost use Rattle.std.specs.Prelude.{◌≡◌, ℕ, true, false, None, IfOk};
 ghost use Rattle.sqlite.specs.Held.{state};
 ghost use Rattle.redact.specs.Probed.{IsSure};
-ghost use Rattle.hub_core.specs.State.{State};
-ghost use Rattle.hub_core.specs.Sound.{IsSound};
-ghost use Rattle.hub_core.specs.Reads.{met_by_incident};
+ghost use Rattle.hub_state.specs.State.{State};
+ghost use Rattle.hub_state.specs.Sound.{IsSound};
+ghost use Rattle.hub_state.specs.Reads.{met_by_incident};
 ghost use Rattle.hub_store.specs.inner.ProbesRows.{AreFirst};
 ghost use Rattle.hub_store.specs.inner.Queries.{IsReadOutside};
 

@@ -2,7 +2,7 @@
 
 ghost use Rattle.std.specs.Prelude.{◌≡◌, false};
 ghost use Rattle.sqlite.specs.Held.{state};
-ghost use Rattle.hub_core.specs.Reads.{its_permissions};
+ghost use Rattle.hub_state.specs.Reads.{its_permissions};
 ghost use Rattle.hub_store.specs.inner.Queries.{IsReadInside, IsReadOutside};
 
 use crate::from_row::all;

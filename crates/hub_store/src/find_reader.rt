@@ -2,7 +2,7 @@
 
 ghost use Rattle.std.specs.Prelude.{◌≡◌, false};
 ghost use Rattle.sqlite.specs.Held.{state};
-ghost use Rattle.hub_core.specs.Reads.{reader_of, reader_with};
+ghost use Rattle.hub_state.specs.Reads.{reader_of, reader_with};
 ghost use Rattle.hub_store.specs.inner.Queries.{IsReadInside, IsReadOutside};
 
 use crate::find_arranged::read_orgs_whose_client;
@@ -10,7 +10,7 @@ use crate::find_communities::read_communities;
 use crate::find_groups::read_groups_joined;
 use crate::find_numbered::read_person_of;
 use circle::directory::Person;
-use hub_core::Reader;
+use hub_state::Reader;
 use policy::Numbers;
 use sqlite::{Alter, Connection, Error, Transaction};
 use std::alloc::Global;

@@ -2,12 +2,12 @@
 
 ghost use Rattle.std.specs.Prelude.{◌≡◌, false};
 ghost use Rattle.sqlite.specs.Held.{state};
-ghost use Rattle.hub_core.specs.Reads.{its_recipients};
+ghost use Rattle.hub_state.specs.Reads.{its_recipients};
 ghost use Rattle.hub_store.specs.inner.Queries.{IsReadInside, IsReadOutside};
 
 use crate::from_row::all;
 use crate::query::ask;
-use hub_core::Recipients;
+use hub_state::Recipients;
 use sqlite::{Alter, Connection, Error, Transaction, params};
 use std::alloc::Global;
 

@@ -2,12 +2,12 @@
 
 ghost use Rattle.std.specs.Prelude.{◌≡◌, false};
 ghost use Rattle.sqlite.specs.Held.{state};
-ghost use Rattle.hub_core.specs.Reads.{sharing_of};
+ghost use Rattle.hub_state.specs.Reads.{sharing_of};
 ghost use Rattle.hub_store.specs.inner.Queries.{IsReadInside, IsReadOutside};
 
 use crate::find_naming::read_naming;
 use crate::find_recipients::read_recipients;
-use hub_core::Shared;
+use hub_state::Shared;
 use sqlite::{Alter, Connection, Error, Transaction};
 use std::alloc::Global;
 

@@ -4,7 +4,7 @@ ghost use Rattle.std.specs.Prelude.{◌≡◌, false, IfSome};
 ghost use Rattle.std.specs.List.{list_any};
 ghost use Rattle.sqlite.specs.Held.{state};
 ghost use Rattle.circle.specs.Reads.{communities_of};
-ghost use Rattle.hub_core.specs.Reads.{ties_of};
+ghost use Rattle.hub_state.specs.Reads.{ties_of};
 ghost use Rattle.hub_store.specs.inner.Queries.{IsReadInside, IsReadOutside};
 ghost use Rattle.hub_store.specs.inner.ShownPairs.{AreRising, is_one_of, linked_with, are_linked};
 ghost use Rattle.hub_store.specs.inner.ShownPairs as spec;
@@ -15,7 +15,7 @@ use crate::find_communities::read_communities;
 use crate::pair_kind::PairKind;
 use crate::read_pairs::{read_firsts, read_seconds};
 use circle::directory::Handling;
-use hub_core::Ties;
+use hub_state::Ties;
 use sqlite::{Alter, Connection, Error, Transaction};
 use std::alloc::Global;
 

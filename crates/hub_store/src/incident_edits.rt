@@ -3,9 +3,9 @@
 ghost use Rattle.std.specs.Prelude.{◌≡◌, ◌==◌, not, map, filter};
 ghost use Rattle.sqlite.specs.Held.{state};
 ghost use Rattle.iodef_tree.specs.Pointer.{pointer_text};
-ghost use Rattle.hub_core.specs.State.{State};
-ghost use Rattle.hub_core.specs.Edits.{edited};
-ghost use Rattle.hub_core.specs.declared.edit.Edit.TheVariants.{PutIncident, TakeIncident, TakePolicy, PutGate, TakeGate, PutRecipient, TakeRecipient, PutPermission, TakePermission};
+ghost use Rattle.hub_state.specs.State.{State};
+ghost use Rattle.hub_state.specs.Edits.{edited};
+ghost use Rattle.hub_state.specs.declared.edit.Edit.TheVariants.{PutIncident, TakeIncident, TakePolicy, PutGate, TakeGate, PutRecipient, TakeRecipient, PutPermission, TakePermission};
 ghost use Rattle.hub_store.specs.Items.{Item, items_of, item_row};
 ghost use Rattle.hub_store.specs.Rows.{named_row};
 ghost use Rattle.hub_store.specs.inner.Partly.{without_gates};
@@ -16,7 +16,7 @@ use crate::directory_edits::make_row;
 use crate::put_lines::put_lines;
 use crate::put_naming::put_naming;
 use crate::statement::run;
-use hub_core::{
+use hub_state::{
     Edit, Gate, GateKey, Incident, Permission, PermissionKey, Recipient, grantee_key, target_key,
 };
 use sqlite::{Alter, Error, Transaction, params};

@@ -4,13 +4,13 @@ ghost use Rattle.std.specs.Prelude.{◌≡◌, ℕ, ℤ, Option, IfOk};
 ghost use Rattle.sqlite_value.specs.Order.{column};
 ghost use Rattle.iodef_tree.specs.Pointer.{pointer_text};
 ghost use Rattle.iodef_tree.specs.Text.{Tokens};
-ghost use Rattle.hub_core.specs.State.{target_key, grantee_key};
+ghost use Rattle.hub_state.specs.State.{target_key, grantee_key};
 ghost use Rattle.hub_store.specs.inner.Shown.{IsShownBy, entry_shown, naming_shown, gate_shown, target_shown, permission_shown};
 ghost use Rattle.hub_store.specs.Values.{number_or_null, moment_or_null};
 
 use crate::from_row::{FromRow, NO_MEMORY, STRANGE};
 use circle::text::Text;
-use hub_core::{Entry, Naming, Target};
+use hub_state::{Entry, Naming, Target};
 use iodef_tree::{Path, PathFault};
 use policy::{Gate, Grantee, Permission};
 use sqlite::{Error, Row};

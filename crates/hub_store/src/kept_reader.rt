@@ -3,7 +3,7 @@
 ghost use Rattle.std.specs.Prelude.{◌≡◌, IfOk, IfSome, Some};
 ghost use Rattle.hub_store.specs.Shelved.{IsKeptOf};
 
-use hub_core::Reader;
+use hub_state::Reader;
 use policy::Numbers;
 use std::alloc::{AllocError, Global};
 

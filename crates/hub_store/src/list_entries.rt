@@ -2,12 +2,12 @@
 
 ghost use Rattle.std.specs.Prelude.{◌≡◌, false};
 ghost use Rattle.sqlite.specs.Held.{state};
-ghost use Rattle.hub_core.specs.Reads.{entries_after};
+ghost use Rattle.hub_state.specs.Reads.{entries_after};
 ghost use Rattle.hub_store.specs.inner.Queries.{IsReadInside, IsReadOutside};
 
 use crate::from_row::all;
 use crate::query::ask;
-use hub_core::Entry;
+use hub_state::Entry;
 use sqlite::{Alter, Connection, Error, Transaction, params};
 use std::alloc::Global;
 

@@ -4,8 +4,8 @@ ghost use Rattle.std.specs.Prelude.{◌≡◌, ◌≢◌, ◌<◌, ◌≤◌, �
 ghost use Rattle.sqlite_value.specs.Order.{Row};
 ghost use Rattle.sqlite.specs.State.{HasCleanDisk, Survives};
 ghost use Rattle.sqlite.specs.Held.{state};
-ghost use Rattle.hub_core.specs.State.{State};
-ghost use Rattle.hub_core.specs.Sound.{IsSound};
+ghost use Rattle.hub_state.specs.State.{State};
+ghost use Rattle.hub_state.specs.Sound.{IsSound};
 ghost use Rattle.hub_store.specs.Fit.{AreTaken};
 ghost use Rattle.hub_store.specs.Items.{items_of, item_row};
 ghost use Rattle.hub_store.specs.Layout.{newest, parts_1, without_incidents, tables_2};
@@ -29,7 +29,7 @@ use crate::query::{ask, probe};
 use crate::set_version::set_version;
 use crate::to_version_2::{create_incident, create_item, drop_incident};
 use crate::version::NEWEST;
-use hub_core::{Incident, Naming};
+use hub_state::{Incident, Naming};
 use sqlite::{Alter, Connection, Error, ErrorCode, Transaction, params};
 use std::alloc::Global;
 

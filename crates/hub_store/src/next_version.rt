@@ -2,8 +2,8 @@
 
 ghost use Rattle.std.specs.Prelude.{◌≡◌, ◌≤◌, ◌<◌, ◌+◌};
 ghost use Rattle.sqlite.specs.Held.{state};
-ghost use Rattle.hub_core.specs.State.{State};
-ghost use Rattle.hub_core.specs.Sound.{IsSound};
+ghost use Rattle.hub_state.specs.State.{State};
+ghost use Rattle.hub_state.specs.Sound.{IsSound};
 ghost use Rattle.hub_store.specs.Fit.{AreTaken};
 ghost use Rattle.hub_store.specs.Keeps.{Goes};
 ghost use Rattle.hub_store.specs.Layout.{newest, bare_by};

@@ -2,14 +2,14 @@
 
 ghost use Rattle.std.specs.Prelude.{◌≡◌, [], ◌∷◌, Ok, IfOk, IfErr};
 ghost use Rattle.iodef_tree.specs.Reading.{reading};
-ghost use Rattle.hub_core.specs.declared.state.Incident.{Incident as OldIncident};
+ghost use Rattle.hub_state.specs.declared.state.Incident.{Incident as OldIncident};
 ghost use Rattle.hub_store.specs.inner.Shown.{ShowsFirst};
 ghost use Rattle.hub_store.specs.Failing.{IsUnheld};
 ghost use Rattle.hub_store.specs.inner.Moving.{ShowsIncident, ShowsNaming, ShowsDocument, old_shown, IsReadable, ReadsFirst};
 
 use crate::from_row::{NO_MEMORY, STRANGE};
 use circle::text::Text;
-use hub_core::{Incident, Naming};
+use hub_state::{Incident, Naming};
 use iodef_tree::{Document, ReadFault};
 use sqlite::{Error, Row};
 use std::alloc::Global;

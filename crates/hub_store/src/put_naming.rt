@@ -3,7 +3,7 @@
 ghost use Rattle.std.specs.Prelude.{◌≡◌, ◌∷◌, List, IsPermutation};
 ghost use Rattle.sqlite_value.specs.Order.{Row};
 ghost use Rattle.sqlite.specs.Held.{state};
-ghost use Rattle.hub_core.specs.State.{State};
+ghost use Rattle.hub_state.specs.State.{State};
 ghost use Rattle.hub_store.specs.Rows.{naming_row_2, naming_row};
 ghost use Rattle.hub_store.specs.inner.Beside.{CanName};
 ghost use Rattle.hub_store.specs.Layout.{tables_2};
@@ -12,7 +12,7 @@ ghost use Rattle.hub_store.specs.Means.{HoldsBetween};
 ghost use Rattle.hub_store.specs.inner.Makes.{Makes, FailsOnly};
 
 use crate::statement::run;
-use hub_core::Naming;
+use hub_state::Naming;
 use sqlite::{Alter, Error, Transaction, params};
 
 /// Puts the row, in an edit.

@@ -1,7 +1,7 @@
 //! The shelf over a connection.
 
 ghost use Rattle.std.specs.Prelude.{◌≡◌, ◌≢◌, ◌<◌, ◌↔◌, Option, Some, None, false, IfOk, IfErr, IsTrue, OnOk};
-ghost use Rattle.hub_core.specs.Shelves.{last_count};
+ghost use Rattle.hub_state.specs.Shelves.{last_count};
 ghost use Rattle.hub_store.specs.Tables.{no_schema};
 ghost use Rattle.hub_store.specs.Opening.{opened_as};
 
@@ -12,7 +12,7 @@ mod shelf;
 use crate::create::make_store;
 use crate::failures::fault_of;
 use crate::version::{NEWEST, version};
-use hub_core::{Reader, ShelfFault};
+use hub_state::{Reader, ShelfFault};
 use sqlite::{Alter, Connection};
 use sqlite_schema::schema::Schema;
 use std::alloc::Global;
@@ -71,7 +71,7 @@ fn is_blank(schema: &Schema) -> bool
 impl<S: Alter> SqlShelf<S> {
     ghost use Rattle.sqlite.specs.State.{HasCleanDisk, Survives};
     ghost use Rattle.sqlite.specs.Held.{state};
-    ghost use Rattle.hub_core.specs.State.{State, empty};
+    ghost use Rattle.hub_state.specs.State.{State, empty};
     ghost use Rattle.hub_store.specs.Content.{Has, MayLeave};
     ghost use Rattle.hub_store.specs.Means.{TreesHold};
     ghost use Rattle.hub_store.specs.Keeps.{KeepsCommitted};

@@ -5,7 +5,7 @@
 ghost use Rattle.std.specs.Prelude.{◌≡◌, List, []};
 ghost use Rattle.sqlite_value.specs.Order.{Row};
 ghost use Rattle.sqlite.specs.Held.{state};
-ghost use Rattle.hub_core.specs.State.{State};
+ghost use Rattle.hub_state.specs.State.{State};
 ghost use Rattle.hub_store.specs.Tables.{schema_by, beside_item, without_incident};
 ghost use Rattle.hub_store.specs.Layout.{parts_1, with_items, without_incidents, tables_2};
 ghost use Rattle.hub_store.specs.Parts.{HoldsParts};

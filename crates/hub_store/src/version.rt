@@ -9,7 +9,7 @@ ghost use Rattle.hub_store.specs.Versions.{tables_at, version_column, only_u32, 
 ghost use Rattle.hub_store.specs.Failing.{HasReason};
 
 use crate::failures::fault_of;
-use hub_core::ShelfFault;
+use hub_state::ShelfFault;
 use sqlite::{Alter, Connection, Error, ErrorCode, Row, Transaction};
 use sqlite_schema::schema::Schema;
 

@@ -5,13 +5,13 @@ use Rattle.std.proofs.lemmas.Bool.{not_from_false}
 use Rattle.std.proofs.lemmas.List.Folds.{list_any_more}
 use Rattle.std.specs.List.{list_any}
 use Rattle.circle.specs.Ordered.{by_number}
-use Rattle.hub_core.specs.Edits.{with_edits, edited}
-use Rattle.hub_core.specs.Reads.{document_of}
-use Rattle.hub_core.specs.State.{State, incident_number}
-use Rattle.hub_core.specs.declared.state.Incident.{Incident}
-use Rattle.hub_core.specs.declared.edit.Edit.{Edit}
-use Rattle.hub_core.specs.declared.edit.Edit.TheVariants.{Directory, PutIncident, TakeIncident, TakePolicy, PutGate, TakeGate, PutRecipient, TakeRecipient, PutPermission, TakePermission}
-use Rattle.hub_core.proofs.Keeping.{not_both, turned, find_put, find_left}
+use Rattle.hub_state.specs.Edits.{with_edits, edited}
+use Rattle.hub_state.specs.Reads.{document_of}
+use Rattle.hub_state.specs.State.{State, incident_number}
+use Rattle.hub_state.specs.declared.state.Incident.{Incident}
+use Rattle.hub_state.specs.declared.edit.Edit.{Edit}
+use Rattle.hub_state.specs.declared.edit.Edit.TheVariants.{Directory, PutIncident, TakeIncident, TakePolicy, PutGate, TakeGate, PutRecipient, TakeRecipient, PutPermission, TakePermission}
+use Rattle.hub_state.proofs.Keeping.{not_both, turned, find_put, find_left}
 use Rattle.kept_documents.specs.Kept.{Entry, AreDocuments, AreSpared, is_of}
 
 one_stays : (n : ℕ) (edit : Edit) (s : State) → is_of n edit ≡ false → document_of n (edited edit s) ≡ document_of n s

@@ -8,7 +8,7 @@ use Rattle.std.proofs.lemmas.Map.{lookup-remove_entry}
 use Rattle.lru.specs.LruCache.{LruCache, IsValid, lru_cache, put_entries, promoted}
 use Rattle.lru.proofs.CallerLemmas.{Contains-take, Contains-lookup, Contains-promoted, Contains-put_entries, Contains-remove_entry}
 use Rattle.lru.proofs.Splits.{Contains-cons, Contains-nil}
-use Rattle.hub_core.specs.Documents.{Lines}
+use Rattle.hub_state.specs.Documents.{Lines}
 use Rattle.kept_documents.specs.Kept.{Entry, AreAmong, AreLight, document_weight}
 
 pub taken_among : (c new start : LruCache ℕ Lines) → new ≡ lru_cache (take (length c.entries - 1) c.entries) c.cap → AreAmong c.entries start.entries → AreAmong new.entries start.entries

@@ -10,9 +10,9 @@ use Rattle.redact.specs.Told.{excerpt_of}
 use Rattle.redact.specs.Excerpts.{served_of}
 use Rattle.redact.specs.Wants.{meets}
 use Rattle.redact.specs.declared.want.Want.{Want}
-use Rattle.hub_core.specs.Documents.{Lines}
-use Rattle.hub_core.specs.Reads.{document_of, served_of_incident, met_by_incident, meets_marked}
-use Rattle.hub_core.specs.State.{State}
+use Rattle.hub_state.specs.Documents.{Lines}
+use Rattle.hub_state.specs.Reads.{document_of, served_of_incident, met_by_incident, meets_marked}
+use Rattle.hub_state.specs.State.{State}
 use Rattle.kept_documents.specs.Kept.{Entry, AreAmong, AreDocuments}
 
 pub served : (n : ℕ) (doc : Lines) (c : Case) (st : Standing) (s : State) → document_of n s ≡ Some doc → first_bad_marking (located doc) ≡ None → excerpt_of doc c st ≡ served_of_incident n c st s

@@ -4,7 +4,7 @@ use Rattle.std.specs.Option.{option_map_or}
 use Rattle.std.specs.Map.{lookup_entry, remove_entry}
 use Rattle.std.proofs.lemmas.Option.{slice_get-get_or}
 use Rattle.lru.specs.LruCache.{LruCache, lru_cache, last_entry, promoted, put_entries}
-use Rattle.hub_core.specs.Documents.{Lines}
+use Rattle.hub_state.specs.Documents.{Lines}
 use Rattle.kept_documents.specs.Kept.{Entry, document_weight, weight_in}
 
 taken : (n : ℕ) (es : List Entry) → weight_in (take n es) ≤ weight_in es

@@ -2,11 +2,11 @@
 use Rattle.std.specs.Prelude.{◌≡◌, ◌≤◌, ℕ, ◌+◌, Bool, false, ◌==◌, List, [], ◌∷◌, length, Some, Contains}
 use Rattle.std.specs.List.{list_any, sum_by}
 use Rattle.iodef_tree.specs.declared.line.Line.{Line}
-use Rattle.hub_core.specs.Documents.{Lines}
-use Rattle.hub_core.specs.State.{State}
-use Rattle.hub_core.specs.Reads.{document_of}
-use Rattle.hub_core.specs.declared.edit.Edit.{Edit}
-use Rattle.hub_core.specs.declared.edit.Edit.TheVariants.{PutIncident, TakeIncident}
+use Rattle.hub_state.specs.Documents.{Lines}
+use Rattle.hub_state.specs.State.{State}
+use Rattle.hub_state.specs.Reads.{document_of}
+use Rattle.hub_state.specs.declared.edit.Edit.{Edit}
+use Rattle.hub_state.specs.declared.edit.Edit.TheVariants.{PutIncident, TakeIncident}
 
 -- an incident's number and a document
 abbrev pub Entry : Type 0

@@ -6,7 +6,7 @@ ghost use Rattle.kept_documents.specs.Kept.{Entry, weight_in, AreLight, AreAmong
 
 use crate::kept::Kept;
 use crate::{DOCUMENT_LIMIT, NOTED_LIMIT, PATIENCE};
-use hub_core::Edit;
+use hub_state::Edit;
 use iodef_tree::Document;
 use lru::LruCache;
 use std::alloc::{AllocError, Global};

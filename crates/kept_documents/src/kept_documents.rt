@@ -1,12 +1,12 @@
 //! The shelf.
 ghost use Rattle.std.specs.Prelude.{◌≡◌, ◌≤◌, [], IfOk};
-ghost use Rattle.hub_core.specs.State.{State};
-ghost use Rattle.hub_core.specs.Shelves.{IsRead};
+ghost use Rattle.hub_state.specs.State.{State};
+ghost use Rattle.hub_state.specs.Shelves.{IsRead};
 ghost use Rattle.kept_documents.specs.Kept.{AreDocuments, AreLight, weight_in};
 
 use crate::documents::Documents;
 use circle::directory::Person;
-use hub_core::{Edit, Entry, Facts, JoinedGroup, Request, Shelf, ShelfFault};
+use hub_state::{Edit, Entry, Facts, JoinedGroup, Request, Shelf, ShelfFault};
 use iodef_tree::Document;
 use policy::{Case, Standing};
 use redact::{Excerpt, Want, excerpt, meets};

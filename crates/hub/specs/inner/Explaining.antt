@@ -10,7 +10,7 @@ use Rattle.circle.specs.declared.directory.Person.{Person}
 use Rattle.hub_core.specs.Documents.{Lines}
 use Rattle.hub_core.specs.State.{State}
 use Rattle.hub_core.specs.Reads.{case_for}
-use Rattle.hub_core.specs.declared.state.Incident.{Incident}
+use Rattle.hub_state.specs.declared.state.Incident.{Incident}
 use Rattle.hub.specs.Told.{standing_at}
 
 -- how a person stands to an incident at a moment, where both are there

@@ -12,8 +12,8 @@ use Rattle.circle.specs.declared.directory.Person.{Person}
 use Rattle.hub_core.specs.Documents.{Lines}
 use Rattle.hub_core.specs.State.{State, incident_of}
 use Rattle.hub_core.specs.Reads.{case_for}
-use Rattle.hub_core.specs.declared.state.Incident.{Incident}
-use Rattle.hub_core.specs.declared.reply.Entry.{Entry}
+use Rattle.hub_state.specs.declared.state.Incident.{Incident}
+use Rattle.hub_state.specs.declared.reply.Entry.{Entry}
 use Rattle.hub.specs.Told.{standing_at}
 use Rattle.hub.specs.declared.page_filter.PageFilter.{PageFilter}
 

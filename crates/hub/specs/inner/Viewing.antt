@@ -1,8 +1,8 @@
 -- A view, from what is read of an incident.
 use Rattle.std.specs.Prelude.{ℕ, ◌==◌, List, [], ◌∷◌, Option, Some, None, if◌then◌else◌}
 use Rattle.redact.specs.Told.{Told}
-use Rattle.hub_core.specs.declared.reply.Entry.{Entry}
-use Rattle.hub_core.specs.declared.reply.View.{View}
+use Rattle.hub_state.specs.declared.reply.Entry.{Entry}
+use Rattle.hub_state.specs.declared.reply.View.{View}
 
 -- the first entry, if it has this number
 abbrev pub first_being : ℕ → List Entry → Option Entry

@@ -4,7 +4,7 @@ ghost use Rattle.std.specs.List.{list_any};
 ghost use Rattle.std.specs.Str.{bytes_eq};
 ghost use Rattle.circle.specs.Refusals.{bad};
 ghost use Rattle.circle.specs.declared.refusal.Code.TheVariants.{B1};
-ghost use Rattle.hub_core.specs.Documents.{Lines, documents_in, fault_in, fault_told, ident_of, marking_told, bad_marking};
+ghost use Rattle.hub_state.specs.Documents.{Lines, documents_in, fault_in, fault_told, ident_of, marking_told, bad_marking};
 ghost use Rattle.hub_core.specs.Refusals.{because, stands_twice};
 ghost use Rattle.hub_core.specs.inner.Asked.{Asks};
 

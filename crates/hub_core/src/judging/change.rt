@@ -1,21 +1,21 @@
 //! Recipients, permissions and gates, one at a time.
 ghost use Rattle.std.specs.Prelude.{◌≡◌, [], ◌∷◌, IfOk};
 ghost use Rattle.hub_core.specs.Judgement.{grounds_by, is_class_at, is_place_at};
-ghost use Rattle.hub_core.specs.Aftermath.{edits_by, put_permission};
+ghost use Rattle.hub_state.specs.Aftermath.{edits_by, put_permission};
 ghost use Rattle.hub_core.specs.inner.Asked.{Asks};
-ghost use Rattle.hub_core.specs.declared.request.Request.TheVariants as ask;
+ghost use Rattle.hub_state.specs.declared.request.Request.TheVariants as ask;
 
-use crate::edit::Edit;
-use crate::facts::Facts;
 use crate::judging::gate::{is_bad_group, is_bad_level, is_root};
 use crate::judging::stop::{
     Stop, bad_if, other_than, own, path_of, poster, refuse_if, refuse_with,
 };
-use crate::request::{Address, Grant, Redistribute, Unaddress, Withdraw};
-use crate::state::{Gate, GateKey, Permission, PermissionKey, Recipient};
 use crate::{GATE_LIMIT, PERMISSION_LIMIT, RECIPIENT_LIMIT};
 use circle::directory::Person;
 use circle::refusal::Code;
+use hub_state::{
+    Address, Edit, Facts, Gate, GateKey, Grant, Permission, PermissionKey, Recipient, Redistribute,
+    Unaddress, Withdraw,
+};
 use iodef_tree::Path;
 use std::alloc::{AllocError, AllocFailed, Global};
 

@@ -4,21 +4,18 @@ ghost use Rattle.std.specs.List.{list_any, list_all};
 ghost use Rattle.std.specs.Str.{bytes_eq};
 ghost use Rattle.circle.specs.Refusals.{bad};
 ghost use Rattle.policy.specs.declared.gate.Gate.{Gate};
-ghost use Rattle.hub_core.specs.Documents.{Lines, is_class_in};
-ghost use Rattle.hub_core.specs.Aftermath.{put_gates};
+ghost use Rattle.hub_state.specs.Documents.{Lines, is_class_in};
+ghost use Rattle.hub_state.specs.Aftermath.{put_gates};
 ghost use Rattle.hub_core.specs.Refusals.{is_bad_gate, are_bad_gates, stands_twice, stand_at_classes};
 ghost use Rattle.hub_core.specs.inner.Asked.{Asks};
 ghost use Rattle.hub_core.specs.inner.Wanted.{asked_as, put_at};
-ghost use Rattle.hub_core.specs.declared.request.WantedGate.{WantedGate};
+ghost use Rattle.hub_state.specs.declared.request.WantedGate.{WantedGate};
 
-use crate::copies::copy_of_gate;
-use crate::edit::Edit;
 use crate::judging::gate::{is_bad_group, is_bad_level, is_root};
 use crate::judging::posted::Posted;
 use crate::judging::stop::{Stop, bad_if, path_of};
-use crate::request::WantedGate;
-use crate::state;
 use circle::text::Text;
+use hub_state::{Edit, WantedGate, copy_of_gate};
 use iodef_tree::{Document, Path};
 use policy::Gate;
 use std::alloc::{AllocError, Global};
@@ -33,7 +30,7 @@ pub struct ClassGates {
 impl Model for ClassGates {
     ghost use Rattle.std.specs.Prelude.{List, map};
     ghost use Rattle.hub_core.specs.inner.Wanted.{asked_as};
-    ghost use Rattle.hub_core.specs.declared.request.WantedGate.{WantedGate};
+    ghost use Rattle.hub_state.specs.declared.request.WantedGate.{WantedGate};
 
     ghost Value = { List WantedGate };
 
@@ -79,7 +76,7 @@ impl ClassGates {
             level,
             group,
         };
-        edits.push(Edit::PutGate(state::Gate { incident, gate }))?;
+        edits.push(Edit::PutGate(hub_state::Gate { incident, gate }))?;
         put_each(edits, incident, &self.gates)?;
         Ok(())
     }
@@ -89,7 +86,7 @@ fn put_each(edits: &mut Vec<Edit>, incident: u32, gates: &[Gate]) -> Result<(), 
     ensures { OnOk result (edits.new.items ≡ edits.old.items ++ map (put_at incident) gates.now) }
 {
     for gate in gates {
-        edits.push(Edit::PutGate(state::Gate {
+        edits.push(Edit::PutGate(hub_state::Gate {
             incident,
             gate: copy_of_gate(gate)?,
         }))?;

@@ -3,13 +3,13 @@ ghost use Rattle.std.specs.Prelude.{◌≡◌, ◌+◌, IfErr, IfOk, None, OnOk,
 ghost use Rattle.circle.specs.Outcomes.{RefusedAs};
 ghost use Rattle.circle.specs.Aftermath.{edit_of, rows_of};
 ghost use Rattle.circle.specs.Judgement.{refusal_by};
-ghost use Rattle.hub_core.specs.declared.edit.Edit.TheVariants as edit;
+ghost use Rattle.hub_state.specs.declared.edit.Edit.TheVariants as edit;
 
-use crate::edit::Edit;
 use circle::command::{CircleCommand, CircleFacts, Edit as Change, RowEdit};
 use circle::directory::{GroupMember, Person};
 use circle::judge::judge;
 use circle::refusal::{Code, Refusal};
+use hub_state::Edit;
 use std::alloc::{AllocFailed, Global};
 
 /// The refusal of circle, or the rows that it changes.

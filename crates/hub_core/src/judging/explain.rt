@@ -1,17 +1,15 @@
 //! What may be wrong with a question for an explanation.
 ghost use Rattle.std.specs.Prelude.{◌≡◌, IfOk};
 ghost use Rattle.hub_core.specs.Judgement.{grounds_by};
-ghost use Rattle.hub_core.specs.Aftermath.{edits_by};
+ghost use Rattle.hub_state.specs.Aftermath.{edits_by};
 ghost use Rattle.hub_core.specs.inner.Asked.{Asks};
-ghost use Rattle.hub_core.specs.declared.request.Request.TheVariants as ask;
+ghost use Rattle.hub_state.specs.declared.request.Request.TheVariants as ask;
 
-use crate::edit::Edit;
-use crate::facts::Facts;
 use crate::judging::change::is_class;
 use crate::judging::stop::{Stop, administrator, path_of, refuse_if};
-use crate::request::Explain;
 use circle::directory::Person;
 use circle::refusal::Code;
+use hub_state::{Edit, Explain, Facts};
 use std::alloc::Global;
 
 /// An administrator asks why an active person sees a class of an incident, or doesn't.

@@ -6,7 +6,7 @@ ghost use Rattle.hub_core.specs.Refusals as spec;
 ghost use Rattle.hub_core.specs.inner.Asked.{Asks};
 
 use crate::judging::stop::{Stop, bad_if};
-use crate::request::Distribution;
+use hub_state::Distribution;
 use iodef_tree::Path;
 use std::alloc::Global;
 

@@ -1,24 +1,21 @@
 //! New incidents, one for each Incident of a body.
 ghost use Rattle.std.specs.Prelude.{◌≡◌, ◌+◌, ◌<◌, ◌≤◌, ◌^◌, length, IfOk, OnOk};
-ghost use Rattle.hub_core.specs.Documents.{documents_in};
-ghost use Rattle.hub_core.specs.Aftermath.{edits_by};
-ghost use Rattle.hub_core.specs.Aftermath as spec;
+ghost use Rattle.hub_state.specs.Documents.{documents_in};
+ghost use Rattle.hub_state.specs.Aftermath.{edits_by};
+ghost use Rattle.hub_state.specs.Aftermath as spec;
 ghost use Rattle.hub_core.specs.Judgement.{grounds_by, post_arguments, post_facts};
 ghost use Rattle.hub_core.specs.inner.Asked.{Asks};
-ghost use Rattle.hub_core.specs.declared.request.Request.TheVariants as ask;
+ghost use Rattle.hub_state.specs.declared.request.Request.TheVariants as ask;
 
-use crate::edit::Edit;
-use crate::facts::Facts;
 use crate::judging::body::{documents, have_twins, well_marked};
 use crate::judging::class_gates::ClassGates;
 use crate::judging::gate::root_level;
 use crate::judging::posted::Posted;
 use crate::judging::stop::{Stop, bad_if, poster, refuse_if, refuse_with};
-use crate::request::Post;
-use crate::state::{Incident, Naming};
 use crate::{GATE_LIMIT, INCIDENT_LIMIT};
 use circle::directory::Person;
 use circle::refusal::Code;
+use hub_state::{Edit, Facts, Incident, Naming, Post};
 use std::alloc::{AllocError, Global};
 
 /// An incident for each Incident of the body, or a refusal and none.

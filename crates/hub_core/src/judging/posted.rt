@@ -1,6 +1,6 @@
 //! A document of a body, with what its incident is named by.
 ghost use Rattle.std.specs.Prelude.{◌≡◌, IfOk};
-ghost use Rattle.hub_core.specs.Documents.{ident_of};
+ghost use Rattle.hub_state.specs.Documents.{ident_of};
 
 use circle::text::Text;
 use iodef_tree::Document;
@@ -17,7 +17,7 @@ pub struct Posted {
 impl Model for Posted {
     ghost use Rattle.std.specs.Prelude.{◌≡◌, List};
     ghost use Rattle.iodef_tree.specs.declared.line.Line.{Line};
-    ghost use Rattle.hub_core.specs.Documents.{ident_of};
+    ghost use Rattle.hub_state.specs.Documents.{ident_of};
 
     ghost Value = { List Line };
 

@@ -2,25 +2,22 @@
 ghost use Rattle.std.specs.Prelude.{◌≡◌, ◌+◌, ◌≤◌, true, Some, length, IfOk};
 ghost use Rattle.std.specs.List.{list_all};
 ghost use Rattle.std.specs.Str.{bytes_eq};
-ghost use Rattle.hub_core.specs.Documents.{Lines, documents_in, ident_of};
+ghost use Rattle.hub_state.specs.Documents.{Lines, documents_in, ident_of};
 ghost use Rattle.hub_core.specs.Judgement.{grounds_by, replace_arguments, replace_facts};
-ghost use Rattle.hub_core.specs.Aftermath.{edits_by, put_revision};
+ghost use Rattle.hub_state.specs.Aftermath.{edits_by, put_revision};
 ghost use Rattle.hub_core.specs.inner.Asked.{Asks};
-ghost use Rattle.hub_core.specs.declared.request.Request.TheVariants as ask;
+ghost use Rattle.hub_state.specs.declared.request.Request.TheVariants as ask;
 
-use crate::edit::Edit;
-use crate::facts::{Facts, IncidentFacts};
 use crate::judging::body::{documents, well_marked};
 use crate::judging::class_gates::ClassGates;
 use crate::judging::gate::root_level;
 use crate::judging::posted::Posted;
 use crate::judging::stop::{Stop, bad_if, other_than, own, poster, refuse_if, refuse_with};
-use crate::request::Replace;
-use crate::state::{Incident, Naming};
 use crate::{GATE_LIMIT, REVISION_LIMIT};
 use circle::directory::Person;
 use circle::refusal::Code;
 use circle::text::Text;
+use hub_state::{Edit, Facts, Incident, IncidentFacts, Naming, Replace};
 use std::alloc::{AllocError, Global};
 
 /// The incident in its next revision, with the community and the gates given; its permissions are taken out and its recipients stay.

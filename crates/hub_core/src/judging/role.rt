@@ -2,13 +2,13 @@
 ghost use Rattle.std.specs.Prelude.{◌≡◌, true, Some};
 ghost use Rattle.circle.specs.Outcomes.{bare};
 ghost use Rattle.circle.specs.declared.refusal.Code.TheVariants.{W1};
-ghost use Rattle.hub_core.specs.State.{State};
+ghost use Rattle.hub_state.specs.State.{State};
 ghost use Rattle.hub_core.specs.Refusals.{refusal_of};
 ghost use Rattle.hub_core.specs.Refusals as spec;
 
 use crate::judging::stop::may_post;
-use crate::request::Request;
 use circle::directory::Person;
+use hub_state::Request;
 
 /// Whether the request changes an incident and the actor's role forbids that: then it is refused with `W1` in every state,
 /// so nothing needs to be read for it, neither its body nor the shelf.

@@ -2,17 +2,15 @@
 ghost use Rattle.std.specs.Prelude.{◌≡◌, IfOk};
 ghost use Rattle.hub_core.specs.Judgement.{grounds_by};
 ghost use Rattle.hub_core.specs.Refusals as spec;
-ghost use Rattle.hub_core.specs.Aftermath.{edits_by};
+ghost use Rattle.hub_state.specs.Aftermath.{edits_by};
 ghost use Rattle.hub_core.specs.inner.Asked.{Asks};
-ghost use Rattle.hub_core.specs.declared.request.Request.TheVariants as ask;
+ghost use Rattle.hub_state.specs.declared.request.Request.TheVariants as ask;
 
 use crate::WORD_LIMIT;
-use crate::edit::Edit;
-use crate::facts::Facts;
 use crate::judging::stop::{Stop, bad_if};
-use crate::request::Search;
 use circle::directory::Person;
 use circle::text::Text;
+use hub_state::{Edit, Facts, Search};
 use std::alloc::Global;
 
 /// A needle, or the name of a class, has 1 to [`WORD_LIMIT`] bytes.

@@ -8,10 +8,10 @@ ghost use Rattle.hub_core.specs.Refusals as spec;
 ghost use Rattle.hub_core.specs.inner.Asked.{Asks};
 ghost use Rattle.hub_core.specs.declared.judging.stop.Stop.TheVariants.{NoMemory};
 
-use crate::facts::{Facts, IncidentFacts};
 use circle::directory::{Person, Role};
 use circle::refusal::{Code, Refusal};
 use circle::text::Text;
+use hub_state::{Facts, IncidentFacts};
 use iodef_tree::{Path, PathFault};
 use std::alloc::{AllocError, AllocFailed, Global};
 

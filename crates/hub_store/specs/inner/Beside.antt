@@ -9,10 +9,10 @@ use Rattle.sqlite_trees.specs.Tree.{rowid}
 use Rattle.sqlite_schema.specs.Rules.{equal}
 use Rattle.sqlite.specs.Effect.{Database}
 use Rattle.circle.specs.Sound.{Pairwise}
-use Rattle.hub_core.specs.State.{State}
+use Rattle.hub_state.specs.State.{State}
 use Rattle.hub_store.specs.Items.{Item, item_row}
-use Rattle.hub_core.specs.declared.state.Naming.{Naming}
-use Rattle.hub_core.specs.declared.state.Permission.{Permission}
+use Rattle.hub_state.specs.declared.state.Naming.{Naming}
+use Rattle.hub_state.specs.declared.state.Permission.{Permission}
 use Rattle.hub_store.specs.Rows.{naming_row_2, endless_row, without_end}
 use Rattle.hub_store.specs.inner.Shown.{naming_shown_2}
 use Rattle.hub_store.specs.Fit.{ShortItem, IsShort}

@@ -3,9 +3,9 @@ use Rattle.std.specs.Prelude.{◌≡◌, ℕ, [], ◌∷◌, ◌++◌, None, unw
 use Rattle.sqlite_value.specs.Order.{Row}
 use Rattle.iodef_tree.specs.declared.line.Line.{Line}
 use Rattle.redact.specs.Feeding.{PassState}
-use Rattle.hub_core.specs.Documents.{Lines}
-use Rattle.hub_core.specs.Reads.{document_of}
-use Rattle.hub_core.specs.State.{State}
+use Rattle.hub_state.specs.Documents.{Lines}
+use Rattle.hub_state.specs.Reads.{document_of}
+use Rattle.hub_state.specs.State.{State}
 use Rattle.hub_store.specs.inner.Shown.{ShowsPlaced}
 
 -- no line came yet

@@ -2,8 +2,8 @@
 use Rattle.std.specs.Prelude.{Result, IfOk, OnOk, IsTrue}
 use Rattle.sqlite.specs.declared.error.Error.{Error}
 use Rattle.sqlite.specs.State.{State, HasCleanDisk, KeepsCommit, IsUnchanged, Survives}
-use Rattle.hub_core.specs.State as core
-use Rattle.hub_core.specs.Sound.{IsSound}
+use Rattle.hub_state.specs.State as core
+use Rattle.hub_state.specs.Sound.{IsSound}
 use Rattle.hub_store.specs.Keeps.{Knows}
 use Rattle.hub_store.specs.Means.{Holds}
 

@@ -5,12 +5,12 @@ use Rattle.sqlite_value.specs.declared.value.Value.TheVariants.{Text}
 use Rattle.sqlite_value.specs.Order.{Row}
 use Rattle.sqlite.specs.Effect.{Database}
 use Rattle.iodef_tree.specs.Reading.{reading}
-use Rattle.hub_core.specs.Documents.{Lines}
-use Rattle.hub_core.specs.Sound.{IsSound}
-use Rattle.hub_core.specs.State.{State}
-use Rattle.hub_core.specs.declared.TheConstants.{INCIDENT_LIMIT}
-use Rattle.hub_core.specs.declared.state.Incident.{Incident}
-use Rattle.hub_core.specs.declared.state.Naming.{Naming}
+use Rattle.hub_state.specs.Documents.{Lines}
+use Rattle.hub_state.specs.Sound.{IsSound}
+use Rattle.hub_state.specs.State.{State}
+use Rattle.hub_state.specs.declared.TheConstants.{INCIDENT_LIMIT}
+use Rattle.hub_state.specs.declared.state.Incident.{Incident}
+use Rattle.hub_state.specs.declared.state.Naming.{Naming}
 use Rattle.hub_store.specs.Fit.{FitIncident, NoneNamesCommunity}
 use Rattle.hub_store.specs.Rows.{document_text}
 use Rattle.hub_store.specs.inner.Shown.{naming_shown_2}

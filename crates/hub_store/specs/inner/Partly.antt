@@ -1,7 +1,7 @@
 -- A state between two statements of one edit.
 use Rattle.std.specs.Prelude.{ℕ, not, ◌==◌, filter}
-use Rattle.hub_core.specs.State.{State}
-use Rattle.hub_core.specs.declared.state.Gate.{Gate}
+use Rattle.hub_state.specs.State.{State}
+use Rattle.hub_state.specs.declared.state.Gate.{Gate}
 
 -- without the gates of an incident
 abbrev pub without_gates : ℕ → State → State

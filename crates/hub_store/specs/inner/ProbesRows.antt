@@ -3,8 +3,8 @@ use Rattle.std.specs.Prelude.{◌≡◌, ℕ, Bool, true, false, [], ◌∷◌, 
 use Rattle.sqlite_value.specs.Order.{Row}
 use Rattle.iodef_tree.specs.declared.line.Line.{Line}
 use Rattle.redact.specs.Probed.{ProbeState, IsSure}
-use Rattle.hub_core.specs.Documents.{Lines}
-use Rattle.hub_core.specs.State.{State}
+use Rattle.hub_state.specs.Documents.{Lines}
+use Rattle.hub_state.specs.State.{State}
 use Rattle.hub_store.specs.inner.FeedsRows.{lines_of}
 use Rattle.hub_store.specs.inner.Shown.{ShowsPlaced}
 

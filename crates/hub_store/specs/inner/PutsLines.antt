@@ -3,8 +3,8 @@ use Rattle.std.specs.Prelude.{ℕ, List, ◌++◌, map, Result, IsPermutation}
 use Rattle.sqlite_value.specs.Order.{Row}
 use Rattle.sqlite.specs.declared.error.Error.{Error}
 use Rattle.sqlite.specs.State.{State}
-use Rattle.hub_core.specs.Documents.{Lines}
-use Rattle.hub_core.specs.State as core
+use Rattle.hub_state.specs.Documents.{Lines}
+use Rattle.hub_state.specs.State as core
 use Rattle.hub_store.specs.Items.{items_from, item_row}
 use Rattle.hub_store.specs.Means.{HoldsBetween}
 use Rattle.hub_store.specs.Keeps.{Goes}

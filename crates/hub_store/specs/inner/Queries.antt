@@ -5,8 +5,8 @@ use Rattle.sqlite_trees.specs.declared.store.Store as store
 use Rattle.sqlite.specs.declared.error.Error.{Error}
 use Rattle.sqlite.specs.Held.{Held, state}
 use Rattle.sqlite.specs.State.{State, HasCleanDisk, KeepsCommit, IsUnchanged, Shown, FailsToQuery, IsTooLate, Survives}
-use Rattle.hub_core.specs.State as core
-use Rattle.hub_core.specs.Sound.{IsSound}
+use Rattle.hub_state.specs.State as core
+use Rattle.hub_state.specs.Sound.{IsSound}
 use Rattle.hub_store.specs.Content.{Has}
 use Rattle.hub_store.specs.Keeps.{Knows, KeepsCommitted}
 use Rattle.hub_store.specs.Means.{Holds}

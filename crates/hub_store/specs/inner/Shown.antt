@@ -7,12 +7,12 @@ use Rattle.iodef_tree.specs.Pointer.{pointer_text}
 use Rattle.policy.specs.declared.gate.Gate.{Gate}
 use Rattle.policy.specs.declared.permission.Permission.{Permission}
 use Rattle.policy.specs.declared.case.Case.{Case}
-use Rattle.hub_core.specs.Documents.{Lines}
-use Rattle.hub_core.specs.Reads.{its_gates, its_permissions}
-use Rattle.hub_core.specs.State.{State, target_key, grantee_key}
-use Rattle.hub_core.specs.declared.request.Target.{Target}
-use Rattle.hub_core.specs.declared.state.Naming.{Naming}
-use Rattle.hub_core.specs.declared.reply.Entry.{Entry}
+use Rattle.hub_state.specs.Documents.{Lines}
+use Rattle.hub_state.specs.Reads.{its_gates, its_permissions}
+use Rattle.hub_state.specs.State.{State, target_key, grantee_key}
+use Rattle.hub_state.specs.declared.request.Target.{Target}
+use Rattle.hub_state.specs.declared.state.Naming.{Naming}
+use Rattle.hub_state.specs.declared.reply.Entry.{Entry}
 use Rattle.hub_store.specs.Values.{flag, number_or_null, moment_or_null}
 use Rattle.hub_store.specs.Rows.{role_number}
 use Rattle.hub_store.specs.Items.{placed_shown, placed_from}

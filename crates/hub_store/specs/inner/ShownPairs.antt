@@ -10,9 +10,9 @@ use Rattle.circle.specs.declared.directory.Group.{Group}
 use Rattle.circle.specs.declared.directory.GroupMember.{GroupMember}
 use Rattle.circle.specs.Directory.{Directory}
 use Rattle.circle.specs.Reads.{group_of, memberships_in_groups}
-use Rattle.hub_core.specs.Reads.{joined}
-use Rattle.hub_core.specs.declared.reply.JoinedGroup.{JoinedGroup}
-use Rattle.hub_core.specs.declared.look_ups.Ties.{Ties}
+use Rattle.hub_state.specs.Reads.{joined}
+use Rattle.hub_state.specs.declared.reply.JoinedGroup.{JoinedGroup}
+use Rattle.hub_state.specs.declared.look_ups.Ties.{Ties}
 use Rattle.hub_store.specs.Values.{flag}
 use Rattle.hub_store.specs.Rows.{handling_number}
 use Rattle.hub_store.specs.Pairs.{Pair}

@@ -1,7 +1,7 @@
 //! What the tables look up for standings and facts.
 
 ghost use Rattle.std.specs.Prelude.{◌<◌};
-ghost use Rattle.hub_core.specs.Shelves.{last_count};
+ghost use Rattle.hub_state.specs.Shelves.{last_count};
 
 use super::SqlShelf;
 use crate::count_incidents::incident_count;
@@ -23,7 +23,7 @@ use crate::kept_reader::{communities_kept, copy_of, kept_copy, kept_of};
 use circle::command::{CircleCommand, CircleFacts};
 use circle::directory::Person;
 use circle::text::Text;
-use hub_core::{LookUps, Naming, Reader, Recipients, Shared, ShelfFault, Ties};
+use hub_state::{LookUps, Naming, Reader, Recipients, Shared, ShelfFault, Ties};
 use iodef_tree::Document;
 use policy::{Gates, Permissions};
 use sqlite::Alter;
@@ -32,8 +32,8 @@ impl<S: Alter> SqlShelf<S> {
     ghost use Rattle.std.specs.Prelude.{◌≡◌};
     ghost use Rattle.sqlite.specs.Held.{state};
     ghost use Rattle.sqlite_trees.specs.View.{doubt};
-    ghost use Rattle.hub_core.specs.Reads as spec;
-    ghost use Rattle.hub_core.specs.Shelves.{Reads};
+    ghost use Rattle.hub_state.specs.Reads as spec;
+    ghost use Rattle.hub_state.specs.Shelves.{Reads};
     ghost use Rattle.hub_store.specs.Content.{MayLeave};
     ghost use Rattle.hub_store.specs.Shelved.{ShelfHas};
 

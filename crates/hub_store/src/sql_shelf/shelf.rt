@@ -13,7 +13,7 @@ use crate::find_met::find_met;
 use crate::find_person::find_person;
 use crate::list_entries::list_entries;
 use circle::directory::Person;
-use hub_core::{
+use hub_state::{
     Edit, Entry, Facts, JoinedGroup, Request, Shelf, ShelfFault, facts_by, standing_by,
 };
 use iodef_tree::Document;

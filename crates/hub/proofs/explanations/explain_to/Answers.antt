@@ -4,8 +4,8 @@ use Rattle.circle.specs.Reads.{person_of}
 use Rattle.hub_core.specs.State.{incident_of}
 use Rattle.hub_core.specs.Facts.{facts_of}
 use Rattle.hub_core.specs.Refusals.{refusal_of}
-use Rattle.hub_core.specs.declared.reply.Reply.TheVariants.{Trace}
-use Rattle.hub_core.specs.declared.request.Request.TheVariants as ask
+use Rattle.hub_state.specs.declared.reply.Reply.TheVariants.{Trace}
+use Rattle.hub_state.specs.declared.request.Request.TheVariants as ask
 use Rattle.hub.specs.Told.{trace_of}
 use Rattle.hub.specs.Replies.{refused_or}
 use Rattle.hub.proofs.Explained.{explained}

@@ -3,10 +3,10 @@ use Rattle.std.specs.Prelude.{option_map}
 use Rattle.iodef_tree.specs.Text.{Bytes}
 use Rattle.circle.specs.Reads.{person_of}
 use Rattle.hub_core.specs.State.{incident_of}
-use Rattle.hub_core.specs.declared.facts.Facts.{Facts}
-use Rattle.hub_core.specs.declared.state.Incident.{Incident}
+use Rattle.hub_state.specs.declared.facts.Facts.{Facts}
+use Rattle.hub_state.specs.declared.state.Incident.{Incident}
 use Rattle.hub.specs.inner.Explaining.{text_of}
-use Rattle.hub_core.proofs.Marked.{marked}
+use Rattle.hub_state.proofs.Marked.{marked}
 use Rattle.hub.proofs.Explained.{text_there}
 use Rattle.hub.proofs.explanations.find_text.Goals as goal
 

@@ -2,7 +2,7 @@ use Rattle.std.proofs.Common.{rules, ◌≡◌, Bool, IfOk, sym, subst, ◌∙�
 use Rattle.hub.specs.inner.PageFilter.{passes_filter}
 use Rattle.hub_core.specs.State.{incident_of}
 use Rattle.hub_core.specs.Reads.{case_for}
-use Rattle.hub_core.specs.declared.state.Incident.{Incident}
+use Rattle.hub_state.specs.declared.state.Incident.{Incident}
 use Rattle.hub.proofs.Paging.{ruled_out, none_told, shut_told, told_there}
 use Rattle.hub.proofs.pages.is_wanted_by.Goals as goal
 

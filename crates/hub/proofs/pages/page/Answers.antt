@@ -1,6 +1,6 @@
 use Rattle.std.proofs.Common.{rules, ◌≡◌, ◌≤◌, ◌++◌, List, [], Some, length, take, filter, sym, ap, ◌∙◌, arith}
 use Rattle.hub_core.specs.Reads.{entries_after}
-use Rattle.hub_core.specs.declared.reply.Entry.{Entry}
+use Rattle.hub_state.specs.declared.reply.Entry.{Entry}
 use Rattle.hub.specs.declared.TheConstants.{PAGE_LIMIT}
 use Rattle.hub.specs.inner.PageFilter.{is_wanted, is_wanted_at, number_at_end}
 use Rattle.hub.proofs.Keeping.{kept_on, kept_read}

@@ -1,7 +1,7 @@
 use Rattle.std.proofs.Common.{◌≡◌, ◌≤◌, ◌++◌, filter, take, drop, length}
 use Rattle.hub_core.specs.State.{State}
 use Rattle.hub_core.specs.Sound.{IsSound}
-use Rattle.hub_core.specs.declared.reply.Entry.{Entry}
+use Rattle.hub_state.specs.declared.reply.Entry.{Entry}
 use Rattle.hub.specs.declared.TheConstants.{PAGE_LIMIT}
 use Rattle.hub.specs.inner.PageFilter.{is_wanted_at}
 use Rattle.hub_core.specs.Shelves.{IsKept}

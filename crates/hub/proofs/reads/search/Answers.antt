@@ -3,9 +3,9 @@ use Rattle.std.specs.Prelude.{option_map}
 use Rattle.iodef_tree.specs.Text.{Bytes}
 use Rattle.redact.specs.Wants.{meets_by}
 use Rattle.hub_core.specs.Reads.{case_for}
-use Rattle.hub_core.specs.declared.state.Incident.{Incident}
-use Rattle.hub_core.specs.declared.reply.Reply.{Reply}
-use Rattle.hub_core.specs.declared.reply.Reply.TheVariants.{Incidents}
+use Rattle.hub_state.specs.declared.state.Incident.{Incident}
+use Rattle.hub_state.specs.declared.reply.Reply.{Reply}
+use Rattle.hub_state.specs.declared.reply.Reply.TheVariants.{Incidents}
 use Rattle.hub.specs.Told.{standing_at}
 use Rattle.hub.specs.Replies.{page_of}
 use Rattle.hub.specs.Serving.{searched}

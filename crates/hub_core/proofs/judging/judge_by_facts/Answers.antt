@@ -1,5 +1,5 @@
 use Rattle.std.proofs.Common.{refl}
-use Rattle.hub_core.specs.declared.request.Request.TheVariants as ask
+use Rattle.hub_state.specs.declared.request.Request.TheVariants as ask
 use Rattle.hub_core.proofs.Judged.{refused_by, allowed_by}
 use Rattle.hub_core.proofs.judging.judge_by_facts.Goals as goal
 

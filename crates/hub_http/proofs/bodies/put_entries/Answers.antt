@@ -1,5 +1,5 @@
 use Rattle.std.proofs.Common.{◌++◌, get_or, rules}
-use Rattle.hub_core.specs.declared.reply.Entry.{Entry}
+use Rattle.hub_state.specs.declared.reply.Entry.{Entry}
 use Rattle.serde_json.specs.Written.{comma_if, compact_text}
 use Rattle.json_text.proofs.Puts.{ok-both-are}
 use Rattle.json_text.proofs.Lists.{array-begins, element-more, array-ends}

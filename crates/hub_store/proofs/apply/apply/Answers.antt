@@ -4,8 +4,8 @@ use Rattle.sqlite.specs.State.{HasCleanDisk, Survives}
 use Rattle.sqlite.specs.Held.{state}
 use Rattle.sqlite.proofs.StateLemmas.{survives_then}
 use Rattle.sqlite.proofs.Callers.{survives_begin}
-use Rattle.hub_core.specs.State.{State}
-use Rattle.hub_core.specs.Edits.{with_edits}
+use Rattle.hub_state.specs.State.{State}
+use Rattle.hub_state.specs.Edits.{with_edits}
 use Rattle.hub_store.specs.Content.{Has, CommitsState}
 use Rattle.hub_store.specs.Means.{TreesHold, Holds}
 use Rattle.hub_store.proofs.Left.{trees_hold}

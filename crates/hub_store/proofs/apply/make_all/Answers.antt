@@ -1,8 +1,8 @@
 use Rattle.std.proofs.Common.{◌≡◌, take, arith, rules, sym, subst, Ok}
 use Rattle.std.proofs.lemmas.Grind.{common_steps}
 use Rattle.sqlite.specs.Held.{state}
-use Rattle.hub_core.specs.State.{empty}
-use Rattle.hub_core.specs.Edits.{with_edits}
+use Rattle.hub_state.specs.State.{empty}
+use Rattle.hub_state.specs.Edits.{with_edits}
 use Rattle.hub_store.specs.Means.{Holds}
 use Rattle.hub_store.specs.inner.Makes.{Makes}
 use Rattle.hub_store.proofs.Runs.{after_more}

@@ -1,6 +1,6 @@
 use Rattle.std.proofs.Common.{[], length, refl}
 use Rattle.sqlite.specs.Held.{state}
-use Rattle.hub_core.specs.State.{incident_number}
+use Rattle.hub_state.specs.State.{incident_number}
 use Rattle.hub_store.specs.Rows.{named_row}
 use Rattle.hub_store.proofs.Answering.{read_shown}
 use Rattle.hub_store.proofs.Highest.{highest_listed, reads_count}

@@ -1,6 +1,6 @@
 use Rattle.std.proofs.Common.{drop, refl}
 use Rattle.sqlite.specs.Held.{state}
-use Rattle.hub_core.specs.State.{empty}
+use Rattle.hub_state.specs.State.{empty}
 use Rattle.hub_store.specs.Layout.{newest, parts_by, bare_by}
 use Rattle.hub_store.specs.Means.{Holds}
 use Rattle.hub_store.specs.Parts.{HoldsParts}

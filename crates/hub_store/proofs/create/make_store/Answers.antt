@@ -4,7 +4,7 @@ use Rattle.sqlite.specs.State.{HasCleanDisk, Survives}
 use Rattle.sqlite.specs.Held.{state}
 use Rattle.sqlite.proofs.StateLemmas.{survives_then}
 use Rattle.sqlite.proofs.Callers.{survives_begin}
-use Rattle.hub_core.specs.State.{empty}
+use Rattle.hub_state.specs.State.{empty}
 use Rattle.hub_store.specs.Content.{CommitsState}
 use Rattle.hub_store.specs.Means.{TreesHold, Holds}
 use Rattle.hub_store.proofs.Left.{trees_hold}

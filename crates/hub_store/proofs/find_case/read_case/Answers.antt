@@ -1,6 +1,6 @@
 use Rattle.std.proofs.Common.{◌≡◌, Some, Ok}
 use Rattle.sqlite.specs.Held.{state}
-use Rattle.hub_core.specs.Reads.{case_of, naming_of}
+use Rattle.hub_state.specs.Reads.{case_of, naming_of}
 use Rattle.hub_store.specs.inner.Queries.{IsReadInside}
 use Rattle.hub_store.specs.inner.Shown.{IsCase}
 use Rattle.hub_store.proofs.Incidents.{case_is}

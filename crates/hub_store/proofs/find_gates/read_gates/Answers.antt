@@ -1,7 +1,7 @@
 use Rattle.std.proofs.Common.{pos, ◌∷◌, [], Ok, ◌∙◌}
 use Rattle.sqlite_value.specs.declared.value.Value.TheVariants.{Int}
 use Rattle.sqlite.specs.Held.{state}
-use Rattle.hub_core.specs.Reads.{its_gates}
+use Rattle.hub_state.specs.Reads.{its_gates}
 use Rattle.hub_store.specs.inner.Shown.{gate_shown}
 use Rattle.hub_store.proofs.Answering.{read_shown, unread}
 use Rattle.hub_store.proofs.Listed.{reads_all}

@@ -1,7 +1,7 @@
 use Rattle.std.proofs.Common.{pos, ◌∷◌, []}
 use Rattle.sqlite_value.specs.declared.value.Value.TheVariants.{Int}
 use Rattle.sqlite.specs.Held.{state}
-use Rattle.hub_core.specs.Reads.{naming_of}
+use Rattle.hub_state.specs.Reads.{naming_of}
 use Rattle.hub_store.specs.inner.Shown.{naming_shown}
 use Rattle.hub_store.proofs.Answering.{read_shown}
 use Rattle.hub_store.proofs.Finding.{reads_first}

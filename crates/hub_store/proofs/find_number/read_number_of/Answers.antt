@@ -1,7 +1,7 @@
 use Rattle.std.proofs.Common.{pos, ◌∷◌, [], option_map}
 use Rattle.sqlite_value.specs.declared.value.Value.TheVariants.{Int, Text}
 use Rattle.sqlite.specs.Held.{state}
-use Rattle.hub_core.specs.State.{incident_named, incident_number}
+use Rattle.hub_state.specs.State.{incident_named, incident_number}
 use Rattle.hub_store.proofs.Answering.{read_shown}
 use Rattle.hub_store.proofs.Named.{number_found, reads_number}
 use Rattle.hub_store.proofs.Texts.{incident_with_ident, incident_with_ident_is, incident_with_ident_plain}

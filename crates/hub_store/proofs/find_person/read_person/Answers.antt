@@ -1,7 +1,7 @@
 use Rattle.std.proofs.Common.{◌∷◌, []}
 use Rattle.sqlite_value.specs.declared.value.Value.TheVariants.{Blob}
 use Rattle.sqlite.specs.Held.{state}
-use Rattle.hub_core.specs.Reads.{person_by_key}
+use Rattle.hub_state.specs.Reads.{person_by_key}
 use Rattle.hub_store.specs.inner.Shown.{person_shown}
 use Rattle.hub_store.proofs.Answering.{read_shown}
 use Rattle.hub_store.proofs.Finding.{reads_first}

@@ -1,9 +1,9 @@
 use Rattle.std.proofs.Common.{◌≡◌, List, Some, Ok, ap, ◌∙◌}
 use Rattle.std.specs.Prelude.{option_map}
 use Rattle.sqlite.specs.Held.{state}
-use Rattle.hub_core.specs.Reads.{naming_of, its_recipients, shared_as, sharing_of}
-use Rattle.hub_core.specs.declared.request.Target.{Target}
-use Rattle.hub_core.specs.declared.look_ups.Shared.{Shared}
+use Rattle.hub_state.specs.Reads.{naming_of, its_recipients, shared_as, sharing_of}
+use Rattle.hub_state.specs.declared.request.Target.{Target}
+use Rattle.hub_state.specs.declared.look_ups.Shared.{Shared}
 use Rattle.hub_store.specs.inner.Queries.{IsReadInside}
 use Rattle.hub_store.proofs.Reading.{read_then, read_gives}
 use Rattle.hub_store.proofs.find_sharing.read_sharing.Goals as goal

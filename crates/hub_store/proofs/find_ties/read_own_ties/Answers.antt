@@ -1,6 +1,6 @@
 use Rattle.std.proofs.Common.{◌≡◌, ◌∙◌}
 use Rattle.circle.specs.Reads.{communities_of}
-use Rattle.hub_core.specs.Reads.{ties_of}
+use Rattle.hub_state.specs.Reads.{ties_of}
 use Rattle.hub_store.proofs.Reading.{read_then, read_turned}
 use Rattle.hub_store.proofs.find_ties.read_own_ties.Goals as goal
 

@@ -1,6 +1,6 @@
 use Rattle.std.proofs.Common.{◌≡◌, Ok}
 use Rattle.circle.specs.Reads.{communities_of, arranged}
-use Rattle.hub_core.specs.Reads.{ties_of}
+use Rattle.hub_state.specs.Reads.{ties_of}
 use Rattle.hub_store.specs.inner.ShownPairs.{are_linked}
 use Rattle.hub_store.proofs.Reading.{read_then, read_gives}
 use Rattle.hub_store.proofs.Ties.{ties_are}

@@ -1,9 +1,9 @@
 use Rattle.std.proofs.Common.{map, ◌∷◌}
 use Rattle.std.proofs.lemmas.List.Sorted.{IsPermutation-map}
 use Rattle.circle.specs.Ordered.{by_number}
-use Rattle.hub_core.specs.State.{incident_number}
-use Rattle.hub_core.specs.Edits.{edited}
-use Rattle.hub_core.specs.declared.edit.Edit.TheVariants.{PutIncident}
+use Rattle.hub_state.specs.State.{incident_number}
+use Rattle.hub_state.specs.Edits.{edited}
+use Rattle.hub_state.specs.declared.edit.Edit.TheVariants.{PutIncident}
 use Rattle.hub_store.specs.Rows.{named_row}
 use Rattle.hub_store.specs.Items.{item_row, items_of}
 use Rattle.hub_store.proofs.Changes.{put_by-same}

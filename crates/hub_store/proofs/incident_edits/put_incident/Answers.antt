@@ -1,9 +1,9 @@
 use Rattle.std.proofs.Common.{◌≡◌, ◌++◌, map, rules, sym, subst}
 use Rattle.std.specs.List.Sorted.{IsPermutation}
 use Rattle.circle.specs.Ordered.{by_number}
-use Rattle.hub_core.specs.State.{incident_number}
-use Rattle.hub_core.specs.Edits.{edited}
-use Rattle.hub_core.specs.declared.edit.Edit.TheVariants.{PutIncident}
+use Rattle.hub_state.specs.State.{incident_number}
+use Rattle.hub_state.specs.Edits.{edited}
+use Rattle.hub_state.specs.declared.edit.Edit.TheVariants.{PutIncident}
 use Rattle.hub_store.specs.Items.{items_from, items_in, items_of, item_row}
 use Rattle.hub_store.specs.Rows.{named_row}
 use Rattle.hub_store.specs.Means.{HoldsBetween}

@@ -1,5 +1,5 @@
-use Rattle.hub_core.specs.Edits.{edited}
-use Rattle.hub_core.specs.declared.edit.Edit.TheVariants.{PutRecipient}
+use Rattle.hub_state.specs.Edits.{edited}
+use Rattle.hub_state.specs.declared.edit.Edit.TheVariants.{PutRecipient}
 use Rattle.hub_store.specs.Means.{Holds}
 use Rattle.hub_store.proofs.Changes.{puts_recipient}
 use Rattle.hub_store.proofs.Steps.{made_by}

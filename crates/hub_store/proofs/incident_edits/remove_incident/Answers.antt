@@ -1,6 +1,6 @@
 use Rattle.std.proofs.Common.{map, filter, not, ◌==◌}
-use Rattle.hub_core.specs.Edits.{edited}
-use Rattle.hub_core.specs.declared.edit.Edit.TheVariants.{TakeIncident}
+use Rattle.hub_state.specs.Edits.{edited}
+use Rattle.hub_state.specs.declared.edit.Edit.TheVariants.{TakeIncident}
 use Rattle.hub_store.specs.Items.{Item, items_of, item_row}
 use Rattle.hub_store.specs.Rows.{named_row}
 use Rattle.hub_store.specs.Means.{Holds, HoldsBetween}

@@ -1,5 +1,5 @@
-use Rattle.hub_core.specs.Edits.{edited}
-use Rattle.hub_core.specs.declared.edit.Edit.TheVariants.{TakePolicy}
+use Rattle.hub_state.specs.Edits.{edited}
+use Rattle.hub_state.specs.declared.edit.Edit.TheVariants.{TakePolicy}
 use Rattle.hub_store.specs.Means.{Holds}
 use Rattle.hub_store.specs.inner.Partly.{without_gates}
 use Rattle.hub_store.proofs.Changes.{takes_permissions}

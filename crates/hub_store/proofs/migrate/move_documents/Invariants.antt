@@ -1,8 +1,8 @@
 use Rattle.std.proofs.Common.{◌≡◌, ◌≤◌, [], Ok, IsTrue}
 use Rattle.sqlite.specs.Held.{state}
 use Rattle.sqlite.specs.State.{HasCleanDisk}
-use Rattle.hub_core.specs.State.{State}
-use Rattle.hub_core.specs.declared.TheConstants.{INCIDENT_LIMIT}
+use Rattle.hub_state.specs.State.{State}
+use Rattle.hub_state.specs.declared.TheConstants.{INCIDENT_LIMIT}
 use Rattle.hub_store.specs.Keeps.{Goes}
 use Rattle.hub_store.specs.inner.Moving.{HasTexts, HoldsMoved}
 use Rattle.hub_store.specs.inner.Beside.{HoldsBeside}

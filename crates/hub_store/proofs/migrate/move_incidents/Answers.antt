@@ -1,5 +1,5 @@
 use Rattle.std.proofs.Common.{[], rules}
-use Rattle.hub_core.specs.State.{empty}
+use Rattle.hub_state.specs.State.{empty}
 use Rattle.hub_store.specs.Parts.{HoldsParts}
 use Rattle.hub_store.specs.Layout.{tables_2}
 use Rattle.hub_store.proofs.Steps.{makes_then, fails_then, fails_passed}

@@ -1,6 +1,6 @@
 use Rattle.std.proofs.Common.{[], map, Ok, rules}
 use Rattle.sqlite.specs.Held.{state}
-use Rattle.hub_core.specs.State.{empty}
+use Rattle.hub_state.specs.State.{empty}
 use Rattle.hub_store.specs.Items.{items_of, item_row}
 use Rattle.hub_store.specs.inner.Beside.{HoldsBeside}
 use Rattle.hub_store.specs.Layout.{parts_1}

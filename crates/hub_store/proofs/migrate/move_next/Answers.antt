@@ -1,6 +1,6 @@
 use Rattle.std.proofs.Common.{◌≡◌, ◌++◌, ◌∷◌, [], None, Some, Ok, map, rules, sym, subst, ◌∙◌}
 use Rattle.sqlite.specs.Held.{state}
-use Rattle.hub_core.specs.Documents.{Lines}
+use Rattle.hub_state.specs.Documents.{Lines}
 use Rattle.hub_store.specs.Items.{items_in, item_row}
 use Rattle.hub_store.specs.inner.Moving.{HoldsMoved, HoldsNext, incidents_up_to}
 use Rattle.hub_store.specs.inner.PutsLines.{PutsLines, HasMore}

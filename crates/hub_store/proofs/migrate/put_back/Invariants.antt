@@ -1,7 +1,7 @@
 use Rattle.std.proofs.Common.{◌≡◌, [], List, map, take, Ok}
 use Rattle.sqlite_value.specs.Order.{Row}
 use Rattle.sqlite.specs.Held.{state}
-use Rattle.hub_core.specs.State.{State}
+use Rattle.hub_state.specs.State.{State}
 use Rattle.hub_store.specs.inner.Makes.{Makes}
 use Rattle.hub_store.specs.Parts.{HoldsParts}
 use Rattle.hub_store.specs.Rows.{naming_row_2}

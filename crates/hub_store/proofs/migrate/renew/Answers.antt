@@ -8,7 +8,7 @@ use Rattle.sqlite.specs.Steps.{FailsToCommit}
 use Rattle.sqlite.specs.Held.{state}
 use Rattle.sqlite.proofs.StateLemmas.{survives_then}
 use Rattle.sqlite.proofs.Callers.{survives_begin}
-use Rattle.hub_core.specs.State.{State}
+use Rattle.hub_state.specs.State.{State}
 use Rattle.hub_store.specs.Content.{HasAs, CommitsState}
 use Rattle.hub_store.specs.Means.{TreesHold, Holds}
 use Rattle.hub_store.specs.Failing.{HasReason}

@@ -1,7 +1,7 @@
 use Rattle.std.proofs.Common.{List, [], map, drop, Ok, rules, refl, sym, subst, ◌∙◌}
 use Rattle.sqlite_value.specs.Order.{Row}
 use Rattle.sqlite.specs.Held.{state}
-use Rattle.hub_core.specs.State.{State}
+use Rattle.hub_state.specs.State.{State}
 use Rattle.hub_store.specs.Items.{items_of, item_row}
 use Rattle.hub_store.specs.inner.Beside.{CanName}
 use Rattle.hub_store.specs.Layout.{tables_2, without_incidents}

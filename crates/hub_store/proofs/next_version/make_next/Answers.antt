@@ -1,6 +1,6 @@
 use Rattle.std.proofs.Common.{◌≡◌, [], arith}
 use Rattle.std.proofs.lemmas.Bool.Decides.{nat_tests}
-use Rattle.hub_core.specs.State.{empty}
+use Rattle.hub_state.specs.State.{empty}
 use Rattle.hub_store.specs.Layout.{permission_step, incident_step, bare_by}
 use Rattle.hub_store.proofs.Remaking.{made_bare}
 use Rattle.hub_store.proofs.ToVersion3 as three

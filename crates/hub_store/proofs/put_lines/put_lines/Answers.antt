@@ -1,6 +1,6 @@
 use Rattle.std.proofs.Common.{◌≡◌, ◌++◌, [], refl, sym, ap, subst, ◌∙◌, arith, rules, append_assoc, append-nil}
 use Rattle.std.proofs.lemmas.List.{nil_from_length, length-append}
-use Rattle.hub_core.specs.Documents.{Lines}
+use Rattle.hub_state.specs.Documents.{Lines}
 use Rattle.sqlite.specs.Held.{state}
 use Rattle.hub_store.specs.inner.PutsLines.{PutsLines}
 use Rattle.hub_store.proofs.PutsThen.{puts_none, puts_then_at, puts_not}

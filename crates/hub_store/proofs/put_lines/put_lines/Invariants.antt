@@ -1,7 +1,7 @@
 use Rattle.std.proofs.Common.{◌≡◌, ◌+◌, ◌++◌, length, Ok}
 use Rattle.std.specs.Slice.Iter.{chunks_rest, chunks_size}
 use Rattle.sqlite.specs.Held.{state}
-use Rattle.hub_core.specs.Documents.{Lines}
+use Rattle.hub_state.specs.Documents.{Lines}
 use Rattle.hub_store.specs.inner.PutsLines.{PutsLines}
 use Rattle.hub_store.proofs.put_lines.put_lines.Given as goal
 

@@ -1,5 +1,5 @@
 use Rattle.std.proofs.Common.{◌≡◌, map, drop}
-use Rattle.hub_core.specs.Documents.{ident_of}
+use Rattle.hub_state.specs.Documents.{ident_of}
 use Rattle.hub_core.specs.Refusals.{stands_twice}
 use Rattle.hub_core.proofs.judging.body.have_twins.Given as goal
 

@@ -1,7 +1,7 @@
 use Rattle.std.proofs.Common.{◌≡◌, ap, Some, rules, List, ℕ}
 use Rattle.iodef_tree.specs.Pointer.{pointer_tokens}
 use Rattle.iodef_tree.proofs.Inverse.{pointer_text-pointer_tokens}
-use Rattle.hub_core.specs.declared.request.WantedGate.{WantedGate}
+use Rattle.hub_state.specs.declared.request.WantedGate.{WantedGate}
 use Rattle.hub_core.proofs.judging.class_gates.class_gate.Goals as goal
 
 pub returns-clause-gate : goal.returns-clause-gate

@@ -1,5 +1,5 @@
 use Rattle.std.proofs.Common.{[], ◌∷◌, rules}
-use Rattle.hub_core.specs.Documents.{documents_in}
+use Rattle.hub_state.specs.Documents.{documents_in}
 use Rattle.hub_core.specs.Refusals.{unless_poster}
 use Rattle.hub_core.specs.Judgement.{root_gate, post_arguments, post_facts}
 use Rattle.hub_core.specs.inner.Asked.{Asks}

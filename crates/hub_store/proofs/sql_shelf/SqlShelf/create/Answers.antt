@@ -2,7 +2,7 @@ use Rattle.std.proofs.Common.{◌≡◌, Option, Some, rules, sym, subst, ◌∙
 use Rattle.std.specs.Prelude.{◌↔◌}
 use Rattle.sqlite.specs.State.{HasCleanDisk, Survives}
 use Rattle.sqlite.specs.Held.{state}
-use Rattle.hub_core.specs.State.{State, empty}
+use Rattle.hub_state.specs.State.{State, empty}
 use Rattle.hub_store.specs.Content.{Has, MayLeave}
 use Rattle.hub_store.specs.Means.{TreesHold}
 use Rattle.hub_store.specs.Tables.{no_schema}

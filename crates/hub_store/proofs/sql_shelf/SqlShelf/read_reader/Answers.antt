@@ -1,5 +1,5 @@
 use Rattle.std.proofs.Common.{◌<◌, sym, subst}
-use Rattle.hub_core.specs.Shelves.{last_count}
+use Rattle.hub_state.specs.Shelves.{last_count}
 use Rattle.hub_store.proofs.KeptReads.{read_and_kept, read_unkept}
 use Rattle.hub_store.proofs.sql_shelf.SqlShelf.read_reader.Goals as goal
 

@@ -1,5 +1,5 @@
 use Rattle.std.proofs.Common.{◌≡◌, ◌++◌, [], rules}
-use Rattle.hub_core.specs.Aftermath.{put_gate}
+use Rattle.hub_state.specs.Aftermath.{put_gate}
 use Rattle.hub_core.proofs.Wanted.{put_seen}
 use Rattle.hub_core.proofs.judging.class_gates.ClassGates.put.Goals as goal
 

@@ -1,6 +1,6 @@
 use Rattle.std.proofs.Common.{◌≡◌, ◌⊎◌, Some, sym, subst}
 use Rattle.sqlite.specs.Held.{state}
-use Rattle.hub_core.specs.Edits.{with_edits}
+use Rattle.hub_state.specs.Edits.{with_edits}
 use Rattle.hub_store.specs.Content.{Has, MayLeave}
 use Rattle.hub_store.proofs.Left.{left_by_commit, left_by_apply}
 use Rattle.hub_store.proofs.Runs.{kept_has}

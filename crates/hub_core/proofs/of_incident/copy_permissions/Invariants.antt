@@ -1,6 +1,0 @@
-use Rattle.std.proofs.Common.{◌≡◌, map, take}
-use Rattle.hub_core.specs.declared.state.Permission.{Permission}
-use Rattle.hub_core.proofs.of_incident.copy_permissions.Given as goal
-
-abbrev pub invariant-loop-permission : goal.invariant-loop-permission
-invariant-loop-permission l = l.copies.items ≡ map (λ (x : Permission). x.permission) (take l.permission-index l.permissions)

@@ -1,0 +1,11 @@
+pub mod Keeping
+pub mod Marked
+pub mod Keys
+pub mod Ranked
+pub mod Indexing
+pub mod Found
+pub mod MadeApart
+pub mod Counted
+pub mod Then
+pub mod Bounded
+pub mod Standings

@@ -1,0 +1,86 @@
+-- How a standing is made of what is looked up.
+use Rattle.std.proofs.Common.{◌≡◌, ℕ, List, ◌==◌, ◌||◌, Bool, filter, Option, ap, ◌∙◌}
+use Rattle.std.specs.Prelude.{ℤ, option_map}
+use Rattle.std.specs.List.{list_any}
+use Rattle.circle.specs.Reads.{orgs_whose_client}
+use Rattle.circle.specs.declared.directory.Client.{Client}
+use Rattle.circle.specs.declared.directory.Person.{Person}
+use Rattle.marking.specs.declared.label.Handling.{Handling}
+use Rattle.policy.specs.declared.standing.Standing.{Standing}
+use Rattle.circle.proofs.Lookup.{any_having}
+use Rattle.hub_state.specs.Handlings.{handling_in}
+use Rattle.hub_state.specs.inner.Questions.{is_target_among}
+use Rattle.hub_state.specs.Reads.{is_client_for, its_recipients, reader_with, shared_as, standing_for, ties_of}
+use Rattle.hub_state.specs.State.{State, has_recipient}
+use Rattle.hub_state.specs.declared.look_ups.Reader.{Reader}
+use Rattle.hub_state.specs.declared.look_ups.Shared.{Shared}
+use Rattle.hub_state.specs.declared.look_ups.Ties.{Ties}
+use Rattle.hub_state.specs.declared.request.Target.{Target}
+use Rattle.hub_state.specs.declared.request.Target.TheVariants as target
+use Rattle.hub_state.specs.declared.state.Incident.{Incident}
+use Rattle.hub_state.proofs.Counted.{any_same, target_among}
+use Rattle.hub_state.proofs.Keeping.{any_map}
+
+-- one of those that an organisation is a client of is the source, or addressed
+client_is : (s : State) (i : Incident) (org : ℕ) →
+    list_any (λ o. o == i.naming.source || is_target_among (target.Org o) (its_recipients i.naming.number s.recipients)) (orgs_whose_client org s.directory) ≡ is_client_for s i org
+client_is s i org =
+    any_same (λ o. o == i.naming.source || is_target_among (target.Org o) (its_recipients i.naming.number s.recipients)) (λ o. o == i.naming.source || has_recipient i.naming.number (target.Org o) s) (orgs_whose_client org s.directory) (λ o. ap (λ b. o == i.naming.source || b) (target_among i.naming.number (target.Org o) s))
+    ∙ (any_map (λ o. o == i.naming.source || has_recipient i.naming.number (target.Org o) s) (λ (c : Client). c.org) (filter (λ (c : Client). c.client == org) s.directory.clients)
+    ∙ any_having (λ (c : Client). c.client == org) (λ (c : Client). c.org == i.naming.source || has_recipient i.naming.number (target.Org c.org) s) s.directory.clients)
+
+-- the standing of what is looked up, where these four are told of it
+abbrev made_with : ℤ → Reader → Shared → Ties → Bool → Bool → Bool → Option Handling → Standing
+made_with now r k t person addressed client arrangement = record {
+  source = r.person.org == k.naming.source;
+  person = person;
+  nominated = r.person.nominated;
+  addressed = addressed;
+  client = client;
+  community = t.community;
+  peer = t.peer;
+  connected = t.connected;
+  arrangement = arrangement;
+  who = r.person.number;
+  org = r.person.org;
+  groups = r.groups;
+  active_groups = r.active_groups;
+  communities = r.communities;
+  now = now;
+}
+
+abbrev made_of : ℤ → Reader → Shared → Ties → Standing
+made_of now r k t =
+    made_with now r k t (is_target_among (target.Person r.person.number) k.recipients) (is_target_among (target.Org r.person.org) k.recipients)
+    (list_any (λ o. o == k.naming.source || is_target_among (target.Org o) k.recipients) r.served) (option_map handling_in t.arrangement)
+
+made_is : (s : State) (now : ℤ) (r : Reader) (k : Shared) (t : Ties) (p : Person) (i : Incident) → r ≡ reader_with s p → k ≡ shared_as s i.naming → t ≡ ties_of p.org i.naming.source i.naming.community s →
+    made_of now r k t ≡ standing_for s now p i
+made_is s now r k t p i reader shared ties =
+    let its = its_recipients i.naming.number s.recipients in
+    let client = list_any (λ o. o == i.naming.source || is_target_among (target.Org o) its) (orgs_whose_client p.org s.directory) in
+    ap (λ x. made_of now x k t) reader
+    ∙ (ap (λ x. made_of now (reader_with s p) x t) shared
+    ∙ (ap (made_of now (reader_with s p) (shared_as s i.naming)) ties
+    ∙ (ap (λ b. record (standing_for s now p i) { person = b; addressed = is_target_among (target.Org p.org) its; client = client }) (target_among i.naming.number (target.Person p.number) s)
+    ∙ (ap (λ b. record (standing_for s now p i) { addressed = b; client = client }) (target_among i.naming.number (target.Org p.org) s)
+    ∙ ap (λ b. record (standing_for s now p i) { client = b }) (client_is s i p.org)))))
+
+-- the standing that is made is that of the person to the incident of which all this was looked up
+pub made_for : (s : State) (now : ℤ) (r : Reader) (k : Shared) (t : Ties) (p : Person) (i : Incident) (targets : List Target) (served : List ℕ) (person addressed client : Bool) (arrangement : Option Handling) →
+    r ≡ reader_with s p → k ≡ shared_as s i.naming → t ≡ ties_of p.org i.naming.source i.naming.community s →
+    targets ≡ k.recipients → served ≡ r.served →
+    person ≡ is_target_among (target.Person r.person.number) targets →
+    addressed ≡ is_target_among (target.Org r.person.org) targets →
+    client ≡ list_any (λ o. o == k.naming.source || is_target_among (target.Org o) targets) served →
+    arrangement ≡ option_map handling_in t.arrangement →
+    made_with now r k t person addressed client arrangement ≡ standing_for s now p i
+made_for s now r k t p i targets served person addressed client arrangement reader shared ties to serves told org serving arranged =
+    ap (λ b. made_with now r k t b addressed client arrangement) (told ∙ ap (is_target_among (target.Person r.person.number)) to)
+    ∙ (ap (λ b. made_with now r k t (is_target_among (target.Person r.person.number) k.recipients) b client arrangement) (org ∙ ap (is_target_among (target.Org r.person.org)) to)
+    ∙ (ap (λ b. made_with now r k t (is_target_among (target.Person r.person.number) k.recipients) (is_target_among (target.Org r.person.org) k.recipients) b arrangement)
+    (serving
+    ∙ (ap (λ (l : List Target). list_any (λ o. o == k.naming.source || is_target_among (target.Org o) l) served) to
+    ∙ ap (list_any (λ o. o == k.naming.source || is_target_among (target.Org o) k.recipients)) serves))
+    ∙ (ap (made_with now r k t (is_target_among (target.Person r.person.number) k.recipients) (is_target_among (target.Org r.person.org) k.recipients) (list_any (λ o. o == k.naming.source || is_target_among (target.Org o) k.recipients) r.served)) arranged
+    ∙ made_is s now r k t p i reader shared ties)))

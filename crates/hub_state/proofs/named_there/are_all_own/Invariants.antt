@@ -1,0 +1,15 @@
+use Rattle.std.proofs.Common.{◌≡◌, true, take}
+use Rattle.std.specs.List.{list_all}
+use Rattle.hub_state.specs.Requests.{is_own_group}
+use Rattle.hub_state.specs.Shelves.{IsKept}
+use Rattle.hub_state.specs.State.{State}
+use Rattle.hub_state.specs.declared.request.WantedGate.{WantedGate}
+use Rattle.hub_state.proofs.named_there.are_all_own.Given as goal
+
+abbrev pub invariant-loop-gate : goal.invariant-loop-gate
+invariant-loop-gate g l =
+    let shelf = g.L.LookUps in
+    record {
+      kept : IsKept shelf.has shelf.doubts shelf.failed shelf.may_remain l.initial.shelf l.shelf;
+      all : shelf.doubts l.shelf ≡ 0 → (s : State) → shelf.has l.initial.shelf s → list_all (λ (w : WantedGate). is_own_group s l.actor w.group) (take l.gate-index l.gates) ≡ true;
+    }

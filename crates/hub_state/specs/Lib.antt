@@ -1,0 +1,14 @@
+pub mod Handlings
+pub mod InOrder
+pub mod Orders
+pub mod Lists
+pub mod Documents
+pub mod State
+pub mod Edits
+pub mod Requests
+pub mod Aftermath
+pub mod Facts
+pub mod Reads
+pub mod Sound
+pub mod Shelves
+pub mod inner

@@ -1,0 +1,89 @@
+//! What the hub keeps, what is asked of it and answered, and the shelf that keeps it.
+//!
+//! To read first, in `specs/`: `State`, the thirteen sets; `Aftermath`, what an accepted request changes; `Reads`, what is
+//! read of a state; `Sound`, what is always so of it. Then the trait [`Shelf`].
+//!
+//! The rooms, in the way of a request:
+//!
+//! - `request` and `reply`: what is asked, and what is answered; `bytes`, `handling`: small types of theirs;
+//! - `state`: the rows of incidents, gates, recipients and permissions, and the keys of gates and permissions;
+//!   `row_keys`: by what targets, grantees, groups and ends are told apart; `edit`: the changes of single rows; `copies`: copies
+//!   of policy's gates and permissions; `recipients`: the list of those addressed; `small_counts`: counts as numbers of
+//!   32 bits;
+//! - `shelf`: [`Shelf`], what every shelf promises; `look_ups`: [`LookUps`], what it looks up in its rows; `questions`:
+//!   what is asked of an incident's gates, recipients and permissions;
+//! - made of look-ups, once for every shelf: `standing`, how a person stands to an incident, of three ([`Reader`],
+//!   [`Shared`], [`Ties`]); `facts_made`, the `facts` of a request, by what it names (`named_there`), how its incident
+//!   is shared (`sharing`), what was posted before (`posted_earlier`) and how many rows there would be (`counts_then`);
+//! - `list_shelf`: [`ListShelf`], the shelf in memory, by `list_reads` and `list_look_ups`; `lists`, its lists, what
+//!   they tell (`of_incident`) and how they change (`change`); `rows`, their rows, and `sorted_rows`, how rows in
+//!   order are found, put in and taken out;
+//! - [`laws`]: what each limit is worth.
+#![tactic(auto)]
+
+mod bytes;
+mod change;
+mod copies;
+mod counts_then;
+mod edit;
+mod facts;
+mod facts_made;
+mod handling;
+pub mod laws;
+mod list_look_ups;
+mod list_reads;
+mod list_shelf;
+mod lists;
+mod look_ups;
+mod named_there;
+mod of_incident;
+mod posted_earlier;
+mod questions;
+mod recipients;
+mod reply;
+mod request;
+mod row_keys;
+mod rows;
+mod sharing;
+mod shelf;
+mod small_counts;
+mod sorted_rows;
+mod standing;
+mod state;
+
+pub use bytes::Bytes;
+pub use copies::copy_of_gate;
+pub use edit::Edit;
+pub use facts::{Facts, IncidentFacts};
+pub use facts_made::facts_by;
+pub use handling::handling_in;
+pub use list_shelf::ListShelf;
+pub use look_ups::{LookUps, Reader, Shared, Ties};
+pub use recipients::Recipients;
+pub use reply::{Entries, Entry, JoinedGroup, JoinedGroups, Reply, View, Withheld};
+pub use request::{
+    Address, Distribution, Explain, Grant, Post, Redistribute, Replace, Request, Search, Target,
+    Unaddress, WantedGate, WantedGates, Withdraw,
+};
+pub use row_keys::{grantee_key, target_key};
+pub use shelf::{Shelf, ShelfFault};
+pub use standing::standing_by;
+pub use state::{Gate, GateKey, Incident, Naming, Permission, PermissionKey, Recipient};
+
+/// How many incidents there may be.
+pub const INCIDENT_LIMIT: u32 = 1_000_000;
+
+/// How many revisions an incident may have.
+pub const REVISION_LIMIT: u32 = 1_000_000;
+
+/// How many gates an incident may have at its classes, beside the one at its root.
+pub const GATE_LIMIT: u32 = 16;
+
+/// How many recipients an incident may have.
+pub const RECIPIENT_LIMIT: u32 = 64;
+
+/// How many permissions an incident may have.
+pub const PERMISSION_LIMIT: u32 = 64;
+
+/// How many bytes a needle, or the name of a class to search in, may have.
+pub const WORD_LIMIT: usize = 256;

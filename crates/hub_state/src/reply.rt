@@ -1,0 +1,154 @@
+//! What is answered.
+ghost use Rattle.std.specs.Prelude.{◌≡◌};
+
+use circle::directory::Person;
+use circle::name::Name;
+use circle::refusal::Refusal;
+use circle::releasability::Releasability;
+use circle::text::Text;
+use iodef_tree::{Document, Path};
+use policy::{Numbers, Rule};
+use std::marker::Model;
+
+/// An incident as it is listed.
+#[derive(Clone, Copy, Debug, PartialEq, Eq)]
+pub struct Entry {
+    pub number: u32,
+    pub revision: u32,
+    /// The organisation that posted it.
+    pub source: u32,
+}
+
+/// Incidents as they are listed, by number; contracts see a list.
+#[derive(Drop)]
+pub struct Entries {
+    entries: Vec<Entry>,
+}
+
+impl Model for Entries {
+    ghost use Rattle.std.specs.Prelude.{List};
+    ghost use Rattle.hub_state.specs.declared.reply.Entry.{Entry};
+
+    ghost Value = { List Entry };
+
+    ghost view = { λ e. e.entries.items };
+}
+
+impl Entries {
+    /// Takes no memory.
+    pub fn new(entries: Vec<Entry>) -> Entries
+        ensures { result ≡ entries.items }
+    {
+        Entries { entries }
+    }
+
+    pub fn as_slice(&self) -> &[Entry]
+        ensures { result.now ≡ self.now }
+    {
+        self.entries.as_slice()
+    }
+}
+
+/// A group of which an organisation is a member.
+#[derive(Drop)]
+pub struct JoinedGroup {
+    pub number: u32,
+    pub owner: u32,
+    pub name: Name,
+    pub releasability: Releasability,
+    pub active: bool,
+    /// The organisation may add members.
+    pub extend: bool,
+}
+
+/// Groups of which an organisation is a member, by number; contracts see a list.
+#[derive(Drop)]
+pub struct JoinedGroups {
+    groups: Vec<JoinedGroup>,
+}
+
+impl Model for JoinedGroups {
+    ghost use Rattle.std.specs.Prelude.{List};
+    ghost use Rattle.hub_state.specs.declared.reply.JoinedGroup.{JoinedGroup};
+
+    ghost Value = { List JoinedGroup };
+
+    ghost view = { λ g. g.groups.items };
+}
+
+impl JoinedGroups {
+    /// Takes no memory.
+    pub fn new(groups: Vec<JoinedGroup>) -> JoinedGroups
+        ensures { result ≡ groups.items }
+    {
+        JoinedGroups { groups }
+    }
+
+    pub fn as_slice(&self) -> &[JoinedGroup]
+        ensures { result.now ≡ self.now }
+    {
+        self.groups.as_slice()
+    }
+}
+
+/// At which place of an excerpt something is withheld, and by which rule; contracts see a list.
+#[derive(Drop)]
+pub struct Withheld {
+    pairs: Vec<(Path, Rule)>,
+}
+
+impl Model for Withheld {
+    ghost use Rattle.std.specs.Prelude.{ℕ, List};
+    ghost use Rattle.policy.specs.declared.rule.Rule.{Rule};
+
+    ghost Value = { List (List (List ℕ) × Rule) };
+
+    ghost view = { λ w. w.pairs.items };
+}
+
+impl Withheld {
+    /// Takes no memory.
+    pub fn new(pairs: Vec<(Path, Rule)>) -> Withheld
+        ensures { result ≡ pairs.items }
+    {
+        Withheld { pairs }
+    }
+
+    pub fn as_slice(&self) -> &[(Path, Rule)]
+        ensures { result.now ≡ self.now }
+    {
+        self.pairs.as_slice()
+    }
+}
+
+/// What the caller may see of an incident.
+#[derive(Drop)]
+pub struct View {
+    pub number: u32,
+    pub revision: u32,
+    /// The organisation that posted it.
+    pub source: u32,
+    /// How many classes are visible.
+    pub classes: u32,
+    pub document: Document,
+    /// By the bytes of the place and then of the rule, none twice.
+    pub withheld: Withheld,
+}
+
+/// What is answered.
+#[derive(Drop)]
+pub enum Reply {
+    /// The change is made.
+    Done,
+    /// The change is made; the new rows have these numbers.
+    Numbers(Numbers),
+    /// The document is exchanged; the incident has this revision.
+    Revision(u32),
+    View(View),
+    Incidents(Entries),
+    Groups(JoinedGroups),
+    Caller(Person),
+    /// Why a person sees a class or doesn't, as text.
+    Trace(Text),
+    Refused(Refusal),
+}

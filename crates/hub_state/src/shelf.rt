@@ -1,0 +1,134 @@
+//! What a shelf promises: reads that are functions of the state, and edits that are made whole or not at all.
+ghost use Rattle.std.specs.Prelude.{◌≡◌, ◌⊎◌, ◌≤◌, ◌↔◌, ℕ, Option, Some, option_map, OnOk, OnErr};
+ghost use Rattle.hub_state.specs.State.{State};
+ghost use Rattle.hub_state.specs.Edits.{with_edits as state_with_edits};
+ghost use Rattle.hub_state.specs.Sound.{IsSound};
+ghost use Rattle.hub_state.specs.Facts.{facts_of};
+ghost use Rattle.hub_state.specs.Reads.{standing_of, case_of, document_of, served_of_incident, met_by_incident, entries_after};
+ghost use Rattle.hub_state.specs.Reads as spec;
+ghost use Rattle.redact.specs.Excerpts.{told_by};
+ghost use Rattle.hub_state.specs.Shelves.{HasCause, Reads, KeepsContent};
+
+use crate::edit::Edit;
+use crate::facts::Facts;
+use crate::reply::{Entry, JoinedGroup};
+use crate::request::Request;
+use circle::directory::Person;
+use iodef_tree::Document;
+use policy::{Case, Standing};
+use redact::{Excerpt, Want};
+use thiserror::Error;
+
+/// Why a shelf gave no answer. The content is as it was.
+#[derive(Clone, Copy, Debug, PartialEq, Eq, Error)]
+pub enum ShelfFault {
+    #[error("no memory")]
+    NoMemory,
+    /// The store failed.
+    #[error("the store failed")]
+    Failed,
+}
+
+/// What keeps the hub's state. Each read answers its function of the state, and leaves it.
+pub trait Shelf {
+    // The content is this state. A store that an earlier failure has shut is not held to any.
+    ghost has: { Self → State → Type 0 };
+
+    // 0 as long as the store has returned what was written
+    ghost doubts: { Self → ℕ };
+
+    // how often the store has failed
+    ghost failed: { Self → ℕ };
+
+    // What a crash at this moment may leave: a sound state, or None for whatever stands for none.
+    ghost may_remain: { Self → Option State → Type 0 };
+
+    /// How often the store has failed.
+    fn failures(&self) -> u64
+        ensures { result ≡ failed self.now };
+
+    /// The person with this key (its SHA-256), active or not.
+    fn person_by_key(&mut self, key: &[u8; 32]) -> Result<Option<Person>, ShelfFault>
+        ensures { Reads has doubts failed may_remain self.old self.new (λ s found. found ≡
+            spec.person_by_key key.now s) result };
+
+    /// How a person stands to an incident at a moment, in seconds since the beginning of 1970 (UTC); none where either is
+    /// missing.
+    fn standing(
+        &mut self,
+        person: u32,
+        incident: u32,
+        now: i64,
+    ) -> Result<Option<Standing>, ShelfFault>
+        ensures { Reads has doubts failed may_remain self.old self.new (λ s found. found ≡
+            standing_of person incident now s) result };
+
+    /// What an incident is judged by, beside its document; none where it is missing.
+    fn case(&mut self, incident: u32) -> Result<Option<Case>, ShelfFault>
+        ensures { Reads has doubts failed may_remain self.old self.new (λ s found. found ≡
+            case_of incident s) result };
+
+    /// The document of an incident; none where it is missing.
+    fn document(&mut self, incident: u32) -> Result<Option<Document>, ShelfFault>
+        ensures { Reads has doubts failed may_remain self.old self.new (λ s found. found ≡
+            document_of incident s) result };
+
+    /// What a reader of this standing is served of an incident that is judged by this case; none where it is missing, where
+    /// no class of it is visible, and of a document whose markings aren't accepted.
+    fn excerpt(
+        &mut self,
+        incident: u32,
+        case: Case,
+        standing: Standing,
+    ) -> Result<Option<Excerpt>, ShelfFault>
+        ensures { Reads has doubts failed may_remain self.old self.new (λ s found.
+            option_map told_by found ≡ served_of_incident incident case standing s) result };
+
+    /// Whether an incident that is judged by this case meets a want, for a reader of this standing. Not where it is missing, nor
+    /// where its markings aren't accepted.
+    fn meets(
+        &mut self,
+        incident: u32,
+        case: Case,
+        standing: Standing,
+        want: Want,
+    ) -> Result<bool, ShelfFault>
+        ensures { Reads has doubts failed may_remain self.old self.new (λ s met. met ≡
+            met_by_incident incident case standing want s) result };
+
+    /// The first so many incidents above a number, by number.
+    fn incidents_after(&mut self, number: u32, most: u32) -> Result<Vec<Entry>, ShelfFault>
+        ensures { Reads has doubts failed may_remain self.old self.new (λ s found.
+            found.items ≡ entries_after number most s) result };
+
+    /// The groups of which the person's organisation is a member, by number.
+    fn groups_of(&mut self, person: &Person) -> Result<Vec<JoinedGroup>, ShelfFault>
+        ensures { Reads has doubts failed may_remain self.old self.new (λ s found.
+            found.items ≡ spec.groups_of person.now s) result };
+
+    /// What there is to know about a person's request.
+    fn facts(&mut self, actor: &Person, request: &Request) -> Result<Facts, ShelfFault>
+        ensures { Reads has doubts failed may_remain self.old self.new (λ s facts. facts ≡
+            facts_of s actor.now request.now) result };
+
+    /// Makes all edits, or none. What is promised after Ok, and of a crash, is promised where the state with the edits
+    /// made is sound; of edits that would lead elsewhere it is promised that without Ok the content is as it was, and how
+    /// failures and doubts are counted.
+    fn apply(&mut self, edits: &[Edit]) -> Result<(), ShelfFault>
+        ensures made { doubts self.new ≡ 0 → (s : State) → has self.old s →
+            IsSound (state_with_edits edits.now s) →
+            OnOk result (has self.new (state_with_edits edits.now s)) }
+        ensures none { OnErr result (KeepsContent has doubts failed may_remain self.old self.new) }
+        ensures cause { HasCause (failed self.old) (failed self.new) result }
+        ensures doubt { doubts self.old ≤ doubts self.new }
+        // After Ok a crash may leave the content after the edits, and nothing else; otherwise what it could have left before, or
+        // that content.
+        ensures durable { doubts self.new ≡ 0 → (s : State) → has self.old s →
+            IsSound (state_with_edits edits.now s) →
+            OnOk result ((left : Option State) →
+            may_remain self.new left ↔ (left ≡ Some (state_with_edits edits.now s))) }
+        ensures crash { doubts self.new ≡ 0 → (s : State) → has self.old s →
+            IsSound (state_with_edits edits.now s) → (left : Option State) →
+            may_remain self.new left →
+            may_remain self.old left ⊎ (left ≡ Some (state_with_edits edits.now s)) };
+}
