@@ -1,5 +1,8 @@
-//! What the definitions promise of every view. Each law is the contract of a function that does nothing.
+//! What the definitions promise of every view, and what each limit is worth. Each law is the contract of a function that does
+//! nothing.
 
+ghost use Rattle.std.specs.Prelude.{◌≡◌};
+ghost use Rattle.redaction.specs.declared.TheConstants.{GATE_LIMIT, PERMISSION_LIMIT};
 ghost use Rattle.redaction.specs.Laws.{ShortFormClears, OpenCaseRefusesNobody};
 
 /// The reader of the short form is cleared for the handling that is named, and for nothing stricter.
@@ -10,4 +13,10 @@ pub fn short_form_clears()
 /// The case of the short form has no gate that refuses anybody.
 pub fn open_case_refuses_nobody()
     ensures { OpenCaseRefusesNobody }
+{}
+
+/// The limits of a view: 16 gates beside the one at the root, and 64 permissions.
+pub fn limits_of_a_view()
+    ensures gates { GATE_LIMIT ≡ 16 }
+    ensures permissions { PERMISSION_LIMIT ≡ 64 }
 {}
