@@ -31,7 +31,7 @@
 extern "C" {
 #endif
 
-/* The faults in their order: of several the first is told. IODEF_REDACT_NO_MEMORY may stand in place of any answer. Each has a
+/* The faults in their order: of several the first is returned. IODEF_REDACT_NO_MEMORY may replace any answer. Each has a
  * number, the name by which the program iodef-redact tells it, and a reason. */
 #define IODEF_REDACT_FAULTS(FAULT) \
     FAULT(NO_MEMORY, 1, "NoMemory", "memory ran out") \
@@ -50,8 +50,8 @@ extern "C" {
     FAULT(NOT_DOCUMENT, 14, "NotDocument", "the report is no IODEF document") \
     FAULT(MISSING, 15, "Missing", "an Incident lacks a member") \
     FAULT(NOT_WHOLE, 16, "NotWhole", "a number is no whole one of 64 bits") \
-    FAULT(NESTED_CLASS, 17, "NestedClass", "an object stands in an array inside an array") \
-    FAULT(TOO_DEEP, 18, "TooDeep", "a member stands too deep") \
+    FAULT(NESTED_CLASS, 17, "NestedClass", "an object is in an array inside an array") \
+    FAULT(TOO_DEEP, 18, "TooDeep", "a member is too deep") \
     FAULT(TOO_MANY_LINES, 19, "TooManyLines", "an Incident has too many lines") \
     FAULT(BAD_MARKING, 20, "BadMarking", "a class breaks the marking rule") \
     FAULT(NO_INCIDENT, 21, "NoIncident", "there is no Incident at that place") \
@@ -153,7 +153,7 @@ static inline uint32_t iodef_redact_document(const void *report, size_t report_l
     return iodef_redact_document_into(r.start, r.length, v.start, v.length, iodef_redact_start_of_(out), out_length, needed);
 }
 
-/* `true` or `false`: whether a class that the reader may see directly holds a text in which this one stands. */
+/* `true` or `false`: whether a class that the reader may see directly holds a text that contains this one. */
 static inline uint32_t iodef_redact_finds(const void *report, size_t report_length, const void *view, size_t view_length,
                                           const void *text, size_t text_length, void *out, size_t out_length, size_t *needed) {
     iodef_redact_bytes_ r = iodef_redact_bytes_of_(report, report_length), v = iodef_redact_bytes_of_(view, view_length);

@@ -6,7 +6,7 @@
 
 A report is an IODEF v2 document in JSON (RFC 7970 and RFC 8727), as bytes or str. `to` says for whom it is redacted:
 
-- the name of a handling (CLEAR, GREEN, AMBER, STRICT or RED): a reader who is cleared for it and for nothing stricter;
+- the name of a handling (CLEAR, GREEN, AMBER, STRICT or RED): a reader with that clearance and nothing stricter;
 - a Reader, with a Case. What is left out of a Reader doesn't hold, and what is left out of a Case isn't granted;
 - a View: a view description as its JSON text.
 
@@ -31,7 +31,7 @@ HANDLINGS = ("CLEAR", "GREEN", "AMBER", "STRICT", "RED")
 
 
 class Fault(Exception):
-    """Why a call has no answer. Of several faults the one with the least number is raised; NoMemory may stand in place of any
+    """Why a call has no answer. Of several faults the one with the least number is raised; NoMemory may replace any
     answer."""
 
     number: ClassVar[int] = 0
@@ -106,11 +106,11 @@ class NotWhole(Fault):
 
 
 class NestedClass(Fault):
-    number, reason = 17, "an object stands in an array inside an array"
+    number, reason = 17, "an object is in an array inside an array"
 
 
 class TooDeep(Fault):
-    number, reason = 18, "a member stands too deep"
+    number, reason = 18, "a member is too deep"
 
 
 class TooManyLines(Fault):
@@ -245,7 +245,7 @@ def finds(
     report: bytes | str, text: bytes | str, to: str | Reader | View, case: Case | None = None, *, class_name: bytes | str | None = None,
     incident: int | None = None, now: str | datetime.datetime | None = None,
 ) -> bool:
-    """Whether a class that the reader may see directly holds a text in which `text` stands; with `class_name`, a class of that name."""
+    """Whether a class that the reader may see directly holds a text that contains `text`; with `class_name`, a class of that name."""
     view = _described(to, case, incident, now)
     if class_name is None:
         return _answer("finds", report, view, text) == b"true"

@@ -225,7 +225,7 @@ impl Read for Spaces {
     }
 }
 
-/// Whether an input of so many spaces, which then fails or ends, is told so, with nothing printed.
+/// Whether the program names the fault of an input of so many spaces, which then fails or ends, and prints nothing.
 fn is_read(
     rt: &HostRuntime,
     left: usize,

@@ -131,7 +131,7 @@ pub fn command_line<'a>(alloc: Global, words: &'a [String]) -> Result<Vec<&'a st
     Ok(line)
 }
 
-// A word that is required is there, so nothing stands in for it.
+// A required word is always there, so it has no default.
 fn text_of<'a>(found: &ArgMatches<'a>, id: &str) -> &'a str {
     found.get_str(id).unwrap_or("")
 }

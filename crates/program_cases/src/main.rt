@@ -13,7 +13,7 @@
 //!
 //! Told is the exit status, behind `>` each line that is printed, and behind `!` each on standard error; of a usage the first one.
 //!
-//! Connections: `serve|BYTES|BYTES..` starts `serve STORE PORT` for so many callers, who connect as soon as the port is told,
+//! Connections: `serve|BYTES|BYTES..` starts `serve STORE PORT` for so many callers, who connect as soon as the port is printed,
 //! and send these bytes; one that sends `-` leaves at once. Behind `<` stands what each of the others is replied, with `\r` and
 //! `\n` for CR and LF. `memory|CLOCK|BYTES..` is the same over a hub in memory, with organisation 1 and its administrator, whose
 //! key is `abc`, and with a clock that stands at so many seconds since 1970, or is `stopped`. `post|KEY|TARGET|BODY` posts to the

@@ -147,7 +147,7 @@ fn posts_of(rt: &HostRuntime, field: &str) -> io::Result<Vec<Vec<u8>>> {
     Ok(all)
 }
 
-/// How many callers are told that it is done; the first other reply, if there is one.
+/// Prints how many callers got `200 OK`, or the first other reply, if there is one.
 fn told_done(rt: &HostRuntime, callers: &mut Vec<TcpStream>) -> io::Result<String> {
     let alloc = rt.alloc();
     let mut count: usize = 0;

@@ -13,7 +13,7 @@ fn byte_of(digits: &[u8]) -> u8 {
     }
 }
 
-/// What stands behind a backslash.
+/// The byte that an escape is for.
 fn push_escaped(all: &mut Vec<u8>, piece: &[u8]) -> Result<(), AllocError> {
     let (byte, rest) = match piece {
         [b'r', rest @ ..] => (b'\r', rest),
@@ -25,7 +25,7 @@ fn push_escaped(all: &mut Vec<u8>, piece: &[u8]) -> Result<(), AllocError> {
     all.extend_from_slice(rest)
 }
 
-/// The bytes of a text as it stands in the line.
+/// The bytes of a text in a line.
 pub fn bytes_of(alloc: Global, text: &str) -> Result<Vec<u8>, AllocError> {
     let text = written_out(alloc, text)?;
     let mut all = Vec::new(alloc);

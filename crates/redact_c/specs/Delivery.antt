@@ -17,7 +17,7 @@ pub record Placed (text : List ℕ) (needed : ℕ) (before after : List ℕ) : T
 
 -- what a call returned, the length that it told, and the caller's bytes before and after it, of what was wanted
 pub record Delivers (number needed : ℕ) (before after : List ℕ) (wanted : Read (List ℕ)) : Type 0 where
-  -- want of memory may stand in place of any answer
+  -- NoMemory may replace any answer
   pub numbered : number ≢ number_of NoMemory → number ≡ number_for wanted
   pub answered : number ≡ 0 → IfOk wanted (λ text. Placed text needed before after)
   pub uncounted : number ≢ 0 → needed ≡ 0

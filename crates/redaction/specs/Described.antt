@@ -41,7 +41,7 @@ reach_of level (Some n) = if level == 4 then Ok (level, Some n) else Err OutOfRa
 unfoldable pub reach_in : Json → Read (ℕ × Option ℕ)
 reach_in j = wanted level_in (codes "level") j & given number_in (codes "group") j >>= λ p. reach_of p.0 p.1
 
--- level 5 inherits what stands above, so it is none of the root's
+-- level 5 inherits the level above, so the root can't have it
 abbrev pub gate_at : Tokens → ℕ → Option ℕ → Read Gate
 gate_at path level group =
     if is_root path && level == 5 then Err OutOfRange
@@ -232,7 +232,7 @@ open_case = record {
   permissions = [];
 }
 
--- a reader of another organisation who is cleared for this, and for nothing stricter (FIRST TLP 2.0)
+-- a reader of another organisation, with this clearance and nothing stricter (FIRST TLP 2.0)
 abbrev pub cleared_reader : Handling → Standing
 cleared_reader Clear = stranger 2 2
 cleared_reader Green = record (stranger 2 2) { peer = true }

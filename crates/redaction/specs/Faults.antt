@@ -1,4 +1,4 @@
--- The faults, in one order: of several the first is told. Want of memory may stand in place of any answer.
+-- The faults, in one order: of several the first is returned. NoMemory may replace any answer.
 use Rattle.std.specs.Prelude.{ℕ, nat_lt, if◌then◌else◌, codes}
 use Rattle.iodef_tree.specs.Text.{Bytes}
 use Rattle.iodef_tree.specs.declared.fault.ReadFault.{ReadFault}
@@ -36,7 +36,7 @@ number_of NoIncident = 21
 number_of NoClass = 22
 number_of NothingVisible = 23
 
--- of two faults the one that is told; the first of two alike
+-- the earlier of two faults; the first of two equal ones
 abbrev pub earlier : Fault → Fault → Fault
 earlier e f = if nat_lt (number_of f) (number_of e) then f else e
 
@@ -83,8 +83,8 @@ reason_of NotJson = codes "the report is no JSON text in UTF-8"
 reason_of NotDocument = codes "the report is no IODEF document"
 reason_of Missing = codes "an Incident lacks a member"
 reason_of NotWhole = codes "a number is no whole one of 64 bits"
-reason_of NestedClass = codes "an object stands in an array inside an array"
-reason_of TooDeep = codes "a member stands too deep"
+reason_of NestedClass = codes "an object is in an array inside an array"
+reason_of TooDeep = codes "a member is too deep"
 reason_of TooManyLines = codes "an Incident has too many lines"
 reason_of BadMarking = codes "a class breaks the marking rule"
 reason_of NoIncident = codes "there is no Incident at that place"

@@ -13,7 +13,7 @@ abbrev pub ◌>>=◌ : {A B : Type 0} → Read A → (A → Read B) → Read B
 (Ok x) >>= f = f x
 (Err e) >>= f = Err e
 
--- side by side: both are asked, and of two faults the first in their order is told
+-- side by side: both are asked, and of two faults the earlier is returned
 infixl 11 ◌&◌
 abbrev pub ◌&◌ : {A B : Type 0} → Read A → Read B → Read (A × B)
 (Ok x) & (Ok y) = Ok (x, y)

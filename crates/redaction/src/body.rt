@@ -54,7 +54,7 @@ fn put_excerpt<S: Sink>(out: &mut Tokens<S>, excerpt: &Excerpt) -> Result<(), Re
 /// What is written of an excerpt.
 #[derive(Clone, Copy, Drop)]
 pub(crate) enum Body<'a> {
-    /// All that is told.
+    /// The excerpt whole: its document, how many classes are visible, and what is withheld.
     Whole(&'a Excerpt),
     /// Its document alone.
     Document(&'a Excerpt),
@@ -86,7 +86,7 @@ impl<'a> Source for Body<'a> {
     }
 }
 
-/// The bytes of all that is told.
+/// The bytes of the whole excerpt.
 pub(crate) fn excerpt_bytes(alloc: Global, excerpt: &Excerpt) -> Result<Vec<u8>, AllocError>
     ensures { IfOk result (λ v. v.items ≡ compact_text (spec.excerpt_object (told_by excerpt.now))) }
 {

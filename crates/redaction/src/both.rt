@@ -6,7 +6,7 @@ ghost use Rattle.redaction.specs.inner.SoFar as spec;
 use crate::fault::Fault;
 use std::alloc::AllocError;
 
-/// What is read or why not; memory is told apart, around it.
+/// What is read, or the fault. Want of memory is the error around it.
 pub(crate) type Read<T> = Result<T, Fault>;
 
 /// Both values, or the first fault in the order.
@@ -21,7 +21,7 @@ pub(crate) fn both<A: Drop, B: Drop>(one: Read<A>, other: Read<B>) -> Read<(A, B
     }
 }
 
-/// The fault that is told of those so far and one more.
+/// The earlier of the fault so far and one more.
 fn noted(first: Option<Fault>, fault: Fault) -> Fault
     ensures { result ≡ spec.noted first fault }
 {

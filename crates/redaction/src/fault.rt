@@ -7,7 +7,7 @@ use iodef_tree::ReadFault;
 use std::alloc::{AllocError, AllocFailed};
 use std::fmt;
 
-/// Why there is no answer: the first of these that holds, in this order. `NoMemory` may stand in place of any answer.
+/// Why there is no answer: the first of these that holds, in this order. `NoMemory` may replace any answer.
 #[derive(Clone, Copy, Debug, PartialEq, Eq, Drop)]
 pub enum Fault {
     NoMemory,
@@ -41,7 +41,7 @@ pub enum Fault {
     Missing,
     /// A number is no whole one of 64 bits.
     NotWhole,
-    /// An object stands in an array that stands in an array.
+    /// An object is in an array inside an array.
     NestedClass,
     TooDeep,
     TooManyLines,
@@ -141,8 +141,8 @@ impl Fault {
             Fault::NotDocument => "the report is no IODEF document",
             Fault::Missing => "an Incident lacks a member",
             Fault::NotWhole => "a number is no whole one of 64 bits",
-            Fault::NestedClass => "an object stands in an array inside an array",
-            Fault::TooDeep => "a member stands too deep",
+            Fault::NestedClass => "an object is in an array inside an array",
+            Fault::TooDeep => "a member is too deep",
             Fault::TooManyLines => "an Incident has too many lines",
             Fault::BadMarking => "a class breaks the marking rule",
             Fault::NoIncident => "there is no Incident at that place",
@@ -151,7 +151,7 @@ impl Fault {
         }
     }
 
-    /// Of two faults the one that is told: the earlier in the order.
+    /// Returns the earlier of two faults in the order.
     pub(crate) fn earlier(self, other: Fault) -> Fault
         ensures { result ≡ spec.earlier self other }
     {

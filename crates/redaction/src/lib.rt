@@ -1,11 +1,11 @@
 //! Redaction for callers that have no hub: a report and a view description in, an answer out, all as bytes.
 //!
-//! To read first, in `specs/`: `Described`, what a view description says; `Faults`, the one order in which faults are told;
+//! To read first, in `specs/`: `Described`, what a view description says; `Faults`, the order of the faults;
 //! `Answers`, what is answered of a report.
 //!
 //! The rooms, in the way of a call:
 //!
-//! - `fault`: [`Fault`], why there is no answer; `both`: two readings side by side, of whose faults the first is told;
+//! - `fault`: [`Fault`], why there is no answer; `both`: two readings side by side, of which the earlier fault is returned;
 //! - `value`: what the JSON values of a description say; `gates`, `permissions` and `case`: its case; `reader`: its reader;
 //!   `short`: its short form; `view`: a description as a whole;
 //! - `asked`: a document of the report, with a case and a reader;

@@ -61,7 +61,7 @@ fn push_label(alloc: Global, out: &mut String, label: Label<'_>) -> Result<(), A
     }
 }
 
-/// What stands before a text, and the text as a JSON string, behind `out`.
+/// Appends a prefix and a text as a JSON string to `out`.
 fn push_cell(alloc: Global, out: &mut String, before: &str, text: &str) -> Result<(), AllocError>
     ensures { OnOk result (string_bytes out.new ≡
         string_bytes out.old ++ (before.now ++ quoted text.now)) }

@@ -7,7 +7,7 @@
 //! - `explain POINTER VIEW`, `marks PLACE`: the lines that are answered.
 //! - `faults`: each fault's number, name and reason.
 //!
-//! In place of an answer that isn't given stands the fault's number and name.
+//! A case without an answer prints the fault's number and name.
 
 use percent_encoding::percent_decode;
 use redaction::Fault;

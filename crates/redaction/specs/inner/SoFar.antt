@@ -4,7 +4,7 @@ use Rattle.redaction.specs.Faults.{earlier}
 use Rattle.redaction.specs.Outcome.{Read}
 use Rattle.redaction.specs.declared.fault.Fault.{Fault}
 
--- the fault that is told of those so far and one more
+-- the earlier of the fault so far and one more
 abbrev pub noted : Option Fault → Fault → Fault
 noted None e = e
 noted (Some first) e = earlier first e
