@@ -48,11 +48,11 @@ abbrev HaveNoSlash : List Bytes → Type 0
 HaveNoSlash [] = Unit {0}
 HaveNoSlash (w ∷ ws) = HasNoSlash w × HaveNoSlash ws
 
--- a byte that was read as itself is printed as itself
+-- a byte that is neither a tilde nor a slash is printed as itself
 escaped_byte-kept : (c : ℕ) → eqb c 126 ≡ false → is_slash c ≡ false → escaped_byte c ≡ c ∷ []
 escaped_byte-kept c t s = cond-false _ _ _ t ∙ cond-false _ _ _ s
 
--- a token is printed as it was read, with the tilde that came before it
+-- a token that was read is printed as it was written, with the tilde that came before it
 escaped-unescaped_from : (b : Bool) (w token : Bytes) → HasNoSlash w → unescaped_from b w ≡ Some token → escaped token ≡ cond b (126 ∷ w) w
 escaped-unescaped_from false (c ∷ cs) token h r = by_byte (eqb c 126) refl r (escaped-unescaped_from true cs token h.1) (λ t. escaped-unescaped_from false cs t h.1)
   where
@@ -75,7 +75,7 @@ escaped-unescaped_from true (c ∷ cs) token h r = by_code (eqb c 48) (eqb c 49)
     by_code false false e f k plain = absurd (cc)
 escaped-unescaped_from b w token h r = grind arith
 
--- the pieces between the slashes have none
+-- no piece between the slashes holds a slash
 pieces-HaveNoSlash : (cs : Bytes) → HaveNoSlash (slice_split is_slash cs)
 pieces-HaveNoSlash [] = (tt, tt)
 pieces-HaveNoSlash (c ∷ cs) = grind (arith, (pieces-HaveNoSlash cs))
@@ -94,7 +94,7 @@ pointer_text-each (w ∷ ws) p h r =
     let (x, xs, first, rest, all) = with_first-some (unescaped w) (each_unescaped ws) p r in
     ap pointer_text all ∙ ap (λ bs. 47 ∷ (bs ++ pointer_text xs)) (escaped-unescaped_from false w x h.0 first) ∙ ap (λ bs. 47 ∷ (w ++ bs)) (pointer_text-each ws xs h.1 rest)
 
--- the path that is read from a text has it as its pointer
+-- the pointer of the path that is read from a text is that text
 pub pointer_text-pointer_tokens : (text : Bytes) (p : Tokens) → pointer_tokens text ≡ Some p → pointer_text p ≡ text
 pointer_text-pointer_tokens [] p h = let e : [] ≡ p = cc in ap pointer_text (sym e)
 pointer_text-pointer_tokens (c ∷ cs) p h = by_byte (is_slash c) refl h

@@ -5,7 +5,7 @@ use Rattle.std.proofs.lemmas.Bool.{ne_eqb, cond-false, or_parts}
 use Rattle.json_pointer.specs.Pointer.{escaped_byte, is_escaped_byte, escaped}
 use Rattle.json_pointer.proofs.Characters.{AreHigh, encode_utf8-cases}
 
--- a byte that is neither a tilde nor a slash stays
+-- a byte that is neither a tilde nor a slash is written as it is
 plain_byte : (b : ℕ) → b ≢ 126 → b ≢ 47 → escaped_byte b ≡ b ∷ []
 plain_byte b t s = cond-false _ _ _ (ne_eqb b 126 t) ∙ cond-false _ _ _ (ne_eqb b 47 s)
 
@@ -13,11 +13,11 @@ escaped-high : (bs : List ℕ) → AreHigh bs → escaped bs ≡ bs
 escaped-high [] h = refl
 escaped-high (b ∷ bs) h = ap (λ x. x ++ escaped bs) (plain_byte b (λ e. omega arith) (λ e. omega arith)) ∙ ap (λ x. b ∷ x) (escaped-high bs h.1)
 
--- and so does a character that is neither
+-- a character that is neither a tilde nor a slash is written as it is
 pub escaped-encode : (c : ℕ) → c ≢ 126 → c ≢ 47 → escaped (encode_utf8 c) ≡ encode_utf8 c
 escaped-encode c t s = grind (arith, encode_utf8-cases, escaped-high, plain_byte)
 
--- where no byte is written otherwise, a token stays as it is
+-- a token in which no byte is escaped is written as it is
 pub escaped-same : (s : List ℕ) → list_any is_escaped_byte s ≡ false → escaped s ≡ s
 escaped-same [] h = refl
 escaped-same (b ∷ bs) h =

@@ -1,4 +1,4 @@
--- A path that another one starts with.
+-- `starts_with` on tokens is `is_prefix`.
 use Rattle.std.proofs.Common.{◌≡◌, [], ◌∷◌, ◌&&◌, refl, ap, bytes_eq}
 use Rattle.std.specs.List.{starts_with}
 use Rattle.json_pointer.specs.Text.{Tokens, is_prefix}

@@ -7,7 +7,7 @@ use Rattle.json_pointer.proofs.Characters.{AreHigh, encode_utf8-cases}
 use Rattle.json_pointer.specs.Text.{Tokens}
 use Rattle.json_pointer.specs.Pointer.{escaped_by, with_first, unescaped_from, unescaped, each_unescaped, pointer_tokens}
 
--- what has been made, in front of what is still to come
+-- what is read so far, in front of what is still to come
 abbrev pub made_then : {A : Type 0} → List A → Option (List A) → Option (List A)
 made_then made rest = option_map (λ xs. made ++ xs) rest
 
@@ -20,7 +20,7 @@ made_then-append a b rest = grind (arith, append_assoc)
 pub made_then-first : {A : Type 0} (x : A) (rest : Option (List A)) → made_then (x ∷ []) rest ≡ with_first (Some x) rest
 made_then-first x rest = grind arith
 
--- a byte that is no tilde stands for itself
+-- a byte that is no tilde means itself
 plain_byte : (b : ℕ) (rest : List ℕ) → b ≢ 126 → unescaped_from false (b ∷ rest) ≡ made_then (b ∷ []) (unescaped_from false rest)
 plain_byte b rest n = cond-false _ _ _ (ne_eqb b 126 n) ∙ sym (made_then-first b (unescaped_from false rest))
 
@@ -29,11 +29,11 @@ high_bytes [] rest h = sym (made_then-nil (unescaped_from false rest))
 high_bytes (b ∷ bs) rest h =
     plain_byte b (bs ++ rest) (λ e. omega arith) ∙ ap (made_then (b ∷ [])) (high_bytes bs rest h.1) ∙ sym (made_then-append (b ∷ []) bs (unescaped_from false rest))
 
--- and so does a character
+-- a character that is no tilde means itself
 unescaped_from-plain : (c : ℕ) (rest : List ℕ) → c ≢ 126 → unescaped_from false (encode_utf8 c ++ rest) ≡ made_then (encode_utf8 c) (unescaped_from false rest)
 unescaped_from-plain c rest n = grind (arith, encode_utf8-cases, high_bytes, plain_byte)
 
--- a tilde stands for nothing yet
+-- a tilde by itself means nothing yet
 unescaped_from-tilde : (c : ℕ) (rest : List ℕ) → c ≡ 126 → unescaped_from false (encode_utf8 c ++ rest) ≡ unescaped_from true rest
 unfolding encode_utf8
 unescaped_from-tilde c rest e = ap (λ d. unescaped_from false (encode_utf8 d ++ rest)) e
@@ -41,11 +41,11 @@ unescaped_from-tilde c rest e = ap (λ d. unescaped_from false (encode_utf8 d ++
 no_code : (b : ℕ) → 128 ≤ b → escaped_by b ≡ None
 no_code b h = cond-false _ _ _ (ne_eqb b 48 (omega arith)) ∙ cond-false _ _ _ (ne_eqb b 49 (omega arith))
 
--- behind a tilde a character is read as its code says
+-- a character behind a tilde is read by its code
 unescaped_from-behind : (c : ℕ) (rest : List ℕ) → unescaped_from true (encode_utf8 c ++ rest) ≡ with_first (escaped_by c) (unescaped_from false rest)
 unescaped_from-behind c rest = grind (arith, encode_utf8-cases, no_code)
 
--- what a code stands for is one byte
+-- a code means one byte
 encode_utf8-code : (c b : ℕ) → escaped_by c ≡ Some b → encode_utf8 b ≡ b ∷ []
 unfolding encode_utf8
 encode_utf8-code c b h = grind arith
@@ -72,7 +72,7 @@ module _ (kept left rest : List ℕ) (whole : Option (List ℕ)) where
 -- ---- the steps over the tokens, each over those so far and what the iterator has left
 
 module _ {S A : Type 0} (steps : S → Option A → S → Type 0) (written : A → List ℕ) (whole : Option Tokens) where
-  -- the pieces that s has left, and what they come to behind the tokens so far
+  -- the pieces that s has left give, behind the tokens so far, the whole path
   abbrev pub Comes : S → Tokens → Type 0
   Comes at tokens = (left : List (List ℕ)) × AlwaysYields steps written at left × (made_then tokens (each_unescaped left) ≡ whole)
 
@@ -106,6 +106,6 @@ module _ {S A : Type 0} (steps : S → Option A → S → Type 0) (written : A �
 
 -- ---- the whole pointer
 
--- what is not empty and begins with no slash is no pointer
+-- a text that is not empty and begins with no slash is no pointer
 pub pointer_tokens-none : (text : List ℕ) → text ≢ [] → ((rest : List ℕ) → text ≢ 47 ∷ rest) → pointer_tokens text ≡ None
 pointer_tokens-none text some none = grind (arith, cond-false, ne_eqb)

@@ -17,9 +17,11 @@ Tokens = List Bytes
 abbrev pub bytes_lt : Bytes → Bytes → Bool
 bytes_lt x y = is_lt (slice_cmp nat_cmp x y)
 
+-- whether two paths have the same tokens, in the same order
 abbrev pub same_path : Tokens → Tokens → Bool
 same_path = pointwise bytes_eq
 
+-- whether a path is the root's, which has no token
 abbrev pub is_root : Tokens → Bool
 is_root [] = true
 is_root (x ∷ p) = false

@@ -1,4 +1,4 @@
-//! Printing and reading of pointers undo each other. Each law is the contract of a function that does nothing.
+//! Laws: printing a pointer and reading it undo each other. Each law is the contract of a function that does nothing.
 #![tactic(auto, using(crate::proofs::Steps::laws))]
 
 ghost use Rattle.json_pointer.specs.Pointer.{PointerIsRead, ReadIsPrinted};
@@ -8,7 +8,7 @@ pub fn pointer_is_read()
     ensures { PointerIsRead }
 {}
 
-/// A text that is read as a path is the path's pointer.
+/// If a text is read as a path, the text is the pointer of that path.
 pub fn read_is_printed()
     ensures { ReadIsPrinted }
 {}

@@ -1,9 +1,8 @@
-//! Texts as the list of their bytes, paths as the list of their reference tokens, and the JSON pointers that print them
-//! (RFC 6901).
+//! Texts as lists of bytes, paths as lists of reference tokens, and the JSON pointers that print paths (RFC 6901).
 //!
-//! To read first, in `specs/`: `Text`, how texts and paths are compared; `Pointer`, what a JSON pointer means.
+//! Read first, in `specs/`: `Text`, how texts and paths are compared; `Pointer`, what a JSON pointer means.
 //!
-//! The rooms: `text`: [`Text`]; `path`: [`Path`]; `pointer`: its JSON pointer, written and read; [`laws`]: that printing
+//! The modules: `text`: [`Text`]; `path`: [`Path`]; `pointer`: its JSON pointer, written and read; [`laws`]: printing
 //! and reading undo each other.
 #![tactic(auto)]
 

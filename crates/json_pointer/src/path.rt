@@ -9,7 +9,8 @@ use crate::text::Text;
 use std::alloc::{AllocError, Global};
 use std::marker::Model;
 
-/// A path by its reference tokens (RFC 6901 section 3); the root's is empty. An array place is its decimal digits.
+/// A path as its reference tokens (RFC 6901 section 3). The root's path has none. The place in an array is its decimal
+/// digits.
 /// Contracts see the list of the tokens.
 #[derive(Debug, Drop)]
 pub struct Path {
@@ -25,7 +26,7 @@ impl Model for Path {
 }
 
 impl Path {
-    /// The root's path.
+    /// Returns the path of the root.
     pub fn root(alloc: Global) -> Path
         ensures { result ≡ [] }
     {
@@ -34,27 +35,28 @@ impl Path {
         }
     }
 
-    /// The path of these tokens; takes no memory.
+    /// Returns the path of these tokens. Allocates nothing.
     pub fn new(tokens: Vec<Text>) -> Path
         ensures { result ≡ tokens.items }
     {
         Path { tokens }
     }
 
+    /// Returns the reference tokens, in order.
     pub fn tokens(&self) -> &[Text]
         ensures { result.now ≡ self.now }
     {
         &self.tokens
     }
 
-    /// Returns the tokens back; takes no memory.
+    /// Returns the tokens. Allocates nothing.
     pub fn into_tokens(self) -> Vec<Text>
         ensures { result.items ≡ self }
     {
         self.tokens
     }
 
-    /// The JSON pointer (RFC 6901 section 3).
+    /// Returns the JSON pointer of the path (RFC 6901 section 3). Fails if memory runs out.
     pub fn print(&self, alloc: Global) -> Result<String, AllocError>
         ensures { IfOk result (λ s. string_bytes s ≡ pointer_text self.now) }
     {
@@ -65,8 +67,10 @@ impl Path {
         Ok(pointer)
     }
 
-    /// The path that a text is the JSON pointer of (RFC 6901 section 3): the text is empty, or has a slash before each token.
-    /// BadPath where it is neither, or where a `~` stands that neither `0` nor `1` follows.
+    /// Returns the path of which the text is the JSON pointer (RFC 6901 section 3).
+    ///
+    /// Fails with BadPath if the text is neither empty nor begins with a slash, or if a `~` in it is followed by
+    /// neither `0` nor `1`; with NoMemory if memory runs out.
     pub fn parse(alloc: Global, text: &str) -> Result<Path, PathFault>
         ensures path { IfOk result (λ p. pointer_tokens text.now ≡ Some p) }
         ensures bad { result ≡ Err PathFault.BadPath → pointer_tokens text.now ≡ None }
@@ -80,7 +84,7 @@ impl Path {
         Ok(Path::new(read_tokens(alloc, written)?))
     }
 
-    /// Whether the other path begins with the tokens of this one; takes no memory.
+    /// Returns whether the other path begins with the tokens of this one. Allocates nothing.
     #[tactic(auto, using(crate::proofs::Steps::is_prefix_of_steps))]
     pub fn is_prefix_of(&self, other: &Path) -> bool
         ensures { result ≡ is_prefix self.now other.now }
@@ -88,7 +92,8 @@ impl Path {
         other.tokens.starts_with(&self.tokens)
     }
 
-    /// The path of the member of this name, or of the array element at the place of these digits.
+    /// Returns the path with one token more: the name of a member, or the digits of a place in an array. Fails if
+    /// memory runs out.
     pub fn member(&self, alloc: Global, name: &str) -> Result<Path, AllocError>
         ensures { IfOk result (λ p. p ≡ self.now ++ name.now ∷ []) }
     {

@@ -11,18 +11,19 @@ use crate::text::Text;
 use std::alloc::{AllocError, AllocFailed, Global};
 use thiserror::Error;
 
-/// Why a text gives no path.
+/// Why no path can be read from a text.
 #[derive(Clone, Copy, Debug, PartialEq, Eq, Error)]
 pub enum PathFault {
     /// The text is no JSON pointer.
     #[error("the text is no JSON pointer")]
     BadPath,
+    /// Memory ran out.
     #[error("no memory")]
     NoMemory,
 }
 
 impl PathFault {
-    /// The fault's name.
+    /// Returns the fault's name.
     pub fn name(self) -> &'static str
         ensures { result.now ≡ fault_name self }
     {
@@ -49,8 +50,10 @@ impl<T: Drop> From<AllocFailed<T>> for PathFault {
     }
 }
 
-/// Writes a reference token behind a pointer: a slash, and the token with `~` as `~0` and `/` as `~1` (RFC 6901
-/// section 3). Without memory a part of it may stand there.
+/// Appends a reference token to a pointer: a slash, and the token with `~` as `~0` and `/` as `~1` (RFC 6901 section
+/// 3).
+///
+/// Fails if memory runs out; then a part of the token may have been appended.
 pub fn push_token(pointer: &mut String, token: &str) -> Result<(), AllocError>
     ensures ok { OnOk result
         (string_bytes pointer.new ≡ string_bytes pointer.old ++ byte "/" ∷ escaped token.now) }
@@ -64,7 +67,7 @@ pub fn push_token(pointer: &mut String, token: &str) -> Result<(), AllocError>
     Ok(())
 }
 
-/// Whether a byte of the token is written as two.
+/// Returns whether a byte of the token is escaped.
 fn is_written_otherwise(token: &str) -> bool
     ensures { result ≡ list_any is_escaped_byte token.now }
 {
@@ -75,6 +78,7 @@ fn is_written_otherwise(token: &str) -> bool
     found
 }
 
+/// Appends the characters of a token, each escaped if it has to be.
 fn push_escaped(pointer: &mut String, token: &str) -> Result<(), AllocError>
     ensures ok { OnOk result (string_bytes pointer.new ≡
         string_bytes pointer.old ++ escaped token.now) }
@@ -86,7 +90,7 @@ fn push_escaped(pointer: &mut String, token: &str) -> Result<(), AllocError>
     Ok(())
 }
 
-/// Writes a character of a token: `~` as `~0` and `/` as `~1` (RFC 6901 section 3).
+/// Appends a character of a token: `~` as `~0` and `/` as `~1` (RFC 6901 section 3).
 #[tactic(auto, using(crate::proofs::Steps::push_escaped_char_steps))]
 fn push_escaped_char(pointer: &mut String, c: char) -> Result<(), AllocError>
     ensures { string_bytes pointer.new
@@ -100,8 +104,10 @@ fn push_escaped_char(pointer: &mut String, c: char) -> Result<(), AllocError>
     }
 }
 
-/// Reads what follows the first slash of a pointer: reference tokens with a slash between each two (RFC 6901 section 3).
-/// BadPath where a token has a `~` that neither `0` nor `1` follows.
+/// Reads what follows the first slash of a pointer: reference tokens, with a slash between each two (RFC 6901 section
+/// 3).
+///
+/// Fails with BadPath if a `~` in a token is followed by neither `0` nor `1`; with NoMemory if memory runs out.
 pub fn read_tokens(alloc: Global, written: &str) -> Result<Vec<Text>, PathFault>
     ensures tokens { IfOk result (λ ts. slash_separated written.now ≡ Some ts.items) }
     ensures bad { result ≡ Err PathFault.BadPath → slash_separated written.now ≡ None }
@@ -113,8 +119,7 @@ pub fn read_tokens(alloc: Global, written: &str) -> Result<Vec<Text>, PathFault>
     Ok(tokens)
 }
 
-/// Reads one reference token as a pointer writes it: `~0` is `~` and `~1` is `/` (RFC 6901 section 4), and any other `~`
-/// is BadPath.
+/// Reads one reference token: `~0` is `~` and `~1` is `/` (RFC 6901 section 4). Fails with BadPath at any other `~`.
 fn read_token(alloc: Global, written: &str) -> Result<Text, PathFault>
     ensures token { IfOk result (λ t. unescaped written.now ≡ Some t) }
     ensures bad { result ≡ Err PathFault.BadPath → unescaped written.now ≡ None }
@@ -137,7 +142,7 @@ fn read_token(alloc: Global, written: &str) -> Result<Text, PathFault>
     Ok(Text::new(token))
 }
 
-/// The character that a `~` and this one stand for.
+/// Returns the character that a `~` and this one mean, or none if they are no escape.
 fn escaped_char(code: char) -> Option<char>
     ensures { result ≡ escaped_by code }
 {

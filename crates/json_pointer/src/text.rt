@@ -20,20 +20,21 @@ impl Model for Text {
 }
 
 impl Text {
-    /// The text of a string; takes no memory.
+    /// Returns the text of a string. Allocates nothing.
     pub fn new(string: String) -> Text
         ensures { result ≡ string_bytes string }
     {
         Text { string }
     }
 
+    /// Returns the text as a string slice.
     pub fn as_str(&self) -> &str
         ensures { result.now ≡ self.now }
     {
         self.string.as_str()
     }
 
-    /// Returns the string back; takes no memory.
+    /// Returns the string. Allocates nothing.
     pub fn into_string(self) -> String
         ensures { string_bytes result ≡ self }
     {
