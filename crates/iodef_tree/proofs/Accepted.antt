@@ -12,7 +12,7 @@ use Rattle.iodef_tree.specs.declared.line.Line.{Line}
 use Rattle.iodef_tree.proofs.Outlines.{outline_after-append, back_onto-append}
 use Rattle.iodef_tree.proofs.Sounds.{as_sibling, sibling_skip, sibling_here, sibling_below, counted-back_onto}
 
--- what may stand behind a sibling follows its line
+-- a line that may be behind a sibling follows the sibling's line
 follows : (o : Option SiblingPlace) (name : Bytes) (place : Option ℕ) → may_stand o name place ≡ true → may_follow (as_sibling o) (record { name = name; in_array = is_some place }) ≡ true
 follows o name place h = grind (arith, and_from, and_parts, or_left, or_right)
 

@@ -1,4 +1,4 @@
--- Siblings stand apart, since their names ascend and the elements of an array are numbered.
+-- Siblings are apart, since their names ascend and the elements of an array are numbered.
 use Rattle.std.proofs.Common.{◌≡◌, ℕ, suc, ◌+◌, ◌^◌, ◌<◌, ◌≤◌, List, ◌∷◌, ◌++◌, true, false, not, cond, ◌&&◌, decimal, refl, ◌∙◌, ap, arith, ◌⊎◌, inl, inr, Option, Some, None, is_some, bytes_eq}
 use Rattle.std.proofs.lemmas.Bool.{and_parts, and_left, and_right, false≢true, eqb-true}
 use Rattle.std.proofs.lemmas.List.Sums.{sum_by-cons, sum_by-append}
@@ -58,7 +58,7 @@ small (branch name place kids rest) d s n ordered room =
     let both = sum_by-append (λ (x : Line). cond (not (is_label_line x)) 1 0) (lines (suc d) kids) (lines d rest) in
     (r.0, small kids (suc d) None n ordered.1 (omega arith), small rest d (Some (name, place)) n ordered.2 (omega arith))
 
--- ---- what stands behind stands apart
+-- ---- siblings are apart from those behind them
 
 abbrev IsPlaceLater : Option ℕ → Option ℕ → Type 0
 IsPlaceLater None o = ⊥

@@ -1,4 +1,4 @@
--- Below the path of each class stand the lines of its members.
+-- The lines below the path of each class are those of its members.
 use Rattle.std.proofs.Common.{◌≡◌, ℕ, suc, List, [], ◌∷◌, ◌++◌, Bool, true, false, filter, refl, sym, ◌∙◌, ap, subst, append-nil, append_assoc, ◌⊎◌, inl, inr, Option, arith}
 use Rattle.std.specs.List.{AllByRecursion}
 use Rattle.std.proofs.lemmas.Bool.{cond-true, cond-false}
@@ -17,18 +17,18 @@ use Rattle.iodef_tree.proofs.Siblings.{filter-none, filter-all, siblings-all, si
 
 -- ---- filters of filters
 
--- a stronger test, tried on what passes a weaker one
+-- a stronger test after a weaker one is the stronger test
 pub filter-twice : {X : Type 0} (Q P : X → Bool) (es : List X) → ((e : X) → Q e ≡ true → P e ≡ true) → filter Q es ≡ filter Q (filter P es)
 filter-twice Q P [] h = refl
 filter-twice {X} Q P (e ∷ es) h = grind (arith, cond-false, cond-true, (filter-twice Q P es h))
 
--- what is below a path is among what is below its prefixes
+-- the lines below a path are among those below its prefixes
 pub below-weaker : (p z : Tokens) (es : List LocatedLine) → below (p ++ z) es ≡ below (p ++ z) (below p es)
 below-weaker p z es = filter-twice (λ e. is_under (p ++ z) e.path) (λ e. is_under p e.path) es (λ e k. is_under-weaker p z e.path k)
 
 -- ---- siblings
 
--- nothing below one of two siblings that stand apart is the other or below it
+-- of two siblings that are apart, neither is the other or below it
 apart-under : (p : Tokens) (n : Bytes) (o : Option ℕ) (n' : Bytes) (o' : Option ℕ) → AreApart n o n' o' → (z : Tokens) → is_under (p ++ steps n o) (p ++ (steps n' o' ++ z)) ≡ false
 apart-under p n o n' o' h z = is_under-common p (steps n o) (steps n' o' ++ z) ∙ is_under-is_prefix (steps n o) (steps n' o' ++ z) (h.left z)
 
@@ -46,7 +46,7 @@ all-below f d p =
     filter-all (λ (e : LocatedLine). is_under p e.path) (walk d p f)
     (walk-all (λ x. is_under p x ≡ true) f d p (siblings-all (λ n o. (z : Tokens) → is_under p (p ++ (steps n o ++ z)) ≡ true) f (λ n o z. is_under-steps p n o z)))
 
--- below one sibling there is nothing of another class
+-- nothing of another class is below a sibling
 other-block : (d : ℕ) (p : Tokens) (n : Bytes) (o : Option ℕ) (n' : Bytes) (o' : Option ℕ) (kids : Forest) → AreApart n o n' o' →
     (is_under (p ++ steps n o) (p ++ steps n' o') ≡ false) × (below (p ++ steps n o) (walk d (p ++ steps n' o') kids) ≡ [])
 other-block d p n o n' o' kids h =
@@ -106,11 +106,11 @@ blocks f sound = blocks-in f 1 [] (walk 1 [] f) (sound-apart f sound) (λ n o is
 pub blocks-located : (f : Forest) → IsSound f → AreBlocks (located (lines 1 f)) 1 [] f
 blocks-located f sound = subst (λ es. AreBlocks es 1 [] f) (sym (located-lines f sound)) (blocks f sound)
 
--- all lines stand below the root
+-- all lines are below the root
 pub root-block : (f : Forest) → IsSound f → IsBlock [] (located (lines 1 f)) f
 root-block f sound = (1, ap (below []) (located-lines f sound) ∙ all-below f 1 [])
 
--- ---- each entry stands below its parent
+-- ---- each entry is below its parent
 
 parents-after : (before : List LocatedLine) (ls : List Line) → AllByRecursion (λ (e : LocatedLine). is_under e.parent e.path ≡ true) (located_after before ls)
 parents-after before [] = tt

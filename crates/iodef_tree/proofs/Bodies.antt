@@ -1,4 +1,4 @@
--- The Incidents of a body in which nothing is refused fit its documents.
+-- If nothing in a body is refused, its Incidents fit their documents.
 use Rattle.std.proofs.Common.{◌≡◌, ℕ, ◌+◌, ◌≤◌, List, true, false, ◌&&◌, Option, Some, Result, Ok, option_and_then, refl, ap, subst, arith, codes}
 use Rattle.std.proofs.lemmas.Bool.{and_parts, or_from, or_parts}
 use Rattle.std.proofs.lemmas.Option.{cond_some, some_pair_parts}
@@ -47,7 +47,7 @@ fit_object ms ds p at =
     let flat = plain-flat ms p in
     each_fit ms ds (omega arith) free (get-each _ _ floatless (codes "Incident") ms (json.array ds) free at) flat (get-each _ _ flats (codes "Incident") ms (json.array ds) flat at) (omega (arith, tall, taller, low))
 
--- the same documents, whatever stands in place of the Incidents
+-- the same documents, whatever value is in place of the Incidents
 fit_beside : (ms : json.Members) (v : Data) (ds : json.Items) → AreFit ms ds → AreFit (put (codes "Incident") v ms) ds
 fit_beside ms v json.no_items h = tt
 fit_beside ms v (json.item d ds) h = grind (arith, put_twice, (fit_beside ms v ds h.1))
@@ -56,7 +56,7 @@ pub documents_beside : (ms : json.Members) (v : Data) (ds : json.Items) → docu
 documents_beside ms v json.no_items = refl
 documents_beside ms v (json.item d ds) = rw (put_twice (codes "Incident") v (json.array (json.item d json.no_items)) ms, documents_beside ms v ds)
 
--- what a root that is an object, and its Incidents, tell of the body
+-- what is known of a body whose root is an object with Incidents
 pub record Found (d : Data) (ds : json.Items) : Type 0 where
   pub root : json.Members
   pub is : d ≡ json.object root
@@ -75,7 +75,7 @@ Taken = Result (Option (json.Members × json.Items)) ReadFault
 same_taken : (d : Data) (ds : json.Items) (f : Found d ds) (ms : json.Members) (es : json.Items) (t : Taken) → t ≡ Ok (taken d) → t ≡ Ok (Some (ms, es)) → (put (codes "Incident") json.null f.root ≡ ms) × (ds ≡ es)
 same_taken d ds f ms es t e h = let was = taken_found d ds f in some_pair_parts _ _ _ _ (cc)
 
--- what was taken out of a plain body is fit
+-- what is taken out of a plain body fits
 pub fit_taken : (d : Data) (ds : json.Items) (f : Found d ds) (ms : json.Members) (es : json.Items) (t : Taken) → t ≡ Ok (taken d) → t ≡ Ok (Some (ms, es)) → all_fit d ≡ Ok tt → AreFit ms es
 fit_taken d ds f ms es t e h p =
     let here = fit_beside f.root json.null ds (fit_object f.root ds (subst IsPlain f.is (plain_ok d p)) f.at) in

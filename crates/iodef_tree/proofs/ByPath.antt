@@ -1,4 +1,4 @@
--- The look-up by a path finds the class whose lines stand below it.
+-- The look-up by a path finds the class whose lines are below the path.
 use Rattle.std.proofs.Common.{◌≡◌, ℕ, suc, ◌+◌, ◌^◌, ◌<◌, ◌≤◌, List, [], ◌∷◌, ◌++◌, Bool, true, false, cond, ◌&&◌, ◌||◌, length, decimal, refl, sym, ◌∙◌, ap, arith, append-nil, append_assoc, true≢false, Option, Some, None, is_some, option_map, bytes_eq}
 use Rattle.std.specs.Option.{option_map_or}
 use Rattle.std.specs.List.{AllByRecursion, slice_get}
@@ -36,7 +36,7 @@ none-any : (p : Tokens) (es : List LocatedLine) → AllByRecursion (λ (e : Loca
 none-any p [] h = refl
 none-any p (e ∷ es) h = ap (λ b. b || has_class es p) (and_right (is_class e) (same_path e.path p) h.0) ∙ none-any p es h.1
 
--- no class behind a sibling has a path that goes on from it
+-- no class behind a sibling has a path that goes on from the sibling's
 none-behind : (f : Forest) (d : ℕ) (q : Tokens) (n : Bytes) (o : Option ℕ) (r : Tokens) → AllSiblings (AreApart n o) f → has_class (walk d q f) (q ++ (steps n o ++ r)) ≡ false
 none-behind f d q n o r apart =
     let p = q ++ (steps n o ++ r) in
@@ -44,7 +44,7 @@ none-behind f d q n o r apart =
     (siblings-map (AreApart n o) (λ n' o'. (z : Tokens) → same_path (q ++ (steps n' o' ++ z)) p ≡ false) f
     (λ n' o' h z. apart-differ q n' o' n o (record { left = h.right; right = h.left }) z r) apart))
 
--- nothing below a class has a path that doesn't go on from the class's
+-- each class below a class has a path that goes on from the class's
 none-inside : (f : Forest) (d : ℕ) (q st p : Tokens) → is_prefix st p ≡ false → has_class (walk d (q ++ st) f) (q ++ p) ≡ false
 none-inside f d q st p apart =
     none-any (q ++ p) (walk d (q ++ st) f) (walk-all (λ x. same_path x (q ++ p) ≡ false) f d (q ++ st)
@@ -113,7 +113,7 @@ has_class-root ls = root-none [] ls
 
 -- ---- one member in front of the others
 
--- what a member gives, or else what stands behind it
+-- the class that a member gives, or else the one that the members behind it give
 abbrev pub part_or : Bodies → Tokens → Option Forest → Option Forest
 part_or m p rest = option_map_or (λ (r : Body × Tokens). object_in r.0 r.1) (part_at m p) rest
 

@@ -1,4 +1,4 @@
--- What the examples compute with.
+-- The definitions that the examples unfold.
 use Rattle.std.specs.Fmt.{digits}
 use Rattle.serde_json.proofs.OnLiterals.{serde_json_on_literals}
 

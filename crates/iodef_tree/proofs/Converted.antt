@@ -1,4 +1,4 @@
--- What is made of what serde_json read, level by level.
+-- The conversion of a JSON value, level by level.
 use Rattle.std.proofs.Common.{◌≡◌, ◌==◌, List, [], ◌++◌, length, map, false, None, Vec, Global, string_cmp, sym, ◌∙◌, subst}
 use Rattle.std.specs.List.{AllByRecursion}
 use Rattle.std.specs.List.Sorted.{IsStrictlySortedBy}
@@ -31,7 +31,7 @@ many_member v vs some h = record {
   filled = many-filled v (some_given vs v.items h.made some) h.filled;
 }
 
--- all members, when none is left
+-- all members are made when none is left
 pub object_done : (v : Vec (Bytes × Member) Global) (es rest : List MapEntry) → rest ≡ [] → map named v.items ++ given_members rest ≡ given_members es →
     IsStrictlySortedBy string_cmp (keys_of es) → AllByRecursion (λ m. AreBodiesOrdered m.1) (map named v.items) → AllByRecursion (λ m. HaveTexts m.1) (map named v.items) →
     AllByRecursion (λ m. IsMemberFilled m.1) v.items → IsObjectOf (members_view es) (roll-Object (record { members = v }))

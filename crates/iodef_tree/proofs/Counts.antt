@@ -10,7 +10,7 @@ line_count-elements : (name : Bytes) (k : ℕ) (bs : List Body) (rest : Forest) 
 line_count-elements name k [] rest = omega arith
 line_count-elements name k (b ∷ bs) rest = grind (arith, common_steps, sum_by-cons, (line_count-elements name (suc k) bs rest))
 
--- those of a member are in front
+-- the lines of a member come before those of the members behind it
 pub line_count-member_front : (name : Bytes) (m : Bodies) (rest : Forest) → line_count (member_front name m rest) ≡ bodies_count m + line_count rest
 line_count-member_front name m rest = grind (arith, line_count-elements)
 
@@ -19,5 +19,5 @@ length-lines end d = refl
 length-lines (leaf i rest) d = ap suc (length-lines rest d)
 length-lines (branch name place kids rest) d = grind (arith, length-append, (length-lines kids (suc d)), (length-lines rest d))
 
--- for the walk that counts against a limit
+-- the lemmas for the walk that counts against a limit
 pub ruleset counting = (common_steps, line_count-member_front)

@@ -50,13 +50,12 @@ no-items ms = grind arith
 pub member-data : (n : Bytes) (m : Bodies) (rest : Forest) → items_of rest ≡ json.no_items → has_elements m ≡ true → members_of (member_front n m rest) ≡ json.member n (bodies_data m) (members_of rest)
 member-data n m rest fresh filled = grind (arith, later-items, later-members)
 
--- ---- what is ordered is so inside
+-- ---- the parts of an ordered tree are ordered
 
 front-ordered : (o : Option SiblingPlace) (n : Bytes) (p : Option ℕ) (b : Body) (rest : Forest) → IsOrderedBehind o (in_front n p b rest) → IsBodyOrdered b × IsOrderedBehind (Some (n, p)) rest
 front-ordered o n p b rest h = grind arith
 
--- What holds of members, one in front of the other, holds inside each: where it holds inside the one in front, and of those
--- behind it.
+-- If a property of members passes to the first and to those behind it, it holds inside each of them.
 module _ (R : Option SiblingPlace → Forest → Type 0) (B : Bool → Body → Type 0)
     (front : (o : Option SiblingPlace) (n : Bytes) (p : Option ℕ) (b : Body) (rest : Forest) → R o (in_front n p b rest) → B (is_some p) b × R (Some (n, p)) rest) where
   elements-each : (o : Option SiblingPlace) (n : Bytes) (k : ℕ) (bs : List Body) (rest : Forest) → R o (elements n k bs rest) → AllByRecursion (B true) bs × ((s : Option SiblingPlace) × R s rest)
@@ -111,12 +110,12 @@ ascend end o h = tt
 ascend (leaf i rest) o h = placed-ascend i.name i.place (content_data i.content) (items_of rest) (members_of rest) (after rest i.name i.place h.1) (ascend rest (Some (i.name, i.place)) h.1)
 ascend (branch name p kids rest) o h = placed-ascend name p (json.object (members_of kids)) (items_of rest) (members_of rest) (after rest name p h.2) (ascend rest (Some (name, p)) h.2)
 
--- ---- put in one after another, they are themselves
+-- ---- members put in one after another are the members themselves
 
 greater : (l n : Bytes) → bytes_lt l n ≡ true → slice_cmp nat_cmp n l ≡ Greater
 greater l n h = nat_list_cmp_total.antisymm n l ∙ ap ordering_reverse (bytes_lt-less l n h)
 
--- one name is behind another, in whatever comes behind it
+-- one name is later than another, in whatever comes behind it
 after-joined : (l : Bytes) (found : json.Members) (n : Bytes) (d : Data) (ms : json.Members) → AreAfter l (joined found (json.member n d ms)) → bytes_lt l n ≡ true
 after-joined l json.no_members n d ms h = h.0
 after-joined l (json.member k e found) n d ms h = after-joined l found n d ms h.1
@@ -155,7 +154,7 @@ pub put-member : (old new : List MapEntry) (v : Value) (R : json.Members) (xs : 
     put_all (members_of (members_forest (drop i xs))) (members_view old) ≡ R → put_all (members_of (members_forest (drop (i + 1) xs))) (members_view new) ≡ R
 put-member old new v R xs i m h e filled means put_in left = grind (arith, common_steps, member-data, members-next, no-items)
 
--- what holds of each member that is left
+-- a property of all members left holds of the first of them and of the others
 pub all-left : (P : Bytes × Bodies → Type 0) (xs : List (Text × Member)) (i : ℕ) (m : Text × Member) → i < length xs → m ≡ get_or xs i m → AllByRecursion P (map named (drop i xs)) →
     P (named m) × AllByRecursion P (map named (drop (i + 1) xs))
 all-left P xs i m h e all = grind (arith, drop-cons, one-more)

@@ -1,4 +1,4 @@
--- No two lines of a sound document have one path.
+-- No two lines of a sound document have the same path.
 use Rattle.std.proofs.Common.{◌≡◌, ℕ, suc, List, [], ◌∷◌, ◌++◌, Bool, false, map, filter, sym, subst, append-nil, append_assoc, Option, arith}
 use Rattle.std.specs.List.{AllByRecursion, IsDistinct}
 use Rattle.std.proofs.lemmas.Bool.{cond_both}
@@ -26,11 +26,11 @@ unfolding IsDistinct
 distinct-append [] ys h k cross = k
 distinct-append (x ∷ xs) ys h k cross = (all-append (λ q. same_path x q ≡ false) xs ys h.0 cross.0, distinct-append xs ys h.1 k cross.1)
 
--- two paths of which one goes on from what the other does not go on from
+-- two paths differ if one goes on from a sibling and the other from a sibling apart from it
 pub apart-differ : (p : Tokens) (n : Bytes) (o : Option ℕ) (n' : Bytes) (o' : Option ℕ) → AreApart n o n' o' → (z z' : Tokens) → same_path (p ++ (steps n o ++ z)) (p ++ (steps n' o' ++ z')) ≡ false
 apart-differ p n o n' o' h z z' = grind (arith, is_false, is_prefix-append, same_path-common, same_path-true)
 
--- what goes on from a sibling is none of the paths behind it
+-- a path that goes on from a sibling is none of the paths behind it
 fresh-behind : (f : Forest) (d : ℕ) (p : Tokens) (n : Bytes) (o : Option ℕ) (z : Tokens) → AllSiblings (AreApart n o) f → IsFresh (p ++ (steps n o ++ z)) (map path_of (walk d p f))
 fresh-behind f d p n o z apart =
     all-map (λ q. same_path (p ++ (steps n o ++ z)) q ≡ false) path_of (walk d p f)
@@ -40,7 +40,7 @@ fresh-behind f d p n o z apart =
 here-behind : (f : Forest) (d : ℕ) (p : Tokens) (n : Bytes) (o : Option ℕ) → AllSiblings (AreApart n o) f → IsFresh (p ++ steps n o) (map path_of (walk d p f))
 here-behind f d p n o apart = subst (λ z. IsFresh (p ++ z) (map path_of (walk d p f))) (append-nil (steps n o)) (fresh-behind f d p n o [] apart)
 
--- a class is none of those below it
+-- a class has none of the paths below it
 fresh-below : (f : Forest) (d : ℕ) (q : Tokens) → IsFresh q (map path_of (walk d q f))
 fresh-below f d q =
     all-map (λ x. same_path q x ≡ false) path_of (walk d q f)

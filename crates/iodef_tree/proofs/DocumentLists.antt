@@ -1,4 +1,4 @@
--- A list of documents, with those already made in front.
+-- A list of documents, behind those that are already made.
 use Rattle.std.proofs.Common.{◌≡◌, ◌+◌, ◌≤◌, ◌<◌, ℕ, List, [], ◌∷◌, ◌++◌, Bool, true, false, not, Option, Result, Ok, Err, refl, sym, subst, ◌∙◌, append_assoc, arith, IfSome, IfNone, is_some, IsErrAnd}
 use Rattle.iodef_tree.specs.inner.FitValues.{line_count, IsFit, AreFit}
 use Rattle.serde_json.specs.Data as json

@@ -1,4 +1,4 @@
--- What holds of an object's members where it holds of each.
+-- A property of an object's members that holds if it holds of each of them.
 use Rattle.std.proofs.Common.{◌≡◌, Ordering, Less, Equal, Greater, Some, subst}
 use Rattle.std.specs.Ordering.{nat_cmp, match_ordering}
 use Rattle.std.specs.Cmp.Lexicographic.{slice_cmp}

@@ -24,7 +24,7 @@ put_twice_at : (o : Ordering) (k l : List ℕ) (v w e : Data) (ms : json.Members
     ≡ match_ordering o (json.member k w (json.member l e ms)) (json.member l w ms) (json.member l e (put k w ms))
 put_twice_at o k l v w e ms is later = grind (arith, same_text)
 
--- what is put at a name takes the place of what was put there before
+-- a value put at a name replaces the one that was put there before
 pub put_twice : (k : List ℕ) (v w : Data) (ms : json.Members) → put k w (put k v ms) ≡ put k w ms
 put_twice k v w json.no_members = rw same_text
 put_twice k v w (json.member l e ms) = put_twice_at (slice_cmp nat_cmp k l) k l v w e ms refl (put_twice k v w ms)

@@ -1,4 +1,4 @@
--- Arrays that have elements, level by level.
+-- No array is empty, level by level.
 use Rattle.std.proofs.Common.{◌≡◌, ℕ, suc, ◌<◌, Bool, true, ◌&&◌, List, [], ◌∷◌, map, length, get_or, refl, sym, ◌∙◌, ap, subst, Vec, Global, rules, arith}
 use Rattle.std.specs.List.{AllByRecursion, list_all}
 use Rattle.std.proofs.lemmas.Bool.{and_parts, and_from}
@@ -36,7 +36,7 @@ filled-members o = search (rules, the_lemmas)
 pub filled-made : (v : Vec (Bytes × Member) Global) → is_object_filled (roll-Object (record { members = v })) ≡ list_all (λ m. m.1) (map (λ (m : Bytes × Member). let x : Bytes × Bool = (m.0, is_member_filled m.1) in x) v.items)
 filled-made v = search (rules, the_lemmas)
 
--- ---- lists of what is filled
+-- ---- lists of filled parts
 
 pub has_some-map : {X Y : Type 0} (f : X → Y) (xs : List X) → has_some (map f xs) ≡ has_some xs
 has_some-map f xs = grind arith
@@ -52,7 +52,7 @@ true-all f test (x ∷ xs) h = let parts = and_parts (test (f x)) (list_all test
 abbrev pub asked : Bytes × Member → Bytes × Bool
 asked m = (m.0, is_member_filled m.1)
 
--- ---- what is made
+-- ---- parts that are made
 
 pub made-filled : (v : Vec (Bytes × Member) Global) → AllByRecursion (λ m. IsMemberFilled m.1) v.items → IsFilled (roll-Object (record { members = v }))
 made-filled v h = filled-made v ∙ all-true asked (λ m. m.1) v.items h
@@ -83,7 +83,7 @@ item-at xs i x all h is = subst IsItemFilled (sym is) (all-at IsItemFilled xs i 
 pub member-at : (o : Object) (xs : List (Bytes × Member)) (i : ℕ) (m : Bytes × Member) → IsFilled o → xs ≡ o.members.items → i < length xs → m ≡ get_or xs i m → IsMemberFilled m.1
 member-at o xs i m filled same h is = grind (arith, all-at, members-filled)
 
--- ---- as it is seen
+-- ---- as contracts see them
 
 abbrev pub has_elements : Bodies → Bool
 has_elements (one b) = true
@@ -99,7 +99,7 @@ member-elements m h =
     ap has_elements (fold_out-Member Body Bodies Forest item_step member_step object_step m)
     ∙ elements-seen (out-Member m) (sym (fold_out-Member Bool Bool Bool item_filled member_filled object_filled m) ∙ h)
 
--- ---- what stands in what is filled
+-- ---- the parts of a filled part
 
 pub elements-kept : (m : Member) (v : Vec Item Global) → IsMemberFilled m → m ≡ Many v → AllByRecursion IsItemFilled v.items
 elements-kept m v h is = (many-kept v (subst IsMemberFilled is h)).1

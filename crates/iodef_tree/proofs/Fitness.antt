@@ -1,4 +1,4 @@
--- What a body keeps in which nothing is refused.
+-- What is known of a body in which nothing is refused.
 use Rattle.std.proofs.Common.{◌≡◌, ℕ, suc, List, [], ◌∷◌, ◌++◌, Bool, false, Option, None, Result, Ok, refl, sym, ◌∙◌, decimal, arith}
 use Rattle.std.proofs.lemmas.Bool.{or_from, or_parts}
 use Rattle.serde_json.specs.Data as json
@@ -16,7 +16,7 @@ use Rattle.iodef_tree.proofs.Seeking.{any_at-beneath}
 abbrev pub AreClear : List Node → Type 0
 AreClear ns = any_at is_refused ns ≡ false
 
--- no value stands where `all_fit` would refuse it
+-- no value is at a place where `all_fit` refuses it
 abbrev pub IsPlain : Data → Type 0
 IsPlain d = AreClear (nodes 0 0 d)
 
@@ -68,7 +68,7 @@ none_if_ok f o e = grind arith
 not_first : (f : Surrounded → Bool) (n : Node) (ns : List Node) → first_at f (n ∷ ns) ≡ None → (f n.seen ≡ false) × (first_at f ns ≡ None)
 not_first f n ns e = grind arith
 
--- nothing is refused where none of the three is found
+-- if none of the three is found, nothing is refused
 none-refused : (ns : List Node) → first_at is_not_whole ns ≡ None → first_at is_nested_class ns ≡ None → first_at is_too_deep ns ≡ None → AreClear ns
 none-refused [] a b c = refl
 none-refused (n ∷ ns) a b c =
@@ -86,7 +86,7 @@ plain_ok d e =
     let nested = bind-ok (unless NestedClass (first_at is_nested_class (nodes 0 0 d))) _ tt whole.2 in
     none-refused (nodes 0 0 d) (none_if_ok NotWhole _ whole.1) (none_if_ok NestedClass _ nested.1) (none_if_ok (λ _. TooDeep) _ nested.2)
 
--- where no value is refused, none of the three is found
+-- if nothing is refused, none of the three is found
 none_found : (f : Surrounded → Bool) → ((s : Surrounded) → IsAllowed s → f s ≡ false) → (ns : List Node) → AreClear ns → first_at f ns ≡ None
 none_found f h [] e = refl
 none_found f h (n ∷ ns) e = let parts = head n ns e in let here : f n.seen ≡ false = h n.seen parts.0 in rw here (none_found f h ns parts.1)

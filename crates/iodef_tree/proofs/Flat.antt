@@ -1,4 +1,4 @@
--- Where nothing is refused, no array inside an array holds an object.
+-- If nothing is refused, no array inside an array holds an object.
 use Rattle.std.proofs.Common.{◌≡◌, ◌≤◌, ℕ, suc, ◌+◌, ◌-◌, [], true, false, not, ◌&&◌, ◌||◌, refl, ap, arith, true≢false, decimal, nat_lt}
 use Rattle.std.proofs.lemmas.Bool.{and_parts, lt-ltb, and_from}
 use Rattle.std.proofs.lemmas.Bool.Decides.{nat_tests}
@@ -15,7 +15,7 @@ use Rattle.iodef_tree.proofs.Each.{IsEach}
 whole-number : (x : json.Num) (o a : ℕ) → AreClear (nodes o a (json.number x)) → not (is_float x) ≡ true
 whole-number x o a h = ap not (head (node o a (json.number x)) [] h).0.whole
 
--- an array stands at most at the limit
+-- an array is at most at the limit
 low : (o a : ℕ) → (nat_lt DEPTH_LIMIT o || (nat_lt DEPTH_LIMIT a && true)) ≡ false → a ≤ 32
 low o a e = grind (arith, nat_tests)
 

@@ -1,4 +1,4 @@
--- What serde_json gave, as the lists that the loops go over.
+-- The values of `serde_json` as the lists that the loops go over.
 use Rattle.std.proofs.Common.{◌≡◌, ◌==◌, List, [], ◌∷◌, ◌++◌, length, map, true, false, String, Global, string_bytes, refl, sym, ap, ◌∙◌, subst, append-nil, true≢false}
 use Rattle.serde_json.specs.Data.{array}
 use Rattle.serde_json.specs.View.{view, items_view, members_view}

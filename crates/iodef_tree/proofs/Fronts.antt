@@ -1,4 +1,4 @@
--- A member in front of others: what is made of it, joined with what is made of those.
+-- A member in front of others: its result is joined with theirs.
 use Rattle.std.proofs.Common.{◌≡◌, ℕ, suc, ◌+◌, ◌<◌, max, List, [], ◌∷◌, ◌++◌, length, get_or, drop, refl, ◌∙◌, ap, append_assoc, arith}
 use Rattle.json_pointer.specs.Text.{Bytes}
 use Rattle.iodef_tree.specs.Tree.{Forest, end, leaf, branch, Body, Bodies, elements, member_front, leaf_line, lines, height}
@@ -44,7 +44,7 @@ front-next : (ms : List (Text × Member)) (i : ℕ) (m : Text × Member) → i <
     members_forest (drop i ms) ≡ append (member_front m.0 (bodies m.1) end) (members_forest (drop (i + 1) ms))
 front-next ms i m h is = members-next ms i m h is ∙ member-append m.0 (bodies m.1) (members_forest (drop (i + 1) ms))
 
--- what is made of a forest as a list, joined where forests are
+-- a list that is made of a forest, if it is joined as forests are
 pub list-next : {A : Type 0} (F : Forest → List A) → ((f g : Forest) → F (append f g) ≡ F f ++ F g) → (ms : List (Text × Member)) (i : ℕ) (m : Text × Member) (made before : List A) → i < length ms → m ≡ get_or ms i m →
     made ≡ before ++ F (member_front m.0 (bodies m.1) end) → made ++ F (members_forest (drop (i + 1) ms)) ≡ before ++ F (members_forest (drop i ms))
 list-next F joins ms i m made before h is pushed = grind (arith, append_assoc, front-next)

@@ -1,4 +1,4 @@
--- Members put behind others.
+-- Members that are put behind others.
 use Rattle.std.proofs.Common.{◌≡◌, ℕ, suc, ◌+◌, ◌-◌, Bool, true, false, not, ◌==◌, ◌&&◌, List, [], ◌∷◌, ◌++◌, map, length, refl, sym, ◌∙◌, ap, subst, arith, Vec, Global, Option, Some, None, bytes_eq}
 use Rattle.std.specs.List.{AllByRecursion}
 use Rattle.std.proofs.lemmas.List.{map-append}
@@ -52,13 +52,13 @@ last-elements : (o : Option SiblingPlace) (n : Bytes) (k : ℕ) (b : Body) (bs :
 last-elements o n k b [] = last-front o n (Some k) b end ∙ ap (λ j. Some (n, Some j)) (omega arith)
 last-elements o n k b (c ∷ bs) = grind (arith, (last-elements (Some (n, Some k)) n (suc k) c bs))
 
--- the lines don't say the number
+-- the lines don't say the number of an element
 lines-front : (d : ℕ) (n : Bytes) (j k : ℕ) (b : Body) → lines d (in_front n (Some j) b end) ≡ lines d (in_front n (Some k) b end)
 lines-front d n j k b = grind arith
 
 -- ---- one thing more at the end
 
--- whatever is put behind the members
+-- one thing more behind the members, whatever it is
 grows : (old new : List (Text × Member)) (n : Bytes) (p : Option ℕ) (in_array : Bool) (b : Body) →
     members_forest new ≡ append (members_forest old) (in_front n p b end) → ((d : ℕ) → lines d (in_front n p b end) ≡ lines d (in_front n (place_of in_array 0) b end)) →
     IsGrown old → IsBodyNumbered b → is_numbered (last_place None (members_forest old)) n p ≡ true → AllByRecursion (λ m. IsMemberFilled m.1) new → Grows old n in_array b new
@@ -82,17 +82,17 @@ grows-array old n i v is h k full fits =
     (λ d. refl) h k fits
     (all-append (λ x. IsMemberFilled x.1) old ((n, Many v) ∷ []) h.filled (many-filled v (ap has_some is) (subst (AllByRecursion IsItemFilled) (sym is) (full, tt)), tt))
 
--- what the last member is
+-- the place of the last member
 last-push : (P : List (Text × Member)) (m : Text × Member) →
     last_place None (members_forest (P ++ m ∷ [])) ≡ last_place (last_place None (members_forest P)) (member_front m.0 (bodies m.1) end)
 last-push P m = ap (last_place None) (members-push P m) ∙ last-append None (members_forest P) (member_front m.0 (bodies m.1) end)
 
--- an array may begin behind a member that is none
+-- an array may begin behind a member that is no array
 pub first-behind_one : (P : List (Text × Member)) (n : Text) (i : Item) (name : Bytes) →
     is_numbered (last_place None (members_forest (P ++ (n, One i) ∷ []))) name (Some 0) ≡ true
 first-behind_one P n i name = search (arith, bodies-One, last-front, last-push)
 
--- the standing of the last element of an array that has one
+-- the place of the last element of an array that has one
 last-array : (o : Option SiblingPlace) (n : Bytes) (bs : List Body) → has_some bs ≡ true → last_place o (elements n 0 bs end) ≡ Some (n, Some (length bs - 1))
 last-array o n bs h = grind (arith, last-elements)
 

@@ -39,7 +39,7 @@ some_document : (root : json.Members) (ds : json.Items) (docs : List (List Line)
 some_document root json.no_items docs some read_as = cc
 some_document root (json.item d ds) docs some read_as = grind arith
 
--- what a body that can be read has
+-- what is known of a body that can be read
 pub record IsReported (docs : List (List Line)) : Type 0 where
   pub some : has_one docs ≡ true
   pub identified : AllByRecursion IsIdentified docs

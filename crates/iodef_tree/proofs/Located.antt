@@ -1,4 +1,4 @@
--- The entries of a document are the walk of its tree.
+-- The located lines of a document are those that a walk down its tree meets.
 use Rattle.std.proofs.Common.{◌≡◌, ℕ, zero, suc, ◌+◌, ◌<◌, List, [], ◌∷◌, ◌++◌, Bool, true, false, not, cond, ◌==◌, take, count_by, refl, sym, ◌∙◌, ap, subst, append-nil, append_assoc, arith, Option, Some, None, is_some, find, bytes_eq}
 use Rattle.std.specs.Option.{option_map_or}
 use Rattle.std.specs.List.{before_first, prefix_len}
@@ -31,9 +31,9 @@ place-past x before d name h = grind (arith, common_steps, sum_by-cons)
 place-here : (x : LocatedLine) (before : List LocatedLine) (d : ℕ) (name : Bytes) → is_one_less_deep d x ≡ true → place_among (x ∷ before) d name ≡ 0
 place-here x before d name h = ap (count_by (is_like d name)) (before_first-here (is_one_less_deep d) x before h)
 
--- ---- where the next line stands
+-- ---- the place of the next line
 
--- Behind these lines, a line of depth d stands below p, and behind a sibling that stands so.
+-- A line of depth d behind these lines is a member of the class at p, and follows this sibling.
 record Stands (before : List LocatedLine) (d : ℕ) (p : Tokens) (s : Option SiblingPlace) : Type 0 where
   parent : parent_path before d ≡ p
   place : (name : Bytes) (k : ℕ) → may_stand s name (Some k) ≡ true → place_among before d name ≡ k
@@ -41,11 +41,11 @@ record Stands (before : List LocatedLine) (d : ℕ) (p : Tokens) (s : Option Sib
 not_deeper : (d k : ℕ) → d ≡ k → (suc d == k) ≡ false
 not_deeper d k e = ne_eqb (suc d) k (omega arith)
 
--- a deeper line changes nothing
+-- a deeper line changes none of this
 stands-past : (x : LocatedLine) (before : List LocatedLine) (d : ℕ) (p : Tokens) (s : Option SiblingPlace) → d < x.line.depth → Stands before d p s → Stands (x ∷ before) d p s
 stands-past x before d p s deep h = grind (arith, and_left, ne_eqb, parent-past, place-past)
 
--- a later name than that of a sibling is later than all before it
+-- a name later than a sibling's is later than all before it
 none-before : (s : Option SiblingPlace) (n : Bytes) (o : Option ℕ) (name : Bytes) → may_stand s n o ≡ true → bytes_lt n name ≡ true → may_stand s name (Some zero) ≡ true
 none-before None n o name h lt = refl
 none-before (Some (m, None)) n (Some (suc k)) name h lt = absurd (false≢true h)
@@ -82,7 +82,7 @@ stands-first = record { parent = refl; place = λ name k first. first_place k fi
 
 -- ---- the walk
 
--- xs, the last first, and then ys
+-- the first list in reverse order, in front of the second
 abbrev rev_onto : List LocatedLine → List LocatedLine → List LocatedLine
 rev_onto [] ys = ys
 rev_onto (x ∷ xs) ys = rev_onto xs (x ∷ ys)

@@ -1,4 +1,4 @@
--- The text of a tree is that of the JSON object which its lines mean.
+-- The text of a tree is that of the JSON object that its lines mean.
 use Rattle.std.proofs.Common.{◌≡◌, ℕ, zero, suc, ◌<◌, Bool, true, false, ◌&&◌, List, [], ◌∷◌, ◌++◌, refl, sym, ◌∙◌, ap, append_assoc, append-nil, arith, if◌then◌else◌, true≢false, Option, Some, None, is_some, unwrap_or, bytes_eq}
 use Rattle.std.specs.Option.{option_map_or}
 use Rattle.std.proofs.lemmas.Bool.{cond-true, cond-false, and_parts, and_right}
@@ -33,11 +33,11 @@ abbrev is_element : Option SiblingPlace → Bool
 is_element None = false
 is_element (Some s) = is_some s.1
 
--- no array goes on behind what is no element, and none at first
+-- no array goes on at the beginning, or behind a line that is no element
 starts : (o : Option SiblingPlace) (f : Forest) → is_element o ≡ false → IsOrderedBehind o f → goes_on f ≡ false
 starts o f e h = grind arith
 
--- what is written of a tree is the text of its members, or goes on with the elements of an array
+-- The text of a tree is that of its members, or goes on with the elements of an array.
 record Means (w : Bool → Bytes) (goes : Bool) (close : Bytes) (ds : json.Items) (ms : json.Members) : Type 0 where
   pub members : (later : Bool) → goes ≡ false → w later ++ 125 ∷ [] ≡ members_text later ms
   pub items : close ++ (w true ++ 125 ∷ []) ≡ items_text true ds ++ members_text true ms
@@ -92,13 +92,13 @@ means (branch n p kids rest) o h k =
 
 -- ---- the value that the lines mean
 
--- a line goes on with its sibling's array where its place is a later one
+-- a line continues the array of its sibling if its place is a later one
 continues-is : (o : Option SiblingPlace) (l : Line) (p : Option ℕ) → l.in_array ≡ is_some p → may_stand o l.name p ≡ true → continues (as_sibling o) l ≡ is_later_place p
 continues-is o l p a h = grind (arith, and_parts, and_right, bytes_lt-ne)
 
--- ---- lines that are passed by
+-- ---- deeper lines change nothing
 
--- what passes by deeper lines
+-- a function that skips a deeper line skips all lines of a class
 skip : {A : Type 0} (F : List Line → A) (d : ℕ) → ((l : Line) (ls : List Line) → d < l.depth → F (l ∷ ls) ≡ F ls) → (f : Forest) (n : ℕ) (X : List Line) → d < n → F (lines n f ++ X) ≡ F X
 skip F d passes end n X h = refl
 skip F d passes (leaf i rest) n X h = passes (leaf_line n i) (lines n rest ++ X) h ∙ skip F d passes rest n X h
@@ -178,6 +178,6 @@ data-ordered f h = ap (members_from 1 None) (sym (append-nil (lines 1 f))) ∙ (
 pub data-is : (f : Forest) → IsSound f → data_of (lines 1 f) ≡ members_of f
 data-is f h = data-ordered f h.ordered
 
--- what is written of a document's tree is the compact JSON of the object that its lines mean
+-- the text of a document's tree is the compact JSON of the object that its lines mean
 pub text-is : (f : Forest) → IsSound f → 123 ∷ (written false f ++ 125 ∷ []) ≡ compact_text (json.object (data_of (lines 1 f)))
 text-is f h = grind (arith, data-is, means)

@@ -46,7 +46,7 @@ pub member-next : (k : Bytes) (xs : List (Text × Member)) (i : ℕ) (m : Text �
     get_member k (members_of (members_forest (drop i xs))) ≡ (if b then Some (bodies_data (bodies m.1)) else get_member k (members_of (members_forest (drop (i + 1) xs))))
 member-next k xs i m b h e is filled = grind (arith, common_steps, get-first, member-data, members-next, no-items)
 
--- ---- what is kept in each member
+-- ---- a property that holds inside each member
 
 front-kept : (o : Option SiblingPlace) (n : Bytes) (p : Option ℕ) (b : Body) (rest : Forest) → IsOrderedBehind o (in_front n p b rest) × HasTexts (in_front n p b rest) →
     IsBodyKept (is_some p) b × (IsOrderedBehind (Some (n, p)) rest × HasTexts rest)
@@ -75,6 +75,6 @@ pub id-found : (ms own : json.Members) (d : Data) (r : Option Data) → Some d �
     r ≡ id_in (json.object ms)
 id-found ms own d r first at is = grind arith
 
--- with its text
+-- the text of the IncidentID
 pub id-is : (f : Forest) (ls : List Line) (o : Option Data) (r : Option Bytes) → IsSound f → lines 1 f ≡ ls → o ≡ id_in (json.object (members_of f)) → r ≡ option_map compact_text o → r ≡ incident_id ls
 id-is f ls o r h seen found said = grind (arith, data-is)

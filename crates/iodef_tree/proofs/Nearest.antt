@@ -18,9 +18,9 @@ use Rattle.iodef_tree.proofs.Order.{bytes_eq-true, same_path-refl, is_under-step
 use Rattle.iodef_tree.proofs.Siblings.{all-append, siblings-map}
 use Rattle.iodef_tree.proofs.Onward.{has_class-below}
 
--- ---- what stands above a line's path
+-- ---- the paths above a line's path
 
--- a proper prefix of a line's path is one of its parent's, or the path of the array in which the line stands
+-- a proper prefix of a line's path is a prefix of its parent's, or the path of the array that holds the line
 above-steps : (r p : Tokens) (n : Bytes) (o : Option ℕ) → is_under r (p ++ steps n o) ≡ true → (is_prefix r p ≡ true) ⊎ ((is_some o ≡ true) × (r ≡ p ++ n ∷ []))
 above-steps [] p n o h = inl refl
 above-steps (x ∷ []) [] n None h = absurd (true≢false (sym h ∙ and_right (bytes_eq x n) false refl))

@@ -1,4 +1,4 @@
--- No float is in what a part of a document means.
+-- No part of a document means a float.
 use Rattle.std.proofs.Common.{◌≡◌, ℕ, Bool, true, false, ◌&&◌, ◌||◌, List, [], ◌∷◌, map, refl, sym, true≢false, Option, Some, None, unwrap_or, bytes_eq, ◌-◌, nat_lt, arith}
 use Rattle.std.specs.List.{AllByRecursion}
 use Rattle.std.specs.Option.{option_map_or}
@@ -65,7 +65,7 @@ whole end h = record { members = refl; items = refl }
 whole (leaf i rest) h = grind (arith, content-whole, placed-item-whole, placed-member-whole, (whole rest h.1))
 whole (branch n p kids rest) h = grind (arith, placed-item-whole, placed-member-whole, (whole kids h.0), (whole rest h.1))
 
--- ---- what stands at one place
+-- ---- one thing
 
 body-whole : (a : Bool) (b : Body) → IsBodyKept a b → has_float (body_data b) ≡ false
 body-whole a (holds f) k = (whole f k.texts).members

@@ -1,4 +1,5 @@
--- What is read of a text has its names in order and its numbers in range, and its own text is read as the same.
+-- A value read from a text has its names in order and its numbers in range, and its own text is read as the same
+-- value.
 use Rattle.std.proofs.Common.{◌≡◌, ℕ, zero, suc, ◌^◌, ◌<◌, ◌≤◌, List, [], Bool, true, false, drop, refl, sym, ◌∙◌, ap, subst, arith, append-nil, Option, Some, option_map, option_and_then, negsuc}
 use Rattle.std.proofs.lemmas.Bool.{and_parts, cond_both, ltb-true, leb-true, or_parts}
 use Rattle.std.proofs.lemmas.Option.{cond_some, option_and_then_some, same_Some}

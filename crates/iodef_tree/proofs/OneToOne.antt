@@ -1,4 +1,4 @@
--- A sound tree is known by its lines.
+-- Two sound trees with the same lines are the same tree.
 use Rattle.std.proofs.Common.{◌≡◌, ℕ, zero, suc, ◌≤◌, List, [], ◌∷◌, ◌++◌, true, ◌==◌, refl, sym, ◌∙◌, ap, subst, arith, true≢false, Option, Some, None, is_some, bytes_eq}
 use Rattle.std.specs.List.{AllByRecursion}
 use Rattle.std.proofs.lemmas.Bool.{and_parts, false≢true, eqb-true}
@@ -48,7 +48,7 @@ split d (x ∷ xs) (x' ∷ xs') ys ys' deep deep' shallow shallow' e =
     let rest : xs ≡ xs' = r.0 in
     (ap (λ z. z ∷ xs) head ∙ ap (λ zs. x' ∷ zs) rest, r.1)
 
--- ---- what a line tells
+-- ---- the parts of a line
 
 never : {A : Type 0} (m n : Bytes) → bytes_lt m n ≡ true → bytes_eq m n ≡ true → A
 never m n lt eq = absurd (true≢false (sym eq ∙ bytes_lt-ne m n lt))

@@ -1,4 +1,4 @@
--- The look-up from a class, or from the root, finds the class whose lines stand below the whole path.
+-- The look-up from a class, or from the root, finds the class whose lines are below the whole path.
 use Rattle.std.proofs.Common.{◌≡◌, List, [], ◌∷◌, ◌++◌, Bool, true, false, cond, ◌&&◌, ◌||◌, refl, sym, ◌∙◌, ap, subst, append-nil, true≢false, Bor, ℕ, suc, append_assoc, Option, Some, None, is_some, option_map, IfSome, arith}
 use Rattle.std.specs.Option.{option_map_or}
 use Rattle.std.proofs.lemmas.Bool.{and_right, cond-true, cond-false}
@@ -16,7 +16,7 @@ use Rattle.iodef_tree.proofs.Blocks.{below-weaker, blocks-in, root-block}
 use Rattle.iodef_tree.proofs.ByPath.{has_class-walk, past-some}
 use Rattle.iodef_tree.proofs.Order.{is_false, is_under-steps, same_path-true}
 
--- the class at a longer path is among what stands below the shorter one
+-- the class at a longer path is among the lines below the shorter one
 pub has_class-below : (es : List LocatedLine) (p : Tokens) (x : Bytes) (z : Tokens) → has_class es (p ++ x ∷ z) ≡ has_class (below p es) (p ++ x ∷ z)
 has_class-below [] p x z = refl
 has_class-below (e ∷ es) p x z = by_cases (is_under p e.path) refl (has_class-below es p x z)
@@ -36,7 +36,7 @@ has_class-below (e ∷ es) p x z = by_cases (is_under p e.path) refl (has_class-
 found-at : (es : List LocatedLine) (p : Tokens) (f : Forest) (z : Tokens) → StandsAt es p f → is_some (object_at f z) ≡ (is_root z || has_class es (p ++ z))
 found-at es p f z at = grind (arith, has_class-below, has_class-walk)
 
--- each sibling stands apart from the others in what is found too
+-- the siblings in the class that is found are apart too
 class-stands : (f : Forest) (es : List LocatedLine) (d : ℕ) (q p : Tokens) (g : Forest) → AreBlocks es d q f → HasApart f → class_at f p ≡ Some g → StandsAt es (q ++ p) g
 class-stands end es d q p g blocks apart e = absurd (cc)
 class-stands (leaf i rest) es d q p g blocks apart e = step (past (steps i.name i.place) p) e (class-stands rest es d q p g blocks apart.1)

@@ -1,4 +1,4 @@
--- The order of texts, and how paths stand to one another.
+-- The order of texts, and prefixes of paths.
 use Rattle.std.proofs.Common.{◌≡◌, ℕ, ◌^◌, ◌<◌, [], ◌∷◌, ◌++◌, true, false, ◌&&◌, decimal, refl, sym, ◌∙◌, ap, append-nil, Ordering, Less, is_eq, true≢false, arith, Option, bytes_eq, nat_cmp, is_lt}
 use Rattle.std.specs.Cmp.Lexicographic.{slice_cmp}
 use Rattle.std.proofs.lemmas.Bool.{and_parts, false≢true}
@@ -28,7 +28,7 @@ bytes_lt-less x y = less (slice_cmp nat_cmp x y)
 pub bytes_lt-trans : (x y z : Bytes) → bytes_lt x y ≡ true → bytes_lt y z ≡ true → bytes_lt x z ≡ true
 bytes_lt-trans x y z h k = ap is_lt (nat_list_cmp_total.trans x y z (bytes_lt-less x y h) (bytes_lt-less y z k))
 
--- of two texts, one before the other, neither is the other
+-- of two texts of which one is before the other, neither is the other
 pub bytes_lt-ne : (x y : Bytes) → bytes_lt x y ≡ true → bytes_eq x y ≡ false
 bytes_lt-ne x y h = sym (is_eq-slice_cmp x y) ∙ ap is_eq (bytes_lt-less x y h)
 
@@ -36,7 +36,7 @@ pub bytes_lt-ne_back : (x y : Bytes) → bytes_lt x y ≡ true → bytes_eq y x 
 bytes_lt-ne_back x y h =
     is_false (bytes_eq y x) (λ same. true≢false (sym (bytes_eq-refl x) ∙ ap (bytes_eq x) (sym (bytes_eq-true y x same)) ∙ bytes_lt-ne x y h))
 
--- the digits of two places are the same only where the places are
+-- two places have the same digits only if they are the same place
 pub decimals_differ : (j k : ℕ) → j < k → k < 2 ^ 64 → (bytes_eq (decimal j) (decimal k) ≡ false) × (bytes_eq (decimal k) (decimal j) ≡ false)
 decimals_differ j k lt small = grind (arith, bytes_eq-true, decimal_injective)
 
@@ -61,17 +61,17 @@ pub is_under-common : (p a b : Tokens) → is_under (p ++ a) (p ++ b) ≡ is_und
 is_under-common [] a b = refl
 is_under-common (x ∷ p) a b = ap (λ t. t && is_under (p ++ a) (p ++ b)) (bytes_eq-refl x) ∙ is_under-common p a b
 
--- nothing stands below itself
+-- no path is below itself
 pub is_under-self : (p : Tokens) → is_under p p ≡ false
 is_under-self [] = refl
 is_under-self (x ∷ p) = ap (λ t. t && is_under p p) (bytes_eq-refl x) ∙ is_under-self p
 
--- what goes on from a path has it as a prefix
+-- a path is a prefix of each path that goes on from it
 pub is_prefix-append : (p z : Tokens) → is_prefix p (p ++ z) ≡ true
 is_prefix-append [] z = refl
 is_prefix-append (x ∷ p) z = ap (λ t. t && is_prefix p (p ++ z)) (bytes_eq-refl x) ∙ is_prefix-append p z
 
--- what stands below a path has it as a prefix, and so has the path itself
+-- no path is below one that is no prefix of it
 pub is_under-is_prefix : (q p : Tokens) → is_prefix q p ≡ false → is_under q p ≡ false
 is_under-is_prefix (x ∷ q) (y ∷ p) h = grind (arith, (is_under-is_prefix q p))
 is_under-is_prefix q p h = grind arith
@@ -79,7 +79,7 @@ is_under-is_prefix q p h = grind arith
 pub same_path-is_prefix : (q p : Tokens) → is_prefix q p ≡ false → same_path q p ≡ false
 same_path-is_prefix q p h = is_false (same_path q p) (λ same. true≢false (sym (is_prefix-append q []) ∙ ap (is_prefix q) (append-nil q ∙ same_path-true q p same) ∙ h))
 
--- what stands below a path stands below each of its prefixes
+-- a path below another is below each prefix of that one
 pub is_under-weaker : (p y x : Tokens) → is_under (p ++ y) x ≡ true → is_under p x ≡ true
 is_under-weaker [] [] x h = h
 is_under-weaker [] (b ∷ y) [] h = absurd (false≢true h)
@@ -89,11 +89,11 @@ is_under-weaker (a ∷ p) y (c ∷ x) h =
     let parts = and_parts (bytes_eq a c) (is_under (p ++ y) x) h in
     ap (λ b. b && is_under p x) parts.0 ∙ is_under-weaker p y x parts.1
 
--- a member stands below its parent, and all below it
+-- a member is below its parent, and so is each path that goes on from the member's
 pub is_under-steps : (p : Tokens) (name : Bytes) (place : Option ℕ) (z : Tokens) → is_under p (p ++ (steps name place ++ z)) ≡ true
 is_under-steps (x ∷ p) name place z = ap (λ b. b && is_under p (p ++ (steps name place ++ z))) (bytes_eq-refl x) ∙ is_under-steps p name place z
 is_under-steps p name place z = grind arith
 
--- it is not its parent
+-- a member's path is not its parent's
 pub same_path-longer : (p : Tokens) (name : Bytes) (place : Option ℕ) (z : Tokens) → same_path p (p ++ (steps name place ++ z)) ≡ false
 same_path-longer p name place z = grind (arith, common_steps, bytes_eq-refl)

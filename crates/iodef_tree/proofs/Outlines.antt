@@ -1,4 +1,4 @@
--- Outlines, one line more at a time.
+-- Outlines that grow by one line at a time.
 use Rattle.std.proofs.Common.{◌≡◌, ℕ, suc, ◌+◌, ◌-◌, ◌<◌, ◌≤◌, Bool, true, false, ◌&&◌, List, [], ◌∷◌, ◌++◌, length, take, drop, drop-cons, get_or, refl, sym, ◌∙◌, ap, arith, if◌then◌else◌, ◌==◌, Some, None, nat_lt, nat_le, slice_get}
 use Rattle.std.proofs.lemmas.Bool.{cond-true, cond-false, ne_eqb, eq-eqb, lt-ltb, le-ltb, cases_lt, and_parts, and_right, leb-true, ltb-true}
 use Rattle.std.proofs.lemmas.List.{take_more, take-append-drop}
@@ -13,7 +13,7 @@ use Rattle.std.proofs.Math.Bool.{and-true, and_assoc, and_comm}
 use Rattle.std.proofs.lemmas.Option.{cond_some, slice_get_past}
 use Rattle.std.proofs.lemmas.Grind.{common_steps}
 
--- ---- lists of lines, appended and turned round
+-- ---- lists of lines, appended and reversed
 
 pub outline_after-append : (xs ys before : List Line) →
     is_outline_after before (xs ++ ys) ≡ (is_outline_after before xs && is_outline_after (back_onto xs before) ys)
@@ -32,7 +32,7 @@ back_is : (ls before : List Line) → is_outline_back (back_onto ls before) ≡ 
 back_is [] before = refl
 back_is (x ∷ ls) before = grind (arith, and_assoc, and_comm, (back_is ls (x ∷ before)))
 
--- from the newest line back the same lists are outlines
+-- the same lists are outlines from the newest line back
 pub outline-back : (ls : List Line) → is_outline_back (back ls) ≡ is_outline ls
 outline-back ls = back_is ls [] ∙ and-true (is_outline ls)
 
@@ -43,7 +43,7 @@ upto ls i x h e = take_more ls i x h ∙ ap (λ y. take i ls ++ y ∷ []) (sym e
 pub back-upto : (ls : List Line) (i : ℕ) (x : Line) → i < length ls → x ≡ get_or ls i x → back (take (i + 1) ls) ≡ x ∷ back (take i ls)
 back-upto ls i x h e = ap back (upto ls i x h e) ∙ back-push (take i ls) x
 
--- lines behind one that may not come mend nothing
+-- no lines behind one that may not come make an outline
 pub no-outline : (ls : List Line) (i : ℕ) (x : Line) → i < length ls → x ≡ get_or ls i x → may_come (back (take i ls)) x ≡ false → is_outline ls ≡ false
 no-outline ls i x h e bad =
     let A = take i ls in
@@ -54,9 +54,9 @@ no-outline ls i x h e bad =
     ∙ ap (λ b. is_outline A && (b && is_outline_after (x ∷ back A) D)) bad
     ∙ and_right (is_outline A) false refl
 
--- ---- lines beside a depth
+-- ---- lines and a depth
 
--- what is asked of a line: whether it is less deep, and whether it is as deep
+-- the two tests of a line: whether it is less deep, and whether it is as deep
 pub above-line : {A : Type 0} (n d : ℕ) (x y z : A) → n < d → (if nat_lt n d then x else (if n == d then y else z)) ≡ x
 above-line n d x y z h = cond-true (nat_lt n d) _ _ (lt-ltb n d h)
 
@@ -93,7 +93,7 @@ deep_le b n m h = grind arith
 known_more : (x : Line) (before : List Line) → 0 < x.depth → x.depth ≤ deepest before → Known before → Known (x ∷ before)
 known_more x before positive reached k = grind (arith, common_steps, above-line, at-line, cases_lt, deep_le, get_kept, get_new, get_past, length_new, past-line)
 
--- what a line that may come says
+-- what is known of a line that may come
 pub record Came (before : List Line) (l : Line) : Type 0 where
   pub positive : 0 < l.depth
   pub reached : l.depth ≤ deepest before
@@ -122,7 +122,7 @@ counted-cons l ls = grind (arith, common_steps, sum_by-cons)
 short_else : (n : ℕ) → if_short n ≡ None → nat_le n LINE_LIMIT ≡ false
 short_else n h = grind arith
 
--- no line may come where too many would count
+-- no line may come if too many would count
 pub too_many : (s : Shape) (before : List Line) (l : Line) → Shows s before → if_short (counted_with l s.counted) ≡ None → may_come before l ≡ false
 too_many s before l shows h =
     ap (λ b. b && (nat_lt 0 l.depth && (nat_le l.depth (deepest before) && (may_follow (last_sibling l.depth before) (sibling l) && is_sound_line l)))) (ap (λ n. nat_le n LINE_LIMIT) (counted-cons l before) ∙ short_else (counted_with l (counted before)) (sym (ap (λ n. if_short (counted_with l n)) shows.count) ∙ h))

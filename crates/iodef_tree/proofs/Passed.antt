@@ -1,4 +1,4 @@
--- What a body that can be read has passed.
+-- The tests that a body that can be read has passed.
 use Rattle.std.proofs.Common.{◌≡◌, ◌≤◌, List, true, length, nat_lt, sym, ◌∙◌, ap, subst, Option, Some, Ok, Err, option_and_then, codes, arith}
 use Rattle.std.proofs.lemmas.Bool.{cond_both, ltb-false}
 use Rattle.std.proofs.lemmas.Option.{cond_some}
@@ -30,7 +30,7 @@ short-ok ls d h = cond_both (nat_lt LINE_LIMIT (length ls)) (Err TooManyLines) (
 pub short-few : (ls : List Line) (d : List Line) → if_short ls ≡ Ok d → length ls ≤ LINE_LIMIT
 short-few ls d h = cond_both (nat_lt LINE_LIMIT (length ls)) (Err TooManyLines) (Ok ls) (λ r. r ≡ Ok d → length ls ≤ LINE_LIMIT) (λ _ e. absurd (cc)) (λ b _. ltb-false LINE_LIMIT (length ls) b) h
 
--- what was found in it on the way
+-- what the tests found in the body
 pub record Passed (bytes : Bytes) (docs : List (List Line)) : Type 0 where
   pub root : json.Members
   pub incidents : json.Items

@@ -1,4 +1,4 @@
--- The laws that follow each from its lemma alone.
+-- The laws, each from its lemma.
 use Rattle.iodef_tree.proofs.Accepted.{lines-outline}
 use Rattle.iodef_tree.proofs.Apart.{sound-apart}
 use Rattle.iodef_tree.proofs.Blocks.{blocks-located}

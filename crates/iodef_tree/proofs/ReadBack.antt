@@ -116,7 +116,7 @@ data-back ms n w low = data-ordered (forest_of_data ms) (body-order (json.object
 
 -- ---- what is known of each value of a body
 
--- of a value at a member, and of an element of its array
+-- what is known of a value at a member, and of an element of its array
 pub record IsGood (n o a : ℕ) (d : Data) : Type 0 where
   pub normal : IsNormal d
   pub low : depth d ≤ n
@@ -159,7 +159,7 @@ pub record IsRoot (root : json.Members) : Type 0 where
   pub low : members_depth root ≤ 126
   pub fits : AreClear (member_nodes 1 root)
 
--- the Incident has all that it must, and these are the lines of its document
+-- the Incident has all members that it must have, and these are the lines of its document
 pub record HasLines (root : json.Members) (x : Data) (d : List Line) : Type 0 where
   pub good : IsGood 125 1 1 x
   pub fit : IsFit root x
@@ -213,7 +213,7 @@ each Q root shown (json.item x ds) k docs g fit objects complete given =
       each Q root shown ds (suc k) more.0 g.1 fit.1 objs.1 lacks.2 more.1,
     )
 
--- what holds of each document of a body
+-- a property of each document of a body
 pub each-document : (Q : List Line → Type 0) (bytes : Bytes) (docs : List (List Line)) (p : Passed bytes docs) → ((x : Data) (d : List Line) → IsRoot p.root → HasLines p.root x d → Q d) → AllByRecursion Q docs
 each-document Q bytes docs p shown =
     let k = codes "Incident" in

@@ -1,4 +1,4 @@
--- A document that was read is the lines of a sound tree.
+-- The lines of a document that was read are those of a sound tree.
 use Rattle.std.proofs.Common.{◌≡◌, ◌≤◌, List, Bool, true, false, ◌&&◌, refl, sym, ◌∙◌, ap, subst, arith, Ok, bytes_eq}
 use Rattle.std.specs.List.{AllByRecursion}
 use Rattle.std.specs.Option.{option_map_or}

@@ -1,4 +1,4 @@
--- The first of some values that passes a test, those of one value in front of the others.
+-- The first of some values that passes a test, with the values inside one value before the others.
 use Rattle.std.proofs.Common.{◌≡◌, List, [], ◌∷◌, ◌++◌, Bool, ◌||◌, Some, None, refl, arith}
 use Rattle.std.proofs.lemmas.Grind.{common_steps}
 use Rattle.iodef_tree.specs.inner.FitValues.{any_at}
@@ -17,5 +17,5 @@ pub any_at-beneath : (f : Surrounded → Bool) (t : Bytes) (a b : List Node) →
 any_at-beneath f t [] b = refl
 any_at-beneath f t (n ∷ a) b = grind (arith, (any_at-beneath f t a b))
 
--- for the walks over all values
+-- the lemmas for the walks over all values
 pub ruleset seeking = (common_steps, first_at-none, first_at-some, any_at-beneath)

@@ -1,4 +1,4 @@
--- Where no value stands too deep, the trees are low.
+-- If no value is too deep, the trees are low.
 use Rattle.std.proofs.Common.{◌≡◌, ℕ, suc, ◌+◌, ◌≤◌, max, List, [], ◌∷◌, nat_lt, ◌&&◌, arith, decimal, is_some}
 use Rattle.serde_json.specs.Data as json
 use Rattle.serde_json.specs.Data.{Data}
@@ -69,7 +69,7 @@ mutual
       let m = height-member_front name (bodies_of_data d) (forest_of_data ms) in
       omega (arith, x, y, z, w, m)
 
--- the tree is as low as each member
+-- a tree is as low as each of its members
 pub heights : (n : ℕ) → IsEach (λ d. bodies_height (bodies_of_data d) ≤ n) (λ ms. height (forest_of_data ms) ≤ n)
 heights n = grind (arith, height-member_front)
 

@@ -1,4 +1,4 @@
--- What holds of siblings, and so of all that stands at or below them.
+-- Properties of siblings, and so of all lines at or below them.
 use Rattle.std.proofs.Common.{◌≡◌, ℕ, suc, List, [], ◌∷◌, ◌++◌, Bool, true, false, map, filter, refl, sym, ◌∙◌, ap, subst, append-nil, append_assoc, Option}
 use Rattle.std.specs.List.{AllByRecursion}
 use Rattle.std.proofs.lemmas.Bool.{cond-true, cond-false}
@@ -42,7 +42,7 @@ siblings-map Q R end h all = tt
 siblings-map Q R (leaf i rest) h all = (h i.name i.place all.0, siblings-map Q R rest h all.1)
 siblings-map Q R (branch n o kids rest) h all = (h n o all.0, siblings-map Q R rest h all.1)
 
--- what holds of each path that goes on from a sibling holds of each entry
+-- a property of all paths that go on from the siblings holds of each line
 pub walk-all : (Q : Tokens → Type 0) (f : Forest) (d : ℕ) (p : Tokens) → AllSiblings (λ n o. (z : Tokens) → Q (p ++ (steps n o ++ z))) f → AllByRecursion (λ (e : LocatedLine). Q e.path) (walk d p f)
 walk-all Q end d p h = tt
 walk-all Q (leaf i rest) d p h =

@@ -41,7 +41,7 @@ down-push d f (y ∷ xs) x =
 same-line : (d : ℕ) (x y : Open) → y.name ≡ x.name → y.in_array ≡ x.in_array → open_line d y ≡ open_line d x
 same-line d x y n a = ap (λ (m : Bytes). class_line d m (place_of y.in_array 0)) n ∙ ap (λ (b : Bool). class_line d x.name (place_of b 0)) a
 
--- lines at the end of the innermost class stand at the end
+-- lines at the end of the innermost class are at the end of all
 down-add : (d : ℕ) (f : Forest) (xs : List Open) (x y : Open) (R : List Line) → y.name ≡ x.name → y.in_array ≡ x.in_array →
     lines (suc (d + length xs)) (forest y.object) ≡ lines (suc (d + length xs)) (forest x.object) ++ R →
     lines_down d f (xs ++ y ∷ []) ≡ lines_down d f (xs ++ x ∷ []) ++ R
@@ -55,7 +55,7 @@ pub put-class : (s t : Spine) (P : List Open) (x y : Open) (n : Bytes) (a : Bool
     Extends s (lines (suc (length s.classes.items)) (in_front n (place_of a 0) b end)) (length s.classes.items) t
 put-class s t P x y n a b h root was is name array g = grind (arith, all-append, all-split, down-add, forest-members, one-longer)
 
--- what the innermost class has to be for that
+-- what the innermost class keeps before a thing is put into it
 pub innermost-grown : (s : Spine) (P : List Open) (x : Open) → s.classes.items ≡ P ++ x ∷ [] → IsSpineGrown s → IsGrown x.object.members.items
 innermost-grown s P x was h = (all-split IsOpenGrown P x (subst (AllByRecursion IsOpenGrown) was h.classes)).1
 
@@ -112,7 +112,7 @@ has-plain s t u l c b fits is said held e g =
 none-left : (xs : List Open) → length xs ≡ 0 → xs ≡ []
 none-left xs h = grind (arith, common_steps)
 
--- with no class open the lines are those of the root
+-- if no class is open, the lines are those of the root
 pub finished : (s t : Spine) → Extends s [] 0 t → lines 1 (forest t.root) ≡ lines_of s
 finished s t e = sym (ap (lines_down 1 (forest t.root)) (none-left t.classes.items e.depth)) ∙ e.lines ∙ append-nil (lines_of s)
 

@@ -1,4 +1,4 @@
--- The texts of a tree made of what serde_json read.
+-- The texts of a tree that is made of JSON values.
 use Rattle.std.proofs.Common.{◌≡◌, ◌≤◌, ℕ, suc, ◌-◌, Bool, true, false, ◌&&◌, ◌||◌, List, [], ◌∷◌, refl, sym, ap, ◌∙◌, arith, true≢false, Option, Some, None, is_some, nat_lt, bytes_eq}
 use Rattle.std.specs.List.{AllByRecursion}
 use Rattle.std.specs.Option.{option_map_or}
@@ -35,7 +35,7 @@ texts-members ((name, many bs) ∷ ms) all = texts-elements name bs 0 (forest_of
 
 -- ---- one value
 
--- no deeper than so many arrays
+-- a plain value is no deeper than so many arrays
 mutual
   plain-depth : (deep : ℕ) (d : Data) → is_plain deep d ≡ true → depth d ≤ deep
   plain-depth deep (json.array ds) h =
@@ -61,7 +61,7 @@ value-depth in_array (json.array ds) h =
 value-depth in_array (json.object ms) h = absurd (true≢false (sym h))
 value-depth in_array _ h = omega arith
 
--- what is written of such a value, and reads back
+-- the text of such a value is one that a line may have
 pub written-text : (in_array : Bool) (v : Value) (t : Bytes) → may_be_value in_array (view v) ≡ true → t ≡ compact_text (view v) → (depth (view v) ≤ max_depth → read t ≡ Some (view v)) →
     may_be_text kind.Value in_array t ≡ true
 written-text in_array v t may is back =
@@ -70,7 +70,7 @@ written-text in_array v t may is back =
     ∙ ap (λ b. b && bytes_eq (compact_text d) t) may
     ∙ (bytes_eq-Decides (compact_text d) t).1 (sym is)
 
--- such a value is no more than its text
+-- the thing that such a value becomes is its text
 pub value-body : (d : Data) → may_be_value true d ≡ true → body_of_data d ≡ says (value (compact_text d))
 value-body (json.string s) h = absurd (true≢false (sym h))
 value-body (json.object ms) h = absurd (true≢false (sym h))

@@ -31,7 +31,7 @@ goes_on-one n b rest = grind arith
 goes_on-first : (n : Bytes) (b : Body) (rest : Forest) → goes_on (in_front n (Some 0) b rest) ≡ false
 goes_on-first n b rest = grind arith
 
--- no member begins amid an array
+-- no member begins in the midst of an array
 pub goes_on-members : (ms : List (Bytes × Bodies)) → goes_on (forest_of_members ms) ≡ false
 goes_on-members [] = refl
 goes_on-members (m ∷ ms) = by_bodies m.1 (goes_on-members ms)

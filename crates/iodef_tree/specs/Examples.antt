@@ -1,5 +1,4 @@
--- Three small bodies by their JSON values, and the lines of the one document of each: to be computed by the definitions
--- alone.
+-- Three small bodies by their JSON values, and the lines of the one document of each. The definitions compute them.
 use Rattle.std.specs.Prelude.{◌≡◌, ℕ, [], ◌∷◌, Bool, true, false, codes}
 use Rattle.serde_json.specs.Data as json
 use Rattle.serde_json.specs.Data.{Data, string, number, unsigned, array, object, no_items, no_members}
@@ -10,16 +9,20 @@ use Rattle.iodef_tree.specs.declared.line.Line.{Line}
 use Rattle.iodef_tree.specs.declared.line.Kind.{Kind}
 use Rattle.iodef_tree.specs.declared.line.Kind.TheVariants as kind
 
+-- a line made of its parts
 abbrev pub line : ℕ → Bytes → Bool → Kind → Bytes → Line
 line d name in_array k text = record { depth = d; name = name; in_array = in_array; kind = k; text = text }
 
+-- a member in front of others, as `serde_json` reads an object
 abbrev pub member : Bytes → Data → json.Members → json.Members
 member name d rest = json.member name d rest
 
+-- an element in front of others, as `serde_json` reads an array
 abbrev pub item : Data → json.Items → json.Items
 item d rest = json.item d rest
 
--- an empty class in an array, and an array of a text, a number and an array
+-- A body with an empty class in an array, and an array of a text, a number and an array: each element has its own
+-- line.
 abbrev pub ArraysAreSpread : Type 0
 ArraysAreSpread =
     lines 1 (forest_of_data (
@@ -41,7 +44,7 @@ ArraysAreSpread =
     ∷ line 1 (codes "a") false kind.Value (codes "[]")
     ∷ []
 
--- an Incident with no labels
+-- A body whose Incident has no labels: the line of a class comes before those of its members.
 abbrev pub ClassesStandInFrontOfTheirMembers : Type 0
 ClassesStandInFrontOfTheirMembers =
     lines 1 (forest_of_data (
@@ -67,7 +70,7 @@ ClassesStandInFrontOfTheirMembers =
     ∷ line 1 (codes "version") false kind.Text (codes "2.0")
     ∷ []
 
--- two classes of one array, and labels
+-- A body with two classes in one array, and labels: the lines of the first class come before those of the second.
 abbrev pub ElementsFollowOneAnother : Type 0
 ElementsFollowOneAnother =
     lines 1 (forest_of_data (

@@ -6,38 +6,46 @@ use Rattle.iodef_tree.specs.declared.object.Item.{Item, fold-Item}
 use Rattle.iodef_tree.specs.declared.object.Member.{Member, fold-Member}
 use Rattle.iodef_tree.specs.declared.object.Item.TheOpen.{Object-F, Member-F, Item-F}
 
--- an array has at least one element
+-- whether a list has an element
 abbrev pub has_some : {X : Type 0} → List X → Bool
 has_some [] = false
 has_some (x ∷ xs) = true
 
--- one level, with what is inside already asked
+-- whether no array in an item is empty, given the answers for what is inside it
 abbrev pub item_filled : Item-F Bool Bool Bool → Bool
 item_filled (Item-F.Class inside) = inside
 item_filled (Item-F.Text s) = true
 item_filled (Item-F.Value s) = true
 
+-- the same for a member; its own array must have an element
 abbrev pub member_filled : Member-F Bool Bool Bool → Bool
 member_filled (Member-F.One inside) = inside
 member_filled (Member-F.Many v) = has_some v.items && list_all (λ inside. inside) v.items
 
+-- the same for an object, from the answers for its members
 abbrev pub object_filled : Object-F Bool Bool Bool → Bool
 object_filled o = list_all (λ m. m.1) o.members.items
 
+-- whether no array in an object is empty, at any depth
 abbrev pub is_object_filled : Object → Bool
 is_object_filled = fold-Object Bool Bool Bool item_filled member_filled object_filled
 
+-- whether no array in a member is empty, at any depth
 abbrev pub is_member_filled : Member → Bool
 is_member_filled = fold-Member Bool Bool Bool item_filled member_filled object_filled
 
+-- whether no array in an item is empty, at any depth
 abbrev pub is_item_filled : Item → Bool
 is_item_filled = fold-Item Bool Bool Bool item_filled member_filled object_filled
 
+-- no array in an object is empty, at any depth (RFC 8727 section 2)
 abbrev pub IsFilled : Object → Type 0
 IsFilled o = is_object_filled o ≡ true
 
+-- no array in a member is empty, at any depth
 abbrev pub IsMemberFilled : Member → Type 0
 IsMemberFilled m = is_member_filled m ≡ true
 
+-- no array in an item is empty, at any depth
 abbrev pub IsItemFilled : Item → Type 0
 IsItemFilled i = is_item_filled i ≡ true

@@ -13,27 +13,29 @@ use Rattle.iodef_tree.specs.declared.line.Kind.{Kind}
 use Rattle.iodef_tree.specs.declared.line.Kind.TheVariants as kind
 use Rattle.iodef_tree.specs.declared.shape.Sibling.{Sibling}
 
--- whether the line is one more element of the array that its newest sibling is in
+-- whether a line is one more element of the array in which the newest sibling is
 abbrev pub continues : Option Sibling → Line → Bool
 continues None l = false
 continues (Some x) l = bytes_eq x.name l.name && (x.in_array && l.in_array)
 
--- what the line stands for, a class having these members
+-- the JSON value that a line means, given the members of the class if it is one; a value's text that can't be read
+-- counts as null
 abbrev pub datum : Kind → Bytes → json.Members → Data
 datum kind.Class s ms = json.object ms
 datum kind.Text s ms = json.string s
 datum kind.Value s ms = unwrap_or (read s) json.null
 
--- what a line gives beside a depth: nothing more where it is less deep, its own where it is as deep, and else what follows
+-- a choice by the depth of a line: the first if it is less deep, the second if it is as deep, the third if it is
+-- deeper
 abbrev pub by_depth : {A : Type 0} → Line → ℕ → A → A → A → A
 by_depth l depth ended own passed = if nat_lt l.depth depth then ended else (if l.depth == depth then own else passed)
 
--- the member that a line begins: where it is in an array, all the elements, of which the line is the first
+-- the member that a line begins: if the line is in an array, all its elements, of which the line is the first
 abbrev pub member_begun : Line → Data → json.Items → json.Members → json.Members
 member_begun l d others rest = if l.in_array then json.member l.name (json.array (json.item d others)) rest else json.member l.name d rest
 
--- Of the lines before the first that is less deep: the members at this depth behind a sibling, and the elements with which
--- the sibling's array goes on.
+-- Both read the lines before the first that is less deep: `members_from` returns the members at this depth that follow
+-- a sibling, and `items_from` the elements with which the array of the sibling goes on.
 abbrev mutual
   pub members_from : ℕ → Option Sibling → List Line → json.Members
   members_from depth before [] = json.no_members
@@ -50,20 +52,20 @@ abbrev mutual
       (if continues before l then json.item (datum l.kind l.text (members_from (suc depth) None ls)) (items_from depth (Some (sibling l)) ls) else json.no_items)
       (items_from depth before ls)
 
--- the members of the root
+-- the members of the JSON object that a document is (RFC 8727 section 2)
 abbrev pub data_of : List Line → json.Members
 data_of ls = members_from 1 None ls
 
--- what stands at `0` in an array or an object
+-- the element at place 0 of an array, or the member `0` of an object
 abbrev pub zeroth : Data → Option Data
 zeroth (json.array ds) = get_item 0 ds
 zeroth (json.object ms) = get_member (codes "0") ms
 zeroth _ = None
 
--- the member `IncidentID` of what stands at `/Incident/0` (RFC 7970 section 3.4)
+-- the member `IncidentID` of the value at `/Incident/0` (RFC 7970 section 3.4)
 abbrev pub id_in : Data → Option Data
 id_in d = option_and_then (get (codes "IncidentID")) (option_and_then zeroth (get (codes "Incident") d))
 
--- its compact JSON
+-- the same as compact JSON, of the lines of a document
 abbrev pub incident_id : List Line → Option Bytes
 incident_id ls = option_map compact_text (id_in (json.object (data_of ls)))

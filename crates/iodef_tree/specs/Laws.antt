@@ -1,4 +1,4 @@
--- The laws of sound trees, as later definitions stand on them.
+-- The laws of sound trees, on which later definitions rely.
 use Rattle.std.specs.Prelude.{◌≡◌, ℕ, List, [], ◌∷◌, Ok, ◌++◌, map, true, false, ◌||◌, Option}
 use Rattle.std.specs.List.{AllByRecursion, IsDistinct}
 use Rattle.std.specs.Str.{is_utf8}
@@ -14,74 +14,79 @@ use Rattle.iodef_tree.specs.Outline.{is_outline}
 use Rattle.iodef_tree.specs.Sound.{IsSound}
 use Rattle.iodef_tree.specs.Walk.{walk, IsBlock, AreBlocks}
 
--- something holds of each sibling, by its name and its place
+-- a property holds of each sibling, by its name and its place
 abbrev pub AllSiblings : (Bytes → Option ℕ → Type 0) → Forest → Type 0
 AllSiblings P end = Unit {0}
 AllSiblings P (leaf i rest) = P i.name i.place × AllSiblings P rest
 AllSiblings P (branch name place kids rest) = P name place × AllSiblings P rest
 
--- what stands at or below one of two siblings never stands at or below the other
+-- Two siblings are apart: no path at or below one of them is at or below the other.
 pub record AreApart (n : Bytes) (place : Option ℕ) (n' : Bytes) (place' : Option ℕ) : Type 0 where
   pub left : (z : Tokens) → is_prefix (steps n place) (steps n' place' ++ z) ≡ false
   pub right : (z : Tokens) → is_prefix (steps n' place') (steps n place ++ z) ≡ false
 
--- each sibling stands apart from those behind it, in each class
+-- each sibling is apart from those behind it, in each class
 abbrev pub HasApart : Forest → Type 0
 HasApart end = Unit {0}
 HasApart (leaf i rest) = AllSiblings (AreApart i.name i.place) rest × HasApart rest
 HasApart (branch name place kids rest) = AllSiblings (AreApart name place) rest × HasApart kids × HasApart rest
 
--- The class at a path of a document with these lines, or its root, has these members: the lines below the path are theirs,
--- and no two of them are one.
+-- At a path of a document with these lines there is a class, or the root, with these members: the lines below the path
+-- are theirs. No two of the members have the same path.
 pub record StandsAt (es : List LocatedLine) (p : Tokens) (f : Forest) : Type 0 where
   pub block : IsBlock p es f
   pub apart : HasApart f
 
+-- The law that the located lines of a sound tree are those that a walk down the tree meets.
 abbrev pub EntriesAreTheWalk : Type 0
 EntriesAreTheWalk = (f : Forest) → IsSound f → located (lines 1 f) ≡ walk 1 [] f
 
+-- The law that siblings of a sound tree are apart.
 abbrev pub SiblingsStandApart : Type 0
 SiblingsStandApart = (f : Forest) → IsSound f → HasApart f
 
--- below the path of each class stand the lines of its members, and no others
+-- The law that the lines below the path of each class are those of its members, and no others.
 abbrev pub ClassesAreBlocks : Type 0
 ClassesAreBlocks = (f : Forest) → IsSound f → AreBlocks (located (lines 1 f)) 1 [] f
 
--- no two lines of a document have one path
+-- The law that no two lines of a document have the same path.
 abbrev pub PathsAreDistinct : Type 0
 PathsAreDistinct = (f : Forest) → IsSound f → IsDistinct same_path (map (λ e. e.path) (located (lines 1 f)))
 
+-- The law that no two classes of a document have the same path.
 abbrev pub ClassPathsAreDistinct : Type 0
 ClassPathsAreDistinct = (f : Forest) → IsSound f → IsDistinct same_path (classes_of (lines 1 f))
 
--- a tree is known by its lines
+-- The law that two documents with the same lines are the same tree.
 abbrev pub OutlineIsOneToOne : Type 0
 OutlineIsOneToOne = (f g : Forest) → IsSound f → IsSound g → lines 1 f ≡ lines 1 g → f ≡ g
 
--- the lines of a document are an outline
+-- The law that the lines of a document are an outline.
 abbrev pub LinesAreAnOutline : Type 0
 LinesAreAnOutline = (f : Forest) → IsSound f → is_outline (lines 1 f) ≡ true
 
--- of these lines, q is the path of the longest class that is a proper prefix of p, or the root where there is none
+-- q is the path of the longest class, among these lines, that is a proper prefix of p, or the root if there is none
+-- (RFC 7970 section 3).
 pub record IsNearestClass (es : List LocatedLine) (p q : Tokens) : Type 0 where
   pub stands : (is_root q || has_class es q) ≡ true
   pub proper : is_under q p ≡ true
   pub longest : (r : Tokens) → has_class es r ≡ true → is_under r p ≡ true → is_prefix r q ≡ true
 
--- the parent of each line is the nearest class above its path
+-- The law that the parent of each line is the nearest class above its path.
 abbrev pub ParentsAreNearestClasses : Type 0
 ParentsAreNearestClasses = (f : Forest) → IsSound f → AllByRecursion (λ e. IsNearestClass (located (lines 1 f)) e.path e.parent) (located (lines 1 f))
 
--- the text of each document of a body that is read, which is UTF-8 as every text, is read as that one document
+-- The law that the text of each document that was read from a body is read as that one document, if the text is UTF-8.
+-- Each text is UTF-8; the definitions of the kit do not say so of a text that was read.
 abbrev pub TextsReadBack : Type 0
 TextsReadBack =
     (bytes : Bytes) (ds : List (List Line)) → reading bytes ≡ Ok ds →
     AllByRecursion (λ d. is_utf8 (compact_text (object (data_of d))) ≡ true → reading (compact_text (object (data_of d))) ≡ Ok (d ∷ [])) ds
 
--- the lines of a sound tree
+-- these are the lines of a sound tree
 abbrev pub IsDocument : List Line → Type 0
 IsDocument ls = (f : Forest) × IsSound f × (ls ≡ lines 1 f)
 
--- the lines of each document of a body that is read are those of a sound tree
+-- The law that the lines of each document of a body are those of a sound tree.
 abbrev pub ReadingsAreDocuments : Type 0
 ReadingsAreDocuments = (bytes : Bytes) (ds : List (List Line)) → reading bytes ≡ Ok ds → AllByRecursion IsDocument ds

@@ -1,4 +1,4 @@
--- What a checker of lines keeps of them, beside the definitions.
+-- What a checker of lines keeps of the lines that it has seen.
 use Rattle.std.specs.Prelude.{◌≡◌, ℕ, ◌-◌, Bool, true, ◌&&◌, ◌+◌, List, nat_lt, nat_le, not, if◌then◌else◌, Option, Some, None}
 use Rattle.std.specs.List.{slice_get}
 use Rattle.iodef_tree.specs.Sound.{counted, is_label_line}
@@ -8,20 +8,20 @@ use Rattle.iodef_tree.specs.declared.line.Line.{Line}
 use Rattle.iodef_tree.specs.declared.shape.Shape.{Shape}
 use Rattle.iodef_tree.specs.declared.shape.Sibling.{Sibling}
 
--- how many lines count with this one
+-- how many lines count for the limit with this one; a label does not count
 abbrev pub counted_with : Line → ℕ → ℕ
 counted_with l n = if not (is_label_line l) then 1 + n else n
 
--- that many, where they are few enough
+-- this number if it is within the limit of lines, else none
 abbrev pub if_short : ℕ → Option ℕ
 if_short n = if nat_le n LINE_LIMIT then Some n else None
 
--- whether a line may come, by the newest lines of the open depths and by how deep it may be
+-- whether a line may come, by the newest line of each open depth and by how deep it may be
 abbrev pub fits_edge : List Sibling → ℕ → Line → Bool
 fits_edge last deep l =
     nat_lt 0 l.depth && (nat_le l.depth deep && (may_follow (slice_get last (l.depth - 1)) (sibling l) && is_sound_line l))
 
--- the checker has seen these lines, the newest first, and they are an outline
+-- The checker has seen these lines, of which the newest is first, and they are an outline.
 pub record Shows (s : Shape) (before : List Line) : Type 0 where
   pub edges : s.last.items ≡ edge before
   pub depth : s.deepest ≡ deepest before

@@ -1,4 +1,4 @@
--- What the text of a line may be, by its kind.
+-- The texts that a line may have, by its kind.
 use Rattle.std.specs.Prelude.{◌≡◌, ℕ, ◌-◌, [], ◌∷◌, Bool, true, false, not, ◌&&◌, ◌||◌, nat_lt, is_some}
 use Rattle.std.specs.Option.{option_map_or}
 use Rattle.std.specs.Str.{bytes_eq}
@@ -13,8 +13,8 @@ use Rattle.iodef_tree.specs.declared.TheConstants.{DEPTH_LIMIT}
 use Rattle.iodef_tree.specs.declared.line.Kind.{Kind}
 use Rattle.iodef_tree.specs.declared.line.Kind.TheVariants as kind
 
--- A value with no object, with no number but an i64 or a u64, and with at most so many arrays one inside the other
--- (RFC 8259 sections 3 to 6).
+-- A value without an object and without a number that is neither an i64 nor a u64, and with at most so many arrays one
+-- inside the other (RFC 8259 sections 3 to 6).
 abbrev mutual
   pub is_plain : ℕ → Data → Bool
   is_plain deep (json.number n) = not (is_float n)
@@ -26,12 +26,13 @@ abbrev mutual
   are_plain deep json.no_items = true
   are_plain deep (json.item d ds) = is_plain deep d && are_plain deep ds
 
+-- whether an array has no element
 abbrev pub is_empty : json.Items → Bool
 is_empty json.no_items = true
 is_empty (json.item d ds) = false
 
--- What a line of kind Value may stand for: null, a truth value, a whole number or an empty array, and as an element of
--- an array also any other array.
+-- What a line of kind Value may hold: null, a truth value, a whole number or an empty array; as an element of an
+-- array, also any other array that is plain.
 abbrev pub may_be_value : Bool → Data → Bool
 may_be_value in_array json.null = true
 may_be_value in_array (json.boolean b) = true
@@ -40,21 +41,23 @@ may_be_value in_array (json.string s) = false
 may_be_value in_array (json.array ds) = (is_empty ds || in_array) && is_plain DEPTH_LIMIT (json.array ds)
 may_be_value in_array (json.object ms) = false
 
--- the compact JSON of such a value
+-- whether a text is the compact JSON of such a value
 abbrev pub is_value_text : Bool → Bytes → Bool
 is_value_text in_array s = option_map_or (λ d. may_be_value in_array d && bytes_eq (compact_text d) s) (read s) false
 
+-- whether a text has no byte
 abbrev pub is_empty_text : Bytes → Bool
 is_empty_text [] = true
 is_empty_text (c ∷ cs) = false
 
--- a class has no text, and a text any
+-- whether a line of this kind may have this text: a class has none, a text has any, and a value has the compact JSON
+-- of itself
 abbrev pub may_be_text : Kind → Bool → Bytes → Bool
 may_be_text kind.Class in_array s = is_empty_text s
 may_be_text kind.Text in_array s = true
 may_be_text kind.Value in_array s = is_value_text in_array s
 
--- each plain line of a tree has such a text
+-- the text of each plain line of a tree is one of its kind
 abbrev pub HasTexts : Forest → Type 0
 HasTexts end = Unit {0}
 HasTexts (leaf i rest) = (may_be_text (kind_of i.content) (is_some i.place) (text_of i.content) ≡ true) × HasTexts rest

@@ -1,4 +1,4 @@
--- What serde_json read: as the tree of a document, and value by value.
+-- The values that `serde_json` reads: as the tree of a document, and value by value.
 use Rattle.std.specs.Prelude.{ℕ, suc, List, [], ◌∷◌, ◌++◌, Bool, false, ◌&&◌, ◌||◌, nat_lt, if◌then◌else◌, Option, Some, None, is_some, option_map, unwrap_or, decimal}
 use Rattle.serde_json.specs.Data as json
 use Rattle.serde_json.specs.Data.{Data}
@@ -10,13 +10,13 @@ use Rattle.iodef_tree.specs.declared.TheConstants.{DEPTH_LIMIT}
 
 -- ---- the tree of a document
 
--- one thing, or the elements where there are some
+-- the elements of a member's array if it has some, else the one thing
 abbrev pub one_or_many : Body → List Body → Bodies
 one_or_many b [] = one b
 one_or_many b (first ∷ others) = many (first ∷ others)
 
--- An object is a class, a string a text, and anything else the compact JSON of itself; what a member holds is the elements
--- of an array, unless that is empty (RFC 8727 section 2.1, RFC 8259 sections 3 to 5).
+-- An object is a class, a string a text, and any other value the compact JSON of itself. A member that is an array
+-- holds its elements, unless it is empty (RFC 8727 section 2.1, RFC 8259 sections 3 to 5).
 abbrev mutual
   pub forest_of_data : json.Members → Forest
   forest_of_data json.no_members = end
@@ -35,31 +35,33 @@ abbrev mutual
   items_of_data json.no_items = []
   items_of_data (json.item d ds) = body_of_data d ∷ items_of_data ds
 
+-- what a member with this value holds
 abbrev pub bodies_of_data : Data → Bodies
 bodies_of_data d = one_or_many (body_of_data d) (elements_of_data d)
 
 -- ---- every value of a body
 
--- a value, with how many objects stand around it and how many arrays inside the nearest of these
+-- a value with how many objects are around it, and how many arrays are around it inside the nearest of these
 pub record Surrounded : Type 0 where
   pub objects : ℕ
   pub arrays : ℕ
   pub value : Data
 
--- with its pointer (RFC 6901)
+-- such a value with its pointer (RFC 6901)
 pub record Node : Type 0 where
   pub pointer : Tokens
   pub seen : Surrounded
 
+-- a value by itself, whose pointer is empty
 abbrev pub node : ℕ → ℕ → Data → Node
 node objects arrays d = record { pointer = []; seen = record { objects = objects; arrays = arrays; value = d } }
 
--- the same values, seen from one token above
+-- the same values, with their pointers from one token above
 abbrev pub beneath : Bytes → List Node → List Node
 beneath token [] = []
 beneath token (n ∷ ns) = record { pointer = token ∷ n.pointer; seen = n.seen } ∷ beneath token ns
 
--- the values in stored order, each in front of those inside it
+-- the values in stored order, each before those inside it
 abbrev mutual
   pub nodes : ℕ → ℕ → Data → List Node
   nodes o a json.null = node o a json.null ∷ []
@@ -77,7 +79,7 @@ abbrev mutual
   member_nodes o json.no_members = []
   member_nodes o (json.member name d ms) = beneath name (nodes o 0 d) ++ member_nodes o ms
 
--- the pointer of the first value that passes
+-- the pointer of the first value that passes a test
 abbrev pub first_at : (Surrounded → Bool) → List Node → Option Tokens
 first_at test [] = None
 first_at test (n ∷ ns) = if test n.seen then Some n.pointer else first_at test ns
@@ -90,7 +92,7 @@ is_not_whole s = unwrap_or (option_map is_float (as_number s.value)) false
 abbrev pub is_nested_class : Surrounded → Bool
 is_nested_class s = nat_lt 1 s.arrays && is_some (as_object s.value)
 
--- A line deeper than the limit, or a value whose arrays are: the outermost array of a member makes its lines, and is no
--- part of a value.
+-- Whether a line is deeper than the limit, or a value has too many arrays, one inside the other. The outermost array of
+-- a member becomes its lines and is no part of a value.
 abbrev pub is_too_deep : Surrounded → Bool
 is_too_deep s = nat_lt DEPTH_LIMIT s.objects || (nat_lt DEPTH_LIMIT s.arrays && is_some (as_array s.value))

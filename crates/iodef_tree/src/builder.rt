@@ -1,4 +1,4 @@
-//! A document made of lines that come one at a time.
+//! A document that is made of lines that come one at a time.
 
 ghost use Rattle.std.specs.Prelude.{◌≡◌, ℕ, suc, ◌-◌, ◌≤◌, List, [], ◌∷◌, ◌++◌, length, true, Some, None, IfOk, OnOk, OnErr};
 ghost use Rattle.iodef_tree.specs.Tree.{lines, in_front, end, holds, place_of};
@@ -23,14 +23,16 @@ pub struct Open {
     object: Object,
 }
 
-/// The root, and the open classes from the outermost to the innermost, none of which is among the members above it yet.
+/// The root, and the open classes from the outermost to the innermost. An open class isn't among the members above it
+/// yet.
 #[derive(Drop)]
 pub struct Spine {
     root: Object,
     classes: Vec<Open>,
 }
 
-/// The item at the end of the members, as an element of the last of them where that is an array of this name.
+/// Returns the members with the item at their end. If `in_array`, the item becomes an element of the last member, if
+/// that is an array of this name, or else a new array.
 fn attach(
     alloc: Global,
     mut members: Vec<(Text, Member)>,
@@ -50,6 +52,7 @@ fn attach(
     Ok(members)
 }
 
+/// Returns the members with the item as an element of the last array, or in a new one.
 fn attach_element(
     alloc: Global,
     mut members: Vec<(Text, Member)>,
@@ -81,7 +84,7 @@ fn attach_element(
     }
 }
 
-/// A new array of one element.
+/// Returns the members with a new array of one element at their end.
 fn attach_array(
     alloc: Global,
     mut members: Vec<(Text, Member)>,
@@ -102,6 +105,7 @@ fn attach_array(
 }
 
 impl Spine {
+    /// Returns a root without members and without open classes.
     fn new(alloc: Global) -> Spine
         ensures lines { lines_of result ≡ [] }
         ensures grown { IsSpineGrown result }
@@ -115,7 +119,7 @@ impl Spine {
         }
     }
 
-    /// With an item at the end of the innermost class.
+    /// Returns the spine with an item at the end of the innermost class.
     fn put(self, alloc: Global, name: Text, in_array: bool, item: Item) -> Result<Spine, AllocError>
         requires grown { IsSpineGrown self }
         requires numbered { IsBodyNumbered (body item) }
@@ -154,7 +158,7 @@ impl Spine {
         }
     }
 
-    /// With a class more that is open.
+    /// Returns the spine with a new open class.
     fn open(self, alloc: Global, name: Text, in_array: bool) -> Result<Spine, AllocError>
         requires { IsSpineGrown self }
         ensures { IfOk result (λ new. Extends self
@@ -174,7 +178,7 @@ impl Spine {
         Ok(Spine { root, classes })
     }
 
-    /// With the innermost class among the members above it.
+    /// Returns the spine with its innermost class put among the members above it.
     fn close(self, alloc: Global) -> Result<Spine, AllocError>
         requires { IsSpineGrown self }
         ensures { IfOk result (λ new. Extends self [] (length self.classes.items - 1) new) }
@@ -194,7 +198,7 @@ impl Spine {
         }
     }
 
-    /// With no more than so many classes open.
+    /// Returns the spine with no more than `depth` classes open.
     fn close_to(self, alloc: Global, depth: usize) -> Result<Spine, AllocError>
         requires grown { IsSpineGrown self }
         requires depth { depth ≤ length self.classes.items }
@@ -208,7 +212,7 @@ impl Spine {
         Ok(spine)
     }
 
-    /// With a line more that may come.
+    /// Returns the spine with one line more, which may come.
     fn with_line(self, alloc: Global, line: Line) -> Result<Spine, AllocError>
         requires built { IsBuilt self }
         requires fits { may_come (back (lines_of self)) line ≡ true }
@@ -230,7 +234,7 @@ impl Spine {
     }
 }
 
-/// A document made of lines that come one at a time, which contracts see as the list of these.
+/// A document that is made of lines that come one at a time. Contracts see the list of these lines.
 #[derive(Drop)]
 pub struct Builder {
     alloc: Global,
@@ -252,7 +256,7 @@ impl Model for Builder {
 impl Builder {
     ghost use Rattle.iodef_tree.specs.Outline.{is_outline};
 
-    /// The document of no lines.
+    /// Returns a builder without lines.
     pub fn new(alloc: Global) -> Builder
         ensures { result ≡ [] }
     {
@@ -262,7 +266,7 @@ impl Builder {
         }
     }
 
-    /// Puts a line behind the others. After an error there are no lines any more.
+    /// Appends a line, which may come behind the others. Fails if memory runs out; then the builder has no lines.
     pub fn add(&mut self, line: Line) -> Result<(), AllocError>
         requires { may_come (back self.old) line ≡ true }
         ensures ok { OnOk result (self.new ≡ self.old ++ line ∷ []) }
@@ -273,7 +277,7 @@ impl Builder {
         Ok(())
     }
 
-    /// The document with these lines.
+    /// Returns the document with these lines. Fails if memory runs out.
     pub fn finish(self) -> Result<Document, AllocError>
         requires { is_outline self ≡ true }
         ensures { IfOk result (λ d. d ≡ self) }

@@ -1,4 +1,4 @@
-//! The paths of the classes, by one walk that builds one path as it goes.
+//! The paths of the classes. One walk goes down the tree and changes one path as it goes.
 
 ghost use Rattle.std.specs.Prelude.{◌≡◌, ◌++◌, ◌∷◌, [], OnOk, IfOk, Option, Some, None};
 ghost use Rattle.iodef_tree.specs.Tree.{end, in_front, member_front, steps};
@@ -9,7 +9,7 @@ use crate::object::{Item, Member, Object};
 use json_pointer::{Path, Text};
 use std::alloc::{AllocError, Global};
 
-/// The paths of the classes below an object whose path is empty, in stored order.
+/// Returns the paths of the classes below an object whose path is empty, in stored order.
 pub(crate) fn classes_of(alloc: Global, object: &Object) -> Result<Vec<Path>, AllocError>
     ensures { IfOk result (λ v. v.items ≡ classes_below [] (forest object.now)) }
 {
@@ -19,6 +19,7 @@ pub(crate) fn classes_of(alloc: Global, object: &Object) -> Result<Vec<Path>, Al
     Ok(paths)
 }
 
+/// Appends the paths of the classes in an object whose path is `above`.
 #[cycle(classes)]
 fn push_object(
     paths: &mut Vec<Path>,
@@ -36,6 +37,7 @@ fn push_object(
     Ok(())
 }
 
+/// Appends the paths of the classes in a member.
 #[cycle(classes)]
 fn push_member(
     paths: &mut Vec<Path>,
@@ -60,6 +62,7 @@ fn push_member(
     }
 }
 
+/// Appends the path of an item that is a class, and those of the classes in it.
 #[cycle(classes)]
 fn push_item(
     paths: &mut Vec<Path>,
@@ -86,7 +89,7 @@ fn push_item(
     }
 }
 
-/// Goes on to a class, whose path is one more.
+/// Goes down to a class and appends its path.
 fn push_path(
     paths: &mut Vec<Path>,
     alloc: Global,
@@ -103,7 +106,7 @@ fn push_path(
     Ok(())
 }
 
-/// Goes on to the member of a name, or to its element at a place.
+/// Adds to the path the name of a member and, in an array, a place.
 fn push_steps(
     above: &mut Vec<Text>,
     alloc: Global,
@@ -119,6 +122,7 @@ fn push_steps(
     Ok(())
 }
 
+/// Returns the path of these tokens, which are copied.
 fn path_of(alloc: Global, tokens: &[Text]) -> Result<Path, AllocError>
     ensures { IfOk result (λ p. p ≡ tokens.now) }
 {

@@ -1,4 +1,4 @@
-//! From what `serde_json` read to the tree, each text moved and not copied.
+//! From the values of `serde_json` to the tree. Each text is moved, not copied.
 
 ghost use Rattle.std.specs.Prelude.{◌≡◌, ◌≤◌, ◌++◌, ◌∷◌, [], IfOk, OnOk, Some, true, false, string_bytes};
 ghost use Rattle.serde_json.specs.View.{view, items_view, members_view};
@@ -15,7 +15,7 @@ use json_pointer::Text;
 use serde_json::{Map, Value};
 use std::alloc::{AllocError, Global};
 
-/// The tree of an object's members. A number that is neither an i64 nor a u64 would have no text.
+/// Returns the object with these members. No number may be a float, since its text is not promised.
 #[cycle(convert)]
 pub(crate) fn object_from(alloc: Global, members: Map<String, Value>) -> Result<Object, AllocError>
     requires whole { members_have_float (members_view members.entries) ≡ false }
@@ -29,6 +29,7 @@ pub(crate) fn object_from(alloc: Global, members: Map<String, Value>) -> Result<
     Ok(Object { members: made })
 }
 
+/// Returns what a member with this value holds.
 #[cycle(convert)]
 fn member_from(alloc: Global, value: Value) -> Result<Member, AllocError>
     requires whole { has_float (view value) ≡ false }
@@ -43,6 +44,7 @@ fn member_from(alloc: Global, value: Value) -> Result<Member, AllocError>
     }
 }
 
+/// Returns what a member with this array holds: its elements, or an empty array as a value.
 #[cycle(convert)]
 fn array_from(alloc: Global, items: Vec<Value>) -> Result<Member, AllocError>
     requires whole { items_have_float (items_view items.items) ≡ false }
@@ -56,6 +58,7 @@ fn array_from(alloc: Global, items: Vec<Value>) -> Result<Member, AllocError>
     }
 }
 
+/// Returns the elements of an array.
 #[cycle(convert)]
 fn items_from(alloc: Global, items: Vec<Value>) -> Result<Vec<Item>, AllocError>
     requires whole { items_have_float (items_view items.items) ≡ false }
@@ -69,6 +72,7 @@ fn items_from(alloc: Global, items: Vec<Value>) -> Result<Vec<Item>, AllocError>
     Ok(made)
 }
 
+/// Returns one element of an array.
 #[cycle(convert)]
 fn item_from(alloc: Global, value: Value) -> Result<Item, AllocError>
     requires whole { has_float (view value) ≡ false }
@@ -82,7 +86,7 @@ fn item_from(alloc: Global, value: Value) -> Result<Item, AllocError>
     }
 }
 
-/// What a member holds that is neither an object, nor a text, nor an array with elements.
+/// Returns a member of a value that is neither an object, nor a text, nor an array with elements.
 fn plain_member(alloc: Global, value: Value) -> Result<Member, AllocError>
     requires whole { has_float (view value) ≡ false }
     requires plain { may_be_value false (view value) ≡ true }
@@ -91,7 +95,7 @@ fn plain_member(alloc: Global, value: Value) -> Result<Member, AllocError>
     Ok(Member::One(Item::Value(written(alloc, value)?)))
 }
 
-/// An element that is neither an object nor a text.
+/// Returns an element that is neither an object nor a text.
 fn plain_item(alloc: Global, value: Value) -> Result<Item, AllocError>
     requires whole { has_float (view value) ≡ false }
     requires plain { may_be_value true (view value) ≡ true }
@@ -100,7 +104,7 @@ fn plain_item(alloc: Global, value: Value) -> Result<Item, AllocError>
     Ok(Item::Value(written(alloc, value)?))
 }
 
-/// A member more.
+/// Appends a member.
 fn push_member(
     made: &mut Vec<(Text, Member)>,
     name: String,
@@ -112,7 +116,7 @@ fn push_member(
     Ok(())
 }
 
-/// The compact JSON of a value.
+/// Returns the compact JSON of a value.
 fn written(alloc: Global, value: Value) -> Result<Text, AllocError>
     requires { has_float (view value) ≡ false }
     ensures text { IfOk result (λ t. t ≡ compact_text (view value)) }

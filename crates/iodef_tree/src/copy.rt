@@ -1,4 +1,4 @@
-//! A tree that is told apart from none of which it is the copy.
+//! Copies of a tree, which contracts see as the same tree.
 
 ghost use Rattle.std.specs.Prelude.{◌≡◌, ◌++◌, ◌∷◌, [], IfOk, OnOk, map};
 ghost use Rattle.iodef_tree.specs.Filled.{is_object_filled, is_member_filled, is_item_filled, IsItemFilled};
@@ -10,6 +10,7 @@ use crate::object::{Item, Member, Object};
 use json_pointer::Text;
 use std::alloc::{AllocError, Global};
 
+/// Returns a copy of an object.
 #[cycle(copy)]
 pub(crate) fn copy_object(alloc: Global, object: &Object) -> Result<Object, AllocError>
     ensures same { IfOk result (λ o. forest o ≡ forest object.now) }
@@ -20,6 +21,7 @@ pub(crate) fn copy_object(alloc: Global, object: &Object) -> Result<Object, Allo
     })
 }
 
+/// Returns a copy of the members of an object.
 #[cycle(copy)]
 fn copy_members(
     alloc: Global,
@@ -37,6 +39,7 @@ fn copy_members(
     Ok(made)
 }
 
+/// Returns a copy of a member.
 #[cycle(copy)]
 fn copy_member(alloc: Global, member: &Member) -> Result<Member, AllocError>
     ensures same { IfOk result (λ m. bodies m ≡ bodies member.now) }
@@ -48,6 +51,7 @@ fn copy_member(alloc: Global, member: &Member) -> Result<Member, AllocError>
     }
 }
 
+/// Returns a copy of the elements of an array.
 #[cycle(copy)]
 fn copy_items(alloc: Global, items: &Vec<Item>) -> Result<Vec<Item>, AllocError>
     ensures same { IfOk result (λ v. map body v.items ≡ map body items.now.items) }
@@ -61,6 +65,7 @@ fn copy_items(alloc: Global, items: &Vec<Item>) -> Result<Vec<Item>, AllocError>
     Ok(made)
 }
 
+/// Returns a copy of an item.
 #[cycle(copy)]
 fn copy_item(alloc: Global, item: &Item) -> Result<Item, AllocError>
     ensures same { IfOk result (λ i. body i ≡ body item.now) }
@@ -73,7 +78,7 @@ fn copy_item(alloc: Global, item: &Item) -> Result<Item, AllocError>
     }
 }
 
-/// A member more, under a copy of its name.
+/// Appends a member under a copy of its name.
 fn push_copied(
     made: &mut Vec<(Text, Member)>,
     name: &Text,
@@ -85,6 +90,7 @@ fn push_copied(
     Ok(())
 }
 
+/// Returns a text with a copy of its bytes.
 fn copy_text(text: &Text) -> Result<Item, AllocError>
     ensures same { IfOk result (λ i. body i ≡ says (spec.text text.now)) }
     ensures filled { IfOk result (λ i. IsItemFilled i) }
@@ -92,6 +98,7 @@ fn copy_text(text: &Text) -> Result<Item, AllocError>
     Ok(Item::Text(text.clone()?))
 }
 
+/// Returns a value with a copy of its text.
 fn copy_value(text: &Text) -> Result<Item, AllocError>
     ensures same { IfOk result (λ i. body i ≡ says (value text.now)) }
     ensures filled { IfOk result (λ i. IsItemFilled i) }

@@ -1,4 +1,4 @@
-//! Documents: the one type that the crates above hold, and its calls.
+//! Documents: the type that the crates above hold, and its calls.
 
 ghost use Rattle.std.specs.Prelude.{◌≡◌, ◌||◌, ◌++◌, ◌∷◌, [], IfOk, IfSome, IsTrue, is_some};
 ghost use Rattle.iodef_tree.specs.Filled.{IsFilled};
@@ -28,7 +28,7 @@ use serde_json::Value;
 use std::alloc::{AllocError, Global};
 use std::marker::Model;
 
-/// A document with one Incident, which contracts see as its outline: the list of its lines in stored order.
+/// A document with one Incident. Contracts see its outline: the list of its lines in stored order.
 #[derive(Drop)]
 pub struct Document {
     root: Object,
@@ -49,7 +49,7 @@ impl Model for Document {
     ghost invariant = { λ d. IsSound (forest d.root) × IsFilled d.root };
 }
 
-/// Whether the line may come behind those before it; then it is the last of them.
+/// Appends the line to the builder if it may come behind the lines before it, and returns whether it may.
 fn add_line(shape: &mut Shape, builder: &mut Builder, line: &Line) -> Result<bool, AllocError>
     requires { Shows shape.old (back builder.old) }
     ensures exact { IfOk result (λ fits. fits ≡ may_come (back builder.old) line.now) }
@@ -74,15 +74,17 @@ impl Document {
     ghost use Rattle.iodef_tree.specs.declared.fault.OutlineFault.TheVariants.{BadOutline};
     ghost use Rattle.iodef_tree.specs.Reading.{Returns, reading};
 
-    /// The documents of a body, one for each Incident (RFC 8727 section 2.1), or the first of the faults in their order.
-    /// Each has all other members of the root, and its Incident alone at place 0.
+    /// Reads a body (RFC 8727 section 2.1) and returns one document for each Incident. Each has all other members of
+    /// the root, and its Incident alone at place 0.
+    ///
+    /// Fails with the first of the faults, in the order of [`ReadFault`].
     pub fn read(alloc: Global, bytes: &[u8]) -> Result<Vec<Document>, ReadFault>
         ensures { Returns (λ v. v.items) result (reading bytes.now) }
     {
         read(alloc, bytes)
     }
 
-    /// The document of a sound tree in which no array is empty; takes no memory.
+    /// Returns the document of a sound tree in which no array is empty. Allocates nothing.
     pub fn new(root: Object) -> Document
         requires sound { IsSound (forest root) }
         requires filled { IsFilled root }
@@ -91,7 +93,7 @@ impl Document {
         Document { root }
     }
 
-    /// The document with these lines. BadOutline exactly where they are no outline.
+    /// Returns the document with these lines. Fails with BadOutline exactly if they are no outline.
     pub fn from_outline(alloc: Global, lines: &[Line]) -> Result<Document, OutlineFault>
         ensures ok { IfOk result (λ d. (is_outline lines.now ≡ true) × (d ≡ lines.now)) }
         ensures err { IfErr result (λ e. e ≡ BadOutline → is_outline lines.now ≡ false) }
@@ -106,7 +108,7 @@ impl Document {
         Ok(builder.finish()?)
     }
 
-    /// The lines of the document, in stored order: an outline, of which `from_outline` makes the document again.
+    /// Returns the lines of the document in stored order. [`Document::from_outline`] makes the document of them again.
     #[tactic(auto, using(crate::proofs::Steps::outline_steps))]
     pub fn outline(&self, alloc: Global) -> Result<Vec<Line>, AllocError>
         ensures lines { IfOk result (λ v. v.items ≡ self.now) }
@@ -115,7 +117,7 @@ impl Document {
         outline_of(alloc, &self.root)
     }
 
-    /// The document as compact JSON (RFC 8727 section 2).
+    /// Returns the document as compact JSON (RFC 8727 section 2).
     #[tactic(auto, using(crate::proofs::Steps::text_steps))]
     pub fn text(&self, alloc: Global) -> Result<String, AllocError>
         ensures { IfOk result (λ s. string_bytes s ≡ compact_text (object (data_of self.now))) }
@@ -123,7 +125,7 @@ impl Document {
         object_text(alloc, &self.root)
     }
 
-    /// The JSON object that the document is (RFC 8727 section 2).
+    /// Returns the document as a JSON object (RFC 8727 section 2).
     #[tactic(auto, using(crate::proofs::Steps::value_steps))]
     pub fn value(&self, alloc: Global) -> Result<Value, AllocError>
         ensures { IfOk result (λ v. view v ≡ object (data_of self.now)) }
@@ -131,8 +133,8 @@ impl Document {
         Ok(Value::Object(object_value(alloc, &self.root)?))
     }
 
-    /// The member `IncidentID` of what stands at `/Incident/0`, as compact JSON (RFC 7970 section 3.4). `None` exactly
-    /// where there is none.
+    /// Returns the member `IncidentID` of the value at `/Incident/0`, as compact JSON (RFC 7970 section 3.4). Returns
+    /// `None` exactly if there is none.
     pub fn incident_id(&self, alloc: Global) -> Result<Option<String>, AllocError>
         ensures { IfOk result (λ o. option_map (λ s. string_bytes s) o ≡ incident_id_of self.now) }
     {
@@ -142,7 +144,7 @@ impl Document {
         }
     }
 
-    /// The paths of the classes, in stored order.
+    /// Returns the paths of the classes, in stored order.
     #[tactic(auto, using(crate::proofs::Steps::classes_steps))]
     pub fn classes(&self, alloc: Global) -> Result<Vec<Path>, AllocError>
         ensures { IfOk result (λ v. v.items ≡ spec.classes_of self.now) }
@@ -150,7 +152,7 @@ impl Document {
         classes_of(alloc, &self.root)
     }
 
-    /// Whether there is a class at the path; the root is none. Takes no memory.
+    /// Returns whether there is a class at the path. The root is no class. Allocates nothing.
     #[tactic(auto, using(crate::proofs::Steps::has_class_steps))]
     pub fn has_class(&self, path: &Path) -> bool
         ensures { result ≡ spec.has_class (located self.now) path.now }
@@ -158,8 +160,10 @@ impl Document {
         !path.tokens().is_empty() && self.class(path).is_some()
     }
 
-    /// The class at the path, or the root at the empty path: the lines below the path are those of its members. `None`
-    /// exactly where the path is neither a class nor the root. Takes no memory.
+    /// Returns the class at the path, or the root at the empty path. The lines below the path are those of its
+    /// members.
+    ///
+    /// Returns `None` exactly if the path is neither that of a class nor the root's. Allocates nothing.
     pub fn class(&self, path: &Path) -> Option<&Object>
         ensures found { is_some result ≡
             (is_root path.now || spec.has_class (located self.now) path.now) }
@@ -169,7 +173,7 @@ impl Document {
         object_at(&self.root, path.tokens())
     }
 
-    /// The same document once more.
+    /// Returns a copy of the document.
     pub fn copy(&self, alloc: Global) -> Result<Document, AllocError>
         ensures { IfOk result (λ d. d ≡ self.now) }
     {
@@ -178,7 +182,7 @@ impl Document {
         })
     }
 
-    /// The tree whose lines are the outline. Each array in it, at any depth, has at least one element.
+    /// Returns the tree whose lines are the outline. Each array in it, at any depth, has at least one element.
     pub fn root(&self) -> &Object
         ensures lines { lines 1 (forest result.now) ≡ self.now }
         ensures sound { IsSound (forest result.now) }

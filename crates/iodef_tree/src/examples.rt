@@ -1,5 +1,5 @@
-//! The definitions computed on three small bodies, which stand in `specs/Examples.antt`: a wrong definition would show
-//! here, with no program between. Each is the contract of a function that does nothing.
+//! The definitions computed on three small bodies (`specs/Examples.antt`). A wrong definition would show here, with no
+//! program between. Each example is the contract of a function that does nothing.
 #![tactic(auto, unfolding(crate::proofs::Computed::computed))]
 
 ghost use Rattle.iodef_tree.specs.Examples.{
@@ -8,12 +8,12 @@ ghost use Rattle.iodef_tree.specs.Examples.{
   ElementsFollowOneAnother,
 };
 
-/// The lines of a document with arrays of classes, texts and values, one of them empty.
+/// The lines of a document with arrays of classes, texts and values; one of the arrays is empty.
 pub fn arrays_are_spread()
     ensures { ArraysAreSpread }
 {}
 
-/// The line of a class stands in front of those of its members, one less deep.
+/// The line of a class comes before those of its members and is one less deep.
 pub fn classes_stand_in_front()
     ensures { ClassesStandInFrontOfTheirMembers }
 {}

@@ -1,4 +1,4 @@
-//! Why a body is no list of documents, and why lines make none.
+//! Why a body is no list of documents, and why lines make no document.
 
 ghost use Rattle.std.specs.Prelude.{◌≡◌};
 ghost use Rattle.iodef_tree.specs.declared.fault.ReadFault.TheVariants.{NoMemory};
@@ -8,7 +8,7 @@ use json_pointer::Path;
 use std::alloc::{AllocError, AllocFailed};
 use thiserror::Error;
 
-/// The members that an Incident must have (RFC 7970 section 3.2), in the order in which a missing one is told.
+/// The members that an Incident must have (RFC 7970 section 3.2), in the order in which a missing one is found.
 #[derive(Clone, Copy, Debug)]
 pub enum Required {
     Contact,
@@ -17,11 +17,12 @@ pub enum Required {
     Purpose,
 }
 
-/// Why a body is no list of documents: the first of these that holds, in this order. A pointer is one in the body that
-/// was read, and within one fault it is that of the first place in stored order.
+/// Why a body is no list of documents: the first of these faults that applies, in this order. All faults of one kind
+/// come before those of the next; of one kind, the first in stored order is returned. A pointer is one in the body
+/// that was read.
 #[derive(Debug, Drop, Error)]
 pub enum ReadFault {
-    /// The bytes are no JSON text (RFC 8259).
+    /// The bytes are no JSON text (RFC 8259). A number outside every range, such as `1e999`, counts here too.
     #[error("the bytes are no JSON text")]
     NotJson,
     /// The root is no object, or its `Incident` is no array of 1 to 16 objects (RFC 8727 section 4).
@@ -33,21 +34,22 @@ pub enum ReadFault {
     /// The number at this pointer is neither an i64 nor a u64.
     #[error("a number is neither an i64 nor a u64")]
     NotWhole(Path),
-    /// The object at this pointer stands inside an array inside an array.
+    /// The object at this pointer is inside an array inside an array.
     #[error("an object stands inside an array inside an array")]
     NestedClass(Path),
-    /// A line is deeper than the limit, or the arrays of a value are.
+    /// A line is deeper than the limit, or a value has too many arrays, one inside the other.
     #[error("a line is too deep")]
     TooDeep,
     /// One of the documents has more lines than the limit.
     #[error("a document has too many lines")]
     TooManyLines,
+    /// Memory ran out.
     #[error("no memory")]
     NoMemory,
 }
 
 impl Required {
-    /// The member's name.
+    /// Returns the member's name.
     pub fn name(self) -> &'static str
         ensures { result.now ≡ required_name self }
     {
@@ -61,7 +63,7 @@ impl Required {
 }
 
 impl ReadFault {
-    /// The fault's name alone.
+    /// Returns the fault's name, without its pointer.
     pub fn name(&self) -> &'static str
         ensures { result.now ≡ fault_name self.now }
     {
@@ -97,9 +99,10 @@ impl<T: Drop> From<AllocFailed<T>> for ReadFault {
 /// Why lines make no document.
 #[derive(Clone, Copy, Debug, Error)]
 pub enum OutlineFault {
-    /// They are no outline.
+    /// The lines are no outline.
     #[error("the lines are no outline")]
     BadOutline,
+    /// Memory ran out.
     #[error("no memory")]
     NoMemory,
 }

@@ -1,5 +1,5 @@
-//! What holds of every sound tree, and so of every document, as the definitions of later crates stand on it. Each law is
-//! the contract of a function that does nothing.
+//! Laws of sound trees, and so of documents, on which the definitions of later crates rely. Each law is the contract
+//! of a function that does nothing.
 #![tactic(auto, using(crate::proofs::Proven::laws))]
 
 ghost use Rattle.std.specs.Prelude.{◌≡◌};
@@ -17,28 +17,27 @@ ghost use Rattle.iodef_tree.specs.Laws.{
   ReadingsAreDocuments,
 };
 
-/// The lines of an outline, each with its path and its parent's path as the flat list gives them, are those that a walk
-/// down the tree meets.
+/// The lines of an outline, each with its path and its parent's path, are those that a walk down the tree meets.
 pub fn entries_are_the_walk()
     ensures { EntriesAreTheWalk }
 {}
 
-/// What stands at or below one of two siblings never stands at or below the other.
+/// Of two siblings, no path at or below one is at or below the other.
 pub fn siblings_stand_apart()
     ensures { SiblingsStandApart }
 {}
 
-/// Below the path of each class stand the lines of its members, and no others.
+/// The lines below the path of each class are those of its members, and no others.
 pub fn classes_are_blocks()
     ensures { ClassesAreBlocks }
 {}
 
-/// No two lines of a document have one path.
+/// No two lines of a document have the same path.
 pub fn paths_are_distinct()
     ensures { PathsAreDistinct }
 {}
 
-/// No two classes of a document have one path.
+/// No two classes of a document have the same path.
 pub fn class_paths_are_distinct()
     ensures { ClassPathsAreDistinct }
 {}
@@ -48,7 +47,7 @@ pub fn outline_is_one_to_one()
     ensures { OutlineIsOneToOne }
 {}
 
-/// A line's parent is the longest class whose path is a proper prefix of the line's, else the root.
+/// A line's parent is the longest class whose path is a proper prefix of the line's, or else the root.
 pub fn parents_are_nearest_classes()
     ensures { ParentsAreNearestClasses }
 {}

@@ -1,22 +1,22 @@
-//! IODEF v2 documents in JSON (RFC 7970, RFC 8727): trees in memory, and flat lists of lines in every contract.
+//! IODEF v2 documents in JSON (RFC 7970, RFC 8727): trees in memory, and flat lists of lines in contracts.
 //!
-//! To read first, in `specs/`: `Tree`, a document as a tree and the lines of it; `Paths`, the path of each line, from the
-//! flat list alone; `Reading`, what a body gives.
+//! Read first, in `specs/`: `Tree`, a document as a tree, and its lines; `Paths`, the path of each line; `Reading`,
+//! what a body gives.
 //!
-//! The rooms, in the way of the data:
+//! The modules, in the order of the data:
 //!
 //! - `read`: from bytes to documents, or to the first `fault`; `unfit_values`: the values that no document can hold;
 //!   `convert`: the others, moved into a tree; `line_limit`: how many lines that tree has;
-//! - `object`: [`Object`], the tree; `copy`: the same tree once more;
-//! - `document`: [`Document`], a sound tree with the calls that the crates above make; they see its `line`s;
+//! - `object`: [`Object`], the tree; `copy`: a copy of the tree;
+//! - `document`: [`Document`], a sound tree, with the calls for the crates above; they see its `line`s;
 //! - `outline`, `classes`: walks down the tree, to its lines and to the paths of its classes;
 //! - `lookup`: the class at a path;
-//! - `shape`: [`Shape`], whether lines that come one at a time are an outline; `value_text`: the texts that stand for a
-//!   value; `builder`: [`Builder`], the document of such lines;
+//! - `shape`: [`Shape`], whether lines that come one at a time are an outline; `value_text`: the texts of values;
+//!   `builder`: [`Builder`], the document of such lines;
 //! - `value`, `writer`: back to JSON, as a value and as a text, in which `string` quotes;
-//! - [`laws`]: what holds of every document, and [`examples`], the lines of three small bodies.
+//! - [`laws`]: what holds of every document; [`examples`]: the lines of three small bodies.
 //!
-//! [`Path`], [`PathFault`], [`Text`] and [`push_token`] come from `json_pointer` and are passed on.
+//! [`Path`], [`PathFault`], [`Text`] and [`push_token`] are re-exported from `json_pointer`.
 #![tactic(auto)]
 
 mod builder;
@@ -49,7 +49,7 @@ pub use object::{Item, Member, Object};
 pub use shape::{Shape, Sibling};
 pub use string::push_quoted;
 
-/// How many classes may stand one below the other in a document that is read.
+/// How many classes may be one below the other in a document that is read.
 pub const DEPTH_LIMIT: u32 = 32;
 
 /// How many lines the outline of a document that is read may have.

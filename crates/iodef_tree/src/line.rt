@@ -5,7 +5,7 @@ ghost use Rattle.std.specs.Prelude.{◌≡◌};
 use json_pointer::Text;
 use std::alloc::AllocError;
 
-/// What a line of an outline stands for.
+/// The kind of value that a line holds.
 #[derive(Clone, Copy, Debug, PartialEq, Eq)]
 pub enum Kind {
     /// A JSON object below the root.
@@ -19,14 +19,15 @@ pub enum Kind {
 /// One line of an outline.
 #[derive(Drop)]
 pub struct Line {
-    /// 1 for a member of the root, and one more than the class's own for a member of a class.
+    /// 1 for a member of the root; for a member of a class, one more than the depth of the class.
     pub depth: u32,
     /// The member's name.
     pub name: Text,
     /// Whether it is an element of a non-empty array.
     pub in_array: bool,
+    /// What kind of value the line holds.
     pub kind: Kind,
-    /// Of a text the string itself, of a value its compact JSON, of a class nothing.
+    /// The string itself of a text, the compact JSON of a value, and nothing of a class.
     pub text: Text,
 }
 

@@ -1,4 +1,4 @@
-//! How many lines a tree has, against a limit.
+//! Counts the lines of a tree against a limit.
 #![tactic(auto, using(crate::proofs::Counts::counting))]
 
 ghost use Rattle.std.specs.Prelude.{◌≡◌, ◌+◌, ◌<◌, IfSome, IfNone};
@@ -7,7 +7,8 @@ ghost use Rattle.iodef_tree.specs.View.{forest, bodies, body};
 
 use crate::object::{Item, Member, Object};
 
-/// What is left of the room for lines behind those of the object, or None where they are more; takes no memory.
+/// Returns how many lines there is still room for behind those of the object, or `None` if the object has more than
+/// `room`. Allocates nothing.
 #[cycle(room)]
 pub(crate) fn room_left(object: &Object, room: usize) -> Option<usize>
     ensures some { IfSome result (λ left. left + line_count (forest object.now) ≡ room) }
@@ -20,6 +21,7 @@ pub(crate) fn room_left(object: &Object, room: usize) -> Option<usize>
     Some(left)
 }
 
+/// The same for a member.
 #[cycle(room)]
 fn member_room(member: &Member, room: usize) -> Option<usize>
     ensures some { IfSome result (λ left. left + bodies_count (bodies member.now) ≡ room) }
@@ -37,6 +39,7 @@ fn member_room(member: &Member, room: usize) -> Option<usize>
     }
 }
 
+/// The same for an item.
 #[cycle(room)]
 fn item_room(item: &Item, room: usize) -> Option<usize>
     ensures some { IfSome result (λ left. left + body_count (body item.now) ≡ room) }

@@ -1,4 +1,4 @@
-//! The class at a path, found token by token from the root. Takes no memory.
+//! The class at a path, found token by token from the root. Allocates nothing.
 
 ghost use Rattle.std.specs.Prelude.{
   ◌≡◌,
@@ -29,7 +29,7 @@ ghost use Rattle.iodef_tree.specs.View.{forest, bodies, body};
 use crate::object::{Item, Member, Object};
 use json_pointer::Text;
 
-/// The place whose decimal digits the token is.
+/// Returns the place whose decimal digits the token is.
 fn place_of_token(token: &str) -> Option<usize>
     ensures some { IfSome result (λ k. token.now ≡ decimal k) }
     ensures none { IfNone result ((k : ℕ) → k < 2 ^ 64 → token.now ≡ decimal k → ⊥) }
@@ -43,6 +43,7 @@ fn place_of_token(token: &str) -> Option<usize>
     }
 }
 
+/// Returns the element whose place the token spells.
 fn element_at<'a>(items: &'a [Item], token: &str) -> Option<&'a Item>
     requires { AllByRecursion IsItemFilled items.now }
     ensures found { option_map (λ i. body i.now) result ≡
@@ -52,7 +53,7 @@ fn element_at<'a>(items: &'a [Item], token: &str) -> Option<&'a Item>
     items.get(place_of_token(token)?)
 }
 
-/// What the next tokens name in a member, and the tokens that are left.
+/// Returns what the next tokens name in a member, and the tokens that are left.
 fn part_of<'a, 'p>(member: &'a Member, path: &'p [Text]) -> Option<(&'a Item, &'p [Text])>
     requires { IsMemberFilled member.now }
     ensures parts { option_map (λ r. (body r.0.now, r.1.now)) result ≡
@@ -70,7 +71,7 @@ fn part_of<'a, 'p>(member: &'a Member, path: &'p [Text]) -> Option<(&'a Item, &'
     }
 }
 
-/// What stands in an object under this name and then the next tokens, and the tokens that are left.
+/// Returns what this name and the next tokens name in an object, and the tokens that are left.
 fn item_at<'a, 'p>(
     object: &'a Object,
     name: &str,
@@ -93,7 +94,7 @@ fn item_at<'a, 'p>(
     None
 }
 
-/// The object at a path, from an object whose path is empty.
+/// Returns the object at a path, seen from an object whose path is empty.
 pub(crate) fn object_at<'a>(root: &'a Object, path: &[Text]) -> Option<&'a Object>
     requires { IsFilled root.now }
     ensures found { option_map (λ o. forest o.now) result ≡

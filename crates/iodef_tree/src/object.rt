@@ -14,6 +14,7 @@ use json_pointer::Text;
 #[derive(Drop)]
 #[cycle(tree)]
 pub struct Object {
+    /// The members, each with its name.
     pub members: Vec<(Text, Member)>,
 }
 
@@ -27,7 +28,7 @@ pub enum Member {
     Many(Vec<Item>),
 }
 
-/// What stands at one place.
+/// What one member that is no array, or one element of an array, is.
 #[derive(Drop)]
 #[cycle(tree)]
 pub enum Item {
@@ -40,8 +41,9 @@ pub enum Item {
 }
 
 impl Object {
-    /// The class at a path from this object on, or the object itself at the empty path. `None` exactly where there is none
-    /// in the document in which the object stands. Takes no memory.
+    /// Returns the class at a path that begins at this object, or the object itself if the path is empty.
+    ///
+    /// Returns `None` exactly if there is no such class in the document that holds the object. Allocates nothing.
     pub fn class(&self, path: &[Text]) -> Option<&Object>
         requires { IsFilled self.now }
         ensures found { (es : List LocatedLine) (p : Tokens) → StandsAt es p (forest self.now) →

@@ -11,7 +11,7 @@ use crate::object::{Item, Member, Object};
 use json_pointer::Text;
 use std::alloc::{AllocError, Global};
 
-/// The outline of a tree whose members are the root's.
+/// Returns the outline of a tree whose members are those of the root.
 pub(crate) fn outline_of(alloc: Global, object: &Object) -> Result<Vec<Line>, AllocError>
     requires { height (forest object.now) < 2 ^ 31 }
     ensures { IfOk result (λ v. v.items ≡ spec.lines 1 (forest object.now)) }
@@ -21,6 +21,7 @@ pub(crate) fn outline_of(alloc: Global, object: &Object) -> Result<Vec<Line>, Al
     Ok(lines)
 }
 
+/// Appends the lines of the members of an object, at this depth.
 #[cycle(outline)]
 fn push_object(
     lines: &mut Vec<Line>,
@@ -38,6 +39,7 @@ fn push_object(
     Ok(())
 }
 
+/// Appends the lines of a member.
 #[cycle(outline)]
 fn push_member(
     lines: &mut Vec<Line>,
@@ -62,6 +64,7 @@ fn push_member(
     }
 }
 
+/// Appends the lines of an item: one, and for a class those of its members behind it.
 #[cycle(outline)]
 fn push_item(
     lines: &mut Vec<Line>,
@@ -86,7 +89,7 @@ fn push_item(
     }
 }
 
-/// A line more, under a copy of its name.
+/// Appends a line under a copy of its name.
 fn push_line(
     lines: &mut Vec<Line>,
     depth: u32,
@@ -115,7 +118,7 @@ fn push_line(
     Ok(())
 }
 
-/// A plain line more, with a copy of its text.
+/// Appends a plain line with a copy of its text.
 fn push_plain(
     lines: &mut Vec<Line>,
     depth: u32,

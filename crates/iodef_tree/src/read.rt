@@ -20,7 +20,7 @@ use json_pointer::Path;
 use serde_json::{Map, Value};
 use std::alloc::{AllocError, Global};
 
-/// The documents that the bytes are, one for each Incident, or the first fault.
+/// Reads a body and returns one document for each Incident, or the first fault.
 #[tactic(auto, unfolding(crate::specs::Reading::reading))]
 pub(crate) fn read(alloc: Global, bytes: &[u8]) -> Result<Vec<Document>, ReadFault>
     ensures { Returns (λ v. v.items) result (reading bytes.now) }
@@ -37,6 +37,7 @@ pub(crate) fn read(alloc: Global, bytes: &[u8]) -> Result<Vec<Document>, ReadFau
     }
 }
 
+/// Reads the bytes as JSON. Fails with NotJson if they are no JSON text, and with NoMemory.
 fn parse(alloc: Global, bytes: &[u8]) -> Result<Value, ReadFault>
     ensures gives { Returns view result (parsed bytes.now) }
     ensures nests { IfOk result (λ v. spec.depth (view v) ≤ max_depth) }
@@ -53,6 +54,7 @@ fn parse(alloc: Global, bytes: &[u8]) -> Result<Value, ReadFault>
     }
 }
 
+/// Returns the Incidents of a body, if it has 1 to 16 and each is an object.
 fn incidents_in(body: &Value) -> Option<&Vec<Value>>
     ensures { option_map (λ v. items_view v.now.items) result
         ≡ option_and_then incidents_of (as_object (view body.now)) }
@@ -66,6 +68,7 @@ fn incidents_in(body: &Value) -> Option<&Vec<Value>>
     }
 }
 
+/// Returns whether there are 1 to 16 elements, and each is an object.
 #[tactic(auto, using(crate::proofs::Steps::are_incidents_steps))]
 fn are_incidents(items: &Vec<Value>) -> bool
     ensures { result ≡ are_incidents (items_view items.now.items) }
@@ -80,6 +83,7 @@ fn are_incidents(items: &Vec<Value>) -> bool
     all_are_objects(items)
 }
 
+/// Returns whether each element is an object.
 fn all_are_objects(items: &Vec<Value>) -> bool
     ensures { result ≡ all_objects (items_view items.now.items) }
 {
@@ -91,6 +95,7 @@ fn all_are_objects(items: &Vec<Value>) -> bool
     true
 }
 
+/// Fails with Missing if an Incident lacks a member that it must have.
 fn check_members(alloc: Global, incidents: &Vec<Value>) -> Result<(), ReadFault>
     ensures { Returns (λ _. tt) result (all_complete 0 (items_view incidents.now.items)) }
 {
@@ -102,7 +107,7 @@ fn check_members(alloc: Global, incidents: &Vec<Value>) -> Result<(), ReadFault>
     Ok(())
 }
 
-/// The path of the Incident at this place.
+/// Returns the path of the Incident at this place.
 fn incident_path(alloc: Global, index: usize) -> Result<Path, AllocError>
     ensures { IfOk result (λ p. p ≡ incident_at index) }
 {
@@ -112,6 +117,7 @@ fn incident_path(alloc: Global, index: usize) -> Result<Path, AllocError>
         .member(alloc, place.as_str())
 }
 
+/// Returns the first member that the Incident lacks, if it lacks one.
 fn first_lacking(incident: &Value) -> Option<Required>
     ensures { result ≡ lacking (view incident.now) }
 {
@@ -130,18 +136,20 @@ fn first_lacking(incident: &Value) -> Option<Required>
     None
 }
 
-/// One pass tells whether there is any fault, and only then each is looked for.
+/// Fails with the first value that no document can hold.
 #[tactic(auto, using(crate::proofs::Steps::check_values_steps))]
 fn check_values(alloc: Global, body: &Value) -> Result<(), ReadFault>
     requires { spec.depth (view body.now) ≤ max_depth }
     ensures { Returns (λ _. tt) result (all_fit (view body.now)) }
 {
+    // One pass finds out whether there is any fault; only then each kind is looked for, in its order.
     if is_plain(0, 0, body) {
         return Ok(());
     }
     find_fault(alloc, body)
 }
 
+/// Looks for each kind of fault in its order: NotWhole, NestedClass, TooDeep.
 #[tactic(auto, unfolding(crate::specs::Reading::all_fit))]
 fn find_fault(alloc: Global, body: &Value) -> Result<(), ReadFault>
     requires { spec.depth (view body.now) ≤ max_depth }
@@ -159,7 +167,7 @@ fn find_fault(alloc: Global, body: &Value) -> Result<(), ReadFault>
     Ok(())
 }
 
-/// The members of the root, null standing in place of the Incidents, and the array of these.
+/// Returns the members of the root, with null in place of the Incidents, and the Incidents.
 fn take_incidents(
     alloc: Global,
     body: Value,
@@ -180,6 +188,7 @@ fn take_incidents(
     }
 }
 
+/// Returns the elements of a value that is an array.
 fn array_in(value: Value) -> Option<Vec<Value>>
     ensures { option_map (λ v. items_view v.items) result ≡ as_array (view value) }
 {
@@ -191,6 +200,7 @@ fn array_in(value: Value) -> Option<Vec<Value>>
     }
 }
 
+/// Returns one document for each Incident.
 fn documents_from(
     alloc: Global,
     root: Map<String, Value>,
@@ -203,13 +213,14 @@ fn documents_from(
     let Some(last) = incidents.pop() else {
         return Ok(Vec::new(alloc));
     };
+    // The last document takes the root itself, so a body with one Incident copies nothing.
     let mut all = documents_beside(alloc, &root, incidents)?;
     let document = document_from(alloc, root, last)?;
     all.push(document)?;
     Ok(all)
 }
 
-/// Each with a copy of the root; one more fits in.
+/// Returns one document for each Incident, each with a copy of the root. The vector has room for one document more.
 fn documents_beside(
     alloc: Global,
     root: &Map<String, Value>,
@@ -227,6 +238,7 @@ fn documents_beside(
     Ok(all)
 }
 
+/// Returns the document of a root and an Incident. Fails with TooManyLines above the limit of lines.
 fn document_from(
     alloc: Global,
     root: Map<String, Value>,
@@ -243,7 +255,7 @@ fn document_from(
     Ok(Document::new(root))
 }
 
-/// The root's members with this one Incident.
+/// Returns the members of the root with this one Incident.
 #[tactic(auto, using(crate::proofs::Exchanged::put_in))]
 fn with_incident(
     alloc: Global,

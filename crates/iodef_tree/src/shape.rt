@@ -1,4 +1,4 @@
-//! Whether lines that come one at a time are an outline.
+//! Checks whether lines that come one at a time are an outline.
 
 ghost use Rattle.std.specs.Prelude.{◌≡◌, ◌≤◌, ◌<◌, ◌-◌, List, [], ◌∷◌, IfOk, IsTrue, Some};
 ghost use Rattle.std.specs.List.{slice_get};
@@ -14,14 +14,16 @@ use crate::{DEPTH_LIMIT, LINE_LIMIT};
 use json_pointer::Text;
 use std::alloc::{AllocError, Global};
 
-/// What of a line the next one of the same parent has to follow.
+/// The parts of a line that the next one with the same parent has to follow.
 #[derive(Drop)]
 pub struct Sibling {
+    /// The name of the line.
     pub name: Text,
+    /// Whether the line is an element of an array.
     pub in_array: bool,
 }
 
-/// What has to be known of the lines so far: the newest of each depth that is still open, how deep the next may be, and
+/// What is kept of the lines so far: the newest line of each depth that is still open, how deep the next may be, and
 /// how many count for the limit.
 #[derive(Drop)]
 pub struct Shape {
@@ -31,6 +33,7 @@ pub struct Shape {
     counted: usize,
 }
 
+/// Returns whether a line may follow this sibling.
 fn follows(last: &Sibling, line: &Line) -> bool
     ensures { result ≡ may_follow (Some last.now) (sibling line.now) }
 {
@@ -38,7 +41,7 @@ fn follows(last: &Sibling, line: &Line) -> bool
         || (last.name.as_str() == line.name.as_str() && (last.in_array && line.in_array))
 }
 
-/// Whether it may stand behind the last line of its parent, of the open ones.
+/// Returns whether a line may follow the newest line of its parent.
 fn follows_last(last: &[Sibling], line: &Line) -> bool
     requires { 0 < line.now.depth }
     ensures { result ≡ may_follow (slice_get last.now (line.now.depth - 1)) (sibling line.now) }
@@ -49,6 +52,7 @@ fn follows_last(last: &[Sibling], line: &Line) -> bool
     }
 }
 
+/// Returns whether a line is a class.
 fn is_class(line: &Line) -> bool
     ensures { result ≡ is_class_kind line.now.kind }
 {
@@ -58,6 +62,7 @@ fn is_class(line: &Line) -> bool
     }
 }
 
+/// Returns whether a line is within the limit of depth.
 fn is_within_depth(line: &Line) -> bool
     ensures { result ≡ is_within_depth line.now }
 {
@@ -68,7 +73,7 @@ fn is_within_depth(line: &Line) -> bool
     }
 }
 
-/// Whether it is a label, which doesn't count for the limit of lines.
+/// Returns whether a line is a label, which doesn't count for the limit of lines.
 fn is_label(line: &Line) -> bool
     ensures { result ≡ is_label_line line.now }
 {
@@ -76,6 +81,7 @@ fn is_label(line: &Line) -> bool
         && (line.name.as_str() == "restriction" || line.name.as_str() == "ext-restriction")
 }
 
+/// Returns whether the text of a line is one of its kind.
 fn may_be_text(alloc: Global, line: &Line) -> Result<bool, AllocError>
     ensures { IfOk result (λ b. b ≡ may_be_text line.now.kind line.now.in_array line.now.text) }
 {
@@ -86,7 +92,7 @@ fn may_be_text(alloc: Global, line: &Line) -> Result<bool, AllocError>
     }
 }
 
-/// How deep the line behind this one may be.
+/// Returns how deep the next line may be.
 fn next_depth(line: &Line) -> usize
     ensures { result ≡ deepest (line.now ∷ []) }
 {
@@ -101,7 +107,7 @@ impl Shape {
     ghost use Rattle.std.specs.Prelude.{◌∷◌, true, false};
     ghost use Rattle.iodef_tree.specs.Shown.{Shows, fits_edge, counted_with, if_short};
 
-    /// The checker of no lines.
+    /// Returns a checker that has seen no lines.
     pub fn new(alloc: Global) -> Shape
         ensures { Shows result [] }
     {
@@ -113,7 +119,7 @@ impl Shape {
         }
     }
 
-    /// How many lines count with this one, where they are few enough.
+    /// Returns how many lines count with this one, or `None` if they are above the limit.
     fn counted_with(&self, line: &Line) -> Option<usize>
         ensures { result ≡ if_short (counted_with line.now self.now.counted) }
     {
@@ -129,6 +135,7 @@ impl Shape {
         None
     }
 
+    /// Returns whether a line may come, apart from the limit of lines.
     fn fits(&self, line: &Line) -> Result<bool, AllocError>
         ensures { IfOk result (λ fits. fits ≡
             fits_edge self.now.last.items self.now.deepest line.now) }
@@ -148,8 +155,10 @@ impl Shape {
         may_be_text(self.alloc, line)
     }
 
-    /// Whether the line may come behind those before it; then it is the newest of them. Where it may not come, the lines
-    /// are those before it. After an error there is nothing to be known of the lines.
+    /// Returns whether the line may come behind those before it. If it may, it is the newest of them; if not, the
+    /// checker is as it was.
+    ///
+    /// Fails if memory runs out; then nothing is promised of the checker.
     pub fn accept(&mut self, line: &Line) -> Result<bool, AllocError>
         ensures exact { IfOk result (λ fits. (before : List Line) → Shows self.old before
             → fits ≡ may_come before line.now) }

@@ -9,8 +9,10 @@ ghost use Rattle.iodef_tree.specs.inner.Written.{needs_escape};
 use serde_json::Value;
 use std::alloc::{AllocError, Global};
 
-/// Writes the text behind `out` as a JSON string: in quotes, and escaped as `serde_json` does (RFC 8259 section 7). Takes
-/// memory of its own only where something is escaped. Without memory a part of it may stand there.
+/// Appends a text as a JSON string: in quotes, and escaped as `serde_json` escapes (RFC 8259 section 7). Allocates a
+/// text of its own only if a byte has to be escaped.
+///
+/// Fails if memory runs out; then a part of the string may have been appended.
 pub fn push_quoted(alloc: Global, out: &mut String, text: &str) -> Result<(), AllocError>
     ensures ok { OnOk result (string_bytes out.new ≡ string_bytes out.old ++ quoted text.now) }
     ensures err { OnErr result (BeginsWith (string_bytes out.new) (string_bytes out.old)) }
@@ -26,7 +28,7 @@ pub fn push_quoted(alloc: Global, out: &mut String, text: &str) -> Result<(), Al
     Ok(())
 }
 
-/// Whether a byte of the text is escaped in JSON (RFC 8259 section 7).
+/// Returns whether JSON escapes a byte of the text (RFC 8259 section 7).
 fn is_escaped(text: &str) -> bool
     ensures { result ≡ list_any needs_escape text.now }
 {

@@ -13,7 +13,7 @@ use json_pointer::Text;
 use serde_json::{Map, Value};
 use std::alloc::{AllocError, Global};
 
-/// What is looked for.
+/// The kinds of values that are sought.
 #[derive(Clone, Copy)]
 pub(crate) enum Sought {
     NotWhole,
@@ -22,7 +22,8 @@ pub(crate) enum Sought {
 }
 
 impl Sought {
-    /// Whether it is this value, inside so many objects, and so many arrays of the nearest.
+    /// Returns whether a value is of this kind, given how many objects are around it and how many arrays in the
+    /// nearest.
     fn is(self, objects: u32, arrays: u32, value: &Value) -> bool
         ensures { result ≡ is_sought self (node objects arrays (view value.now)).seen }
     {
@@ -34,7 +35,7 @@ impl Sought {
     }
 }
 
-/// Whether the value is any that is looked for, inside so many objects, and so many arrays of the nearest.
+/// Returns whether a value is of any kind that is sought.
 fn is_refused(objects: u32, arrays: u32, value: &Value) -> bool
     ensures { result ≡ is_refused (node objects arrays (view value.now)).seen }
 {
@@ -43,7 +44,7 @@ fn is_refused(objects: u32, arrays: u32, value: &Value) -> bool
             || Sought::TooDeep.is(objects, arrays, value))
 }
 
-/// Whether nothing that is looked for is at the value or inside it; takes no memory.
+/// Returns whether neither the value nor any value inside it is of a kind that is sought. Allocates nothing.
 #[cycle(plain)]
 pub(crate) fn is_plain(objects: u32, arrays: u32, value: &Value) -> bool
     requires { (objects + arrays) + spec.depth (view value.now) < 2 ^ 32 }
@@ -59,6 +60,7 @@ pub(crate) fn is_plain(objects: u32, arrays: u32, value: &Value) -> bool
     }
 }
 
+/// The same for the elements of an array.
 #[cycle(plain)]
 fn are_items_plain(objects: u32, arrays: u32, items: &Vec<Value>) -> bool
     requires { (objects + arrays) + items_depth (items_view items.now.items) < 2 ^ 32 }
@@ -73,6 +75,7 @@ fn are_items_plain(objects: u32, arrays: u32, items: &Vec<Value>) -> bool
     true
 }
 
+/// The same for the members of an object.
 #[cycle(plain)]
 fn are_members_plain(objects: u32, members: &Map<String, Value>) -> bool
     requires { objects + members_depth (members_view members.now.entries) < 2 ^ 32 }
@@ -87,7 +90,7 @@ fn are_members_plain(objects: u32, members: &Map<String, Value>) -> bool
     true
 }
 
-/// The pointer of the first that is looked for, at the value or inside it; takes memory only where there is one.
+/// Returns the pointer of the first value of this kind, at or inside this value. Allocates only if there is one.
 #[cycle(seek)]
 pub(crate) fn first_in(
     alloc: Global,
@@ -110,6 +113,7 @@ pub(crate) fn first_in(
     }
 }
 
+/// The same for the elements of an array.
 #[cycle(seek)]
 fn first_in_items(
     alloc: Global,
@@ -130,6 +134,7 @@ fn first_in_items(
     Ok(None)
 }
 
+/// The same for the members of an object.
 #[cycle(seek)]
 fn first_in_members(
     alloc: Global,
@@ -149,7 +154,7 @@ fn first_in_members(
     Ok(None)
 }
 
-/// The pointer from the array above.
+/// Returns the pointer with the place of an element in front.
 fn below_index(
     alloc: Global,
     index: usize,
@@ -162,7 +167,7 @@ fn below_index(
     Ok(Some(pointer))
 }
 
-/// The pointer from the object above.
+/// Returns the pointer with the name of a member in front.
 fn below_name(name: &String, mut pointer: Vec<Text>) -> Result<Option<Vec<Text>>, AllocError>
     ensures { IfOk result (λ o.
         option_map (λ p. p.items) o ≡ Some (string_bytes name.now ∷ pointer.items)) }

@@ -20,7 +20,7 @@ use json_pointer::Text;
 use serde_json::{Map, Value};
 use std::alloc::{AllocError, Global};
 
-/// The members of an object.
+/// Returns the members of an object as JSON.
 #[cycle(value)]
 pub(crate) fn object_value(alloc: Global, object: &Object) -> Result<Map<String, Value>, AllocError>
     requires ordered { IsOrdered (forest object.now) }
@@ -34,6 +34,7 @@ pub(crate) fn object_value(alloc: Global, object: &Object) -> Result<Map<String,
     Ok(made)
 }
 
+/// Returns the value of a member.
 #[cycle(value)]
 fn member_value(alloc: Global, member: &Member) -> Result<Value, AllocError>
     requires ordered { AreBodiesOrdered (bodies member.now) }
@@ -46,6 +47,7 @@ fn member_value(alloc: Global, member: &Member) -> Result<Value, AllocError>
     }
 }
 
+/// Returns the elements of an array.
 #[cycle(value)]
 fn items_value(alloc: Global, items: &Vec<Item>) -> Result<Vec<Value>, AllocError>
     requires ordered { AllByRecursion IsBodyOrdered (map body items.now.items) }
@@ -59,6 +61,7 @@ fn items_value(alloc: Global, items: &Vec<Item>) -> Result<Vec<Value>, AllocErro
     Ok(made)
 }
 
+/// Returns the value of an item.
 #[cycle(value)]
 fn item_value(alloc: Global, item: &Item) -> Result<Value, AllocError>
     requires ordered { IsBodyOrdered (body item.now) }
@@ -72,7 +75,7 @@ fn item_value(alloc: Global, item: &Item) -> Result<Value, AllocError>
     }
 }
 
-/// A member more, under a copy of its name.
+/// Puts a member under a copy of its name.
 fn put_member(
     alloc: Global,
     made: &mut Map<String, Value>,
@@ -87,13 +90,14 @@ fn put_member(
     Ok(())
 }
 
+/// Returns a string with a copy of the text.
 fn text_value(alloc: Global, text: &Text) -> Result<Value, AllocError>
     ensures { IfOk result (λ v. view v ≡ string text.now) }
 {
     Ok(Value::String(String::from_str(alloc, text.as_str())?))
 }
 
-/// The value that the text is.
+/// Returns the value whose JSON the text is, or null if it is none.
 fn read_value(alloc: Global, text: &Text) -> Result<Value, AllocError>
     ensures { IfOk result (λ v. view v ≡ unwrap_or (read_text text.now) null) }
 {
@@ -108,7 +112,7 @@ fn read_value(alloc: Global, text: &Text) -> Result<Value, AllocError>
     }
 }
 
-/// The member as compact JSON.
+/// Returns the value of a member as compact JSON.
 #[tactic(auto, using(crate::proofs::Steps::member_text_steps))]
 pub(crate) fn member_text(alloc: Global, member: &Member) -> Result<String, AllocError>
     requires kept { AreKept (bodies member.now) }
@@ -118,7 +122,7 @@ pub(crate) fn member_text(alloc: Global, member: &Member) -> Result<String, Allo
     member_value(alloc, member)?.to_string(alloc)
 }
 
-/// The member of this name.
+/// Returns the member of this name.
 fn member_named<'a>(object: &'a Object, name: &str) -> Option<&'a Member>
     requires kept { IsKept (forest object.now) }
     requires filled { IsFilled object.now }
@@ -135,7 +139,7 @@ fn member_named<'a>(object: &'a Object, name: &str) -> Option<&'a Member>
     None
 }
 
-/// The object that the item is.
+/// Returns the object that the item is, if it is one.
 fn object_of(item: &Item) -> Option<&Object>
     requires { IsItemFilled item.now }
     ensures found { option_map (λ o. forest o.now) result ≡ kids_of (body item.now) }
@@ -147,7 +151,7 @@ fn object_of(item: &Item) -> Option<&Object>
     }
 }
 
-/// The object that the member is.
+/// Returns the object that the member is, if it is one.
 fn object_in(member: &Member) -> Option<&Object>
     requires kept { AreKept (bodies member.now) }
     requires filled { IsMemberFilled member.now }
@@ -162,7 +166,7 @@ fn object_in(member: &Member) -> Option<&Object>
     }
 }
 
-/// The object at `0` in the member.
+/// Returns the object at `0` in the member, which is an array or an object.
 fn zeroth(member: &Member) -> Option<&Object>
     requires kept { AreKept (bodies member.now) }
     requires filled { IsMemberFilled member.now }
@@ -177,7 +181,7 @@ fn zeroth(member: &Member) -> Option<&Object>
     }
 }
 
-/// The member `IncidentID` of what stands at `/Incident/0`.
+/// Returns the member `IncidentID` of the value at `/Incident/0`.
 #[tactic(auto, using(crate::proofs::Steps::id_in_steps))]
 pub(crate) fn id_in(root: &Object) -> Option<&Member>
     requires kept { IsKept (forest root.now) }

@@ -1,4 +1,4 @@
-//! The texts that stand for a JSON value.
+//! The texts of JSON values that a line may hold.
 
 ghost use Rattle.std.specs.Prelude.{◌≡◌, ◌&&◌, IfOk};
 ghost use Rattle.std.specs.Str.{bytes_eq};
@@ -10,7 +10,7 @@ use crate::DEPTH_LIMIT;
 use serde_json::Value;
 use std::alloc::{AllocError, Global};
 
-/// Whether the text is the compact JSON of a value that a line may stand for.
+/// Returns whether the text is the compact JSON of a value that a line may hold.
 pub(crate) fn is_value_text(alloc: Global, in_array: bool, text: &str) -> Result<bool, AllocError>
     ensures { IfOk result (λ b. b ≡ is_value_text in_array text.now) }
 {
@@ -25,6 +25,7 @@ pub(crate) fn is_value_text(alloc: Global, in_array: bool, text: &str) -> Result
     }
 }
 
+/// Returns whether the text is the compact JSON of this value, and a line may hold the value.
 #[tactic(auto, using(crate::proofs::Steps::is_text_of_steps))]
 fn is_text_of(alloc: Global, in_array: bool, value: &Value, text: &str) -> Result<bool, AllocError>
     ensures { IfOk result (λ b. b ≡ (may_be_value in_array (view value.now)
@@ -37,6 +38,7 @@ fn is_text_of(alloc: Global, in_array: bool, value: &Value, text: &str) -> Resul
     Ok(written.as_str() == text)
 }
 
+/// Returns whether a line may hold this value.
 fn may_be_value(in_array: bool, value: &Value) -> bool
     ensures { result ≡ may_be_value in_array (view value.now) }
 {
@@ -48,6 +50,7 @@ fn may_be_value(in_array: bool, value: &Value) -> bool
     }
 }
 
+/// Returns whether an array has no element.
 fn is_empty(items: &Vec<Value>) -> bool
     ensures { result ≡ is_empty (items_view items.now.items) }
 {
@@ -57,7 +60,7 @@ fn is_empty(items: &Vec<Value>) -> bool
     }
 }
 
-/// Whether the value holds no object and no float, and no more than so many arrays one inside the other.
+/// Returns whether the value has no object, no float, and no more than so many arrays one inside the other.
 #[cycle(plain)]
 fn is_plain(deep: u32, value: &Value) -> bool
     ensures { result ≡ is_plain deep (view value.now) }
@@ -70,6 +73,7 @@ fn is_plain(deep: u32, value: &Value) -> bool
     }
 }
 
+/// The same for the elements of an array.
 #[cycle(plain)]
 fn are_plain(deep: u32, items: &Vec<Value>) -> bool
     ensures { result ≡ are_plain deep (items_view items.now.items) }

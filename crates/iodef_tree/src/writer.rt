@@ -13,7 +13,7 @@ use crate::string::push_quoted;
 use json_pointer::Text;
 use std::alloc::{AllocError, Global};
 
-/// The object as compact JSON.
+/// Returns the object as compact JSON.
 pub(crate) fn object_text(alloc: Global, object: &Object) -> Result<String, AllocError>
     requires { IsFilled object.now }
     ensures { IfOk result (λ s.
@@ -24,6 +24,7 @@ pub(crate) fn object_text(alloc: Global, object: &Object) -> Result<String, Allo
     Ok(out)
 }
 
+/// Appends the object.
 #[cycle(write)]
 fn write_object(alloc: Global, out: &mut String, object: &Object) -> Result<(), AllocError>
     requires { IsFilled object.now }
@@ -39,6 +40,7 @@ fn write_object(alloc: Global, out: &mut String, object: &Object) -> Result<(), 
     out.push('}')
 }
 
+/// Appends a member, after a comma if it isn't the first.
 #[cycle(write)]
 fn write_member(
     alloc: Global,
@@ -55,7 +57,7 @@ fn write_member(
     write_bodies(alloc, out, member)
 }
 
-/// Writes what stands in front of the value of a member.
+/// Appends what comes before the value of a member: a comma if the member isn't the first, the name and a colon.
 fn write_front(alloc: Global, out: &mut String, later: bool, name: &Text) -> Result<(), AllocError>
     ensures { OnOk result (string_bytes out.new ≡
         string_bytes out.old ++ (comma_if later ++ (quoted name.now ++ 58 ∷ []))) }
@@ -65,7 +67,7 @@ fn write_front(alloc: Global, out: &mut String, later: bool, name: &Text) -> Res
     out.push(':')
 }
 
-/// Writes a comma where something stands before.
+/// Appends a comma if something comes before.
 fn write_comma(out: &mut String, later: bool) -> Result<(), AllocError>
     ensures { OnOk result (string_bytes out.new ≡ string_bytes out.old ++ comma_if later) }
 {
@@ -75,6 +77,7 @@ fn write_comma(out: &mut String, later: bool) -> Result<(), AllocError>
     Ok(())
 }
 
+/// Appends the value of a member.
 #[cycle(write)]
 fn write_bodies(alloc: Global, out: &mut String, member: &Member) -> Result<(), AllocError>
     requires { IsMemberFilled member.now }
@@ -87,7 +90,7 @@ fn write_bodies(alloc: Global, out: &mut String, member: &Member) -> Result<(), 
     }
 }
 
-/// Writes the items as an array.
+/// Appends the items as an array.
 #[cycle(write)]
 fn write_items(alloc: Global, out: &mut String, items: &Vec<Item>) -> Result<(), AllocError>
     requires { AllByRecursion IsItemFilled items.now.items }
@@ -104,7 +107,7 @@ fn write_items(alloc: Global, out: &mut String, items: &Vec<Item>) -> Result<(),
     out.push(']')
 }
 
-/// Writes the item, a value as the text that it is.
+/// Appends the item. A value is appended as its text.
 #[cycle(write)]
 fn write_item(alloc: Global, out: &mut String, item: &Item) -> Result<(), AllocError>
     requires { IsItemFilled item.now }

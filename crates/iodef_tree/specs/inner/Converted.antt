@@ -1,5 +1,5 @@
--- What is made of what serde_json read, for clauses that no caller outside the crate meets: its tree, which is ordered,
--- has the texts that lines may have, and holds no empty array.
+-- What the conversion of a JSON value keeps, for clauses that no caller outside the crate reads: the tree is ordered,
+-- has the texts that lines may have, and has no empty array.
 use Rattle.std.specs.Prelude.{◌≡◌, List, map, true}
 use Rattle.std.specs.List.{AllByRecursion}
 use Rattle.serde_json.specs.Data as json
@@ -14,28 +14,28 @@ use Rattle.iodef_tree.specs.declared.object.Object.{Object}
 use Rattle.iodef_tree.specs.declared.object.Member.{Member}
 use Rattle.iodef_tree.specs.declared.object.Item.{Item}
 
--- of the members of an object
+-- the object is the members of this JSON object
 pub record IsObjectOf (ms : json.Members) (o : Object) : Type 0 where
   pub made : forest o ≡ forest_of_data ms
   pub ordered : IsOrdered (forest o)
   pub texts : HasTexts (forest o)
   pub filled : IsFilled o
 
--- of a value, as what a member holds
+-- the member holds this value
 pub record IsMemberOf (d : Data) (m : Member) : Type 0 where
   pub made : bodies m ≡ bodies_of_data d
   pub ordered : AreBodiesOrdered (bodies m)
   pub texts : HaveTexts (bodies m)
   pub filled : IsMemberFilled m
 
--- of a value, as an element of an array
+-- the item is this value, as an element of an array
 pub record IsItemOf (d : Data) (i : Item) : Type 0 where
   pub made : body i ≡ body_of_data d
   pub ordered : IsBodyOrdered (body i)
   pub texts : HasBodyTexts true (body i)
   pub filled : IsItemFilled i
 
--- of the elements of an array
+-- the items are the elements of this array
 pub record AreItemsOf (ds : json.Items) (is : List Item) : Type 0 where
   pub made : map body is ≡ items_of_data ds
   pub ordered : AllByRecursion IsBodyOrdered (map body is)

@@ -1,4 +1,4 @@
--- A tree as JSON text, as it is written down the tree.
+-- A tree as JSON text, as the program writes it down the tree.
 use Rattle.std.specs.Prelude.{ℕ, zero, suc, List, [], ◌∷◌, ◌++◌, map, Bool, true, false, if◌then◌else◌, ◌||◌, ◌==◌, nat_lt, Option, Some, None, unwrap_or}
 use Rattle.json.specs.Print.{quoted}
 use Rattle.serde_json.specs.Data as json
@@ -11,36 +11,41 @@ use Rattle.iodef_tree.specs.Tree.{Content, text, value, Forest, end, leaf, branc
 
 -- ---- as text
 
--- whether a string holds the byte by an escape: the quotation mark, the backslash and the control characters (RFC 8259 section 7)
+-- whether a JSON string escapes the byte: the quotation mark, the backslash and the control characters (RFC 8259
+-- section 7)
 abbrev pub needs_escape : ℕ → Bool
 needs_escape x = (x == 34) || ((x == 92) || nat_lt x 32)
 
+-- a plain content as JSON: a text in quotes, a value as its text
 abbrev pub content_text : Content → Bytes
 content_text (text s) = quoted s
 content_text (value s) = s
 
--- in front of what stands at a place: the name, and the bracket of an array
+-- what is written before a value: a comma if there is a member before, the name, and the bracket of an array; before a
+-- later element a comma
 abbrev pub front_text : Bool → Bytes → Option ℕ → Bytes
 front_text later name None = comma_if later ++ (quoted name ++ 58 ∷ [])
 front_text later name (Some zero) = comma_if later ++ (quoted name ++ 58 ∷ 91 ∷ [])
 front_text later name (Some (suc k)) = 44 ∷ []
 
+-- whether a line is an element behind the first of its array
 abbrev pub is_later_place : Option ℕ → Bool
 is_later_place None = false
 is_later_place (Some zero) = false
 is_later_place (Some (suc k)) = true
 
--- whether an array goes on here
+-- whether the array of the line before goes on at the beginning of this tree
 abbrev pub goes_on : Forest → Bool
 goes_on end = false
 goes_on (leaf i rest) = is_later_place i.place
 goes_on (branch name place kids rest) = is_later_place place
 
--- behind an element, the bracket where it is the last
+-- what is written behind an element: the closing bracket if it is the last
 abbrev pub close_text : Option ℕ → Forest → Bytes
 close_text None rest = []
 close_text (Some k) rest = if goes_on rest then [] else 93 ∷ []
 
+-- the members of a tree as JSON, without the braces
 abbrev pub written : Bool → Forest → Bytes
 written later end = []
 written later (leaf i rest) = front_text later i.name i.place ++ (content_text i.content ++ (close_text i.place rest ++ written true rest))
@@ -49,33 +54,39 @@ written later (branch name place kids rest) =
 
 -- ---- the same, member by member
 
+-- one thing as JSON
 abbrev pub body_text : Body → Bytes
 body_text (holds f) = 123 ∷ (written false f ++ 125 ∷ [])
 body_text (says c) = content_text c
 
+-- the elements of an array as JSON, with the closing bracket
 abbrev pub array_text : Bool → List Body → Bytes
 array_text later [] = 93 ∷ []
 array_text later (b ∷ bs) = comma_if later ++ (body_text b ++ array_text true bs)
 
+-- the value of a member as JSON
 abbrev pub bodies_text : Bodies → Bytes
 bodies_text (one b) = body_text b
 bodies_text (many bs) = 91 ∷ array_text false bs
 
+-- a member as JSON, after a comma if there is a member before
 abbrev pub member_text : Bool → Bytes → Bodies → Bytes
 member_text later name m = comma_if later ++ (quoted name ++ 58 ∷ bodies_text m)
 
 -- ---- as data
 
+-- the JSON value of a plain content; a text of a value that can't be read counts as null
 abbrev pub content_data : Content → Data
 content_data (text s) = json.string s
 content_data (value s) = unwrap_or (read s) json.null
 
--- the first element of an array begins a member, and the later ones belong to it
+-- a member in front of others: the first element of an array begins the member, and the later ones belong to it
 abbrev pub placed_member : Bytes → Option ℕ → Data → json.Items → json.Members → json.Members
 placed_member name None d ds ms = json.member name d ms
 placed_member name (Some zero) d ds ms = json.member name (json.array (json.item d ds)) ms
 placed_member name (Some (suc k)) d ds ms = ms
 
+-- an element in front of others: only later elements continue an array
 abbrev pub placed_item : Option ℕ → Data → json.Items → json.Items
 placed_item None d ds = json.no_items
 placed_item (Some zero) d ds = json.no_items
@@ -95,15 +106,17 @@ abbrev mutual
 
 -- ---- the same, member by member
 
+-- the JSON value of one thing
 abbrev pub body_data : Body → Data
 body_data (holds f) = json.object (members_of f)
 body_data (says c) = content_data c
 
+-- the JSON value of a member
 abbrev pub bodies_data : Bodies → Data
 bodies_data (one b) = body_data b
 bodies_data (many bs) = json.array (listed (map body_data bs))
 
--- members that are put in one after another
+-- the members with others put in, one after another
 abbrev pub put_all : json.Members → json.Members → json.Members
 put_all json.no_members found = found
 put_all (json.member name d ms) found = put_all ms (json.put name d found)

@@ -6,7 +6,7 @@ use Rattle.json_pointer.specs.Text.{Bytes}
 use Rattle.iodef_tree.proofs.Order.{bytes_eq-refl}
 use Rattle.iodef_tree.proofs.lookup.place_of_token.Goals as goal
 
--- the digits of a number are read as it
+-- the decimal digits of a number are read as that number
 read : {E : Type 0} (token : Bytes) (r : Result ℕ E) (o : Option ℕ) → ParsesUnsigned 64 10 token r → o ≡ result_ok r → (k : ℕ) → k < 2 ^ 64 → token ≡ decimal k → o ≡ Some k
 read token r o parses is k small spelled = is ∙ ap result_ok (parse-decimal 64 k token r small small spelled parses)
 

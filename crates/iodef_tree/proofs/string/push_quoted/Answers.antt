@@ -7,7 +7,7 @@ use Rattle.json.proofs.Printed.Strings.{escape_byte_plain}
 use Rattle.iodef_tree.specs.inner.Written.{needs_escape}
 use Rattle.iodef_tree.proofs.string.push_quoted.Goals as goal
 
--- a text that needs no escape
+-- a text without a byte that needs an escape is its own escape
 escape-plain : (s : Bytes) → list_any needs_escape s ≡ false → escape s ≡ s
 escape-plain [] h = refl
 escape-plain (x ∷ xs) h =
@@ -19,7 +19,7 @@ escape-plain (x ∷ xs) h =
 quoted-plain : (s : Bytes) → list_any needs_escape s ≡ false → quoted s ≡ 34 ∷ (s ++ 34 ∷ [])
 quoted-plain s h = ap (λ t. 34 ∷ (t ++ 34 ∷ [])) (escape-plain s h)
 
--- behind other bytes, put there one after another
+-- a quoted text behind other bytes, put there piece by piece
 quoted-behind : (out s : Bytes) → list_any needs_escape s ≡ false → ((out ++ 34 ∷ []) ++ s) ++ 34 ∷ [] ≡ out ++ quoted s
 quoted-behind out s h =
     append_assoc (out ++ 34 ∷ []) s (34 ∷ [])
