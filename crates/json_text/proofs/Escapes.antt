@@ -1,4 +1,4 @@
--- What a JSON string has for a byte.
+-- How a JSON string holds a byte.
 use Rattle.std.proofs.Common.{◌≡◌, ℕ, ◌+◌, ◌/◌, ◌%◌, ◌<◌, ◌≤◌, List, [], ◌∷◌, ◌++◌, IsTrue, not, ◌||◌, nat_lt, nat_eq, take, drop, refl, sym, ap, ◌∙◌, subst, append_assoc, take-append-drop, arith}
 use Rattle.std.proofs.lemmas.Bool.Decides.{nat_tests}
 use Rattle.std.proofs.lemmas.Grind.{flat_map-append}
@@ -48,9 +48,9 @@ pub slash-token : escape (escaped_byte 47) ≡ 126 ∷ 49 ∷ []
 unfolding escape_byte
 slash-token = refl
 
--- ---- several
+-- ---- several bytes
 
--- what stands for itself at the front, and the rest
+-- bytes at the front that are held as they are, and the rest
 pub front-shown : (w : Within) (t xs front back all : List ℕ) (n : ℕ) → front ≡ take n xs → back ≡ drop n xs →
     shown_bytes w (take n xs) ≡ take n xs → t ++ shown_bytes w xs ≡ all → (t ++ front) ++ shown_bytes w back ≡ all
 front-shown w t xs front back all n p q plain e =

@@ -1,4 +1,4 @@
--- An array that is put element by element.
+-- An array that is put one element after another.
 use Rattle.std.proofs.Common.{◌≡◌, ℕ, ◌+◌, ◌<◌, ◌≤◌, List, [], ◌∷◌, ◌++◌, map, Bool, true, false, cond, ◌&&◌, length, drop, get_or, sym, ap, ◌∙◌, append_assoc, drop_of_length-le, arith}
 use Rattle.std.proofs.lemmas.Grind.{common_steps}
 use Rattle.serde_json.specs.Data.{Data}
@@ -7,11 +7,11 @@ use Rattle.serde_json.specs.Written.{comma_if, compact_text, items_text}
 use Rattle.json_text.proofs.Texts.{separator-begins, separator-ends}
 
 module _ {X : Type 0} (datum : X → Data) where
-  -- the elements from one on, and the bracket
+  -- the elements that are left, and the closing bracket
   abbrev pub left_text : Bool → List X → List ℕ
   left_text later xs = items_text later (items_of (map datum xs))
 
-  -- the bracket that begins it
+  -- the opening bracket
   pub array-begins : (a after : Bool) (xs : List X) → after ≡ false →
       (cond {A = List ℕ} (a && true) (44 ∷ []) [] ++ 91 ∷ []) ++ left_text after xs ≡ comma_if a ++ 91 ∷ left_text false xs
   array-begins a after xs e =
@@ -29,13 +29,13 @@ module _ {X : Type 0} (datum : X → Data) where
   element-more done all a after xs i x h is ends e =
       ap (λ l. (done ++ (comma_if a ++ compact_text (datum x))) ++ left_text l (drop (i + 1) xs)) ends ∙ first-left done a xs i x h is ∙ e
 
-  -- the bracket that ends it
+  -- the closing bracket
   pub array-ends : (done all : List ℕ) (a : Bool) (xs : List X) (i : ℕ) → length xs ≤ i → done ++ left_text a (drop i xs) ≡ all →
       done ++ (cond {A = List ℕ} (a && false) (44 ∷ []) [] ++ 93 ∷ []) ≡ all
   array-ends done all a xs i end e =
       ap (λ l. done ++ (l ++ 93 ∷ [])) (separator-ends a) ∙ ap (λ l. done ++ left_text a l) (sym (drop_of_length-le xs end)) ∙ e
 
--- an array of two
+-- an array of two elements
 pub pair-is : (a b c d : Bool) (p q r : List ℕ) → b ≡ false → c ≡ true → q ≡ r →
     (((cond {A = List ℕ} (a && true) (44 ∷ []) [] ++ 91 ∷ []) ++ (comma_if b ++ p)) ++ (cond {A = List ℕ} (c && true) (44 ∷ []) [] ++ q)) ++ (cond {A = List ℕ} (d && false) (44 ∷ []) [] ++ 93 ∷ [])
     ≡ comma_if a ++ 91 ∷ (p ++ 44 ∷ (r ++ 93 ∷ []))

@@ -1,4 +1,4 @@
--- An object that is put member by member.
+-- An object that is put one member after another.
 use Rattle.std.proofs.Common.{◌≡◌, ℕ, List, [], ◌∷◌, ◌++◌, Bool, true, false, cond, ◌&&◌, Result, OnOk, refl, sym, ap, ◌∙◌, subst, append_assoc, append-nil}
 use Rattle.json.specs.Print.{quoted}
 use Rattle.serde_json.specs.Written.{comma_if}
@@ -6,11 +6,11 @@ use Rattle.json_text.specs.Members.{member_text}
 use Rattle.json_text.proofs.Puts.{both-are, ok-both-are}
 use Rattle.json_text.proofs.Texts.{separator-begins, separator-ends}
 
--- a member's name, and the text of its value
+-- a member's name, with the text of its value
 abbrev pub Named : Type 0
 Named = List ℕ × List ℕ
 
--- the members, and what stands behind them
+-- the members, with the rest behind them
 abbrev pub members_then : Bool → List Named → List ℕ → List ℕ
 members_then later [] rest = rest
 members_then later (m ∷ ms) rest = comma_if later ++ (quoted m.0 ++ 58 ∷ (m.1 ++ members_then true ms rest))
@@ -47,7 +47,7 @@ some-more [] m = refl
 some-more (n ∷ ms) m = refl
 
 module _ {S : Type 0} (puts : S → List ℕ → S → Type 0) (joins : (a b c : S) (x y : List ℕ) → puts a x b → puts b y c → puts a (x ++ y) c) where
-  -- behind the sink a, where a value ended last or not, the brace and these members are put
+  -- The opening brace and these members are put behind the sink `a`.
   pub record Holds (a : S) (first : Bool) (b : S) (after : Bool) (ms : List Named) : Type 0 where
     pub text : puts a ((comma_if first ++ 123 ∷ []) ++ members_then false ms []) b
     pub later : after ≡ is_some ms
@@ -83,7 +83,7 @@ module _ {S : Type 0} (puts : S → List ℕ → S → Type 0) (joins : (a b c :
       p q)
       e is
 
-  -- the brace that ends it
+  -- the closing brace
   pub ends : {E : Type 0} {a b : S} {first mid : Bool} {ms : List Named} (c : S) (r : Result (Unit {0}) E) → Holds a first b mid ms →
       OnOk r (puts b (cond {A = List ℕ} (mid && false) (44 ∷ []) [] ++ 125 ∷ []) c) → OnOk r (puts a (comma_if first ++ 123 ∷ members_then false ms (125 ∷ [])) c)
   ends {a = a} {b = b} {first = first} {mid = mid} {ms = ms} c r h p =

@@ -1,4 +1,4 @@
--- Texts that are put one behind the other, where the last of them may be refused.
+-- Texts that are put one behind the other; the last of them may be refused.
 use Rattle.std.proofs.Common.{◌≡◌, ℕ, List, ◌++◌, Result, Ok, Err, OnOk, subst}
 
 module _ {S : Type 0} (puts : S → List ℕ → S → Type 0) (joins : (a b c : S) (x y : List ℕ) → puts a x b → puts b y c → puts a (x ++ y) c) where

@@ -8,7 +8,7 @@ use Rattle.iodef_tree.specs.Pointer.{escaped_byte, escaped, pointer_text}
 use Rattle.json_text.specs.Shown.{shown_bytes}
 use Rattle.json_text.specs.declared.escape.Within.TheVariants.{Text, Token}
 
--- a comma before what begins a value or a member
+-- a comma before a token that begins a value or a member
 pub separator-begins : (a : Bool) → cond {A = List ℕ} (a && true) (44 ∷ []) [] ≡ comma_if a
 separator-begins true = refl
 separator-begins false = refl
@@ -26,14 +26,14 @@ quoted-is c t bytes e =
 pub name-is : (c q : List ℕ) → (c ++ q) ++ 58 ∷ [] ≡ c ++ (q ++ 58 ∷ [])
 name-is c q = append_assoc c q (58 ∷ [])
 
--- a name, and what is put behind it
+-- a name, and the text behind it
 pub named-is : (a after : Bool) (q t : List ℕ) → after ≡ false → (comma_if a ++ (q ++ 58 ∷ [])) ++ (comma_if after ++ t) ≡ comma_if a ++ (q ++ 58 ∷ t)
 named-is a after q t fresh =
     ap (λ l. (comma_if a ++ (q ++ 58 ∷ [])) ++ (comma_if l ++ t)) fresh
     ∙ append_assoc (comma_if a) (q ++ 58 ∷ []) t
     ∙ ap (λ l. comma_if a ++ l) (append_assoc q (58 ∷ []) t)
 
--- ---- a pointer in a string
+-- ---- a pointer as a string
 
 abbrev pub token_shown : List ℕ → List ℕ
 token_shown token = 47 ∷ shown_bytes Token token
@@ -53,7 +53,7 @@ pointer-shown (t ∷ ts) =
     ∙ ap (λ l. l ++ escape (pointer_text ts)) (slash-stays (escaped t) ∙ ap (λ l. 47 ∷ l) (escaped-token t))
     ∙ ap (λ l. token_shown t ++ l) (pointer-shown ts)
 
--- one more token
+-- one token more
 pub token-more : (done c : List ℕ) (ts : List (List ℕ)) (i : ℕ) (t bytes : List ℕ) → i < length ts → t ≡ get_or ts i t → bytes ≡ t →
     done ++ flat_map token_shown (drop i ts) ≡ c → ((done ++ 47 ∷ []) ++ shown_bytes Token bytes) ++ flat_map token_shown (drop (i + 1) ts) ≡ c
 token-more done c ts i t bytes h is e before = grind (arith, common_steps, append_assoc)

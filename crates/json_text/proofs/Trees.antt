@@ -13,7 +13,7 @@ use Rattle.iodef_tree.proofs.Filled.{has_elements}
 use Rattle.iodef_tree.proofs.Writing.{write-member}
 use Rattle.json_text.proofs.Texts.{separator-begins, separator-ends}
 
--- a member: its name, and what it holds
+-- a member: its name and its value
 pub member-is : (a after : Bool) (s n t : List ℕ) (held : Bodies) → s ≡ n → after ≡ false → t ≡ bodies_text held →
     (cond {A = List ℕ} (a && true) (44 ∷ []) [] ++ (quoted s ++ 58 ∷ [])) ++ (comma_if after ++ t) ≡ member_text a n held
 member-is a after s n t held e fresh is =

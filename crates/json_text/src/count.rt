@@ -3,9 +3,10 @@ ghost use Rattle.std.specs.Prelude.{◌≡◌, ◌+◌, length};
 
 use crate::sink::{Refused, Sink};
 
-/// A sink that counts what is put into it and keeps nothing. It refuses what it can't count.
+/// A sink that counts the bytes that it is given and keeps none. It refuses bytes that it can't count.
 #[derive(Clone, Copy, Debug, Drop)]
 pub(crate) struct Count {
+    /// How many bytes it was given.
     pub(crate) bytes: usize,
 }
 

@@ -6,16 +6,16 @@ ghost use Rattle.json_text.specs.Shown.{shown_byte, shown_bytes};
 
 use crate::sink::{Refused, Sink};
 
-/// Of what a text is a part.
+/// The text that a byte belongs to.
 #[derive(Clone, Copy, PartialEq, Eq, Drop)]
 pub enum Within {
-    /// Of the text of a string.
+    /// The text of a string.
     Text,
-    /// Of a reference token (RFC 6901 section 3) of a pointer that is the text of a string.
+    /// A reference token (RFC 6901 section 3) of a pointer that is the text of a string.
     Token,
 }
 
-/// The letter of a byte's short escape, or 0 where it has none.
+/// Returns the letter of a byte's short escape, or 0 if it has none.
 fn letter_of(byte: u8) -> u8
     ensures { result ≡ escape_letter byte }
 {
@@ -30,7 +30,7 @@ fn letter_of(byte: u8) -> u8
     }
 }
 
-/// Whether the byte stands for itself.
+/// Returns whether a string holds the byte as it is. May return false for such a byte too.
 fn is_plain(within: Within, byte: u8) -> bool
     ensures { IsTrue result → shown_byte within byte ≡ byte ∷ [] }
 {
@@ -41,7 +41,7 @@ fn is_plain(within: Within, byte: u8) -> bool
     }
 }
 
-/// How many bytes at the front stand for themselves.
+/// Returns how many bytes at the front a string holds as they are.
 fn plain_len(within: Within, bytes: &[u8]) -> usize
     ensures bound { result ≤ length bytes.now }
     ensures plain { shown_bytes within (take result bytes.now) ≡ take result bytes.now }
@@ -54,7 +54,7 @@ fn plain_len(within: Within, bytes: &[u8]) -> usize
     bytes.len()
 }
 
-/// The hexadecimal digit for a number below 16.
+/// Returns the hexadecimal digit of a number below 16.
 fn digit(number: u8) -> u8
     requires { number < 16 }
     ensures { result ≡ digit_char number }
@@ -66,7 +66,7 @@ fn digit(number: u8) -> u8
     }
 }
 
-/// Puts what a string has for the byte.
+/// Puts the byte as a string holds it.
 fn put_escape<S: Sink>(sink: &mut S, byte: u8) -> Result<(), Refused>
     ensures { OnOk result (S.puts sink.old (escape_byte byte) sink.new) }
 {
@@ -81,6 +81,7 @@ fn put_escape<S: Sink>(sink: &mut S, byte: u8) -> Result<(), Refused>
     sink.put(&[byte])
 }
 
+/// Puts the byte as a string holds it: in a reference token, `~` and `/` are escaped first.
 fn put_shown<S: Sink>(sink: &mut S, within: Within, byte: u8) -> Result<(), Refused>
     ensures { OnOk result (S.puts sink.old (shown_byte within byte) sink.new) }
 {
@@ -91,7 +92,7 @@ fn put_shown<S: Sink>(sink: &mut S, within: Within, byte: u8) -> Result<(), Refu
     }
 }
 
-/// Puts what a string has for the bytes. What stands for itself is put at once.
+/// Puts the bytes as a string holds them. Bytes that need no escape are put together.
 pub(crate) fn put_escaped<S: Sink>(
     sink: &mut S,
     within: Within,

@@ -1,15 +1,16 @@
-//! JSON texts (RFC 8259), put into a sink token by token; nothing here takes memory of its own.
+//! JSON texts (RFC 8259), put into a sink token by token. Nothing here allocates memory of its own.
 //!
-//! To read first, in `specs/`: `Sinks`, what a sink was given; `Shown`, the bytes of a JSON string and of a JSON pointer in
-//! one; the contracts of [`Tokens`].
+//! Read first, in `specs/`: `Sinks`, the bytes that a sink was given; `Shown`, the bytes of a JSON string, and of a
+//! JSON pointer in one; the contracts of [`Tokens`].
 //!
-//! The rooms, bottom up:
+//! The modules, from the bottom up:
 //!
-//! - `sink`: [`Sink`], where bytes are put: a `Vec`; `count`: one that counts them; `pieces`: one that writes them in pieces
-//!   from an array on the stack;
-//! - `source`: [`Source`], what gives bytes, how many they are, and how they are written;
+//! - `sink`: [`Sink`], which takes bytes: a `Vec`; `count`: one that counts them; `pieces`: one that writes them in
+//!   pieces from an array on the stack;
+//! - `source`: [`Source`], which gives bytes: how many they are, and how they are written;
 //! - `escape`: the texts of JSON strings;
-//! - `tokens`: [`Tokens`], the tokens of a JSON text with the commas and colons between them, and a JSON pointer as a string;
+//! - `tokens`: [`Tokens`], the tokens of a JSON text with the commas and colons between them, and a JSON pointer as a
+//!   string;
 //! - `tree`: the tree of a document.
 #![tactic(auto)]
 

@@ -1,4 +1,4 @@
-//! Bytes in pieces, from an array on the stack.
+//! Bytes that are written in pieces, from an array on the stack.
 ghost use Rattle.std.specs.Prelude.{◌≡◌, OnOk, []};
 ghost use Rattle.std.specs.Io.KnownBytes.{Appends};
 ghost use Rattle.json_text.specs.Sinks.{shown};
@@ -10,7 +10,7 @@ use std::io::Write;
 /// How many bytes a piece has at most.
 const PIECE: usize = 16_384;
 
-/// A sink that writes what is put into it to a writer, in pieces. What is put last waits in the piece.
+/// A sink that writes the bytes that it is given to a writer, in pieces. The newest bytes wait in the piece.
 #[derive(Drop)]
 pub(crate) struct Pieces<'w, W> {
     pub(crate) writer: &'w mut W,
@@ -18,7 +18,7 @@ pub(crate) struct Pieces<'w, W> {
 }
 
 impl<'w, W: Write> Pieces<'w, W> {
-    /// Over a writer, with nothing put yet.
+    /// Returns a sink that writes to this writer, with nothing put yet.
     pub(crate) fn new(writer: &'w mut W) -> Pieces<'w, W>
         ensures same_reference { result.writer.ghost_name ≡ writer.entry.ghost_name }
         ensures shown { shown (W.contents result.writer.now) result.piece.items ≡ W.contents writer.old }
@@ -29,7 +29,7 @@ impl<'w, W: Write> Pieces<'w, W> {
         }
     }
 
-    /// Writes the piece, and begins a new one.
+    /// Writes the piece and begins a new one.
     fn write_piece(&mut self) -> Result<(), Refused>
         ensures same_reference { OnOk result (self.new.writer.ghost_name ≡ self.old.writer.ghost_name) }
         ensures written { OnOk result (Appends (W.contents self.old.writer.now)
@@ -56,7 +56,8 @@ impl<'w, W: Write> Sink for Pieces<'w, W> {
 
     ghost joins = { λ a b c x y p q. takes-both _ _ _ _ _ _ x y p q };
 
-    /// A text that doesn't fit behind what waits goes to the writer by itself.
+    /// If a text doesn't fit behind the waiting bytes, these are written first. A text larger than a piece is written by
+    /// itself.
     fn put(&mut self, bytes: &[u8]) -> Result<(), Refused> {
         if self.piece.try_extend_from_slice(bytes).is_ok() {
             return Ok(());

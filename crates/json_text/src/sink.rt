@@ -1,27 +1,28 @@
-//! Where bytes are put.
+//! Sinks, which take bytes.
 ghost use Rattle.std.specs.Prelude.{◌≡◌, ◌++◌, [], ℕ, List, OnOk};
 
 use std::alloc::Allocator;
 use thiserror::Error;
 
-/// The sink takes no more: its memory doesn't suffice, or a write below it failed.
+/// The sink takes no more: memory ran out, or a write below it failed.
 #[derive(Clone, Copy, Debug, PartialEq, Eq, Drop, Error)]
 #[error("the sink takes no more")]
 pub struct Refused;
 
-/// Where bytes are put, one text behind the other.
+/// Takes bytes, one text behind the other.
 pub trait Sink {
-    /// Whether these bytes, put behind what the first sink was given, make the second one.
+    /// The second sink is the first one with these bytes put behind the others.
     ghost puts: { Self → List ℕ → Self → Type 0 };
 
-    /// Puts the bytes behind those that were put before. Refused where the sink takes no more; then some of them may be in it.
+    /// Puts the bytes behind those that were put before. Fails with Refused if the sink takes no more; then some of
+    /// the bytes may be in it.
     fn put(&mut self, bytes: &[u8]) -> Result<(), Refused>
         ensures { OnOk result (puts self.old bytes.now self.new) };
 
-    /// No bytes change nothing.
+    /// Putting no bytes changes nothing.
     ghost stays: { (a : Self) → puts a [] a };
 
-    /// One text behind the other is both.
+    /// Putting two texts, one behind the other, is putting both as one.
     ghost joins: { (a b c : Self) (x y : List ℕ) → puts a x b → puts b y c → puts a (x ++ y) c };
 }
 

@@ -1,4 +1,4 @@
-//! What gives bytes.
+//! Sources, which give bytes.
 ghost use Rattle.std.specs.Prelude.{◌≡◌, ℕ, List, OnOk, IfOk, IfSome, length};
 ghost use Rattle.std.specs.Io.KnownBytes.{Appends};
 
@@ -8,17 +8,17 @@ use crate::sink::{Refused, Sink};
 use std::alloc::{AllocError, Global};
 use std::io::Write;
 
-/// What gives bytes, the same each time.
+/// Gives bytes, the same each time.
 pub trait Source {
-    /// The bytes.
+    /// The bytes that it gives.
     ghost bytes: { Self → List ℕ };
 
-    /// Puts the bytes into the sink. Refused where that takes no more.
+    /// Puts the bytes into the sink and returns the sink. Fails with Refused if the sink takes no more.
     fn put_into<S: Sink + Drop>(&self, sink: S) -> Result<S, Refused>
         ensures { IfOk result (λ after. S.puts sink (bytes self.now) after) };
 }
 
-/// How many bytes the source gives; takes no memory. None where a `usize` can't hold that.
+/// Returns how many bytes the source gives, or `None` if a `usize` can't hold that. Allocates nothing.
 pub fn length_of<T: Source>(source: &T) -> Option<usize>
     ensures { IfSome result (λ n. n ≡ length (T.bytes source.now)) }
 {
@@ -28,8 +28,9 @@ pub fn length_of<T: Source>(source: &T) -> Option<usize>
     }
 }
 
-/// Writes the bytes of the source, in pieces from an array on the stack; takes no memory. Refused where a write fails, and
-/// where the source finds itself too long.
+/// Writes the bytes of the source, in pieces from an array on the stack. Allocates nothing.
+///
+/// Fails with Refused if a write fails, or if the source finds itself too long.
 pub fn write_from<W: Write, T: Source>(writer: &mut W, source: &T) -> Result<(), Refused>
     ensures { OnOk result (Appends (W.contents writer.old) (W.contents writer.new)
         (T.bytes source.now)) }
@@ -47,10 +48,12 @@ pub fn write_from<W: Write, T: Source>(writer: &mut W, source: &T) -> Result<(),
     }
 }
 
-/// The bytes of the source, in a vector of their number.
+/// Returns the bytes of the source, in a vector of their number. Fails if memory runs out or a `usize` can't hold the
+/// number.
 pub fn bytes_of<T: Source>(alloc: Global, source: &T) -> Result<Vec<u8>, AllocError>
     ensures { IfOk result (λ v. v.items ≡ T.bytes source.now) }
 {
+    // Two passes, one that counts and one that puts, so that the vector is allocated once.
     let Some(length) = length_of(source) else {
         return Err(AllocError);
     };

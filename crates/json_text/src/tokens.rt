@@ -12,17 +12,18 @@ use crate::sink::{Refused, Sink};
 use iodef_tree::Path;
 use json::Token;
 
-/// Puts the tokens of a JSON text (RFC 8259 section 2) into a sink, with the commas and colons between them. That each
-/// object and array ends is the caller's part.
+/// Puts the tokens of a JSON text (RFC 8259 section 2) into a sink, with the commas and colons between them. The
+/// caller has to end each object and array.
 #[derive(Drop)]
 pub struct Tokens<S> {
+    /// Where the tokens are put.
     pub sink: S,
-    /// Whether a value ended last.
+    /// Whether the last token ended a value.
     pub after_value: bool,
 }
 
 impl<S: Sink> Tokens<S> {
-    /// A text of which nothing is put yet.
+    /// Returns a text without tokens.
     pub fn new(sink: S) -> Tokens<S>
         ensures sink { result.sink ≡ sink }
         ensures first { result.after_value ≡ false }
@@ -33,7 +34,7 @@ impl<S: Sink> Tokens<S> {
         }
     }
 
-    /// Puts a comma where a value ended last.
+    /// Puts a comma if the last token ended a value.
     fn separate(&mut self) -> Result<(), Refused>
         ensures puts { OnOk result (S.puts self.old.sink (comma_if self.old.after_value)
             self.new.sink) }
@@ -45,7 +46,7 @@ impl<S: Sink> Tokens<S> {
         }
     }
 
-    /// Puts what begins a value or is one.
+    /// Puts a token that begins a value, or is one.
     fn begin(&mut self, text: &[u8], is_value: bool) -> Result<(), Refused>
         ensures puts { OnOk result (S.puts self.old.sink
             (comma_if self.old.after_value ++ text.now) self.new.sink) }
@@ -57,7 +58,7 @@ impl<S: Sink> Tokens<S> {
         Ok(())
     }
 
-    /// Puts what ends a value.
+    /// Puts a token that ends a value.
     fn end(&mut self, text: &[u8]) -> Result<(), Refused>
         ensures puts { OnOk result (S.puts self.old.sink text.now self.new.sink) }
         ensures after { OnOk result (self.new.after_value ≡ true) }
@@ -78,7 +79,7 @@ impl<S: Sink> Tokens<S> {
         self.end(b"\"")
     }
 
-    /// Puts the name of a member.
+    /// Puts the name of a member, and a colon.
     pub fn name(&mut self, name: &str) -> Result<(), Refused>
         ensures puts { OnOk result (S.puts self.old.sink
             (comma_if self.old.after_value ++ (quoted name.now ++ 58 ∷ [])) self.new.sink) }
@@ -90,7 +91,7 @@ impl<S: Sink> Tokens<S> {
         Ok(())
     }
 
-    /// Puts a token, and before it a comma where it begins what comes behind a value.
+    /// Puts a token, with a comma before it if a value or a member begins behind another.
     pub fn token(&mut self, token: Token<'_>) -> Result<(), Refused>
         ensures puts { OnOk result (S.puts self.old.sink
             (separator self.old.after_value (token_of token.entry) ++

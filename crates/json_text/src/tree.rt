@@ -14,7 +14,7 @@ use iodef_tree::{Document, Item, Member, Object, Text};
 use json::Token;
 
 impl<S: Sink> Tokens<S> {
-    /// Puts the document (RFC 8727 section 2).
+    /// Puts the document as JSON (RFC 8727 section 2).
     pub fn document(&mut self, document: &Document) -> Result<(), Refused>
         ensures puts { OnOk result (S.puts self.old.sink (comma_if self.old.after_value ++
             compact_text (json_object (data_of document.now))) self.new.sink) }
@@ -24,6 +24,7 @@ impl<S: Sink> Tokens<S> {
     }
 }
 
+/// Puts the object.
 #[cycle(put)]
 fn put_object<S: Sink>(out: &mut Tokens<S>, object: &Object) -> Result<(), Refused>
     requires { IsFilled object.now }
@@ -38,6 +39,7 @@ fn put_object<S: Sink>(out: &mut Tokens<S>, object: &Object) -> Result<(), Refus
     out.token(Token::EndObject)
 }
 
+/// Puts the member, with its name.
 #[cycle(put)]
 fn put_member<S: Sink>(out: &mut Tokens<S>, name: &Text, member: &Member) -> Result<(), Refused>
     requires { IsMemberFilled member.now }
@@ -52,6 +54,7 @@ fn put_member<S: Sink>(out: &mut Tokens<S>, name: &Text, member: &Member) -> Res
     }
 }
 
+/// Puts the items as an array.
 #[cycle(put)]
 fn put_items<S: Sink>(out: &mut Tokens<S>, items: &Vec<Item>) -> Result<(), Refused>
     requires { AllByRecursion IsItemFilled items.now.items }
@@ -66,7 +69,7 @@ fn put_items<S: Sink>(out: &mut Tokens<S>, items: &Vec<Item>) -> Result<(), Refu
     out.token(Token::EndArray)
 }
 
-/// Puts the item, a value as the text that it is.
+/// Puts the item. A value is put as its text.
 #[cycle(put)]
 fn put_item<S: Sink>(out: &mut Tokens<S>, item: &Item) -> Result<(), Refused>
     requires { IsItemFilled item.now }
