@@ -1,4 +1,4 @@
--- The first class of a document that breaks the marking rule is the one that a pass down its tree finds.
+-- A pass down the tree finds the first class of a document that breaks the marking rule.
 use Rattle.std.proofs.Common.{◌≡◌, ℕ, suc, List, [], ◌∷◌, ◌++◌, Bool, true, false, cond, not, map, filter, refl, sym, ◌∙◌, ap, append-nil, append_assoc}
 use Rattle.std.specs.Prelude.{Option, Some, None, find, option_map}
 use Rattle.std.specs.Option.{option_or}

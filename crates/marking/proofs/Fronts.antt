@@ -1,4 +1,4 @@
--- What a pass finds in the members of a class, one member after another.
+-- The results of a pass over the members of a class, one member after another.
 use Rattle.std.proofs.Common.{◌≡◌, ℕ, suc, List, [], ◌∷◌, ◌++◌, true, false, cond, refl, sym, ◌∙◌, ap, append-nil, append_assoc}
 use Rattle.std.specs.Prelude.{Option, Some, None, option_map}
 use Rattle.std.specs.Option.{option_or}
@@ -13,7 +13,7 @@ use Rattle.marking.specs.Marks.{other, Marked}
 use Rattle.marking.specs.Members.{held_by_bodies, held_in}
 use Rattle.marking.specs.inner.Pass.{bad_below, bad_in_body, enter, marked_below}
 
--- ---- what is held under a name
+-- ---- what a class holds under a name
 
 plain_front : (n name : Bytes) (b : Body) (rest : Forest) → held_in name (in_front n None b rest) ≡ cond (bytes_eq n name) (held_by_bodies (one b)) (held_in name rest)
 plain_front n name (holds kids) rest = refl
@@ -42,7 +42,7 @@ held-here n name (many []) rest some h = absurd (true≢false (sym some))
 held-here n name (many (b ∷ bs)) rest some h =
     element_front n name 0 b (elements n 1 bs rest) ∙ ap (λ t. cond t other (held_in name (elements n 1 bs rest))) h
 
--- ---- the first that breaks the marking rule
+-- ---- the first class that breaks the marking rule
 
 or-none : {X : Type 0} (a : Option X) → option_or a None ≡ a
 or-none None = refl
@@ -57,7 +57,7 @@ pub bad-one : (n : Bytes) (o : Option ℕ) (b : Body) (rest : Forest) →
 bad-one n o (holds kids) rest = refl
 bad-one n o (says content) rest = refl
 
--- what stands at one place, and then what is behind
+-- one member, or one element, and then those behind it
 pub bad-front : (n : Bytes) (o : Option ℕ) (b : Body) (rest : Forest) → bad_below (in_front n o b rest) ≡ option_or (bad_below (in_front n o b end)) (bad_below rest)
 bad-front n o b rest =
     let here = option_map (λ t. steps n o ++ t) (bad_in_body b) in
@@ -104,7 +104,7 @@ pub marked-member : (a : Marked) (n : Bytes) (m : Bodies) (rest : Forest) → ma
 marked-member a n (one b) rest = marked-one a n None b rest
 marked-member a n (many bs) rest = marked-elements a n 0 bs rest
 
--- and written, each by a text
+-- how classes are marked, as the texts that are written of them
 pub written-member : (line : Marked → Bytes) (a : Marked) (n : Bytes) (m : Bodies) (rest : Forest) →
     flat_map line (marked_below a (member_front n m rest)) ≡ flat_map line (marked_below a (member_front n m end)) ++ flat_map line (marked_below a rest)
 written-member line a n m rest =

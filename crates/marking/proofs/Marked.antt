@@ -1,4 +1,4 @@
--- What a pass down the tree inherits and tells is what the definitions say at each path.
+-- A pass down the tree marks each class as the definitions say.
 use Rattle.std.proofs.Common.{◌≡◌, ℕ, suc, List, [], ◌∷◌, ◌++◌, Bool, true, false, cond, ◌&&◌, ◌||◌, map, refl, sym, ◌∙◌, ap}
 use Rattle.std.specs.Prelude.{Option, Some, None, is_some, unwrap_or, codes}
 use Rattle.std.specs.Option.{option_or}
@@ -74,7 +74,7 @@ choose-pointer : (b : Bool) (q s : Tokens) → cond b (pointer_text q) (pointer_
 choose-pointer true q s = refl
 choose-pointer false q s = refl
 
--- one step down, a pass inherits what the definitions say there
+-- A pass that goes one step down inherits what the definitions say at the class there.
 pub enter-at : (es : List LocatedLine) (p : Tokens) (n : Bytes) (o : Option ℕ) (kids : Forest) → has_class es (p ++ steps n o) ≡ true → written_label es (p ++ steps n o) ≡ spelled_in kids →
     (is_some o ≡ true → own_label es (p ++ n ∷ []) ≡ None) → enter (marked_at es p) n o kids ≡ marked_at es (p ++ steps n o)
 enter-at es p n o kids there written array =
@@ -118,7 +118,7 @@ none-at_root : (es : List LocatedLine) → AreUnderParents es → AllByRecursion
 none-at_root [] h = tt
 none-at_root (e ∷ es) h = (below-is_no_root e.parent e.path h.0, none-at_root es h.1)
 
--- nothing is written in the root
+-- no label is written in the root
 pub root-written : (es : List LocatedLine) → AreUnderParents es → written_label es [] ≡ None
 root-written es h = written-none es [] (no_class es [] (none-at_root es h))
 
@@ -133,7 +133,7 @@ pub root-label : (es : List LocatedLine) → AreUnderParents es → label_at es 
 root-label es h =
     ap (λ p. unwrap_or (own_label es p) private) (root-site es) ∙ ap (λ o. unwrap_or (option_or o (Some private)) private) (root-written es h)
 
--- what the pass begins with
+-- how the root is marked, at the start of the pass
 abbrev pub at_root : Marked
 at_root = record { path = []; label = private; site = [] }
 

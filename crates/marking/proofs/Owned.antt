@@ -26,7 +26,7 @@ own-class es (x ∷ p) kids under block there =
     ap (λ w. option_or w (cond (same_path q incident_path) (Some private) None)) (sym (written-block es block.0 q kids under block.1 there))
     ∙ ap (λ b. option_or (written_label es q) (cond b (Some private) None)) (and-true (same_path q incident_path) (has_class es q) there)
 
--- ---- where a path has an own label, it is its own site
+-- ---- a path with an own label is its own site
 
 -- a path is the last of its prefixes
 prefixes-last : (p : Tokens) → (qs : List Tokens) × (prefixes p ≡ qs ++ p ∷ [])
@@ -42,7 +42,7 @@ site-self es p own =
     ∙ ap (λ rs. unwrap_or (find (has_own_label es) rs) []) (reverse-append r.0 (p ∷ []))
     ∙ ap (λ b. unwrap_or (cond b (Some p) (find (has_own_label es) (reverse r.0))) []) own
 
--- ---- else the site is that of the path without its last token
+-- ---- the site of any other path is that of the path without its last token
 
 last-apart : (p : Tokens) (n : ℕ) → length p ≡ suc n → (x : Bytes) × (p ≡ take n p ++ x ∷ [])
 last-apart [] n h = absurd (omega (arith, h))

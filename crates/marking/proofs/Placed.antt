@@ -1,4 +1,5 @@
--- Where the classes of a document are: at each class's path, and none at the path of an array that holds one.
+-- Where the classes of a document are: there is one at each class's path, and none at the path of an array that holds
+-- one.
 use Rattle.std.proofs.Common.{◌≡◌, ℕ, suc, List, [], ◌∷◌, ◌++◌, Bool, true, false, cond, ◌&&◌, ◌||◌, refl, sym, ◌∙◌, ap, subst, ◌⊎◌, inl, inr}
 use Rattle.std.specs.Prelude.{Option, Some, None, is_some, is_none}
 use Rattle.std.specs.List.{AllByRecursion, list_any}
@@ -17,7 +18,7 @@ use Rattle.iodef_tree.proofs.Located.{located-lines}
 use Rattle.iodef_tree.proofs.Order.{same_path-refl, same_path-true, same_path-common, is_under-steps, is_false}
 use Rattle.iodef_tree.proofs.Siblings.{siblings-map, walk-all}
 
--- of the classes of a tree that stands below p
+-- the classes of a tree whose members are those of the class at p
 abbrev pub ArePlaced : List LocatedLine → Tokens → Forest → Type 0
 ArePlaced es p end = Unit {0}
 ArePlaced es p (leaf i rest) = ArePlaced es p rest
@@ -66,7 +67,7 @@ array-name (branch m o kids rest) n a (inl s) = (
 )
 array-name (branch m o kids rest) n a (inr i) = ((λ e. element-name rest m n o a.0 i e), array-name rest n a.2 i)
 
--- ---- no class is at the path of an array
+-- ---- there is no class at the path of an array
 
 pub no_class : (es : List LocatedLine) (r : Tokens) → AllByRecursion (λ (e : LocatedLine). same_path e.path r ≡ false) es → has_class es r ≡ false
 no_class [] r h = refl

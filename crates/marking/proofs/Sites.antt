@@ -1,4 +1,4 @@
--- The site and the label one step below a class: its own, or the one above. Over the lines of any document.
+-- The site and the label one step below a class: the class's own, or those above, for the lines of any document.
 use Rattle.std.proofs.Common.{◌≡◌, ℕ, List, [], ◌∷◌, ◌++◌, Bool, true, false, cond, map, reverse, decimal, refl, sym, ◌∙◌, ap, append_assoc}
 use Rattle.std.specs.Prelude.{Option, Some, None, is_some, unwrap_or, find}
 use Rattle.std.specs.Option.{option_or}
@@ -56,7 +56,7 @@ site-push es p x =
 
 -- ---- one step further
 
--- The site below: the class itself where it has an own label, else the one above. The path of an array is no site.
+-- The site below: the class itself if it has an own label, else the site above. The path of an array is no site.
 pub site-steps : (es : List LocatedLine) (p : Tokens) (n : Bytes) (o : Option ℕ) → (is_some o ≡ true → own_label es (p ++ n ∷ []) ≡ None) →
     site_of es (p ++ steps n o) ≡ cond (has_own_label es (p ++ steps n o)) (p ++ steps n o) (site_of es p)
 site-steps es p n None array = site-push es p n

@@ -1,4 +1,4 @@
--- What is written in a class, by the lines below its path and by its members.
+-- The label written in a class, by the lines below its path and by its members.
 use Rattle.std.proofs.Common.{◌≡◌, ℕ, suc, List, [], ◌∷◌, ◌++◌, Bool, true, false, cond, ◌&&◌, ◌||◌, refl, sym, ◌∙◌, ap, append-nil, append_assoc}
 use Rattle.std.specs.Prelude.{Option, Some, None, find, codes}
 use Rattle.std.specs.Option.{option_map_or, option_or}
@@ -15,7 +15,7 @@ use Rattle.marking.specs.Label.{private}
 use Rattle.marking.specs.Marks.{absent, other, held_by_line, is_member, held_at, spelled_by, is_rule_kept, is_well_marked, written_label, own_label, has_default, incident_path}
 use Rattle.marking.specs.Members.{held_in, spelled_in, is_rule_kept_in}
 
--- each entry stands below its parent
+-- each entry is below its parent
 abbrev pub AreUnderParents : List LocatedLine → Type 0
 AreUnderParents es = AllByRecursion (λ (e : LocatedLine). is_under e.parent e.path ≡ true) es
 
@@ -37,7 +37,7 @@ find-below (e ∷ es) q name h = by_cases (is_under q e.path) refl (find-below e
 
 -- ---- in a walk
 
--- nothing stands directly in q where no path at or below p is q
+-- no line is a member of the class at q if no path at or below p is q
 no-member : (f : Forest) (d : ℕ) (p q : Tokens) (name : Bytes) → ((z : Tokens) → same_path (p ++ z) q ≡ false) → find (is_member q name) (walk d p f) ≡ None
 no-member end d p q name h = refl
 no-member (leaf i rest) d p q name h =
@@ -106,7 +106,7 @@ module _ (es : List LocatedLine) (d : ℕ) (q : Tokens) (kids : Forest) (under :
       ∙ ap (λ h. spelled_by h (held_at es q (codes "ext-restriction"))) (held-block (codes "restriction"))
       ∙ ap (λ h. spelled_by (held_in (codes "restriction") kids) h) (held-block (codes "ext-restriction"))
 
--- ---- where there is no class
+-- ---- a path without a class
 
 pub written-none : (es : List LocatedLine) (p : Tokens) → has_class es p ≡ false → written_label es p ≡ None
 written-none es p h = cond-false (has_class es p) _ None h

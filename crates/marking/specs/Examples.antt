@@ -1,4 +1,4 @@
--- Three small reports by their lines, and how their classes are marked: to be computed by the definitions alone.
+-- Three small reports by their lines, and how their classes are marked. The definitions compute it.
 use Rattle.std.specs.Prelude.{◌≡◌, ℕ, List, [], ◌∷◌, map, Bool, true, false, codes}
 use Rattle.iodef_tree.specs.Text.{Bytes}
 use Rattle.iodef_tree.specs.Paths.{located, class_paths}
@@ -7,23 +7,27 @@ use Rattle.iodef_tree.specs.declared.line.Kind.TheVariants as kind
 use Rattle.marking.specs.Label.{LabelValue, public, amber, private, extended}
 use Rattle.marking.specs.Marks.{Marked, marked_at}
 
+-- the line of a class
 abbrev pub class_line : ℕ → Bytes → Bool → Line
 class_line d name in_array = record { depth = d; name = name; in_array = in_array; kind = kind.Class; text = [] }
 
+-- the line of a text
 abbrev pub text_line : ℕ → Bytes → Bool → Bytes → Line
 text_line d name in_array text = record { depth = d; name = name; in_array = in_array; kind = kind.Text; text = text }
 
+-- the line of any other plain value
 abbrev pub value_line : ℕ → Bytes → Bool → Bytes → Line
 value_line d name in_array text = record { depth = d; name = name; in_array = in_array; kind = kind.Value; text = text }
 
+-- how a class is marked, by the pointers of the class and of its site
 abbrev pub marked : Bytes → LabelValue → Bytes → Marked
 marked path label site = record { path = path; label = label; site = site }
 
--- how each class of an outline is marked
+-- how each class of an outline is marked, in stored order
 abbrev pub marks_of : List Line → List Marked
 marks_of ls = let es = located ls in map (marked_at es) (class_paths es)
 
--- a report without labels
+-- In a report without labels, each class is private, by the default of the Incident.
 abbrev pub UnmarkedIsPrivate : Type 0
 UnmarkedIsPrivate =
     marks_of (
@@ -43,7 +47,7 @@ UnmarkedIsPrivate =
     ∷ marked (codes "/Incident/0/IncidentID") private (codes "/Incident/0")
     ∷ []
 
--- labels at two depths, and a class and a `restriction` at the root
+-- In a report with labels at two depths, the nearest label holds. A `restriction` at the root marks nothing.
 abbrev pub NearestLabelHolds : Type 0
 NearestLabelHolds =
     marks_of (
@@ -70,7 +74,7 @@ NearestLabelHolds =
     ∷ marked (codes "/a") private []
     ∷ []
 
--- an array of a text, a number and an array, and an empty class
+-- In a report with an array of texts and values, only the classes are marked.
 abbrev pub PlainLinesAreNoClasses : Type 0
 PlainLinesAreNoClasses =
     marks_of (

@@ -1,4 +1,4 @@
--- What `site` answers, and the own label of a class by its members.
+-- The answers of `site`, and the own label of a class by its members.
 use Rattle.std.specs.Prelude.{◌≡◌, true, false, ◌||◌, List, if◌then◌else◌, Option, Some, None, Result, Ok, Err}
 use Rattle.std.specs.Option.{option_or}
 use Rattle.iodef_tree.specs.Text.{Tokens, same_path, is_root}
@@ -12,8 +12,8 @@ use Rattle.marking.specs.declared.fault.SiteFault.{SiteFault}
 use Rattle.marking.specs.declared.fault.SiteFault.TheVariants.{NoClass, NoMemory}
 use Rattle.marking.specs.declared.label.Label.{Label}
 
--- The site of the path with the label that holds there; NoClass exactly where the path is neither a class's nor the
--- root's. Want of memory may stand in the place of both.
+-- The site of the path and the label that holds there; NoClass exactly if the path is neither that of a class nor the
+-- root's. NoMemory may come in place of either.
 abbrev pub Sites : Result (Path × Label) SiteFault → List LocatedLine → Tokens → Type 0
 Sites (Ok s) es p = ((is_root p || has_class es p) ≡ true) × (s.0 ≡ site_of es p) × (marking_of s.1 ≡ label_at es p)
 Sites (Err NoClass) es p = (is_root p || has_class es p) ≡ false

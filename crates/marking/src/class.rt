@@ -1,4 +1,4 @@
-//! What the members of one class spell.
+//! The label that the members of one class spell.
 
 ghost use Rattle.std.specs.Prelude.{◌≡◌, option_map};
 ghost use Rattle.iodef_tree.specs.Filled.{IsFilled};
@@ -12,12 +12,15 @@ use iodef_tree::{Item, Member, Object};
 /// What a class holds under a name.
 #[derive(Clone, Copy)]
 pub(crate) enum Found<'a> {
+    /// Nothing.
     Absent,
+    /// A text outside arrays.
     Text(&'a str),
     /// An array, a class or any other value.
     Other,
 }
 
+/// Returns what a member holds.
 fn held_by(member: &Member) -> Found<'_>
     ensures { held_of result ≡ held_by_bodies (bodies member.now) }
 {
@@ -29,7 +32,7 @@ fn held_by(member: &Member) -> Found<'_>
     }
 }
 
-/// What the first member of this name holds.
+/// Returns what the first member of this name holds.
 fn held<'a>(object: &'a Object, name: &str) -> Found<'a>
     requires { IsFilled object.now }
     ensures { held_of result ≡ held_in name.now (forest object.now) }
@@ -42,7 +45,7 @@ fn held<'a>(object: &'a Object, name: &str) -> Found<'a>
     Found::Absent
 }
 
-/// The label that the members spell, if they do.
+/// Returns the label that the members of a class spell, if they spell one (RFC 7970 sections 3.3.1 and 5.1.1).
 pub fn written(object: &Object) -> Option<Label<'_>>
     requires { IsFilled object.now }
     ensures { option_map marking_of result ≡ spelled_in (forest object.now) }
@@ -57,7 +60,7 @@ pub fn written(object: &Object) -> Option<Label<'_>>
     }
 }
 
-/// Whether the members keep the marking rule.
+/// Returns whether the members of a class keep the marking rule.
 pub(crate) fn is_well_marked(object: &Object) -> bool
     requires { IsFilled object.now }
     ensures { result ≡ is_rule_kept_in (forest object.now) }

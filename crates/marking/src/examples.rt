@@ -1,5 +1,5 @@
-//! The definitions computed on three small reports, which stand in `specs/Examples.antt`: a wrong definition would show
-//! here, with no program between. Each is the contract of a function that does nothing.
+//! The definitions computed on three small reports (`specs/Examples.antt`). A wrong definition would show here, with
+//! no program between. Each example is the contract of a function that does nothing.
 
 ghost use Rattle.marking.specs.Examples.{UnmarkedIsPrivate, NearestLabelHolds, PlainLinesAreNoClasses};
 
@@ -13,7 +13,7 @@ pub fn nearest_label_holds()
     ensures { NearestLabelHolds }
 {}
 
-/// Texts and values in arrays are no classes.
+/// Texts and values in arrays are not classes.
 pub fn plain_lines_are_no_classes()
     ensures { PlainLinesAreNoClasses }
 {}

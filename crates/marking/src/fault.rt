@@ -1,4 +1,4 @@
-//! Why markings aren't accepted, and why a path has no site.
+//! Why the markings of a document aren't accepted, and why a path has no site.
 ghost use Rattle.std.specs.Prelude.{◌≡◌};
 ghost use Rattle.marking.specs.declared.fault.MarkingFault.TheVariants.{NoMemory};
 ghost use Rattle.marking.specs.declared.fault.SiteFault.TheVariants as site;
@@ -10,10 +10,12 @@ use thiserror::Error;
 /// Why the markings of a document aren't accepted.
 #[derive(Debug, Drop, Error)]
 pub enum MarkingFault {
-    /// The class at this path is the first, in stored order, that breaks the marking rule: its `restriction` is none of the
-    /// ten texts (RFC 7970 section 3.3.1), its `ext-restriction` is no text or stands alone, or `ext-value` has none.
+    /// The class at this path is the first, in stored order, that breaks the marking rule. Its `restriction` is none
+    /// of the ten texts (RFC 7970 section 3.3.1), or its `ext-restriction` is no text or has no `restriction` beside
+    /// it, or `ext-value` has no `ext-restriction`.
     #[error("a class breaks the marking rule")]
     BadMarking(Path),
+    /// Memory ran out.
     #[error("no memory")]
     NoMemory,
 }
@@ -21,9 +23,10 @@ pub enum MarkingFault {
 /// Why a path has no site.
 #[derive(Clone, Copy, Debug, Error)]
 pub enum SiteFault {
-    /// The path is neither a class's nor the root's.
+    /// The path is neither that of a class nor the root's.
     #[error("there is no class at the path")]
     NoClass,
+    /// Memory ran out.
     #[error("no memory")]
     NoMemory,
 }

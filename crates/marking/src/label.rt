@@ -1,7 +1,7 @@
-//! Labels and handlings, with their tables.
+//! Labels and handlings, and their tables.
 use std::alloc::{AllocError, Global};
 
-/// How what is under a label is to be handled, the widest audience first.
+/// How a class with a label is to be handled, from the widest audience (FIRST TLP 2.0).
 #[derive(Clone, Copy, PartialEq, Eq, PartialOrd, Ord)]
 pub enum Handling {
     /// For everybody.
@@ -16,7 +16,7 @@ pub enum Handling {
     Red,
 }
 
-/// A label, as a class's `restriction` has it (RFC 7970 section 3.3.1); an extended one with the text of
+/// A label as the `restriction` of a class spells it (RFC 7970 section 3.3.1); an extended one has the text of
 /// `ext-restriction` (section 5.1.1).
 #[derive(Clone, Copy)]
 pub enum Label<'a> {
@@ -36,14 +36,15 @@ impl Handling {
     ghost use Rattle.std.specs.Prelude.{◌≡◌};
     ghost use Rattle.marking.specs.Label.{name_of, is_at_most};
 
-    /// Whether it is the other or has a wider audience: CLEAR, GREEN, AMBER, STRICT, RED.
+    /// Returns whether this handling is no stricter than the other: CLEAR, GREEN, AMBER, STRICT, RED.
     pub fn is_at_most(self, other: Handling) -> bool
         ensures { result ≡ is_at_most self other }
     {
+        // The derived order. The law `handlings_ascend` says that it is that of the names.
         self <= other
     }
 
-    /// Its name in capital letters.
+    /// Returns the handling's name in capital letters.
     pub fn name(self) -> &'static str
         ensures { result.now ≡ name_of self }
     {
@@ -61,8 +62,9 @@ impl<'a> Label<'a> {
     ghost use Rattle.std.specs.Prelude.{◌≡◌, option_map, IfOk, string_bytes};
     ghost use Rattle.marking.specs.Label.{marking_of, spelled, handling_of, restriction_of, text_of};
 
-    /// The label that a text in `restriction` spells, with the text in `ext-restriction` beside it, if there is one.
-    /// `ext-value` spells one only with such a text; beside another value that text says nothing.
+    /// Returns the label that a text in `restriction` spells, with the text in `ext-restriction` beside it, if there
+    /// is one (RFC 7970 sections 3.3.1 and 5.1.1). `ext-value` spells a label only with such a text; beside another
+    /// value that text has no effect. Texts are compared byte for byte.
     pub fn of(restriction: &str, ext: Option<&'a str>) -> Option<Label<'a>>
         ensures { option_map marking_of result ≡
             spelled restriction.now (option_map (λ t. t.now) ext.entry) }
@@ -85,7 +87,7 @@ impl<'a> Label<'a> {
         }
     }
 
-    /// The value of `restriction`. Takes no memory.
+    /// Returns the value of `restriction`. Allocates nothing.
     pub fn restriction(&self) -> &'static str
         ensures { result.now ≡ restriction_of (marking_of self.now) }
     {
@@ -103,7 +105,8 @@ impl<'a> Label<'a> {
         }
     }
 
-    /// The value of `restriction`; for an extended label followed by a space and its text.
+    /// Returns the value of `restriction`; for an extended label followed by a space and its text. Fails if memory
+    /// runs out.
     pub fn text(&self, alloc: Global) -> Result<String, AllocError>
         ensures { IfOk result (λ s. string_bytes s ≡ text_of (marking_of self.now)) }
     {
@@ -118,8 +121,10 @@ impl<'a> Label<'a> {
         }
     }
 
-    /// How it is to be handled, given what the source arranged with the reader's organisation, if anything. Where nothing
-    /// was arranged, `default` is handled as the strictest; so is an extended text that is no TLP label.
+    /// Returns how the label is to be handled. `arranged` is what the source arranged with the reader's organisation,
+    /// if anything.
+    ///
+    /// `default` is RED if nothing is arranged, and an extended text is RED if it is no TLP label.
     pub fn handling(&self, arranged: Option<Handling>) -> Handling
         ensures { result ≡ handling_of (marking_of self.now) arranged }
     {
@@ -137,7 +142,8 @@ impl<'a> Label<'a> {
 ghost use Rattle.std.specs.Prelude.{◌≡◌};
 ghost use Rattle.marking.specs.Label as spec;
 
-/// TLP 2.0's labels and TLP:WHITE, ASCII case ignored.
+/// Returns the handling of an extended text: a label of TLP 2.0 or TLP:WHITE, but for the case of ASCII letters, else
+/// RED.
 fn handling_of_text(text: &str) -> Handling
     ensures { result ≡ spec.handling_of_text text.now }
 {

@@ -1,4 +1,4 @@
-//! The own label of a class, and the nearest class or root with one.
+//! The own label of a class, and the nearest class or root that has one.
 
 ghost use Rattle.std.specs.Prelude.{◌≡◌, ◌-◌, ◌∷◌, [], false, None, Some, option_map, take, length};
 ghost use Rattle.iodef_tree.specs.Text.{same_path, is_root};
@@ -15,8 +15,9 @@ use crate::label::Label;
 use iodef_tree::{Document, Object, Path, Text};
 use std::alloc::Global;
 
-/// The label written in the class at the path, or the default of the Incident and of the root, which is private. None for
-/// any other class without a label, and where the path is neither a class's nor the root's. Takes no memory.
+/// Returns the label written in the class at the path, or private, the default, at the Incident and at the root if
+/// none is written. Returns `None` for any other class without a label, and if there is no class at the path.
+/// Allocates nothing.
 pub fn own<'a>(document: &'a Document, path: &Path) -> Option<Label<'a>>
     requires { first_bad_marking (located document.now) ≡ None }
     ensures { option_map marking_of result ≡ own_label (located document.now) path.now }
@@ -25,7 +26,7 @@ pub fn own<'a>(document: &'a Document, path: &Path) -> Option<Label<'a>>
     own_of(path.tokens(), object)
 }
 
-/// The label written in the class at the path, if one is. Takes no memory.
+/// Returns the label written in the class at the path, if there is one. Allocates nothing.
 pub fn written_at<'a>(document: &'a Document, path: &Path) -> Option<Label<'a>>
     ensures { option_map marking_of result ≡ written_label (located document.now) path.now }
 {
@@ -36,8 +37,10 @@ pub fn written_at<'a>(document: &'a Document, path: &Path) -> Option<Label<'a>>
     written(object)
 }
 
-/// The class or root whose label holds at the path, by its path, and that label: the nearest at or above it that has an
-/// own label (RFC 7970 section 3.3.1). NoClass where the path is neither a class's nor the root's.
+/// Returns the class or root whose label holds at the path, by its path, and that label: the nearest one at or above
+/// the path that has an own label (RFC 7970 section 3.3.1).
+///
+/// Fails with NoClass if the path is neither that of a class nor the root's; with NoMemory if memory runs out.
 pub fn site<'a>(
     alloc: Global,
     document: &'a Document,
@@ -53,6 +56,7 @@ pub fn site<'a>(
     Ok(nearest(document, path.clone()?))
 }
 
+/// Goes up from the path to the nearest class or root with an own label.
 fn nearest<'a>(document: &'a Document, path: Path) -> (Path, Label<'a>)
     requires { first_bad_marking (located document.now) ≡ None }
     ensures site { result.0 ≡ site_of (located document.now) path }
@@ -64,6 +68,7 @@ fn nearest<'a>(document: &'a Document, path: Path) -> (Path, Label<'a>)
     }
 }
 
+/// Returns the path without its last token.
 fn without_last(path: Path) -> Path
     requires { is_root path ≡ false }
     ensures { result ≡ take (length path - 1) path }
@@ -74,6 +79,7 @@ fn without_last(path: Path) -> Path
     Path::new(tokens)
 }
 
+/// Returns the own label of the class or root at the path of these tokens.
 fn own_of<'a>(tokens: &[Text], object: &'a Object) -> Option<Label<'a>>
     requires { IsFilled object.now }
     ensures { option_map marking_of result ≡ own_in tokens.now (forest object.now) }
@@ -94,8 +100,8 @@ fn own_of<'a>(tokens: &[Text], object: &'a Object) -> Option<Label<'a>>
     }
 }
 
-/// Whether the path of these two reference tokens is the Incident's, that of the first Incident of a document. No path of
-/// fewer or more tokens is. Takes no memory.
+/// Returns whether the path of these two reference tokens is that of the Incident of a document. No path with fewer or
+/// more tokens is. Allocates nothing.
 pub fn is_incident(first: &str, second: &str) -> bool
     ensures { result ≡ same_path (first.now ∷ second.now ∷ []) incident_path }
 {

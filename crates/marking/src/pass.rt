@@ -1,4 +1,4 @@
-//! Each class with the label that holds at it, in one pass down the tree.
+//! The label that holds at each class, in one pass down the tree.
 
 ghost use Rattle.std.specs.Prelude.{◌≡◌, ◌++◌, map, Some, None, option_map, IfOk, OnOk, string_bytes};
 ghost use Rattle.std.specs.List.{flat_map};
@@ -23,6 +23,7 @@ use std::alloc::{AllocError, Global};
 pub struct Mark<'a> {
     /// The class's path as a JSON pointer.
     pub path: &'a str,
+    /// The label that holds at the class.
     pub label: Label<'a>,
     /// The path of the nearest class or root with an own label, as a JSON pointer.
     pub site: &'a str,
@@ -31,21 +32,23 @@ pub struct Mark<'a> {
 /// Room for two slashes and a place in an array.
 const ROOM: usize = 22;
 
-/// What writes down the classes of a document, one after another.
+/// Writes the classes of a document, one after another.
 pub trait MarkWriter {
-    /// What it has written.
+    /// What was written.
     ghost text: { Self → Bytes };
 
-    /// What it writes of a class.
+    /// What is written of a class.
     ghost line: { Marked → Bytes };
 
-    /// Writes the class down.
+    /// Writes the class. Fails if memory runs out.
     fn write(&mut self, alloc: Global, mark: Mark<'_>) -> Result<(), AllocError>
         ensures { OnOk result (text self.new ≡ text self.old ++ line (marked_by mark.entry)) };
 }
 
-/// Hands each class to the writer, in stored order, with the label that holds at it and that label's site. One pass,
-/// linear in the lines; the marks are lent, so none is kept.
+/// Hands each class to the writer, in stored order, with the label that holds at it and the site of that label.
+///
+/// One pass, linear in the number of lines. The writer borrows each mark and keeps none. Fails if the writer fails or
+/// memory runs out.
 pub fn write_marks<W: MarkWriter>(
     alloc: Global,
     document: &Document,
@@ -64,6 +67,7 @@ pub fn write_marks<W: MarkWriter>(
     write_members(alloc, writer, root, document.root())
 }
 
+/// Hands the classes in an object to the writer.
 #[cycle(marks)]
 #[tactic(auto, using(crate::proofs::Fronts::marked_steps))]
 fn write_members<W: MarkWriter>(
@@ -83,6 +87,7 @@ fn write_members<W: MarkWriter>(
     Ok(())
 }
 
+/// Hands the classes in a member to the writer.
 #[cycle(marks)]
 #[tactic(auto, using(crate::proofs::Fronts::marked_steps))]
 fn write_member<W: MarkWriter>(
@@ -109,6 +114,7 @@ fn write_member<W: MarkWriter>(
     }
 }
 
+/// Hands an item that is a class, and the classes in it, to the writer.
 #[cycle(marks)]
 #[tactic(auto, using(crate::proofs::Fronts::marked_steps))]
 fn write_item<W: MarkWriter>(
@@ -127,6 +133,7 @@ fn write_item<W: MarkWriter>(
 {
     match item {
         Item::Class(object) => {
+            // The pointer of each class is built once, from the pointer of the class above.
             let path = path_below(alloc, above.path, name, index)?;
             write_class(alloc, writer, above, path.as_str(), object)
         }
@@ -134,6 +141,7 @@ fn write_item<W: MarkWriter>(
     }
 }
 
+/// Hands a class and the classes in it to the writer.
 #[cycle(marks)]
 #[tactic(auto, using(crate::proofs::Fronts::marked_steps))]
 fn write_class<W: MarkWriter>(
@@ -156,6 +164,7 @@ fn write_class<W: MarkWriter>(
     write_members(alloc, writer, here, object)
 }
 
+/// Returns the pointer of a member, or of an element, of the class above.
 fn path_below(
     alloc: Global,
     above: &str,
@@ -175,7 +184,7 @@ fn path_below(
     Ok(path)
 }
 
-/// The own label of a class: what is written in it, or the Incident's default.
+/// Returns the own label of a class: the label written in it, or the default of the Incident.
 fn own_below<'a>(path: &str, object: &'a Object) -> Option<Label<'a>>
     requires { IsFilled object.now }
     ensures { option_map marking_of result ≡ spec.own_below path.now (forest object.now) }
@@ -183,6 +192,7 @@ fn own_below<'a>(path: &str, object: &'a Object) -> Option<Label<'a>>
     match written(object) {
         Some(label) => Some(label),
         None => {
+            // The pass has no path, only its pointer; a pointer is that of one path.
             if path == "/Incident/0" {
                 Some(Label::Private)
             } else {
@@ -192,6 +202,7 @@ fn own_below<'a>(path: &str, object: &'a Object) -> Option<Label<'a>>
     }
 }
 
+/// Returns the mark of a class below: with an own label it is its own site.
 fn below<'a>(above: Mark<'a>, path: &'a str, own: Option<Label<'a>>) -> Mark<'a>
     ensures { marked_by result ≡
         marked_step (marked_by above.entry) path.now (option_map marking_of own.entry) }

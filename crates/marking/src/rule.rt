@@ -14,9 +14,11 @@ use crate::fault::MarkingFault;
 use iodef_tree::{Document, Item, Member, Object, Path, Text};
 use std::alloc::{AllocError, Global};
 
-/// Accepts the document where each of its classes keeps the marking rule: it has neither `restriction` nor
-/// `ext-restriction`, or the two spell a label (RFC 7970 sections 3.3.1 and 5.1.1). Else the fault names the first class,
-/// in stored order, that doesn't. What the root holds under these names marks nothing. Takes memory for that path alone.
+/// Checks that each class of the document keeps the marking rule: it has neither `restriction` nor `ext-restriction`,
+/// or the two spell a label (RFC 7970 sections 3.3.1 and 5.1.1). What the root holds under these names marks nothing.
+///
+/// Fails with BadMarking and the path of the first class, in stored order, that breaks the rule. Allocates only that
+/// path; fails with NoMemory if it can't.
 pub fn check(alloc: Global, document: &Document) -> Result<(), MarkingFault>
     ensures { Checks result (first_bad_marking (located document.now)) }
 {
@@ -29,7 +31,8 @@ pub fn check(alloc: Global, document: &Document) -> Result<(), MarkingFault>
     }
 }
 
-/// The way back from the first class below the object that breaks the marking rule: its last token stands first.
+/// Returns the tokens from the object down to the first class below it that breaks the marking rule, the last token
+/// first.
 #[cycle(check)]
 #[tactic(auto, using(crate::proofs::Fronts::bad_steps))]
 fn bad_below(alloc: Global, object: &Object) -> Result<Option<Vec<Text>>, AllocError>
@@ -44,6 +47,7 @@ fn bad_below(alloc: Global, object: &Object) -> Result<Option<Vec<Text>>, AllocE
     Ok(None)
 }
 
+/// The same for the classes in a member.
 #[cycle(check)]
 #[tactic(auto, using(crate::proofs::Fronts::bad_steps))]
 fn bad_in_member(
@@ -68,6 +72,7 @@ fn bad_in_member(
     }
 }
 
+/// The same for an item, itself included.
 #[cycle(check)]
 #[tactic(auto, using(crate::proofs::Fronts::bad_steps))]
 fn bad_in_item(
@@ -93,7 +98,7 @@ fn bad_in_item(
     }
 }
 
-/// The same of the class itself and what is below it.
+/// The same for a class, itself included.
 #[cycle(check)]
 #[tactic(auto, using(crate::proofs::Fronts::bad_steps))]
 fn bad_in_class(alloc: Global, object: &Object) -> Result<Option<Vec<Text>>, AllocError>
@@ -107,7 +112,7 @@ fn bad_in_class(alloc: Global, object: &Object) -> Result<Option<Vec<Text>>, All
     }
 }
 
-/// What leads to a class from the one above it, on the way back: in an array the place comes first.
+/// Appends the tokens that lead from the class above to a class, in reverse order: in an array the place comes first.
 fn push_steps(
     alloc: Global,
     trail: &mut Vec<Text>,
