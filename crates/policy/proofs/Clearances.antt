@@ -1,4 +1,4 @@
--- Clearances: none of the rows that hold is stricter, and a raised standing is cleared for no less.
+-- Clearances: no row that holds is stricter than the clearance, and a raised standing is cleared for no less.
 use Rattle.std.proofs.Common.{◌≡◌, Bool, true, false, not, List, [], ◌∷◌, refl, arith, ◌&&◌, ◌||◌}
 use Rattle.std.specs.Prelude.{find, All, slice_index_or}
 use Rattle.std.specs.Option.{option_map_or}
@@ -16,7 +16,7 @@ use Rattle.policy.specs.declared.standing.Standing.{Standing}
 pub at_most-trans : (a b c : Handling) → is_at_most a b ≡ true → is_at_most b c ≡ true → is_at_most a c ≡ true
 at_most-trans a b c h k = grind arith
 
--- the table by what holds of the four rows that ask anything
+-- the table, by the four tests of its rows
 abbrev rows_by : Bool → Bool → Bool → Bool → List Row
 rows_by p o c m = row P p Red ∷ row O o Strict ∷ row C c Amber ∷ row M m Green ∷ row A true Clear ∷ []
 

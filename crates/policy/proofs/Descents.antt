@@ -1,4 +1,4 @@
--- What a look-up from a class on the way says of the whole path.
+-- What a look-up from a class on the way finds, said of the whole path.
 use Rattle.std.proofs.Common.{◌≡◌, ℕ, zero, suc, ◌<◌, ◌≤◌, List, [], ◌∷◌, ◌++◌, Bool, false, ◌||◌, length, take, drop, refl, sym, ◌∙◌, ap, subst, arith}
 use Rattle.std.proofs.lemmas.List.{take-append-drop, take-append-le, take_all}
 use Rattle.iodef_tree.specs.Laws.{StandsAt}
@@ -6,7 +6,7 @@ use Rattle.iodef_tree.specs.Paths.{LocatedLine, has_class}
 use Rattle.iodef_tree.specs.Text.{Bytes, Tokens, is_root}
 use Rattle.iodef_tree.specs.Tree.{Forest}
 
--- the path of the class above, and what the look-up is asked, are the whole path
+-- the path of the class above and the tokens of the look-up make the whole path
 whole : (p : Tokens) (x : Bytes) (here : Tokens) (depth : ℕ) → here ≡ p ++ x ∷ [] → depth ≤ length p → take depth p ++ drop depth here ≡ here
 whole p x here depth is low =
     ap (λ q. q ++ drop depth here) (sym (take-append-le depth p (x ∷ []) low) ∙ ap (take depth) (sym is)) ∙ take-append-drop depth here
@@ -30,7 +30,7 @@ stands-here es p x here depth f is low at = subst (λ q. StandsAt es q f) (whole
 pub stands-whole : (es : List LocatedLine) (here : Tokens) (f : Forest) → StandsAt es here f → StandsAt es (take (length here) here) f
 stands-whole es here f at = subst (λ q. StandsAt es q f) (sym (take_all (length here) here (omega arith))) at
 
--- the class above stands as before
+-- the class above is still at the beginning of the longer path
 pub still-stands : (es : List LocatedLine) (p : Tokens) (x : Bytes) (here : Tokens) (depth : ℕ) (f : Forest) → here ≡ p ++ x ∷ [] → depth ≤ length p →
     StandsAt es (take depth p) f → StandsAt es (take depth here) f
 still-stands es p x here depth f is low at =

@@ -1,4 +1,4 @@
--- What the moment decides: whether a permission has ended, and nothing else.
+-- The moment decides whether a permission has ended, and nothing else.
 use Rattle.std.proofs.Common.{◌≡◌, ℕ, Bool, true, false, not, List, [], ◌∷◌, refl, sym, ◌∙◌, ap, arith, if◌then◌else◌, ◌&&◌, ◌||◌, ◌==◌}
 use Rattle.std.specs.Prelude.{ℤ, ◌≤ℤ◌, int_lt, Option, Some, None, unwrap_or, is_none, filter, All, slice_index_or}
 use Rattle.std.specs.List.{filter_map, flat_map, list_any}
@@ -46,7 +46,7 @@ group-moment : (s : Standing) (m : ℤ) (o : Option ℕ) → group_passage (at m
 group-moment s m None = refl
 group-moment s m (Some n) = refl
 
--- gates ask no moment
+-- gates don't ask the moment
 passage-moment : (s : Standing) (m : ℤ) (g : Gate) → refusal_of_gate (at m s) g ≡ refusal_of_gate s g
 passage-moment s m g =
     ap (λ o. if g.level == 1 then refused_unless G1 s.community
@@ -89,7 +89,7 @@ endless-any-moment es c s p m endless =
     ∙ ap (λ e. (includes s x.grantee && is_before m e) && reaches es x.path p) (endless k d below)
     ∙ ap (λ e. (includes s x.grantee && is_before s.now e) && reaches es x.path p) (sym (endless k d below))))
 
--- what is before the end at a moment was before it earlier
+-- a moment before the end has earlier moments before the end
 before-earlier : (n m : ℤ) (end : Option ℤ) → n ≤ℤ m → is_before m end ≡ true → is_before n end ≡ true
 before-earlier n m None le h = refl
 before-earlier n m (Some end) le h = grind (arith, ints, le, h)

@@ -10,7 +10,7 @@ use Rattle.policy.specs.declared.permission.Permission.{Permission}
 use Rattle.policy.specs.declared.permission.Grantee.TheVariants.{Person}
 use Rattle.policy.proofs.Steps.{covers-push, covers-root}
 
--- a permission at the path, of a reader whom it includes, with no end
+-- a permission with this path and without an end, which includes the reader
 abbrev at_path : Tokens → Permission
 at_path q = record { path = q; grantee = Person 0; until = None }
 

@@ -1,4 +1,4 @@
--- Which gates refuse on a path, and whose rule is told.
+-- Which gates refuse on a path, and whose rule is the refusal.
 use Rattle.std.proofs.Common.{◌≡◌, ℕ, ◌≤◌, ◌<◌, Bool, true, false, not, List, [], ◌∷◌, ◌++◌, length, map, refl, sym, ◌∙◌, ap, arith, if◌then◌else◌, ◌&&◌, ◌||◌, ◌⊎◌, inl, inr}
 use Rattle.std.specs.Prelude.{Option, Some, None, is_some, filter, find, All, slice_index_or}
 use Rattle.std.specs.Option.{option_or}
@@ -22,7 +22,7 @@ some_or : {A : Type 0} (a b : Option A) → is_some (option_or a b) ≡ (is_some
 some_or None b = refl
 some_or (Some x) b = refl
 
--- something comes first exactly where something comes at all
+-- there is a first element exactly if there is an element
 first-flat_map : {X A : Type 0} (f : X → List A) (xs : List X) → is_some (first_of (flat_map f xs)) ≡ list_any (λ x. is_some (first_of (f x))) xs
 first-flat_map f [] = refl
 first-flat_map f (x ∷ xs) =
@@ -70,7 +70,7 @@ any-never : {X : Type 0} (xs : List X) → list_any (λ x. false) xs ≡ false
 any-never [] = refl
 any-never (x ∷ xs) = any-never xs
 
--- some path and some gate there, or some gate and some path at which it stands
+-- a test of some path and some gate is a test of some gate and some path
 any-swap : {X Y : Type 0} (A : Y → X → Bool) (b : Y → Bool) (qs : List X) (gs : List Y) →
     list_any (λ q. list_any (λ g. A g q && b g) gs) qs ≡ list_any (λ g. list_any (A g) qs && b g) gs
 any-swap A b qs [] = any-never qs
@@ -103,7 +103,7 @@ all-not {X} f (x ∷ xs) h = split (f x) (list_any f xs) h (all-not f xs)
     split true b h k = absurd (true≢false h)
     split false b h k = k h
 
--- where no element passes a test, the one at each index fails it
+-- if no element passes a test, the one at each index fails it
 none-at : {X : Type 0} (f : X → Bool) (xs : List X) → list_any f xs ≡ false → All (λ x. f x ≡ false) xs
 none-at f xs h k d below = turn (f (slice_index_or xs k d)) (AllPass-from_list_all (λ x. not (f x)) xs (all-not f xs h) k d below)
   where
@@ -115,7 +115,7 @@ none-is : {A : Type 0} (o : Option A) → is_some o ≡ false → o ≡ None
 none-is None h = refl
 none-is (Some a) h = absurd (true≢false h)
 
--- no gate on the path refuses where nothing is refused there
+-- if nothing is refused on the path, no gate on it refuses
 pub passes-all : (c : Case) (s : Standing) (p : Tokens) → is_some (refusal_at c s p) ≡ false →
     All (λ g. is_prefix g.path p ≡ true → refusal_of_gate s g ≡ None) c.gates
 passes-all c s p h k d below on_path =
@@ -123,7 +123,7 @@ passes-all c s p h k d below on_path =
     none-is (refusal_of_gate s g)
     (ap (λ b. b && is_some (refusal_of_gate s g)) (sym on_path) ∙ none-at (refuses_on s p) c.gates (sym (refused-any c s p) ∙ h) k d below)
 
--- what comes first over the prefixes comes of one prefix, and of no shorter one
+-- the first refusal over the prefixes comes from one prefix, and from no shorter one
 pub record IsShortest {A : Type 0} (f : Tokens → List A) (p : Tokens) (r : A) (q : Tokens) : Type 0 where
   pub prefix : is_prefix q p ≡ true
   pub here : first_of (f q) ≡ Some r
@@ -170,7 +170,7 @@ shortest {A} f (x ∷ p) r h =
       },
     )
 
--- the first element that passes a test and gives something
+-- the first element that passes a test and gives a value
 pub record IsFirst {X A : Type 0} (h : X → Option A) (T : X → Bool) (xs : List X) (r : A) (x : X) : Type 0 where
   pub found : find (λ y. T y && is_some (h y)) xs ≡ Some x
   pub fits : T x ≡ true
@@ -200,7 +200,7 @@ first-found {X} {A} h T (x ∷ xs) r is = step (T x) (h x) refl refl (first-foun
       },
     )
 
--- no refusal is told at the path of a gate that refuses
+-- if there is no refusal at the path of a gate, the gate doesn't refuse
 refused-there : (c : Case) (s : Standing) (k : ℕ) (d : Gate) → k < length c.gates →
     first_of (refusals_at c s (slice_index_or c.gates k d).path) ≡ None → is_some (refusal_of_gate s (slice_index_or c.gates k d)) ≡ false
 refused-there c s k d below none =
@@ -209,7 +209,7 @@ refused-there c s k d below none =
     ap (λ b. b && is_some (refusal_of_gate s h)) (sym (same_path-refl h.path))
     ∙ none-at (λ g. T g && is_some (refusal_of_gate s g)) c.gates (sym (first-filter_map (refusal_of_gate s) T c.gates) ∙ ap is_some none) k d below
 
--- a number is at most another, or that one is less
+-- a number is at most another, or the other is less
 at_most_or_less : (m n : ℕ) → (m ≤ n) ⊎ (n < m)
 at_most_or_less m n = grind arith
 

@@ -1,4 +1,4 @@
--- Who sees more: readers of the source, permissions, raised clearances.
+-- Readers who see more: those of the source, with more permissions, with a raised clearance.
 use Rattle.std.proofs.Common.{◌≡◌, ℕ, Bool, true, false, not, List, refl, sym, ◌∙◌, ap, subst, arith, if◌then◌else◌, ◌&&◌, ◌||◌, ◌==◌}
 use Rattle.std.specs.Prelude.{Option, Some, None, unwrap_or, is_some, is_none, filter, All, Contains}
 use Rattle.std.specs.List.{filter_map, flat_map, list_any}
@@ -30,7 +30,7 @@ pub source-sees : (es : List LocatedLine) (c : Case) (s : Standing) (p : Tokens)
 source-sees es c s p is =
     ap (λ b. if b || (is_none (refusal_at c s p) && (is_cleared_for s (label_at es p) || is_covered es c s p)) then Shown (if b then Src else if is_cleared_for s (label_at es p) then (clearance_of s).1 else X) else Hidden (hiding_rule es c s p)) is
 
--- what passes a test in one list does so in each list that contains it
+-- an element that passes a test is in each list that contains the first
 any-within : {X : Type 0} (f : X → Bool) (xs ys : List X) → All (λ x. Contains ys x) xs → list_any f xs ≡ true → list_any f ys ≡ true
 any-within f xs ys within h =
     let found = Any-from_list_any f xs h in
@@ -38,7 +38,7 @@ any-within f xs ys within h =
     let there : Contains ys x = subst (λ z. Contains ys z) found.3 (within found.0 x found.2) in
     list_any-from_Any f ys (there.0, x, there.1, there.2, found.4)
 
--- a class stays visible where its gates stay passed and it is cleared or covered as before
+-- a class stays visible if its gates stay passed and it is cleared or covered as before
 pub stays : (a b r r' k k' v v' : Bool) → a ≡ b → (r ≡ true → r' ≡ true) → (k ≡ true → k' ≡ true) → (v ≡ true → v' ≡ true) →
     (a || (r && (k || v))) ≡ true → (b || (r' && (k' || v'))) ≡ true
 stays a b r r' k k' v v' same gates cleared covered h = grind arith
@@ -62,7 +62,7 @@ permission-opens es c d s p r more other is =
     ap (λ b. if b || (is_none (refusal_at d s p) && k) then Shown (showing_rule s (label_at es p)) else Hidden (hiding_rule es d s p)) other
     ∙ ap (λ o. if is_none o && k then Shown (showing_rule s (label_at es p)) else Hidden (unwrap_or o (hidden_by h))) same
 
--- who passes a gate passes it when raised
+-- a reader who passes a gate passes it when raised
 unless-raised : (r : Rule) (a b : Bool) → (a ≡ true → b ≡ true) → is_some (refused_unless r b) ≡ true → is_some (refused_unless r a) ≡ true
 unless-raised r false b up h = refl
 unless-raised r true true up h = h

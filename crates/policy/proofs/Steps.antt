@@ -1,4 +1,4 @@
--- What is said of a path, one step below another.
+-- What the policy says at a path, one step below another.
 use Rattle.std.proofs.Common.{◌≡◌, ◌+◌, ◌≤◌, Bool, true, false, not, List, [], ◌∷◌, ◌++◌, length, refl, sym, ◌∙◌, ap, arith, map, if◌then◌else◌, ◌&&◌, ◌||◌, length-append}
 use Rattle.std.specs.Prelude.{nat_lt, Option, Some, None, unwrap_or, is_some, is_none, find, reverse}
 use Rattle.std.specs.Option.{option_or}
@@ -117,7 +117,8 @@ not_some : (o : Option LabelValue) → is_none o ≡ not (is_some o)
 not_some None = refl
 not_some (Some l) = refl
 
--- a permission covers a class that it covers the parent of, unless a label is written there, or where it stands there itself
+-- A permission covers a class if it covers the path above and no label is written in the class, or if it is at the
+-- class itself.
 pub covers-push : (es : List LocatedLine) (s : Standing) (p : Tokens) (x : Bytes) (y : Permission) →
     covers es s (p ++ x ∷ []) y
     ≡ ((covers es s p y && is_none (written_label es (p ++ x ∷ []))) || (holds_for s y && same_path y.path (p ++ x ∷ [])))
@@ -155,12 +156,12 @@ is_covered-push es c s p x =
     let q = p ++ x ∷ [] in
     any-split (covers es s p) (λ y. holds_for s y && same_path y.path q) (covers es s q) (is_none (written_label es q)) (covers-push es s p x) c.permissions
 
--- what the gates say, one token further
+-- the refusal, one token further down
 pub approach_below-at : (c : Case) (s : Standing) (p : Tokens) (x : Bytes) →
     approach_below c s (approach_at c s p) x ≡ approach_at c s (p ++ x ∷ [])
 approach_below-at c s p x = λ i. record { path = p ++ x ∷ []; refusal = sym (refusal_at-push c s p x) i }
 
--- into a class
+-- one token further down into a class
 pub enter_class-at : (es : List LocatedLine) (c : Case) (s : Standing) (p : Tokens) (x : Bytes) (w : Option LabelValue) →
     has_class es (p ++ x ∷ []) ≡ true → written_label es (p ++ x ∷ []) ≡ w →
     enter_class c s (inherited_at es c s p) x w ≡ inherited_at es c s (p ++ x ∷ [])
@@ -172,7 +173,7 @@ enter_class-at es c s p x w here is =
     ap (λ o. (is_covered es c s p && is_none o) || is_granted c s q) (sym is) ∙ sym (is_covered-push es c s p x) in
     λ i. record { approach = approach_below-at c s p x i; label = label i; covered = lives i }
 
--- into an array, at whose own path there is no class
+-- one token further down into an array, at whose own path there is no class
 pub enter_array-at : (es : List LocatedLine) (c : Case) (s : Standing) (p : Tokens) (x : Bytes) → has_class es (p ++ x ∷ []) ≡ false →
     enter_array c s (inherited_at es c s p) x ≡ inherited_at es c s (p ++ x ∷ [])
 enter_array-at es c s p x none =
@@ -215,7 +216,7 @@ covers-root es s y = by_path y.path
     by_path [] = ap (λ b. holds_for s y && b) (sym (and_from (is_unmarked_below es [] []) true (not_from_false (nat_lt 0 0 && is_some (written_label es [])) (and_left (nat_lt 0 0) (is_some (written_label es [])) refl)) refl))
     by_path (x ∷ r) = refl
 
--- at the root, which is no class
+-- the record at the root, which is no class
 pub at_root-is : (es : List LocatedLine) (c : Case) (s : Standing) → has_class es [] ≡ false → at_root c s ≡ inherited_at es c s []
 at_root-is es c s none =
     let own : own_label es [] ≡ Some private = ap (λ o. option_or o (Some private)) (written_label-none es [] none) in

@@ -1,5 +1,6 @@
--- What a reader is cleared for (FIRST TLP 2.0): the recipients that the source named, their organisations, the clients of
--- these and of the source, and the community that the incident names, or those of the source where it names none.
+-- The clearance of a reader (FIRST TLP 2.0). The strictest goes to the recipients that the source named. Then come
+-- their organisations, the clients of these and of the source, and the community that the incident names, or those of
+-- the source if it names none.
 use Rattle.std.specs.Prelude.{Bool, true, ◌&&◌, List, [], ◌∷◌, find}
 use Rattle.std.specs.Option.{option_map_or}
 use Rattle.marking.specs.declared.label.Handling.{Handling}
@@ -14,12 +15,13 @@ pub record Row : Type 0 where
   pub holds : Bool
   pub handling : Handling
 
+-- a row made of its parts
 abbrev pub row : Rule → Bool → Handling → Row
 row r holds h = record { rule = r; holds = holds; handling = h }
 
 -- The table, the strictest row first. TLP:RED is for individual recipients, TLP:AMBER+STRICT for their organisation,
--- TLP:AMBER for its clients too, TLP:GREEN for the community that the incident names (for the source's where it names none),
--- and TLP:CLEAR for everybody.
+-- and TLP:AMBER for its clients too. TLP:GREEN is for the community that the incident names, or for the source's if it
+-- names none; TLP:CLEAR is for everybody.
 abbrev pub clearance_rows : Standing → List Row
 clearance_rows s =
     row P s.person Red
@@ -29,6 +31,7 @@ clearance_rows s =
     ∷ row A true Clear
     ∷ []
 
+-- the handling and the rule of a row
 abbrev pub cleared_by : Row → Handling × Rule
 cleared_by r = (r.handling, r.rule)
 

@@ -1,4 +1,4 @@
--- What `decide` answers.
+-- The answers of `decide`.
 use Rattle.std.specs.Prelude.{◌≡◌, List, Option, Some, None, if◌then◌else◌, Result, Ok, Err}
 use Rattle.iodef_tree.specs.Text.{Tokens}
 use Rattle.iodef_tree.specs.Paths.{LocatedLine, has_class}
@@ -9,11 +9,11 @@ use Rattle.policy.specs.declared.verdict.Verdict.{Verdict}
 use Rattle.policy.specs.declared.fault.DecideFault.{DecideFault}
 use Rattle.policy.specs.declared.fault.DecideFault.TheVariants.{NoClass, NoMemory}
 
--- the verdict of a class, and of no other path
+-- the verdict of the class at the path; none if there is no class there
 abbrev pub decided_at : List LocatedLine → Case → Standing → Tokens → Option Verdict
 decided_at es c s p = if has_class es p then Some (verdict_of es c s p) else None
 
--- the verdict that is decided there, or NoClass; want of memory may stand in place of both
+-- The verdict of the class at the path, or NoClass if there is none. NoMemory may come in place of either.
 abbrev pub Decides : Result Verdict DecideFault → List LocatedLine → Case → Standing → Tokens → Type 0
 Decides (Ok v) es c s p = decided_at es c s p ≡ Some v
 Decides (Err NoClass) es c s p = decided_at es c s p ≡ None

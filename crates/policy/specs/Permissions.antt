@@ -1,6 +1,6 @@
--- What a permission covers. It widens the audience of a marking, as the source may (FIRST TLP 2.0: wider sharing needs the
--- explicit permission of the source), for as long as the source says; like a marking it holds down to the next label
--- (RFC 7970 section 3.3.1).
+-- What a permission covers. It widens the audience of a marking, as the source may: FIRST TLP 2.0 asks for the
+-- explicit permission of the source for wider sharing. It lasts as long as the source says, and like a marking it
+-- reaches down to the next label (RFC 7970 section 3.3.1).
 use Rattle.std.specs.Prelude.{Bool, true, not, ◌&&◌, ◌==◌, List, length, nat_lt, ℤ, int_lt, Option, Some, None, is_some}
 use Rattle.std.specs.List.{list_all}
 use Rattle.iodef_tree.specs.Text.{Tokens, is_prefix, prefixes}
@@ -12,19 +12,20 @@ use Rattle.policy.specs.declared.permission.Grantee.{Grantee}
 use Rattle.policy.specs.declared.permission.Grantee.TheVariants.{Person, Org, Community, Group}
 use Rattle.policy.specs.declared.permission.Permission.{Permission}
 
--- the grantee is the reader, its organisation, a community of that, or a group of which that is a member and which is active
+-- The grantee includes the reader: it is the reader, its organisation, a community of the organisation, or an active
+-- group of which the organisation is a member.
 abbrev pub includes : Standing → Grantee → Bool
 includes s (Person n) = s.who == n
 includes s (Org n) = s.org == n
 includes s (Community n) = is_among n s.communities
 includes s (Group n) = is_among n s.groups && is_among n s.active_groups
 
--- the end is still to come at this moment, or there is none: at its end a permission has ended
+-- the moment is before the end, or there is no end; at its end a permission has ended
 abbrev pub is_before : ℤ → Option ℤ → Bool
 is_before now None = true
 is_before now (Some end) = int_lt now end
 
--- the permission holds for the reader, wherever it stands: it includes the reader and hasn't ended
+-- the permission holds for the reader at some class: it includes the reader and hasn't ended
 abbrev pub holds_for : Standing → Permission → Bool
 holds_for s x = includes s x.grantee && is_before s.now x.until
 
@@ -32,10 +33,10 @@ holds_for s x = includes s x.grantee && is_before s.now x.until
 abbrev pub is_unmarked_below : List LocatedLine → Tokens → Tokens → Bool
 is_unmarked_below es q r = not (nat_lt (length q) (length r) && is_some (written_label es r))
 
--- q is a prefix of p, and on the way down from q to p no label is written
+-- a permission at q reaches p: q is a prefix of p, and no label is written on the way down from q to p
 abbrev pub reaches : List LocatedLine → Tokens → Tokens → Bool
 reaches es q p = is_prefix q p && list_all (is_unmarked_below es q) (prefixes p)
 
--- a permission covers the class at p for the reader
+-- the permission covers the class at p for the reader
 abbrev pub covers : List LocatedLine → Standing → Tokens → Permission → Bool
 covers es s p x = holds_for s x && reaches es x.path p

@@ -1,9 +1,10 @@
--- How rules are written.
+-- The names of the rules.
 use Rattle.std.specs.Prelude.{codes}
 use Rattle.iodef_tree.specs.Text.{Bytes}
 use Rattle.policy.specs.declared.rule.Rule.{Rule}
 use Rattle.policy.specs.declared.rule.Rule.TheVariants.{Src, P, O, C, M, A, X, G0, G1, G2, G4, G4X, HGreen, HAmber, HStrict, HRed}
 
+-- a rule's name, such as `SRC` or `H-GREEN`
 abbrev pub name_of : Rule → Bytes
 name_of Src = codes "SRC"
 name_of P = codes "P"

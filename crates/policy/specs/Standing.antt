@@ -1,8 +1,8 @@
--- How a reader stands of whom nothing holds.
+-- The standing of a reader of whom nothing holds.
 use Rattle.std.specs.Prelude.{ℕ, pos, [], false, None}
 use Rattle.policy.specs.declared.standing.Standing.{Standing}
 
--- the person and its organisation, by their numbers, at the beginning of 1970
+-- a person and its organisation, by their numbers, of whom nothing else holds, at the beginning of 1970
 abbrev pub stranger : ℕ → ℕ → Standing
 stranger who org = record {
   source = false;

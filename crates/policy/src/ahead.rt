@@ -1,4 +1,4 @@
-//! What of a case's gates and permissions a pass can still meet.
+//! The gates and permissions of a case that a pass can still meet.
 
 ghost use Rattle.std.specs.Prelude.{◌≡◌, ◌↔◌, ◌++◌, ◌∷◌, [], IfOk, true, false};
 ghost use Rattle.std.specs.Option.{option_map_or};
@@ -18,9 +18,11 @@ use crate::standing::Standing;
 use iodef_tree::Text;
 use std::alloc::{AllocError, Global};
 
-/// The gates that refuse a reader and the permissions that hold for it, as far as they stand where a pass is or below:
-/// each with what is left of its path. A step by one token looks at one token of each, and drops those that go another
-/// way. Contracts see what is met at each path behind.
+/// The gates that refuse a reader, and the permissions that hold for it, at or below the place of a pass. Each is kept
+/// with the rest of its path. A step by one token compares one token of each and drops those whose path goes another
+/// way.
+///
+/// Contracts see what is met at each path behind.
 #[derive(Drop)]
 pub struct Ahead<'a> {
     refusing: Vec<Refusing<'a>>,
@@ -28,7 +30,7 @@ pub struct Ahead<'a> {
 }
 
 impl<'a> Ahead<'a> {
-    /// At the root.
+    /// Returns what lies ahead of the root. Fails if memory runs out.
     pub fn at_root(
         alloc: Global,
         case: &'a Case,
@@ -41,7 +43,7 @@ impl<'a> Ahead<'a> {
         Ok(Ahead { refusing, granting })
     }
 
-    /// Where nothing can be met. Takes no memory.
+    /// Returns the state in which nothing can be met. Allocates nothing.
     pub fn none(alloc: Global) -> Ahead<'a>
         ensures { met_by result ≡ nothing_met }
     {
@@ -51,7 +53,7 @@ impl<'a> Ahead<'a> {
         }
     }
 
-    /// One token further down. Takes no memory where nothing is left.
+    /// Returns what lies ahead one token further down. Allocates nothing if nothing is left. Fails if memory runs out.
     pub fn below(&self, alloc: Global, token: &str) -> Result<Ahead<'a>, AllocError>
         ensures { IfOk result (λ a.
             (c : TheCase) (s : TheStanding) (p : Tokens) → met_by self.now ≡ ahead_of c s p →
@@ -62,21 +64,21 @@ impl<'a> Ahead<'a> {
         Ok(Ahead { refusing, granting })
     }
 
-    /// Whether nothing can be met any more, here or below.
+    /// Returns whether nothing can be met any more, here or below.
     pub fn is_empty(&self) -> bool
         ensures { (result ≡ true) ↔ (met_by self.now ≡ nothing_met) }
     {
         self.refusing.is_empty() && self.granting.is_empty()
     }
 
-    /// The rule of the first gate here that refuses.
+    /// Returns the rule of the first gate here that refuses.
     pub fn refusal(&self) -> Option<Rule>
         ensures { result ≡ (met_by self.now []).refusal }
     {
         first_here(self.refusing.as_slice())
     }
 
-    /// Whether a permission stands here.
+    /// Returns whether there is a permission here.
     pub fn is_granted(&self) -> bool
         ensures { result ≡ (met_by self.now []).granted }
     {
@@ -84,14 +86,14 @@ impl<'a> Ahead<'a> {
     }
 }
 
-/// Whether nothing is left.
+/// Returns whether nothing is left of a path.
 fn is_here(rest: &[Text]) -> bool
     ensures { result ≡ same_path rest.now [] }
 {
     rest.is_empty()
 }
 
-/// The rule of the first of which nothing is left.
+/// Returns the rule of the first gate of whose path nothing is left.
 fn first_here(gates: &[Refusing<'_>]) -> Option<Rule>
     ensures { result ≡ first_of (refused_with gates.now []) }
 {
@@ -103,6 +105,7 @@ fn first_here(gates: &[Refusing<'_>]) -> Option<Rule>
     None
 }
 
+/// Returns the gates that refuse the reader, each with its whole path.
 fn refusing<'a>(
     alloc: Global,
     case: &'a Case,
@@ -121,6 +124,7 @@ fn refusing<'a>(
     Ok(refusing)
 }
 
+/// Returns the permissions that hold for the reader, each with its whole path.
 fn granting<'a>(
     alloc: Global,
     case: &'a Case,
@@ -139,7 +143,7 @@ fn granting<'a>(
     Ok(granting)
 }
 
-/// What is left behind the token, if it comes first. Each step of a pass asks this of all that lies ahead.
+/// Returns the path behind the token, if the token comes first.
 #[inline(always)]
 fn behind<'a>(rest: &'a [Text], token: &str) -> Option<&'a [Text]>
     ensures { (z : Tokens) →
@@ -152,6 +156,7 @@ fn behind<'a>(rest: &'a [Text], token: &str) -> Option<&'a [Text]>
     }
 }
 
+/// Returns the gates whose path begins with the token, without that token.
 fn refusing_below<'a>(
     alloc: Global,
     gates: &[Refusing<'a>],
@@ -170,6 +175,7 @@ fn refusing_below<'a>(
     Ok(below)
 }
 
+/// Returns the permissions whose path begins with the token, without that token.
 fn granting_below<'a>(
     alloc: Global,
     permissions: &[Granting<'a>],

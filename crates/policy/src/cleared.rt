@@ -6,7 +6,7 @@ use crate::rule::Rule;
 use crate::standing::Standing;
 use marking::Handling;
 
-/// The strictest handling that the reader is cleared for, and the rule by which it is. Takes no memory.
+/// Returns the strictest handling that the reader is cleared for, and the rule that clears it. Allocates nothing.
 pub fn clearance(standing: &Standing) -> (Handling, Rule)
     ensures { result ≡ clearance_of standing.entry.now }
 {

@@ -1,4 +1,4 @@
-//! Which permission covers a class.
+//! Whether a permission covers a class.
 
 ghost use Rattle.std.specs.Prelude.{◌≡◌, ◌&&◌, ◌||◌, ◌++◌, [], ◌∷◌, is_none, IfOk};
 ghost use Rattle.iodef_tree.specs.Text.{same_path};
@@ -12,8 +12,9 @@ use iodef_tree::{Document, Path, Text};
 use marking::written_at;
 use std::alloc::{AllocError, Global};
 
-/// Whether the permission covers the class at the path for the reader: it includes the reader, hasn't ended, stands at
-/// the path or above, and below it down to the path no label is written (RFC 7970 section 3.3.1).
+/// Returns whether the permission covers the class at the path for the reader: it includes the reader and hasn't
+/// ended, it is at the path or above, and no label is written below it down to the path (RFC 7970 section 3.3.1).
+/// Fails if memory runs out.
 pub fn covers(
     alloc: Global,
     document: &Document,
@@ -30,7 +31,7 @@ pub fn covers(
     reaches(alloc, document, &permission.path, path)
 }
 
-/// Whether the second path is the first or below it, and no label is written on the way down to it.
+/// Returns whether `to` is `from` or below it, and no label is written on the way down to it.
 fn reaches(alloc: Global, document: &Document, from: &Path, to: &Path) -> Result<bool, AllocError>
     ensures { IfOk result (λ b. b ≡ spec.reaches (located document.now) from.now to.now) }
 {
@@ -46,7 +47,7 @@ fn reaches(alloc: Global, document: &Document, from: &Path, to: &Path) -> Result
     Ok(reached)
 }
 
-/// Whether what reached the path above reaches this one, or begins here.
+/// Returns whether a permission that reaches the path above reaches this one, or begins here.
 fn goes_on(document: &Document, from: &Path, here: &Path, above: bool) -> bool
     ensures { result ≡ ((above &&
         is_none (written_label (located document.now) here.now)) || same_path from.now here.now) }
@@ -54,7 +55,7 @@ fn goes_on(document: &Document, from: &Path, here: &Path, above: bool) -> bool
     (above && written_at(document, here).is_none()) || *from == *here
 }
 
-/// The path with one token more.
+/// Returns the path with one token more.
 fn longer(path: Path, token: &Text) -> Result<Path, AllocError>
     ensures { IfOk result (λ p. p ≡ path ++ token.now ∷ []) }
 {

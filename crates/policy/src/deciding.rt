@@ -16,8 +16,10 @@ use crate::verdict::Verdict;
 use iodef_tree::{Document, Path};
 use std::alloc::{AllocError, Global};
 
-/// Whether the reader sees the class at the path, and the rule by which. NoClass exactly where there is no class at the path;
-/// the root is none.
+/// Returns whether the reader sees the class at the path, and the rule that shows or hides it. The markings of the
+/// document must have been accepted.
+///
+/// Fails with NoClass exactly if there is no class at the path (the root is none); with NoMemory if memory runs out.
 pub fn decide(
     alloc: Global,
     document: &Document,
@@ -28,6 +30,7 @@ pub fn decide(
     requires { first_bad_marking (located document.now) ≡ None }
     ensures { Decides result (located document.now) case.now standing.entry.now path.now }
 {
+    // Asked first, by one look-up that allocates nothing, so that NoClass needs no memory.
     if !document.has_class(path) {
         return Err(DecideFault::NoClass);
     }
@@ -35,7 +38,7 @@ pub fn decide(
     Ok(said.verdict(standing))
 }
 
-/// What is said of the path, from the root down.
+/// Returns what the policy says at the path, by a walk from the root.
 fn said_at<'a>(
     alloc: Global,
     document: &'a Document,
@@ -49,6 +52,8 @@ fn said_at<'a>(
 {
     let tokens = path.tokens();
     let mut ahead = Ahead::at_root(alloc, case, standing)?;
+    // One walk down: each class is looked up from the nearest class above it, so each token is looked up once or
+    // twice.
     let mut descent = Descent::at_root(document, &ahead);
     for (place, token) in tokens.iter().enumerate() {
         ahead = ahead.below(alloc, token.as_str())?;

@@ -1,4 +1,4 @@
-//! A walk from the root of a document to a class, which finds each class on the way from the one above it.
+//! A walk from the root of a document to a class. Each class on the way is found from the one above it.
 
 ghost use Rattle.std.specs.Prelude.{◌≡◌, ◌≤◌, ◌<◌, ◌++◌, ◌∷◌, [], List, length};
 ghost use Rattle.iodef_tree.specs.Filled.{IsFilled};
@@ -35,17 +35,18 @@ impl<'p> Spot for Front<'p> {
     }
 }
 
-/// Where a walk is: the nearest class at or above its path, or the root, how many tokens lead to it, and what is said of
-/// the path.
+/// The state of a walk: the nearest class at or above its path, or the root; how many tokens lead to it; and what the
+/// policy says at the path.
 #[derive(Clone, Copy)]
 pub struct Descent<'a> {
     class: &'a Object,
     depth: usize,
+    /// What the policy says at the path of the walk.
     pub said: Carried<'a>,
 }
 
 impl<'a> Descent<'a> {
-    /// At the root.
+    /// Returns the state at the root.
     pub fn at_root(document: &'a Document, ahead: &Ahead<'_>) -> Descent<'a>
         ensures { (c : TheCase) (s : TheStanding) → met_by ahead.now ≡ ahead_of c s [] →
             Reaches (located document.now) c s [] result }
@@ -57,7 +58,7 @@ impl<'a> Descent<'a> {
         }
     }
 
-    /// One token further down, at the path that is handed in, where this lies ahead.
+    /// Returns the state one token further down, at the path `here`.
     pub fn below(self, ahead: &Ahead<'_>, here: &[Text]) -> Descent<'a>
         requires depth { self.depth < length here.now }
         requires filled { IsFilled self.class.now }
@@ -65,6 +66,7 @@ impl<'a> Descent<'a> {
             here.now ≡ p ++ x ∷ [] → met_by ahead.now ≡ ahead_of c s here.now →
             Reaches (located ls) c s p self.entry → Reaches (located ls) c s here.now result }
     {
+        // The tokens since the nearest class: a name, or a name and a place.
         match self.class.class(&here[self.depth..]) {
             Some(class) => Descent {
                 class,

@@ -1,45 +1,45 @@
-//! The definitions computed on readers, gates and small reports, which stand in `specs/Examples.antt`: a wrong definition would show
-//! here, with no program between. Each is the contract of a function that does nothing.
+//! The definitions computed on readers, gates and small reports (`specs/Examples.antt`). A wrong definition would show
+//! here, with no program between. Each example is the contract of a function that does nothing.
 #![tactic(auto, unfolding(crate::proofs::Computed::computed))]
 
 ghost use Rattle.policy.specs.Examples.{StandingsAreCleared, LevelsLetPass, GroupsLetPass, GranteesInclude, ColoursAreForTheCleared, ArrangementsHandleDefault, DeeperGateRefuses, RootGateRefuses, PermissionReachesDown, PermissionEnds, MomentsAreRead, PermissionStopsAtGate};
 
-/// Each way of standing has its clearance, and the strictest of several holds.
+/// Each standing has its clearance, and the strictest of several applies.
 pub fn standings_are_cleared()
     ensures { StandingsAreCleared }
 {}
 
-/// Who passes a gate of each level that names no group.
+/// Which readers pass a gate of each level without a group.
 pub fn levels_let_pass()
     ensures { LevelsLetPass }
 {}
 
-/// A gate of a group lets its members pass, while the group is active.
+/// A gate of a group lets its members pass while the group is active.
 pub fn groups_let_pass()
     ensures { GroupsLetPass }
 {}
 
-/// To whom a permission is given.
+/// Which readers a grantee includes.
 pub fn grantees_include()
     ensures { GranteesInclude }
 {}
 
-/// Of the colours each reader sees those for which it is cleared.
+/// Each reader sees the colours for which it is cleared.
 pub fn colours_are_for_the_cleared()
     ensures { ColoursAreForTheCleared }
 {}
 
-/// What is `default` is handled as it was arranged.
+/// `default` is handled as it was arranged.
 pub fn arrangements_handle_default()
     ensures { ArrangementsHandleDefault }
 {}
 
-/// A gate below the root hides the class where it stands, and what is in it.
+/// A gate below the root hides the class where it is, and what is in the class.
 pub fn deeper_gate_refuses()
     ensures { DeeperGateRefuses }
 {}
 
-/// The gate of the root keeps out who is cleared for all, and never the source.
+/// The root gate refuses a reader who is cleared for everything, and never the source.
 pub fn root_gate_refuses()
     ensures { RootGateRefuses }
 {}
@@ -49,12 +49,12 @@ pub fn permission_reaches_down()
     ensures { PermissionReachesDown }
 {}
 
-/// A permission up to a moment covers before it alone.
+/// A permission with an end covers only before it.
 pub fn permission_ends()
     ensures { PermissionEnds }
 {}
 
-/// The examples of RFC 3339 section 5.8, and what else says a moment or none.
+/// The examples of RFC 3339 section 5.8, and other texts that are or aren't moments.
 pub fn moments_are_read()
     ensures { MomentsAreRead }
 {}

@@ -1,23 +1,25 @@
-//! Why a path has no verdict, and a text no moment.
+//! Why a path has no verdict, and why a text is no moment.
 use std::alloc::AllocError;
 use thiserror::Error;
 
 /// Why a path has no verdict.
 #[derive(Clone, Copy, Debug, Error)]
 pub enum DecideFault {
-    /// There is no class at the path; the root is none.
+    /// There is no class at the path. The root is no class.
     #[error("there is no class at the path")]
     NoClass,
+    /// Memory ran out.
     #[error("no memory")]
     NoMemory,
 }
 
-/// Why a text has no moment.
+/// Why a text is no moment.
 #[derive(Clone, Copy, Debug, Error)]
 pub enum MomentFault {
-    /// It says none, or one that is no whole second.
+    /// It is no moment, or one that is no whole second.
     #[error("bad moment")]
     BadMoment,
+    /// Memory ran out. `jiff` allocates nothing here, so [`read_moment`](crate::read_moment) never returns this.
     #[error("no memory")]
     NoMemory,
 }

@@ -1,4 +1,4 @@
-//! Gates: who passes to a class and to what is below it, by the MISP book's distribution levels.
+//! Gates: which readers see a class and what is below it, by the MISP book's distribution levels.
 
 ghost use Rattle.std.specs.Prelude.{◌≡◌};
 ghost use Rattle.std.specs.Result.{result_err};
@@ -12,14 +12,16 @@ use std::marker::Model;
 /// A gate at the root or at a class.
 #[derive(Drop)]
 pub struct Gate {
+    /// The path of the class, or the root's.
     pub path: Path,
-    /// 0 the source alone, 1 its communities, 2 those connected to them too, 3 everybody, 4 a group, 5 as above.
+    /// 0 the source alone, 1 its communities, 2 those connected to them too, 3 everybody, 4 a group, 5 as the gates
+    /// above say. Any other level counts as 0.
     pub level: u8,
-    /// The group of level 4.
+    /// The group of a gate of level 4.
     pub group: Option<u32>,
 }
 
-/// The gates of an incident, which contracts see as a list.
+/// The gates of an incident. Contracts see a list, so that definitions can make and compare cases.
 #[derive(Drop)]
 pub struct Gates {
     gates: Vec<Gate>,
@@ -35,20 +37,21 @@ impl Model for Gates {
 }
 
 impl Gates {
-    /// Takes no memory.
+    /// Returns the gates of a vector. Allocates nothing.
     pub fn new(gates: Vec<Gate>) -> Gates
         ensures { result ≡ gates.items }
     {
         Gates { gates }
     }
 
+    /// Returns the gates, in order.
     pub fn as_slice(&self) -> &[Gate]
         ensures { result.now ≡ self.now }
     {
         self.gates.as_slice()
     }
 
-    /// Gives the gates back; takes no memory.
+    /// Returns the gates as a vector. Allocates nothing.
     pub fn into_vec(self) -> Vec<Gate>
         ensures { result.items ≡ self }
     {
@@ -56,9 +59,9 @@ impl Gates {
     }
 }
 
-/// Whether the reader passes the gate, else the rule that refuses. Levels 3 and 5 let everybody pass. Level 4 asks
-/// membership first and then whether the group is active; without a group it is refused as one of whose group the reader's
-/// organisation is no member. A level above 5 counts as 0. Takes no memory.
+/// Checks whether the reader passes the gate; fails with the rule by which the gate refuses it. Levels 3 and 5 let
+/// everybody pass. Level 4 asks for membership of the group first, then whether the group is active; without a group
+/// it fails with G4. A level above 5 counts as 0. Allocates nothing.
 pub fn passes(standing: &Standing, gate: &Gate) -> Result<(), Rule>
     ensures { result_err result ≡ refusal_of_gate standing.entry.now gate.now }
 {
@@ -71,12 +74,14 @@ pub fn passes(standing: &Standing, gate: &Gate) -> Result<(), Rule>
     }
 }
 
+/// Fails with this rule unless the reader may pass.
 fn unless(rule: Rule, may_pass: bool) -> Result<(), Rule>
     ensures { result_err result ≡ refused_unless rule may_pass }
 {
     if may_pass { Ok(()) } else { Err(rule) }
 }
 
+/// Checks level 4.
 fn passes_group(standing: &Standing, group: Option<u32>) -> Result<(), Rule>
     ensures { result_err result ≡ group_passage standing.entry.now group }
 {

@@ -1,4 +1,4 @@
-//! What is said of a path, for a pass down a document that inherits it from the path above.
+//! What the policy says at a path, for a pass down a document that inherits it from the path above.
 
 ghost use Rattle.std.specs.Prelude.{◌≡◌, ◌&&◌, ◌||◌, [], is_none, option_map};
 ghost use Rattle.std.specs.Option.{option_or};
@@ -19,19 +19,20 @@ use crate::standing::Standing;
 use crate::verdict::Verdict;
 use marking::{Handling, Label};
 
-/// What holds at a path, as a pass down the document carries it.
+/// What holds at a path, as a pass down the document carries it. The verdict of one class, the redaction and the
+/// search all step with these few calls, which are proved once against the definitions.
 #[derive(Clone, Copy)]
 pub struct Carried<'a> {
     /// The rule of the first gate, from the root down, that refuses the reader.
     pub refusal: Option<Rule>,
     /// The nearest label.
     pub label: Label<'a>,
-    /// Whether a permission covers the path.
+    /// Whether a permission covers the path for the reader.
     pub covered: bool,
 }
 
 impl<'a> Carried<'a> {
-    /// At the root, where this lies ahead. Takes no memory, as the other calls here.
+    /// Returns what holds at the root, given what lies ahead. Allocates nothing, as all calls here.
     pub fn at_root(ahead: &Ahead<'_>) -> Carried<'a>
         ensures { (c : TheCase) (s : TheStanding) → met_by ahead.now ≡ ahead_of c s [] →
             carried [] result ≡ spec.at_root c s }
@@ -43,7 +44,8 @@ impl<'a> Carried<'a> {
         }
     }
 
-    /// In an array, one token further down, where this lies ahead: no label holds at its own path.
+    /// Returns what holds one token further down in an array, given what lies ahead of that path. An array's own path
+    /// has no label.
     pub fn in_array(self, ahead: &Ahead<'_>) -> Carried<'a>
         ensures { (c : TheCase) (s : TheStanding) (p : Tokens) → met_by ahead.now ≡ ahead_of c s p →
             carried p result ≡ array_step c s (carried p self.entry) p }
@@ -55,7 +57,8 @@ impl<'a> Carried<'a> {
         }
     }
 
-    /// In a class, one token further down, where the pass is and this lies ahead, with the label that is written in it.
+    /// Returns what holds one token further down in a class, given where that is, what lies ahead of it, and the label
+    /// written in the class.
     pub fn in_class<S: Spot>(
         self,
         ahead: &Ahead<'_>,
@@ -75,7 +78,7 @@ impl<'a> Carried<'a> {
         }
     }
 
-    /// Whether the reader sees the class here.
+    /// Returns whether the reader sees the class here.
     pub fn is_seen(self, standing: &Standing) -> bool
         ensures { result ≡ spec.is_seen standing.entry.now (carried [] self.entry) }
     {
@@ -83,7 +86,7 @@ impl<'a> Carried<'a> {
             || (self.refusal.is_none() && (is_cleared(standing, self.label) || self.covered))
     }
 
-    /// The verdict of the class here.
+    /// Returns the verdict of the class here.
     pub fn verdict(self, standing: &Standing) -> Verdict
         ensures { result ≡ verdict_by standing.entry.now (carried [] self.entry) }
     {
@@ -94,7 +97,7 @@ impl<'a> Carried<'a> {
         }
     }
 
-    /// The rule that hides the class here, where it isn't seen.
+    /// Returns the rule that hides the class here, if the reader doesn't see it.
     pub fn hiding_rule(self, standing: &Standing) -> Rule
         ensures { result ≡ spec.hides standing.entry.now (carried [] self.entry) }
     {
@@ -105,18 +108,21 @@ impl<'a> Carried<'a> {
     }
 }
 
+/// Returns how the reader is to handle the label.
 fn handling(standing: &Standing, label: Label) -> Handling
     ensures { result ≡ handling_for standing.entry.now (marking_of label.entry) }
 {
     label.handling(standing.arrangement)
 }
 
+/// Returns whether the reader is cleared for the label.
 fn is_cleared(standing: &Standing, label: Label) -> bool
     ensures { result ≡ is_cleared_for standing.entry.now (marking_of label.entry) }
 {
     handling(standing, label).is_at_most(clearance(standing).0)
 }
 
+/// Returns the rule that shows a class with this label.
 fn shown_by(standing: &Standing, label: Label) -> Rule
     ensures { result ≡ showing_rule standing.entry.now (marking_of label.entry) }
 {
@@ -129,10 +135,12 @@ fn shown_by(standing: &Standing, label: Label) -> Rule
     }
 }
 
+/// Returns the rule of a handling that hides a class.
 fn hidden_by(handling: Handling) -> Rule
     ensures { result ≡ hides_by handling }
 {
     match handling {
+        // Everybody is cleared for CLEAR, so it never hides a class and has no rule of its own.
         Handling::Clear | Handling::Green => Rule::HGreen,
         Handling::Amber => Rule::HAmber,
         Handling::Strict => Rule::HStrict,
@@ -140,6 +148,7 @@ fn hidden_by(handling: Handling) -> Rule
     }
 }
 
+/// Returns the refusal above, or else that of a gate here.
 fn first_refusal(above: Option<Rule>, ahead: &Ahead<'_>) -> Option<Rule>
     ensures { result ≡ option_or above (met_by ahead.now []).refusal }
 {
@@ -149,20 +158,21 @@ fn first_refusal(above: Option<Rule>, ahead: &Ahead<'_>) -> Option<Rule>
     }
 }
 
-/// Whether what a permission above covers goes on in a class in which this label is written.
+/// Returns whether a permission above still covers a class in which this label is written.
 fn outlives(above: bool, written: Option<Label<'_>>) -> bool
     ensures { result ≡ (above && is_none (option_map marking_of written.entry)) }
 {
     above && written.is_none()
 }
 
-/// Whether a permission above covers this place, or one here does.
+/// Returns whether a permission above covers this place, or there is one here.
 fn is_covered(above: bool, ahead: &Ahead<'_>) -> bool
     ensures { result ≡ (above || (met_by ahead.now []).granted) }
 {
     above || ahead.is_granted()
 }
 
+/// Returns the label of a class: the one written in it, else the default of the Incident, else the label above.
 fn label_below<'a, S: Spot>(above: Label<'a>, spot: &S, written: Option<Label<'a>>) -> Label<'a>
     ensures { marking_of result ≡
         label_step (marking_of above.entry) (S.tokens spot.now)

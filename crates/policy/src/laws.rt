@@ -1,5 +1,4 @@
-//! What the policy promises whatever the document, the case and the reader are. Each law is the contract of a function
-//! that does nothing.
+//! Laws of the policy, for every document, case and reader. Each law is the contract of a function that does nothing.
 
 ghost use Rattle.policy.specs.Laws.{SourceSeesAll, UnrefusedPassesGates, VisiblePassesGates, RefusalIsNearest, PermissionHidesNothing, PermissionOpensNoGate, EndedCountsForNothing, EndlessAtAnyMoment, LaterSeesNoMore, RaisedIsClearedForMore, RaisedSeesNoLess, ClearIsNeverHidden, ClearanceIsStrictest, RootIsAsSaid, ClassIsAsSaid, ArrayIsAsSaid};
 
@@ -8,17 +7,18 @@ pub fn source_sees_all()
     ensures { SourceSeesAll }
 {}
 
-/// Where no gate refuses on a path, the reader passes every gate on it.
+/// If no gate on a path refuses the reader, the reader passes every gate on it.
 pub fn unrefused_passes_gates()
     ensures { UnrefusedPassesGates }
 {}
 
-/// Whoever else sees a class passes every gate on its path.
+/// Any other reader who sees a class passes every gate on its path.
 pub fn visible_passes_gates()
     ensures { VisiblePassesGates }
 {}
 
-/// A refusal's rule is that of the refusing gate with the shortest path, of equal paths of the first in the list.
+/// The refusal on a path is that of the refusing gate with the shortest path, and of the first in the list if several
+/// have that path.
 pub fn refusal_is_nearest()
     ensures { RefusalIsNearest }
 {}
@@ -28,7 +28,7 @@ pub fn permission_hides_nothing()
     ensures { PermissionHidesNothing }
 {}
 
-/// Adding a permission opens no gate: whom a gate keeps out, it keeps out by the same rule.
+/// Adding a permission opens no gate: a gate that refuses a reader still refuses it, by the same rule.
 pub fn permission_opens_no_gate()
     ensures { PermissionOpensNoGate }
 {}
@@ -38,7 +38,7 @@ pub fn ended_counts_for_nothing()
     ensures { EndedCountsForNothing }
 {}
 
-/// Where no permission ends, the verdict is the same at any moment.
+/// If no permission ends, the verdict is the same at any moment.
 pub fn endless_at_any_moment()
     ensures { EndlessAtAnyMoment }
 {}
@@ -48,28 +48,28 @@ pub fn later_sees_no_more()
     ensures { LaterSeesNoMore }
 {}
 
-/// A reader that is addressed, nominated, a client's or in the community as well is cleared for no less.
+/// A reader who is also addressed, nominated, a client or in the community is cleared for no less.
 pub fn raised_is_cleared_for_more()
     ensures { RaisedIsClearedForMore }
 {}
 
-/// Raising the clearance never hides a class.
+/// Raising a reader never hides a class.
 pub fn raised_sees_no_less()
     ensures { RaisedSeesNoLess }
 {}
 
-/// What is handled as CLEAR is hidden by gates alone.
+/// A class that is handled as CLEAR is hidden only by gates.
 pub fn clear_is_never_hidden()
     ensures { ClearIsNeverHidden }
 {}
 
-/// The clearance is the strictest that any of the rules gives.
+/// The clearance is the strictest that any rule gives.
 pub fn clearance_is_strictest()
     ensures { ClearanceIsStrictest }
 {}
 
-/// What a pass carries one token further down is what the definitions say there: at the root, at a class and at any other
-/// path, as an array's.
+/// What a pass carries one token further down is what the definitions say there: at the root, at a class, and at any
+/// other path, such as that of an array.
 pub fn steps_are_as_said()
     ensures root { RootIsAsSaid }
     ensures class { ClassIsAsSaid }

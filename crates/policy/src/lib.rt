@@ -1,22 +1,22 @@
-//! The written policy: what a reader is cleared for, which gates it passes, which permissions cover a class for it, and
-//! the verdict of each class of a document, its path judged alone (FIRST TLP 2.0, the MISP book's distribution levels
-//! and sharing groups, RFC 7970 section 3.3.1).
+//! The written policy: what a reader is cleared for, which gates it passes, which permissions cover a class for it,
+//! and the verdict of each class of a document. Each path is judged by itself (FIRST TLP 2.0, the MISP book's
+//! distribution levels and sharing groups, RFC 7970 section 3.3.1).
 //!
-//! To read first, in `specs/`: `Clearance`, `Gates`, `Permissions` and `Verdict`, a page each, which are the policy.
+//! Read first, in `specs/`: `Clearance`, `Gates`, `Permissions` and `Verdict`, a page each, which are the policy.
 //!
-//! The rooms, in the way of a question:
+//! The modules, in the order of a question:
 //!
-//! - `standing`: who asks; `case`: what the incident is judged by, its gates (`gate`) and permissions (`permission`);
-//!   `numbers`: the lists of numbers in a standing;
+//! - `standing`: the reader; `case`: the facts of the incident, with its gates (`gate`) and permissions
+//!   (`permission`); `numbers`: the lists of numbers in a standing;
 //! - `cleared`: [`clearance`]; `gate`: [`passes`]; `permission`: [`includes`]; `rule`: the names of the rules;
 //! - `covering`: [`covers`], whether one permission covers one class;
-//! - `deciding`: [`decide`], the [`Verdict`] of one class (`verdict`), by a walk from the root (`descent`); `fault`: why
-//!   there is none;
-//! - `moment`: [`read_moment`], when a permission ends, of a text;
-//! - for passes over a whole document: `inherited`, [`Carried`], what is handed down; `ahead`, [`Ahead`], the gates and
-//!   permissions that can still be met (`onward`); `spot`, where a pass is;
-//! - [`laws`]: what the policy promises of every document, case and reader; [`examples`], the definitions computed on small
-//!   reports.
+//! - `deciding`: [`decide`], the [`Verdict`] of one class (`verdict`), by a walk from the root (`descent`); `fault`:
+//!   why there is none;
+//! - `moment`: [`read_moment`], the end of a permission from a text;
+//! - for passes over a whole document: `inherited`, [`Carried`], what is handed down; `ahead`, [`Ahead`], the gates
+//!   and permissions that can still be met (`onward`); `spot`, where a pass is;
+//! - [`laws`]: what the policy promises of every document, case and reader; [`examples`], the definitions computed on
+//!   small reports.
 #![tactic(auto)]
 
 mod ahead;

@@ -7,9 +7,11 @@ ghost use Rattle.policy.specs.Moment as spec;
 use crate::fault::MomentFault;
 use jiff::Timestamp;
 
-/// The moment that the text says, in seconds since the beginning of 1970 (UTC): a date, a time of day and an offset from
-/// UTC, as RFC 3339 section 5.6 writes them, and what else `jiff` reads as an instant. BadMoment where `jiff` refuses the
-/// text, and where the instant is no whole second. Takes no memory.
+/// Returns the moment that the text gives, in seconds since the beginning of 1970 (UTC): a date, a time of day and an
+/// offset from UTC (RFC 3339 section 5.6), or any other text that `jiff` reads as an instant. A leap second (23:59:60)
+/// is read as the second before it. Allocates nothing.
+///
+/// Fails with BadMoment if `jiff` refuses the text, or if the instant is no whole second.
 pub fn read_moment(text: &str) -> Result<i64, MomentFault>
     ensures { result ≡ moment_in text.now }
 {
@@ -19,6 +21,7 @@ pub fn read_moment(text: &str) -> Result<i64, MomentFault>
     }
 }
 
+/// Returns the seconds of an instant. Fails with BadMoment if it is no whole second.
 fn whole_second(instant: Timestamp) -> Result<i64, MomentFault>
     ensures { result ≡ spec.whole_second instant.nanosecond }
 {

@@ -4,7 +4,7 @@ ghost use Rattle.policy.specs.Numbers.{is_among};
 
 use std::marker::Model;
 
-/// Numbers of groups or communities, which contracts see as a list.
+/// Numbers of groups or communities. Contracts see a list, so that definitions can make and compare standings.
 #[derive(Drop)]
 pub struct Numbers {
     numbers: Vec<u32>,
@@ -19,26 +19,28 @@ impl Model for Numbers {
 }
 
 impl Numbers {
-    /// Takes no memory.
+    /// Returns the numbers of a vector. Allocates nothing.
     pub fn new(numbers: Vec<u32>) -> Numbers
         ensures { result ≡ numbers.items }
     {
         Numbers { numbers }
     }
 
+    /// Returns the numbers, in order.
     pub fn as_slice(&self) -> &[u32]
         ensures { result.now ≡ self.now }
     {
         self.numbers.as_slice()
     }
 
+    /// Returns whether the number is among them.
     pub fn contains(&self, number: u32) -> bool
         ensures { result ≡ is_among number self.now }
     {
         self.numbers.contains(&number)
     }
 
-    /// Gives the numbers back; takes no memory.
+    /// Returns the numbers as a vector. Allocates nothing.
     pub fn into_vec(self) -> Vec<u32>
         ensures { result.items ≡ self }
     {

@@ -1,4 +1,4 @@
-//! The rules by which classes are shown and hidden, with their names.
+//! The rules that show and hide classes, with their names.
 ghost use Rattle.std.specs.Prelude.{◌≡◌};
 
 /// The rule by which a class is shown, a gate refuses, or a class is hidden.
@@ -12,20 +12,20 @@ pub enum Rule {
     O,
     /// The reader is nominated and its organisation is a client of the source or of an addressed organisation.
     C,
-    /// The reader's organisation is in the community that the incident names; where it names none, it shares one with the
-    /// source.
+    /// The reader's organisation is in the community that the incident names, or shares one with the source if it
+    /// names none.
     M,
     /// Anybody.
     A,
     /// A permission of the source covers the class.
     X,
-    /// A gate for the source alone.
+    /// A gate that lets only the source pass.
     G0,
-    /// A gate for the source's communities.
+    /// A gate that lets the source's communities pass.
     G1,
-    /// A gate for the source's communities and those connected to them.
+    /// A gate that lets the source's communities and those connected to them pass.
     G2,
-    /// A gate for a group of which the reader's organisation is no member.
+    /// A gate for a group of which the reader's organisation isn't a member.
     G4,
     /// A gate for a group that isn't active.
     G4X,
@@ -42,7 +42,7 @@ pub enum Rule {
 impl Rule {
     ghost use Rattle.policy.specs.Rule.{name_of};
 
-    /// Its name, as replies and explanations write it.
+    /// Returns the rule's name, as replies and explanations write it.
     pub fn name(self) -> &'static str
         ensures { result.now ≡ name_of self }
     {

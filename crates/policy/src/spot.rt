@@ -1,15 +1,15 @@
-//! Where a pass down a document is.
+//! The place of a pass down a document.
 
 ghost use Rattle.std.specs.Prelude.{◌≡◌};
 ghost use Rattle.iodef_tree.specs.Text.{Tokens, same_path};
 ghost use Rattle.marking.specs.Marks.{incident_path};
 
-/// A place in a document. A pass that holds no `Path` tells by this where it is.
+/// A place in a document. A pass that holds no `Path` says by this trait whether it is at the Incident.
 pub trait Spot {
-    /// Its path.
+    /// The path of the place.
     ghost tokens: { Self → Tokens };
 
-    /// Whether it is at the Incident. Takes no memory.
+    /// Returns whether the place is the Incident. Allocates nothing.
     fn is_at_incident(&self) -> bool
         ensures { result ≡ same_path (tokens self.now) incident_path };
 }

@@ -21,7 +21,8 @@ pub struct Standing {
     pub client: bool,
     /// The reader's organisation and the source are in one community.
     pub community: bool,
-    /// The reader's organisation is a member of the community that the incident names; where it names none, as `community`.
+    /// The reader's organisation is a member of the community that the incident names; if it names none, the same as
+    /// `community`.
     pub peer: bool,
     /// The reader's organisation is in a community that is connected to one of the source's.
     pub connected: bool,
@@ -33,7 +34,7 @@ pub struct Standing {
     pub org: u32,
     /// The groups of which the reader's organisation is a member.
     pub groups: Numbers,
-    /// The groups that are active. One that `groups` lacks counts for nothing.
+    /// The groups that are active. One that isn't in `groups` counts for nothing.
     pub active_groups: Numbers,
     /// The communities of which the reader's organisation is a member.
     pub communities: Numbers,
@@ -42,8 +43,8 @@ pub struct Standing {
 }
 
 impl Standing {
-    /// The reader of this number and of the organisation of that number, of whom nothing else holds, at the beginning of
-    /// 1970. Takes no memory.
+    /// Returns the standing of a reader, by its number and that of its organisation, of whom nothing else holds, at
+    /// the beginning of 1970. Allocates nothing.
     pub fn stranger(alloc: Global, who: u32, org: u32) -> Standing
         ensures { result ≡ stranger who org }
     {

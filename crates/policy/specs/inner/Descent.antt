@@ -1,4 +1,4 @@
--- Where a walk from the root is.
+-- The state of a walk from the root.
 use Rattle.std.specs.Prelude.{◌≡◌, ◌≤◌, List, length, take}
 use Rattle.iodef_tree.specs.Filled.{IsFilled}
 use Rattle.iodef_tree.specs.Laws.{StandsAt}
@@ -10,7 +10,7 @@ use Rattle.policy.specs.declared.standing.Standing.{Standing}
 use Rattle.policy.specs.declared.case.Case.{Case}
 use Rattle.policy.specs.declared.descent.Descent.{Descent}
 
--- it is at p, below a class or the root, and carries what is said there
+-- The walk is at p, at or below the class or root that it holds, and carries what the definitions say at p.
 pub record Reaches (es : List LocatedLine) (c : Case) (s : Standing) (p : Tokens) (d : Descent) : Type 0 where
   pub depth : d.depth ≤ length p
   pub stands : StandsAt es (take d.depth p) (forest d.class.now)
