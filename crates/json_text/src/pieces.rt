@@ -56,8 +56,8 @@ impl<'w, W: Write> Sink for Pieces<'w, W> {
 
     ghost joins = { λ a b c x y p q. takes-both _ _ _ _ _ _ x y p q };
 
-    /// If a text doesn't fit behind the waiting bytes, these are written first. A text larger than a piece is written by
-    /// itself.
+    /// If a text doesn't fit behind the waiting bytes, these are written first. A text larger than a piece is written
+    /// by itself.
     fn put(&mut self, bytes: &[u8]) -> Result<(), Refused> {
         if self.piece.try_extend_from_slice(bytes).is_ok() {
             return Ok(());
