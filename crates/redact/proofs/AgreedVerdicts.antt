@@ -1,4 +1,4 @@
--- Verdicts that agree at some paths, and what the reader is then told.
+-- Verdicts that agree at some paths, and what the reader is then served.
 use Rattle.std.proofs.Common.{◌≡◌, suc, Bool, true, false, not, List, [], ◌∷◌, ◌++◌, refl, sym, ◌∙◌, ap, map, if◌then◌else◌, ◌&&◌, ◌||◌}
 use Rattle.std.specs.Prelude.{Option, filter, count_by, length}
 use Rattle.std.specs.List.{AllByRecursion, flat_map, list_any, zip}
@@ -28,7 +28,7 @@ text_not_class kind.Class h = absurd (false≢true h)
 text_not_class kind.Text h = refl
 text_not_class kind.Value h = refl
 
--- ---- the kept outline, as the kept lines, each with what is added in it
+-- ---- the kept outline: the kept lines, each with what is added in it
 
 abbrev put_up : List (Line × List Line) → List Line
 put_up [] = []
@@ -130,7 +130,7 @@ not_held v p needle e sees gone = by_cases (same_path e.parent p) (is_text_kind 
     by_cases true false b a = refl
     by_cases false t b a = refl
 
--- two worlds, with the lines apart from those that are kept in neither
+-- two worlds, and the paths of the lines that are kept in neither
 pub record Worlds : Type 0 where
   pub off : Tokens → Bool
   pub keep : LocatedLine → Bool
@@ -144,7 +144,7 @@ pub record Worlds : Type 0 where
   pub gone : AllByRecursion (λ e. keep e ≡ false → is_kept v e ≡ false) es
   pub gone' : AllByRecursion (λ e. keep e ≡ false → is_kept v' e ≡ false) es'
 
--- what isn't kept is no visible class
+-- a line that isn't kept is no visible class
 not_seen : (v : Verdicts) (e : LocatedLine) → is_kept v e ≡ false → seen v e ≡ false
 not_seen v e h = by_kind (is_class e) h
   where
@@ -220,7 +220,7 @@ module _ (w : Worlds) where
       (each-from (λ e. w.keep e ≡ true → (w.off (class_path e) ≡ true) × (w.off e.parent ≡ true)) (λ e. w.keep e ≡ true → searched w.v w.es needle name e ≡ searched w.v' w.es' needle name e)
       (λ e h k. searched-same needle name e (h k).0) w.es w.places)
 
--- ---- what is withheld, where the verdicts agree everywhere and no class line differs
+-- ---- what is withheld, if the verdicts agree everywhere and no class line differs
 
 abbrev pub spots : (LocatedLine → Bool) → LocatedLine → List Tokens
 spots f e = if is_class e && f e then e.path ∷ [] else []

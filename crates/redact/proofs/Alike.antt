@@ -1,4 +1,4 @@
--- Places in an array that are written alike.
+-- Places in an array with the same digits.
 use Rattle.std.proofs.Common.{◌≡◌, ◌==◌, ℕ, ◌<◌, ◌^◌, decimal, ap, bytes_eq}
 use Rattle.std.proofs.lemmas.Bool.Decides.{Decides-eqb, Decides-like, same_from_decides}
 use Rattle.std.proofs.lemmas.Fmt.{decimal_injective}

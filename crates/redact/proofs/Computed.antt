@@ -1,4 +1,4 @@
--- What the examples compute with.
+-- The definitions that the examples unfold.
 use Rattle.std.specs.Fmt.{digits}
 
 unfoldable pub computed : Unit {0}

@@ -1,4 +1,5 @@
--- How many classes are visible. What is left of a document is no deeper, has no more lines that count, and its plain lines have texts of their kinds.
+-- How many classes are visible. What is kept of a document is no deeper, has no more lines that count, and its plain
+-- lines have texts of their kinds.
 use Rattle.std.proofs.Common.{◌≡◌, ◌≤◌, ◌||◌, not, arith, ℕ, suc, ◌+◌, Bool, true, false, List, ◌∷◌, ◌++◌, cond, refl, ap, zero-add, if◌then◌else◌, ◌&&◌, count_by, codes, is_some, bytes_eq, [], ◌∙◌, Option, max}
 use Rattle.std.proofs.lemmas.List.Sums.{sum_by-append, sum_by-cons}
 use Rattle.std.proofs.lemmas.Bool.{and_right, cond_both}
@@ -21,7 +22,7 @@ count_by-append test xs ys = sum_by-append (λ x. cond (test x) 1 0) xs ys
 pub count_by-cons : {X : Type 0} (test : X → Bool) (x : X) (xs : List X) → count_by test (x ∷ xs) ≡ cond (test x) 1 0 + count_by test xs
 count_by-cons test x xs = sum_by-cons (λ x. cond (test x) 1 0) x xs
 
--- the visible classes by the pass are those by their paths
+-- the visible classes of the pass are those by their paths
 pub count-walk : (v : Verdicts) (f : Forest) (d : ℕ) (p : Tokens) → count_by (is_seen v) (walk d p f) ≡ visible_classes (judge v p f)
 count-walk v end d p = refl
 count-walk v (leaf i rest) d p = rw (count_by-cons (is_seen v) (leaf_entry d p i) (walk d p rest), no_class-kind i.content, count-walk v rest d p, zero-add)
@@ -30,7 +31,7 @@ count-walk v (branch name place kids rest) d p =
     let K = walk (suc d) q kids in
     rw (count_by-cons (is_seen v) (class_entry d p name place) (K ++ walk d p rest), count_by-append (is_seen v) K (walk d p rest), count-walk v kids (suc d) q, count-walk v rest d p)
 
--- the visible classes are no more than the lines that count
+-- there are no more visible classes than lines that count
 pub few-seen : (v : Verdicts) (f : Forest) (d : ℕ) (p : Tokens) → visible_classes (judge v p f) ≤ counted (lines d f)
 few-seen v end d p = omega arith
 few-seen v (leaf i rest) d p = omega (arith, few-seen v rest d p, count_by-cons (λ l. not (is_label_line l)) (leaf_line d i) (lines d rest))
@@ -49,10 +50,10 @@ few-seen v (branch name place kids rest) d p =
       count_by-append (λ l. not (is_label_line l)) K (lines d rest),
     )
 
--- ---- members in place of others
+-- ---- members that replace others
 
--- Members in place of others: with no more classes below one another, no deeper but by a label, with no more lines that
--- count, and with fitting texts.
+-- Members that replace others. They have no more classes below one another, are no deeper but for a label, have no
+-- more lines that count, and have fitting texts.
 pub record IsWithin (f g : Forest) : Type 0 where
   pub classes : class_height g ≤ class_height f
   pub depth : height g ≤ max (height f) (suc (class_height f))
@@ -97,7 +98,7 @@ within-class name place place' kids inner f g same k h = record {
   texts = λ t. (k.texts t.0, h.texts t.1);
 }
 
--- without the first
+-- the members without the first
 without-leaf : (i : Leaf) (f g : Forest) → IsWithin f g → IsWithin (leaf i f) g
 without-leaf i f g h = record {
   classes = h.classes;
@@ -116,7 +117,7 @@ without-class name place kids f g h = record {
 
 -- ---- a label
 
--- the attributes of a label bear its names
+-- the members of a label have its names
 abbrev pub AreLabelNames : List Attribute → Type 0
 AreLabelNames label = AllByRecursion (λ a. (bytes_eq a.0 (codes "restriction") || bytes_eq a.0 (codes "ext-restriction")) ≡ true) label
 

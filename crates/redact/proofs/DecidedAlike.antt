@@ -1,4 +1,4 @@
--- When two documents and two cases decide alike of the classes at some paths.
+-- When two documents and two cases decide the same of the classes at some paths.
 use Rattle.std.proofs.Common.{◌≡◌, Bool, true, false, not, List, [], ◌∷◌, ◌++◌, refl, sym, ◌∙◌, ap, subst, map, length, if◌then◌else◌, ◌&&◌, ◌||◌, reverse, cond}
 use Rattle.std.specs.Prelude.{Some, None, filter, find, nat_lt, is_some, is_none, codes, unwrap_or}
 use Rattle.std.specs.List.{AllByRecursion, flat_map}
@@ -45,7 +45,7 @@ prefixes-are (y ∷ x) = (
       (each-from (λ r. is_prefix r x ≡ true) (λ r. (bytes_eq y y && is_prefix r x) ≡ true) (λ r h. and_from (bytes_eq y y) (is_prefix r x) (bytes_eq-refl y) h) (prefixes x) (prefixes-are x)),
 )
 
--- ---- labels, where classes and what is written agree
+-- ---- labels, if classes and written labels agree
 
 pub record Reads (off : Tokens → Bool) (es es' : List LocatedLine) : Type 0 where
   pub root : off [] ≡ true
@@ -79,7 +79,7 @@ module _ (off : Tokens → Bool) (es es' : List LocatedLine) (w : Reads off es e
   pub covered-same : (c : Case) (s : Standing) (x : Tokens) → off x ≡ true → is_covered es c s x ≡ is_covered es' c s x
   covered-same c s x h = any-each (covers es s x) (covers es' s x) c.permissions (covers-same s x h)
 
--- ---- verdicts, where refusals and permissions agree too
+-- ---- verdicts, if refusals and permissions agree too
 
 pub record Decides (off : Tokens → Bool) (s : Standing) (es es' : List LocatedLine) (c c' : Case) : Type 0 where
   pub reads : Reads off es es'
@@ -151,7 +151,7 @@ module _ (off : Tokens → Bool) (s : Standing) (keep : LocatedLine → Bool) (e
     rule = rule-same off s es es' c c' w;
   }
 
--- ---- what is written at a path, and whether a class is there
+-- ---- whether there is a class at a path, and what is written in it
 
 abbrev pub says : Tokens → Bytes → LocatedLine → List Held
 says p name e = if is_member p name e then held_by_line e.line ∷ [] else []

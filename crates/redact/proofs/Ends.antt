@@ -1,4 +1,4 @@
--- Paths by their ends.
+-- Paths by their last tokens.
 use Rattle.std.proofs.Common.{◌≡◌, ℕ, Bool, true, false, List, [], ◌∷◌, ◌++◌, length, append-nil, append_assoc, refl, sym, ◌∙◌, ap, arith, ◌&&◌, ◌||◌, ◌==◌, decimal, bytes_eq}
 use Rattle.std.specs.Prelude.{Option, Some, None}
 use Rattle.std.proofs.lemmas.Bool.{and_right, ne_eqb}
@@ -24,7 +24,7 @@ longer-none : (p : Tokens) (t : Bytes) → same_path (p ++ t ∷ []) [] ≡ fals
 longer-none [] t = refl
 longer-none (a ∷ p) t = refl
 
--- the last tokens, and what stands in front of them
+-- the last token of a path, and the tokens before it
 pub same-last : (p z : Tokens) (t n : Bytes) → same_path (p ++ t ∷ []) (z ++ n ∷ []) ≡ (bytes_eq t n && same_path p z)
 same-last [] [] t n = refl
 same-last [] (b ∷ z) t n = and_right (bytes_eq t b) _ (none-longer z n) ∙ sym (and_right (bytes_eq t n) false refl)
@@ -34,7 +34,7 @@ same-last (a ∷ p) (b ∷ z) t n = ap (λ r. bytes_eq a b && r) (same-last p z 
     swap : (x y r : Bool) → (x && (y && r)) ≡ (y && (x && r))
     swap x y r = grind arith
 
--- of a path that ends with a token
+-- the same of a path that ends with a token
 pub last-is : (q p : Tokens) (t : Bytes) → q ≡ p ++ t ∷ [] → (n : Bytes) (z : Tokens) → same_path q (z ++ n ∷ []) ≡ (bytes_eq t n && same_path p z)
 last-is q p t is n z = ap (λ x. same_path x (z ++ n ∷ [])) is ∙ same-last p z t n
 
@@ -42,7 +42,7 @@ pub last-none : (q : Tokens) → length q ≡ 0 → (n : Bytes) (z : Tokens) →
 last-none [] h n z = none-longer z n
 last-none (x ∷ q) h n z = absurd (omega (arith, h))
 
--- a step in an array ends with its place
+-- a step in an array ends with a place
 pub step-place : (z : Tokens) (s : Step) → s.in_array ≡ true → z ++ step_tokens s ≡ (z ++ s.name ∷ []) ++ decimal s.place ∷ []
 step-place z s h = ap (λ b. z ++ steps s.name (place_of b s.place)) h ∙ sym (append_assoc z (s.name ∷ []) (decimal s.place ∷ []))
 
@@ -55,7 +55,7 @@ prefix-root : (q : Tokens) → is_prefix q [] ≡ same_path q []
 prefix-root [] = refl
 prefix-root (a ∷ q) = refl
 
--- of a path with one token more the prefixes are those of the path, and itself
+-- the prefixes of a path with one token more are those of the path, and the longer path itself
 prefix-more : (q p : Tokens) (x : Bytes) → is_prefix q (p ++ x ∷ []) ≡ (is_prefix q p || same_path q (p ++ x ∷ []))
 prefix-more [] p x = refl
 prefix-more (a ∷ q) [] x = ap (λ r. bytes_eq a x && r) (prefix-root q)
@@ -64,7 +64,7 @@ prefix-more (a ∷ q) (b ∷ p) x = ap (λ r. bytes_eq a b && r) (prefix-more q 
     spread : (y r t : Bool) → (y && (r || t)) ≡ ((y && r) || (y && t))
     spread y r t = grind arith
 
--- and with a step more, also the path of its array
+-- with a step in an array, the path of the array is one too
 pub prefix-step : (q p : Tokens) (s : Step) → is_prefix q (p ++ step_tokens s) ≡ (is_prefix q p || (same_path q (p ++ s.name ∷ []) || same_path q (p ++ step_tokens s)))
 prefix-step q p s = by_place (place_of s.in_array s.place)
   where

@@ -1,4 +1,4 @@
--- A class under a token: what is left of it, what it tells and what is found, by what holds at it.
+-- A class under a token: what is kept, listed and found of it, given what holds at it.
 use Rattle.std.proofs.Common.{◌≡◌, ℕ, Bool, ◌||◌, ◌≤◌, List, [], ◌∷◌, ◌++◌, refl, sym, ◌∙◌, ap, subst, take, length, Option, Some, None, option_map, Vec, Global, vec_len, arith, ◌-◌}
 use Rattle.std.proofs.lemmas.List.{map-append, take-append-le, length-append}
 use Rattle.std.proofs.Math.Seq.{take-append_seam}
@@ -27,11 +27,11 @@ bodies-of : (left : Option Object) → option_map body (option_map Class left) �
 bodies-of None = refl
 bodies-of (Some o) = ap Some (body-Class o)
 
--- what was pushed is popped
+-- a token that was pushed is popped
 popped : (ks : List Token) (k : Token) (n : ℕ) (old new : List Token) → old ≡ ks ++ k ∷ [] → n ≡ length old → new ≡ take (n - 1) old → new ≡ ks
 popped ks k n old new e l rest = rest ∙ ap (λ m. take m old) (omega (arith, l, ap length e, length-append ks (k ∷ []))) ∙ ap (take (length ks)) e ∙ take-append_seam ks (k ∷ [])
 
--- a pass steps from p, where it carries h, to the class o at p1, its trail, and carries this there
+-- a pass steps from p, where it carries h, to the class o at p1, and carries `at` there
 module _ (C : Case) (S : Standing) (p p1 trail : List Token) (h at : Carried) (k : Token) (it : Item) (o : Object) (written : Option LabelValue)
     (is : it ≡ Class o) (further : p1 ≡ p ++ k ∷ []) (said : written ≡ spelled_in (forest o))
     (there : trail ≡ p1) (asked : carries trail at ≡ class_step C S (carries trail h) (path_of trail) written) where
@@ -60,7 +60,7 @@ module _ (C : Case) (S : Standing) (p p1 trail : List Token) (h at : Carried) (k
   class-counted : count_at C S (carries p h) (token_of k) (body it) ≡ class_count C S (judgment_by C S (carries p1 at) (spelled_in (forest o))) (pass C S (carries p1 at) (forest o))
   class-counted = by_body (count_at C S (carries p h) (token_of k)) ∙ ap (λ i. class_count C S (judgment_by C S i (spelled_in (forest o))) (pass C S i (forest o))) entered
 
-  -- the pass comes back from the class, both in the stored document and in the excerpt
+  -- the pass comes back from the class, in the stored document and in the excerpt
   pub class-goes : (base : ℕ) (st st2 : State) (path place path2 place2 : Vec Token Global) (j : Token) → base ≤ length st.place.items → p1 ≡ path.items → p ≡ st.path.items → place.items ≡ st.place.items ++ j ∷ [] →
       Goes (path_of (take base place.items)) (record st { path = path; place = place }) st2
       (class_told C S (path_of (take base place.items)) (path_of place.items) (judgment_by C S (carries p1 at) (spelled_in (forest o))) (pass C S (carries p1 at) (forest o))) []

@@ -1,4 +1,4 @@
--- Where an attribute goes among members, by its name.
+-- The place of an attribute among members, by its name.
 use Rattle.std.proofs.Common.{◌==◌, ne_eqb, ◌≡◌, if◌then◌else◌, ℕ, zero, suc, ◌<◌, ◌≤◌, true, false, List, [], ◌∷◌, ◌++◌, map, length, get_or, take, drop, refl, ◌∙◌, ap, arith, sym, Bool, Option, Some, None, option_map, is_some, IfSome, vec_len, eqb-true, subst, true≢false}
 use Rattle.std.specs.List.{AllByRecursion}
 use Rattle.iodef_tree.specs.Filled.{IsFilled, IsMemberFilled}
@@ -33,7 +33,7 @@ stops_member x n (many (b ∷ bs)) rest filled h = put-front x n (Some 0) b _ �
 abbrev Pair : Type 0
 Pair = Bytes × Member
 
--- the place is behind the last member of a name that isn't later
+-- the place is behind the last member whose name isn't later
 pub put_split : (name text : Bytes) (ms : List Pair) (i : ℕ) → i ≤ length ms →
     ((k : ℕ) (d : Pair) → k < i → bytes_lt name (get_or ms k d).0 ≡ false) →
     ((d : Pair) → i < length ms → bytes_lt name (get_or ms i d).0 ≡ true × (has_elements (bodies (get_or ms i d).1) ≡ true)) →
@@ -56,12 +56,12 @@ member-end n (one b) rest h = front-end n None b rest
 member-end n (many []) rest h = absurd (true≢false (sym h))
 member-end n (many (b ∷ bs)) rest h = front-end n (Some 0) b _
 
--- members that have lines have an end only where there are none
+-- members that have lines are at an end only if there are none
 filled-end : (ms : List Pair) → AllByRecursion (λ m. IsMemberFilled m.1) ms → is_end (members_forest ms) ≡ (length ms == 0)
 filled-end [] all = refl
 filled-end (m ∷ ms) all = member-end m.0 (bodies m.1) (members_forest ms) (member-elements m.1 all.0) ∙ sym (ne_eqb (length (m ∷ ms)) 0 (omega arith))
 
--- what is filled stays so with one member more
+-- filled members stay filled with one more
 pub inserted-filled : (ms : List Pair) (i : ℕ) (e : Pair) → AllByRecursion (λ m. IsMemberFilled m.1) ms → IsMemberFilled e.1 → AllByRecursion (λ m. IsMemberFilled m.1) (take i ms ++ e ∷ drop i ms)
 inserted-filled [] zero e all h = (h, tt)
 inserted-filled [] (suc i) e all h = (h, tt)
@@ -74,7 +74,7 @@ object-end o filled = ap is_end (forest-members o) ∙ filled-end o.members.item
 pub object-empty : (o : Object) → IsFilled o → is_end (forest o) ≡ true → length o.members.items ≡ 0
 object-empty o filled e = sym o.members.ok.0 ∙ eqb-true (vec_len o.members) 0 (sym (object-end o filled) ∙ e)
 
--- what is left of a class that isn't visible is none where nothing is left of its members
+-- nothing is kept of a class that isn't visible if nothing is kept of its members
 pub hidden-left : (o : Object) (r : Option Object) (left : Forest) → forest o ≡ left → r ≡ (if is_end (forest o) then None else Some o) → option_map forest r ≡ (if is_end left then None else Some left)
 hidden-left o r left is made = ap (option_map forest) made ∙ by_end (is_end (forest o)) ∙ ap (λ f. if is_end f then None else Some f) is
   where

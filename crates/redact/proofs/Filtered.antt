@@ -1,11 +1,11 @@
--- Lists whose elements pass the same tests: what holds of each, what is found, and what is kept.
+-- Lists whose elements pass the same tests: a property of each, the first that is found, and those that are kept.
 use Rattle.std.proofs.Common.{◌≡◌, Bool, true, false, List, [], ◌∷◌, ◌++◌, refl, sym, ◌∙◌, ap, map, if◌then◌else◌, ◌&&◌, ◌||◌, reverse, cond}
 use Rattle.std.specs.Prelude.{Some, filter, find, unwrap_or}
 use Rattle.std.specs.List.{AllByRecursion, flat_map, list_any, list_all}
 use mathlib.Core.List.{reverse_aux}
 use Rattle.std.proofs.lemmas.Bool.{or_parts, cond-false}
 
--- ---- what holds of each
+-- ---- a property of each
 
 pub each : {X : Type 0} (P : X → Type 0) → ((x : X) → P x) → (xs : List X) → AllByRecursion P xs
 each P h [] = tt
@@ -34,7 +34,7 @@ found-has P test d (x ∷ xs) h k = by_test (test x) (found-has P test d xs h k.
     by_test true ih = k.0
     by_test false ih = ih
 
--- ---- what is found and tested, where the tests agree
+-- ---- the first that is found, if the tests agree
 
 pub find-each : {X : Type 0} (f g : X → Bool) (xs : List X) → AllByRecursion (λ x. f x ≡ g x) xs → find f xs ≡ find g xs
 find-each f g [] h = refl
@@ -85,7 +85,7 @@ any-both f g (x ∷ xs) = by_test (g x) (any-both f g xs)
     by_test true ih = ap (λ r. f x || r) ih ∙ sym (ap (λ a. a || list_any (λ x. f x && g x) xs) (by_same (f x)))
     by_test false ih = ih ∙ sym (ap (λ a. a || list_any (λ x. f x && g x) xs) (by_first (f x)))
 
--- ---- what is kept
+-- ---- those that are kept
 
 pub filter-passing : {X : Type 0} (f g : X → Bool) (xs : List X) → AllByRecursion (λ x. g x ≡ false → f x ≡ false) xs → filter f xs ≡ filter f (filter g xs)
 filter-passing f g [] h = refl
@@ -95,11 +95,11 @@ filter-passing f g (x ∷ xs) h = by_test (g x) refl (filter-passing f g xs h.1)
     by_test true k ih = ap (λ ys. if f x then x ∷ ys else ys) ih
     by_test false k ih = cond-false (f x) _ _ (h.0 k) ∙ ih
 
--- the same, where an element that fails the second test fails the first
+-- the same, if an element that fails the second test fails the first
 pub filter-within : {X : Type 0} (f g : X → Bool) (xs : List X) → ((x : X) → g x ≡ false → f x ≡ false) → filter f xs ≡ filter f (filter g xs)
 filter-within f g xs h = filter-passing f g xs (each (λ x. g x ≡ false → f x ≡ false) h xs)
 
--- what passes two tests
+-- those that pass two tests
 pub filter-both : {X : Type 0} (f g : X → Bool) (xs : List X) → filter f (filter g xs) ≡ filter (λ x. g x && f x) xs
 filter-both f g [] = refl
 filter-both f g (x ∷ xs) = by_test (g x) (filter-both f g xs)

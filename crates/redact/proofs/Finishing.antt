@@ -1,4 +1,4 @@
--- What the lines that a pass kept say of all that it was fed.
+-- What the lines that a pass kept say of all lines that it was fed.
 use Rattle.std.proofs.Common.{◌≡◌, true, false, not, List, refl, sym, ◌∙◌, ap, subst}
 use Rattle.std.specs.Prelude.{Option, Some, None, is_some, IfSome}
 use Rattle.std.proofs.lemmas.Bool.{false≢true, true≢false}

@@ -1,4 +1,4 @@
--- A class whose line has just come holds nothing yet: no line before it has its path, and so none stands in it.
+-- A class whose line has just come holds nothing yet: no line before it has its path, so none is in it.
 use Rattle.std.proofs.Common.{◌≡◌, Bool, true, false, ◌&&◌, ◌||◌, ◌⊎◌, inl, inr, List, [], ◌∷◌, ◌++◌, refl, sym, ◌∙◌, ap, subst, map, cond}
 use Rattle.std.specs.Prelude.{ℕ, Some, None, find}
 use Rattle.std.specs.Option.{option_map_or, option_or}
@@ -97,7 +97,7 @@ module _ (ls : List Line) (l : Line) where
         | inr a ↦ absurd (false≢true (sym new ∙ a))
       ]
 
-  -- nothing is held by the class of the newest line
+  -- the class of the newest line holds nothing
   pub holds-nothing : (name : Bytes) → is_outline (ls ++ l ∷ []) ≡ true → (e.path ≡ [] → ⊥) → same_path e.parent e.path ≡ false → held_at (located (ls ++ l ∷ [])) e.path name ≡ absent
   holds-nothing name outline some apart = ap (λ o. option_map_or (λ (x : LocatedLine). held_by_line x.line) o absent) (
       ap (find (is_member e.path name)) (located-append ls (l ∷ []))

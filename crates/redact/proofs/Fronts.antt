@@ -1,4 +1,4 @@
--- The pass over members side by side: what is left, told and counted of each, and then of the others.
+-- The pass over members side by side: what is kept, listed and counted of each, and then of the others.
 use Rattle.std.proofs.Common.{◌≡◌, ℕ, suc, ◌+◌, Bool, true, false, List, [], ◌∷◌, ◌++◌, refl, sym, ◌∙◌, ap, map, append_assoc, add_assoc, zero-add, if◌then◌else◌, decimal, Option, Some, None, is_some, option_map}
 use Rattle.std.specs.List.{cons_option}
 use Rattle.iodef_tree.specs.Text.{Bytes, Tokens}
@@ -20,31 +20,31 @@ use Rattle.redact.specs.inner.Pass.{enter, judgment_by, pass}
 use Rattle.redact.proofs.Fates.{new_place-before}
 use Rattle.redact.specs.inner.Left.{left_at, told_at, count_at, left_items, told_items, count_items, many_or_none, left_members, told_members, count_members}
 
--- what is left of some members, what is told of them, and how many classes they count
+-- what is kept of some members, what is listed of them, and how many classes they count
 pub record Outcome : Type 0 where
   pub left : Forest
   pub pairs : List Withheld
   pub classes : ℕ
 
--- what is left at one place, in front of what is left behind it
+-- what is kept at one place, in front of what is kept behind it
 abbrev or_front : Option Body → Bytes → Option ℕ → Forest → Forest
 or_front None name place behind = behind
 or_front (Some b) name place behind = in_front name place b behind
 
--- one more in front
+-- the outcome of one in front of others
 abbrev joined : Option Body → Bytes → Option ℕ → List Withheld → ℕ → Outcome → Outcome
 joined o name place ts m behind = record { left = or_front o name place behind.left; pairs = ts ++ behind.pairs; classes = m + behind.classes }
 
 module _ (c : Case) (s : Standing) (h : Surrounding) (a : Inherited) (q : Tokens) where
-  -- what the pass makes of members
+  -- the outcome of the pass over members
   abbrev pub made : ℕ → Forest → Outcome
   made n f = record { left = cut h n (pass c s a f); pairs = withheld_below h q n (pass c s a f); classes = visible_classes (pass c s a f) }
 
-  -- how many are left once the sibling is passed
+  -- how many are kept once the sibling is passed
   abbrev passed : ℕ → Option ℕ → Option Body → ℕ
   passed n place o = if is_some o then left_with n place else left_before n place
 
-  -- a sibling that is entered from the class or array at d by the token t
+  -- a sibling into which the token t leads from the class or array at d
   front : (d : Inherited) (t name : Bytes) (place : Option ℕ) → ((w : Option LabelValue) → enter c s a name place w ≡ enter_class c s d t w) → (n : ℕ) (b : Body) (rest : Forest) →
       let o = left_at c s h d t b in
       made n (in_front name place b rest)
@@ -78,7 +78,7 @@ module _ (c : Case) (s : Standing) (h : Surrounding) (a : Inherited) (q : Tokens
       by_tests false true S F rule TS TF m = rw add_assoc
       by_tests false false S F rule TS TF m = rw add_assoc
 
-  -- elements of an array from place k on, l of which are left so far, with what comes behind the array
+  -- elements of an array from place k on, of which l are kept before, and what comes behind the array
   abbrev of_items : Bytes → ℕ → ℕ → List Body → Outcome → Outcome
   of_items name k l bs R =
       let d = enter_array c s a name in
@@ -118,11 +118,11 @@ module _ (c : Case) (s : Standing) (h : Surrounding) (a : Inherited) (q : Tokens
   front-many name [] ms = refl
   front-many name (x ∷ xs) ms = refl
 
-  -- what is made of members with these bodies
+  -- the outcome of members with these bodies
   abbrev pub of_members : List (Bytes × Bodies) → Outcome
   of_members ms = record { left = forest_of_members (left_members c s h a ms); pairs = told_members c s h a q ms; classes = count_members c s a ms }
 
-  -- however many elements are left of an array in front of them
+  -- the same, however many elements of an array are kept before them
   members : (ms : List (Bytes × Bodies)) (n : ℕ) → made n (forest_of_members ms) ≡ of_members ms
   members [] n = refl
   members ((name, one b) ∷ ms) n =

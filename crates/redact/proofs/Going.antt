@@ -13,11 +13,11 @@ use Rattle.redact.specs.declared.pass.State.{State}
 use Rattle.redact.proofs.Listing.{any-with}
 use Rattle.redact.proofs.Searching.{any_map}
 
--- pairs are the same where each is among both or neither
+-- lists of pairs are the same test if each pair is in both or in neither
 alike : (xs ys : List Withheld) → ((x : Withheld) → is_among xs x ≡ is_among ys x) → is_among xs ≡ is_among ys
 alike xs ys h = λ i x. h x i
 
--- one more step, which tells T and counts m
+-- one more step, which lists T and counts m
 pub goes-step : (q : Tokens) (a b d : State) (X T Z : List Withheld) (M m k : ℕ) → Goes q a b X (T ++ Z) M (m + k) → Goes q b d T [] m 0 → Goes q a d X Z M k
 goes-step q a b d X T Z M m k g step = record {
   path = step.path ∙ g.path;
@@ -29,7 +29,7 @@ goes-step q a b d X T Z M m k g step = record {
   classes = λ l. let e = g.classes l in let f = step.classes (omega (arith, e, l)) in omega (arith, e, f);
 }
 
--- ---- what a class tells when its members are done
+-- ---- what a class lists when its members are done
 
 framed : (W I A G T e : Bool) → (W || I) ≡ (A || T) → ((W || (I || e)) || G) ≡ ((A || G) || (e || T))
 framed W I A G T e h = grind arith
@@ -37,7 +37,7 @@ framed W I A G T e h = grind arith
 dropped : (A G e : Bool) → (A || (G || e)) ≡ ((A || G) || (e || false))
 dropped A G e = grind arith
 
--- a class of which nothing is left tells its rule at the place of its parent
+-- a class of which nothing is kept lists its rule at the place of its parent
 told-gone : (q : Tokens) (a d : State) (rule : Rule) → d.withheld.items ≡ a.withheld.items →
     ((test : Rule → Bool) → list_any test d.rules_met.items ≡ (list_any test a.rules_met.items || test rule)) →
     is_among (tells q d ++ []) ≡ is_among (tells q a ++ at_rule q rule ∷ [])
@@ -45,7 +45,7 @@ told-gone q a d rule noted added = alike (tells q d ++ []) (tells q a ++ at_rule
     simp (append-nil, list_any-append, noted, any_map, added)
     (dropped (is_among a.withheld.items x) (list_any (λ l. same_withheld x (at_rule q l)) a.rules_met.items) (same_withheld x (at_rule q rule))))
 
--- b is a as its members begin, with none of them gone; k is where they are done; d is a with what they told
+-- b is a before the members, with none of them gone; k is the state behind them; d is a with what they listed
 module _ (q r : Tokens) (a b k d : State) (T : List Withheld)
     (begins : b.withheld.items ≡ a.withheld.items) (bare : b.rules_met.items ≡ [])
     (below : is_among (tells r k ++ []) ≡ is_among (tells r b ++ T)) where
@@ -55,7 +55,7 @@ module _ (q r : Tokens) (a b k d : State) (T : List Withheld)
       let told = simp (append-nil, list_any-append, begins, bare) at (ap (λ (f : Withheld → Bool). f x) below) in
       simp (append-nil, list_any-append, noted, kept) (grind (arith, told)))
 
-  -- a frame, which tells its own rule too
+  -- a frame, which lists its own rule too
   told-frame : (rule : Rule) (gs : List Rule) → ((test : Rule → Bool) → list_any test gs ≡ (list_any test k.rules_met.items || test rule)) →
       d.withheld.items ≡ k.withheld.items ++ at_place r gs → d.rules_met.items ≡ a.rules_met.items →
       is_among (tells q d ++ []) ≡ is_among (tells q a ++ at_rule r rule ∷ T)
@@ -72,9 +72,9 @@ module _ (q r : Tokens) (a b k d : State) (T : List Withheld)
       told-frame rule (with_rule k.rules_met.items rule) (λ test. any-with test k.rules_met.items rule)
       (leaves.withheld ∙ ap (λ p. k.withheld.items ++ at_place p (with_rule k.rules_met.items rule)) here) leaves.gone
 
--- ---- a loop that pushes what is left, if something is
+-- ---- a loop that pushes what is kept, if something is
 
--- with one more, made of what is left
+-- a list with one more, made of what is kept
 abbrev pub pushed : {X Z : Type 0} → (Z → X) → List X → Option Z → List X
 pushed g ks None = ks
 pushed g ks (Some z) = ks ++ g z ∷ []

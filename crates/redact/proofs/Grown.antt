@@ -1,4 +1,4 @@
--- The lines of an outline are those of a document: its tree grows line by line, at the ends of the classes that are open.
+-- The lines of an outline are those of a document: its tree grows line by line, at the ends of the open classes.
 use Rattle.std.proofs.Common.{◌≡◌, ℕ, zero, suc, ◌+◌, ◌-◌, ◌≤◌, Bool, true, false, not, ◌==◌, List, [], ◌∷◌, ◌++◌, length, append-nil, append_assoc, refl, sym, ◌∙◌, ap, subst, arith, if◌then◌else◌, Option, Some, None, is_some}
 use Rattle.std.specs.Str.{bytes_eq}
 use Rattle.std.proofs.lemmas.Bool.{false≢true, and_parts, and_from, eq-eqb}
@@ -59,7 +59,7 @@ record Open : Type 0 where
   place : Option ℕ
   members : Forest
 
--- with all closed
+-- the tree with all classes closed
 abbrev whole : Forest → List Open → Forest
 whole f [] = f
 whole f (x ∷ xs) = append f (branch x.name x.place (whole x.members xs) end)
@@ -72,7 +72,7 @@ whole-numbered : (f : Forest) (xs : List Open) → AreNumbered f xs → IsNumber
 whole-numbered f [] h = h
 whole-numbered f (x ∷ xs) h = numbered-append None f (branch x.name x.place (whole x.members xs) end) h.0 (h.1, whole-numbered x.members xs h.2, tt)
 
--- what a line stands for
+-- the content of a plain line
 abbrev content_of : Kind → Bytes → Content
 content_of kind.Class t = text t
 content_of kind.Text t = text t
@@ -93,13 +93,13 @@ abbrev put : Bool → Forest → Line → Spine
 put true f l = record { root = f; classes = opened f l ∷ [] }
 put false f l = record { root = leaf_of f l; classes = [] }
 
--- a line at the end of the class that is the k-th of the open ones
+-- a line at the end of the k-th open class
 abbrev add : ℕ → Forest → List Open → Line → Spine
 add zero f xs l = put (is_class_kind l.kind) (whole f xs) l
 add (suc k) f [] l = record { root = f; classes = [] }
 add (suc k) f (x ∷ xs) l = let r = add k x.members xs l in record { root = f; classes = (record { name = x.name; place = x.place; members = r.root }) ∷ r.classes }
 
--- ---- a line is what is put in
+-- ---- a line is the thing that is put in
 
 class-kind : (k : Kind) → is_class_kind k ≡ true → k ≡ kind.Class
 class-kind kind.Class h = refl

@@ -1,4 +1,4 @@
--- What is withheld, in order and without repeats, is one list.
+-- The list of what is withheld, in order and without repeats, is one list.
 use Rattle.std.proofs.Common.{◌≡◌, ◌⊎◌, inl, inr, ℕ, zero, suc, ◌<◌, List, [], ◌∷◌, length, get_or, refl, sym, ◌∙◌, ap, subst, arith}
 use Rattle.std.specs.Prelude.{Contains}
 use Rattle.std.specs.List.{AllByRecursion}
@@ -28,7 +28,7 @@ contains_in [] x h = absurd h
 contains_in (y ∷ ys) x (inl h) = (0, omega arith, h)
 contains_in (y ∷ ys) x (inr h) = let r = contains_in ys x h in (suc r.0, omega (arith, r.1), r.2)
 
--- ---- two sorted lists of the same
+-- ---- two sorted lists of the same pairs
 
 module _ {X : Type 0} (R : X → X → Ordering) (o : IsTotalOrder R) where
   not_both : (x y : X) → R x y ≡ Less → R y x ≡ Less → ⊥
@@ -94,7 +94,7 @@ unfolding IsStrictlySortedBy
 in_order_sorted [] = tt
 in_order_sorted (x ∷ xs) = noted_sorted x (withheld_in_order xs) (in_order_sorted xs)
 
--- what is noted is the pair or was there
+-- a pair of the new list is the pair put in or one that was there
 noted_from : (x z : Withheld) (ys : List Withheld) → In (insert_withheld x ys) z → In (x ∷ ys) z
 noted_from x z [] h = h
 noted_from x z (y ∷ ys) h = by_case (withheld_cmp x y) h (noted_from x z ys)
@@ -108,7 +108,7 @@ noted_from x z (y ∷ ys) h = by_case (withheld_cmp x y) h (noted_from x z ys)
 tied : (x y : Withheld) → withheld_cmp x y ≡ Equal → x ≡ y
 tied x y h = withheld-same x y (withheld-ties x y ∙ ap is_eq h)
 
--- the pair and what was there are noted
+-- the pair put in and those that were there are in the new list
 noted_to : (x z : Withheld) (ys : List Withheld) → In (x ∷ ys) z → In (insert_withheld x ys) z
 noted_to x z [] h = h
 noted_to x z (y ∷ ys) h = by_case (withheld_cmp x y) refl h (noted_to x z ys)
@@ -130,7 +130,7 @@ ordered_to [] z h = h
 ordered_to (x ∷ xs) z (inl h) = noted_to x z (withheld_in_order xs) (inl h)
 ordered_to (x ∷ xs) z (inr h) = noted_to x z (withheld_in_order xs) (inr (ordered_to xs z h))
 
--- what is put in order is a list of the same pairs
+-- the ordered list is a list of the same pairs
 pub order-lists : (pairs : List Withheld) → Lists pairs (withheld_in_order pairs)
 order-lists pairs = record {
   ascending = in_order_sorted pairs;
@@ -138,14 +138,14 @@ order-lists pairs = record {
   complete = λ z k. contains_in (withheld_in_order pairs) z (ordered_to pairs z (in_contained pairs z k));
 }
 
--- the list of the pairs in order is that of the definition
+-- a list of the pairs in order is that of the definition
 pub listed_in_order : (pairs listed : List Withheld) → Lists pairs listed → listed ≡ withheld_in_order pairs
 listed_in_order pairs listed h =
     same_sorted withheld_cmp withheld-total listed (withheld_in_order pairs) h.ascending (in_order_sorted pairs)
     (λ z k. ordered_to pairs z (in_contained pairs z (h.sound z (contains_in listed z k))))
     (λ z k. in_contained listed z (h.complete z (contains_in pairs z (ordered_from pairs z k))))
 
--- the same pairs are in one order
+-- lists of the same pairs have one order
 pub same_in_order : (xs ys : List Withheld) → ((x : Withheld) → is_among xs x ≡ is_among ys x) → withheld_in_order xs ≡ withheld_in_order ys
 same_in_order xs ys same = same_sorted withheld_cmp withheld-total (withheld_in_order xs) (withheld_in_order ys) (in_order_sorted xs) (in_order_sorted ys)
     (λ z k. ordered_to ys z (in_contained ys z (among-contains xs ys same z (contains_in xs z (ordered_from xs z k)))))

@@ -1,4 +1,4 @@
--- The kept outline is what the pass leaves, with the attributes of labels put in among its lines and its members.
+-- The kept outline is what the pass keeps, with the members of labels put in among its lines and among its members.
 use Rattle.std.proofs.Common.{◌≡◌, ℕ, suc, ◌<◌, Bool, true, false, List, [], ◌∷◌, ◌++◌, refl, ◌∙◌, ap, append_assoc, arith, if◌then◌else◌, ◌&&◌, ◌||◌, ◌==◌, nat_lt, lt-ltb, not, sym, subst, filter, Option, is_some}
 use Rattle.std.proofs.lemmas.Bool.{or_left, cond-true, false≢true, cond-false}
 use Rattle.std.specs.List.{list_any}
@@ -31,7 +31,7 @@ after_same d b = grind arith
 deeper : (n d : ℕ) (b : Bool) → d < n → (nat_lt n d || ((n == d) && b)) ≡ false
 deeper n d b h = grind arith
 
--- a member of depth d goes past what lies deeper
+-- a member of depth d goes past deeper lines
 put-skip : (x : Line) (f : Forest) (n : ℕ) (ys : List Line) → x.depth < n → put x (lines n f ++ ys) ≡ lines n f ++ put x ys
 put-skip x end n ys h = refl
 put-skip x (leaf i rest) n ys h = rw (deeper n x.depth (bytes_lt x.name i.name) h, put-skip x rest n ys h)
@@ -39,12 +39,12 @@ put-skip x (branch name place kids rest) n ys h =
     rw (deeper n x.depth (bytes_lt x.name name) h, append_assoc (lines (suc n) kids) (lines n rest) ys, append_assoc (lines (suc n) kids) (lines n rest) (put x ys))
     (rw (put-skip x kids (suc n) (lines n rest ++ ys) (omega arith), put-skip x rest n ys h))
 
--- lines with one in front, or not
+-- lines with one in front, or without
 in_front-lines : (b : Bool) (d : ℕ) (x : Leaf) (f g : Forest) (ys : List Line) → (if b then leaf_line d x ∷ (lines d f ++ ys) else lines d g ++ ys) ≡ lines d (if b then leaf x f else g) ++ ys
 in_front-lines true d x f g ys = refl
 in_front-lines false d x f g ys = refl
 
--- an attribute put in among the lines of a class, and of what stands behind it, is put in among its members
+-- A member put in among the lines of a class, and of what comes behind it, is put in among its members.
 put-lines : (d : ℕ) (x : Leaf) (f : Forest) (ys : List Line) → IsShallow d ys → put (leaf_line d x) (lines d f ++ ys) ≡ lines d (put_leaf x f) ++ ys
 put-lines d x end ys h = put-first (leaf_line d x) ys h
 put-lines d x (leaf i rest) ys h =
@@ -59,7 +59,7 @@ attributes-lines : (d : ℕ) (label : List Attribute) (f : Forest) (ys : List Li
 attributes-lines d [] f ys h = refl
 attributes-lines d (a ∷ label) f ys h = ap (put (attribute_line d a)) (attributes-lines d label f ys h) ∙ put-lines d (attribute_leaf a) (put_attributes label f) ys h
 
--- a label that is said is put into the lines of its class alone
+-- a label that a class says is put into the lines of that class only
 pub label-lines : (says : Bool) (d : ℕ) (label : List Attribute) (f : Forest) (ys : List Line) → IsShallow d ys →
     put_all (if says then attribute_lines d label else []) (lines d f ++ ys) ≡ lines d (if says then put_attributes label f else f) ++ ys
 label-lines true d label f ys h = attributes-lines d label f ys h
@@ -90,7 +90,7 @@ module _ (v : Verdicts) where
   abbrev pub any_seen : List LocatedLine → Bool
   any_seen es = list_any is_seen es
 
-  -- at each class, what is decided says whether a visible one lies below it
+  -- what is decided of each class says whether a visible one is below it
   abbrev pub SaysBelow : ℕ → Tokens → Forest → Type 0
   SaysBelow d p end = Unit {0}
   SaysBelow d p (leaf i rest) = SaysBelow d p rest
@@ -109,7 +109,7 @@ module _ (v : Verdicts) where
   shows-home [] = refl
   shows-home (x ∷ p) = refl
 
-  -- below a class that isn't visible nothing is left just where no visible class lies below
+  -- nothing is kept below a class that isn't visible exactly if no visible class is below it
   pub ends : (f : Forest) (d : ℕ) (p : Tokens) (n : ℕ) → is_end (cut (inside false) n (judge v p f)) ≡ not (any_seen (walk d p f))
   ends end d p n = refl
   ends (leaf i rest) d p n = rw (no_class-kind i.content) (ends rest d p (left_before n i.place))

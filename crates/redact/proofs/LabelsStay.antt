@@ -1,5 +1,5 @@
--- In a document whose markings were accepted no class below the root is named as a label's attribute. So the labels written outside a
--- class and what lies below it don't depend on that.
+-- In a document whose markings are accepted, no class below the root has the name of a label's member. So the labels
+-- written outside a class and what is below it don't depend on that.
 use Rattle.std.proofs.Common.{◌≡◌, ℕ, suc, Bool, true, false, not, List, [], ◌∷◌, ◌++◌, refl, sym, ◌∙◌, ap, subst, if◌then◌else◌, ◌&&◌, ◌||◌}
 use Rattle.std.specs.Prelude.{Option, Some, None, codes, is_some, option_map}
 use Rattle.std.specs.List.{AllByRecursion}
@@ -35,7 +35,7 @@ has_branch name end = false
 has_branch name (leaf i rest) = has_branch name rest
 has_branch name (branch n place kids rest) = bytes_eq n name || has_branch name rest
 
--- behind a plain member outside arrays no class has its name
+-- no class behind a plain member outside arrays has its name
 alone : (name n : Bytes) (f : Forest) → bytes_eq n name ≡ true → AllSiblings (AreApart n None) f → has_branch name f ≡ false
 alone name n end e h = refl
 alone name n (leaf i rest) e h = alone name n rest e h.1
@@ -51,7 +51,7 @@ alone name n (branch n' place kids rest) e h = by_test (bytes_eq n' name) refl (
         absurd (false≢true (sym (h.0.left []) ∙ front place (subst (λ x. bytes_eq n x ≡ true) same (bytes_eq-refl n))))
     by_test false k ih = ih
 
--- a class is held as something else than a text
+-- a class counts as something other than a text
 held-other : (name : Bytes) (f : Forest) → HasApart f → has_branch name f ≡ true → held_in name f ≡ other
 held-other name end a h = absurd (false≢true h)
 held-other name (leaf i rest) a h = by_test (bytes_eq i.name name) refl (held-other name rest a.1 h)
@@ -74,7 +74,7 @@ no_text absent = refl
 no_text (one_text t) = refl
 no_text other = refl
 
--- where the marking rule is kept no class among the members has such a name
+-- if the marking rule is kept, no class among the members has such a name
 no-branch : (name : Bytes) (f : Forest) → HasApart f → is_rule_kept_in f ≡ true → (held_in name f ≡ other → is_rule_kept_in f ≡ false) → has_branch name f ≡ false
 no-branch name f a kept breaks = by_test (has_branch name f) refl
   where
@@ -88,7 +88,7 @@ no-restriction f a kept = no-branch (codes "restriction") f a kept (λ h. ap (λ
 no-ext : (f : Forest) → HasApart f → is_rule_kept_in f ≡ true → has_branch (codes "ext-restriction") f ≡ false
 no-ext f a kept = no-branch (codes "ext-restriction") f a kept (λ h. ap (is_rule_kept (held_in (codes "restriction") f)) h ∙ no_text (held_in (codes "restriction") f))
 
--- what is known below a class where nothing is bad
+-- what is known of a class below which the marking rule is kept
 record Good (kids rest : Forest) : Type 0 where
   kept : is_rule_kept_in kids ≡ true
   inner : bad_below kids ≡ None
@@ -139,7 +139,7 @@ labels-at-root ls d marked = subst (λ xs. AllByRecursion (IsAtRoot []) (located
     (subst (λ es. AllByRecursion (IsAtRoot []) es) (sym (located-lines d.0 d.1))
     (at-root d.0 1 [] (sound-apart d.0 d.1) (sym (first_bad d.0 d.1) ∙ ap (λ xs. first_bad_marking (located xs)) (sym d.2) ∙ marked)))
 
--- the labels written outside stay
+-- the labels written outside stay the same
 pub labels-stay : (ls ls' : List Line) (p q : Tokens) → IsDocument ls → IsDocument ls' → first_bad_marking (located ls) ≡ None → first_bad_marking (located ls') ≡ None →
     lines_but (is_within p) ls ≡ lines_but (is_within p) ls' → is_prefix p q ≡ false → written_label (located ls) q ≡ written_label (located ls') q
 labels-stay ls ls' p [] d d' m m' others k =

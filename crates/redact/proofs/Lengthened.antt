@@ -1,4 +1,4 @@
--- Lines that came keep their paths, whatever comes behind them.
+-- Lines that have come keep their paths, whatever comes behind them.
 use Rattle.std.proofs.Common.{◌≡◌, ℕ, suc, ◌≤◌, Bool, true, false, cond, ◌||◌, List, [], ◌∷◌, ◌++◌, refl, sym, ◌∙◌, ap, arith}
 use Rattle.std.specs.Prelude.{Some, find}
 use Rattle.std.specs.Option.{option_map_or}
@@ -20,7 +20,7 @@ pub onto-push : (ls : List Line) (l : Line) (before : List LocatedLine) → loca
 onto-push [] l before = refl
 onto-push (x ∷ ls) l before = onto-push ls l (placed before x ∷ before)
 
--- what some line passes, it passes with more lines behind
+-- if some line passes a test, it passes with more lines behind
 pub any-stays : (f : LocatedLine → Bool) (xs ys : List Line) → list_any f (located xs) ≡ true → list_any f (located (xs ++ ys)) ≡ true
 any-stays f xs ys h =
     ap (list_any f) (located-append xs ys) ∙ list_any-append f (located xs) (located_after (located_back xs) ys)
@@ -34,7 +34,7 @@ any-implied {X} f g k (x ∷ xs) h = by_test (f x) refl (any-implied f g k xs) h
     by_test true e rest r = or_left (g x) (list_any g xs) (k x e)
     by_test false e rest r = or_right (g x) (list_any g xs) (rest r)
 
--- ---- where a line behind others stands
+-- ---- the place of a line behind others
 
 pub parent-old : (e : LocatedLine) (before : List LocatedLine) (d : ℕ) → d ≤ e.line.depth → parent_path (e ∷ before) d ≡ parent_path before d
 parent-old e before d h =

@@ -1,4 +1,4 @@
--- The order in which what is withheld is listed.
+-- The order of the list of what is withheld.
 use Rattle.std.proofs.Common.{inl, inr, ◌≡◌, Bool, List, [], ◌∷◌, ◌++◌, true, false, ◌||◌, refl, arith, sym, ◌∙◌, ap, rules, if◌then◌else◌, codes, Some, Contains, bytes_eq, IsPermutation, IsSorted}
 use Rattle.std.specs.List.{dedup, list_any}
 use Rattle.std.specs.Cmp.{IsTotalOrder, IsEquivalence}
@@ -43,7 +43,7 @@ from_some : (p q : Tokens) → pointer_text p ≡ pointer_text q → p ≡ q
 from_some p q e =
     let both : Some p ≡ Some q = sym (pointer_tokens-pointer_text p) ∙ ap pointer_tokens e ∙ pointer_tokens-pointer_text q in cc
 
--- no two pairs are listed alike
+-- two pairs that compare as equal are the same pair
 pub withheld-same : (x y : Withheld) → same_withheld x y ≡ true → x ≡ y
 withheld-same x y h =
     let parts = and_parts (bytes_eq (pointer_text x.0) (pointer_text y.0)) (bytes_eq (name_of x.1) (name_of y.1)) h in
@@ -58,11 +58,11 @@ lists-dedup xs ys same sorted = record {
   complete = λ x h. Contains-dedup withheld-equiv withheld-same ys x (Contains-permutation xs ys x same h);
 }
 
--- a pair that is contained in a list is so in one of the same pairs
+-- a pair of one list is in each list of the same pairs
 pub among-contains : (ps qs : List Withheld) → ((x : Withheld) → is_among ps x ≡ is_among qs x) → (x : Withheld) → Contains ps x → Contains qs x
 among-contains ps qs same x h = Contains-from_any withheld-same x qs (sym (same x) ∙ list_any-from_Contains withheld-equiv x ps h)
 
--- a rule of a name that is among these is tested among them
+-- a rule whose name is among these passes a test among them
 any-known : (test : Rule → Bool) (r : Rule) (rs : List Rule) → has_rule rs r ≡ true →
     list_any test rs ≡ (list_any test rs || test r)
 any-known test r [] e = absurd (false≢true e)
@@ -71,7 +71,7 @@ any-known test r (x ∷ rs) e = elim (or_cases (bytes_eq (name_of x) (name_of r)
   | inr among ↦ let later = any-known test r rs among in grind (arith, later)
 ]
 
--- and with one more, unless it is among them
+-- the same with one more, unless it is among them
 pub any-with : (test : Rule → Bool) (rs : List Rule) (r : Rule) → list_any test (with_rule rs r) ≡ (list_any test rs || test r)
 any-with test rs r = split (has_rule rs r) refl
   where

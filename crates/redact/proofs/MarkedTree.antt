@@ -1,4 +1,4 @@
--- What is noted of the lines of a tree, one at a time, says whether its classes keep the marking rule.
+-- The state after the lines of a tree, one at a time, says whether its classes keep the marking rule.
 use Rattle.std.proofs.Common.{◌≡◌, ℕ, suc, ◌-◌, Bool, true, false, not, ◌&&◌, ◌||◌, List, [], ◌∷◌, ◌++◌, length, take, drop, append-nil, append_assoc, refl, sym, ◌∙◌, ap, arith, if◌then◌else◌}
 use Rattle.std.specs.Prelude.{Option, Some, None, option_map, is_some, codes}
 use Rattle.std.specs.List.{list_all}
@@ -35,7 +35,7 @@ extension_held absent = extension.Absent
 extension_held (one_text t) = extension.Text
 extension_held other = extension.Other
 
--- a text spells a label beside one text where it does beside another, and where it does by itself
+-- whether a text spells a label beside another text doesn't depend on that text
 beside : (t e : Bytes) → is_some (spelled t (Some e)) ≡ is_some (spelled t (Some []))
 beside t e =
     by_text (bytes_eq t (codes "public")) (bytes_eq t (codes "white")) (bytes_eq t (codes "partner")) (bytes_eq t (codes "green")) (bytes_eq t (codes "need-to-know"))
@@ -82,7 +82,7 @@ alone-beside t h =
     by_text false false false false false false false false false true e = refl
     by_text false false false false false false false false false false e = e
 
--- the rule, by what is noted
+-- the marking rule, by what is kept of a class
 rule-noted : (r e : Held) → are_fine (brief_held r) (extension_held e) ≡ is_rule_kept r e
 rule-noted absent absent = refl
 rule-noted absent (one_text e) = refl
@@ -126,7 +126,7 @@ first-none extension.Absent = refl
 first-none extension.Text = refl
 first-none extension.Other = refl
 
--- what says something is the first, where nothing was said before
+-- if nothing was there before, the first counts
 first-said : (r x : Restriction) (a b : Bool) →
     (let t = (if a then restriction.Label else if b then restriction.Extended else restriction.Other) in first_restriction (first_restriction r t) x ≡ first_restriction r t)
 first-said restriction.Absent x true b = refl
@@ -254,7 +254,7 @@ noted-append : (xs ys : List Line) (m : Markings) → with_marked_lines m (xs ++
 noted-append [] ys m = refl
 noted-append (x ∷ xs) ys m = noted-append xs ys (with_marked_line m x)
 
--- what stands behind some open classes is closed by a line that is one deeper than they are
+-- a line one deeper than some open classes closes those behind them
 closes : (n : ℕ) (P Q : List Marking) (b : Bool) (l : Line) → length P ≡ n → l.depth ≡ suc n →
     with_marked_line (record { classes = P ++ Q; broken = b }) l ≡ record { classes = with_opened_marking l (innermost_held_with l P); broken = b || not (list_all is_fine Q) }
 closes n P Q b l h deep =
@@ -275,7 +275,7 @@ or-false : (b : Bool) → (b || false) ≡ b
 or-false true = refl
 or-false false = refl
 
--- where a run along the members ends
+-- the state at the end of the members
 record Ends (m : Markings) (P : List Marking) (bad : Bool) : Type 0 where
   behind : List Marking
   broken : Bool
@@ -332,13 +332,13 @@ accepted-says m P bad none e =
     by_value false true = refl
     by_value false false = refl
 
--- what was noted of all lines of a document is that all its classes keep the marking rule
+-- The state after all lines of a document says that all its classes keep the marking rule.
 pub accepted-is : (ls : List Line) → IsDocument ls → is_accepted (with_marked_lines none_noted ls) ≡ not (is_some (first_bad_marking (located ls)))
 accepted-is ls d =
     ap (λ xs. is_accepted (with_marked_lines none_noted xs)) d.2
     ∙ accepted-says (with_marked_lines none_noted (lines 1 d.0)) (holding_all 1 d.0 []) (is_bad d.0) (none-held 1 d.0) (run d.0 0 [] [] false refl)
     ∙ ap (λ o. not (is_some o)) (sym (first_bad d.0 d.1) ∙ ap (λ xs. first_bad_marking (located xs)) (sym d.2))
 
--- of lines that are an outline as well
+-- the same of lines that are an outline
 pub accepted-outline : (ls : List Line) → is_outline ls ≡ true → is_accepted (with_marked_lines none_noted ls) ≡ not (is_some (first_bad_marking (located ls)))
 accepted-outline ls h = accepted-is ls (outline-document ls h)

@@ -1,6 +1,6 @@
--- Of the lines that matter a reader is told what it is told of all: no class at which a gate refuses is visible, nor is one below
--- it, and its own line says all that is told of it. These are the steps that exchange a wholly hidden class, at all such classes at
--- once.
+-- A reader is served the same of the lines that matter as of all lines. No class at which a gate refuses is visible,
+-- nor is one below it, and its own line gives all that is listed of it. These are the steps that exchange a wholly
+-- hidden class, at all such classes at once.
 use Rattle.std.proofs.Common.{◌≡◌, Bool, true, false, not, List, [], ◌∷◌, refl, sym, ◌∙◌, ap, map, if◌then◌else◌, ◌&&◌, ◌||◌}
 use Rattle.std.specs.Prelude.{filter, Option, Some, None, is_some, unwrap_or, count_by}
 use Rattle.std.specs.List.{list_any, flat_map, zip}
@@ -31,7 +31,7 @@ some-or : (o : Option Rule) (x y : Rule) → is_some o ≡ true → unwrap_or o 
 some-or None x y h = absurd (false≢true h)
 some-or (Some r) x y h = refl
 
--- what is told of these lines
+-- what is served of these lines
 abbrev told_of_lines : List LocatedLine → Case → Standing → Option Told
 told_of_lines es c s =
     let v = verdicts_of es c s in
@@ -56,7 +56,7 @@ module _ (ls : List Line) (c : Case) (s : Standing) where
   abbrev keep : LocatedLine → Bool
   keep e = off (class_path e)
 
-  -- what stands below a path at which a gate refuses is of classes at which one refuses
+  -- a line below a path at which a gate refuses is of a class at which one refuses
   inward : (e : LocatedLine) → is_under e.parent e.path ≡ true → matters c s e ≡ false → keep e ≡ false
   inward e under h = by_kind (is_class e)
     where
@@ -109,7 +109,7 @@ module _ (ls : List Line) (c : Case) (s : Standing) where
       (each (λ e. keep e ≡ false → (is_class e && is_visible es c s e.path) ≡ false) (unseen es) es)
       (each (λ e. keep e ≡ false → (is_class e && is_visible es' c s e.path) ≡ false) (unseen es') es')
 
-  -- nothing visible stands below a path at which a gate refuses
+  -- nothing visible is below a path at which a gate refuses
   none-below : (xs : List LocatedLine) (q : Tokens) → is_refused c s q ≡ true → some_seen (is_visible xs c s) (below q xs) ≡ false
   none-below xs q h =
       any-both (λ e. is_class e && is_visible xs c s e.path) (λ e. is_under q e.path) xs
@@ -201,7 +201,7 @@ module _ (ls : List Line) (c : Case) (s : Standing) where
       ∙ ap (λ b. if n then [] else if is_frame v' q then told_at_place (at q) (v'.rule q) else if b && not (is_wholly_hidden v e.parent) then told_at_place (at e.parent) (v'.rule q) else []) (hidden-same q)
       ∙ ap (λ b. if n then [] else if is_frame v' q then told_at_place (at q) (v'.rule q) else if is_wholly_hidden v' q && not b then told_at_place (at e.parent) (v'.rule q) else []) (hidden-same e.parent)
 
-  -- of a line that doesn't matter nothing is told
+  -- a line that doesn't matter lists nothing
   none-told : (at : Tokens → Option Tokens) (e : LocatedLine) → is_under e.parent e.path ≡ true → matters c s e ≡ false → withheld_at v at e ≡ []
   none-told at e under h = by_kind (is_class e)
     where

@@ -1,4 +1,4 @@
--- Where all lines are well marked, those that matter are.
+-- If all lines are well marked, so are those that matter.
 use Rattle.std.proofs.Common.{◌≡◌, Bool, true, false, cond, not, List, [], ◌∷◌, refl, sym, ◌∙◌, ap, map, if◌then◌else◌}
 use Rattle.std.specs.Prelude.{filter, find, Some, None, codes}
 use Rattle.std.specs.List.{AllByRecursion}
@@ -16,7 +16,7 @@ use Rattle.redact.proofs.Filtered.{each}
 use Rattle.redact.proofs.DecidedAlike.{held-same}
 use Rattle.redact.proofs.Matters.{all_same, same_located}
 
--- in a class whose lines are taken out nothing is held
+-- a class whose lines are taken out holds nothing
 none-held : (f : LocatedLine → Bool) (es : List LocatedLine) (p : Tokens) (name : Bytes) → ((e : LocatedLine) → same_path e.parent p ≡ true → f e ≡ false) → held_at (filter f es) p name ≡ absent
 none-held f [] p name h = refl
 none-held f (e ∷ es) p name h = by_test (f e) refl (none-held f es p name h)

@@ -1,4 +1,4 @@
--- A text contains a needle just where a search of it finds one.
+-- A text contains a needle exactly if a search of it finds one.
 use Rattle.std.proofs.Common.{◌≡◌, ℕ, zero, suc, ◌+◌, ◌<◌, true, false, ◌==◌, [], ◌∷◌, length, refl, sym, ◌∙◌, ap, arith, suc-add, Option, Some, None, is_some, slice_index, eqb-true, eq-eqb, true≢false}
 use Rattle.std.proofs.lemmas.Bool.{and_parts, and_from, or_left, or_right, or_from}
 use Rattle.memchr.specs.Find.{OccursAt, FindsNeedle}

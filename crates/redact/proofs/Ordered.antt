@@ -1,4 +1,4 @@
--- What is left of a document is in order: names ascend, and the elements of an array are numbered.
+-- What is kept of a document is in order: names ascend, and the elements of an array are numbered.
 use Rattle.std.proofs.Common.{◌≡◌, ℕ, zero, suc, Bool, true, false, not, List, [], ◌∷◌, ◌++◌, refl, sym, ◌∙◌, ap, subst, ◌&&◌, ◌==◌, Ordering, Less, Equal, Greater, is_eq, is_lt, nat_cmp, Option, Some, None, bytes_eq, true≢false, eq-eqb}
 use Rattle.std.specs.List.{AllByRecursion}
 use Rattle.std.specs.Ordering.{ordering_reverse}
@@ -20,7 +20,7 @@ use Rattle.redact.proofs.Fates.{new_place-before, by_fate, put-keeps}
 lt-back : (x y : Bytes) → bytes_lt x y ≡ true → bytes_lt y x ≡ false
 lt-back x y h = ap is_lt (nat_list_cmp_total.antisymm y x ∙ ap ordering_reverse (bytes_lt-less x y h))
 
--- of two names that differ, the first is before the other or behind it
+-- of two different names, the first is before the other or behind it
 later : (x y : Bytes) → bytes_eq x y ≡ false → bytes_lt y x ≡ false → bytes_lt x y ≡ true
 later x y differ h = by_order (slice_cmp nat_cmp x y) refl
   where
@@ -29,10 +29,10 @@ later x y differ h = by_order (slice_cmp nat_cmp x y) refl
     by_order Equal e = absurd (true≢false (sym (sym (is_eq-slice_cmp x y) ∙ ap is_eq e) ∙ differ))
     by_order Greater e = absurd (true≢false (sym (ap is_lt (nat_list_cmp_total.antisymm y x ∙ ap ordering_reverse e)) ∙ h))
 
--- ---- siblings that are left out
+-- ---- siblings that are not kept
 
--- What may stand behind the last sibling of the document, when n elements of its array are left, may stand at its new place
--- behind the last one that is left.
+-- If n elements of an array are kept, a line that may be behind the last sibling of the document may be, at its new
+-- place, behind the last one that is kept.
 abbrev pub Trails : Option SiblingPlace → Option SiblingPlace → ℕ → Type 0
 Trails before before' n = (name : Bytes) (place : Option ℕ) → may_stand before name place ≡ true → may_stand before' name (new_place n place) ≡ true
 
@@ -41,7 +41,7 @@ trails-none name None h = refl
 trails-none name (Some zero) h = refl
 trails-none name (Some (suc k)) h = refl
 
--- behind one that is left
+-- behind a sibling that is kept
 trails-left : (n : ℕ) (a : Bytes) (o : Option ℕ) → Trails (Some (a, o)) (Some (a, new_place n o)) (left_with n o)
 trails-left n a o name None h = h
 trails-left n a o name (Some zero) h = h
@@ -49,7 +49,7 @@ trails-left n a None name (Some (suc k)) h = absurd (false≢true h)
 trails-left n a (Some zero) name (Some (suc k)) h = rw (and_parts (bytes_eq a name) (0 == k) h).0
 trails-left n a (Some (suc j)) name (Some (suc k)) h = rw ((and_parts (bytes_eq a name) (suc j == k) h).0, eq-eqb n n refl)
 
--- what begins with a later name may stand where a sibling may
+-- a line with a later name may be where a sibling may be
 may-later : (before : Option SiblingPlace) (a : Bytes) (o : Option ℕ) (name : Bytes) → may_stand before a o ≡ true → bytes_lt a name ≡ true →
     (may_stand before name None ≡ true) × (may_stand before name (Some 0) ≡ true)
 may-later None a o name h lt = (refl, refl)
@@ -59,7 +59,7 @@ may-later (Some (b, None)) a (Some (suc i)) name h lt = absurd (false≢true h)
 may-later (Some (b, Some j)) a (Some (suc i)) name h lt =
     let k = subst (λ x. bytes_lt x name ≡ true) (sym (bytes_eq-true b a (and_parts (bytes_eq b a) (j == i) h).0)) lt in (k, k)
 
--- behind one that isn't
+-- behind a sibling that isn't kept
 trails-dropped : (before before' : Option SiblingPlace) (n : ℕ) (a : Bytes) (o : Option ℕ) → Trails before before' n → may_stand before a o ≡ true → Trails (Some (a, o)) before' (left_before n o)
 trails-dropped before before' n a o t h name None lt = t name None (may-later before a o name h lt).0
 trails-dropped before before' n a o t h name (Some zero) lt = t name (Some 0) (may-later before a o name h lt).1
@@ -76,7 +76,7 @@ Lacks x f = AllSiblings (λ n o. bytes_eq n x ≡ false) f
 pub lacks-put : (x : Bytes) (y : Leaf) → bytes_eq y.name x ≡ false → (f : Forest) → Lacks x f → Lacks x (put_leaf y f)
 lacks-put x y differ = put-keeps (λ f g. Lacks x f → Lacks x g) y (λ f all. (differ, all)) (λ i f g h all. (all.0, h all.1)) (λ name place kids f g h all. (all.0, h all.1))
 
--- what stood behind a sibling stands behind an attribute of an earlier name, which isn't put into the middle of an array
+-- A line behind a sibling may be behind a member with an earlier name, which isn't put into the middle of an array.
 stands-put : (before : Option SiblingPlace) (x name : Bytes) (place : Option ℕ) → may_stand before x None ≡ true → may_stand before name place ≡ true → bytes_lt x name ≡ true →
     may_stand (Some (x, None)) name place ≡ true
 stands-put before x name None h k lt = lt
@@ -99,7 +99,7 @@ put-ordered (branch name place kids rest) before a order all h =
     (λ lt. (h, (stands-put before a.0 name place h order.0 lt, order.1, order.2)))
     (λ ge. (order.0, order.1, put-ordered rest (Some (name, place)) a order.2 all.1 (later name a.0 all.0 ge)))
 
--- the members lack the attributes of the label, whose names differ
+-- the members don't have the names of the label's members, which differ
 abbrev pub Fits : List Attribute → Forest → Type 0
 Fits [] f = Unit {0}
 Fits (a ∷ rest) f = Lacks a.0 f × AllByRecursion (λ b. bytes_eq b.0 a.0 ≡ false) rest × Fits rest f
@@ -116,7 +116,7 @@ attributes-ordered (a ∷ rest) f order fits =
 -- ---- the pass
 
 module _ (v : Verdicts) where
-  -- no class in which no label is written has an attribute of a label
+  -- no class without a written label has a member of a label
   abbrev pub LabelsFit : Tokens → Forest → Type 0
   LabelsFit p end = Unit {0}
   LabelsFit p (leaf i rest) = LabelsFit p rest

@@ -1,4 +1,4 @@
--- A permission that holds for a reader shows the class at which it stands, where no gate refuses the reader there or above.
+-- A permission that holds for a reader shows the class where it is, if no gate there or above refuses the reader.
 use Rattle.std.proofs.Common.{◌≡◌, Bool, true, false, not, ◌&&◌, ◌||◌, ◌⊎◌, inl, inr, List, [], ◌∷◌, ◌++◌, refl, sym, ◌∙◌, ap, subst, arith}
 use Rattle.std.specs.Prelude.{Option, Some, None, is_some, is_none}
 use Rattle.std.specs.List.{list_any}
@@ -32,7 +32,7 @@ last (y ∷ p) = elim (last p) [
   | inr some ↦ inr (y ∷ some.0, some.1, ap (λ z. y ∷ z) some.2)
 ]
 
--- a permission covers the class at which it stands
+-- a permission covers the class where it is
 covers-own : (es : List LocatedLine) (s : Standing) (p : Tokens) (x : Permission) → holds_for s x ≡ true → same_path x.path p ≡ true → covers es s p x ≡ true
 covers-own es s p x holds at = elim (last p) [
   | inl none ↦
@@ -78,7 +78,7 @@ module _ (es : List LocatedLine) (c : Case) (s : Standing) (p : Tokens) where
       covered s.source (is_none (refusal_at c s p)) (is_cleared_for s (label_at es p)) (is_covered es c s p)
       (none-some (refusal_at c s p) (refused-any c s p ∙ found.1)) found.0
 
--- where steps lead to the newest line, a class that a permission shows is seen
+-- if steps lead to the newest line, a class that a permission shows is visible
 pub follow-seen : (w : Want) (c : Case) (s : Standing) (ls : List Line) (l : Line) (ss : List Step) (follows : Bool) → (follows ≡ true → Tracks ls ss) → may_come (back ls) l ≡ true →
     (follows && (is_class_kind l.kind && is_permitted c s (way (went_on ss l)))) ≡ true → IsSeen w c s (ls ++ l ∷ []) (placed (located_back ls) l).path
 follow-seen w c s ls l ss follows tracks fits h more outline marked =

@@ -1,4 +1,4 @@
--- Where the kept classes of a document stand in its excerpt.
+-- The places of the kept classes of a document in its excerpt.
 use Rattle.std.proofs.Common.{◌≡◌, ℕ, suc, Bool, true, false, not, List, [], ◌∷◌, ◌++◌, refl, sym, ◌∙◌, ap, subst, map, filter, if◌then◌else◌, ◌&&◌, ◌||◌, Some, zip, append-nil}
 use Rattle.std.specs.List.{AllByRecursion, IsDistinct}
 use Rattle.std.proofs.lemmas.Bool.{false≢true, cond-true, cond-false, cond_both}
@@ -30,7 +30,7 @@ there x = x.1
 
 -- ---- in the excerpt
 
--- attributes bring no class
+-- members of a label bring no class
 paths-put : (x : Leaf) (q : Tokens) (f : Forest) → classes_below q (put_leaf x f) ≡ classes_below q f
 paths-put x q = put-keeps (λ f g. classes_below q g ≡ classes_below q f) x
     (λ f. refl) (λ i f g h. h) (λ name place kids f g h. let r = q ++ steps name place in ap (λ ps. r ∷ (classes_below r kids ++ ps)) h)
@@ -40,7 +40,7 @@ paths-label false label f q = refl
 paths-label true [] f q = refl
 paths-label true (a ∷ label) f q = paths-put (attribute_leaf a) q (put_attributes label f) ∙ paths-label true label f q
 
--- the classes of the excerpt stand at the places
+-- the classes of the excerpt are at the places
 pub paths-cut : (J : Judged) (h : Surrounding) (p q : Tokens) (n : ℕ) → classes_below q (cut h n J) ≡ map there (places h p q n J)
 paths-cut none h p q n = refl
 paths-cut (plain i rest) h p q n =
@@ -65,7 +65,7 @@ paths-cut (class name place j kids rest) h p q n =
 
 -- ---- in the document
 
--- where nothing is left, nothing has a place
+-- if nothing is kept, nothing has a place
 places-end : (J : Judged) (p q : Tokens) (n : ℕ) → is_end (cut (inside false) n J) ≡ true → places (inside false) p q n J ≡ []
 places-end none p q n h = refl
 places-end (plain i rest) p q n h = places-end rest p q (left_before n i.place) h
@@ -73,7 +73,7 @@ places-end (class name place j kids rest) p q n h =
     by_fates (λ f ps. is_end f ≡ true → ps ≡ []) j.visible (is_end (cut (inside false) 0 kids)) _ _ _ _ _ _
     (λ _ e. absurd (false≢true e)) (λ _ e. absurd (false≢true e)) (λ _ _. places-end rest p q (left_before n place)) h
 
--- no class stands at the root's path
+-- no class is at the root's path
 places-deep : (J : Judged) (h : Surrounding) (p q : Tokens) (n : ℕ) → AllByRecursion (λ x. is_root (here x) ≡ false) (places h p q n J)
 places-deep none h p q n = tt
 places-deep (plain i rest) h p q n = places-deep rest h p q (if keeps_plain h then left_with n i.place else left_before n i.place)
@@ -124,7 +124,7 @@ zip-both : (xs : List (Tokens × Tokens)) → zip (map here xs) (map there xs) �
 zip-both [] = refl
 zip-both (x ∷ xs) = ap (λ ys. (x.0, x.1) ∷ ys) (zip-both xs)
 
--- in pairs of distinct paths each path has its own place
+-- in pairs of distinct paths, each path has its own place
 beside-own : (xs : List (Tokens × Tokens)) → IsDistinct same_path (map here xs) → AllByRecursion (λ x. beside xs (here x) ≡ Some (there x)) xs
 unfolding IsDistinct
 beside-own [] h = tt
@@ -151,7 +151,7 @@ module _ (v : Verdicts) (f : Forest) (sound : IsSound f) (says : SaysBelow v 1 [
   kept-lines =
       ap (kept_lines v) (sym (append-nil (walk 1 [] f))) ∙ kept-cut v f 1 [] 0 [] says tt ∙ append-nil (lines 1 (cut root 0 (judge v [] f)))
 
-  -- the places by the pass are those by the kept outline
+  -- the places of the pass are those of the kept outline
   pub class_places-pass : class_places v (walk 1 [] f) ≡ all_places
   class_places-pass =
       rw (paths-kept v f 1 [] [] 0 says, kept-lines, classes-lines (cut root 0 (judge v [] f)) left_sound, paths-cut (judge v [] f) root [] [] 0) (zip-both all_places)

@@ -26,14 +26,14 @@ nat_cmp-equal a b h = grind arith
 weight-apart : (a b : ℕ) → weight a ≡ weight b → a ≡ b
 weight-apart a b h = grind arith
 
--- ---- what is printed
+-- ---- printed tokens
 
--- what two texts begin with alike doesn't order them
+-- a common beginning of two texts doesn't order them
 slice_cmp-common : (front xs ys : List ℕ) → slice_cmp nat_cmp (front ++ xs) (front ++ ys) ≡ slice_cmp nat_cmp xs ys
 slice_cmp-common [] xs ys = refl
 slice_cmp-common (b ∷ front) xs ys = ap (λ o. ordering_then o (slice_cmp nat_cmp (front ++ xs) (front ++ ys))) (nat_cmp-same b) ∙ slice_cmp-common front xs ys
 
--- a token that two paths begin with doesn't order them
+-- a common first token of two paths doesn't order them
 pub same_first : (x y : Bytes) (p q : Tokens) → bytes_eq x y ≡ true →
     slice_cmp nat_cmp (pointer_text (x ∷ p)) (pointer_text (y ∷ q)) ≡ slice_cmp nat_cmp (pointer_text p) (pointer_text q)
 same_first x y p q h =
@@ -72,7 +72,7 @@ slash-last a h xs ys = ap (λ s. slice_cmp nat_cmp (s ++ xs) (126 ∷ 49 ∷ ys)
 tilde-last : (a : ℕ) → IsPlain a → OrderedByWeights a 126
 tilde-last a h xs ys = ap (λ s. slice_cmp nat_cmp (s ++ xs) (126 ∷ 48 ∷ ys)) (plain_byte a h) ∙ grind arith
 
--- two bytes order what is printed as their weights do
+-- two bytes order the printed tokens as their weights do
 printed-bytes : (a b : ℕ) → OrderedByWeights a b
 printed-bytes a b = by_cases a b (byte-cases a) (byte-cases b)
   where
@@ -87,7 +87,7 @@ printed-bytes a b = by_cases a b (byte-cases a) (byte-cases b)
     by_cases a b (inr (inr h)) (inr (inl f)) = rw f (tilde-last a h)
     by_cases a b (inr (inr h)) (inr (inr k)) = plain-bytes a b h k
 
--- and where one token has ended
+-- the same if one token has ended
 ended-first : (b : ℕ) (p : Tokens) (xs ys : List ℕ) →
     slice_cmp nat_cmp (pointer_text p) (escaped_byte b ++ xs) ≡ slice_cmp nat_cmp (weights [] (not (is_root p))) (weight b ∷ ys)
 ended-first b p xs ys = grind arith
@@ -96,7 +96,7 @@ ended-last : (a : ℕ) (q : Tokens) (xs ys : List ℕ) →
     slice_cmp nat_cmp (escaped_byte a ++ xs) (pointer_text q) ≡ slice_cmp nat_cmp (weight a ∷ ys) (weights [] (not (is_root q)))
 ended-last a q xs ys = grind arith
 
--- two tokens that differ order what is printed as their weights do, with what follows them
+-- two different tokens order the printed paths as their weights do, with what follows them
 differing : (x y : Bytes) (p q : Tokens) → bytes_eq x y ≡ false →
     slice_cmp nat_cmp (escaped x ++ pointer_text p) (escaped y ++ pointer_text q) ≡ slice_cmp nat_cmp (weights x (not (is_root p))) (weights y (not (is_root q)))
 differing [] [] p q h = absurd (cc)
@@ -148,7 +148,7 @@ turn_apart x y f g i h k apart =
     decided Equal r h = absurd (h refl)
     decided Greater r h = refl
 
--- where one has ended, the first that is left decides
+-- if one has ended, the first weight that is left decides
 last-weights : (x y : Bytes) (f g : Bool) → (x ≡ []) ⊎ (y ≡ []) → option_cmp nat_cmp (first_weight x f) (first_weight y g) ≡ in_order x f y g
 last-weights x y f g h = grind arith
 

@@ -37,7 +37,7 @@ listed-served ls c s = any-count (is_seen_class ls c s) (located ls)
 
 -- ---- the excerpt
 
--- none where nothing is visible
+-- there is no excerpt if nothing is visible
 pub excerpt-none : (ls : List Line) (c : Case) (s : Standing) → visible_count ls c s ≡ 0 → None ≡ excerpt_of ls c s
 excerpt-none ls c s none = sym (cond-false (is_listed ls c s) (Some (told_of ls c s)) None (listed-served ls c s ∙ ap (λ n. not (n == 0)) none))
 
@@ -54,7 +54,7 @@ told-is ls c s outline withheld classes o w n =
 above-none : (n : ℕ) → 0 < n → not (n == 0) ≡ true
 above-none n h = ap not (ne_eqb n 0 (λ e. absurd (omega (arith, h, e))))
 
--- and else all that is told
+-- otherwise the excerpt is all that is served
 pub excerpt-some : (ls : List Line) (c : Case) (s : Standing) (t : Told) → t ≡ told_of ls c s → 0 < t.classes → Some t ≡ excerpt_of ls c s
 excerpt-some ls c s t is some =
     ap Some is
@@ -103,7 +103,7 @@ count-located : (before : List LocatedLine) (ls : List Line) → length (filter 
 count-located before [] = refl
 count-located before (l ∷ ls) = let e = placed before l in lines-beside (is_class_kind l.kind) e l _ _ (count-located (e ∷ before) ls)
 
--- what stands beside a path that is among as many
+-- a path that is among as many paths has one beside it
 beside-some : (ps qs : List Tokens) (p : Tokens) → length ps ≡ length qs → list_any (λ q. same_path q p) ps ≡ true → is_some (beside (zip ps qs) p) ≡ true
 beside-some [] qs p e h = absurd (false≢true h)
 beside-some (x ∷ ps) [] p e h = absurd (omega (arith, e))
@@ -154,7 +154,7 @@ kept-placed v es e here class keeps =
     place-some (is_root e.path) (class_places v es) e.path
     (beside-some (class_paths (filter (is_kept v) es)) (classes_of (kept_lines v es)) e.path size (kept-among v e.path es found))
 
--- ---- a verdict tells what is served
+-- ---- a verdict agrees with what is served
 
 by_sight : (b : Bool) (x y : Rule) → is_shown (cond b (Shown x) (Hidden y)) ≡ b
 by_sight b x y = grind arith
@@ -173,14 +173,14 @@ among f (z ∷ zs) x y in_xs in_fx = rw (flat_map-cons f z zs) (elim (Contains-a
   | inr later ↦ Contains-append_right (f z) (flat_map f zs) y (among f zs x y later in_fx)
 ])
 
--- a frame is told at its place
+-- a frame is listed at its place
 told_frame : (v : Verdicts) (place : Tokens → Option Tokens) (e : LocatedLine) (q : Tokens) → is_class e ≡ true → is_frame v e.path ≡ true → place e.path ≡ Some q → Contains (withheld_at v place e) (q, v.rule e.path)
 told_frame v place e q class frame there = rw (class, frame, there) (0, omega arith, refl)
 
 kept_by : (class visible frame plain : Bool) → class ≡ true → frame ≡ true → (if class then visible || frame else plain) ≡ true
 kept_by class visible frame plain h k = grind arith
 
--- an incident is listed where a class of it is visible, and where one of it is a frame
+-- an incident is listed if one of its classes is visible, or is a frame
 seen_listed : (ls : List Line) (c : Case) (s : Standing) (e : LocatedLine) → Contains (located ls) e → is_class e ≡ true → is_visible (located ls) c s e.path ≡ true → is_listed ls c s ≡ true
 seen_listed ls c s e here class sees =
     let own : is_seen_class ls c s e ≡ true = rw (class, sees) refl in

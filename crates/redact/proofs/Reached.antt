@@ -1,5 +1,5 @@
--- What lies below some paths is let go of: what is kept of an outline is one, and the depth of the newest line that is kept tells of
--- each next line whether it lies below such a path.
+-- The lines below some paths are dropped. The lines that are kept of an outline are an outline, and the depth of the
+-- newest of them says of each next line whether it is below such a path.
 use Rattle.std.proofs.Common.{◌≡◌, ℕ, suc, ◌<◌, ◌≤◌, Bool, true, false, cond, not, ◌&&◌, ◌⊎◌, inl, inr, List, [], ◌∷◌, refl, sym, ◌∙◌, ap, subst, arith, if◌then◌else◌}
 use Rattle.std.specs.Prelude.{filter, find, nat_lt, nat_le, Option, Some, None}
 use Rattle.std.specs.Option.{option_map_or}
@@ -135,7 +135,7 @@ module _ (gone : Tokens → Bool) (down : (q p : Tokens) → is_prefix q p ≡ t
           kept-lines : lines_of (filter keep (e ∷ before)) ≡ l ∷ lines_of (filter keep before)
           kept-lines = ap (λ t. lines_of (if t then e ∷ filter keep before else filter keep before)) kept-is
 
-    -- ---- a line that is let go of
+-- ---- a line that is dropped
 
     module _ (goes : is_beyond o l.depth ≡ true) where
       pub gone-is : keep e ≡ false

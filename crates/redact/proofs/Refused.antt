@@ -1,4 +1,4 @@
--- What a gate refuses at a path it refuses below it.
+-- A gate that refuses at a path refuses below it.
 use Rattle.std.proofs.Common.{◌≡◌, true, false, not, List, [], ◌∷◌, ◌++◌, refl, sym, ◌∙◌, ap, append-nil, append_assoc}
 use Rattle.std.specs.Prelude.{Option, Some, None, is_some, is_none}
 use Rattle.std.specs.Option.{option_or}
@@ -26,7 +26,7 @@ root-append : (p z : Tokens) → is_root p ≡ false → is_root (p ++ z) ≡ fa
 root-append [] z h = absurd (false≢true (sym h))
 root-append (x ∷ p) z h = refl
 
--- a prefix, and what stands behind it
+-- a prefix of a path, and the tokens behind it
 behind : (q p : Tokens) → is_prefix q p ≡ true → (z : Tokens) × (p ≡ q ++ z)
 behind [] p h = (p, refl)
 behind (x ∷ q) [] h = absurd (false≢true h)
@@ -46,7 +46,7 @@ module _ (c : Case) (s : Standing) where
   refused-append (x ∷ z) p h =
       ap (λ q. is_some (refusal_at c s q)) (sym (append_assoc p (x ∷ []) z)) ∙ refused-append z (p ++ x ∷ []) (refused-push p x h)
 
-  -- what is said of a path at which a gate refuses
+  -- what is known of a path at which a gate refuses
   pub record Said (p : Tokens) : Type 0 where
     pub deep : is_root p ≡ false
     pub foreign : s.source ≡ false
@@ -72,7 +72,7 @@ module _ (c : Case) (s : Standing) where
   pub passed-above : (q p : Tokens) → is_prefix q p ≡ true → is_refused c s p ≡ false → is_refused c s q ≡ false
   passed-above q p k h = false_from_ne_true (is_refused c s q) (λ t. false≢true (sym h ∙ refused-prefix q p k t))
 
-  -- no class there is visible, whatever the lines are
+  -- no class at such a path is visible, whatever the lines are
   pub refused-unseen : (es : List LocatedLine) (p : Tokens) → is_refused c s p ≡ true → is_visible es c s p ≡ false
   refused-unseen es p h =
       let k = said p h in or_from s.source _ k.foreign (and_left (is_none (refusal_at c s p)) _ (none-some (refusal_at c s p) k.refusal))

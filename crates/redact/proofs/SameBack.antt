@@ -1,4 +1,4 @@
--- Of the lines before, the newest first, those that stay are where they were among all.
+-- Earlier lines that stay, the newest first, have the paths that they have among all lines.
 use Rattle.std.proofs.Common.{◌≡◌, Bool, true, false, not, List, [], ◌∷◌, refl, ◌∙◌, ap, map, if◌then◌else◌}
 use Rattle.std.specs.Prelude.{filter}
 use Rattle.iodef_tree.specs.Text.{Tokens, is_prefix}
@@ -34,7 +34,7 @@ module _ (gone : Tokens → Bool) (root : gone [] ≡ false) (up : (q p : Tokens
   pub back-kept : (ls : List Line) → located_onto [] (map (λ e. e.line) (filter keep (located ls))) ≡ filter keep (located_onto [] ls)
   back-kept ls = onto-after ls [] tt
 
-  -- one that stays is put where it would be among all
+  -- a line that stays has the path that it has among all
   pub placed-back : (ls : List Line) (l : Line) → keep (placed (located_onto [] ls) l) ≡ true →
       placed (located_onto [] (map (λ e. e.line) (filter keep (located ls)))) l ≡ placed (located_onto [] ls) l
   placed-back ls l k = ap (λ b. placed b l) (back-kept ls) ∙ placed-kept gone root up (located_onto [] ls) l (placed-onto ls [] tt) k

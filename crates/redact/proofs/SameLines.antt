@@ -1,4 +1,4 @@
--- What is asked of all lines is the same of two documents whose lines differ only where nothing is answered.
+-- A question to all lines has the same answer for two documents if the lines that differ answer nothing.
 use Rattle.std.proofs.Common.{◌≡◌, ◌+◌, arith, cond, ℕ, Bool, true, false, not, List, [], ◌∷◌, ◌++◌, refl, sym, ◌∙◌, ap, map, if◌then◌else◌, ◌||◌}
 use Rattle.std.specs.Prelude.{filter, count_by, length}
 use Rattle.std.specs.List.{AllByRecursion, flat_map, list_any}
@@ -30,7 +30,7 @@ flat-by_class : {X : Type 0} (h : LocatedLine → List X) → ((e : LocatedLine)
 flat-by_class h same [] = refl
 flat-by_class h same (e ∷ es) = ap (λ xs. h (by_class e) ++ xs) (flat-by_class h same es) ∙ ap (λ x. x ++ flat_map h es) (same e)
 
--- the lines with keep are the same, nothing is answered on the others, and what is answered depends on the class of a line alone
+-- The lines that are kept are the same, the others answer nothing, and the answer depends only on the class of a line.
 pub same_flat : {X : Type 0} (h h' : LocatedLine → List X) (keep : LocatedLine → Bool) (es es' : List LocatedLine) →
     map by_class (filter keep es) ≡ map by_class (filter keep es') →
     AllByRecursion (λ e. keep e ≡ false → h e ≡ []) es → AllByRecursion (λ e. keep e ≡ false → h' e ≡ []) es' →

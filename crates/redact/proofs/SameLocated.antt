@@ -1,4 +1,4 @@
--- Lines are taken out that stand below some paths, with all that stands below them: the others keep their paths.
+-- If the lines below some paths are taken out, with all that is below them, the other lines keep their paths.
 use Rattle.std.proofs.Common.{◌≡◌, ℕ, ◌+◌, ◌==◌, Bool, true, false, cond, not, List, [], ◌∷◌, ◌++◌, refl, sym, ◌∙◌, ap, map, take, zero-add, arith, if◌then◌else◌}
 use Rattle.std.specs.Prelude.{Some, filter, find, count_by}
 use Rattle.std.specs.Option.{option_map_or}
@@ -22,12 +22,12 @@ place-past x before d name h = grind (arith, common_steps, sum_by-cons)
 pub place-here : (x : LocatedLine) (before : List LocatedLine) (d : ℕ) (name : Bytes) → is_one_less_deep d x ≡ true → place_among (x ∷ before) d name ≡ 0
 place-here x before d name h = ap (count_by (is_like d name)) (before-here (is_one_less_deep d) x before h)
 
--- each line stands where those before it put it
+-- each line has the path that the lines before it give it
 abbrev pub IsPlaced : List LocatedLine → Type 0
 IsPlaced [] = Unit {0}
 IsPlaced (x ∷ before) = (x ≡ placed before x.line) × IsPlaced before
 
--- of a line that is put somewhere the path begins with its parent's
+-- the path of a line begins with that of its parent
 below-parent : (x : LocatedLine) (before : List LocatedLine) → x ≡ placed before x.line → is_prefix x.parent x.path ≡ true
 below-parent x before is =
     let st = steps x.line.name (place_of x.line.in_array (place_among before x.line.depth x.line.name)) in
@@ -79,7 +79,7 @@ module _ (gone : Tokens → Bool) (root : gone [] ≡ false) (up : (q p : Tokens
           same : place_among F d name ≡ place_among before d name
           same = ih h
 
-          -- a line that is taken out stands in another class
+          -- a line that is taken out is in another class
           other : keep x ≡ false → is_like d name x ≡ false
           other k = false_from_ne_true (is_like d name x) (λ t.
               let deep = eqb-true x.line.depth d (and_parts (x.line.depth == d) _ t).0 in

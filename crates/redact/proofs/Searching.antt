@@ -1,4 +1,5 @@
--- A search over members side by side, and by one pass down a document, which finds what the definition finds among its lines.
+-- A search over members side by side, and by one pass down a document. It finds what the definition finds among the
+-- lines.
 use Rattle.std.proofs.Common.{arith, ◌≡◌, ℕ, suc, ◌+◌, ◌<◌, Bool, ◌||◌, List, [], ◌∷◌, refl, sym, ◌∙◌, ap, decimal, length, get_or, drop, map, Option, Some, None, true, false, ◌&&◌, ◌++◌, append_assoc, append-nil, true≢false}
 use Rattle.std.specs.List.{list_any}
 use Rattle.std.proofs.Math.Bool.{or_assoc, and-true}
@@ -61,7 +62,7 @@ module _ (needle : Bytes) where
       ap (λ b. b || members_hit needle behind) here ∙ sym (ap (members_hit needle) (members-next ms i m h is) ∙ hit-member m.0 (bodies m.1) behind) ∙ all
 
 module _ (c : Case) (s : Standing) (asked : Bytes → Forest → Bool) (a : Inherited) where
-  -- a sibling that is entered from the class or array at d by the token t
+  -- a sibling into which the token t leads from the class or array at d
   found-sibling : (d : Inherited) (t name : Bytes) (place : Option ℕ) → ((w : Option LabelValue) → enter c s a name place w ≡ enter_class c s d t w) → (b : Body) (rest : Forest) →
       found c s asked a (in_front name place b rest) ≡ (found_at c s asked d t name b || found c s asked a rest)
   found-sibling d t name place enters (says content) rest = refl
@@ -86,9 +87,9 @@ module _ (c : Case) (s : Standing) (asked : Bytes → Forest → Bool) (a : Inhe
       ap (λ b. b || found c s asked a behind) (here ∙ (λ k. found_member c s asked (at k) (named k) (bodies m.1)))
       ∙ sym (ap (found c s asked a) (members-next ms i m h is) ∙ found-front m.0 (bodies m.1) behind) ∙ all
 
--- ---- what a class holds, by the lines directly in it
+-- ---- the texts that a class directly holds, by its lines
 
--- a line directly in the class at q that is a text which contains the needle
+-- whether a line directly in the class at q is a text with the needle
 abbrev is_hit_in : Bytes → Tokens → LocatedLine → Bool
 is_hit_in needle q e = same_path e.parent q && is_hit needle e.line
 
@@ -101,7 +102,7 @@ any-below (e ∷ es) q needle h =
     is_false (same_path e.parent q) (λ same. true≢false (sym h.0 ∙ ap (λ r. is_under r e.path) (same_path-true e.parent q same) ∙ u)) in
     rw (elsewhere, later))
 
--- nothing stands directly in q where no path at or below p is q
+-- no line is directly in q if no path at or below p is q
 none-held : (f : Forest) (d : ℕ) (p q : Tokens) (needle : Bytes) → ((z : Tokens) → same_path (p ++ z) q ≡ false) → list_any (is_hit_in needle q) (walk d p f) ≡ false
 none-held end d p q needle h = refl
 none-held (leaf i rest) d p q needle h = rw (rw append-nil at (h []), none-held rest d p q needle h)
@@ -133,11 +134,11 @@ held-block es d q kids needle under block = any-below es q needle under ∙ ap (
 -- ---- all classes
 
 module _ (c : Case) (s : Standing) (asked : Bytes → Forest → Bool) (asks : List LocatedLine → LocatedLine → Bool) where
-  -- a visible class of which this is asked
+  -- whether a class is visible and answers
   abbrev answers : List LocatedLine → LocatedLine → Bool
   answers es e = (is_class e && is_visible es c s e.path) && asks es e
 
-  -- what is asked of a class is asked of its name and its members
+  -- the question to a class is about its name and its members
   abbrev AsksMembers : List LocatedLine → Type 0
   AsksMembers es = (e : LocatedLine) (d : ℕ) (kids : Forest) → below e.path es ≡ walk d e.path kids → asks es e ≡ asked e.line.name kids
 

@@ -1,4 +1,4 @@
--- A label that is written in a class settles that the reader sees it, whatever lines come.
+-- A label that is written in a class makes it sure that the reader sees the class, whatever lines come.
 use Rattle.std.proofs.Common.{◌≡◌, Bool, true, false, cond, not, ◌&&◌, ◌||◌, List, [], ◌∷◌, ◌++◌, refl, sym, ◌∙◌, ap, if◌then◌else◌}
 use Rattle.std.specs.Prelude.{Option, Some, None, find, filter, map, is_some, is_none, option_map, unwrap_or, codes}
 use Rattle.std.specs.Option.{option_map_or, option_or}
@@ -56,7 +56,7 @@ class-path (e ∷ es) p h = by_class (is_class e) (class-path es p) h
 well-marked : (es : List LocatedLine) (p : Tokens) → first_bad_marking es ≡ None → has_class es p ≡ true → is_well_marked es p ≡ true
 well-marked es p marked class = none-bad (is_well_marked es) (class_paths es) marked p (class-path es p class)
 
--- ---- what a text spells
+-- ---- the label that a text spells
 
 -- a text that spells a label by itself spells it beside any other text
 abbrev chain : Bool → Bool → Bool → Bool → Bool → Bool → Bool → Bool → Bool → Bool → Option Bytes → Option LabelValue
@@ -91,7 +91,7 @@ spelled-alone r t m h =
     chain-alone (bytes_eq r (codes "public")) (bytes_eq r (codes "white")) (bytes_eq r (codes "partner")) (bytes_eq r (codes "green")) (bytes_eq r (codes "need-to-know"))
     (bytes_eq r (codes "amber")) (bytes_eq r (codes "private")) (bytes_eq r (codes "red")) (bytes_eq r (codes "default")) (bytes_eq r (codes "ext-value")) t m h
 
--- it spells that label whatever is held beside it, where the rule is kept
+-- if the rule is kept, it spells that label whatever is beside it
 kept-alone : (r : Bytes) (x : Held) (m : LabelValue) → spelled r None ≡ Some m → is_rule_kept (one_text r) x ≡ true → spelled_by (one_text r) x ≡ Some m
 kept-alone r absent m h k = h
 kept-alone r (one_text t) m h k = spelled-alone r t m h
@@ -106,7 +106,7 @@ label-here es p m class spells =
     let site : site_of es p ≡ p = site-self es p (ap is_some own) in
     ap (λ q. unwrap_or (own_label es q) private) site ∙ ap (λ o. unwrap_or o private) own
 
--- ---- what is held stays held
+-- ---- what a class holds stays
 
 abbrev is_absent : Held → Bool
 is_absent absent = true
@@ -147,13 +147,13 @@ module _ (ls : List Line) (l : Line) (p : Tokens) (name : Bytes) where
   abbrev x : LocatedLine
   x = placed (located_back ls) l
 
-  -- with a line more, by whether that is a member of this name
+  -- the same with one more line, by whether that is a member of this name
   held-by : (b : Bool) → is_member p name x ≡ b → held_at (located (ls ++ l ∷ [])) p name ≡ held_if (option_or (find (is_member p name) (located ls)) (if b then Some x else None))
   held-by b is =
       ap (λ es. held_at es p name) (located-append ls (l ∷ [])) ∙ ap held_if (find-append (is_member p name) (located ls) (x ∷ []))
       ∙ ap (λ t. held_if (option_or (find (is_member p name) (located ls)) (if t then Some x else None))) is
 
-  -- another line leaves what is held
+  -- another line changes nothing of what a class holds
   pub held-same : is_member p name x ≡ false → held_at (located (ls ++ l ∷ [])) p name ≡ held_at (located ls) p name
   held-same is = held-by false is ∙ ap held_if (or-none (find (is_member p name) (located ls)))
     where
@@ -161,14 +161,14 @@ module _ (ls : List Line) (l : Line) (p : Tokens) (name : Bytes) where
       or-none None = refl
       or-none (Some e) = refl
 
-  -- the first of the name says what is held
+  -- the first line of the name counts
   pub held-first : is_member p name x ≡ true → held_at (located ls) p name ≡ absent → held_at (located (ls ++ l ∷ [])) p name ≡ held_by_line l
   held-first is none = held-by true is ∙ ap (λ o. held_if (option_or o (Some x))) (none-held (find (is_member p name) (located ls)) none)
 
 -- ---- a label for which the reader is cleared
 
 module _ (c : Case) (s : Standing) (ls : List Line) (p : Tokens) (unrefusing : some_refuses c s ≡ false) (class : has_class (located ls) p ≡ true) where
-  -- a class is seen whose label is one for which the reader is cleared
+  -- a class whose label is one for which the reader is cleared is seen
   seen-by : (m : LabelValue) → is_cleared_for s m ≡ true →
       ((more : List Line) → let es = located (ls ++ more) in is_well_marked es p ≡ true → spelled_by (restriction_at es p) (ext_restriction_at es p) ≡ Some m) →
       InEach ls (λ all. is_visible (located all) c s p ≡ true)

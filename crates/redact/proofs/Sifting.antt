@@ -1,4 +1,4 @@
--- One line more, of which those that matter are kept.
+-- One more line, which is kept if it matters.
 use Rattle.std.proofs.Common.{◌≡◌, ℕ, Bool, true, false, List, [], ◌∷◌, ◌++◌, refl, sym, ◌∙◌, ap, subst, append-nil, map, arith, if◌then◌else◌}
 use Rattle.std.specs.Prelude.{filter, None}
 use Rattle.std.proofs.lemmas.List.{map-append}
@@ -34,7 +34,7 @@ onto-lines (l ∷ ls) before = onto-lines ls (placed before l ∷ before)
 pub back-lines : (ls : List Line) → lines_of (located_back ls) ≡ back ls
 back-lines ls = onto-lines ls []
 
--- those that pass a test, the newest first
+-- the lines that pass a test, the newest first
 kept-back : (f : LocatedLine → Bool) (ls : List Line) (before : List LocatedLine) →
     lines_of (filter f (located_onto before ls)) ≡ back_onto (lines_of (filter f (located_after before ls))) (lines_of (filter f before))
 kept-back f [] before = refl
@@ -68,7 +68,7 @@ module _ (c : Case) (s : Standing) (ls : List Line) (l : Line) where
     fits-located : may_come (lines_of (located_back ls)) l ≡ true
     fits-located = ap (λ b. may_come b l) (back-lines ls) ∙ fits
 
-    -- a line that is let go of
+    -- a line that is dropped
     pub sifts-gone : is_beyond old.shut l.depth ≡ true → new ≡ old → Sifts c s (ls ++ l ∷ []) new
     sifts-gone goes same = subst (λ v. Sifts c s (ls ++ l ∷ []) v) (sym same) (record {
       lines = h.lines ∙ sym (more false (gone-is (is_refused c s) (refused-prefix c s) (located_back ls) old.shut l h.reach fits-located goes) ∙ append-nil (lines_that_matter c s ls));
@@ -76,7 +76,7 @@ module _ (c : Case) (s : Standing) (ls : List Line) (l : Line) where
       tracks = h.tracks;
     })
 
-    -- behind the lines that matter a line that is kept stands where it stands behind all
+    -- a kept line has the same path behind the lines that matter as behind all
     module _ (kept : is_beyond old.shut l.depth ≡ false) where
       located-kept : located_back old.lines.items ≡ filter (stays (is_refused c s)) (located_back ls)
       located-kept = ap located_back h.lines ∙ back-kept (is_refused c s) refl (passed-above c s) ls
@@ -106,12 +106,12 @@ module _ (c : Case) (s : Standing) (ls : List Line) (l : Line) where
       tracks = subst (λ xs. Tracks xs new.steps.items) (sym lines) tracks;
     }
 
--- those that are kept are an outline
+-- the kept lines are an outline
 pub sifts-outline : (c : Case) (s : Standing) (ls : List Line) (v : Sieve) → Sifts c s ls v → is_outline v.lines.items ≡ true
 sifts-outline c s ls v h =
     ap is_outline h.lines ∙ sym (outline-back (lines_that_matter c s ls)) ∙ ap is_outline_back (sym (kept-back (matters c s) ls [])) ∙ h.reach.outline
 
--- with no line yet
+-- the state before the first line
 pub sifts-none : (c : Case) (s : Standing) (v : Sieve) → v.lines.items ≡ [] → v.shut ≡ None → Tracks [] v.steps.items → Sifts c s [] v
 sifts-none c s v lines shut tracks = record {
   lines = lines;

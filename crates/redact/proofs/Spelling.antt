@@ -1,4 +1,5 @@
--- What is spelled in a class and in what is left of it. A class in which nothing is spelled has no attribute of a label.
+-- The label that is spelled in a class, and in what is kept of it. A class in which no label is spelled has no member
+-- of a label.
 use Rattle.std.proofs.Common.{decimal, arith, ◌≡◌, ℕ, suc, Bool, true, List, [], ◌++◌, refl, sym, ◌∙◌, ap, if◌then◌else◌, Option, Some, None, is_some, is_none, option_map, codes, bytes_eq, false, not, ◌∷◌, subst, ◌&&◌, true≢false}
 use Rattle.std.specs.Option.{option_or}
 use Rattle.std.proofs.Math.Bool.{and-true}
@@ -31,7 +32,7 @@ use Rattle.redact.proofs.Keeping.{leaf_line-moved}
 held-kind : (in_array : Bool) (c : Content) → (if in_array then other else held_by_kind (kind_of c) (text_of c)) ≡ absent → ⊥
 held-kind in_array c h = grind arith
 
--- what is held under no name isn't there
+-- a name under which a class holds nothing isn't among its members
 pub absent-lacks : (name : Bytes) (f : Forest) → held_in name f ≡ absent → Lacks name f
 absent-lacks name end h = tt
 absent-lacks name (leaf i rest) h =
@@ -42,7 +43,7 @@ absent-lacks name (branch n place kids rest) h =
 pub unmarked-absent : (r e : Held) → is_rule_kept r e ≡ true → is_none (spelled_by r e) ≡ true → (r ≡ absent) × (e ≡ absent)
 unmarked-absent r e h k = grind arith
 
--- a label fits where its attributes are lacking
+-- a label fits if its members are lacking
 fits-by : (restriction : Bytes) (ext : Option Bytes) (f : Forest) → Lacks (codes "restriction") f → Lacks (codes "ext-restriction") f → Fits (attributes_by restriction ext) f
 fits-by restriction None f r e = (r, tt, tt)
 fits-by restriction (Some ext) f r e = (e, (refl, tt), (r, tt, tt))
@@ -54,7 +55,7 @@ names-by restriction (Some ext) = (refl, (refl, tt))
 pub label-names : (l : LabelValue) → AreLabelNames (attributes_of l)
 label-names l = names-by (restriction_of l) (ext_restriction_of l)
 
--- what the marking rule says of a class, of those below it and of those behind it
+-- the marking rule of a class, of those below it and of those behind it
 pub accepted : (name : Bytes) (place : Option ℕ) (kids rest : Forest) → bad_below (branch name place kids rest) ≡ None →
     (is_rule_kept_in kids ≡ true) × (bad_below kids ≡ None) × (bad_below rest ≡ None)
 accepted name place kids rest h = by_rule (is_rule_kept_in kids) (bad_below kids) (bad_below rest) h
@@ -88,7 +89,7 @@ lacks-absent name (branch n place kids rest) h = cond-false (bytes_eq n name) _ 
 swap : (a b : Bool) (x y z : Held) → (b ≡ true → a ≡ false) → (if a then y else (if b then x else z)) ≡ (if b then x else (if a then y else z))
 swap a b x y z h = grind arith
 
--- an attribute that is put in is held under its name
+-- a member that is put in is held under its name
 held-put : (name : Bytes) (a : Attribute) (f : Forest) → (bytes_eq a.0 name ≡ true → Lacks name f) →
     held_in name (put_leaf (attribute_leaf a) f) ≡ (if bytes_eq a.0 name then one_text a.1 else held_in name f)
 held-put name a = put-keeps (λ f g. (bytes_eq a.0 name ≡ true → Lacks name f) → held_in name g ≡ (if bytes_eq a.0 name then one_text a.1 else held_in name f)) (attribute_leaf a)
@@ -112,14 +113,14 @@ spelled-again : (l : LabelValue) → spelled (restriction_of l) (ext_restriction
 spelled-again public = refl
 spelled-again _ = refl
 
--- ---- what is left of the members
+-- ---- the members that are kept
 
 abbrev is_other : Held → Bool
 is_other absent = false
 is_other (one_text t) = false
 is_other other = true
 
--- where the marking rule is kept, what is held under the two names is a text or nothing
+-- if the marking rule is kept, a class holds a text or nothing under the two names
 no-other : (r e : Held) → is_rule_kept r e ≡ true → (is_other r ≡ false) × (is_other e ≡ false)
 no-other r e h = grind arith
 
@@ -136,7 +137,7 @@ alone x None m (Some k) h apart = sym (and-true (bytes_eq m x)) ∙ (rw (bytes_e
 alone x (Some k) m o' h apart = absurd (true≢false h)
 
 module _ (v : Verdicts) where
-  -- a visible class holds what it held
+  -- a visible class holds what it held before
   held-seen : (name : Bytes) (f : Forest) (p : Tokens) (n : ℕ) → is_other (held_in name f) ≡ false → held_in name (cut (inside true) n (judge v p f)) ≡ held_in name f
   held-seen name end p n h = refl
   held-seen name (leaf i rest) p n h =
@@ -147,7 +148,7 @@ module _ (v : Verdicts) where
       by_fate (λ f. held_in name f ≡ held_in name (branch m place kids rest)) (v.visible (p ++ steps m place)) (is_end (cut (inside false) 0 (judge v (p ++ steps m place) kids))) _ _ _
       after after (past (bytes_eq m name) (held_in name rest) _ h (held-seen name rest p (left_before n place)))
 
-  -- a frame has no member of a name under which the class held a text or nothing
+  -- A frame has no member of a name under which the class held a text or nothing.
   lacks-framed : (name : Bytes) (f : Forest) (p : Tokens) (n : ℕ) → HasApart f → is_other (held_in name f) ≡ false → Lacks name (cut (inside false) n (judge v p f))
   lacks-framed name end p n apart h = tt
   lacks-framed name (leaf i rest) p n apart h =
@@ -164,7 +165,7 @@ module _ (v : Verdicts) where
       by_fate (Lacks name) (v.visible (p ++ steps m place)) (is_end (cut (inside false) 0 (judge v (p ++ steps m place) kids))) _ _ _
       after after (lacks-framed name rest p (left_before n place) apart.2 differs.1)
 
-  -- a frame keeps the marking rule, as it holds neither
+  -- a frame keeps the marking rule, as it holds neither of the two
   pub framed-rule : (f : Forest) (p : Tokens) → HasApart f → is_rule_kept_in f ≡ true → is_rule_kept_in (cut (inside false) 0 (judge v p f)) ≡ true
   framed-rule f p apart rule =
       let held = no-other (held_in (codes "restriction") f) (held_in (codes "ext-restriction") f) rule in
@@ -172,7 +173,7 @@ module _ (v : Verdicts) where
       ap (λ r. is_rule_kept r (held_in (codes "ext-restriction") F)) (lacks-absent (codes "restriction") F (lacks-framed (codes "restriction") f p 0 apart held.0))
       ∙ ap (is_rule_kept absent) (lacks-absent (codes "ext-restriction") F (lacks-framed (codes "ext-restriction") f p 0 apart held.1))
 
-  -- a visible class keeps it, and spells the label that it has to say, or else what was spelled in it
+  -- A visible class keeps the rule. It spells the label that it has to say, or else the one that was spelled in it.
   pub seen-spells : (f : Forest) (h : Surrounding) (p : Tokens) (l : LabelValue) → is_rule_kept_in f ≡ true → v.unmarked p ≡ is_none (spelled_in f) → v.label p ≡ attributes_of l →
       let S = with_label h (judgment_at v p) (cut (inside true) 0 (judge v p f)) in
       (is_rule_kept_in S ≡ true) × (spelled_in S ≡ (if v.unmarked p && not (shows_label h) then Some l else spelled_in f))

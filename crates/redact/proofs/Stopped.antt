@@ -1,4 +1,5 @@
--- A path is refused exactly where some gate on it refuses; below one that isn't, where some gate stands that refuses.
+-- A path is refused exactly if a gate on it refuses. One step below a path that isn't refused, it is refused exactly
+-- if a gate there refuses.
 use Rattle.std.proofs.Common.{◌≡◌, Bool, true, false, not, List, [], ◌∷◌, ◌++◌, map, refl, sym, ◌∙◌, ap, arith, if◌then◌else◌, ◌&&◌, ◌||◌}
 use Rattle.std.specs.Prelude.{Option, Some, None, is_some, filter}
 use Rattle.std.specs.Option.{option_or}
@@ -23,7 +24,7 @@ some_or : {A : Type 0} (a b : Option A) → is_some (option_or a b) ≡ (is_some
 some_or None b = refl
 some_or (Some x) b = refl
 
--- something comes first exactly where something comes at all
+-- there is a first element exactly if there is an element
 first-flat_map : {X A : Type 0} (f : X → List A) (xs : List X) → is_some (first_of (flat_map f xs)) ≡ list_any (λ x. is_some (first_of (f x))) xs
 first-flat_map f [] = refl
 first-flat_map f (x ∷ xs) =
@@ -71,7 +72,7 @@ any-never : {X : Type 0} (xs : List X) → list_any (λ x. false) xs ≡ false
 any-never [] = refl
 any-never (x ∷ xs) = any-never xs
 
--- some path and some gate there, or some gate and some path at which it stands
+-- a test of some path and some gate is a test of some gate and some path
 any-swap : {X Y : Type 0} (A : Y → X → Bool) (b : Y → Bool) (qs : List X) (gs : List Y) →
     list_any (λ q. list_any (λ g. A g q && b g) gs) qs ≡ list_any (λ g. list_any (A g) qs && b g) gs
 any-swap A b qs [] = any-never qs
@@ -88,7 +89,7 @@ any-prefix (x ∷ r) (y ∷ p) =
     any-map (same_path (x ∷ r)) (λ q. y ∷ q) (prefixes p) ∙ any-left (bytes_eq x y) (same_path r) (prefixes p)
     ∙ ap (λ b. bytes_eq x y && b) (any-prefix r p)
 
--- a path is refused exactly where some gate on it refuses
+-- a path is refused exactly if some gate on it refuses
 pub refused-any : (c : Case) (s : Standing) (p : Tokens) → is_some (refusal_at c s p) ≡ list_any (refuses_on s p) c.gates
 refused-any c s p =
     first-flat_map (refusals_at c s) (prefixes p)
@@ -96,7 +97,7 @@ refused-any c s p =
     ∙ any-swap (λ g q. same_path g.path q) (λ g. is_some (refusal_of_gate s g)) (prefixes p) c.gates
     ∙ any_same _ (refuses_on s p) (λ g. ap (λ b. b && is_some (refusal_of_gate s g)) (any-prefix g.path p)) c.gates
 
--- ---- where none refuses above
+-- ---- below a path that isn't refused
 
 root-nil : (p : Tokens) → is_root p ≡ true → p ≡ []
 root-nil [] h = refl
@@ -149,7 +150,7 @@ module _ (c : Case) (r : Standing) (p : Tokens) (s : Step) where
           (each-from (λ g. refuses_on r p g ≡ false) (λ g. stops r p s g ≡ refuses_on r w g) one-stops c.gates
           (none-any (refuses_on r p) c.gates (sym (refused-any c r p) ∙ k)))
 
-  -- where none refuses at a path, the gates that stand at a step below it, or at its array, tell whether one refuses there
+  -- Below a path that isn't refused, the gates at the next step, or at its array, decide whether one refuses there.
   pub stopped-is : is_refused c r p ≡ false → (not r.source && list_any (stops r p s) c.gates) ≡ (not r.source && is_some (refusal_at c r w))
   stopped-is h = by_source r.source refl
     where

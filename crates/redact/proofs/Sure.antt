@@ -1,4 +1,4 @@
--- What is sure stays sure while lines come, and what is noted of the open classes settles that a want is met.
+-- What is sure stays sure as lines come, and what is known of the open classes makes it sure that a want is met.
 use Rattle.std.proofs.Common.{◌≡◌, ℕ, zero, suc, ◌+◌, ◌-◌, ◌^◌, ◌≤◌, ◌<◌, Bool, true, false, not, ◌&&◌, ◌||◌, ◌⊎◌, inl, inr, List, [], ◌∷◌, ◌++◌, length, take, append_assoc, append-nil, refl, sym, ◌∙◌, ap, subst, arith, if◌then◌else◌}
 use Rattle.std.specs.Prelude.{Option, Some, None, Ok, is_none, option_map, string_bytes, codes}
 use Rattle.std.specs.List.{list_any}
@@ -53,7 +53,7 @@ in-each-more ls l P each more outline marked =
 pub sure-more : (w : Want) (ls : List Line) (l : Line) (c : Case) (s : Standing) → IsSure w ls c s → IsSure w (ls ++ l ∷ []) c s
 sure-more w ls l c s sure = in-each-more ls l (λ all. meets w all c s ≡ true) sure
 
--- with no line more
+-- with no more lines
 pub sure-now : (w : Want) (ls : List Line) (c : Case) (s : Standing) → IsSure w ls c s → is_outline ls ≡ true → first_bad_marking (located ls) ≡ None → meets w ls c s ≡ true
 sure-now w ls c s sure outline marked =
     let same : ls ++ [] ≡ ls = append-nil ls in
@@ -128,7 +128,7 @@ module _ (w : Want) (c : Case) (s : Standing) (ls : List Line) (l : Line) where
   has-stays : (p : Tokens) → has_class (located ls) p ≡ true → has_class (located longer) p ≡ true
   has-stays p h = any-stays (λ x. is_class x && same_path x.path p) ls (l ∷ []) h
 
-  -- of a class in which the line doesn't stand
+  -- a class in which the line isn't
   open-stays : (p : Tokens) (o : Open) → same_path e.parent p ≡ false → IsOpen w c s ls p o → IsOpen w c s longer p o
   open-stays p o apart h = record {
     fits = λ k. any-stays (is_wanted_at w p) ls (l ∷ []) (h.fits k);
@@ -142,17 +142,17 @@ module _ (w : Want) (c : Case) (s : Standing) (ls : List Line) (l : Line) where
       other-class : (name : Bytes) → is_member p name e ≡ false
       other-class name = ap (λ b. b && bytes_eq l.name name) apart
 
-  -- the line is held by the class in which it stands
+  -- the class of the line holds it
   holds-line : (n : Option Bytes) → wants_line_by n l ≡ true → holds_wanted_by n (located longer) e.parent ≡ true
   holds-line None h = refl
   holds-line (Some needle) h = here (λ x. same_path x.parent e.parent && is_hit needle x.line) (and_from (same_path e.parent e.parent) (is_hit needle l) (same_path-refl e.parent) h)
 
-  -- the class in which the line stands
+  -- the class in which the line is
   module _ (k : Sight) (sees : k ≡ sight_of c s) (p : Tokens) (o : Open) (at : e.parent ≡ p) (h : IsOpen w c s ls p o) where
     stands : same_path e.parent p ≡ true
     stands = subst (λ q. same_path e.parent q ≡ true) at (same_path-refl e.parent)
 
-    -- a line of this name, or of another
+    -- whether the line has this name
     named : (name : Bytes) (b : Bool) → bytes_eq l.name name ≡ b → is_member p name e ≡ b
     named name b is = ap (λ t. t && bytes_eq l.name name) stands ∙ is
 
@@ -180,7 +180,7 @@ module _ (w : Want) (c : Case) (s : Standing) (ls : List Line) (l : Line) where
         by_name true is = first o.beside h.beside is
         by_name false is = subst (IsBeside s o.beside) (sym (held-same ls l p (codes "ext-restriction") (named (codes "ext-restriction") false is))) h.beside
 
-    -- what stands beside the label is there before it
+    -- what is beside the label comes before it
     beside-kept : is_restriction l ≡ true → IsBeside s o.beside (ext_restriction_at (located longer) p)
     beside-kept is = subst (IsBeside s o.beside) (sym (held-same ls l p (codes "ext-restriction") (named (codes "ext-restriction") false other-name))) h.beside
       where
@@ -263,7 +263,7 @@ module _ (w : Want) (c : Case) (s : Standing) (ls : List Line) (l : Line) where
             at_or_below : (j : ℕ) → j ≤ l.depth → (j < l.depth) ⊎ (j ≡ l.depth)
             at_or_below j h = grind arith
 
-    -- a class further out isn't the one in which the line stands
+    -- a class further out isn't the one in which the line is
     apart : (d : ℕ) → 1 ≤ d → d < l.depth → same_path e.parent (parent_path before d) ≡ false
     apart d one less = by_test (same_path e.parent (parent_path before d)) refl
       where
@@ -305,7 +305,7 @@ module _ (w : Want) (c : Case) (s : Standing) (ls : List Line) (l : Line) where
         needle-none f None h = refl
         needle-none f (Some x) h = absurd (false≢true h)
 
-    -- those that stay open are the parents of the same depths; the last of them is the parent of the line
+    -- The classes that stay open are the parents of the same depths. The last of them is the parent of the line.
     inside : (n d : ℕ) (os : List Open) → 1 ≤ d → d + n ≡ suc l.depth → n ≤ length os → AreOpen w c s ls d os → AreOpen w c s longer d (innermost_holding k s w l (take n os))
     inside zero d os one deep low h = tt
     inside (suc n) d [] one deep low h = absurd (omega (arith, low))
@@ -381,7 +381,7 @@ module _ (w : Want) (c : Case) (s : Standing) (ls : List Line) (l : Line) where
       (inside k sees g gives q h.rising outline n 2 os (omega arith) (omega (arith, positive)) low h.classes)
       (ap suc (inside-length k sees g gives q h.rising outline (take n os) ∙ length-take-le n os low) ∙ omega (arith, positive))
 
--- with no line yet
+-- before the first line
 pub follows-none : (w : Want) (c : Case) (s : Standing) → Follows w c s [] []
 follows-none w c s = record { classes = tt; deep = refl; rising = λ j d one less deep. absurd (omega (arith, one, less, deep)) }
 
@@ -432,7 +432,7 @@ module _ (w : Want) (c : Case) (s : Standing) (ls : List Line) where
 -- ---- all that is known
 
 module _ (w : Want) (c : Case) (s : Standing) where
-  -- with no line yet
+  -- before the first line
   pub known-none : (k : Seeker) → Shows k.shape [] → k.sight ≡ sight_of c s → k.lines.items ≡ [] → k.classes.items ≡ [] → k.steps.items ≡ [] → IsKnown w c s [] false k
   known-none k shows sight lines classes steps = record {
     shows = shows;
@@ -442,7 +442,7 @@ module _ (w : Want) (c : Case) (s : Standing) where
     steps = λ h f. subst (Tracks []) (sym steps) tracks-none;
   }
 
-  -- the lines that came are an outline
+  -- the lines so far are an outline
   pub known-outline : (ls : List Line) (met : Bool) (k : Seeker) → IsKnown w c s ls met k → is_outline ls ≡ true
   known-outline ls met k h = sym (outline-back ls) ∙ h.shows.outline
 
@@ -454,7 +454,7 @@ module _ (w : Want) (c : Case) (s : Standing) where
     shows-is : Shows new.shape (back (ls ++ l ∷ []))
     shows-is = subst (Shows new.shape) (sym (back-push ls l)) shows
 
-    -- where true was answered
+    -- if true was returned before
     pub takes-met : met ≡ true → TakesTo w c s ls met l true new
     takes-met is = record {
       outline = outline-is;
@@ -463,7 +463,7 @@ module _ (w : Want) (c : Case) (s : Standing) where
       sure = λ k. absurd (true≢false (sym is ∙ k));
     }
 
-    -- where it wasn't
+    -- if true was not returned before
     module _ (unmet : met ≡ false) (lines : new.lines.items ≡ old.lines.items ++ l ∷ []) (g : Bool) (classes : new.classes.items ≡ open_with_line old.sight s w l g old.classes.items)
         (followed : new.follows ≡ old.follows) (steps : old.follows ≡ true → IsCounted old.steps.items l → new.steps.items ≡ went_on old.steps.items l)
         (permits : g ≡ (old.follows && (is_class_kind l.kind && is_permitted c s (way new.steps.items)))) where
@@ -502,7 +502,7 @@ module _ (w : Want) (c : Case) (s : Standing) where
         sure = λ k t. found-sure w c s (ls ++ l ∷ []) new.classes.items more-follows (sym found ∙ t);
       }
 
-  -- where true is answered, that is sure
+  -- if true is returned, it is sure
   pub takes-sure : (ls : List Line) (met : Bool) (l : Line) (b : Bool) (k : Seeker) → TakesTo w c s ls met l b k → (met ≡ true → IsSure w ls c s) → b ≡ true → IsSure w (ls ++ l ∷ []) c s
   takes-sure ls met l b k h before now = by_met met refl
     where

@@ -39,9 +39,10 @@ use Rattle.redact.proofs.Spelling.{accepted, framed-rule, seen-spells}
 use Rattle.redact.proofs.Places.{paths-cut, paths-kept, placed}
 use Rattle.redact.proofs.Whole.{says, left-sound, left-lines}
 
--- ---- how the classes of a document are marked, by its tree
+-- ---- how the classes of a document are marked, read from its tree
 
--- at each class of a tree that stands below p: the marking rule, what is written, and the label, by those of its parent and its members
+-- For each class of a tree below p: the marking rule, the written label and the label that holds, by those of its
+-- parent and its members.
 abbrev pub AreMarked : List LocatedLine → Tokens → Forest → Type 0
 AreMarked es p end = Unit {0}
 AreMarked es p (leaf i rest) = AreMarked es p rest
@@ -66,7 +67,7 @@ marked-in es under (branch name place kids rest) d p blocks there =
 marked-all : (f : Forest) → IsSound f → AreMarked (located (lines 1 f)) [] f
 marked-all f sound = marked-in (located (lines 1 f)) (below-parents (lines 1 f)) f 1 [] (blocks-located f sound) (classes-placed f sound)
 
--- so too without an attribute
+-- the same without a member of a label
 marked-put : (es : List LocatedLine) (p : Tokens) (x : Leaf) (f : Forest) → AreMarked es p (put_leaf x f) → AreMarked es p f
 marked-put es p x = put-keeps (λ f g. AreMarked es p g → AreMarked es p f) x (λ f h. h) (λ i f g k h. k h) (λ name place kids f g k h. (h.0, h.1, h.2, h.3, k h.4))
 
@@ -77,14 +78,14 @@ marked-label true es p (a ∷ label) f h = marked-label true es p label f (marke
 
 -- ---- the path of the Incident
 
--- as many tokens, in an array and at its place in the excerpt
+-- a step has as many tokens at its place in the excerpt
 same_length : (name : Bytes) (place : Option ℕ) (n : ℕ) → length (steps name (new_place n place)) ≡ length (steps name place)
 same_length name place n = grind arith
 
 abbrev is_incident : Tokens → Bool
 is_incident p = same_path p incident_path
 
--- one step below these paths, both or neither is the Incident's
+-- one step below these paths, both are the Incident's or neither is
 abbrev AreAlike : Tokens → Tokens → Type 0
 AreAlike p q = (name : Bytes) (place : Option ℕ) (n : ℕ) → is_incident (q ++ steps name (new_place n place)) ≡ is_incident (p ++ steps name place)
 
@@ -109,7 +110,8 @@ alike-below [] (y ∷ q) a None n same b None m = absurd (omega (arith, same))
 
 -- ---- one class
 
--- A visible class has its label in the excerpt, where it says it or there is one above it that it has in the document too.
+-- A visible class has its label in the excerpt. It says the label itself, or there is one above it that it has in the
+-- document too.
 same-label : (w : Option LabelValue) (u shows incident incident' : Bool) (above above' label : LabelValue) → u ≡ is_none w →
     label ≡ unwrap_or (option_or w (if incident then Some private else None)) above → (shows ≡ true → (above' ≡ above) × (incident' ≡ incident)) →
     unwrap_or (option_or (if u && not shows then Some label else w) (if incident' then Some private else None)) above' ≡ label
@@ -119,7 +121,7 @@ module _ (es es' : List LocatedLine) (c : Case) (s : Standing) where
   abbrev v : Verdicts
   v = verdicts_of es c s
 
-  -- a kept class keeps the marking rule at its place, and has its label there where it is visible
+  -- A kept class keeps the marking rule at its place. If it is visible, its label holds there.
   abbrev Survives : Tokens × Tokens → Type 0
   Survives x = (is_well_marked es' x.1 ≡ true) × (v.visible x.0 ≡ true → label_at es' x.1 ≡ label_at es x.0)
 
@@ -159,7 +161,7 @@ module _ (es es' : List LocatedLine) (c : Case) (s : Standing) where
       (λ hidden gone. after (left_before n place))
       there
 
--- ---- what holds of some elements of a list
+-- ---- a property of some elements of a list
 
 all-of_map : {X Y : Type 0} (Q : Y → Type 0) (g : X → Y) (xs : List X) → AllByRecursion Q (map g xs) → AllByRecursion (λ x. Q (g x)) xs
 all-of_map Q g [] h = tt
@@ -202,7 +204,7 @@ module _ (f : Forest) (c : Case) (s : Standing) (sound : IsSound f) (ok : first_
   markings-accepted =
       rw (left-lines f c s sound ok, classes-lines left (left-sound f c s sound ok), paths-cut (judge verdicts [] f) root [] [] 0) (none-bad all_places survived)
 
-  -- at the place of the class there is its label
+  -- the label of the class holds at its place
   abbrev HasLabel : Tokens → Type 0
   HasLabel p = option_map (label_at es') (place_by (class_places verdicts es) p) ≡ Some (label_at es p)
 

@@ -1,4 +1,4 @@
--- One line more, and the lines one after another.
+-- One more line, and lines one after another.
 use Rattle.std.proofs.Common.{◌≡◌, true, false, ◌&&◌, List, [], ◌∷◌, ◌++◌, refl, sym, ◌∙◌, ap, subst}
 use Rattle.std.proofs.Math.Bool.{and-true}
 use Rattle.std.proofs.lemmas.Bool.{and_parts}
@@ -14,7 +14,7 @@ use Rattle.redact.specs.Sifted.{Sifts, Knows}
 use Rattle.redact.specs.declared.marks.Marks.{Marks}
 use Rattle.redact.specs.declared.sieve.Sieve.{Sieve}
 
--- behind an outline a line makes one exactly where it may come
+-- lines that are an outline are one with a line more exactly if that may come
 pub more-outline : (ls : List Line) (l : Line) → is_outline_back (back ls) ≡ true → is_outline (ls ++ l ∷ []) ≡ may_come (back ls) l
 more-outline ls l h =
     sym (outline-back (ls ++ l ∷ [])) ∙ ap is_outline_back (back-push ls l) ∙ ap (λ b. may_come (back ls) l && b) h ∙ and-true (may_come (back ls) l)
@@ -29,7 +29,7 @@ noted-push : (ls : List Line) (l : Line) (m : Markings) → with_marked_lines m 
 noted-push [] l m = refl
 noted-push (x ∷ ls) l m = noted-push ls l (with_marked_line m x)
 
--- what is known of the lines with one more, where each part took it
+-- what is known with one more line, if each part took it
 module _ (c : Case) (s : Standing) (ls : List Line) (l : Line) (shape : Shape) (marks : Marks) (v : Sieve) (k : Knows c s ls shape marks v) where
   pub knows-more : (shape' : Shape) (marks' : Marks) (v' : Sieve) → may_come (back ls) l ≡ true → Shows shape' (l ∷ back ls) →
       marks_of marks' ≡ with_marked_line (marks_of marks) l → Sifts c s (ls ++ l ∷ []) v' →

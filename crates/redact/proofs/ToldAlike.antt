@@ -1,4 +1,4 @@
--- The three steps between two reports, and that a reader is told the same on both sides of each.
+-- The three steps between two reports. A reader is served the same on both sides of each.
 use Rattle.std.proofs.Common.{◌≡◌, Bool, true, false, not, List, [], ◌∷◌, refl, sym, ◌∙◌, ap, subst, map, if◌then◌else◌, ◌&&◌, ◌||◌, inl, inr}
 use Rattle.std.specs.Prelude.{filter, Option, Some, None}
 use Rattle.std.specs.List.{AllByRecursion, list_any, filter_map}
@@ -31,7 +31,7 @@ use Rattle.redact.proofs.LabelsStay.{labels-stay}
 use Rattle.redact.proofs.AgreedVerdicts.{Agree, Worlds, outline-same, count-same, listed-same, found-same, pairs-same}
 use Rattle.redact.proofs.DecidedAlike.{Decides, verdicts-agree, written-same, classes-same, prefix-trans, under-prefix, prefixes-are}
 
--- the parts of what is told, each the same
+-- what is served is the same if each part is
 told-same : (s : Standing) (a b : Report) → kept_outline a.lines a.case s ≡ kept_outline b.lines b.case s → withheld_of a.lines a.case s ≡ withheld_of b.lines b.case s →
     visible_count a.lines a.case s ≡ visible_count b.lines b.case s → told_of a.lines a.case s ≡ told_of b.lines b.case s
 told-same s a b o w n = λ i. record { outline = o i; withheld = w i; classes = n i }
@@ -46,7 +46,7 @@ met-same : (s : Standing) (a b : Report) → is_listed a.lines a.case s ≡ is_l
 met-same s a b listed found None class = listed
 met-same s a b listed found (Some needle) class = found needle class
 
--- each line stands in the root or in a class
+-- each line is in the root or in a class
 abbrev HasParents : List LocatedLine → List LocatedLine → Type 0
 HasParents es xs = AllByRecursion (λ e. (is_root e.parent || has_class es e.parent) ≡ true) xs
 
@@ -309,7 +309,7 @@ module _ (s : Standing) (a b : Report) (da : IsMarked a.lines) (db : IsMarked b.
         (each-from (λ e. (is_within p e && is_visible es' b.case s (class_path e)) ≡ false) (λ e. keep_apart e ≡ false → (is_class e && is_visible es' b.case s e.path) ≡ false)
         (class-unseen (is_visible es' b.case s)) es' unseen-second)
 
-    -- nothing visible lies below a path within
+    -- nothing visible is below a path within p
     none-below : (visible : Tokens → Bool) (xs : List LocatedLine) → AreUnseen visible xs → (q : Tokens) → is_prefix p q ≡ true → some_seen visible (below q xs) ≡ false
     none-below visible xs unseen q t =
         any-both (λ e. is_class e && visible e.path) (λ e. is_under q e.path) xs

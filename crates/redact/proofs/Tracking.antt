@@ -1,4 +1,4 @@
--- The way to the newest line leads to it with one line more.
+-- The path of the newest line, after one more line.
 use Rattle.std.proofs.Common.{◌≡◌, ℕ, zero, suc, ◌+◌, ◌-◌, ◌^◌, ◌<◌, ◌≤◌, Bool, true, false, not, cond, ◌&&◌, ◌||◌, ◌⊎◌, inl, inr, List, [], ◌∷◌, ◌++◌, length, take, zero-add, refl, sym, ◌∙◌, ap, subst, arith, if◌then◌else◌, slice_get, bytes_eq, IfSome}
 use Rattle.std.specs.Prelude.{Option, Some, None, is_some}
 use Rattle.std.proofs.lemmas.Bool.{eq-eqb, ne_eqb, cases_lt}
@@ -65,7 +65,7 @@ behind-by (Some s) l h = by_test (bytes_lt s.name l.name) (bytes_eq s.name l.nam
     by_test false true c k = refl
     by_test false false c k = k
 
--- a later name comes behind too, and is new
+-- a later name may come behind too, and is a new one
 later : (o : Option Step) (x y : Bytes) → is_behind o x ≡ true → bytes_lt x y ≡ true → (is_behind o y ≡ true) × (next_place o y ≡ 0)
 later None x y h l = (refl, refl)
 later (Some s) x y h l = (ap (λ b. b || bytes_eq s.name y) lt, ap (λ b. if b then suc s.place else 0) (bytes_lt-ne s.name y lt))
@@ -212,7 +212,7 @@ module _ (before : List LocatedLine) (ss : List Step) (l : Line) (t : Leads befo
   pub leads-more : Leads (e ∷ before) ss'
   leads-more = record { deep = deep-more; parent = parent-more; newest = newest-more; place = place-more }
 
--- ---- the lines that are kept
+-- ---- the kept lines
 
 pub tracks-none : Tracks [] []
 tracks-none = record {
@@ -264,7 +264,8 @@ module _ (ls : List Line) (ss : List Step) (l : Line) (t : Tracks ls ss) (small 
           ]
         ]
 
-    -- the gates that stand at the line or its array tell whether one refuses at its class, where none does at its parent
+    -- If no gate refuses at the parent of a class, the gates at the class or its array decide whether one refuses at
+    -- the class.
     pub shuts : (c : Case) (s : Standing) → is_refused c s (parent_path (located_back ls) l.depth) ≡ false →
         is_stopped c s ss l ≡ is_shutting (is_refused c s) (placed (located_back ls) l)
     shuts c s h =

@@ -1,4 +1,4 @@
--- A reader whom no gate of the case refuses, and one that sees all.
+-- A reader whom no gate of the case refuses, and a reader who sees everything.
 use Rattle.std.proofs.Common.{◌≡◌, Bool, true, false, not, ◌&&◌, ◌||◌, List, [], ◌∷◌, ◌++◌, refl, ◌∙◌, ap, arith, if◌then◌else◌}
 use Rattle.std.specs.Prelude.{Option, Some, None, filter, is_some, is_none}
 use Rattle.std.specs.List.{list_any, flat_map, filter_map, cons_option}
@@ -34,7 +34,7 @@ flat-none : {X Y : Type 0} (f : X → List Y) → ((x : X) → f x ≡ []) → (
 flat-none f none [] = refl
 flat-none f none (x ∷ xs) = ap (λ ys. ys ++ flat_map f xs) (none x) ∙ flat-none f none xs
 
--- where no gate of the case refuses, none does on any path
+-- if no gate of the case refuses, none refuses on any path
 pub unrefused : (c : Case) (s : Standing) (p : Tokens) → some_refuses c s ≡ false → refusal_at c s p ≡ None
 unrefused c s p h = ap first_of (flat-none (refusals_at c s) (λ q. passes-none s (λ g. same_path g.path q) c.gates h) (prefixes p))
 

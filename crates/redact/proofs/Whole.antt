@@ -1,4 +1,4 @@
--- The pass over a whole document: what it leaves, what it tells and what it counts are as the definitions say.
+-- The pass over a whole document: what it keeps, lists and counts is as the definitions say.
 use Rattle.std.proofs.Common.{◌≡◌, ◌<◌, ◌^◌, ℕ, suc, ◌+◌, false, true, Bool, List, [], ◌∷◌, ◌++◌, refl, sym, ◌∙◌, ap, append-nil, append_assoc, arith, decimal, Option, Some, None, is_some, count_by}
 use Rattle.iodef_tree.specs.Text.{Bytes, Tokens, same_path}
 use Rattle.iodef_tree.specs.Tree.{Forest, end, leaf, branch, steps, lines}
@@ -53,9 +53,9 @@ module _ (es : List LocatedLine) (c : Case) (s : Standing) (under : AreUnderPare
       let written : written_label es q ≡ spelled_in kids = written-block es (suc d) q kids under blocks.0 there.0 in
       rw (enter-at p name place (spelled_in kids) there.0 there.1 written, ← written, pass-judge kids (suc d) q blocks.1 there.2, pass-judge rest d p blocks.2 there.3)
 
--- ---- where the verdicts look
+-- ---- what the verdicts say of the lines below a class
 
--- where they look at all lines below a class, they look at its members
+-- if they read all lines below a class, they read its members
 says-below : (v : Verdicts) (es : List LocatedLine) → ((p : Tokens) → v.holds_visible p ≡ any_seen v (below p es)) →
     (f : Forest) (d : ℕ) (p : Tokens) → AreBlocks es d p f → SaysBelow v d p f
 says-below v es looks end d p blocks = tt
@@ -82,7 +82,7 @@ module _ (f : Forest) (c : Case) (s : Standing) (sound : IsSound f) (ok : first_
   pub says : SaysBelow v 1 [] f
   says = says-below v es (λ p. refl) f 1 [] (blocks-located f sound)
 
-  -- what the pass leaves is a document
+  -- what the pass keeps is a document
   pub left-sound : IsSound (cut root 0 (judge v [] f))
   left-sound =
       let within = within-cut v (λ p. label-names (label_at es p)) f root [] 0 in
@@ -95,11 +95,11 @@ module _ (f : Forest) (c : Case) (s : Standing) (sound : IsSound f) (ok : first_
         texts = within.texts sound.texts;
       }
 
-  -- the kept outline is that of what the pass leaves
+  -- the kept outline is that of what the pass keeps
   pub left-lines : kept_outline (lines 1 f) c s ≡ lines 1 (cut root 0 (judge v [] f))
   left-lines = ap (kept_lines v) (located-lines f sound) ∙ kept-lines v f sound says left-sound
 
-  -- the same of what the program's pass has judged
+  -- the same of what the program's pass judges
   module _ (j : Judged) (is : j ≡ pass c s (at_root c s) f) where
     judged-is : j ≡ judge v [] f
     judged-is = is ∙ ap (λ h. pass c s h f) (at_root-is es c s (root-bare f sound)) ∙ pass-judge es c s (below-parents (lines 1 f)) f 1 [] (blocks-located f sound) (classes-placed f sound)
@@ -110,7 +110,7 @@ module _ (f : Forest) (c : Case) (s : Standing) (sound : IsSound f) (ok : first_
     pub excerpt-lines : kept_outline (lines 1 f) c s ≡ lines 1 (cut root 0 j)
     excerpt-lines = rw judged-is left-lines
 
-    -- what is withheld is what the pass tells, in order
+    -- what is withheld is what the pass lists, in order
     pub excerpt-told : (ws : List Withheld) (q : Tokens) → q ≡ [] → is_among (ws ++ []) ≡ is_among (withheld_below root q 0 j) →
         withheld_in_order ws ≡ withheld_of (lines 1 f) c s
     excerpt-told ws q at told_all =
@@ -121,7 +121,7 @@ module _ (f : Forest) (c : Case) (s : Standing) (sound : IsSound f) (ok : first_
         let same : withheld_below root q 0 j ≡ all = cc (at, judged-is, pairs) in
         same_in_order ws all (λ x. ap (λ (among : Withheld → Bool). among x) (ap is_among (sym (append-nil ws)) ∙ told_all ∙ ap is_among same))
 
-    -- the visible classes are those that the pass counts, which are few
+    -- the visible classes are those that the pass counts, and they are few
     pub excerpt-count : (n : ℕ) → (0 + visible_classes j < 2 ^ 32 → n + 0 ≡ 0 + visible_classes j) → n ≡ visible_count (lines 1 f) c s
     excerpt-count n counts =
         let same = ap visible_classes judged-is in

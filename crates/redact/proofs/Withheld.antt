@@ -1,4 +1,4 @@
--- What the pass tells as withheld is what the definitions say.
+-- What the pass lists as withheld is what the definitions say.
 use Rattle.std.proofs.Common.{◌≡◌, ℕ, suc, Bool, true, false, not, List, [], ◌∷◌, ◌++◌, refl, sym, ◌∙◌, ap, subst, if◌then◌else◌, ◌&&◌, Option, Some}
 use Rattle.std.specs.List.{AllByRecursion}
 use Rattle.std.proofs.lemmas.Bool.{or_parts}
@@ -17,14 +17,14 @@ use Rattle.redact.proofs.Fates.{by_verdict}
 use Rattle.redact.proofs.Keeping.{home-class, is_seen, any_seen, SaysBelow, ends}
 
 module _ (v : Verdicts) (place : Tokens → Option Tokens) where
-  -- a place by the pass is the place by the definitions
+  -- a place of the pass is the place of the definitions
   abbrev pub IsRight : Tokens × Tokens → Type 0
   IsRight x = place x.0 ≡ Some x.1
 
   abbrev tells : List LocatedLine → List Withheld
   tells es = withheld_among v place es
 
-  -- below a wholly hidden class nothing is told
+  -- nothing is listed below a wholly hidden class
   silent : (f : Forest) (d : ℕ) (p : Tokens) → SaysBelow v d p f → any_seen v (walk d p f) ≡ false → is_wholly_hidden v p ≡ true → tells (walk d p f) ≡ []
   silent end d p says unseen hidden = refl
   silent (leaf i rest) d p says unseen hidden = rw (no_class-kind i.content) (silent rest d p says (or_parts (is_seen v (leaf_entry d p i)) _ unseen).1 hidden)

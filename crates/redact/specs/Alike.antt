@@ -1,4 +1,4 @@
--- Steps from one report to another, which differs in what a reader may not see.
+-- Steps from one report to another that differs only in what a reader may not see.
 use Rattle.std.specs.Prelude.{◌≡◌, Bool, true, false, ◌&&◌, not, List, map, filter, Option, None, if◌then◌else◌, ◌⊎◌}
 use Rattle.iodef_tree.specs.Text.{Bytes, Tokens, same_path, is_prefix, is_root}
 use Rattle.iodef_tree.specs.Paths.{LocatedLine, is_class, located, has_class}
@@ -14,48 +14,50 @@ use Rattle.policy.specs.declared.case.Case.{Case}
 use Rattle.redact.specs.Told.{some_seen, withheld_of, told_of, excerpt_of}
 use Rattle.redact.specs.Wants.{meets_by}
 
--- the lines of a document, and what is judged by beside them
+-- the lines of a document, with the case that it is judged by
 pub record Report : Type 0 where
   pub lines : List Line
   pub case : Case
 
 -- ---- lines by their classes
 
--- the class that a line stands for, and of a plain line the class that it stands in
+-- the path of a class line, or for a plain line the path of the class that it is in
 abbrev pub class_path : LocatedLine → Tokens
 class_path e = if is_class e then e.path else e.parent
 
--- A line under the path of its class. Which element of an array a plain line is doesn't tell, as it moves up where a class in
--- front of it is taken out.
+-- A line under the path of its class. Of a plain line this doesn't say which element of an array it is, since a line
+-- moves up if a class before it is taken out.
 abbrev pub by_class : LocatedLine → LocatedLine
 by_class e = record { parent = e.parent; path = class_path e; line = e.line }
 
--- a plain line of the class at p
+-- whether a line is a plain line of the class at p
 abbrev pub is_plain_of : Tokens → LocatedLine → Bool
 is_plain_of p e = not (is_class e) && same_path e.parent p
 
--- a line of the class at p or of a class below it
+-- whether a line is of the class at p or of a class below it
 abbrev pub is_within : Tokens → LocatedLine → Bool
 is_within p e = is_prefix p (class_path e)
 
--- all lines but some, in their order, each under the path of its class
+-- all lines but those that pass the test, in their order, each under the path of its class
 abbrev pub lines_but : (LocatedLine → Bool) → List Line → List LocatedLine
 lines_but some ls = map by_class (filter (λ e. not (some e)) (located ls))
 
--- the gates at other classes than that at p and those below it, and the permissions there
+-- the gates that are neither at p nor below it
 abbrev pub gates_but : Tokens → List Gate → List Gate
 gates_but p gates = filter (λ g. not (is_prefix p g.path)) gates
 
+-- the permissions that are neither at p nor below it
 abbrev pub permissions_but : Tokens → List Permission → List Permission
 permissions_but p permissions = filter (λ x. not (is_prefix p x.path)) permissions
 
--- ---- what is told
+-- ---- what a reader is served
 
 module _ (s : Standing) where
   abbrev pub sees : Report → Tokens → Bool
   sees a p = is_visible (located a.lines) a.case s p
 
-  -- the reader is told the same of both: the same excerpt, if there is one, and whether what is looked for is met
+  -- The reader is served the same of both: the same excerpt, if there is one, and each want is met by both or by
+  -- neither.
   pub record IsToldAlike (a b : Report) : Type 0 where
     pub excerpt : excerpt_of a.lines a.case s ≡ excerpt_of b.lines b.case s
     pub told : told_of a.lines a.case s ≡ told_of b.lines b.case s
@@ -64,8 +66,8 @@ module _ (s : Standing) where
 
   -- ---- steps
 
-  -- Other plain lines in a class that isn't visible. Its written label stays, and so do all other lines, the path of every
-  -- class, the gates and the permissions.
+  -- Other plain lines in a class that isn't visible. The label written in it stays, and so do all other lines, the
+  -- path of every class, the gates and the permissions.
   pub record HasOtherPlainLines (p : Tokens) (a b : Report) : Type 0 where
     pub class : has_class (located a.lines) p ≡ true
     pub unseen : sees a p ≡ false
@@ -73,12 +75,13 @@ module _ (s : Standing) where
     pub others : lines_but (is_plain_of p) a.lines ≡ lines_but (is_plain_of p) b.lines
     pub case : a.case ≡ b.case
 
-  -- no class at p or below it is visible: where there is a class at p, it is wholly hidden
+  -- no class at p or below it is visible; if there is a class at p, it is wholly hidden
   abbrev pub is_hidden_from : Tokens → Report → Bool
   is_hidden_from p a = not (some_seen (sees a) (filter (λ e. is_prefix p e.path) (located a.lines)))
 
   -- The lines of a wholly hidden class and of all below it are put in, taken out or exchanged, with the gates and the
-  -- permissions there. The paths of all other classes stay, and what is withheld is the same.
+  -- permissions there. The paths of all other classes stay. The list of what is withheld is the same: that is a
+  -- condition of this step, not a result.
   pub record HasOtherHiddenClass (p : Tokens) (a b : Report) : Type 0 where
     pub below_root : is_root p ≡ false
     pub first : is_hidden_from p a ≡ true
@@ -101,12 +104,12 @@ module _ (s : Standing) where
   IsAlikeStep a b = ((p : Tokens) × HasOtherPlainLines p a b) ⊎
       (((p : Tokens) × HasOtherHiddenClass p a b) ⊎ HasOtherPermissions a b)
 
--- the lines are those of a document in which no marking is bad
+-- the lines are those of a document whose markings are accepted
 pub record IsMarked (ls : List Line) : Type 0 where
   pub document : IsDocument ls
   pub marked : first_bad_marking (located ls) ≡ None
 
--- Of two reports that such a step joins the reader is told alike.
+-- The law that of two reports that such a step joins, the reader is served the same.
 abbrev pub AlikeIsToldAlike : Type 0
 AlikeIsToldAlike = (s : Standing) (a b : Report) → IsMarked a.lines → IsMarked b.lines → IsAlikeStep s a b →
     IsToldAlike s a b

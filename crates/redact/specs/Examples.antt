@@ -1,5 +1,5 @@
--- Small reports by hand, and what a reader is told of each: to be computed by the definitions alone. The readers and the
--- cases are those of the policy's examples.
+-- Small reports by hand, and what a reader is served of each. The definitions compute it. The readers and the cases
+-- are those of the policy's examples.
 use Rattle.std.specs.Prelude.{◌≡◌, ℕ, List, [], ◌∷◌, ◌++◌, map, Bool, true, false, Option, Some, None, option_map, codes}
 use Rattle.iodef_tree.specs.Text.{Bytes}
 use Rattle.iodef_tree.specs.Paths.{classes_of}
@@ -13,18 +13,19 @@ use Rattle.policy.specs.declared.case.Case.{Case}
 use Rattle.policy.specs.Examples.{anybody, colleague, neighbour, case_of, gate_at, event_path, behind, shared_with}
 use Rattle.redact.specs.Told.{kept_outline, excerpt_place, withheld_of, visible_count, is_listed, finds}
 
--- ---- what is told
+-- ---- what a reader is served
 
--- the rule by which something is withheld, at the JSON pointer of a place in the excerpt
+-- the rule by which something is withheld, with the JSON pointer of a place in the excerpt
 abbrev pub hidden_at : Bytes → Rule → Bytes × Rule
 hidden_at pointer rule = (pointer, rule)
 
--- how many classes are visible, the lines of the excerpt, and what is withheld of the rest, in order and without repeats
+-- an excerpt: how many classes are visible, its lines, and the list of what is withheld
 pub record Served : Type 0 where
   pub classes : ℕ
   pub lines : List Line
   pub withheld : List (Bytes × Rule)
 
+-- the excerpt of these lines for a case and a reader
 abbrev pub served : List Line → Case → Standing → Served
 served ls c s = record {
   classes = visible_count ls c s;
@@ -32,13 +33,13 @@ served ls c s = record {
   withheld = map (λ x. hidden_at (pointer_text x.0) x.1) (withheld_of ls c s);
 }
 
--- the pointer of each class of a report, beside that of its place in the excerpt, if it has one
+-- the pointer of each class of a report, with that of its place in the excerpt if it has one
 abbrev pub places : List Line → Case → Standing → List (Bytes × Option Bytes)
 places ls c s = map (λ p. (pointer_text p, option_map pointer_text (excerpt_place ls c s p))) (classes_of ls)
 
 -- ---- reports
 
--- what stands in an Incident behind its EventData
+-- the members of an Incident that come after its EventData
 abbrev pub particulars : List Line
 particulars =
     text_line 2 (codes "GenerationTime") false (codes "g")
@@ -46,10 +47,11 @@ particulars =
     ∷ text_line 2 (codes "purpose") false (codes "reporting")
     ∷ []
 
+-- the member `version` of the root
 abbrev pub version : Line
 version = text_line 1 (codes "version") false (codes "2.0")
 
--- a public Incident with two EventData, the first of them red and with a Flow in it
+-- a public Incident with two EventData; the first is red and holds a Flow
 abbrev pub one_red_event : List Line
 one_red_event =
     class_line 1 (codes "Incident") true
@@ -65,7 +67,7 @@ one_red_event =
     ∷ version
     ∷ []
 
--- a private Incident with two EventData, the second of them public, and an empty class at the root
+-- a private Incident with two EventData, of which the second is public, and an empty class at the root
 abbrev pub one_public_event : List Line
 one_public_event =
     class_line 1 (codes "Incident") true
@@ -81,7 +83,7 @@ one_public_event =
     ∷ version
     ∷ []
 
--- a public Incident with a red Contact, in which a mail address is green
+-- a public Incident with a red Contact that holds a green mail address
 abbrev pub green_mail : List Line
 green_mail =
     class_line 1 (codes "Incident") true
@@ -96,7 +98,7 @@ green_mail =
     ∷ version
     ∷ []
 
--- an Incident with no label
+-- an Incident without a label
 abbrev pub unmarked : List Line
 unmarked =
     class_line 1 (codes "Incident") true
@@ -122,7 +124,7 @@ own_words =
     ∷ version
     ∷ []
 
--- a public Incident of three EventData, the first of them red, and of one Assessment that is red
+-- a public Incident with three EventData, of which the first is red, and with a red Assessment
 abbrev pub three_events : List Line
 three_events =
     class_line 1 (codes "Incident") true
@@ -135,9 +137,10 @@ three_events =
     ∷ text_line 2 (codes "restriction") false (codes "public")
     ∷ []
 
--- ---- what a reader is told of them
+-- ---- what a reader is served of them
 
--- What is red is taken out with all that it holds, and told once, at the Incident. The other EventData moves up.
+-- A red class is taken out with all that it holds, and its rule is listed once, at the Incident. The other EventData
+-- moves up.
 abbrev pub RedEventIsTakenOut : Type 0
 RedEventIsTakenOut =
     served one_red_event (behind []) anybody
@@ -157,8 +160,9 @@ RedEventIsTakenOut =
       withheld = hidden_at (codes "/Incident/0") HRed ∷ [];
     }
 
--- Of the private Incident only the frame is left, bare, around what is public: it is told at its own place, where the private
--- EventData in it is told too, by the same rule. The private class at the root is told at the root, whose header is served.
+-- The private Incident is left as a bare frame around its public class. Its rule is listed at its own place, and so is
+-- that of the private EventData in it, which is the same rule. The rule of the private class at the root is listed at
+-- the root, whose header is served.
 abbrev pub FrameIsBare : Type 0
 FrameIsBare =
     served one_public_event (behind []) anybody
@@ -174,7 +178,7 @@ FrameIsBare =
       withheld = hidden_at [] HRed ∷ hidden_at (codes "/Incident/0") HRed ∷ [];
     }
 
--- a frame inside a visible class, for a reader who is cleared for GREEN
+-- A frame inside a visible class is bare too. The reader is cleared for GREEN.
 abbrev pub FrameInsideIsBare : Type 0
 FrameInsideIsBare =
     served green_mail (behind []) neighbour
@@ -195,7 +199,7 @@ FrameInsideIsBare =
       withheld = hidden_at (codes "/Incident/0/Contact/0") HRed ∷ [];
     }
 
--- The source gets its whole report. The label by default is added to the Incident, in name order, and to no class in it.
+-- The source gets its whole report. The default label is added to the Incident, in name order, and to no class in it.
 abbrev pub SourceGetsAll : Type 0
 SourceGetsAll =
     served unmarked (behind []) colleague
@@ -215,7 +219,7 @@ SourceGetsAll =
       withheld = [];
     }
 
--- What a permission shows says the label that it had from above, with its text, each at its place by name.
+-- A class that a permission shows gets the label from above, with its text, each member at its place by name.
 abbrev pub LabelIsAdded : Type 0
 LabelIsAdded =
     served own_words (shared_with 3) anybody
@@ -234,7 +238,7 @@ LabelIsAdded =
       withheld = hidden_at (codes "/Incident/0") HRed ∷ hidden_at (codes "/Incident/0/EventData/0") HRed ∷ [];
     }
 
--- Arrays close up over what is taken out, and what is wholly hidden has no place.
+-- The elements of an array close up over those that are taken out, and a wholly hidden class has no place.
 abbrev pub ArraysCloseUp : Type 0
 ArraysCloseUp =
     places three_events (behind []) anybody
@@ -245,7 +249,7 @@ ArraysCloseUp =
     ∷ (codes "/Incident/0/EventData/2", Some (codes "/Incident/0/EventData/1"))
     ∷ []
 
--- what a gate hides is told by the gate's rule, at the parent, beside what is hidden there by another rule
+-- The rule of a gate is listed at the parent of the class that it hides, besides the other rules there.
 abbrev pub GateIsTold : Type 0
 GateIsTold =
     served three_events (behind (gate_at event_path 4 (Some 1) ∷ [])) anybody
@@ -260,15 +264,16 @@ GateIsTold =
       withheld = hidden_at (codes "/Incident/0") G4 ∷ hidden_at (codes "/Incident/0") HRed ∷ [];
     }
 
--- a text to be found, and the class in which it is looked for
+-- the text of a search, and the name of the classes that are searched
 abbrev pub asked : Bytes → Option Bytes → Bytes × Option Bytes
 asked needle class = (needle, class)
 
+-- the answers of several searches
 abbrev pub searches : List Line → Case → Standing → List (Bytes × Option Bytes) → List Bool
 searches ls c s = map (λ q. finds ls c s q.0 q.1)
 
--- A text is found in a visible class, and in one of the name that is asked for. It isn't found in a hidden class, nor in a
--- frame, nor in the header.
+-- A search finds a text in a visible class, and in a class of the name that is given. It finds none in a hidden class,
+-- in a frame or in the header.
 abbrev pub SearchFindsWhatIsSeen : Type 0
 SearchFindsWhatIsSeen =
     searches one_public_event (behind []) anybody
@@ -281,17 +286,19 @@ SearchFindsWhatIsSeen =
     ∷ [])
     ≡ true ∷ true ∷ false ∷ false ∷ false ∷ false ∷ []
 
--- A text of a visible class is found, and the label that the excerpt adds to that class isn't: it is stored above it, in a frame.
+-- A search finds a text of a visible class. It doesn't find the label that the excerpt adds to that class: this is
+-- stored above it, in a frame.
 abbrev pub AddedLabelIsNotFound : Type 0
 AddedLabelIsNotFound =
     searches own_words (shared_with 3) anybody (asked (codes "en") None ∷ asked (codes "chatham") None ∷ [])
     ≡ true ∷ false ∷ []
 
--- how many classes are visible, whether the report is listed, and what searches find
+-- how many classes are visible, whether the report is listed, and the answers of searches
 abbrev pub sight : List Line → Case → Standing → ℕ × Bool × List Bool
 sight ls c s = (visible_count ls c s, is_listed ls c s, searches ls c s (asked (codes "x") None ∷ asked [] None ∷ []))
 
--- Who sees no class finds nothing, and isn't shown that there is a report: by the label of an unmarked report, or by a gate.
+-- A reader who sees no class finds nothing, and the report isn't listed: because of the label of an unmarked report,
+-- or because of a gate.
 abbrev pub NothingIsSeen : Type 0
 NothingIsSeen =
     sight unmarked (behind []) anybody ∷ sight one_red_event (case_of (gate_at [] 1 None ∷ []) []) anybody ∷ []

@@ -11,7 +11,7 @@ use Rattle.redact.specs.Feeding.{Progress, TakesLine}
 use Rattle.redact.specs.Wants.{meets}
 use Rattle.redact.specs.declared.want.Want.{Want}
 
--- ---- what a search answers
+-- ---- the answers of a search
 
 -- this holds of each outline that begins with these lines, if its markings are accepted
 abbrev pub InEach : List Line → (List Line → Type 0) → Type 0
@@ -22,7 +22,7 @@ InEach ls P = (more : List Line) → is_outline (ls ++ more) ≡ true →
 abbrev pub IsSure : Want → List Line → Case → Standing → Type 0
 IsSure w ls c s = InEach ls (λ all. meets w all c s ≡ true)
 
--- a search as its contracts see it: by what it judges, for whom, what is looked for, what came so far, and whether true was answered
+-- a search as contracts see it: its case, its standing, its want, the lines so far, and whether it returned true
 pub record ProbeState : Type 0 where
   pub case : Case
   pub standing : Standing
@@ -30,7 +30,8 @@ pub record ProbeState : Type 0 where
   pub fed : Progress
   pub met : Bool
 
--- A search takes one more line. Where it answers true, that is sure. From then on it answers true; after a fault nothing changes.
+-- A search takes one more line. If it returns true, that is sure, and it returns true from then on. After a fault
+-- nothing changes.
 pub record ProbesLine (old : ProbeState) (line : Line) (result : Result Bool OutlineFault) (new : ProbeState) : Type 0 where
   pub case : new.case ≡ old.case
   pub standing : new.standing ≡ old.standing

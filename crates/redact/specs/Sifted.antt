@@ -1,4 +1,4 @@
--- What a pass knows of the lines that came, of which it keeps those that matter.
+-- What a pass knows of the lines so far, of which it keeps those that matter.
 use Rattle.std.specs.Prelude.{◌≡◌, ℕ, suc, ◌<◌, ◌≤◌, ◌-◌, ◌^◌, Bool, true, false, not, ◌&&◌, ◌||◌, List, [], ◌∷◌, ◌++◌, length, take, map, filter, nat_lt, if◌then◌else◌, Option, Some, None, is_some, IfSome}
 use Rattle.std.specs.List.{flat_map, list_any, slice_get}
 use Rattle.std.specs.Str.{bytes_eq}
@@ -21,41 +21,42 @@ use Rattle.redact.specs.declared.marks.Marks.{Marks}
 use Rattle.redact.specs.declared.steps.Step.{Step}
 use Rattle.redact.specs.declared.sieve.Sieve.{Sieve}
 
--- ---- the way to a line
+-- ---- the path of the newest line
 
--- what the newest line of a depth adds to a path
+-- the tokens that the newest line of a depth adds to the path of its class
 abbrev pub step_tokens : Step → Tokens
 step_tokens s = steps s.name (place_of s.in_array s.place)
 
--- the path of the newest line, by the newest of each depth that is still open
+-- the path of the newest line, by the newest line of each depth that is still open
 abbrev pub way : List Step → Tokens
 way ss = flat_map step_tokens ss
 
--- the place of one more member of the class, by the newest of its members
+-- the place of one more member of a class, by the newest of its members
 abbrev pub next_place : Option Step → Bytes → ℕ
 next_place None name = 0
 next_place (Some s) name = if bytes_eq s.name name then suc s.place else 0
 
--- the place of the member in front of a line is a number to which one can be added
+-- the place of the newest sibling is small enough to be counted on
 abbrev pub IsCounted : List Step → Line → Type 0
 IsCounted ss l = IfSome (slice_get ss (l.depth - 1)) (λ s. s.place < 2 ^ 64 - 1)
 
+-- what is kept of the newest line of a depth: its name, whether it is in an array, and its place
 abbrev pub step_of : List Step → Line → Step
 step_of ss l = record { name = l.name; in_array = l.in_array; place = next_place (slice_get ss (l.depth - 1)) l.name }
 
--- one line more
+-- the newest line of each open depth, after one more line
 abbrev pub went_on : List Step → Line → List Step
 went_on ss l = take (l.depth - 1) ss ++ step_of ss l ∷ []
 
--- a path is the root's, or leads to a step below another path, or to the array around it
+-- whether a path is the root's, that of one step below another path, or that of the array around it
 abbrev pub stands : Tokens → Step → Tokens → Bool
 stands p s q = is_root q || (same_path q (p ++ s.name ∷ []) || same_path q (p ++ step_tokens s))
 
--- a gate there refuses the reader
+-- whether a gate at such a path refuses the reader
 abbrev pub stops : Standing → Tokens → Step → Gate → Bool
 stops r p s g = stands p s g.path && is_some (refusal_of_gate r g)
 
--- a line is that of a class at which a gate refuses the reader, who isn't of the source
+-- whether a line is that of a class at which a gate refuses the reader, who isn't of the source
 abbrev pub is_stopped : Case → Standing → List Step → Line → Bool
 is_stopped c r ss l =
     is_class_kind l.kind
@@ -66,23 +67,27 @@ abbrev pub located_onto : List LocatedLine → List Line → List LocatedLine
 located_onto before [] = before
 located_onto before (l ∷ ls) = located_onto (placed before l ∷ before) ls
 
+-- lines with their paths, the newest first
 abbrev pub located_back : List Line → List LocatedLine
 located_back ls = located_onto [] ls
 
+-- located lines without their paths
 abbrev pub lines_of : List LocatedLine → List Line
 lines_of es = map (λ e. e.line) es
 
+-- what of a line the next one with the same parent has to follow
 abbrev pub sibling_at : Option Step → Option Sibling
 sibling_at None = None
 sibling_at (Some s) = Some (record { name = s.name; in_array = s.in_array })
 
--- a member of this name may come behind the newest of its class, or it is the first
+-- whether a member of this name may come behind the newest of its class, or is the first
 abbrev pub is_behind : Option Step → Bytes → Bool
 is_behind None name = true
 is_behind (Some s) name = bytes_lt s.name name || bytes_eq s.name name
 
--- The newest line of each depth that is still open, the outermost first. Of lines before, the newest first, they tell of each depth at
--- which the next line may stand: the path of the class there, its newest member, and the place of one more.
+-- The newest line of each depth that is still open, from the outermost on. Of earlier lines, of which the newest is
+-- first, they say for each depth of the next line: the path of its class, the newest member of that, and the place of
+-- one more.
 pub record Leads (before : List LocatedLine) (ss : List Step) : Type 0 where
   pub deep : deepest (lines_of before) ≤ suc (length ss)
   pub parent : (k : ℕ) → k ≤ length ss → parent_path before (suc k) ≡ way (take k ss)
@@ -97,31 +102,33 @@ pub record Tracks (ls : List Line) (ss : List Step) : Type 0 where
 
 -- ---- the sieve
 
--- deeper lines stand below a class at which a gate refuses
+-- whether a line of this depth is below a class at which a gate refuses, if there is one at the depth given
 abbrev pub is_beyond : Option ℕ → ℕ → Bool
 is_beyond None d = false
 is_beyond (Some k) d = nat_lt k d
 
--- after a line of this depth, which is that of such a class, or not
+-- the depth of a line if it is that of such a class, else none
 abbrev pub shut_by : Bool → ℕ → Option ℕ
 shut_by t d = if t then Some d else None
 
--- the newest line that is kept is as deep as the newest, or it is the class of this depth, below which lines are let go of
+-- The next line may be as deep behind the kept lines as behind all. If the newest kept line is a refused class of this
+-- depth, it may be one deeper than that.
 abbrev pub DeepAs : Option ℕ → List Line → List Line → Type 0
 DeepAs None before kept = deepest kept ≡ deepest before
 DeepAs (Some k) before kept = deepest kept ≡ suc k
 
--- What stands below some paths is let go of.
+-- The lines below some paths are dropped.
 module _ (gone : Tokens → Bool) where
   abbrev pub stays : LocatedLine → Bool
   stays e = not (gone e.parent)
 
-  -- the line of a class at such a path
+  -- whether the line is that of a class at such a path
   abbrev pub is_shutting : LocatedLine → Bool
   is_shutting e = is_class e && gone e.path
 
-  -- What is known of the lines before, the newest first, and of those that stay: by the depth of the newest that stays, if it is the
-  -- line of a class at such a path, each next line tells by its own depth whether it stands below one. Those that stay are an outline.
+  -- What is known of earlier lines, of which the newest is first, and of those that stay. If the newest line that
+  -- stays is that of a class at such a path, its depth says of the next line whether that is below it. The lines that
+  -- stay are an outline.
   pub record Reach (before : List LocatedLine) (o : Option ℕ) : Type 0 where
     pub beyond : (d : ℕ) → d ≤ deepest (lines_of before) → gone (parent_path before d) ≡ is_beyond o d
     pub deep : DeepAs o (lines_of before) (lines_of (filter stays before))
@@ -130,13 +137,16 @@ module _ (gone : Tokens → Bool) where
     pub count : counted (lines_of (filter stays before)) ≤ counted (lines_of before)
     pub outline : is_outline_back (lines_of (filter stays before)) ≡ true
 
+-- The sieve holds the lines that matter, and knows the path of the newest of them and whether the next line is below a
+-- refused class.
 pub record Sifts (c : Case) (s : Standing) (ls : List Line) (v : Sieve) : Type 0 where
   pub lines : v.lines.items ≡ lines_that_matter c s ls
   pub reach : Reach (is_refused c s) (located_back ls) v.shut
   pub tracks : Tracks v.lines.items v.steps.items
 
--- ---- all of it
+-- ---- all that a pass knows
 
+-- what a pass knows of its lines: their shape, their markings, and those that matter
 pub record Knows (c : Case) (s : Standing) (ls : List Line) (shape : Shape) (marks : Marks) (v : Sieve) : Type 0 where
   pub shows : Shows shape (back ls)
   pub marked : marks_of marks ≡ with_marked_lines none_noted ls

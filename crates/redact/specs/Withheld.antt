@@ -1,4 +1,4 @@
--- What is withheld: at which place of the excerpt, and by which rule.
+-- What is withheld: the places in the excerpt, and the rules.
 use Rattle.std.specs.Prelude.{Bool, ◌&&◌, not, List, [], ◌∷◌, ◌++◌, Option, Some, None, filter, map, if◌then◌else◌, Contains}
 use Rattle.std.specs.List.{flat_map, list_any, zip}
 use Rattle.std.specs.List.Sorted.{IsStrictlySortedBy}
@@ -18,28 +18,29 @@ use Rattle.redact.specs.Kept.{Verdicts, is_frame, is_wholly_hidden, is_kept, kep
 abbrev pub Withheld : Type 0
 Withheld = Tokens × Rule
 
--- what stands beside a path in a list of pairs: nothing where no pair has it
+-- the second path of the first pair that has this path as its first, if there is one
 abbrev pub beside : List (Tokens × Tokens) → Tokens → Option Tokens
 beside [] p = None
 beside (x ∷ xs) p = if same_path x.0 p then Some x.1 else beside xs p
 
 module _ (v : Verdicts) where
-  -- The paths of the kept classes, each beside the path of its line in the kept outline: that has a line for each of them,
-  -- in the same order.
+  -- The paths of the kept classes, each with the path of its line in the kept outline: that has a line for each of
+  -- them, in the same order. The path of no plain line is used.
   abbrev pub class_places : List LocatedLine → List (Tokens × Tokens)
   class_places es = zip (class_paths (filter (is_kept v) es)) (classes_of (kept_lines v es))
 
--- the place of a kept class in the excerpt; the root's is the root's path, and what is not kept has none
+-- The place of a class in the excerpt. The root's is the root's path, and a class that isn't kept has none.
 abbrev pub place_by : List (Tokens × Tokens) → Tokens → Option Tokens
 place_by ps p = if is_root p then Some [] else beside ps p
 
--- a rule told at a place: nothing is told where there is no place
+-- a rule at a place; nothing if there is no place
 abbrev pub told_at_place : Option Tokens → Rule → List Withheld
 told_at_place None rule = []
 told_at_place (Some q) rule = (q, rule) ∷ []
 
 module _ (v : Verdicts) (place : Tokens → Option Tokens) where
-  -- a frame is told at its place, and a wholly hidden class at that of its parent, unless that is wholly hidden too
+  -- A frame is listed at its place; a wholly hidden class at the place of its parent, unless that is wholly hidden
+  -- too.
   abbrev pub withheld_at : LocatedLine → List Withheld
   withheld_at e =
       if not (is_class e) then []
@@ -48,34 +49,36 @@ module _ (v : Verdicts) (place : Tokens → Option Tokens) where
       then told_at_place (place e.parent) (v.rule e.path)
       else []
 
-  -- of each class, in stored order, and with repeats
+  -- the same of each class, in stored order and with repeats
   abbrev pub withheld_among : List LocatedLine → List Withheld
   withheld_among es = flat_map withheld_at es
 
--- everything that is withheld, in stored order and with repeats
+-- all that is withheld, in stored order and with repeats
 abbrev pub withheld_pairs : Verdicts → List LocatedLine → List Withheld
 withheld_pairs v es = withheld_among v (place_by (class_places v es)) es
 
--- by the bytes of the place as it is printed, then by those of the rule
+-- the order of the list: by the bytes of the place's JSON pointer, then by those of the rule's name
 abbrev pub withheld_cmp : Withheld → Withheld → Ordering
 withheld_cmp = then_cmp (on (λ x. pointer_text x.0) (slice_cmp nat_cmp)) (on (λ x. name_of x.1) (slice_cmp nat_cmp))
 
+-- whether two pairs have the same place and the same rule, by those bytes
 abbrev pub same_withheld : Withheld → Withheld → Bool
 same_withheld = eq_of_both (on (λ x. pointer_text x.0) bytes_eq) (on (λ x. name_of x.1) bytes_eq)
 
 -- ---- in order
 
+-- a pair put into a list, given how it compares with the first of the list
 abbrev pub insert_withheld_by : Ordering → Withheld → Withheld → List Withheld → List Withheld → List Withheld
 insert_withheld_by Less x y ys rest = x ∷ y ∷ ys
 insert_withheld_by Equal x y ys rest = y ∷ ys
 insert_withheld_by Greater x y ys rest = y ∷ rest
 
--- a pair at its place in the order, unless it stands there
+-- the list with a pair at its place in the order, unless the pair is there already
 abbrev pub insert_withheld : Withheld → List Withheld → List Withheld
 insert_withheld x [] = x ∷ []
 insert_withheld x (y ∷ ys) = insert_withheld_by (withheld_cmp x y) x y ys (insert_withheld x ys)
 
--- by the bytes of the place and then of the rule, none twice
+-- the pairs in order: by the bytes of the place and then of the rule's name, none twice
 abbrev pub withheld_in_order : List Withheld → List Withheld
 withheld_in_order [] = []
 withheld_in_order (x ∷ xs) = insert_withheld x (withheld_in_order xs)
@@ -88,21 +91,22 @@ pub record Lists (pairs listed : List Withheld) : Type 0 where
 
 -- ---- as a pass notes it
 
--- a pair is among these
+-- whether a pair is among these
 abbrev pub is_among : List Withheld → Withheld → Bool
 is_among ps x = list_any (same_withheld x) ps
 
--- a rule of this name is among these
+-- whether a rule of this name is among these
 abbrev pub has_rule : List Rule → Rule → Bool
 has_rule rules rule = list_any (λ r. bytes_eq (name_of r) (name_of rule)) rules
 
--- these rules, with one more unless it is among them
+-- these rules with one more, unless it is among them
 abbrev pub with_rule : List Rule → Rule → List Rule
 with_rule rules rule = if has_rule rules rule then rules else rules ++ rule ∷ []
 
--- each of these rules at one place
+-- a rule at a place
 abbrev pub at_rule : Tokens → Rule → Withheld
 at_rule q r = (q, r)
 
+-- several rules at one place
 abbrev pub at_place : Tokens → List Rule → List Withheld
 at_place q rules = map (at_rule q) rules

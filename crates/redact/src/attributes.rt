@@ -14,7 +14,7 @@ use iodef_tree::{Item, Member, Object, Text};
 use marking::Label;
 use std::alloc::{AllocError, Global};
 
-/// Where a member of this name goes.
+/// Returns the place of a member of this name: behind the last member whose name isn't later.
 fn place_for(members: &[(Text, Member)], name: &str) -> usize
     requires { AllByRecursion (λ m. IsMemberFilled m.1) members.now }
     ensures within { result ≤ length members.now }
@@ -32,6 +32,7 @@ fn place_for(members: &[(Text, Member)], name: &str) -> usize
     members.len()
 }
 
+/// Returns the object with a text member put in at its place by name.
 fn with_attribute(
     alloc: Global,
     object: Object,
@@ -50,7 +51,7 @@ fn with_attribute(
     Ok(Object { members })
 }
 
-/// The value of `ext-restriction`, for an extended label.
+/// Returns the value of `ext-restriction` for an extended label (RFC 7970 section 5.1.1).
 fn ext_restriction<'a>(label: Label<'a>) -> Option<&'a str>
     ensures { option_map (λ t. t.now) result ≡ ext_restriction_of (marking_of label.entry) }
 {
@@ -60,7 +61,7 @@ fn ext_restriction<'a>(label: Label<'a>) -> Option<&'a str>
     }
 }
 
-/// The members with a label.
+/// Returns the object with the members of a label put in (RFC 7970 sections 3.3.1 and 5.1.1).
 pub fn put_label(alloc: Global, object: Object, label: Label<'_>) -> Result<Object, AllocError>
     requires { IsFilled object }
     ensures put { IfOk result (λ o.

@@ -15,10 +15,15 @@ use policy::{Case, Standing};
 use std::alloc::{AllocError, Global};
 use std::mem::replace;
 
-/// What a reader may see of an incident: its visible classes with their plain members, the classes that hold such ones
-/// bare, and the header. A visible class whose label would not show any more says it itself. `None` exactly where no
-/// class is visible. The markings of the document were accepted by `check`; it accepts those of the excerpt, too, and the label
-/// of each visible class is still the same.
+/// Returns what a reader may see of an incident: the visible classes with their plain members, the classes that hold
+/// visible ones as bare frames, and the header. A visible class whose label would not show any more says it itself.
+/// Returns `None` exactly if no class is visible.
+///
+/// The markings of the document must have been accepted by `check`, since an added label may meet no member of its
+/// name. The markings of the excerpt are accepted then too, and the label of each visible class is the same as before.
+/// Fails if memory runs out.
+///
+/// An excerpt may be one line deeper than a report that is read, and have more lines by its added labels.
 pub fn excerpt<'a>(
     alloc: Global,
     document: &'a Document,
@@ -55,6 +60,7 @@ pub fn excerpt<'a>(
         return Ok(None);
     }
     let classes = state.classes;
+    // The rules met at the root, which is always kept.
     let gone = replace(&mut state.rules_met, Vec::new(alloc));
     tell(&mut state, gone.as_slice())?;
     let withheld = sorted_withheld(alloc, state.withheld)?;

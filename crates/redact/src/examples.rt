@@ -1,25 +1,25 @@
-//! The definitions computed on small reports, which stand in `specs/Examples.antt`: a wrong definition would show
-//! here, with no program between. Each is the contract of a function that does nothing.
+//! The definitions computed on small reports (`specs/Examples.antt`). A wrong definition would show here, with no
+//! program between. Each example is the contract of a function that does nothing.
 #![tactic(auto, unfolding(crate::proofs::Computed::computed))]
 
 ghost use Rattle.redact.specs.Examples.{RedEventIsTakenOut, FrameIsBare, FrameInsideIsBare, SourceGetsAll, LabelIsAdded, ArraysCloseUp, GateIsTold, SearchFindsWhatIsSeen, AddedLabelIsNotFound, NothingIsSeen};
 
-/// What is red is taken out with all that it holds, and told at its parent.
+/// A red class is taken out with all that it holds, and its rule is listed at its parent.
 pub fn red_event_is_taken_out()
     ensures { RedEventIsTakenOut }
 {}
 
-/// Of a private Incident around a public class a bare frame is left.
+/// A private Incident around a public class is left as a bare frame.
 pub fn frame_is_bare()
     ensures { FrameIsBare }
 {}
 
-/// A frame inside a visible class.
+/// A frame inside a visible class is bare too.
 pub fn frame_inside_is_bare()
     ensures { FrameInsideIsBare }
 {}
 
-/// The source gets its whole report, with the label by default.
+/// The source gets its whole report, with the default label.
 pub fn source_gets_all()
     ensures { SourceGetsAll }
 {}
@@ -29,17 +29,17 @@ pub fn label_is_added()
     ensures { LabelIsAdded }
 {}
 
-/// Arrays close up over what is taken out.
+/// The elements of an array close up over those that are taken out.
 pub fn arrays_close_up()
     ensures { ArraysCloseUp }
 {}
 
-/// What a gate hides is told by the gate's rule.
+/// The rule of a gate is listed.
 pub fn gate_is_told()
     ensures { GateIsTold }
 {}
 
-/// A search finds texts of visible classes alone.
+/// A search finds only texts of visible classes.
 pub fn search_finds_what_is_seen()
     ensures { SearchFindsWhatIsSeen }
 {}
@@ -49,7 +49,7 @@ pub fn added_label_is_not_found()
     ensures { AddedLabelIsNotFound }
 {}
 
-/// Who sees no class finds nothing, and the report is not listed.
+/// A reader who sees no class finds nothing, and the report isn't listed.
 pub fn nothing_is_seen()
     ensures { NothingIsSeen }
 {}

@@ -1,4 +1,4 @@
-//! What is served of a document: the excerpt.
+//! The excerpt, which is what is served of a document.
 
 use iodef_tree::{Document, Path};
 use policy::Rule;
@@ -6,10 +6,11 @@ use policy::Rule;
 /// What a reader may see of a document.
 #[derive(Drop)]
 pub struct Excerpt {
+    /// The document of the kept outline.
     pub document: Document,
     /// How many classes are visible.
     pub classes: u32,
-    /// At which place of the excerpt something is withheld, and by which rule, by the bytes of the place and then of
-    /// the rule.
+    /// The places of the excerpt at which something is withheld, each with the rule. In order of the bytes of the
+    /// place's JSON pointer and then of the rule's name, without repeats.
     pub withheld: Vec<(Path, Rule)>,
 }

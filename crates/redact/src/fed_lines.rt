@@ -1,4 +1,4 @@
-//! The lines that were fed to a pass, which only clauses read.
+//! The lines that were fed to a pass, for clauses only.
 
 ghost use Rattle.std.specs.Prelude.{◌≡◌, List, [], ◌∷◌, ◌++◌};
 ghost use Rattle.iodef_tree.specs.declared.line.Line.{Line as Row};
@@ -7,7 +7,7 @@ ghost use base.Fml.{ftrue};
 use iodef_tree::Line;
 use std::marker::{Model, PhantomData};
 
-/// All lines so far, also those that were let go of. It has no bytes.
+/// All lines so far, dropped ones too. A value of no bytes: only clauses read it.
 pub(crate) struct Fed {
     marker: PhantomData<u8>,
     pub(crate) ghost lines: { List Row },
@@ -18,6 +18,7 @@ impl Model for Fed {
 }
 
 impl Fed {
+    /// Returns the state before the first line.
     pub(crate) fn none() -> Fed
         ensures { result.lines ≡ [] }
     {
@@ -26,10 +27,11 @@ impl Fed {
         }
     }
 
+    /// Returns the state with one more line.
     pub(crate) fn with_line(&self, line: &Line) -> Fed
         ensures { result.lines ≡ self.now.lines ++ line.now ∷ [] }
     {
-        // for the proof: the clause alone keeps the line
+        // For the proof: only the clause keeps the line.
         let _ = line;
         Fed {
             marker: PhantomData,

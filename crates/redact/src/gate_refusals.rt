@@ -1,4 +1,4 @@
-//! Whether a gate refuses a reader at a class, where none does above it.
+//! Whether a gate refuses a reader at a class, if none refuses above it.
 
 ghost use Rattle.std.specs.Prelude.{◌≡◌, ◌&&◌, ◌++◌, ◌∷◌, [], not, false};
 ghost use Rattle.std.specs.List.{list_any};
@@ -12,14 +12,14 @@ use crate::trail::is_place;
 use iodef_tree::{Kind, Line, Text};
 use policy::{Case, Gate, Standing, passes};
 
-/// Whether no token is left.
+/// Returns whether no token is left.
 fn is_root(path: &[Text]) -> bool
     ensures { result ≡ is_root path.now }
 {
     path.is_empty()
 }
 
-/// What of a path stands in front of a name, if it ends with that.
+/// Returns the tokens of a path before a name, if the path ends with that name.
 fn before_name<'a>(path: &'a [Text], name: &str) -> Option<&'a [Text]>
     ensures { (z : Tokens) →
         option_map_or (λ r. same_path r.now z) result false ≡
@@ -31,13 +31,13 @@ fn before_name<'a>(path: &'a [Text], name: &str) -> Option<&'a [Text]>
     }
 }
 
-/// What of a path stands in front of a step, if it ends with that. The place in an array is looked at first: by it the elements of
-/// one array differ.
+/// Returns the tokens of a path before a step, if the path ends with that step.
 fn before<'a>(path: &'a [Text], step: &Step) -> Option<&'a [Text]>
     ensures { (z : Tokens) →
         option_map_or (λ r. same_path r.now z) result false ≡
         same_path path.now (z ++ step_tokens step.now) }
 {
+    // The place in the array is compared first: it tells the elements of one array apart at once.
     if !step.in_array {
         return before_name(path, step.name.as_str());
     }
@@ -49,11 +49,12 @@ fn before<'a>(path: &'a [Text], step: &Step) -> Option<&'a [Text]>
     }
 }
 
-/// Whether the steps lead to a path. From the end on: what has to be told apart mostly differs there.
+/// Returns whether a path is that of the steps.
 #[tactic(auto, using(crate::proofs::Ends::way_more))]
 pub(crate) fn is_at(path: &[Text], steps: &[Step]) -> bool
     ensures { result ≡ same_path path.now (way steps.now) }
 {
+    // From the end on: paths that differ mostly differ there.
     match steps.split_last() {
         None => is_root(path),
         Some((step, above)) => match before(path, step) {
@@ -63,7 +64,7 @@ pub(crate) fn is_at(path: &[Text], steps: &[Step]) -> bool
     }
 }
 
-/// Whether they lead to what is left of one, if it is.
+/// Returns whether the rest of a path, if there is one, is that of the steps.
 fn is_rest(rest: Option<&[Text]>, steps: &[Step]) -> bool
     ensures { result ≡ option_map_or (λ r. same_path r.now (way steps.now)) rest.entry false }
 {
@@ -73,7 +74,8 @@ fn is_rest(rest: Option<&[Text]>, steps: &[Step]) -> bool
     }
 }
 
-/// Whether a gate with this path stands at the root, at the class that one step more leads to, or at the array around that.
+/// Returns whether this path is the root's, that of the class one step more leads to, or that of the array around that
+/// class.
 fn stands(path: &[Text], above: &[Step], step: &Step) -> bool
     ensures { result ≡ stands (way above.now) step.now path.now }
 {
@@ -82,14 +84,14 @@ fn stands(path: &[Text], above: &[Step], step: &Step) -> bool
             || is_rest(before(path, step), above))
 }
 
-/// Whether the gate stands there and refuses.
+/// Returns whether the gate is there and refuses.
 fn stops(standing: &Standing, above: &[Step], step: &Step, gate: &Gate) -> bool
     ensures { result ≡ stops standing.entry.now (way above.now) step.now gate.now }
 {
     stands(gate.path.tokens(), above, step) && passes(standing, gate).is_err()
 }
 
-/// Whether one of the gates does.
+/// Returns whether one of the gates is there and refuses.
 fn is_stopped(case: &Case, standing: &Standing, above: &[Step], step: &Step) -> bool
     ensures { result ≡ list_any (stops standing.entry.now (way above.now) step.now) case.now.gates }
 {
@@ -99,8 +101,8 @@ fn is_stopped(case: &Case, standing: &Standing, above: &[Step], step: &Step) -> 
         .any(|gate| stops(standing, above, step, gate))
 }
 
-/// Whether a line, to which one step more leads, is that of a class at which a gate refuses the reader. None refuses who is of the
-/// source, since that sees every class.
+/// Returns whether the line, to which one step more leads, is that of a class at which a gate refuses the reader. No
+/// gate refuses a reader of the source, who sees every class.
 pub(crate) fn refuses(
     case: &Case,
     standing: &Standing,
@@ -113,6 +115,8 @@ pub(crate) fn refuses(
         list_any (stops standing.entry.now (way above.now) step.now) case.now.gates)) }
 {
     match line.kind {
+        // No gate refuses above, so the gates at the class or its array decide. No gate is followed on the way: a pass
+        // owns its case, so it can't keep references into it, as `policy::Ahead` does.
         Kind::Class => !standing.source && is_stopped(case, standing, above, step),
         Kind::Text | Kind::Value => false,
     }

@@ -1,19 +1,21 @@
-//! What a reader is served of a document, and a search in what it may see.
+//! What a reader is served of a document, and searches in what a reader may see.
 //!
-//! To read first, in `specs/`: `Told`, all that a reader is told; `Kept`, the outline of an excerpt; `Withheld`, what is
-//! told of the rest; `Excerpts`, what [`excerpt`] answers; `Wants`, what [`meets`] does; `Probed`, when a [`Probe`] is sure.
+//! Read first, in `specs/`: `Told`, all that a reader is served; `Kept`, the outline of an excerpt; `Withheld`, the
+//! list of what is withheld; `Excerpts`, the answers of [`excerpt`]; `Wants`, those of [`meets`]; `Probed`, when a
+//! [`Probe`] is sure.
 //!
-//! The rooms, in the way of a document:
+//! The modules, in the order of a document's way:
 //!
 //! - `document_excerpt`: [`excerpt`]; `excerpts`: [`Excerpt`];
 //! - `pass`: the one pass down, for a `reader`, by its `trail`; `attributes`: a label put in;
-//! - `note`: what is withheld, as it is noted; `order`: which of two places comes first; `sorted_withheld`: all notes in order;
+//! - `note`: what is withheld, as the pass notes it; `order`: which of two places comes first; `sorted_withheld`: all
+//!   notes in order;
 //! - `search`: [`finds`] and [`is_listed`]; `want`: [`meets`], one or the other by a [`Want`];
-//! - `rows`: [`RowPass`], an excerpt by lines that come one at a time: `marks`, whether their markings are accepted; `sieve`,
-//!   those of them that matter, by the `steps` to each and the `gate_refusals` there; `fed_lines`, all of them, for the
-//!   clauses alone; `outline_document`, the document of those that are kept;
-//! - `probe`: [`Probe`], a search of such lines: `open_classes`, what is sure of the classes that may still get lines, also
-//!   by the `class_permissions`;
+//! - `rows`: [`RowPass`], an excerpt by lines that come one at a time: `marks`, whether their markings are accepted;
+//!   `sieve`, the lines that matter, by the `steps` to each and the `gate_refusals` there; `fed_lines`, all lines, for
+//!   clauses only; `outline_document`, the document of the kept lines;
+//! - `probe`: [`Probe`], a search by such lines: `open_classes`, what is sure of the classes that may still get lines,
+//!   also by the `class_permissions`;
 //! - [`laws`]: what excerpts and searches promise; [`examples`], the definitions computed on small reports.
 #![tactic(auto)]
 

@@ -1,4 +1,5 @@
-//! Whether the markings of lines that come one at a time are accepted, with none of the lines kept.
+//! The marking rule of lines that come one at a time. No line is kept: of each open class, what it holds as
+//! `restriction` and as `ext-restriction` is enough. So the rule is asked of lines too that a pass drops.
 
 ghost use Rattle.std.specs.Prelude.{◌≡◌, OnOk};
 ghost use Rattle.std.specs.List.{list_all};
@@ -12,19 +13,24 @@ use std::alloc::{AllocError, Global};
 /// What a class holds as `restriction`, as far as the marking rule asks.
 #[derive(Clone, Copy)]
 pub(crate) enum Restriction {
+    /// Nothing.
     Absent,
-    /// A text that spells a label, whatever stands beside it.
+    /// A text that spells a label, whatever is beside it.
     Label,
     /// A text that spells a label with another text beside it.
     Extended,
+    /// Something else.
     Other,
 }
 
 /// What a class holds as `ext-restriction`.
 #[derive(Clone, Copy)]
 pub(crate) enum Extension {
+    /// Nothing.
     Absent,
+    /// A text outside arrays.
     Text,
+    /// Something else.
     Other,
 }
 
@@ -35,14 +41,14 @@ pub(crate) struct Marking {
     pub(crate) extension: Extension,
 }
 
-/// The open classes, the outermost first, and whether one that was closed breaks the marking rule.
+/// The open classes, from the outermost on, and whether a class that is closed breaks the marking rule.
 #[derive(Drop)]
 pub(crate) struct Marks {
     pub(crate) classes: Vec<Marking>,
     pub(crate) broken: bool,
 }
 
-/// What a text as `restriction` comes to.
+/// Returns what a text is as `restriction`.
 fn restriction_in(text: &str) -> Restriction
     ensures { result ≡ brief_text text.now }
 {
@@ -55,7 +61,7 @@ fn restriction_in(text: &str) -> Restriction
     }
 }
 
-/// What a line of this name comes to as `restriction`.
+/// Returns what a line with this name is as `restriction`.
 fn restriction_by(line: &Line) -> Restriction
     ensures { result ≡ brief line.now }
 {
@@ -65,7 +71,7 @@ fn restriction_by(line: &Line) -> Restriction
     }
 }
 
-/// What a line of this name comes to as `ext-restriction`.
+/// Returns what a line with this name is as `ext-restriction`.
 fn extension_by(line: &Line) -> Extension
     ensures { result ≡ extension_brief line.now }
 {
@@ -75,7 +81,7 @@ fn extension_by(line: &Line) -> Extension
     }
 }
 
-/// What is held as `restriction` with a member more: the first of the name says it.
+/// Returns what a class holds as `restriction` after one more member: the first of the name counts.
 fn restriction_with(held: Restriction, line: &Line) -> Restriction
     ensures { result ≡ spec.restriction_with line.now held }
 {
@@ -88,7 +94,7 @@ fn restriction_with(held: Restriction, line: &Line) -> Restriction
     held
 }
 
-/// What is held as `ext-restriction` with a member more.
+/// Returns what a class holds as `ext-restriction` after one more member.
 fn extension_with(held: Extension, line: &Line) -> Extension
     ensures { result ≡ spec.extension_with line.now held }
 {
@@ -102,7 +108,7 @@ fn extension_with(held: Extension, line: &Line) -> Extension
 }
 
 impl Marking {
-    /// Of a class without members.
+    /// Returns the state of a class without members.
     fn none() -> Marking
         ensures { result ≡ no_marking }
     {
@@ -112,7 +118,7 @@ impl Marking {
         }
     }
 
-    /// With a member more.
+    /// Returns the state after one more member.
     fn with(self, line: &Line) -> Marking
         ensures { result ≡ held_with line.now self }
     {
@@ -122,7 +128,7 @@ impl Marking {
         }
     }
 
-    /// Whether the class keeps the marking rule, if nothing more comes.
+    /// Returns whether the class keeps the marking rule, if no more members come.
     fn is_fine(self) -> bool
         ensures { result ≡ spec.is_fine self }
     {
@@ -135,14 +141,14 @@ impl Marking {
     }
 }
 
-/// Whether each of these classes keeps the marking rule, if nothing more comes.
+/// Returns whether each of these classes keeps the marking rule, if no more members come.
 fn are_fine(classes: &[Marking]) -> bool
     ensures { result ≡ list_all spec.is_fine classes.now }
 {
     classes.iter().all(|marking| marking.is_fine())
 }
 
-/// The innermost of these classes holds a line.
+/// Notes a line in the innermost of these classes.
 fn hold(classes: &mut [Marking], line: &Line)
     ensures { classes.new ≡ innermost_held_with line.now classes.old }
 {
@@ -151,7 +157,7 @@ fn hold(classes: &mut [Marking], line: &Line)
     }
 }
 
-/// The class of a line, if it is one, is open behind these.
+/// Opens the class of a line behind these, if the line is a class.
 fn open(classes: &mut Vec<Marking>, line: &Line) -> Result<(), AllocError>
     ensures { OnOk result (classes.new.items ≡ with_opened_marking line.now classes.old.items) }
 {
@@ -163,7 +169,7 @@ fn open(classes: &mut Vec<Marking>, line: &Line) -> Result<(), AllocError>
 }
 
 impl Marks {
-    /// Of no lines; takes no memory.
+    /// Returns the state before the first line. Allocates nothing.
     pub(crate) fn new(alloc: Global) -> Marks
         ensures { marks_of result ≡ none_noted }
     {
@@ -173,7 +179,7 @@ impl Marks {
         }
     }
 
-    /// With no more than so many classes open.
+    /// Closes all but `depth` classes, and asks the closed ones for the marking rule.
     fn close_to(&mut self, depth: usize)
         ensures { marks_of self.new ≡ closed_to depth (marks_of self.old) }
     {
@@ -183,7 +189,7 @@ impl Marks {
         }
     }
 
-    /// With a line more.
+    /// Notes one more line.
     pub(crate) fn note(&mut self, line: &Line) -> Result<(), AllocError>
         ensures { OnOk result (marks_of self.new ≡ with_marked_line (marks_of self.old) line.now) }
     {
@@ -192,7 +198,7 @@ impl Marks {
         open(&mut self.classes, line)
     }
 
-    /// Whether every class keeps the marking rule, if no line comes any more.
+    /// Returns whether every class keeps the marking rule, if no more lines come.
     pub(crate) fn are_accepted(&self) -> bool
         ensures { result ≡ is_accepted (marks_of self.now) }
     {

@@ -14,8 +14,10 @@ use std::alloc::{AllocError, Global};
 use std::cmp::Ordering;
 use std::marker::Model;
 
-/// A place of the excerpt and the rule by which something is withheld there, as contracts see it. A path is made only of
-/// what is listed. Notes are in order by the bytes of the place's JSON pointer and then of the rule's name.
+/// A place of the excerpt and the rule by which something is withheld there. Notes are in order of the bytes of the
+/// place's JSON pointer and then of the rule's name.
+///
+/// A note holds tokens; a path is made only when it is listed. Contracts see the path and the rule.
 #[derive(Drop)]
 pub struct Note<'a> {
     place: Vec<Token<'a>>,
@@ -32,6 +34,7 @@ impl<'a> Model for Note<'a> {
 }
 
 impl<'a> Note<'a> {
+    /// Returns a note at the place of these tokens. Fails if memory runs out.
     pub fn new(alloc: Global, place: &[Token<'a>], rule: Rule) -> Result<Note<'a>, AllocError>
         ensures { IfOk result (λ n. n ≡ (path_of place.now, rule)) }
     {
@@ -39,7 +42,7 @@ impl<'a> Note<'a> {
         Ok(Note { place, rule })
     }
 
-    /// Compares the places, and then the rules. Takes no memory.
+    /// Compares the places and then the rules. Allocates nothing.
     fn compare(&self, other: &Note<'_>) -> Ordering
         ensures { result ≡ withheld_cmp self.now other.now }
     {
@@ -47,6 +50,7 @@ impl<'a> Note<'a> {
         places.then(self.rule.name().cmp(other.rule.name()))
     }
 
+    /// Returns the place as a path, with the rule. Fails if memory runs out.
     pub fn into_pair(self, alloc: Global) -> Result<(Path, Rule), AllocError>
         ensures { IfOk result (λ p. p ≡ self.entry) }
     {
@@ -104,13 +108,14 @@ impl<'a> PartialOrd for Note<'a> {
     }
 }
 
+/// Returns whether a rule is among these.
 fn has(rules: &[Rule], rule: Rule) -> bool
     ensures { result ≡ has_rule rules.now rule }
 {
     rules.iter().any(|x| x.name() == rule.name())
 }
 
-/// Adds a rule to those of one place, unless it is among them.
+/// Adds a rule, unless it is there already.
 pub fn add(rules: &mut Vec<Rule>, rule: Rule) -> Result<(), AllocError>
     ensures { OnOk result (rules.new.items ≡ with_rule rules.old.items rule) }
 {

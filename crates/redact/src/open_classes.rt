@@ -1,4 +1,4 @@
-//! What is sure of the lines that came, of a report whose lines come one at a time.
+//! What is sure of a report whose lines come one at a time, after the lines so far.
 
 ghost use Rattle.std.specs.Prelude.{◌≡◌, ◌&&◌, true, option_map, ◌++◌, ◌∷◌, [], List, false, OnOk, IfOk, IfErr};
 ghost use Rattle.std.specs.List.{list_any};
@@ -23,12 +23,12 @@ use memchr::memmem::Finder;
 use policy::{Case, Standing, clearance, passes};
 use std::alloc::{AllocError, Global};
 
-/// How much the reader surely sees without a permission, whatever lines come.
+/// What the reader surely sees without permissions, whatever lines come.
 #[derive(Clone, Copy)]
 pub(crate) enum Sight {
     /// Every class.
     Everything,
-    /// Each class in which a label is written for which it is cleared.
+    /// Each class with a written label for which the reader is cleared.
     Cleared,
     /// Nothing.
     Unsure,
@@ -37,28 +37,30 @@ pub(crate) enum Sight {
 /// What a class holds as `ext-restriction`, so far.
 #[derive(Clone, Copy)]
 pub(crate) enum Beside {
+    /// Nothing.
     Absent,
-    /// A text for which the reader is cleared, where it is the label.
+    /// A text for which the reader is cleared, if it is the label.
     Cleared,
+    /// Something else.
     Other,
 }
 
-/// A class that may still get lines: what is sure of it, whatever lines come.
+/// A class that may still get lines, and what is sure of it, whatever lines come.
 #[derive(Clone, Copy)]
 pub(crate) struct Open {
-    /// It has the name that is wanted, if one is.
+    /// It has the name that is wanted, if one is wanted.
     pub(crate) fits: bool,
     /// It directly holds a text with the needle, if one is wanted.
     pub(crate) holds: bool,
-    /// The reader may see it.
+    /// The reader surely sees it.
     pub(crate) shown: bool,
-    /// Something is held as `restriction`.
+    /// It holds something as `restriction`.
     pub(crate) labelled: bool,
-    /// What stands beside that.
+    /// What it holds as `ext-restriction`.
     pub(crate) beside: Beside,
 }
 
-/// Whether a class of this name is wanted. Without a needle each is, whatever name is given.
+/// Returns whether a class of this name is wanted. Without a needle every class is, whatever name is given.
 fn wants_name(want: &Want, name: &str) -> bool
     ensures { result ≡ spec.wants_name want.now name.now }
 {
@@ -71,7 +73,7 @@ fn wants_name(want: &Want, name: &str) -> bool
     }
 }
 
-/// Whether the line is a text that contains the needle.
+/// Returns whether the line is a text that contains the needle.
 #[tactic(auto, using(crate::proofs::Needles::finds_has))]
 fn contains(line: &Line, needle: &str) -> bool
     ensures { result ≡ is_hit needle.now line.now }
@@ -85,7 +87,7 @@ fn contains(line: &Line, needle: &str) -> bool
     }
 }
 
-/// Whether the line is a text with the needle that is wanted.
+/// Returns whether the line is a text with the needle that is wanted.
 fn wants_line(want: &Want, line: &Line) -> bool
     ensures { result ≡ spec.wants_line want.now line.now }
 {
@@ -95,7 +97,7 @@ fn wants_line(want: &Want, line: &Line) -> bool
     }
 }
 
-/// The text of a line, if it is one outside arrays.
+/// Returns the text of a line, if it is a text outside arrays.
 fn plain_text(line: &Line) -> Option<&str>
     ensures { option_map (λ t. t.now) result ≡ spec.plain_text line.now }
 {
@@ -105,7 +107,7 @@ fn plain_text(line: &Line) -> Option<&str>
     }
 }
 
-/// Whether the reader is cleared for what stands under a label.
+/// Returns whether the reader is cleared for a label.
 fn is_cleared(standing: &Standing, label: Label<'_>) -> bool
     ensures { result ≡ is_cleared_for standing.entry.now (marking_of label.entry) }
 {
@@ -114,7 +116,7 @@ fn is_cleared(standing: &Standing, label: Label<'_>) -> bool
 }
 
 impl Beside {
-    /// What the first line named `ext-restriction` comes to.
+    /// Returns what the first line named `ext-restriction` is.
     fn of(standing: &Standing, line: &Line) -> Beside
         ensures { result ≡ beside_by standing.entry.now (spec.plain_text line.now) }
     {
@@ -130,7 +132,7 @@ impl Beside {
         }
     }
 
-    /// With a line more.
+    /// Returns the state after one more line.
     fn with(self, standing: &Standing, line: &Line) -> Beside
         ensures { result ≡ beside_with standing.entry.now line.now self }
     {
@@ -144,7 +146,7 @@ impl Beside {
         self
     }
 
-    /// Whether a text as `restriction`, with this beside it, spells a label for which the reader is cleared.
+    /// Returns whether a text as `restriction`, with this beside it, spells a label for which the reader is cleared.
     fn clears(self, standing: &Standing, restriction: &str) -> bool
         ensures { result ≡ is_cleared_text standing.entry.now self restriction.now }
     {
@@ -154,7 +156,7 @@ impl Beside {
         }
     }
 
-    /// The same of a line as `restriction`.
+    /// Returns the same of a line as `restriction`.
     fn clears_line(self, standing: &Standing, line: &Line) -> bool
         ensures { result ≡ is_cleared_if standing.entry.now self (spec.plain_text line.now) }
     {
@@ -165,6 +167,7 @@ impl Beside {
     }
 }
 
+/// Returns whether the line is named `restriction`.
 fn is_restriction(line: &Line) -> bool
     ensures { result ≡ spec.is_restriction line.now }
 {
@@ -172,6 +175,8 @@ fn is_restriction(line: &Line) -> bool
 }
 
 impl Sight {
+    /// Returns what the reader surely sees without permissions. If no gate refuses the reader, a label that a class
+    /// says itself is enough, once it is known that the reader is cleared for it.
     fn new(case: &Case, standing: &Standing) -> Sight
         ensures { result ≡ sight_of case.now standing.entry.now }
     {
@@ -184,6 +189,7 @@ impl Sight {
         }
     }
 
+    /// Returns whether the reader surely sees every class.
     fn is_everything(self) -> bool
         ensures { result ≡ is_everything self }
     {
@@ -193,6 +199,7 @@ impl Sight {
         }
     }
 
+    /// Returns whether the reader surely sees each class with a written label for which it is cleared, and no other.
     fn is_cleared(self) -> bool
         ensures { result ≡ is_cleared_sight self }
     {
@@ -204,7 +211,7 @@ impl Sight {
 }
 
 impl Open {
-    /// The class of this line, which a permission shows or not.
+    /// Returns the class of this line; `opened` says whether a permission shows it.
     fn new(sight: Sight, want: &Want, line: &Line, opened: bool) -> Open
         ensures { result ≡ spec.entered sight want.now line.now opened }
     {
@@ -217,7 +224,7 @@ impl Open {
         }
     }
 
-    /// Whether a line that stands in it shows it: the first that is named `restriction`.
+    /// Returns whether a line in the class shows it: the first that is named `restriction`.
     fn is_shown_by(self, sight: Sight, standing: &Standing, line: &Line) -> bool
         ensures { result ≡ shows_class sight standing.entry.now line.now self }
     {
@@ -225,7 +232,7 @@ impl Open {
             && (!self.labelled && (sight.is_cleared() && self.beside.clears_line(standing, line)))
     }
 
-    /// With a line more that stands in it.
+    /// Returns the state after one more line in the class.
     fn with(self, sight: Sight, standing: &Standing, want: &Want, line: &Line) -> Open
         ensures { result ≡ spec.holding sight standing.entry.now want.now line.now self }
     {
@@ -238,6 +245,7 @@ impl Open {
         }
     }
 
+    /// Returns whether the class surely meets the want.
     fn is_settled(self) -> bool
         ensures { result ≡ is_settled self }
     {
@@ -245,7 +253,7 @@ impl Open {
     }
 }
 
-/// The innermost of these classes holds a line.
+/// Notes a line in the innermost of these classes.
 fn hold(classes: &mut [Open], sight: Sight, standing: &Standing, want: &Want, line: &Line)
     ensures { classes.new ≡
         innermost_holding sight standing.entry.now want.now line.now classes.old }
@@ -255,7 +263,7 @@ fn hold(classes: &mut [Open], sight: Sight, standing: &Standing, want: &Want, li
     }
 }
 
-/// The class of a line, if it is one, is open behind these.
+/// Opens the class of a line behind these, if the line is a class.
 fn enter(
     classes: &mut Vec<Open>,
     sight: Sight,
@@ -273,7 +281,7 @@ fn enter(
     Ok(())
 }
 
-/// The open classes, the outermost first, with a line more.
+/// Notes a line in the open classes, of which the outermost is first.
 fn note(
     classes: &mut Vec<Open>,
     sight: Sight,
@@ -290,14 +298,14 @@ fn note(
     enter(classes, sight, want, line, is_permitted)
 }
 
-/// Whether one of them is surely one that is looked for.
+/// Returns whether one of the classes surely meets the want.
 fn is_found(classes: &[Open]) -> bool
     ensures { result ≡ list_any is_settled classes.now }
 {
     classes.iter().any(|class| class.is_settled())
 }
 
-/// Whether a gate of the case refuses the reader.
+/// Returns whether a gate of the case refuses the reader.
 fn some_refuses(case: &Case, standing: &Standing) -> bool
     ensures { result ≡ spec.some_refuses case.now standing.entry.now }
 {
@@ -307,7 +315,7 @@ fn some_refuses(case: &Case, standing: &Standing) -> bool
         .any(|gate| passes(standing, gate).is_err())
 }
 
-/// Whether the reader may see every class of every report.
+/// Returns whether the reader sees every class of every report.
 fn sees_all(case: &Case, standing: &Standing) -> bool
     ensures { result ≡ spec.sees_all case.now standing.entry.now }
 {
@@ -315,7 +323,7 @@ fn sees_all(case: &Case, standing: &Standing) -> bool
         || (!some_refuses(case, standing) && Handling::Red.is_at_most(clearance(standing).0))
 }
 
-/// One more line behind these.
+/// Appends a line.
 fn keep(lines: &mut Vec<Line>, line: Line) -> Result<(), AllocError>
     ensures { OnOk result (lines.new.items ≡ lines.old.items ++ line ∷ []) }
 {
@@ -323,7 +331,7 @@ fn keep(lines: &mut Vec<Line>, line: Line) -> Result<(), AllocError>
     Ok(())
 }
 
-/// The way to a line, behind that to the one before it.
+/// Goes on from the newest line to the next one.
 fn step_on(steps: &mut Vec<Step>, line: &Line) -> Result<(), AllocError>
     ensures { OnOk result (IsCounted steps.old.items line.now →
         steps.new.items ≡ went_on steps.old.items line.now) }
@@ -334,7 +342,7 @@ fn step_on(steps: &mut Vec<Step>, line: &Line) -> Result<(), AllocError>
     Ok(())
 }
 
-/// Whether a line to which the steps lead is that of a class that a permission shows.
+/// Returns whether the line of the steps is that of a class that a permission surely shows.
 fn permits_class(case: &Case, standing: &Standing, steps: &[Step], line: &Line) -> bool
     ensures { result ≡ (is_class_kind line.now.kind &&
         spec.is_permitted case.now standing.entry.now (way steps.now)) }
@@ -345,8 +353,7 @@ fn permits_class(case: &Case, standing: &Standing, steps: &[Step], line: &Line) 
     }
 }
 
-/// One more line behind others, to the newest of which the steps lead if they are kept: whether it is that of a class that a
-/// permission shows.
+/// Goes on to the next line if the steps are kept, and returns whether that is a class that a permission surely shows.
 fn follow(
     steps: &mut Vec<Step>,
     follows: bool,
@@ -367,20 +374,21 @@ fn follow(
     Ok(permits_class(case, standing, steps.as_slice(), line))
 }
 
-/// What is known of the lines that came. Once it is sure that the want is met, only their shape still matters.
+/// What is known of the lines so far. Once it is sure that the want is met, only their shape still matters.
 #[derive(Drop)]
 pub(crate) struct Seeker {
     pub(crate) shape: Shape,
     pub(crate) lines: Vec<Line>,
     pub(crate) classes: Vec<Open>,
     pub(crate) sight: Sight,
-    /// Some permission may show a class that isn't surely seen without it, so the way to the newest line is kept.
+    /// Whether a permission may show a class that isn't surely seen without it. Only then are the steps to the newest
+    /// line kept; otherwise a line costs nothing more.
     pub(crate) follows: bool,
     pub(crate) steps: Vec<Step>,
 }
 
 impl Seeker {
-    /// With no line yet.
+    /// Returns the state before the first line.
     pub(crate) fn new(alloc: Global, case: &Case, standing: &Standing) -> Seeker
         ensures { (w : TheWant) → IsKnown w case.now standing.entry.now [] false result }
     {
@@ -395,7 +403,8 @@ impl Seeker {
         }
     }
 
-    /// One more line, if it may come behind the others: whether it is sure now that the want is met.
+    /// Takes one more line, and returns whether it is now sure that the want is met. Fails with BadOutline if the line
+    /// may not come.
     pub(crate) fn take(
         &mut self,
         case: &Case,
@@ -417,6 +426,8 @@ impl Seeker {
         if met {
             return Ok(true);
         }
+        // A permission at the class itself shows it, whatever label is written in it. One further up covers only down
+        // to the next label, and `restriction` sorts behind every capitalised member; so that is left to the end.
         let opened = follow(&mut self.steps, self.follows, case, standing, &line)?;
         note(&mut self.classes, self.sight, standing, want, &line, opened)?;
         keep(&mut self.lines, line)?;

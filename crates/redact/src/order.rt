@@ -1,4 +1,4 @@
-//! The order of places: by the bytes of their JSON pointers (RFC 6901 section 3), none of which is printed.
+//! The order of places: by the bytes of their JSON pointers (RFC 6901 section 3). No pointer is printed.
 
 ghost use Rattle.std.specs.Prelude.{◌≡◌, ◌≤◌, length, drop};
 ghost use Rattle.std.specs.Ordering.{nat_cmp};
@@ -11,7 +11,7 @@ ghost use Rattle.redact.specs.inner.Weights as spec;
 use crate::trail::{Token, is_same};
 use std::cmp::Ordering;
 
-/// The weight of a byte in the order of printed tokens: `~` is printed as `~0` and `/` as `~1`.
+/// Returns the weight of a byte in the order of printed tokens: `~` is printed as `~0` and `/` as `~1`.
 fn weight(byte: u8) -> u16
     ensures { result ≡ spec.weight byte }
 {
@@ -22,7 +22,8 @@ fn weight(byte: u8) -> u16
     }
 }
 
-/// The weight of the byte at a place of the token, or of what stands behind its last byte: a slash, if another token follows.
+/// Returns the weight of the byte at this place of the token. Behind the last byte it is that of a slash, if another
+/// token follows.
 fn weight_at(token: &[u8], place: usize, is_followed: bool) -> Option<u16>
     requires { place ≤ length token.now }
     ensures { result ≡ first_weight (drop place token.now) is_followed }
@@ -55,6 +56,7 @@ fn compare_bytes(
     weight_at(one, shorter, one_is_followed).cmp(&weight_at(other, shorter, other_is_followed))
 }
 
+/// The same for tokens that are names or places.
 fn compare_tokens(
     one: Token<'_>,
     one_is_followed: bool,
@@ -75,7 +77,7 @@ fn compare_tokens(
     )
 }
 
-/// Compares two paths by the bytes of their JSON pointers. Takes no memory.
+/// Compares two paths by the bytes of their JSON pointers. Allocates nothing.
 #[tactic(auto, using(crate::proofs::PrintedOrder::same_first, crate::proofs::PrintedOrder::other_first))]
 pub fn compare(one: &[Token<'_>], other: &[Token<'_>]) -> Ordering
     ensures { result ≡

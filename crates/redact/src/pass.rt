@@ -1,5 +1,5 @@
-//! One pass down a document, with what is inherited from above. A class that isn't visible is looked at when what is left
-//! below it is known.
+//! One pass down a document, which carries what is inherited from above. A class that isn't visible is decided when it
+//! is known what is kept below it.
 
 ghost use Rattle.std.specs.Prelude.{◌≡◌, ◌≤◌, ◌∷◌, ◌++◌, [], IfOk, OnOk, IfSome, length, take, map, option_map, is_none, ◌&&◌, ◌+◌, not, true, false, if◌then◌else◌, Some, None};
 ghost use Rattle.iodef_tree.specs.View.{forest, bodies, body};
@@ -30,14 +30,16 @@ use policy::{Ahead, Carried, Rule};
 use std::alloc::{AllocError, Global};
 use std::mem::replace;
 
-/// Where members stand: in the root, or in a class that is visible or isn't.
+/// Where members are: in the root, or in a class that is visible or not.
 #[derive(Clone, Copy)]
 pub enum Surrounding {
+    /// In the root.
     Root,
+    /// In a class; true if it is visible.
     Class(bool),
 }
 
-/// Where an item stands, one token below its class or array: in the document, and in the excerpt if it is left.
+/// Where an item is, one token below its class or array: in the document, and in the excerpt if it is kept.
 #[derive(Clone, Copy)]
 struct Slot<'a> {
     token: Token<'a>,
@@ -46,18 +48,25 @@ struct Slot<'a> {
     base: usize,
 }
 
-/// Where the pass is, in the document and in the excerpt, and what it met so far.
+/// Where the pass is, in the document and in the excerpt, and what it found so far. The two places are stacks of
+/// borrowed names and numbers; the pass makes no path.
 #[derive(Drop)]
 pub struct State<'a> {
     pub alloc: Global,
+    /// The tokens of the place in the document.
     pub path: Vec<Token<'a>>,
+    /// The tokens of the place in the excerpt.
     pub place: Vec<Token<'a>>,
+    /// How many visible classes there were.
     pub classes: u32,
+    /// What is withheld, as far as it is noted.
     pub withheld: Vec<Note<'a>>,
-    /// By which rules something of the class whose members come is wholly hidden, each once.
+    /// The rules of the wholly hidden children of the class whose members are read, each once. They are noted when it
+    /// is known that the class is kept, so no note is taken back.
     pub rules_met: Vec<Rule>,
 }
 
+/// Returns whether plain members are served there.
 fn keeps_plain(home: Surrounding) -> bool
     ensures { result ≡ spec.keeps_plain (home_of home) }
 {
@@ -67,6 +76,7 @@ fn keeps_plain(home: Surrounding) -> bool
     }
 }
 
+/// Returns whether the class around shows its label in the excerpt.
 fn shows(home: Surrounding) -> bool
     ensures { result ≡ shows_label (home_of home) }
 {
@@ -76,7 +86,7 @@ fn shows(home: Surrounding) -> bool
     }
 }
 
-/// Whether a visible class has to say its label itself.
+/// Returns whether a visible class has to say its label itself.
 fn needs_label(home: Surrounding, object: &Object) -> bool
     requires { IsFilled object.now }
     ensures { result ≡ (is_none (spelled_in (forest object.now)) &&
@@ -85,7 +95,7 @@ fn needs_label(home: Surrounding, object: &Object) -> bool
     written(object).is_none() && !shows(home)
 }
 
-/// What is left of a visible class, with its label where it has to say it.
+/// Returns what is kept of a visible class, with its label if it has to say it.
 fn with_own_label(
     alloc: Global,
     home: Surrounding,
@@ -107,7 +117,7 @@ fn with_own_label(
     }
 }
 
-/// Notes each of the rules at the place where the pass is.
+/// Notes each of the rules at the place of the pass.
 pub fn tell(state: &mut State<'_>, rules: &[Rule]) -> Result<(), AllocError>
     ensures { OnOk result (Tells state.old state.new rules.now) }
 {
@@ -118,7 +128,7 @@ pub fn tell(state: &mut State<'_>, rules: &[Rule]) -> Result<(), AllocError>
     Ok(())
 }
 
-/// Puts what is left of a member behind what is left of those before it.
+/// Appends what is kept of a member.
 fn push_member(
     members: &mut Vec<(Text, Member)>,
     name: &Text,
@@ -130,7 +140,7 @@ fn push_member(
     Ok(())
 }
 
-/// What is left of a text or another value, which stands in its class.
+/// Returns what is kept of a text or another plain value.
 fn plain_left(home: Surrounding, item: &Item) -> Result<Option<Item>, AllocError>
     ensures left { IfOk result (λ r.
         (c : Content) → body item.now ≡ says c →
@@ -147,7 +157,7 @@ fn plain_left(home: Surrounding, item: &Item) -> Result<Option<Item>, AllocError
     }
 }
 
-/// Takes back the rules that the class around this one had met, and tells those met in this one.
+/// Notes the rules met in this class, and goes back to those met in the class around.
 fn tell_and_leave(state: &mut State<'_>, outside: Vec<Rule>) -> Result<(), AllocError>
     ensures withheld { OnOk result (state.new.withheld.items ≡
         state.old.withheld.items ++ at_place
@@ -161,8 +171,8 @@ fn tell_and_leave(state: &mut State<'_>, outside: Vec<Rule>) -> Result<(), Alloc
     tell(state, gone.as_slice())
 }
 
-/// Leaves a class that isn't visible and takes back the rules that the class around it had met. Where something of it is
-/// left, its rule is told at its place with those met in it; else its rule is one of those met in the class around it.
+/// Leaves a class that isn't visible, and goes back to the rules met in the class around. If something of it is kept,
+/// its rule is noted at its place with those met in it. If not, its rule is one of those met in the class around.
 fn leave_hidden(
     state: &mut State<'_>,
     outside: Vec<Rule>,
@@ -186,7 +196,7 @@ fn leave_hidden(
 }
 
 impl<'a> Reader<'a> {
-    /// What is left of the members of the class at `above`.
+    /// Returns what is kept of the members of the class at `above`.
     #[cycle(cut)]
     pub fn cut(
         &self,
@@ -218,6 +228,7 @@ impl<'a> Reader<'a> {
         Ok(Object { members })
     }
 
+    /// Returns what is kept of a member, if something is.
     #[cycle(cut)]
     fn cut_member(
         &self,
@@ -259,7 +270,7 @@ impl<'a> Reader<'a> {
         }
     }
 
-    /// What is left of an array, if any of its elements is.
+    /// Returns what is kept of an array, if one of its elements is.
     #[cycle(cut)]
     fn cut_array(
         &self,
@@ -300,6 +311,7 @@ impl<'a> Reader<'a> {
         }
     }
 
+    /// Returns the elements of an array that are kept.
     #[cycle(cut)]
     fn cut_items(
         &self,
@@ -332,6 +344,7 @@ impl<'a> Reader<'a> {
         for (i, item) in items.iter().enumerate() {
             let slot = Slot {
                 token: Token::Index(i),
+                // The place is how many elements are kept so far, so the pass needs no order of names.
                 place: Token::Index(kept.len()),
                 base,
             };
@@ -342,7 +355,7 @@ impl<'a> Reader<'a> {
         Ok(kept)
     }
 
-    /// What is left of what stands in a slot.
+    /// Returns what is kept of the item in a slot.
     #[cycle(cut)]
     fn cut_item(
         &self,
@@ -386,7 +399,7 @@ impl<'a> Reader<'a> {
         }
     }
 
-    /// What is left of a class, at whose path and place the pass is.
+    /// Returns what is kept of the class at the path and place of the pass.
     #[cycle(cut)]
     fn cut_class(
         &self,
@@ -428,7 +441,8 @@ impl<'a> Reader<'a> {
         }
     }
 
-    /// What is left of a visible class, which says its label where nothing above it in the excerpt does.
+    /// Returns what is kept of a visible class. It says its label itself if none is written in it and the class around it
+    /// isn't visible.
     #[cycle(cut)]
     fn cut_seen(
         &self,
@@ -462,7 +476,8 @@ impl<'a> Reader<'a> {
         with_own_label(state.alloc, home, object, kept, at.label)
     }
 
-    /// What is left of a class that isn't visible: it is told at its place where something is, else at that of its parent.
+    /// Returns what is kept of a class that isn't visible. Its rule is noted at its place if something is kept, else
+    /// at that of its parent.
     #[cycle(cut)]
     fn cut_hidden(
         &self,

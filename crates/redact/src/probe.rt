@@ -16,8 +16,11 @@ use policy::{Case, Standing};
 use std::alloc::{AllocError, Global};
 use std::marker::Model;
 
-/// A search of a report whose lines come one at a time, for a reader. It answers true as soon as it is sure. Contracts see its
-/// case, its standing, its want, all lines so far, the fault that was answered, if any, and whether true was.
+/// A search of a report whose lines come one at a time, for a reader. It returns true as soon as it is sure that the
+/// want is met.
+///
+/// Contracts see its case, its standing, its want, all lines so far, the fault that was returned, if any, and whether
+/// true was returned.
 #[derive(Drop)]
 pub struct Probe {
     alloc: Global,
@@ -54,7 +57,7 @@ impl Model for Probe {
 impl Probe {
     ghost use Rattle.std.specs.Prelude.{[], false};
 
-    /// With no line yet.
+    /// Returns a search before its first line. Fails if memory runs out.
     pub fn new(
         alloc: Global,
         case: Case,
@@ -83,9 +86,11 @@ impl Probe {
         })
     }
 
-    /// One more line: true as soon as it is sure that every report that begins with these lines, and whose markings are
-    /// accepted, meets the want. BadOutline exactly where the lines with it are no outline. After a fault each call answers
-    /// that fault.
+    /// Takes one more line. Returns true as soon as it is sure that every report that begins with these lines, and
+    /// whose markings are accepted, meets the want.
+    ///
+    /// Fails with BadOutline exactly if the lines with it are no outline; with NoMemory if memory runs out. After a
+    /// fault each call returns that fault.
     pub fn feed(&mut self, line: Line) -> Result<bool, OutlineFault>
         ensures { ProbesLine self.old line result self.new }
     {
@@ -109,8 +114,10 @@ impl Probe {
         }
     }
 
-    /// Whether the report with these lines meets the want. Where true was answered, it is true also of one whose markings
-    /// aren't accepted.
+    /// Returns whether the report with these lines meets the want. If [`Probe::feed`] returned true, this returns
+    /// true, also for a report whose markings aren't accepted.
+    ///
+    /// Fails with the fault that was returned, or with NoMemory.
     pub fn finish(self) -> Result<bool, OutlineFault>
         ensures ended { IfSome self.fed.fault (λ f. result ≡ Err f) }
         ensures told { self.fed.fault ≡ None → first_bad_marking (located self.fed.lines) ≡ None →

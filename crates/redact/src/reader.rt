@@ -1,4 +1,4 @@
-//! For whom classes are judged, and what each inherits from what stands above it.
+//! The reader for whom classes are judged, and what each class inherits from above.
 
 ghost use Rattle.std.specs.Prelude.{◌≡◌, ◌++◌, ◌∷◌, [], IfOk, OnOk, option_map};
 ghost use Rattle.marking.specs.Label.{marking_of};
@@ -16,7 +16,7 @@ use marking::Label;
 use policy::{Ahead, Carried, Case, Rule, Standing};
 use std::alloc::{AllocError, Global};
 
-/// For whom, and by which gates and permissions, classes are judged.
+/// The reader for whom classes are judged, and the gates and permissions.
 #[derive(Clone, Copy)]
 pub struct Reader<'a> {
     pub case: &'a Case,
@@ -24,7 +24,7 @@ pub struct Reader<'a> {
 }
 
 impl<'a> Reader<'a> {
-    /// What lies ahead at the root.
+    /// Returns what lies ahead of the root.
     pub fn ahead(&self, alloc: Global) -> Result<Ahead<'a>, AllocError>
         ensures { IfOk result (λ a. met_by a ≡
             ahead_of self.now.case.now self.now.standing.now []) }
@@ -32,7 +32,7 @@ impl<'a> Reader<'a> {
         Ahead::at_root(alloc, self.case, self.standing)
     }
 
-    /// One token further down the trail, and what lies ahead there.
+    /// Goes one token further down, and returns what lies ahead there.
     pub fn step(
         &self,
         alloc: Global,
@@ -48,7 +48,7 @@ impl<'a> Reader<'a> {
         further(alloc, ahead, token)
     }
 
-    /// What holds at the root.
+    /// Returns what holds at the root.
     pub fn at_root(&self, ahead: &Ahead<'a>) -> Carried<'a>
         requires { met_by ahead.now ≡ ahead_of self.now.case.now self.now.standing.now [] }
         ensures { carried [] result ≡ spec.at_root self.now.case.now self.now.standing.now }
@@ -56,7 +56,7 @@ impl<'a> Reader<'a> {
         Carried::at_root(ahead)
     }
 
-    /// What holds at the array at this path, where this lies ahead.
+    /// Returns what holds at the array at this path, given what lies ahead of it.
     pub fn at_array(
         &self,
         trail: &[Token<'a>],
@@ -68,12 +68,12 @@ impl<'a> Reader<'a> {
             ≡ array_step self.now.case.now self.now.standing.now (carries trail.now above.entry)
             (path_of trail.now) }
     {
-        // for the proof: the clauses name the path, which the code needn't know
+        // For the proof: the clauses name the path, which the code needn't know.
         let _ = trail;
         above.in_array(ahead)
     }
 
-    /// What holds at the class at this path, where this lies ahead, and in which this label is written.
+    /// Returns what holds at the class at this path, given what lies ahead of it and the label written in it.
     pub fn at_class(
         &self,
         trail: &[Token<'a>],
@@ -89,14 +89,14 @@ impl<'a> Reader<'a> {
         above.in_class(ahead, &Trail { tokens: trail }, written)
     }
 
-    /// Whether a class is visible.
+    /// Returns whether a class is visible.
     pub fn sees(&self, at: Carried<'a>) -> bool
         ensures { result ≡ is_seen self.now.standing.now (carried [] at.entry) }
     {
         at.is_seen(self.standing)
     }
 
-    /// The rule that hides a class which isn't visible.
+    /// Returns the rule that hides a class that isn't visible.
     pub fn hides(&self, at: Carried<'a>) -> Rule
         ensures { result ≡ spec.hides self.now.standing.now (carried [] at.entry) }
     {
@@ -104,7 +104,7 @@ impl<'a> Reader<'a> {
     }
 }
 
-/// What lies ahead one token further down.
+/// Returns what lies ahead one token further down.
 fn further<'a>(alloc: Global, ahead: &Ahead<'a>, token: Token<'a>) -> Result<Ahead<'a>, AllocError>
     ensures { IfOk result (λ a.
         (c : TheCase) (s : TheStanding) (p : Tokens) → met_by ahead.now ≡ ahead_of c s p →

@@ -25,7 +25,8 @@ use policy::{Case, Standing};
 use std::alloc::{AllocError, Global};
 use std::marker::Model;
 
-/// The excerpt of a document for a reader; none of one whose markings aren't accepted.
+/// Returns the excerpt of a document for a reader, or `None` if the markings of the document aren't accepted or no
+/// class is visible. Fails if memory runs out.
 pub fn excerpt_if_marked(
     alloc: Global,
     document: &Document,
@@ -50,7 +51,7 @@ pub fn excerpt_if_marked(
     }
 }
 
-/// What is known of the lines that came, of which those are kept that matter to the reader.
+/// What is known of the lines so far. Those that matter to the reader are kept.
 #[derive(Drop)]
 struct Progress {
     shape: Shape,
@@ -59,7 +60,7 @@ struct Progress {
 }
 
 impl Progress {
-    /// With no line yet.
+    /// Returns the state before the first line.
     fn new(alloc: Global) -> Progress
         ensures { (c : TheCase) (s : TheStanding) →
             Knows c s [] result.shape result.marks result.sieve }
@@ -71,7 +72,7 @@ impl Progress {
         }
     }
 
-    /// One more line, if it may come behind the others.
+    /// Takes one more line. Fails with BadOutline if the line may not come.
     fn take(&mut self, case: &Case, standing: &Standing, line: Line) -> Result<(), OutlineFault>
         ensures ok { OnOk result ((ls : List Row) →
             Knows case.now standing.entry.now ls self.old.shape self.old.marks self.old.sieve →
@@ -87,13 +88,16 @@ impl Progress {
             return Err(OutlineFault::BadOutline);
         }
         self.marks.note(&line)?;
+        // A class is decided by its label or by the one above, and `restriction` sorts behind every capitalised
+        // member. So the lines that no gate hides are kept, and `excerpt` decides when all have come.
         self.sieve.take(case, standing, line)?;
         Ok(())
     }
 }
 
-/// A pass over lines that come one at a time, for a reader. It keeps those that matter to the reader. Contracts see its case,
-/// its standing, all lines so far and the fault that was answered, if any.
+/// A pass over lines that come one at a time, for a reader. It keeps those that matter to the reader.
+///
+/// Contracts see its case, its standing, all lines so far, and the fault that was returned, if any.
 #[derive(Drop)]
 pub struct RowPass {
     alloc: Global,
@@ -125,7 +129,7 @@ impl Model for RowPass {
 impl RowPass {
     ghost use Rattle.std.specs.Prelude.{[]};
 
-    /// With no line yet.
+    /// Returns a pass before its first line. It allocates nothing; the `Result` leaves room for a pass that does.
     pub fn new(alloc: Global, case: Case, standing: Standing) -> Result<RowPass, AllocError>
         ensures { IfOk result (λ p. p ≡
             record {
@@ -145,7 +149,8 @@ impl RowPass {
         })
     }
 
-    /// One more line. BadOutline exactly where the lines with it are no outline. After a fault each call answers that fault.
+    /// Takes one more line. Fails with BadOutline exactly if the lines with it are no outline; with NoMemory if memory
+    /// runs out. After a fault each call returns that fault.
     pub fn feed(&mut self, line: Line) -> Result<(), OutlineFault>
         ensures { FeedsLine self.old line result self.new }
     {
@@ -165,7 +170,10 @@ impl RowPass {
         }
     }
 
-    /// What the reader is served of the document with these lines; nothing of one whose markings aren't accepted.
+    /// Returns what the reader is served of the document with these lines. Returns `None` if no class is visible or
+    /// the markings aren't accepted.
+    ///
+    /// Fails with the fault that was returned, or with NoMemory.
     pub fn finish(self) -> Result<Option<Excerpt>, OutlineFault>
         ensures ended { IfSome self.fed.fault (λ f. result ≡ Err f) }
         ensures told { self.fed.fault ≡ None → first_bad_marking (located self.fed.lines) ≡ None →
@@ -197,6 +205,7 @@ impl RowPass {
             marks,
             sieve,
         } = progress;
+        // `excerpt` takes accepted markings, and nobody has checked those of the lines.
         if !marks.are_accepted() {
             return Ok(None);
         }

@@ -1,4 +1,5 @@
-//! A search of the texts that a reader may see.
+//! A search of the texts that a reader may see: a pass of its own, which carries the same as that of an excerpt, makes
+//! no excerpt and stops at the first class that answers.
 
 ghost use Rattle.std.specs.Prelude.{◌≡◌, ◌||◌, IfOk, option_map, map};
 ghost use Rattle.std.specs.List.{AllByRecursion};
@@ -24,14 +25,14 @@ use std::alloc::{AllocError, Global};
 enum Asked<'a> {
     /// Nothing more.
     Anything,
-    /// That it directly holds a text with the needle, and has this name if one is given.
+    /// It directly holds a text with the needle, and has this name if one is given.
     Holding {
         finder: Finder<'a>,
         class: Option<&'a str>,
     },
 }
 
-/// For whom, and for what, a document is searched.
+/// The reader and the question of a search.
 #[derive(Drop)]
 struct Search<'a> {
     alloc: Global,
@@ -39,8 +40,8 @@ struct Search<'a> {
     asked: Asked<'a>,
 }
 
-/// Whether the reader may see some class of the document, and so whether `excerpt` would serve one. No text is copied, and
-/// no excerpt is made.
+/// Returns whether the reader may see some class of the document, which is whether `excerpt` would return one. Copies
+/// no text and makes no excerpt. Fails if memory runs out.
 pub fn is_listed(
     alloc: Global,
     document: &Document,
@@ -52,6 +53,7 @@ pub fn is_listed(
     shows_some(alloc, document, case, standing)
 }
 
+/// The same, with one lifetime for what is searched.
 fn shows_some<'a>(
     alloc: Global,
     document: &'a Document,
@@ -71,9 +73,11 @@ fn shows_some<'a>(
     search.among(&mut trail, &ahead, above, document.root())
 }
 
-/// Whether a class that the reader may see directly holds a text that contains `needle`, byte for byte; of the classes of
-/// the name `class` alone, if it is given. A label that an excerpt adds to a class is no stored text and isn't searched,
-/// nor is the header.
+/// Returns whether a class that the reader may see directly holds a text that contains `needle`, byte for byte. If
+/// `class` is given, only classes of that name are searched.
+///
+/// A label that an excerpt adds is no stored text, so it isn't found. Nor is the header, which belongs to no class.
+/// Fails if memory runs out.
 pub fn finds(
     alloc: Global,
     document: &Document,
@@ -89,6 +93,7 @@ pub fn finds(
     found(alloc, document, case, standing, needle, class)
 }
 
+/// The same, with one lifetime for what is searched.
 fn found<'a>(
     alloc: Global,
     document: &'a Document,
@@ -115,6 +120,7 @@ fn found<'a>(
     search.among(&mut trail, &ahead, above, document.root())
 }
 
+/// Returns whether an item is a text that contains the needle.
 #[tactic(auto, using(crate::proofs::Needles::finds_has))]
 fn hits(item: &Item, finder: &Finder<'_>) -> bool
     ensures { result ≡ body_hits finder.now (body item.now) }
@@ -126,6 +132,7 @@ fn hits(item: &Item, finder: &Finder<'_>) -> bool
     }
 }
 
+/// Returns whether a member is, or an element of it is, such a text.
 #[tactic(auto, using(crate::proofs::Searching::any_map))]
 fn member_hits(member: &Member, finder: &Finder<'_>) -> bool
     ensures { result ≡ bodies_hit finder.now (bodies member.now) }
@@ -136,7 +143,7 @@ fn member_hits(member: &Member, finder: &Finder<'_>) -> bool
     }
 }
 
-/// Whether a class with these members directly holds a text that contains the needle.
+/// Returns whether a class with these members directly holds a text that contains the needle.
 fn holds(object: &Object, finder: &Finder<'_>) -> bool
     ensures { result ≡ members_hit finder.now (forest object.now) }
 {
@@ -148,7 +155,7 @@ fn holds(object: &Object, finder: &Finder<'_>) -> bool
     false
 }
 
-/// Whether the name is the one that is asked for, if one is.
+/// Returns whether the name is the one that is asked for, if one is.
 fn is_name(class: Option<&str>, name: &str) -> bool
     ensures { result ≡ is_named (option_map (λ n. n.now) class.entry) name.now }
 {
@@ -159,6 +166,7 @@ fn is_name(class: Option<&str>, name: &str) -> bool
 }
 
 impl<'a> Asked<'a> {
+    /// Returns whether a class of this name and with these members answers.
     fn is_met(&self, name: &str, object: &Object) -> bool
         ensures { result ≡ asked_of self.now name.now (forest object.now) }
     {
@@ -170,7 +178,7 @@ impl<'a> Asked<'a> {
 }
 
 impl<'a> Search<'a> {
-    /// Whether something is found among the members of the class at `above`, or below them.
+    /// Returns whether a class among the members of the class at `above`, or below them, answers.
     #[cycle(search)]
     fn among(
         &self,
@@ -196,6 +204,7 @@ impl<'a> Search<'a> {
         Ok(false)
     }
 
+    /// Returns whether a class in a member answers.
     #[cycle(search)]
     fn in_member(
         &self,
@@ -229,6 +238,7 @@ impl<'a> Search<'a> {
         }
     }
 
+    /// Returns whether a class in the elements of an array answers.
     #[cycle(search)]
     fn in_array(
         &self,
@@ -256,7 +266,7 @@ impl<'a> Search<'a> {
         Ok(false)
     }
 
-    /// Whether something is found in what stands under a token, in a member of this name.
+    /// Returns whether a class in the item under a token answers; the item is in a member of this name.
     #[cycle(search)]
     fn at(
         &self,
@@ -292,7 +302,7 @@ impl<'a> Search<'a> {
         }
     }
 
-    /// Whether the class at whose path the search is holds what is asked for, or one below it does.
+    /// Returns whether the class at the path of the search answers, or a class below it.
     #[cycle(search)]
     fn in_class(
         &self,

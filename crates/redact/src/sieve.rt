@@ -13,18 +13,20 @@ use iodef_tree::Line;
 use policy::{Case, Standing};
 use std::alloc::{AllocError, Global};
 
-/// The lines that matter. A line below a class at which a gate refuses the reader doesn't: it is let go of as it comes.
+/// The lines that matter. A line below a class at which a gate refuses the reader doesn't matter, and is dropped as it
+/// comes.
 #[derive(Drop)]
 pub(crate) struct Sieve {
-    /// The way to the newest of them.
+    /// The steps to the newest of them.
     pub(crate) steps: Vec<Step>,
+    /// The lines that matter.
     pub(crate) lines: Vec<Line>,
     /// The depth of the newest line, if it is that of a class at which a gate refuses the reader.
     pub(crate) shut: Option<u32>,
 }
 
-/// With one line more, which is the newest of its depth; none that is deeper is open any more. Whether it is that of a class at which
-/// a gate refuses the reader, where none refuses above it.
+/// Goes on to one more line, which is then the newest of its depth; no deeper line is open any more. Returns whether
+/// it is that of a class at which a gate refuses the reader, if none refuses above it.
 fn go_on(
     steps: &mut Vec<Step>,
     case: &Case,
@@ -44,7 +46,7 @@ fn go_on(
     Ok(refused)
 }
 
-/// The depth of a line below which lines are let go of, if they are.
+/// Returns the depth of a line below which lines are dropped, if they are.
 fn shut_by(refused: bool, depth: u32) -> Option<u32>
     ensures { result ≡ shut_by refused depth }
 {
@@ -52,7 +54,7 @@ fn shut_by(refused: bool, depth: u32) -> Option<u32>
 }
 
 impl Sieve {
-    /// With no line yet.
+    /// Returns the state before the first line.
     pub(crate) fn new(alloc: Global) -> Sieve
         ensures { (c : TheCase) (s : TheStanding) → Sifts c s [] result }
     {
@@ -63,7 +65,7 @@ impl Sieve {
         }
     }
 
-    /// Whether a line stands below the class at which a gate refused last.
+    /// Returns whether a line is below the class at which a gate refused last.
     fn is_shut(&self, line: &Line) -> bool
         ensures { result ≡ is_beyond self.now.shut line.now.depth }
     {
@@ -73,7 +75,7 @@ impl Sieve {
         }
     }
 
-    /// One more line, which may come behind those before it.
+    /// Takes one more line, which may come behind those before it.
     pub(crate) fn take(
         &mut self,
         case: &Case,
@@ -84,6 +86,8 @@ impl Sieve {
             may_come (back ls) line ≡ true →
             Sifts case.now standing.entry.now (ls ++ line ∷ []) self.new) }
     {
+        // Gates depend on paths only, so whatever their labels are, no class below is visible and nothing is listed of
+        // them. The line of the refused class itself stays: its rule is listed at the place of its parent.
         if self.is_shut(&line) {
             return Ok(());
         }
@@ -93,7 +97,7 @@ impl Sieve {
         Ok(())
     }
 
-    /// The lines that matter, of those that came.
+    /// Returns the lines that matter, of those that came.
     pub(crate) fn into_lines(self) -> Vec<Line>
         ensures { result ≡ self.lines }
     {

@@ -1,4 +1,4 @@
-//! What is withheld, listed in order and without repeats.
+//! The list of what is withheld, in order and without repeats.
 
 ghost use Rattle.std.specs.Prelude.{◌≡◌, IfOk};
 ghost use Rattle.redact.specs.Withheld.{withheld_in_order};
@@ -8,6 +8,7 @@ use iodef_tree::Path;
 use policy::Rule;
 use std::alloc::{AllocError, Global};
 
+/// Returns the notes as pairs of path and rule.
 fn pairs_of(alloc: Global, notes: Vec<Note<'_>>) -> Result<Vec<(Path, Rule)>, AllocError>
     ensures { IfOk result (λ v. v.items ≡ notes.entry.items) }
 {
@@ -18,7 +19,8 @@ fn pairs_of(alloc: Global, notes: Vec<Note<'_>>) -> Result<Vec<(Path, Rule)>, Al
     Ok(pairs)
 }
 
-/// The notes by the bytes of the place's JSON pointer and then of the rule, without repeats. No place is printed.
+/// Returns the notes as a list, in order of the bytes of the place's JSON pointer and then of the rule, without
+/// repeats. No place is printed. Fails if memory runs out.
 pub fn sorted_withheld(
     alloc: Global,
     mut notes: Vec<Note<'_>>,

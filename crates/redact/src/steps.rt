@@ -1,4 +1,4 @@
-//! Where the newest of lines stands that come one at a time.
+//! The path of the newest line, of lines that come one at a time.
 
 ghost use Rattle.std.specs.Prelude.{◌≡◌, ◌<◌, ◌-◌, ◌^◌, Some, IfOk};
 ghost use Rattle.std.specs.List.{slice_get};
@@ -12,11 +12,11 @@ use std::alloc::AllocError;
 pub(crate) struct Step {
     pub(crate) name: Text,
     pub(crate) in_array: bool,
-    /// How many members of its class with its name stand before it.
+    /// How many members of its class have its name and come before it.
     pub(crate) place: usize,
 }
 
-/// How many of this name stand before a member that comes next behind this one.
+/// Returns the place of a member of this name that comes next behind this one.
 fn place_behind(newest: &Step, name: &str) -> usize
     ensures { newest.now.place < 2 ^ 64 - 1 → result ≡ next_place (Some newest.now) name.now }
 {
@@ -27,7 +27,7 @@ fn place_behind(newest: &Step, name: &str) -> usize
     }
 }
 
-/// How many of its name stand before a line that comes behind those of these steps.
+/// Returns the place of a line that comes next behind those of these steps.
 fn place_of(steps: &[Step], line: &Line) -> usize
     ensures { IsCounted steps.now line.now →
         result ≡ next_place (slice_get steps.now (line.now.depth - 1)) line.now.name }
@@ -38,7 +38,7 @@ fn place_of(steps: &[Step], line: &Line) -> usize
     }
 }
 
-/// The step to a line that comes behind those of these steps.
+/// Returns the step to a line that comes next behind those of these steps.
 pub(crate) fn step_to(steps: &[Step], line: &Line) -> Result<Step, AllocError>
     ensures { IfOk result (λ s. IsCounted steps.now line.now → s ≡ step_of steps.now line.now) }
 {

@@ -1,4 +1,4 @@
-//! Where a pass is: the tokens of a path, without memory of their own.
+//! The path of a pass, as tokens without memory of their own.
 
 ghost use Rattle.std.specs.Prelude.{◌≡◌, ◌∷◌, [], IfOk, decimal};
 ghost use Rattle.std.specs.Str.{bytes_eq};
@@ -13,12 +13,14 @@ use std::alloc::{AllocError, Global};
 /// A token of a path: a member's name or a place in an array.
 #[derive(Clone, Copy)]
 pub enum Token<'a> {
+    /// The name of a member.
     Name(&'a str),
+    /// The place in an array.
     Index(usize),
 }
 
 impl<'a> Token<'a> {
-    /// Its text: of a place in an array the digits, which are written into the buffer.
+    /// Returns the text of the token. The digits of a place are written into the buffer.
     pub fn as_str(self, digits: &'a mut itoa::Buffer) -> &'a str
         ensures { result.now ≡ token_of self.entry }
     {
@@ -29,7 +31,7 @@ impl<'a> Token<'a> {
     }
 }
 
-/// Where a pass is, by its tokens.
+/// The place of a pass, by its tokens.
 #[derive(Clone, Copy)]
 pub struct Trail<'t, 'a> {
     pub tokens: &'t [Token<'a>],
@@ -43,6 +45,7 @@ impl<'t, 'a> Spot for Trail<'t, 'a> {
     }
 }
 
+/// Returns whether these tokens are the path of the Incident.
 fn is_incident(trail: &[Token<'_>]) -> bool
     ensures { result ≡ same_path (path_of trail.now) incident_path }
 {
@@ -52,6 +55,7 @@ fn is_incident(trail: &[Token<'_>]) -> bool
     }
 }
 
+/// The same for two tokens.
 fn lead_to_incident(first: Token<'_>, second: Token<'_>) -> bool
     ensures { result ≡ same_path (token_of first.entry ∷ token_of second.entry ∷ []) incident_path }
 {
@@ -64,6 +68,7 @@ fn lead_to_incident(first: Token<'_>, second: Token<'_>) -> bool
     }
 }
 
+/// The same for a name and a token.
 fn leads_to_incident(first: &str, second: Token<'_>) -> bool
     ensures { result ≡ same_path (first.now ∷ token_of second.entry ∷ []) incident_path }
 {
@@ -76,7 +81,7 @@ fn leads_to_incident(first: &str, second: Token<'_>) -> bool
     }
 }
 
-/// Whether both are written alike.
+/// Returns whether two tokens have the same text.
 pub fn is_same(one: Token<'_>, other: Token<'_>) -> bool
     ensures { result ≡ bytes_eq (token_of one.entry) (token_of other.entry) }
 {
@@ -88,7 +93,7 @@ pub fn is_same(one: Token<'_>, other: Token<'_>) -> bool
     }
 }
 
-/// Whether a name is the place in an array, as it is written.
+/// Returns whether a name is the digits of a place.
 pub(crate) fn is_place(name: &str, place: usize) -> bool
     ensures { result ≡ bytes_eq name.now (decimal place) }
 {
@@ -96,6 +101,7 @@ pub(crate) fn is_place(name: &str, place: usize) -> bool
     name == digits.format(place)
 }
 
+/// Returns the text of a token. Fails if memory runs out.
 fn text_of(alloc: Global, token: Token<'_>) -> Result<Text, AllocError>
     ensures { IfOk result (λ t. t ≡ token_of token.entry) }
 {
@@ -105,7 +111,7 @@ fn text_of(alloc: Global, token: Token<'_>) -> Result<Text, AllocError>
     }
 }
 
-/// The path with these tokens.
+/// Returns the path with these tokens. Fails if memory runs out.
 pub fn path_at(alloc: Global, trail: &[Token<'_>]) -> Result<Path, AllocError>
     ensures { IfOk result (λ p. p ≡ path_of trail.now) }
 {

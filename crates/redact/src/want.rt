@@ -1,4 +1,4 @@
-//! What is looked for in an incident.
+//! What is looked for in an incident: a want.
 
 ghost use Rattle.std.specs.Prelude.{◌≡◌, IfOk, option_map, string_bytes};
 ghost use Rattle.redact.specs.Wants as spec;
@@ -8,16 +8,18 @@ use iodef_tree::Document;
 use policy::{Case, Standing};
 use std::alloc::{AllocError, Global};
 
-/// What is looked for in an incident: a class that the reader may see, and with a needle one that directly holds a text
-/// which contains it, byte for byte; of the classes of the name `class` alone, if it is given. A name without a needle asks
-/// for nothing more.
+/// What is looked for in an incident: a class that the reader may see. With a needle, the class must directly hold a
+/// text that contains it, byte for byte, and have the name `class` if one is given. Without a needle a name asks for
+/// nothing more.
 #[derive(Drop)]
 pub struct Want {
+    /// The text to find.
     pub needle: Option<String>,
+    /// The name of the classes that are searched.
     pub class: Option<String>,
 }
 
-// By hand, so that the clause speaks of the words.
+// Written by hand, so that the clause names the words.
 impl Clone for Want {
     ghost use Rattle.redact.specs.Wants.{HasSameWords};
 
@@ -31,6 +33,7 @@ impl Clone for Want {
     }
 }
 
+/// Returns the string as a slice.
 fn text_of(text: &Option<String>) -> Option<&str>
     ensures { option_map (λ t. t.now) result ≡ option_map string_bytes text.now }
 {
@@ -40,7 +43,8 @@ fn text_of(text: &Option<String>) -> Option<&str>
     }
 }
 
-/// Whether the document meets the want, for a reader: with no needle what `is_listed` answers, else what `finds` does.
+/// Returns whether the document meets the want, for a reader: without a needle the answer of `is_listed`, else that of
+/// `finds`. Fails if memory runs out.
 pub fn meets(
     alloc: Global,
     document: &Document,

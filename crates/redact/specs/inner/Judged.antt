@@ -1,5 +1,5 @@
--- A document with what is decided at each class, and one pass down it. A definition of what is kept judges each line by
--- itself; the pass works on the tree, and proofs join the two.
+-- A document with what is decided of each class, and one pass down it. A definition of what is kept judges each line
+-- by itself; the pass works on the tree, and proofs join the two.
 use Rattle.std.specs.Prelude.{ℕ, zero, suc, ◌+◌, Bool, true, false, ◌&&◌, not, List, [], ◌∷◌, ◌++◌, if◌then◌else◌, Option, Some, None}
 use Rattle.iodef_tree.specs.Text.{Bytes, Tokens, bytes_lt, is_root}
 use Rattle.iodef_tree.specs.Tree.{Leaf, Forest, end, leaf, branch, steps, text}
@@ -20,79 +20,85 @@ pub data Judged : Type 0 where
   plain : Leaf → Judged → Judged
   class : Bytes → Option ℕ → Judgment → Judged → Judged → Judged
 
+-- what is decided of the class at a path
 abbrev pub judgment_at : Verdicts → Tokens → Judgment
 judgment_at v p = record { visible = v.visible p; unmarked = v.unmarked p; label = v.label p; rule = v.rule p }
 
--- each class judged by its path, in the members of the class at a path
+-- the members of the class at p, each class judged by its path
 abbrev pub judge : Verdicts → Tokens → Forest → Judged
 judge v p end = none
 judge v p (leaf i rest) = plain i (judge v p rest)
 judge v p (branch name place kids rest) =
     let q = p ++ steps name place in class name place (judgment_at v q) (judge v q kids) (judge v p rest)
 
--- where members stand: in the root, or in a class that is visible or isn't
+-- where members are: in the root, or in a class that is visible or not
 pub data Surrounding : Type 0 where
   root : Surrounding
   inside : Bool → Surrounding
 
--- plain members are served there
+-- whether plain members are served there
 abbrev pub keeps_plain : Surrounding → Bool
 keeps_plain root = true
 keeps_plain (inside visible) = visible
 
--- it is a visible class, whose label shows in the excerpt
+-- whether it is a visible class, whose label shows in the excerpt
 abbrev pub shows_label : Surrounding → Bool
 shows_label root = false
 shows_label (inside visible) = visible
 
+-- where the members of the class at p are
 abbrev pub home_at : Verdicts → Tokens → Surrounding
 home_at v p = if is_root p then root else inside (v.visible p)
 
--- How many elements of its array are left so far, when the next sibling comes: an element at place 0 begins an array.
+-- How many elements of its array are kept before the next sibling. An element at place 0 begins an array.
 abbrev pub left_before : ℕ → Option ℕ → ℕ
 left_before n None = 0
 left_before n (Some zero) = 0
 left_before n (Some (suc k)) = n
 
--- the place among what is left
+-- the place among those that are kept
 abbrev pub new_place : ℕ → Option ℕ → Option ℕ
 new_place n None = None
 new_place n (Some zero) = Some 0
 new_place n (Some (suc k)) = Some n
 
--- how many are left so far, once the sibling is left
+-- how many are kept, once the sibling is kept too
 abbrev pub left_with : ℕ → Option ℕ → ℕ
 left_with n None = 0
 left_with n (Some k) = suc (left_before n (Some k))
 
+-- a plain member at its place among those that are kept
 abbrev pub moved : ℕ → Leaf → Leaf
 moved n i = record { name = i.name; place = new_place n i.place; content = i.content }
 
+-- whether there is no member
 abbrev pub is_end : Forest → Bool
 is_end end = true
 is_end (leaf i rest) = false
 is_end (branch name place kids rest) = false
 
--- a plain member at its place in name order
+-- members with a plain member put at its place in name order
 abbrev pub put_leaf : Leaf → Forest → Forest
 put_leaf x end = leaf x end
 put_leaf x (leaf i rest) = if bytes_lt x.name i.name then leaf x (leaf i rest) else leaf i (put_leaf x rest)
 put_leaf x (branch name place kids rest) =
     if bytes_lt x.name name then leaf x (branch name place kids rest) else branch name place kids (put_leaf x rest)
 
+-- a plain member that is a text
 abbrev pub attribute_leaf : Attribute → Leaf
 attribute_leaf a = record { name = a.0; place = None; content = text a.1 }
 
+-- members with several plain members put in
 abbrev pub put_attributes : List Attribute → Forest → Forest
 put_attributes [] f = f
 put_attributes (a ∷ rest) f = put_leaf (attribute_leaf a) (put_attributes rest f)
 
--- a visible class with its label, where it has to say it
+-- the members of a visible class, with its label if it has to say it itself
 abbrev pub with_label : Surrounding → Judgment → Forest → Forest
 with_label h j inner = if j.unmarked && not (shows_label h) then put_attributes j.label inner else inner
 
--- What is left of members that stand at home, with so many elements of an array left in front. A class that isn't
--- visible is looked at when what is left below it is known.
+-- What is kept of the members of a class, with so many elements of an array kept before them. A class that isn't
+-- visible is decided when it is known what is kept below it.
 abbrev pub cut : Surrounding → ℕ → Judged → Forest
 cut h n none = end
 cut h n (plain i rest) =
@@ -110,7 +116,7 @@ visible_classes (plain i rest) = visible_classes rest
 visible_classes (class name place j kids rest) =
     (if j.visible then 1 else 0) + (visible_classes kids + visible_classes rest)
 
--- what is withheld of the members at home, whose class stands at place q of the excerpt
+-- what is withheld of the members of a class whose place in the excerpt is q
 abbrev pub withheld_below : Surrounding → Tokens → ℕ → Judged → List Withheld
 withheld_below h q n none = []
 withheld_below h q n (plain i rest) =
@@ -121,7 +127,7 @@ withheld_below h q n (class name place j kids rest) =
     else (if is_end (cut (inside false) 0 kids) then (q, j.rule) ∷ withheld_below h q (left_before n place) rest
     else (r, j.rule) ∷ (withheld_below (inside false) r 0 kids ++ withheld_below h q (left_with n place) rest))
 
--- the kept classes of the members of the class at p, whose place is q: the path of each beside its place
+-- the kept classes among the members of the class at p, whose place is q: the path of each with its place
 abbrev pub places : Surrounding → Tokens → Tokens → ℕ → Judged → List (Tokens × Tokens)
 places h p q n none = []
 places h p q n (plain i rest) = places h p q (if keeps_plain h then left_with n i.place else left_before n i.place) rest

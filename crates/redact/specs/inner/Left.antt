@@ -1,4 +1,4 @@
--- What the program's pass leaves, tells and counts of the members of one class.
+-- What the program's pass keeps, lists and counts of the members of one class.
 use Rattle.std.specs.Prelude.{◌≡◌, ℕ, suc, ◌+◌, ◌<◌, ◌^◌, Bool, true, false, List, [], ◌∷◌, ◌++◌, if◌then◌else◌, Option, Some, None, is_some, option_map, decimal}
 use Rattle.std.specs.List.{cons_option}
 use Rattle.iodef_tree.specs.Text.{Bytes, Tokens}
@@ -16,12 +16,13 @@ use Rattle.redact.specs.declared.pass.Surrounding.{Surrounding as Place}
 use Rattle.redact.specs.declared.pass.Surrounding.TheVariants as place
 use Rattle.redact.specs.declared.pass.State.{State}
 
+-- where members are, by the program's `Surrounding`
 abbrev pub home_of : Place → Surrounding
 home_of place.Root = root
 home_of (place.Class visible) = inside visible
 
 module _ (c : Case) (s : Standing) where
-  -- of a class that is judged so
+  -- of a class with this judgment: what is kept, listed and counted
   abbrev pub class_left : Surrounding → Judgment → Judged → Option Forest
   class_left h j kids =
       if j.visible then Some (with_label h j (cut (inside true) 0 kids))
@@ -36,7 +37,7 @@ module _ (c : Case) (s : Standing) where
   abbrev pub class_count : Judgment → Judged → ℕ
   class_count j kids = (if j.visible then 1 else 0) + visible_classes kids
 
-  -- of what stands under this token of the class or array at d, in a class whose place is q, at place r if it is left
+  -- the same under this token of the class or array at d, in a class whose place is q; r is the place if it is kept
   abbrev pub left_at : Surrounding → Inherited → Bytes → Body → Option Body
   left_at h d t (says content) = if keeps_plain h then Some (says content) else None
   left_at h d t (holds kids) =
@@ -55,7 +56,7 @@ module _ (c : Case) (s : Standing) where
       let w = spelled_in kids in
       let k = enter_class c s d t w in class_count (judgment_by c s k w) (pass c s k kids)
 
-  -- of the elements of the array at d from place k on, n of which are left so far
+  -- the same for the elements of the array at d from place k on, of which n are kept before
   abbrev pub left_items : Surrounding → Inherited → ℕ → List Body → List Body
   left_items h d k [] = []
   left_items h d k (b ∷ bs) = cons_option (left_at h d (decimal k) b) (left_items h d (suc k) bs)
@@ -74,7 +75,7 @@ module _ (c : Case) (s : Standing) where
   many_or_none [] = None
   many_or_none (b ∷ bs) = Some (many (b ∷ bs))
 
-  -- of a member of the class at a
+  -- the same for a member of the class at a
   abbrev pub left_member : Surrounding → Inherited → Bytes → Bodies → Option Bodies
   left_member h a name (one b) = option_map one (left_at h a name b)
   left_member h a name (many bs) = many_or_none (left_items h (enter_array c s a name) 0 bs)
@@ -99,22 +100,21 @@ module _ (c : Case) (s : Standing) where
   count_members a [] = 0
   count_members a (m ∷ ms) = count_member a m.0 m.1 + count_members a ms
 
--- ---- what the state of the pass tells
+-- ---- what the state of the pass holds
 
--- what was told, with what the class at place q has to tell, if it is left
+-- what was listed, with the rules that the class at place q has to list if it is kept
 abbrev pub tells : Tokens → State → List Withheld
 tells q st = st.withheld.items ++ at_place q st.rules_met.items
 
--- From one state of the pass to another, among the members of the class at place q: where this was to be told and so
--- much counted at first, that is left to tell and to count, each pair once or more often. The pass comes back to where
--- it was.
+-- From one state of the pass to another, among the members of the class at place q. What had to be listed and counted
+-- at first is what is still to list and to count, each pair once or more often. The pass comes back to its path.
 pub record Goes (q : Tokens) (old new : State) (before after : List Withheld) (m n : ℕ) : Type 0 where
   pub path : new.path.items ≡ old.path.items
   pub place : new.place.items ≡ old.place.items
   pub withheld : is_among (tells q new ++ after) ≡ is_among (tells q old ++ before)
   pub classes : old.classes + m < 2 ^ 32 → new.classes + n ≡ old.classes + m
 
--- these rules are noted at the place where the pass is, and nothing else changes
+-- these rules are noted at the place of the pass, and nothing else changes
 pub record Tells (old new : State) (rules : List Rule) : Type 0 where
   pub withheld : new.withheld.items ≡ old.withheld.items ++ at_place (path_of old.place.items) rules
   pub path : new.path.items ≡ old.path.items
@@ -122,8 +122,8 @@ pub record Tells (old new : State) (rules : List Rule) : Type 0 where
   pub gone : new.rules_met.items ≡ old.rules_met.items
   pub classes : new.classes ≡ old.classes
 
--- A class that isn't visible is left, inside one whose members had met these rules. Its rule is told at its place with those
--- met in it, unless nothing of it is left: then its rule is one of those met around it.
+-- A class that isn't visible is left, inside one whose members had met these rules. If something of it is kept, its
+-- rule is listed at its place with those met in it. If not, its rule is one of those met around it.
 pub record Leaves (old new : State) (outside : List Rule) (rule : Rule) (empty : Bool) : Type 0 where
   pub withheld : new.withheld.items
       ≡ (if empty then old.withheld.items

@@ -1,4 +1,4 @@
--- One pass down a document, each class judged by what it inherits from above.
+-- One pass down a document, in which each class is judged by what it inherits from above.
 use Rattle.std.specs.Prelude.{ℕ, Option, Some, None, is_none, decimal}
 use Rattle.iodef_tree.specs.Text.{Bytes}
 use Rattle.iodef_tree.specs.Tree.{Forest, end, leaf, branch}
@@ -11,7 +11,7 @@ use Rattle.redact.specs.inner.Judged.{Judgment, Judged, none, plain, class}
 use Rattle.redact.specs.Told.{attributes_of}
 
 module _ (c : Case) (s : Standing) where
-  -- into the class of this name, in an array or not, with the label that is written in it
+  -- into the class of this name, in an array or not, with the label written in it
   abbrev pub enter : Inherited → Bytes → Option ℕ → Option LabelValue → Inherited
   enter h name None written = enter_class c s h name written
   enter h name (Some k) written = enter_class c s (enter_array c s h name) (decimal k) written

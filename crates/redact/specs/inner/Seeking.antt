@@ -33,132 +33,145 @@ use Rattle.redact.specs.Probed.{InEach, IsSure}
 
 -- ---- what is wanted
 
+-- the same by the needle and the class of a want
 abbrev pub wants_name_by : Option Bytes → Option Bytes → Bytes → Bool
 wants_name_by None class name = true
 wants_name_by (Some needle) class name = is_named class name
 
--- a class of this name is wanted: without a needle each is
+-- whether a class of this name is wanted; without a needle each is
 abbrev pub wants_name : Want → Bytes → Bool
 wants_name w name = wants_name_by (option_map string_bytes w.needle) (option_map string_bytes w.class) name
 
+-- whether a line is a text with the needle, if one is wanted
 abbrev pub wants_line_by : Option Bytes → Line → Bool
 wants_line_by None l = false
 wants_line_by (Some needle) l = is_hit needle l
 
--- the line is a text with the needle
+-- whether the line is a text with the needle that is wanted
 abbrev pub wants_line : Want → Line → Bool
 wants_line w l = wants_line_by (option_map string_bytes w.needle) l
 
+-- whether the class at the path directly holds such a text, if a needle is wanted
 abbrev pub holds_wanted_by : Option Bytes → List LocatedLine → Tokens → Bool
 holds_wanted_by None es p = true
 holds_wanted_by (Some needle) es p = holds_needle es needle p
 
--- the class at the path directly holds what is wanted: a text with the needle, if there is one
+-- the same by a want
 abbrev pub holds_wanted : Want → List LocatedLine → Tokens → Bool
 holds_wanted w es p = holds_wanted_by (option_map string_bytes w.needle) es p
 
--- the line is that of the class at the path, whose name is wanted
+-- whether the line is that of the class at the path, and its name is wanted
 abbrev pub is_wanted_at : Want → Tokens → LocatedLine → Bool
 is_wanted_at w p e = is_class e && (same_path e.path p && wants_name w e.line.name)
 
--- there is a class at the path, of a name that is wanted
+-- whether there is a class at the path with a name that is wanted
 abbrev pub has_wanted : Want → List LocatedLine → Tokens → Bool
 has_wanted w es p = list_any (is_wanted_at w p) es
 
 -- ---- how much the reader sees
 
--- a gate of the case refuses the reader, wherever it stands
+-- whether a gate of the case refuses the reader, wherever it is
 abbrev pub some_refuses : Case → Standing → Bool
 some_refuses c s = list_any (λ g. is_some (refusal_of_gate s g)) c.gates
 
--- the reader sees every class of every report: it is of the source, or no gate refuses it and it is cleared for all
+-- the reader sees every class of every report: it is of the source, or no gate refuses it and it is cleared for RED
 abbrev pub sees_all : Case → Standing → Bool
 sees_all c s = s.source || (not (some_refuses c s) && is_at_most Red (clearance_of s).0)
 
--- how much without permissions: every class, each class in which a label is written for which the reader is cleared, or none for sure
+-- how much the reader surely sees without permissions: every class; each class with a written label for which it is
+-- cleared; or nothing
 abbrev pub sight_of : Case → Standing → Sight
 sight_of c s = if sees_all c s then sight.Everything else if some_refuses c s then sight.Unsure else sight.Cleared
 
+-- whether the reader surely sees every class
 abbrev pub is_everything : Sight → Bool
 is_everything sight.Everything = true
 is_everything sight.Cleared = false
 is_everything sight.Unsure = false
 
+-- whether the reader surely sees each class with a written label for which it is cleared, and no other
 abbrev pub is_cleared_sight : Sight → Bool
 is_cleared_sight sight.Everything = false
 is_cleared_sight sight.Cleared = true
 is_cleared_sight sight.Unsure = false
 
--- ---- a permission that shows the class at which it stands, whatever label is written in that
+-- ---- a permission that shows the class where it is, whatever label is written in the class
 
--- it holds for the reader, and no gate where it stands or above refuses the reader
+-- it holds for the reader, and no gate at its path or above refuses the reader
 abbrev pub permits : Case → Standing → Permission → Bool
 permits c s x = holds_for s x && not (list_any (refuses_on s x.path) c.gates)
 
+-- whether the case has a permission that surely shows the class where it is
 abbrev pub some_permits : Case → Standing → Bool
 some_permits c s = list_any (permits c s) c.permissions
 
--- one stands at the path
+-- whether such a permission is at the path
 abbrev pub is_permitted : Case → Standing → Tokens → Bool
 is_permitted c s p = list_any (λ x. same_path x.path p && permits c s x) c.permissions
 
--- ---- a label that is written in a class, for which the reader is cleared
+-- ---- a label written in a class, for which the reader is cleared
 
+-- the text of a line of this kind, if it is a text
 abbrev pub text_by_kind : Kind → Bytes → Option Bytes
 text_by_kind kind.Class t = None
 text_by_kind kind.Text t = Some t
 text_by_kind kind.Value t = None
 
--- the text of a line, if it is one outside arrays
+-- the text of a line, if it is a text outside arrays
 abbrev pub plain_text : Line → Option Bytes
 plain_text l = if l.in_array then None else text_by_kind l.kind l.text
 
--- what a text in `ext-restriction` comes to, or another line
+-- what a line is as `ext-restriction`: a text that clears the reader if it is the label, or something else
 abbrev pub beside_by : Standing → Option Bytes → Beside
 beside_by s None = beside.Other
 beside_by s (Some t) = if is_cleared_for s (extended t) then beside.Cleared else beside.Other
 
--- the first line named `ext-restriction` says what stands beside the label
+-- the first line named `ext-restriction` counts
 abbrev pub first_beside : Standing → Line → Beside → Beside
 first_beside s l beside.Absent = beside_by s (plain_text l)
 first_beside s l beside.Cleared = beside.Cleared
 first_beside s l beside.Other = beside.Other
 
+-- what a class holds as `ext-restriction` after one more line
 abbrev pub beside_with : Standing → Line → Beside → Beside
 beside_with s l x = if bytes_eq l.name (codes "ext-restriction") then first_beside s l x else x
 
+-- whether that is a text that clears the reader
 abbrev pub is_cleared_beside : Beside → Bool
 is_cleared_beside beside.Absent = false
 is_cleared_beside beside.Cleared = true
 is_cleared_beside beside.Other = false
 
+-- whether the reader is cleared for the label that a text spells by itself, or for `ext-value` with the text beside it
 abbrev pub is_cleared_by : Standing → Beside → Bytes → Option LabelValue → Bool
 is_cleared_by s x r None = bytes_eq r (codes "ext-value") && is_cleared_beside x
 is_cleared_by s x r (Some m) = is_cleared_for s m
 
--- The text as `restriction` spells a label for which the reader is cleared, with what stands beside it.
+-- whether this text as `restriction`, with what the class holds as `ext-restriction`, spells a label for which the
+-- reader is cleared
 abbrev pub is_cleared_text : Standing → Beside → Bytes → Bool
 is_cleared_text s x r = is_cleared_by s x r (spelled r None)
 
+-- the same; false if there is no text
 abbrev pub is_cleared_if : Standing → Beside → Option Bytes → Bool
 is_cleared_if s x None = false
 is_cleared_if s x (Some r) = is_cleared_text s x r
 
--- a line that is named `restriction`
+-- whether the line is named `restriction`
 abbrev pub is_restriction : Line → Bool
 is_restriction l = bytes_eq l.name (codes "restriction")
 
--- ---- the open classes, the outermost first
+-- ---- the open classes, from the outermost on
 
--- a class whose line has come, and which a permission shows or not
+-- what is known of a class when its line comes; g says whether a permission shows it
 abbrev pub entered : Sight → Want → Line → Bool → Open
 entered k w l g = record { fits = wants_name w l.name; holds = is_none w.needle; shown = is_everything k || g; labelled = false; beside = beside.Absent }
 
--- the line is the first that is named `restriction`, and shows the class
+-- whether the line is the first named `restriction`, and shows the class
 abbrev pub shows_class : Sight → Standing → Line → Open → Bool
 shows_class k s l o = is_restriction l && (not o.labelled && (is_cleared_sight k && is_cleared_if s o.beside (plain_text l)))
 
--- with a line more that stands in it
+-- what is known of a class after one more line in it
 abbrev pub holding : Sight → Standing → Want → Line → Open → Open
 holding k s w l o = record {
   fits = o.fits;
@@ -168,25 +181,25 @@ holding k s w l o = record {
   beside = beside_with s l o.beside;
 }
 
--- the innermost of them holds the line
+-- the open classes after one more line in the innermost
 abbrev pub innermost_holding : Sight → Standing → Want → Line → List Open → List Open
 innermost_holding k s w l [] = []
 innermost_holding k s w l (x ∷ []) = holding k s w l x ∷ []
 innermost_holding k s w l (x ∷ y ∷ xs) = x ∷ innermost_holding k s w l (y ∷ xs)
 
--- the class of the line is open behind them, if it is one
+-- the open classes behind this line: if it is a class, that class is open too
 abbrev pub with_opened_class : Sight → Want → Line → Bool → List Open → List Open
 with_opened_class k w l g os = if is_class_kind l.kind then os ++ entered k w l g ∷ [] else os
 
--- with a line more
+-- the open classes after one more line
 abbrev pub open_with_line : Sight → Standing → Want → Line → Bool → List Open → List Open
 open_with_line k s w l g os = with_opened_class k w l g (innermost_holding k s w l (take (l.depth - 1) os))
 
--- it is sure that the reader sees the class, that it holds what is wanted, and that it has a name that is wanted
+-- whether it is sure that the reader sees the class, that it holds what is wanted, and that its name is wanted
 abbrev pub is_settled : Open → Bool
 is_settled o = o.shown && (o.holds && o.fits)
 
--- what is held as `ext-restriction`, as far as it is noted
+-- what is known of what the class holds as `ext-restriction`
 abbrev pub IsBeside : Standing → Beside → Held → Type 0
 IsBeside s beside.Absent h = h ≡ absent
 IsBeside s beside.Cleared h = (t : Bytes) × (h ≡ one_text t) × (is_cleared_for s (extended t) ≡ true)
@@ -197,7 +210,7 @@ module _ (w : Want) (c : Case) (s : Standing) (ls : List Line) where
   abbrev pub IsSeen : Tokens → Type 0
   IsSeen p = InEach ls (λ all. is_visible (located all) c s p ≡ true)
 
-  -- what is noted of a class holds of the one at the path
+  -- what is known of an open class is true of the class at the path
   pub record IsOpen (p : Tokens) (o : Open) : Type 0 where
     pub fits : o.fits ≡ true → has_wanted w (located ls) p ≡ true
     pub holds : o.holds ≡ true → holds_wanted w (located ls) p ≡ true
@@ -206,13 +219,13 @@ module _ (w : Want) (c : Case) (s : Standing) (ls : List Line) where
     pub unlabelled : o.labelled ≡ false → restriction_at (located ls) p ≡ absent
     pub beside : IsBeside s o.beside (ext_restriction_at (located ls) p)
 
-  -- the first of them is the parent of a line of this depth, each next one that of a line one deeper
+  -- the first of the classes is the parent of a line of this depth, and each next one the parent of a line one deeper
   abbrev pub AreOpen : ℕ → List Open → Type 0
   AreOpen d [] = Unit {0}
   AreOpen d (o ∷ os) = IsOpen (parent_path (located_back ls) d) o × AreOpen (suc d) os
 
-  -- The open classes are known, and there are as many as a line behind these may be deep, less one. Each has a longer path than the
-  -- ones above it.
+  -- What is known of the open classes is true. There are as many as the next line may be deep, less one. The path of
+  -- each is longer than those of the classes above it.
   pub record Follows (os : List Open) : Type 0 where
     pub classes : AreOpen 2 os
     pub deep : suc (length os) ≡ deepest (back ls)
@@ -221,7 +234,7 @@ module _ (w : Want) (c : Case) (s : Standing) (ls : List Line) where
 
 -- ---- all that is known
 
--- of the lines that came, and whether true was answered of them
+-- all that is known of the lines so far, if true was returned for them or not
 pub record IsKnown (w : Want) (c : Case) (s : Standing) (ls : List Line) (met : Bool) (k : Seeker) : Type 0 where
   pub shows : Shows k.shape (back ls)
   pub sight : k.sight ≡ sight_of c s
@@ -229,7 +242,7 @@ pub record IsKnown (w : Want) (c : Case) (s : Standing) (ls : List Line) (met : 
   pub classes : met ≡ false → Follows w c s ls k.classes.items
   pub steps : met ≡ false → k.follows ≡ true → Tracks ls k.steps.items
 
--- one more line is taken, and true is answered of the lines with it, or not
+-- One more line is taken, and true is returned for the lines with it, or not.
 pub record TakesTo (w : Want) (c : Case) (s : Standing) (ls : List Line) (met : Bool) (l : Line) (answered : Bool) (k : Seeker) : Type 0 where
   pub outline : is_outline (ls ++ l ∷ []) ≡ true
   pub known : IsKnown w c s (ls ++ l ∷ []) answered k

@@ -1,4 +1,4 @@
--- A pair of what is withheld is the same as another exactly where neither comes first.
+-- Two pairs of what is withheld are the same exactly if neither comes first.
 use Rattle.std.proofs.Common.{◌≡◌, ◌&&◌, is_eq, sym, ◌∙◌, ap}
 use Rattle.std.specs.Cmp.{tied_then}
 use Rattle.std.specs.Cmp.Lexicographic.{slice_cmp}
@@ -9,6 +9,7 @@ use Rattle.iodef_tree.specs.Pointer.{pointer_text}
 use Rattle.policy.specs.Rule.{name_of}
 use Rattle.redact.specs.Withheld.{Withheld, withheld_cmp, same_withheld}
 
+-- two pairs are the same exactly if they compare as equal
 pub withheld-ties : (x y : Withheld) → same_withheld x y ≡ is_eq (withheld_cmp x y)
 withheld-ties x y =
     let places = slice_cmp nat_cmp (pointer_text x.0) (pointer_text y.0) in

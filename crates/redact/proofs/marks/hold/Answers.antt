@@ -8,7 +8,7 @@ held-at_end : (l : Line) (x : Marking) (xs : List Marking) (d : Marking) → sli
 held-at_end l x [] d = refl
 held-at_end l x (y ∷ xs) d = ap (λ ys. x ∷ ys) (held-at_end l y xs d)
 
--- the last of a list holds the line
+-- the last class of a list holds the line
 held-last : (l : Line) (xs : List Marking) (d : Marking) → slice_set xs (length xs - 1) (held_with l (slice_index_or xs (length xs - 1) d)) ≡ innermost_held_with l xs
 held-last l [] d = refl
 held-last l (x ∷ xs) d = rw sub-one (held-at_end l x xs d)

@@ -11,7 +11,7 @@ held-at_end : (k : Sight) (s : Standing) (w : Want) (l : Line) (x : Open) (xs : 
 held-at_end k s w l x [] d = refl
 held-at_end k s w l x (y ∷ xs) d = ap (λ ys. x ∷ ys) (held-at_end k s w l y xs d)
 
--- the last of a list holds the line
+-- the last class of a list holds the line
 held-last : (k : Sight) (s : Standing) (w : Want) (l : Line) (xs : List Open) (d : Open) → slice_set xs (length xs - 1) (holding k s w l (slice_index_or xs (length xs - 1) d)) ≡ innermost_holding k s w l xs
 held-last k s w l [] d = refl
 held-last k s w l (x ∷ xs) d = rw sub-one (held-at_end k s w l x xs d)

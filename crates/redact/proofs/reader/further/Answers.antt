@@ -6,7 +6,7 @@ use Rattle.policy.specs.declared.case.Case.{Case}
 use Rattle.redact.specs.inner.Tokens.{token_of}
 use Rattle.redact.proofs.reader.further.Goals as goal
 
--- where nothing can be met, nothing can further down
+-- if nothing can be met, nothing can be met further down
 still-nothing : (c : Case) (s : Standing) (p : Tokens) (x : Bytes) → nothing_met ≡ ahead_of c s p → (z : Tokens) → nothing_met z ≡ ahead_of c s (p ++ x ∷ []) z
 still-nothing c s p x e z = ap (λ (f : Tokens → Met). f (x ∷ z)) e ∙ ap (met_at c s) (sym (append_assoc p (x ∷ []) z))
 

@@ -48,7 +48,7 @@ in_member-in_array-requires t c = (
   (elements-kept c.args.member.now c.in-Many.items c.requires.1.1.0 c.in-Many.is, c.in_ok-inside-in-Many.ensures.ahead),
 )
 
--- what is carried at an array is what the definitions say, entering it from above
+-- what is carried at an array is what the definitions say there, one step from above
 array-door : (c : Case) (s : Standing) (above array : Carried) (old new seen : List Token) (t : Token) → seen ≡ new → new ≡ old ++ t ∷ [] →
     carried (path_of seen) array ≡ array_step c s (carried (path_of seen) above) (path_of seen) → carried (path_of new) array ≡ enter_array c s (carried (path_of old) above) (token_of t)
 array-door c s above array old new seen t same grown step =
